@@ -1,0 +1,20 @@
+//! The plain words that every crate of palm shares: variables, values and names of constraints, lists that
+//! contracts see as lists, the want of memory, and the byte streams at the edge with their counts of faults.
+#![tactic(auto)]
+
+pub mod adapters;
+pub mod errors;
+pub mod memory;
+pub mod sequence;
+pub mod steps;
+pub mod stream;
+pub mod terms;
+
+pub use adapters::{StdSink, StdSource};
+pub use errors::{Failed, NoMemory};
+pub use memory::sinks::{MemorySink, SteadySink};
+pub use memory::sources::{MemorySource, SteadySource};
+pub use sequence::{ByteList, CallList, CidList, Sequence, ValueList, VarList};
+pub use steps::Steps;
+pub use stream::{Sink, Source};
+pub use terms::{Cid, Pair, Value, Var};

@@ -1,0 +1,102 @@
+//! Sources over memory.
+ghost use Rattle.std.specs.Prelude.{◌≡◌, ◌<◌, ◌↔◌, ℕ, length, Some, IsErr, IsOk, IfOk, Ok, min};
+ghost use Rattle.palm_base.specs.Streams.{HasCause, Reads};
+ghost use Rattle.palm_base.specs.Memory.{Left, Calls, IsListed, handed_out, Flawed};
+
+use super::calls::CallLog;
+use super::remaining::Remaining;
+use crate::errors::Failed;
+use crate::sequence::{ByteList, CallList};
+use crate::stream::Source;
+use std::marker::Model;
+
+/// A source over memory that never fails.
+#[derive(Debug, Drop)]
+pub struct SteadySource {
+    remaining: Remaining,
+}
+
+impl Model for SteadySource {
+    ghost use Rattle.palm_base.specs.Memory.{Left};
+
+    ghost Value = { Left };
+
+    ghost view = { λ s. s.remaining };
+}
+
+impl SteadySource {
+    /// Hands out these bytes, at most `piece` at a call.
+    pub fn new(bytes: ByteList, piece: usize) -> SteadySource
+        requires { 0 < piece }
+        ensures { result ≡ record { bytes = bytes; piece = piece } }
+    {
+        SteadySource {
+            remaining: Remaining::new(bytes, piece),
+        }
+    }
+}
+
+impl Source for SteadySource {
+    ghost left = { λ s. Some s.bytes };
+
+    ghost faults = { λ _. 0 };
+
+    fn read(&mut self, buffer: &mut [u8]) -> Result<usize, Failed>
+        requires { 0 < length buffer.old }
+        ensures cause { HasCause 0 0 result }
+        ensures bytes { Reads (Some self.old.bytes) (Some self.new.bytes) buffer.new result }
+        ensures count { result ≡ Ok (handed_out self.old (length buffer.old)) }
+        ensures piece { self.new.piece ≡ self.old.piece }
+    {
+        Ok(self.remaining.hand_out(buffer))
+    }
+}
+
+/// A source over memory that fails at the listed calls, counted from 1.
+#[derive(Debug, Drop)]
+pub struct MemorySource {
+    remaining: Remaining,
+    calls: CallLog,
+}
+
+impl Model for MemorySource {
+    ghost use Rattle.palm_base.specs.Memory.{Left, Flawed};
+
+    ghost Value = { Flawed Left };
+
+    ghost view = { λ s. record { inner = s.remaining; calls = s.calls } };
+}
+
+impl MemorySource {
+    /// Hands out these bytes, at most `piece` at a call, and fails at the listed calls.
+    pub fn new(bytes: ByteList, piece: usize, failing: CallList) -> MemorySource
+        requires { 0 < piece }
+        ensures left { result.inner ≡ record { bytes = bytes; piece = piece } }
+        ensures calls { result.calls ≡ record { failing = failing; made = 0; faults = 0 } }
+    {
+        MemorySource {
+            remaining: Remaining::new(bytes, piece),
+            calls: CallLog::new(failing),
+        }
+    }
+}
+
+impl Source for MemorySource {
+    ghost left = { λ s. Some s.inner.bytes };
+
+    ghost faults = { λ s. s.calls.faults };
+
+    fn read(&mut self, buffer: &mut [u8]) -> Result<usize, Failed>
+        requires { 0 < length buffer.old }
+        ensures cause { HasCause self.old.calls.faults self.new.calls.faults result }
+        ensures bytes { Reads (Some self.old.inner.bytes) (Some self.new.inner.bytes) buffer.new result }
+        ensures count { IfOk result (λ n. n ≡ handed_out self.old.inner (length buffer.old)) }
+        ensures listed { IsErr result → IsListed self.old.calls }
+        ensures unlisted { IsOk result → IsListed self.old.calls → ⊥ }
+    {
+        if self.calls.is_failing() {
+            return Err(Failed);
+        }
+        Ok(self.remaining.hand_out(buffer))
+    }
+}

@@ -1,0 +1,5 @@
+pub mod Closure
+pub mod Constraint
+pub mod Domains
+pub mod Part
+pub mod Support

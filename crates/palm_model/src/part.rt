@@ -1,0 +1,53 @@
+//! The parts that a constraint is the conjunction of. Support is asked part by part.
+use crate::constraint::{Op, RowList, Target, TermList};
+use palm_base::{Sequence, Value, ValueList, Var, VarList};
+
+/// One relation on the values of a few variables.
+#[derive(Debug, Drop)]
+pub enum Part {
+    /// `left op right + offset`
+    VarCompared {
+        left: Var,
+        op: Op,
+        right: Var,
+        offset: i32,
+    },
+    /// `var op value`
+    ValueCompared {
+        var: Var,
+        op: Op,
+        value: Value,
+    },
+    /// The sum of the terms stands in relation `op` to the bound.
+    SumCompared {
+        terms: TermList,
+        op: Op,
+        bound: i64,
+    },
+    /// The values of the variables are one of the rows.
+    RowListed {
+        vars: VarList,
+        rows: RowList,
+    },
+    /// `outcome` is the entry at `index`, counted from 1.
+    EntryChosen {
+        outcome: Var,
+        index: Var,
+        entries: ValueList,
+    },
+    /// The number of variables that have the value stands in relation `op` to the target.
+    Counted {
+        value: Value,
+        vars: VarList,
+        op: Op,
+        target: Target,
+    },
+    /// The two variables have different values.
+    Apart {
+        first: Var,
+        second: Var,
+    },
+}
+
+/// The parts of a constraint.
+pub type PartList = Sequence<Part>;
