@@ -5,6 +5,7 @@
 pub mod adapters;
 pub mod errors;
 pub mod memory;
+pub mod numbers;
 pub mod sequence;
 pub mod steps;
 pub mod stream;
@@ -14,6 +15,7 @@ pub use adapters::{StdSink, StdSource};
 pub use errors::{Failed, NoMemory};
 pub use memory::sinks::{MemorySink, SteadySink};
 pub use memory::sources::{MemorySource, SteadySource};
+pub use numbers::{push_int, read_int};
 pub use sequence::{ByteList, CallList, CidList, Sequence, ValueList, VarList};
 pub use steps::Steps;
 pub use stream::{Sink, Source};

@@ -1,9 +1,13 @@
 //! Lists that a contract sees as the list of their members.
 ghost use Rattle.std.specs.Prelude.{◌≡◌, [], ◌∷◌, ◌++◌, length, OnOk, OnErr, IfOk};
+ghost use Rattle.std.specs.Cmp.Lexicographic.{pointwise, lists_per, lists_equiv};
+ghost use Rattle.std.specs.Hash as fed;
+ghost use Rattle.std.specs.Hash.{items_Alike};
 
 use crate::errors::NoMemory;
 use crate::terms::{Cid, Value, Var};
 use std::alloc::{AllocFailed, Global};
+use std::hash::{Hash, Hasher};
 use std::marker::Model;
 
 /// A growing list. It keeps the allocator of the vector that it was made from.
@@ -52,6 +56,14 @@ impl<T> Sequence<T> {
         Sequence { items }
     }
 
+    /// The members as a vector.
+    pub fn into_vec(self) -> Vec<T>
+        ensures { result.items ≡ self }
+    {
+        let Sequence { items } = self;
+        items
+    }
+
     /// The members as a slice.
     pub fn as_slice(&self) -> &[T]
         ensures { result.now ≡ self.now }
@@ -95,5 +107,36 @@ impl<T: Copy> Sequence<T> {
         Ok(Sequence {
             items: Vec::from_slice(alloc, items)?,
         })
+    }
+
+    /// A second list with these members.
+    pub fn copy(&self) -> Result<Self, NoMemory>
+        ensures { IfOk result (λ list. list ≡ self.now) }
+    {
+        Sequence::from_slice(*self.items.allocator(), self.as_slice())
+    }
+}
+
+impl<T: PartialEq> PartialEq for Sequence<T> {
+    ghost eq = { pointwise T.eq };
+
+    ghost laws = { lists_per T.laws };
+
+    fn eq(&self, other: &Self) -> bool {
+        self.as_slice() == other.as_slice()
+    }
+}
+
+impl<T: Eq> Eq for Sequence<T> {
+    ghost laws = { lists_equiv T.Eq.laws };
+}
+
+impl<T: Hash> Hash for Sequence<T> {
+    ghost hash_input = { fed.slice T.hash_input };
+
+    ghost respects_eq = { (items_Alike (record { fed = T.respects_eq })).fed };
+
+    fn hash<H: Hasher>(&self, state: &mut H) {
+        self.as_slice().hash(state);
     }
 }

@@ -1,5 +1,5 @@
 //! A counter that contracts see as a number and that costs no bytes in the built program.
-ghost use Rattle.std.specs.Prelude.{◌≡◌, ◌<◌};
+ghost use Rattle.std.specs.Prelude.{◌≡◌, ◌<◌, ◌+◌};
 
 use std::marker::Model;
 use std::sync::ledger::{Blank, Book, Ledger, Share};
@@ -31,5 +31,12 @@ impl<L: Ledger> Steps<L> {
     {
         let (book, share) = blank.open();
         Steps { book, share }
+    }
+
+    /// Counts one more question.
+    pub fn tick(&mut self)
+        ensures { self.new ≡ self.old + 1 }
+    {
+        self.book.add(&mut self.share, 1);
     }
 }

@@ -3,7 +3,16 @@
 #![tactic(auto)]
 
 pub mod constraint;
+pub mod copy;
+pub mod greatest;
 pub mod part;
+pub mod parts;
+mod satisfied;
+mod support;
 
 pub use constraint::{Con, ConList, DomainList, Op, RowList, Target, Term, TermList};
+pub use copy::copy_of;
+pub use greatest::scratch;
 pub use part::{Part, PartList};
+pub use parts::parts_of;
+pub use satisfied::{number_of, stands};

@@ -1,0 +1,3 @@
+pub mod Existence
+pub mod Solutions
+pub mod Uniqueness

@@ -1,0 +1,5 @@
+use Rattle.palm_laws.proofs.Solutions.{formed_declared}
+use Rattle.palm_laws.proofs.explained.well_formed_constraints_are_declared.Goals as goal
+
+pub returns : goal.returns
+returns c = λ variables cs formed. formed_declared variables cs formed

@@ -1,0 +1,14 @@
+//! The laws of the definitions, each the contract of a public function with an empty body. A list of constraints
+//! stands for the set of its members.
+#![tactic(auto)]
+
+pub mod explained;
+pub mod greatest;
+pub mod supported;
+
+pub use explained::{
+    conflict_has_no_solution, conflicts_are_empty_domains, explained_value_is_in_no_solution,
+    explained_values_are_the_missing_ones, explanations_grow, well_formed_constraints_are_declared,
+};
+pub use greatest::{greatest_domains_are_unique, greatest_domains_exist, greatest_domains_fall};
+pub use supported::support_is_known;

@@ -1,0 +1,11 @@
+pub mod Ascending
+pub mod Assignments
+pub mod Formed
+pub mod Narrowing
+pub mod Reasons
+pub mod Standing
+pub mod Sums
+pub mod Supports
+pub mod Trials
+pub mod Tries
+pub mod Without

@@ -1,0 +1,203 @@
+//! Whether an assignment satisfies a part. An assignment is a list with a value for each variable.
+ghost use Rattle.std.specs.Prelude.{◌≡◌, ◌≢◌, ◌<◌, ◌≤◌, ◌^◌, ◌*ℤ◌, FitsSigned, true, false, length, map, All};
+ghost use Rattle.std.specs.Int.{w32};
+ghost use Rattle.palm_model.specs.Constraint.{Stands, IsUpTo, IsFactor, term_vars, target_scope};
+ghost use Rattle.palm_model.specs.Part.{total, occurrences, Holds};
+ghost use Rattle.palm_model.specs.Reason.{is_standing};
+ghost use Rattle.palm_model.specs.Trial.{listed, IsTriable};
+
+use crate::constraint::{Op, RowList, Target, Term, TermList};
+use crate::part::Part;
+use palm_base::{Value, ValueList, Var, VarList};
+
+/// Whether the assignment satisfies the part.
+pub(crate) fn is_satisfied(part: &Part, values: &[Value]) -> bool
+    requires { IsTriable (length values.now) part.now }
+    ensures holds { result ≡ true → Holds part.now (listed values.now) }
+    ensures fails { result ≡ false → ¬ Holds part.now (listed values.now) }
+{
+    match part {
+        Part::VarCompared {
+            left,
+            op,
+            right,
+            offset,
+        } => is_compared(values, left, *op, right, *offset),
+        Part::ValueCompared { var, op, value } => {
+            stands(*op, number_at(values, var), number_of(value))
+        }
+        Part::SumCompared { terms, op, bound } => stands(*op, total_of(values, terms), *bound),
+        Part::RowListed { vars, rows } => is_listed(values, vars, rows),
+        Part::EntryChosen {
+            outcome,
+            index,
+            entries,
+        } => is_entry(values, outcome, index, entries),
+        Part::Counted {
+            value,
+            vars,
+            op,
+            target,
+        } => is_counted(values, value, vars, *op, target),
+        Part::Apart { first, second } => number_at(values, first) != number_at(values, second),
+    }
+}
+
+/// The number of a value.
+pub fn number_of(value: &Value) -> i64
+    ensures same { result ≡ value.now }
+    ensures fits { FitsSigned w32 value.now }
+{
+    i64::from(value.0)
+}
+
+/// The number that the assignment gives the variable.
+fn number_at(values: &[Value], var: &Var) -> i64
+    requires { var.now < length values.now }
+    ensures same { result ≡ listed values.now var.now }
+    ensures fits { FitsSigned w32 (listed values.now var.now) }
+{
+    number_of(&values[var.0 as usize])
+}
+
+/// Whether the first number stands in the relation to the second.
+pub fn stands(op: Op, left: i64, right: i64) -> bool
+    ensures test { result ≡ is_standing op left right }
+    ensures holds { result ≡ true → Stands op left right }
+    ensures fails { result ≡ false → ¬ Stands op left right }
+{
+    match op {
+        Op::Eq => left == right,
+        Op::Ne => left != right,
+        Op::Lt => left < right,
+        Op::Le => left <= right,
+        Op::Gt => left > right,
+        Op::Ge => left >= right,
+    }
+}
+
+/// Whether one variable stands in the relation to another with an offset.
+fn is_compared(values: &[Value], left: &Var, op: Op, right: &Var, offset: i32) -> bool
+    requires left { left.now < length values.now }
+    requires right { right.now < length values.now }
+    ensures holds { result ≡ true
+        → Holds (Part.VarCompared left.now op right.now offset) (listed values.now) }
+    ensures fails { result ≡ false
+        → ¬ Holds (Part.VarCompared left.now op right.now offset) (listed values.now) }
+{
+    stands(
+        op,
+        number_at(values, left),
+        number_at(values, right) + i64::from(offset),
+    )
+}
+
+/// The sum of the terms.
+fn total_of(values: &[Value], terms: &TermList) -> i64
+    requires factors { All IsFactor terms.now }
+    requires few { length terms.now ≤ 16 }
+    requires declared { All (λ x. x < length values.now) (term_vars terms.now) }
+    ensures { result ≡ total (listed values.now) terms.now }
+{
+    let mut sum = 0i64;
+    for term in terms.as_slice() {
+        sum += term_value(values, term);
+    }
+    sum
+}
+
+/// The coefficient times the value of its variable.
+fn term_value(values: &[Value], term: &Term) -> i64
+    requires factor { IsFactor term.now }
+    requires declared { term.now.var < length values.now }
+    ensures product { result ≡ term.now.factor *ℤ listed values.now term.now.var }
+    ensures small { IsUpTo 214748364800000 result }
+{
+    i64::from(term.factor) * number_at(values, &term.var)
+}
+
+/// Whether the values of the variables are one of the rows.
+fn is_listed(values: &[Value], vars: &VarList, rows: &RowList) -> bool
+    requires { All (λ x. x < length values.now) vars.now }
+    ensures holds { result ≡ true → Holds (Part.RowListed vars.now rows.now) (listed values.now) }
+    ensures fails { result ≡ false
+        → ¬ Holds (Part.RowListed vars.now rows.now) (listed values.now) }
+{
+    for row in rows.as_slice() {
+        if is_row(values, vars.as_slice(), row.as_slice()) {
+            return true;
+        }
+    }
+    false
+}
+
+/// Whether the row has the values of the variables.
+fn is_row(values: &[Value], vars: &[Var], row: &[Value]) -> bool
+    requires { All (λ x. x < length values.now) vars.now }
+    ensures same { result ≡ true → row.now ≡ map (listed values.now) vars.now }
+    ensures other { result ≡ false → row.now ≢ map (listed values.now) vars.now }
+{
+    if row.len() != vars.len() {
+        return false;
+    }
+    for (place, var) in vars.iter().enumerate() {
+        if number_of(&row[place]) != number_at(values, var) {
+            return false;
+        }
+    }
+    true
+}
+
+/// Whether the outcome is the entry at the index, counted from 1.
+fn is_entry(values: &[Value], outcome: &Var, index: &Var, entries: &ValueList) -> bool
+    requires outcome { outcome.now < length values.now }
+    requires index { index.now < length values.now }
+    ensures holds { result ≡ true
+        → Holds (Part.EntryChosen outcome.now index.now entries.now) (listed values.now) }
+    ensures fails { result ≡ false
+        → ¬ Holds (Part.EntryChosen outcome.now index.now entries.now) (listed values.now) }
+{
+    let place = number_at(values, index);
+    if place < 1 {
+        return false;
+    }
+    match entries.as_slice().get((place - 1) as usize) {
+        Some(entry) => number_of(entry) == number_at(values, outcome),
+        None => false,
+    }
+}
+
+/// Whether the number of variables that have the value stands in the relation to the target.
+fn is_counted(values: &[Value], value: &Value, vars: &VarList, op: Op, target: &Target) -> bool
+    requires vars { All (λ x. x < length values.now) vars.now }
+    requires target { All (λ x. x < length values.now) (target_scope target.now) }
+    ensures holds { result ≡ true
+        → Holds (Part.Counted value.now vars.now op target.now) (listed values.now) }
+    ensures fails { result ≡ false
+        → ¬ Holds (Part.Counted value.now vars.now op target.now) (listed values.now) }
+{
+    let bound = match target {
+        Target::Const(number) => number_of(number),
+        Target::Variable(var) => number_at(values, var),
+    };
+    stands(
+        op,
+        occurrences_of(values, value, vars.as_slice()) as i64,
+        bound,
+    )
+}
+
+/// How many of the variables have the value.
+fn occurrences_of(values: &[Value], value: &Value, vars: &[Var]) -> usize
+    requires { All (λ x. x < length values.now) vars.now }
+    ensures count { result ≡ occurrences (listed values.now) value.now vars.now }
+    ensures small { result < 2 ^ 63 }
+{
+    let mut count = 0;
+    for var in vars {
+        if number_at(values, var) == number_of(value) {
+            count += 1;
+        }
+    }
+    count
+}
