@@ -1,0 +1,95 @@
+-- The rows of a store, one for each variable, and what its calls say of them.
+use Rattle.std.specs.Prelude.{◌≡◌, ℕ, ◌^◌, ℤ, ◌<◌, ◌≤◌, ◌<ℤ◌, ◌≤ℤ◌, List, [], ◌∷◌, All, Contains, not, filter, map, length, slice_index_or, int_lt, if◌then◌else◌}
+use Rattle.std.specs.Ordering.{int_eq}
+
+-- the values that a variable was declared with, and those of them that are left
+pub record Row : Type 0 where
+  pub initial : List ℤ
+  pub present : List ℤ
+
+-- the declared values of each variable
+abbrev pub initial_of : List Row → List (List ℤ)
+initial_of rows = map (λ r. r.initial) rows
+
+-- the present values of each variable
+abbrev pub present_of : List Row → List (List ℤ)
+present_of rows = map (λ r. r.present) rows
+
+-- the values of a variable, and none for a variable that does not exist
+abbrev pub values_at : List (List ℤ) → ℕ → List ℤ
+values_at lists x = slice_index_or lists x []
+
+abbrev pub declared_values : List Row → ℕ → List ℤ
+declared_values rows x = values_at (initial_of rows) x
+
+abbrev pub present_values : List Row → ℕ → List ℤ
+present_values rows x = values_at (present_of rows) x
+
+-- the variable has the value, among the declared ones and among the present ones
+abbrev pub IsDeclared : List Row → ℕ → ℤ → Type 0
+IsDeclared rows x v = Contains (declared_values rows x) v
+
+abbrev pub IsPresent : List Row → ℕ → ℤ → Type 0
+IsPresent rows x v = Contains (present_values rows x) v
+
+-- each value is below those after it
+abbrev pub Ascends : List ℤ → Type 0
+Ascends [] = Unit {0}
+Ascends (v ∷ vs) = All (λ w. v <ℤ w) vs × Ascends vs
+
+-- the values but this one
+abbrev pub values_without : ℤ → List ℤ → List ℤ
+values_without v vs = filter (λ w. not (int_eq w v)) vs
+
+-- the values with this one before the first that is above it
+abbrev pub values_with : ℤ → List ℤ → List ℤ
+values_with v [] = v ∷ []
+values_with v (w ∷ ws) = if int_lt v w then v ∷ w ∷ ws else (w ∷ values_with v ws)
+
+-- the lowest of the values
+pub record IsLeastOf (vs : List ℤ) (v : ℤ) : Type 0 where
+  pub member : Contains vs v
+  pub least : (w : ℤ) → Contains vs w → v ≤ℤ w
+
+-- the highest of the values
+pub record IsGreatestOf (vs : List ℤ) (v : ℤ) : Type 0 where
+  pub member : Contains vs v
+  pub greatest : (w : ℤ) → Contains vs w → w ≤ℤ v
+
+-- the lowest of the values from `low` on
+pub record IsNextFrom (vs : List ℤ) (low v : ℤ) : Type 0 where
+  pub member : Contains vs v
+  pub from : low ≤ℤ v
+  pub least : (w : ℤ) → Contains vs w → low ≤ℤ w → v ≤ℤ w
+
+-- the lowest of the declared values from `low` on that is not present
+pub record IsNextRemovedFrom (initial present : List ℤ) (low v : ℤ) : Type 0 where
+  pub declared : Contains initial v
+  pub removed : Contains present v → ⊥
+  pub from : low ≤ℤ v
+  pub least : (w : ℤ) → Contains initial w → low ≤ℤ w → w <ℤ v → Contains present w
+
+-- what holds of each row of a store
+pub record IsFormed (r : Row) : Type 0 where
+  pub ascends : Ascends r.initial
+  pub filled : 0 < length r.initial
+  pub small : length r.initial ≤ 256
+  pub present_ascends : Ascends r.present
+  pub inside : (v : ℤ) → Contains r.present v → Contains r.initial v
+
+-- what holds of the rows of a store, whose variables have numbers of 32 bits
+pub record AreFormed (rows : List Row) : Type 0 where
+  pub few : length rows < 2 ^ 32
+  pub each : All IsFormed rows
+
+-- after this pair was taken out, no other pair is gone, and none has come
+pub record LosesPair (before after : List Row) (x : ℕ) (v : ℤ) : Type 0 where
+  pub gone : IsPresent after x v → ⊥
+  pub others : (y : ℕ) (w : ℤ) → (y ≡ x → w ≡ v → ⊥) → IsPresent before y w → IsPresent after y w
+  pub inside : (y : ℕ) (w : ℤ) → IsPresent after y w → IsPresent before y w
+
+-- after this pair was put back, no other pair has come, and none is gone
+pub record GainsPair (before after : List Row) (x : ℕ) (v : ℤ) : Type 0 where
+  pub there : IsPresent after x v
+  pub others : (y : ℕ) (w : ℤ) → IsPresent before y w → IsPresent after y w
+  pub inside : (y : ℕ) (w : ℤ) → (y ≡ x → w ≡ v → ⊥) → IsPresent after y w → IsPresent before y w

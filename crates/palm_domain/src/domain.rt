@@ -1,0 +1,199 @@
+//! The values of one variable.
+ghost use Rattle.std.specs.Prelude.{◌≡◌, ℤ, pos, ◌+ℤ◌, ◌<◌, ◌≤◌, ◌<ℤ◌, ◌≤ℤ◌, true, false, length, Contains, IfOk, MatchOption};
+ghost use Rattle.palm_domain.specs.Rows.{Ascends, IsFormed, IsGreatestOf, IsLeastOf, IsNextFrom, IsNextRemovedFrom, values_with, values_without};
+
+use crate::marks::{Marks, PLACES};
+use crate::places::{place_after, place_from, place_of};
+use palm_base::{NoMemory, Value};
+use std::alloc::Global;
+use std::marker::Model;
+
+/// The declared values in their order, with a mark at the place of each that is present. How many marks there are,
+/// the first of them and one past the last are kept, so that no reader walks the values.
+#[derive(Debug, Drop)]
+pub(crate) struct Domain {
+    initial: Vec<Value>,
+    marks: Marks,
+    count: u16,
+    first: u16,
+    end: u16,
+}
+
+impl Model for Domain {
+    ghost use Rattle.palm_domain.specs.Rows.{Row};
+    ghost use Rattle.palm_domain.specs.Marks.{AreMarks, is_marked, kept};
+
+    ghost Value = { Row };
+
+    ghost view = { λ d. record {
+      initial = d.initial.items;
+      present = kept (is_marked d.marks.words) 0 d.initial.items;
+    } };
+
+    ghost invariant = { λ d. AreMarks (is_marked d.marks.words) d.initial.items d.count d.first d.end };
+}
+
+impl Domain {
+    /// Each of the values is present.
+    pub(crate) fn new(alloc: Global, values: &[Value]) -> Result<Domain, NoMemory>
+        requires ascend { Ascends values.now }
+        requires filled { 0 < length values.now }
+        requires small { length values.now ≤ 256 }
+        ensures { IfOk result (λ d. d ≡ record { initial = values.now; present = values.now }) }
+    {
+        let count = values.len();
+        Ok(Domain {
+            initial: Vec::from_slice(alloc, values)?,
+            marks: Marks::of_first(count),
+            count: count as u16,
+            first: 0,
+            end: count as u16,
+        })
+    }
+
+    /// The declared values.
+    pub(crate) fn initial(&self) -> &[Value]
+        ensures values { result.now ≡ self.now.initial }
+        ensures formed { IsFormed self.now }
+    {
+        self.initial.as_slice()
+    }
+
+    /// Whether the value was declared.
+    pub(crate) fn declared(&self, value: Value) -> bool
+        ensures member { result ≡ true → Contains self.now.initial value }
+        ensures missing { result ≡ false → Contains self.now.initial value → ⊥ }
+    {
+        place_of(&self.initial, value).is_some()
+    }
+
+    /// Whether the value is present.
+    pub(crate) fn contains(&self, value: Value) -> bool
+        ensures member { result ≡ true → Contains self.now.present value }
+        ensures missing { result ≡ false → Contains self.now.present value → ⊥ }
+    {
+        match place_of(&self.initial, value) {
+            Some(place) => self.marks.has(place),
+            None => false,
+        }
+    }
+
+    /// How many values were declared.
+    pub(crate) fn initial_count(&self) -> u32
+        ensures { result ≡ length self.now.initial }
+    {
+        self.initial.len() as u32
+    }
+
+    /// How many values are present.
+    pub(crate) fn count(&self) -> u32
+        ensures { result ≡ length self.now.present }
+    {
+        u32::from(self.count)
+    }
+
+    /// The least present value.
+    pub(crate) fn least(&self) -> Value
+        requires { 0 < length self.now.present }
+        ensures { IsLeastOf self.now.present result }
+    {
+        self.initial[usize::from(self.first)]
+    }
+
+    /// The greatest present value.
+    pub(crate) fn greatest(&self) -> Value
+        requires { 0 < length self.now.present }
+        ensures { IsGreatestOf self.now.present result }
+    {
+        self.initial[usize::from(self.end) - 1]
+    }
+
+    /// The least present value that is at least `value`.
+    pub(crate) fn next_from(&self, value: Value) -> Option<Value>
+        ensures { MatchOption result
+            ((w : ℤ) → Contains self.now.present w → w <ℤ value)
+            (IsNextFrom self.now.present value) }
+    {
+        let place = self.marks.next_set(place_from(&self.initial, value));
+        if place < PLACES {
+            Some(self.initial[place])
+        } else {
+            None
+        }
+    }
+
+    /// The least present value above `value`.
+    pub(crate) fn next_after(&self, value: Value) -> Option<Value>
+        ensures { MatchOption result
+            ((w : ℤ) → Contains self.now.present w → w <ℤ (value +ℤ pos 1))
+            (IsNextFrom self.now.present (value +ℤ pos 1)) }
+    {
+        let place = self.marks.next_set(place_after(&self.initial, value));
+        if place < PLACES {
+            Some(self.initial[place])
+        } else {
+            None
+        }
+    }
+
+    /// The least declared value that is not present and is at least `value`.
+    pub(crate) fn next_removed_from(&self, value: Value) -> Option<Value>
+        ensures { MatchOption result
+            ((w : ℤ) → Contains self.now.initial w → value ≤ℤ w → Contains self.now.present w)
+            (IsNextRemovedFrom self.now.initial self.now.present value) }
+    {
+        let place = self
+            .marks
+            .flipped()
+            .next_set(place_from(&self.initial, value));
+        if place < self.initial.len() {
+            Some(self.initial[place])
+        } else {
+            None
+        }
+    }
+
+    /// The least declared value that is not present and is above `value`.
+    pub(crate) fn next_removed_after(&self, value: Value) -> Option<Value>
+        ensures { MatchOption result
+            ((w : ℤ) → Contains self.now.initial w → (value +ℤ pos 1) ≤ℤ w → Contains self.now.present w)
+            (IsNextRemovedFrom self.now.initial self.now.present (value +ℤ pos 1)) }
+    {
+        let place = self
+            .marks
+            .flipped()
+            .next_set(place_after(&self.initial, value));
+        if place < self.initial.len() {
+            Some(self.initial[place])
+        } else {
+            None
+        }
+    }
+
+    /// Takes a present value out.
+    pub(crate) fn take_out(&mut self, value: Value)
+        requires { Contains self.old.present value }
+        ensures { self.new
+            ≡ record { initial = self.old.initial; present = values_without value self.old.present } }
+    {
+        let place = place_from(&self.initial, value);
+        self.marks.clear(place);
+        self.count -= 1;
+        self.first = self.marks.next_set(usize::from(self.first)) as u16;
+        self.end = self.marks.end_below(usize::from(self.end)) as u16;
+    }
+
+    /// Puts a declared value back that is not present.
+    pub(crate) fn put_back(&mut self, value: Value)
+        requires declared { Contains self.old.initial value }
+        requires removed { Contains self.old.present value → ⊥ }
+        ensures { self.new
+            ≡ record { initial = self.old.initial; present = values_with value self.old.present } }
+    {
+        let place = place_from(&self.initial, value);
+        self.marks.set(place);
+        self.count += 1;
+        self.first = self.first.min(place as u16);
+        self.end = self.end.max(place as u16 + 1);
+    }
+}

@@ -1,0 +1,13 @@
+//! The domains of a problem's variables: the innermost loop of the solver.
+#![tactic(auto)]
+
+mod bits;
+mod domain;
+mod marks;
+mod places;
+pub mod store;
+
+pub use store::DomainStore;
+
+#[cfg(test)]
+mod tests;

@@ -1,0 +1,110 @@
+//! Marks of 256 places.
+ghost use Rattle.std.specs.Prelude.{◌≡◌, ◌≢◌, ℕ, ◌-◌, ◌<◌, ◌≤◌, true, false, not, nat_lt};
+ghost use Rattle.palm_domain.specs.Marks.{is_marked};
+
+use crate::bits::{first_one, low_ones, ones_end};
+
+/// How many places there are.
+pub(crate) const PLACES: usize = 256;
+
+/// A mark for each place, 64 of them to a word.
+#[derive(Clone, Copy, Debug)]
+pub(crate) struct Marks {
+    words: [u64; 4],
+}
+
+impl Marks {
+    /// Marks the first `count` places.
+    pub(crate) fn of_first(count: usize) -> Marks
+        requires { count ≤ 256 }
+        ensures { (k : ℕ) → is_marked result.words k ≡ nat_lt k count }
+    {
+        Marks {
+            words: [
+                low_ones(count.min(64)),
+                low_ones(count.saturating_sub(64).min(64)),
+                low_ones(count.saturating_sub(128).min(64)),
+                low_ones(count.saturating_sub(192).min(64)),
+            ],
+        }
+    }
+
+    /// Whether the place is marked.
+    pub(crate) fn has(&self, place: usize) -> bool
+        requires { place < 256 }
+        ensures { result ≡ is_marked self.now.words place }
+    {
+        (self.words[place / 64] >> (place % 64)) & 1 == 1
+    }
+
+    /// Marks the place.
+    pub(crate) fn set(&mut self, place: usize)
+        requires { place < 256 }
+        ensures here { is_marked self.new.words place ≡ true }
+        ensures others { (k : ℕ) → k ≢ place →
+            is_marked self.new.words k ≡ is_marked self.old.words k }
+    {
+        self.words[place / 64] |= 1 << (place % 64);
+    }
+
+    /// Takes the mark of the place away.
+    pub(crate) fn clear(&mut self, place: usize)
+        requires { place < 256 }
+        ensures here { is_marked self.new.words place ≡ false }
+        ensures others { (k : ℕ) → k ≢ place →
+            is_marked self.new.words k ≡ is_marked self.old.words k }
+    {
+        self.words[place / 64] &= !(1 << (place % 64));
+    }
+
+    /// The first marked place from `from` on, and 256 where there is none.
+    pub(crate) fn next_set(&self, from: usize) -> usize
+        requires { from ≤ 256 }
+        ensures from { from ≤ result }
+        ensures within { result ≤ 256 }
+        ensures marked { result < 256 → is_marked self.now.words result ≡ true }
+        ensures between { (k : ℕ) →
+            from ≤ k → k < result → is_marked self.now.words k ≡ false }
+    {
+        let mut at = from;
+        while at < PLACES {
+            let one = first_one(self.words[at / 64], at % 64);
+            if one < 64 {
+                return at / 64 * 64 + one;
+            }
+            at = at / 64 * 64 + 64;
+        }
+        PLACES
+    }
+
+    /// One past the last marked place below `before`, and 0 where there is none.
+    pub(crate) fn end_below(&self, before: usize) -> usize
+        requires { before ≤ 256 }
+        ensures within { result ≤ before }
+        ensures marked { 0 < result → is_marked self.now.words (result - 1) ≡ true }
+        ensures between { (k : ℕ) →
+            result ≤ k → k < before → is_marked self.now.words k ≡ false }
+    {
+        let mut at = before;
+        while at > 0 {
+            let word = (at - 1) / 64;
+            let end = ones_end(self.words[word], at - word * 64);
+            if end > 0 {
+                return word * 64 + end;
+            }
+            at = word * 64;
+        }
+        0
+    }
+
+    /// The marks that these leave out.
+    pub(crate) fn flipped(&self) -> Marks
+        ensures { (k : ℕ) → k < 256 →
+            is_marked result.words k ≡ not (is_marked self.now.words k) }
+    {
+        let [a, b, c, d] = self.words;
+        Marks {
+            words: [!a, !b, !c, !d],
+        }
+    }
+}

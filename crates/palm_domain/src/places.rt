@@ -1,0 +1,92 @@
+//! The place of a value in an ascending list.
+ghost use Rattle.std.specs.Prelude.{◌≡◌, ℕ, ℤ, pos, ◌+ℤ◌, ◌<◌, ◌≤◌, ◌≤ℤ◌, length, slice_index_or, slice_get, MatchOption, Contains};
+ghost use Rattle.std.specs.Int.{int_gap};
+ghost use Rattle.palm_domain.specs.Places.{IsPlaceFrom};
+ghost use Rattle.palm_domain.specs.Rows.{Ascends};
+
+use palm_base::Value;
+
+/// The place of the first value that is at least `value`, and the list's length where there is none.
+pub(crate) fn place_from(values: &[Value], value: Value) -> usize
+    requires { Ascends values.now }
+    ensures { IsPlaceFrom values.now value result }
+{
+    let end = end_of_lower(values, value);
+    if end == 0 || values[end - 1] < value {
+        return end;
+    }
+    search(values, value, end)
+}
+
+/// The place of the first value above `value`, and the list's length where there is none.
+pub(crate) fn place_after(values: &[Value], value: Value) -> usize
+    requires { Ascends values.now }
+    ensures { IsPlaceFrom values.now (value +ℤ pos 1) result }
+{
+    let place = place_from(values, value);
+    if place < values.len() && values[place] == value {
+        place + 1
+    } else {
+        place
+    }
+}
+
+/// The place of the value, if the list has it.
+pub(crate) fn place_of(values: &[Value], value: Value) -> Option<usize>
+    requires { Ascends values.now }
+    ensures { MatchOption result
+        (Contains values.now value → ⊥)
+        (λ place. slice_get values.now place ≡ Some value) }
+{
+    let place = place_from(values, value);
+    if place < values.len() && values[place] == value {
+        Some(place)
+    } else {
+        None
+    }
+}
+
+/// A place from which on no value is below `value`: a list of different numbers reaches it by then.
+fn end_of_lower(values: &[Value], value: Value) -> usize
+    requires { Ascends values.now }
+    ensures within { result ≤ length values.now }
+    ensures above { (k : ℕ) (d : ℤ) →
+        result ≤ k → k < length values.now → value ≤ℤ slice_index_or values.now k d }
+{
+    match values.first() {
+        Some(least) => values.len().min(gap(*least, value)),
+        None => 0,
+    }
+}
+
+/// How far `high` is above `low`, and 0 where it is not.
+fn gap(low: Value, high: Value) -> usize
+    ensures { result ≡ int_gap low high }
+{
+    if high <= low {
+        0
+    } else {
+        high.0.abs_diff(low.0) as usize
+    }
+}
+
+/// The place of the first value that is at least `value`, by halves of the values below place `end`.
+fn search(values: &[Value], value: Value, end: usize) -> usize
+    requires ascend { Ascends values.now }
+    requires within { end ≤ length values.now }
+    requires above { (k : ℕ) (d : ℤ) →
+        end ≤ k → k < length values.now → value ≤ℤ slice_index_or values.now k d }
+    ensures { IsPlaceFrom values.now value result }
+{
+    let mut low = 0;
+    let mut high = end;
+    while low < high {
+        let middle = low + (high - low) / 2;
+        if values[middle] < value {
+            low = middle + 1;
+        } else {
+            high = middle;
+        }
+    }
+    low
+}
