@@ -1,0 +1,334 @@
+-- Support and reasons of comparisons, by what they ask of the other variable.
+use Rattle.std.proofs.Common.{◌≡◌, ℕ, ℤ, ◌+ℤ◌, ◌-ℤ◌, pos, ◌≤ℤ◌, Bool, true, false, cond, ◌+◌, ◌<◌, List, [], ◌∷◌, ◌++◌, length, take, get_or, filter, Contains, eqb, eq-eqb, ne_eqb, ◌⊎◌, inl, inr, refl, sym, ap, ◌∙◌, subst, arith}
+use Rattle.std.proofs.lemmas.Int.{ints}
+use Rattle.std.proofs.lemmas.List.Elements.{All-contains}
+use Rattle.palm_base.proofs.Members.{member_nil, member_here, member_there, member_cases, member_single, member_same, filter_member, member_filter, filter_agree_members, nat_known}
+use Rattle.palm_base.specs.declared.terms.Pair.{Pair}
+use Rattle.palm_domain.specs.Rows.{IsLeastOf, IsGreatestOf}
+use Rattle.palm_model.specs.Domains.{Domains, Has, values_of, without}
+use Rattle.palm_model.specs.Constraint.{Stands, scope, Distinct, IsWellFormed}
+use Rattle.palm_model.specs.Part.{scope_of}
+use Rattle.palm_model.specs.Support.{HasSupport, IsSupported, LacksSupport}
+use Rattle.palm_model.specs.Reason.{is_standing, pairs_of, comparison_reason, reason, IsReason, WantsReason}
+use Rattle.palm_model.specs.declared.constraint.Con.{Con}
+use Rattle.palm_model.specs.declared.constraint.Con.TheVariants.{CompareVar, CompareConst, Linear, Table, Element, Count, Differ}
+use Rattle.palm_model.specs.declared.constraint.Op.{Op}
+use Rattle.palm_model.specs.declared.constraint.Op.TheVariants.{Eq, Ne, Lt, Le, Gt, Ge}
+use Rattle.palm_model.specs.declared.part.Part.{Part}
+use Rattle.palm_model.specs.declared.part.Part.TheVariants.{VarCompared, ValueCompared}
+use Rattle.palm_model.proofs.Reasons.{pairs_member, member_pairs, pairs_more, pairs_same}
+use Rattle.palm_model.proofs.Standing.{stands_from_test, test_from_stands}
+use Rattle.palm_model.proofs.Supports.{supported_by_part, lacking_by_part, part_unsupported, two, two_first, two_second, support_by_two, support_by_one, without_has}
+use Rattle.palm_model.proofs.Trials.{put, put_same}
+use Rattle.filter_compare.specs.Comparison.{IsComparison, comparison_of, flipped_of, demand_of, IsMet, meeting_values}
+use Rattle.filter_compare.specs.declared.compare.Comparison.TheVariants.{Variables, Constant}
+use Rattle.filter_compare.specs.declared.compare.VarComparison.{VarComparison}
+use Rattle.filter_compare.specs.declared.demand.Demand.{Demand}
+
+-- ---- the relation from its other side
+
+pub flip : (op : Op) (v w k : ℤ) → Stands op v (w +ℤ k) → Stands (flipped_of op) w (v -ℤ k)
+flip Eq v w k h = omega (arith, ints, h)
+flip Ne v w k h = λ e. h (omega (arith, ints, e))
+flip Lt v w k h = omega (arith, ints, h)
+flip Le v w k h = omega (arith, ints, h)
+flip Gt v w k h = omega (arith, ints, h)
+flip Ge v w k h = omega (arith, ints, h)
+
+pub flip_back : (op : Op) (v w k : ℤ) → Stands (flipped_of op) w (v -ℤ k) → Stands op v (w +ℤ k)
+flip_back Eq v w k h = omega (arith, ints, h)
+flip_back Ne v w k h = λ e. h (omega (arith, ints, e))
+flip_back Lt v w k h = omega (arith, ints, h)
+flip_back Le v w k h = omega (arith, ints, h)
+flip_back Gt v w k h = omega (arith, ints, h)
+flip_back Ge v w k h = omega (arith, ints, h)
+
+bool_same : (b c : Bool) → (b ≡ true → c ≡ true) → (c ≡ true → b ≡ true) → b ≡ c
+bool_same true c to back = sym (to refl)
+bool_same false true to back = back refl
+bool_same false false to back = refl
+
+test_flipped : (op : Op) (v w k : ℤ) → is_standing op v (w +ℤ k) ≡ is_standing (flipped_of op) w (v -ℤ k)
+test_flipped op v w k = bool_same (is_standing op v (w +ℤ k)) (is_standing (flipped_of op) w (v -ℤ k))
+    (λ t. test_from_stands (flipped_of op) w (v -ℤ k) (flip op v w k (stands_from_test op v (w +ℤ k) t)))
+    (λ t. test_from_stands op v (w +ℤ k) (flip_back op v w k (stands_from_test (flipped_of op) w (v -ℤ k) t)))
+
+-- ---- a demand, against the ends of a domain
+
+pub met_by : (vs : List ℤ) (d : Demand) (v : ℤ) → Contains vs v → Stands d.op v d.bound → IsMet vs d
+met_by vs d v m h = record { value = v; member = m; stands = h }
+
+pub unmet_none : (vs : List ℤ) (d : Demand) → length vs ≡ 0 → IsMet vs d → ⊥
+unmet_none vs d e met = omega (arith, met.member.1)
+
+pub unmet_equal : (vs : List ℤ) (d : Demand) → d.op ≡ Eq → (Contains vs d.bound → ⊥) → IsMet vs d → ⊥
+unmet_equal vs d is n met = n (member_same vs met.value d.bound (subst (λ o. Stands o met.value d.bound) is met.stands) met.member)
+
+pub unmet_outside : (vs : List ℤ) (d : Demand) (least greatest : ℤ) → d.op ≡ Eq → IsLeastOf vs least → IsGreatestOf vs greatest → (least ≤ℤ d.bound → d.bound ≤ℤ greatest → ⊥) → IsMet vs d → ⊥
+unmet_outside vs d least greatest is low high n met =
+    let e : met.value ≡ d.bound = subst (λ o. Stands o met.value d.bound) is met.stands in
+    n (subst (λ z. least ≤ℤ z) e (low.least met.value met.member)) (subst (λ z. z ≤ℤ greatest) e (high.greatest met.value met.member))
+
+pub unmet_other : (vs : List ℤ) (d : Demand) (least greatest : ℤ) → d.op ≡ Ne → IsLeastOf vs least → IsGreatestOf vs greatest → (Stands d.op least d.bound → ⊥) → (Stands d.op greatest d.bound → ⊥) → IsMet vs d → ⊥
+unmet_other vs d least greatest is low high n m met =
+    subst (λ o. (Stands o least d.bound → ⊥) → (Stands o greatest d.bound → ⊥) → Stands o met.value d.bound → ⊥) (sym is)
+    (λ n m apart. n (λ e. m (λ f. apart (omega (arith, ints, e, f, low.least met.value met.member, high.greatest met.value met.member))))) n m met.stands
+
+pub unmet_below : (vs : List ℤ) (d : Demand) (least : ℤ) → (d.op ≡ Lt) ⊎ (d.op ≡ Le) → IsLeastOf vs least → (Stands d.op least d.bound → ⊥) → IsMet vs d → ⊥
+unmet_below vs d least is low n met = elim is [
+  | inl e ↦ subst (λ o. (Stands o least d.bound → ⊥) → Stands o met.value d.bound → ⊥) (sym e) (λ n h. n (omega (arith, ints, h, low.least met.value met.member))) n met.stands
+  | inr e ↦ subst (λ o. (Stands o least d.bound → ⊥) → Stands o met.value d.bound → ⊥) (sym e) (λ n h. n (omega (arith, ints, h, low.least met.value met.member))) n met.stands
+]
+
+pub unmet_above : (vs : List ℤ) (d : Demand) (greatest : ℤ) → (d.op ≡ Gt) ⊎ (d.op ≡ Ge) → IsGreatestOf vs greatest → (Stands d.op greatest d.bound → ⊥) → IsMet vs d → ⊥
+unmet_above vs d greatest is high n met = elim is [
+  | inl e ↦ subst (λ o. (Stands o greatest d.bound → ⊥) → Stands o met.value d.bound → ⊥) (sym e) (λ n h. n (omega (arith, ints, h, high.greatest met.value met.member))) n met.stands
+  | inr e ↦ subst (λ o. (Stands o greatest d.bound → ⊥) → Stands o met.value d.bound → ⊥) (sym e) (λ n h. n (omega (arith, ints, h, high.greatest met.value met.member))) n met.stands
+]
+
+-- ---- the pairs that meet a demand, one value after another
+
+pub meeting_more : (vs : List ℤ) (i : ℕ) (d : Demand) (v : ℤ) (before out now : List Pair) → i < length vs → v ≡ get_or vs i v → is_standing d.op v d.bound ≡ true → out ≡ before ++ pairs_of d.var (meeting_values (take i vs) d) → now ≡ out ++ record { var = d.var; value = v } ∷ [] → now ≡ before ++ pairs_of d.var (meeting_values (take (i + 1) vs) d)
+meeting_more vs i d v before out now lt at t e f = pairs_more (λ w. is_standing d.op w d.bound) d.var vs i v before out now lt at t e f
+
+pub meeting_same : (vs : List ℤ) (i : ℕ) (d : Demand) (v : ℤ) (before out now : List Pair) → i < length vs → v ≡ get_or vs i v → is_standing d.op v d.bound ≡ false → out ≡ before ++ pairs_of d.var (meeting_values (take i vs) d) → now ≡ out → now ≡ before ++ pairs_of d.var (meeting_values (take (i + 1) vs) d)
+meeting_same vs i d v before out now lt at t e f = pairs_same (λ w. is_standing d.op w d.bound) d.var vs i v before out now lt at t e f
+
+-- ---- what is asked of the other variable
+
+module _ (c : VarComparison) (x : ℕ) (v : ℤ) where
+  abbrev left : ℕ
+  left = c.left
+
+  abbrev op : Op
+  op = c.op
+
+  abbrev right : ℕ
+  right = c.right
+
+  abbrev offset : ℤ
+  offset = c.offset
+
+  abbrev con : Con
+  con = comparison_of (Variables c)
+
+  abbrev of_right : Demand
+  of_right = record { var = right; op = flipped_of op; bound = v -ℤ offset }
+
+  abbrev of_left : Demand
+  of_left = record { var = left; op = op; bound = v +ℤ offset }
+
+  demand_at_left : x ≡ left → demand_of c x v ≡ of_right
+  demand_at_left e = ap (λ b. cond b of_right of_left) (eq-eqb x left e)
+
+  demand_at_right : (x ≡ left → ⊥) → demand_of c x v ≡ of_left
+  demand_at_right n = ap (λ b. cond b of_right of_left) (ne_eqb x left n)
+
+  reason_by : (initial : Domains) (b : Bool) → cond b (pairs_of right (filter (λ w. is_standing op v (w +ℤ offset)) (values_of initial right))) (pairs_of left (filter (λ w. is_standing op w (v +ℤ offset)) (values_of initial left))) ≡ pairs_of (cond b of_right of_left).var (meeting_values (values_of initial (cond b of_right of_left).var) (cond b of_right of_left))
+  reason_by initial true = ap (pairs_of right) (filter_agree_members (λ w. is_standing op v (w +ℤ offset)) (λ w. is_standing (flipped_of op) w (v -ℤ offset)) (values_of initial right) (λ w m. test_flipped op v w offset))
+  reason_by initial false = refl
+
+  -- the reason has every declared pair that meets the demand
+  pub reason_meets : (initial : Domains) → comparison_reason initial c.left c.op c.right c.offset x v ≡ pairs_of (demand_of c x v).var (meeting_values (values_of initial (demand_of c x v).var) (demand_of c x v))
+  reason_meets initial = reason_by initial (eqb x left)
+
+  -- the other variable is one of the two, and is another one
+  pub demand_over : Contains (left ∷ right ∷ []) (demand_of c x v).var
+  demand_over = by_case (eqb x left)
+    where
+      by_case : (b : Bool) → Contains (left ∷ right ∷ []) (cond b of_right of_left).var
+      by_case true = member_there left (right ∷ []) right (member_here right [])
+      by_case false = member_here left (right ∷ [])
+
+  at_right : (x ≡ left → ⊥) → Contains (left ∷ right ∷ []) x → right ≡ x
+  at_right n over = elim (member_cases left (right ∷ []) x over) [
+    | inl e ↦ absurd (n (sym e))
+    | inr m ↦ member_single right x m
+  ]
+
+  pub demand_other : (left ≡ right → ⊥) → Contains (left ∷ right ∷ []) x → (demand_of c x v).var ≡ x → ⊥
+  demand_other apart over e = elim (nat_known x left) [
+    | inl s ↦ apart (sym (sym (ap (λ (d : Demand). d.var) (demand_at_left s)) ∙ e ∙ s))
+    | inr n ↦ n (sym (sym (ap (λ (d : Demand). d.var) (demand_at_right n)) ∙ e))
+  ]
+
+  -- ---- support
+
+  abbrev part : Part
+  part = VarCompared left op right offset
+
+  over_two : (a b : ℕ) → Contains (a ∷ b ∷ []) x → (z : ℕ) → Contains (a ∷ b ∷ []) z → (a ≡ z) ⊎ (b ≡ z)
+  over_two a b over z m = elim (member_cases a (b ∷ []) z m) [ inl e ↦ inl e | inr k ↦ inr (member_single b z k) ]
+
+  swap : (a b z : ℕ) → (a ≡ z) ⊎ (b ≡ z) → (b ≡ z) ⊎ (a ≡ z)
+  swap a b z h = elim h [ inl e ↦ inr e | inr e ↦ inl e ]
+
+  left_support : (d : Domains) → (left ≡ right → ⊥) → Contains (left ∷ right ∷ []) x → Has d left v → IsMet (values_of d right) of_right → HasSupport d part left v
+  left_support d apart over has met =
+      support_by_two d part left v right met.value (λ e. apart (sym e)) (over_two left right over) has met.member
+      (subst (λ m. Stands op m (two left v right met.value right +ℤ offset)) (sym (two_first left v right met.value))
+      (subst (λ n. Stands op v (n +ℤ offset)) (sym (two_second left v right met.value (λ e. apart (sym e)))) (flip_back op v met.value offset met.stands)))
+
+  right_support : (d : Domains) → (left ≡ right → ⊥) → Contains (left ∷ right ∷ []) x → Has d right v → IsMet (values_of d left) of_left → HasSupport d part right v
+  right_support d apart over has met =
+      support_by_two d part right v left met.value apart (λ z m. swap left right z (over_two left right over z m)) has met.member
+      (subst (λ m. Stands op m (two right v left met.value right +ℤ offset)) (sym (two_second right v left met.value apart))
+      (subst (λ n. Stands op met.value (n +ℤ offset)) (sym (two_first right v left met.value)) met.stands))
+
+  pub support_from_met : (d : Domains) → (left ≡ right → ⊥) → Contains (left ∷ right ∷ []) x → Has d x v → IsMet (values_of d (demand_of c x v).var) (demand_of c x v) → HasSupport d part x v
+  support_from_met d apart over has met = elim (nat_known x left) [
+    | inl e ↦ subst (λ z. HasSupport d part z v) (sym e) (left_support d apart over (subst (λ z. Has d z v) e has) (subst (λ (q : Demand). IsMet (values_of d q.var) q) (demand_at_left e) met))
+    | inr n ↦
+        let s = at_right n over in
+        subst (λ z. HasSupport d part z v) s (right_support d apart over (subst (λ z. Has d z v) (sym s) has) (subst (λ (q : Demand). IsMet (values_of d q.var) q) (demand_at_right n) met))
+  ]
+
+  met_right : (d : Domains) (s : HasSupport d part x v) → x ≡ left → IsMet (values_of d right) of_right
+  met_right d s e = record {
+    value = s.assignment right;
+    member = s.within right (member_there left (right ∷ []) right (member_here right []));
+    stands = flip op v (s.assignment right) offset (subst (λ m. Stands op m (s.assignment right +ℤ offset)) (ap s.assignment (sym e) ∙ s.gives) s.holds);
+  }
+
+  met_left : (d : Domains) (s : HasSupport d part x v) → right ≡ x → IsMet (values_of d left) of_left
+  met_left d s e = record {
+    value = s.assignment left;
+    member = s.within left (member_here left (right ∷ []));
+    stands = subst (λ m. Stands op (s.assignment left) (m +ℤ offset)) (ap s.assignment e ∙ s.gives) s.holds;
+  }
+
+  pub met_from_support : (d : Domains) → Contains (left ∷ right ∷ []) x → HasSupport d part x v → IsMet (values_of d (demand_of c x v).var) (demand_of c x v)
+  met_from_support d over s = elim (nat_known x left) [
+    | inl e ↦ subst (λ (q : Demand). IsMet (values_of d q.var) q) (sym (demand_at_left e)) (met_right d s e)
+    | inr n ↦ subst (λ (q : Demand). IsMet (values_of d q.var) q) (sym (demand_at_right n)) (met_left d s (at_right n over))
+  ]
+
+  pub var_supported : (d : Domains) → Distinct (left ∷ right ∷ []) → Contains (left ∷ right ∷ []) x → Has d x v → IsMet (values_of d (demand_of c x v).var) (demand_of c x v) → IsSupported d con x v
+  var_supported d distinct over has met =
+      supported_by_part d con part x v refl (support_from_met d (λ e. distinct.0 (member_same (right ∷ []) right left (sym e) (member_here right []))) over has met)
+
+  pub var_lacking : (d : Domains) → Contains (left ∷ right ∷ []) x → (IsMet (values_of d (demand_of c x v).var) (demand_of c x v) → ⊥) → LacksSupport d con x v
+  var_lacking d over unmet = lacking_by_part d con part x v refl over (λ s. unmet (met_from_support d over s))
+
+  -- ---- reasons
+
+  abbrev pairs : Domains → List Pair
+  pairs initial = pairs_of (demand_of c x v).var (meeting_values (values_of initial (demand_of c x v).var) (demand_of c x v))
+
+  -- a declared value that meets the demand is not present, and without these values nothing meets it
+  pub var_reason : (initial present : Domains) → Distinct (left ∷ right ∷ []) → Has present x v → LacksSupport present con x v → IsReason initial present con x v (pairs initial)
+  var_reason initial present distinct has lacks =
+      let q = demand_of c x v in
+      let apart : left ≡ right → ⊥ = λ e. distinct.0 (member_same (right ∷ []) right left (sym e) (member_here right [])) in
+      let over : Contains (left ∷ right ∷ []) x = subst (λ p. Contains (scope_of p) x) (sym (member_single part lacks.part lacks.is_part)) lacks.over in
+      record {
+        removed = λ p m.
+            let r = pairs_member q.var (meeting_values (values_of initial q.var) q) p m in
+            let s = filter_member (λ w. is_standing q.op w q.bound) (values_of initial q.var) p.value r.1 in (
+              subst (λ z. Has initial z p.value) r.0 s.0,
+              λ h.
+                  part_unsupported present con part x v refl lacks
+                  (support_from_met present apart over has (record { value = p.value; member = subst (λ z. Has present z p.value) (sym r.0) h; stands = stands_from_test q.op p.value q.bound s.1 })),
+            );
+        others = λ p m.
+            let r = pairs_member q.var (meeting_values (values_of initial q.var) q) p m in
+            (member_same (left ∷ right ∷ []) q.var p.var r.0 demand_over, λ e. demand_other apart over (r.0 ∙ e));
+        lacks = var_lacking (without initial (pairs initial)) over (λ met.
+            let r = without_has initial (pairs initial) q.var met.value met.member in
+            r.1 (member_pairs q.var (meeting_values (values_of initial q.var) q) met.value
+            (member_filter (λ w. is_standing q.op w q.bound) (values_of initial q.var) met.value r.0 (test_from_stands q.op met.value q.bound met.stands))));
+      }
+
+-- ---- comparisons with a value
+
+module _ (d : Demand) (x : ℕ) (v : ℤ) where
+  abbrev const_con : Con
+  const_con = comparison_of (Constant d)
+
+  abbrev const_part : Part
+  const_part = ValueCompared d.var d.op d.bound
+
+  pub const_supported : (e : Domains) → Has e x v → Contains (d.var ∷ []) x → Stands d.op v d.bound → IsSupported e const_con x v
+  const_supported e has over h =
+      supported_by_part e const_con const_part x v refl
+      (support_by_one e const_part x v (λ z m. sym (member_single d.var x over) ∙ member_single d.var z m) has
+      (subst (λ y. Stands d.op (put (λ z. pos 0) x v y) d.bound) (sym (member_single d.var x over)) (subst (λ u. Stands d.op u d.bound) (sym (put_same (λ z. pos 0) x v)) h)))
+
+  stands_from_support : (e : Domains) → Contains (d.var ∷ []) x → HasSupport e const_part x v → Stands d.op v d.bound
+  stands_from_support e over s = subst (λ u. Stands d.op u d.bound) (ap s.assignment (member_single d.var x over) ∙ s.gives) s.holds
+
+  pub const_lacking : (e : Domains) → Contains (d.var ∷ []) x → (Stands d.op v d.bound → ⊥) → LacksSupport e const_con x v
+  const_lacking e over n = lacking_by_part e const_con const_part x v refl over (λ s. n (stands_from_support e over s))
+
+  -- nothing but the value itself matters
+  pub const_reason : (initial present : Domains) → Has present x v → LacksSupport present const_con x v → IsReason initial present const_con x v []
+  const_reason initial present has lacks =
+      let over : Contains (d.var ∷ []) x = subst (λ p. Contains (scope_of p) x) (sym (member_single const_part lacks.part lacks.is_part)) lacks.over in
+      record {
+        removed = λ p m. absurd (member_nil p m);
+        others = λ p m. absurd (member_nil p m);
+        lacks = const_lacking (without initial []) over (λ h.
+            let s = const_supported present has over h in lacks.lacks (s.each lacks.part lacks.is_part lacks.over));
+      }
+
+-- ---- a filter's answers, for its meaning m
+
+module _ (c : VarComparison) (x : ℕ) (v : ℤ) (n : ℕ) (m : Con) (q : Demand) (is : comparison_of (Variables c) ≡ m) (formed : IsWellFormed n m) (asks : q ≡ demand_of c x v) where
+  distinct_vars : Distinct (c.left ∷ c.right ∷ [])
+  distinct_vars = subst (λ k. Distinct (scope k)) (sym is) formed.distinct
+
+  over_vars : Contains (scope m) x → Contains (c.left ∷ c.right ∷ []) x
+  over_vars over = subst (λ k. Contains (scope k) x) (sym is) over
+
+  pub asks_declared : q.var < n
+  asks_declared =
+      All-contains (λ y. y < n) (scope m) q.var formed.declared
+      (subst (λ k. Contains (scope k) q.var) is (subst (λ (p : Demand). Contains (c.left ∷ c.right ∷ []) p.var) (sym asks) (demand_over c x v)))
+
+  pub answers_supported : (d : Domains) → Contains (scope m) x → Has d x v → IsMet (values_of d q.var) q → IsSupported d m x v
+  answers_supported d over has met =
+      subst (λ k. IsSupported d k x v) is (var_supported c x v d distinct_vars (over_vars over) has (subst (λ (p : Demand). IsMet (values_of d p.var) p) asks met))
+
+  pub answers_lacking : (d : Domains) → Contains (scope m) x → (IsMet (values_of d q.var) q → ⊥) → LacksSupport d m x v
+  answers_lacking d over unmet =
+      subst (λ k. LacksSupport d k x v) is (var_lacking c x v d (over_vars over) (λ met. unmet (subst (λ (p : Demand). IsMet (values_of d p.var) p) (sym asks) met)))
+
+  pub gives_reason : (initial present : Domains) (out : List Pair) → out ≡ pairs_of q.var (meeting_values (values_of initial q.var) q) → out ≡ reason initial present m x v
+  gives_reason initial present out e =
+      e ∙ ap (λ (p : Demand). pairs_of p.var (meeting_values (values_of initial p.var) p)) asks ∙ sym (reason_meets c x v initial) ∙ ap (λ k. reason initial present k x v) is
+
+  pub gives_right : (initial present : Domains) (out : List Pair) → out ≡ pairs_of q.var (meeting_values (values_of initial q.var) q) → Has present x v → LacksSupport present m x v → IsReason initial present m x v out
+  gives_right initial present out e has lacks =
+      subst (λ ps. IsReason initial present m x v ps) (sym (e ∙ ap (λ (p : Demand). pairs_of p.var (meeting_values (values_of initial p.var) p)) asks))
+      (subst (λ k. IsReason initial present k x v (pairs_of (demand_of c x v).var (meeting_values (values_of initial (demand_of c x v).var) (demand_of c x v)))) is
+      (var_reason c x v initial present distinct_vars has (subst (λ k. LacksSupport present k x v) (sym is) lacks)))
+
+module _ (q : Demand) (x : ℕ) (v : ℤ) (m : Con) (is : comparison_of (Constant q) ≡ m) where
+  pub const_answers_supported : (d : Domains) → Contains (scope m) x → Has d x v → Stands q.op v q.bound → IsSupported d m x v
+  const_answers_supported d over has h =
+      subst (λ k. IsSupported d k x v) is (const_supported q x v d has (subst (λ k. Contains (scope k) x) (sym is) over) h)
+
+  pub const_answers_lacking : (d : Domains) → Contains (scope m) x → (Stands q.op v q.bound → ⊥) → LacksSupport d m x v
+  const_answers_lacking d over h =
+      subst (λ k. LacksSupport d k x v) is (const_lacking q x v d (subst (λ k. Contains (scope k) x) (sym is) over) h)
+
+  pub const_gives_right : (initial present : Domains) (out : List Pair) → out ≡ [] → Has present x v → LacksSupport present m x v → IsReason initial present m x v out
+  const_gives_right initial present out e has lacks =
+      subst (λ ps. IsReason initial present m x v ps) (sym e)
+      (subst (λ k. IsReason initial present k x v []) is (const_reason q x v initial present has (subst (λ k. LacksSupport present k x v) (sym is) lacks)))
+
+-- ---- the law
+
+pub comparison_right : (initial present : Domains) (k : Con) (x : ℕ) (v : ℤ) → IsComparison k → WantsReason initial present k x v → IsReason initial present k x v (reason initial present k x v)
+comparison_right initial present (CompareVar left op right offset) x v is w =
+    let c : VarComparison = record { left = left; op = op; right = right; offset = offset } in
+    subst (λ ps. IsReason initial present (CompareVar left op right offset) x v ps) (sym (reason_meets c x v initial))
+    (var_reason c x v initial present w.formed.distinct w.present_value w.lacks)
+comparison_right initial present (CompareConst left op value) x v is w =
+    let d : Demand = record { var = left; op = op; bound = value } in
+    const_reason d x v initial present w.present_value w.lacks
+comparison_right initial present (Linear terms op bound) x v is w = absurd is
+comparison_right initial present (Table vars rows) x v is w = absurd is
+comparison_right initial present (Element outcome index entries) x v is w = absurd is
+comparison_right initial present (Count value vars op target) x v is w = absurd is
+comparison_right initial present (Differ vars) x v is w = absurd is

@@ -1,0 +1,35 @@
+use Rattle.std.proofs.Common.{◌≡◌, length, ap, sym, ◌∙◌}
+use Rattle.std.proofs.lemmas.Result.{on_ok_weaker}
+use Rattle.palm_domain.specs.Rows.{initial_of, present_of}
+use Rattle.palm_model.specs.Domains.{values_of}
+use Rattle.palm_model.specs.Reason.{pairs_of, reason, IsReason}
+use Rattle.filter_compare.specs.Comparison.{comparison_of, meeting_values}
+use Rattle.filter_compare.proofs.Comparisons.{gives_reason, gives_right, const_gives_right}
+use Rattle.filter_compare.proofs.compare.CompareFilterFilter.reason.Goals as goal
+
+pub returns-in-Variables-clause-ok : goal.returns-in-Variables-clause-ok
+returns-in-Variables-clause-ok c =
+    let initial = initial_of c.args.store.now in
+    let present = present_of c.args.store.now in
+    let out = c.declared.new.out.items in
+    let q = c.demand.result in
+    on_ok_weaker {P = out ≡ pairs_of q.var (meeting_values (values_of initial q.var) q)} {Q = out ≡ reason initial present c.args.self.now c.args.pair.var c.args.pair.value} c.declared.result
+    (λ e. gives_reason c.in-Variables.comparison c.args.pair.var c.args.pair.value (length c.args.store.now) c.args.self.now q
+    (ap comparison_of (sym c.in-Variables.is) ∙ c.self.view_is) c.requires.formed c.demand.ensures initial present out e)
+    c.declared.ensures.ok
+
+pub returns-in-Variables-clause-right : goal.returns-in-Variables-clause-right
+returns-in-Variables-clause-right c =
+    let initial = initial_of c.args.store.now in
+    let present = present_of c.args.store.now in
+    let out = c.declared.new.out.items in
+    let q = c.demand.result in
+    on_ok_weaker {P = out ≡ pairs_of q.var (meeting_values (values_of initial q.var) q)} {Q = IsReason initial present c.args.self.now c.args.pair.var c.args.pair.value out} c.declared.result
+    (λ e. gives_right c.in-Variables.comparison c.args.pair.var c.args.pair.value (length c.args.store.now) c.args.self.now q
+    (ap comparison_of (sym c.in-Variables.is) ∙ c.self.view_is) c.requires.formed c.demand.ensures initial present out e c.requires.present c.requires.unsupported)
+    c.declared.ensures.ok
+
+pub returns-in-Constant-clause-right : goal.returns-in-Constant-clause-right
+returns-in-Constant-clause-right c =
+    const_gives_right c.in-Constant.field-0 c.args.pair.var c.args.pair.value c.args.self.now (ap comparison_of (sym c.in-Constant.is) ∙ c.self.view_is)
+    (initial_of c.args.store.now) (present_of c.args.store.now) c.clear.new.self.items c.clear.ensures.items c.requires.present c.requires.unsupported

@@ -1,0 +1,131 @@
+//! The filter of a comparison.
+ghost use Rattle.std.specs.Prelude.{◌≡◌, ℕ, IfOk};
+ghost use Rattle.filter_compare.specs.Comparison.{IsComparison, demand_of};
+ghost use Rattle.palm_model.specs.Constraint.{IsWellFormed};
+
+use crate::demand::{Demand, flipped};
+use palm_base::{NoMemory, Pair, Var, VarList};
+use palm_domain::DomainStore;
+use palm_filter::{Filter, Reasons};
+use palm_model::{Con, Op, number_of};
+use std::alloc::Global;
+use std::marker::Model;
+
+/// `left op right + offset`
+#[derive(Debug, Drop)]
+pub struct VarComparison {
+    pub left: Var,
+    pub op: Op,
+    pub right: Var,
+    pub offset: i32,
+}
+
+/// What is compared.
+#[derive(Debug, Drop)]
+pub enum Comparison {
+    /// Two variables.
+    Variables(VarComparison),
+    /// A variable and a value.
+    Constant(Demand),
+}
+
+/// Filters a comparison. It asks for support by the ends of the other variable's domain or by one membership, and
+/// never walks a domain.
+#[derive(Debug, Drop)]
+pub struct CompareFilter {
+    vars: VarList,
+    comparison: Comparison,
+}
+
+impl Model for CompareFilter {
+    ghost use Rattle.std.specs.Prelude.{◌≡◌, ℕ};
+    ghost use Rattle.filter_compare.specs.Comparison.{comparison_of};
+    ghost use Rattle.palm_model.specs.Constraint.{IsWellFormed, scope};
+    ghost use Rattle.palm_model.specs.declared.constraint.Con.{Con};
+
+    ghost Value = { Con };
+
+    ghost view = { λ f. comparison_of f.comparison };
+
+    ghost invariant = { λ f. (f.vars ≡ scope (comparison_of f.comparison)) × ((variables : ℕ) × IsWellFormed variables (comparison_of f.comparison)) };
+}
+
+impl VarComparison {
+    /// What the comparison asks of the other variable, where the variable of the pair has its value.
+    pub(crate) fn demand(&self, pair: &Pair) -> Demand
+        ensures { result ≡ demand_of self.now pair.now.var pair.now.value }
+    {
+        let value = number_of(&pair.value);
+        if pair.var == self.left {
+            Demand {
+                var: self.right,
+                op: flipped(self.op),
+                bound: value - i64::from(self.offset),
+            }
+        } else {
+            Demand {
+                var: self.left,
+                op: self.op,
+                bound: value + i64::from(self.offset),
+            }
+        }
+    }
+}
+
+impl CompareFilter {
+    /// The filter of a comparison.
+    pub fn new(alloc: Global, con: &Con) -> Result<CompareFilter, NoMemory>
+        requires formed { (variables : ℕ) × IsWellFormed variables con.now }
+        requires kind { IsComparison con.now }
+        ensures { IfOk result (λ filter. filter ≡ con.now) }
+    {
+        match con {
+            Con::CompareVar {
+                left,
+                op,
+                right,
+                offset,
+            } => Ok(CompareFilter {
+                vars: VarList::from_slice(alloc, &[*left, *right])?,
+                comparison: Comparison::Variables(VarComparison {
+                    left: *left,
+                    op: *op,
+                    right: *right,
+                    offset: *offset,
+                }),
+            }),
+            Con::CompareConst { left, op, value } => Ok(CompareFilter {
+                vars: VarList::from_slice(alloc, &[*left])?,
+                comparison: Comparison::Constant(Demand {
+                    var: *left,
+                    op: *op,
+                    bound: number_of(value),
+                }),
+            }),
+            _ => unreachable!(),
+        }
+    }
+}
+
+impl Filter for CompareFilter {
+    ghost meaning = { λ con. con };
+
+    fn scope(&self) -> &VarList {
+        &self.vars
+    }
+
+    fn supported(&self, store: &DomainStore, pair: Pair) -> bool {
+        match &self.comparison {
+            Comparison::Variables(comparison) => comparison.demand(&pair).is_met(store),
+            Comparison::Constant(demand) => demand.is_met_by(&pair.value),
+        }
+    }
+
+    fn reason(&self, store: &DomainStore, pair: Pair, out: &mut Reasons) -> Result<(), NoMemory> {
+        out.clear();
+        match &self.comparison {
+            Comparison::Variables(comparison) => comparison.demand(&pair).declared(store, out),
+            Comparison::Constant(_) => Ok(()),
+        }
+    }
+}

@@ -1,0 +1,12 @@
+//! Filters of comparisons: of a variable with another one and an offset, and of a variable with a value.
+#![tactic(auto)]
+
+pub mod compare;
+pub mod demand;
+pub mod laws;
+
+pub use compare::CompareFilter;
+pub use laws::reasons_of_comparisons_are_right;
+
+#[cfg(test)]
+mod tests;

@@ -1,0 +1,139 @@
+//! Support and reasons of comparisons over small domains.
+ghost use Rattle.std.specs.Prelude.{◌≡◌, ◌<◌, length, true, All, Contains, IfOk};
+ghost use Rattle.palm_domain.specs.Rows.{present_of};
+ghost use Rattle.palm_model.specs.Constraint.{IsWellFormed, scope};
+ghost use Rattle.palm_model.specs.Domains.{Has};
+ghost use Rattle.palm_model.specs.Reason.{AreFilled};
+
+use crate::CompareFilter;
+use palm_base::{NoMemory, Pair, Steps, Value, Var};
+use palm_domain::DomainStore;
+use palm_filter::{Filter, Reasons, ask};
+use palm_model::{Con, Op};
+use std::alloc::Global;
+use std::marker::Brand;
+use std::sync::ledger::{Blank, Ledger};
+use std::test::Fail;
+
+fn pair(var: Var, value: Value) -> Pair
+    ensures { result ≡ record { var = var; value = value } }
+{
+    Pair { var, value }
+}
+
+/// Whether none of the variables has an empty domain.
+fn are_filled(store: &DomainStore, vars: &[Var]) -> bool
+    requires { All (λ x. x < length store.now) vars.now }
+    ensures { result ≡ true → AreFilled (present_of store.now) vars.now }
+{
+    for var in vars {
+        if store.count(*var) == 0 {
+            return false;
+        }
+    }
+    true
+}
+
+/// The reason of a pair that is present and has no support; of other pairs there is none.
+fn reason_of<F: Filter>(
+    alloc: Global,
+    filter: &F,
+    store: &DomainStore,
+    var: Var,
+    value: Value,
+) -> Result<Option<Reasons>, NoMemory>
+    requires formed { IsWellFormed (length store.now) (F.meaning filter.now) }
+    requires over { Contains (scope (F.meaning filter.now)) var }
+{
+    let mut out = Reasons::new(alloc);
+    if !store.contains(pair(var, value))
+        || !are_filled(store, filter.scope().as_slice())
+        || filter.supported(store, pair(var, value))
+    {
+        return Ok(None);
+    }
+    filter.reason(store, pair(var, value), &mut out)?;
+    Ok(Some(out))
+}
+
+/// The answer of a question that is counted from nothing.
+fn answer<F: Filter, L: Ledger>(
+    filter: &F,
+    store: &DomainStore,
+    var: Var,
+    value: Value,
+    blank: Blank,
+) -> bool
+    requires formed { IsWellFormed (length store.now) (F.meaning filter.now) }
+    requires over { Contains (scope (F.meaning filter.now)) var }
+    requires present { Has (present_of store.now) var value }
+    requires named { blank.name ≡ L.name }
+    requires parts { blank.parts ≡ L.parts }
+    requires shared { 0 < L.parts }
+{
+    let mut steps = Steps::<L>::start(blank);
+    ask(filter, store, pair(var, value), &mut steps)
+}
+
+fn two_variables(alloc: Global) -> Result<DomainStore, NoMemory>
+    ensures { IfOk result (λ store. length store ≡ 2) }
+{
+    let mut store = DomainStore::new(alloc);
+    store.add_variable(&[Value(1), Value(2), Value(3)])?;
+    store.add_variable(&[Value(1), Value(2), Value(3)])?;
+    Ok(store)
+}
+
+#[test]
+fn a_reason_is_what_would_fit(rt: HostRuntime) -> Result<(), Fail> {
+    let mut store = two_variables(rt.alloc())?;
+    if store.contains(pair(Var(1), Value(3))) {
+        store.take_out(pair(Var(1), Value(3)));
+    }
+    let con = Con::CompareVar {
+        left: Var(0),
+        op: Op::Lt,
+        right: Var(1),
+        offset: 0,
+    };
+    let filter = CompareFilter::new(rt.alloc(), &con)?;
+    let out = reason_of(rt.alloc(), &filter, &store, Var(0), Value(2))?.expect(&rt, "no support");
+    assert_eq!(rt; out.as_slice(), [pair(Var(1), Value(3))].as_slice());
+    Ok(())
+}
+
+#[test]
+fn a_comparison_with_a_value_has_no_pairs_as_reason(rt: HostRuntime) -> Result<(), Fail> {
+    let store = two_variables(rt.alloc())?;
+    let con = Con::CompareConst {
+        left: Var(0),
+        op: Op::Eq,
+        value: Value(2),
+    };
+    let filter = CompareFilter::new(rt.alloc(), &con)?;
+    let out = reason_of(rt.alloc(), &filter, &store, Var(0), Value(1))?.expect(&rt, "no support");
+    assert_eq!(rt; out.len(), 0);
+    assert_eq!(rt; filter.scope().as_slice(), [Var(0)].as_slice());
+    Ok(())
+}
+
+#[test]
+fn a_question_is_counted_and_answered(rt: HostRuntime) -> Result<(), Fail> {
+    let store = two_variables(rt.alloc())?;
+    let con = Con::CompareVar {
+        left: Var(0),
+        op: Op::Eq,
+        right: Var(1),
+        offset: -2,
+    };
+    let filter = CompareFilter::new(rt.alloc(), &con)?;
+    if store.contains(pair(Var(0), Value(1))) {
+        assert!(rt;
+            answer::<CompareFilter, Brand>(&filter, &store, Var(0), Value(1), Blank::new(1))
+        );
+    }
+    if store.contains(pair(Var(0), Value(2))) {
+        assert!(rt; !filter.supported(&store, pair(Var(0), Value(2))));
+    }
+    Ok(())
+}
