@@ -1,0 +1,69 @@
+-- Ascending values are an interval where the last is as far from the first as there are values between them.
+use Rattle.std.proofs.Common.{◌≡◌, ℕ, suc, ℤ, pos, negsuc, ◌+◌, ◌-◌, ◌<◌, ◌≤◌, ◌+ℤ◌, ◌-ℤ◌, ◌<ℤ◌, true, ◌&&◌, eqb, List, [], ◌∷◌, length, get_or, ⊎_elim, refl, sym, ap, ◌∙◌, true≢false, arith}
+use Rattle.std.specs.Ordering.{int_eq}
+use Rattle.std.specs.Int.RustNames.{unsigned_abs}
+use Rattle.std.proofs.lemmas.Bool.{cases_eq, eq-eqb, ne_eqb, false_from_ne_true}
+use Rattle.std.proofs.lemmas.Bool.Decides.{Decides-int_eq}
+use Rattle.std.proofs.lemmas.Int.{ints}
+use Rattle.palm_lang.specs.Reply.{is_interval, last_of, values_text}
+use Rattle.palm_lang.specs.Text.{range_text}
+use Rattle.palm_model.specs.Domains.{Ascends}
+
+-- how far the greater of two numbers is from the other
+above : (v w : ℤ) → v <ℤ w → (n : ℕ) × (0 < n) × (w ≡ v +ℤ pos n)
+above v w h = by (w -ℤ v) refl
+  where
+    by : (z : ℤ) → w -ℤ v ≡ z → (n : ℕ) × (0 < n) × (w ≡ v +ℤ pos n)
+    by (pos n) e = (n, omega (arith, ints), omega (arith, ints))
+    by (negsuc n) e = absurd (omega (arith, ints))
+
+-- a test of two numbers, and of both with one more
+same_test : (m n k : ℕ) → k ≡ m + 1 → eqb m n ≡ eqb k (suc n)
+same_test m n k e = ⊎_elim
+    (λ (q : m ≡ n). eq-eqb m n q ∙ sym (eq-eqb k (suc n) (omega arith)))
+    (λ q. ne_eqb m n q ∙ sym (ne_eqb k (suc n) (λ f. q (omega arith))))
+    (cases_eq m n)
+
+last_at : (v : ℤ) (vs : List ℤ) (d : ℤ) (k : ℕ) → k ≡ length vs → get_or (v ∷ vs) k d ≡ last_of v vs
+last_at v [] d k e = rw e refl
+last_at v (w ∷ ws) d k e = rw e (last_at w ws d (length ws) refl)
+
+-- how far the last value is from the first
+record Spans (v : ℤ) (vs : List ℤ) : Type 0 where
+  far : ℕ
+  last : last_of v vs ≡ v +ℤ pos far
+  enough : length vs ≤ far
+  tested : is_interval (v ∷ vs) ≡ eqb far (length vs)
+
+spans : (v : ℤ) (vs : List ℤ) → Ascends (v ∷ vs) → Spans v vs
+spans v [] h = record { far = 0; last = omega (arith, ints); enough = omega arith; tested = refl }
+spans v (w ∷ ws) h =
+    let rest = spans w ws h.1 in
+    let step = above v w (h.0 0 w (omega arith)) in
+    further v w ws rest step
+  where
+    further : (v w : ℤ) (ws : List ℤ) → Spans w ws → (n : ℕ) × (0 < n) × (w ≡ v +ℤ pos n) → Spans v (w ∷ ws)
+    further v w ws rest step = record {
+      far = step.0 + rest.far;
+      last = let e = step.2 in let l = rest.last in omega (arith, ints);
+      enough = let s = step.1 in let e = rest.enough in omega arith;
+      tested = ⊎_elim
+          (λ (one : step.0 ≡ 1). ap (λ b. b && is_interval (w ∷ ws)) ((Decides-int_eq w (v +ℤ pos 1)).1 (let e = step.2 in omega (arith, ints))) ∙ rest.tested ∙ same_test rest.far (length ws) (step.0 + rest.far) (omega arith))
+          (λ more. ap (λ b. b && is_interval (w ∷ ws)) (false_from_ne_true (int_eq w (v +ℤ pos 1)) (λ q. more (let e = (Decides-int_eq w (v +ℤ pos 1)).0 q in let f = step.2 in omega (arith, ints)))) ∙ sym (ne_eqb (step.0 + rest.far) (length (w ∷ ws)) (λ e. more (let s = step.1 in let g = rest.enough in omega arith))))
+          (cases_eq step.0 1);
+    }
+
+pub interval_by_ends : (values : List ℤ) (first last : ℤ) → Ascends values → 0 < length values → first ≡ get_or values 0 first → last ≡ get_or values (length values - 1) last → eqb (unsigned_abs (last -ℤ first) + 1) (length values) ≡ is_interval values
+interval_by_ends [] first last up some is_first is_last = absurd (omega arith)
+interval_by_ends (v ∷ vs) first last up some is_first is_last =
+    let s = spans v vs up in
+    let ends : last ≡ last_of v vs = is_last ∙ last_at v vs last (length (v ∷ vs) - 1) (omega arith) in
+    let far : last -ℤ first ≡ pos s.far = let l = s.last in omega (arith, ints) in
+    ap (λ z. eqb (unsigned_abs z + 1) (length (v ∷ vs))) far ∙ sym (same_test s.far (length vs) (s.far + 1) refl) ∙ sym s.tested
+
+-- the text of an interval, by its ends
+pub interval_text : (values : List ℤ) (first last : ℤ) → is_interval values ≡ true → first ≡ get_or values 0 first → last ≡ get_or values (length values - 1) last → range_text first last ≡ values_text values
+interval_text [] first last tested is_first is_last = absurd (true≢false (sym tested))
+interval_text (v ∷ vs) first last tested is_first is_last =
+    let ends : last ≡ last_of v vs = is_last ∙ last_at v vs last (length (v ∷ vs) - 1) (omega arith) in
+    rw tested (ap (λ z. range_text z last) is_first ∙ ap (λ z. range_text v z) ends)

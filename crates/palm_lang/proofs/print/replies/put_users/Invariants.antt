@@ -1,0 +1,7 @@
+use Rattle.std.proofs.Common.{◌≡◌, ◌++◌, map, take}
+use Rattle.palm_lang.specs.Book.{user_name}
+use Rattle.palm_lang.specs.Text.{after_spaces}
+use Rattle.palm_lang.proofs.print.replies.put_users.Given as goal
+
+abbrev pub invariant-loop-user : goal.invariant-loop-user
+invariant-loop-user l = l.out.items ≡ l.fn.out.items ++ after_spaces (map (user_name l.book.constraints) (take l.user-index l.users))

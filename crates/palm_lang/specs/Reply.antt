@@ -1,0 +1,157 @@
+-- The texts of replies: each is a line with its line feed.
+use Rattle.std.specs.Prelude.{ℕ, ℤ, pos, ◌+ℤ◌, Bool, true, false, ◌&&◌, Option, Some, None, List, [], ◌∷◌, ◌++◌, map, flat_map, zip, slice_get, option_to_list, codes, decimal, if◌then◌else◌}
+use Rattle.std.specs.List.{join_by}
+use Rattle.std.specs.Ordering.{int_eq}
+use Rattle.std.specs.Fmt.{signed_decimal}
+use Rattle.palm_base.specs.declared.terms.Pair.{Pair}
+use Rattle.palm_model.specs.declared.constraint.Con.{Con}
+use Rattle.palm_model.specs.declared.constraint.Con.TheVariants.{CompareVar as VarCompare, CompareConst as ConstCompare, Linear as SumCon, Table as TableCon, Element as ElementCon, Count as CountCon, Differ as DifferCon}
+use Rattle.palm_model.specs.declared.constraint.Target.{Target}
+use Rattle.palm_model.specs.declared.constraint.Target.TheVariants.{Const, Variable}
+use Rattle.palm_model.specs.declared.constraint.Term.{Term}
+use Rattle.palm_lang.specs.Book.{Entry, Contents, name_of}
+use Rattle.palm_lang.specs.Text.{spaced, shape_words, range_text, set_text}
+use Rattle.palm_lang.specs.declared.book.BookCon.{BookCon}
+use Rattle.palm_lang.specs.declared.line.Shape.{Shape}
+use Rattle.palm_lang.specs.declared.line.Shape.TheVariants.{CompareVar, CompareConst, Linear, Table, Element, Count, Differ}
+use Rattle.palm_lang.specs.declared.line.NameTerm.{NameTerm}
+use Rattle.palm_lang.specs.declared.line.NameTarget.{NameTarget}
+use Rattle.palm_lang.specs.declared.line.NameTarget.TheVariants.{Const as ConstTarget, Variable as VariableTarget}
+use Rattle.palm_lang.specs.declared.reply.Fixed.{Fixed}
+use Rattle.palm_lang.specs.declared.reply.Fixed.TheVariants.{Done, Contradiction, Paused, Present, Consistent, Bye, End}
+use Rattle.palm_lang.specs.declared.reply.Refusal.{Refusal}
+use Rattle.palm_lang.specs.declared.reply.Refusal.TheVariants.{E1, E2, E3, E4, E5, E6, E7, E8, E9, E10, E11, E12}
+use Rattle.palm_lang.specs.declared.reply.Lead.{Lead}
+use Rattle.palm_lang.specs.declared.reply.Lead.TheVariants.{Because, Conflict, NoSolution}
+
+-- a line with its line feed
+abbrev pub ended : List ℕ → List ℕ
+ended line = line ++ 10 ∷ []
+
+-- a reply of one word
+abbrev pub fixed_word : Fixed → List ℕ
+fixed_word Done = codes "ok"
+fixed_word Contradiction = codes "contradiction"
+fixed_word Paused = codes "paused"
+fixed_word Present = codes "present"
+fixed_word Consistent = codes "consistent"
+fixed_word Bye = codes "bye"
+fixed_word End = codes "end"
+
+abbrev pub fixed_text : Fixed → List ℕ
+fixed_text word = ended (fixed_word word)
+
+abbrev pub refusal_words : Refusal → List ℕ
+refusal_words E1 = codes "error E1 bytes or length"
+refusal_words E2 = codes "error E2 no such form"
+refusal_words E3 = codes "error E3 name taken"
+refusal_words E4 = codes "error E4 unknown variable"
+refusal_words E5 = codes "error E5 unknown constraint"
+refusal_words E6 = codes "error E6 number out of range"
+refusal_words E7 = codes "error E7 limit"
+refusal_words E8 = codes "error E8 repeated variable"
+refusal_words E9 = codes "error E9 empty or zero"
+refusal_words E10 = codes "error E10 wrong state"
+refusal_words E11 = codes "error E11 no such object"
+refusal_words E12 = codes "error E12 value never declared"
+
+abbrev pub refusal_text : Refusal → List ℕ
+refusal_text refusal = ended (refusal_words refusal)
+
+-- how many revisions ran
+abbrev pub ran_text : ℕ → List ℕ
+ran_text revisions = ended (codes "ran " ++ decimal revisions)
+
+-- a variable's values: NAME: v v v
+abbrev pub domain_line : List ℕ → List ℤ → List ℕ
+domain_line name values = ended (name ++ codes ":" ++ flat_map (λ v. codes " " ++ signed_decimal v) values)
+
+-- each value is one more than the one before it
+abbrev pub is_interval : List ℤ → Bool
+is_interval [] = false
+is_interval (v ∷ []) = true
+is_interval (v ∷ w ∷ ws) = int_eq w (v +ℤ pos 1) && is_interval (w ∷ ws)
+
+-- the last value behind a first one
+abbrev pub last_of : ℤ → List ℤ → ℤ
+last_of v [] = v
+last_of v (w ∷ ws) = last_of w ws
+
+-- ascending values: LO..HI where they are all from LO to HI, and else {v,v}
+abbrev pub values_text : List ℤ → List ℕ
+values_text [] = set_text []
+values_text (v ∷ vs) = if is_interval (v ∷ vs) then range_text v (last_of v vs) else set_text (v ∷ vs)
+
+-- a variable as `list` shows it
+abbrev pub var_line : List ℕ → List ℤ → List ℕ
+var_line name values = ended (spaced (codes "var" ∷ name ∷ values_text values ∷ []))
+
+abbrev pub named_target : List Entry → Target → NameTarget
+named_target variables (Const w) = ConstTarget w
+named_target variables (Variable x) = VariableTarget (name_of variables x)
+
+abbrev pub named_term : List Entry → Term → NameTerm
+named_term variables t = record { factor = t.factor; name = name_of variables t.var }
+
+-- a constraint with the names of its variables
+abbrev pub named : List Entry → Con → Shape
+named variables (VarCompare left op right offset) = CompareVar (name_of variables left) op (name_of variables right) offset
+named variables (ConstCompare left op value) = CompareConst (name_of variables left) op value
+named variables (SumCon terms op bound) = Linear (map (named_term variables) terms) op bound
+named variables (TableCon vars rows) = Table (map (name_of variables) vars) rows
+named variables (ElementCon outcome index entries) = Element (name_of variables outcome) (name_of variables index) entries
+named variables (CountCon value vars op target) = Count value (map (name_of variables) vars) op (named_target variables target)
+named variables (DifferCon vars) = Differ (map (name_of variables) vars)
+
+-- the text of a constraint
+abbrev pub con_text : List Entry → Con → List ℕ
+con_text variables con = spaced (shape_words (named variables con))
+
+abbrev pub state_word : Bool → List ℕ
+state_word true = codes "active"
+state_word false = codes "relaxed"
+
+-- a constraint as `list` shows it
+abbrev pub entry_line : List Entry → BookCon → List ℕ
+entry_line variables entry =
+    ended (spaced (decimal entry.number ∷ state_word entry.active ∷ entry.name ∷ codes ":" ∷ con_text variables entry.con ∷ []))
+
+-- the constraint at a place of the book
+abbrev pub entry_at : Contents → ℕ → List ℕ
+entry_at book place = flat_map (entry_line book.variables) (option_to_list (slice_get book.constraints place))
+
+-- NAME VALUE
+abbrev pub pair_text : List Entry → Pair → List ℕ
+pair_text variables pair = name_of variables pair.var ++ codes " " ++ signed_decimal pair.value
+
+-- the reasons of a removal, if it has any
+abbrev pub reasons_text : List Entry → List Pair → List ℕ
+reasons_text variables [] = []
+reasons_text variables (p ∷ ps) = codes " from " ++ join_by (pair_text variables) (codes ", ") (p ∷ ps)
+
+-- a removal as `log` shows it
+abbrev pub removal_line : List Entry → List ℕ → Pair → List Pair → List ℕ
+removal_line variables by pair reasons =
+    ended (pair_text variables pair ++ codes " by " ++ by ++ reasons_text variables reasons)
+
+abbrev pub lead_word : Lead → List ℕ
+lead_word Because = codes "because"
+lead_word Conflict = codes "conflict"
+lead_word NoSolution = codes "none"
+
+-- names of constraints behind a word
+abbrev pub names_line : Lead → List (List ℕ) → List ℕ
+names_line lead names = ended (spaced (lead_word lead ∷ names))
+
+-- NAME=VALUE
+abbrev pub assigned_text : Entry × ℤ → List ℕ
+assigned_text assigned = assigned.0.name ++ codes "=" ++ signed_decimal assigned.1
+
+-- an assignment to all variables
+abbrev pub found_line : List Entry → List ℤ → List ℕ
+found_line variables values = ended (spaced (codes "found" ∷ map assigned_text (zip variables values)))
+
+-- the turns of a search that ended without an answer, and what was dropped on the way, if that is told
+abbrev pub spent_line : ℕ → Option ℕ → List ℕ
+spent_line turns None = ended (codes "spent " ++ decimal turns)
+spent_line turns (Some dropped) = ended (codes "spent " ++ decimal turns ++ codes " dropped " ++ decimal dropped)

@@ -1,0 +1,208 @@
+//! Names, numbers, rows and terms one after another.
+ghost use Rattle.std.specs.Prelude.{◌≡◌, ◌++◌, map, option_map, OnErr};
+ghost use Rattle.palm_lang.specs.Held.{Gives, Passes, held_value, held_term};
+ghost use Rattle.palm_lang.specs.Reading.{term_of};
+ghost use Rattle.palm_lang.specs.Reader.{name_at, mark_at, keyword_at, many_at, next_name, names_at, next_value, values_at, next_row, term_at, next_term, first_term_at, terms_at};
+
+use crate::line::{Name, NameList, NameTerm, NameTermList};
+use crate::parse::LineError;
+use crate::parse::cursor::Cursor;
+use crate::parse::numbers::capped;
+use palm_base::{Value, ValueList};
+use palm_model::RowList;
+use std::alloc::Global;
+
+/// One more than the greatest coefficient.
+const FACTOR_CAP: u128 = 100_001;
+
+impl<'a> Cursor<'a> {
+    /// Takes a sign that has to stand in front.
+    pub fn sign(&mut self, text: &[u8]) -> Result<(), LineError>
+        ensures { Passes result self.new (mark_at text.now self.old) }
+    {
+        if self.takes_sign(text) {
+            Ok(())
+        } else {
+            Err(LineError::Form)
+        }
+    }
+
+    /// Takes a word that has to stand in front.
+    pub fn keyword(&mut self, text: &[u8]) -> Result<(), LineError>
+        ensures { Passes result self.new (keyword_at text.now self.old) }
+    {
+        if self.takes_word(text) {
+            Ok(())
+        } else {
+            Err(LineError::Form)
+        }
+    }
+
+    /// Reads a name that has to stand in front.
+    pub fn owned_name(&mut self, alloc: Global) -> Result<Name, LineError>
+        ensures { Gives (λ name. name) result self.new (name_at self.old) }
+    {
+        match self.name() {
+            Some(text) => Ok(Name::from_slice(alloc, text)?),
+            None => Err(LineError::Form),
+        }
+    }
+
+    /// Reads numbers with commas between them, and then a sign.
+    #[tactic(auto, unfolding(crate::specs::Reader::values_at, crate::specs::Reader::when, crate::specs::Reader::and_then))]
+    pub fn values(&mut self, alloc: Global, close: &[u8]) -> Result<ValueList, LineError>
+        ensures { Gives (map held_value) result self.new (values_at close.now self.old) }
+    {
+        let mut values = ValueList::new(alloc);
+        if self.takes_sign(close) {
+            return Ok(values);
+        }
+        values.push(self.value()?)?;
+        let values = self.more_values(values)?;
+        self.sign(close)?;
+        Ok(values)
+    }
+
+    /// Reads on as long as a comma stands in front.
+    fn more_values(&mut self, mut values: ValueList) -> Result<ValueList, LineError>
+        ensures { Gives (λ more. values ++ map held_value more) result self.new (many_at next_value self.old) }
+    {
+        while let Some(value) = self.next_value()? {
+            values.push(value)?;
+        }
+        Ok(values)
+    }
+
+    /// Reads a comma and a number, if a comma stands in front.
+    #[tactic(auto, unfolding(crate::specs::Reader::next_value, crate::specs::Reader::when, crate::specs::Reader::and_then))]
+    fn next_value(&mut self) -> Result<Option<Value>, LineError>
+        ensures { Gives (option_map held_value) result self.new (next_value self.old) }
+    {
+        if !self.takes_sign(b",") {
+            return Ok(None);
+        }
+        let value = self.value()?;
+        Ok(Some(value))
+    }
+
+    /// Reads so many names or more, as long as a name stands in front.
+    #[tactic(auto, unfolding(crate::specs::Reader::names_at, crate::specs::Reader::and_then, crate::specs::Reader::choose))]
+    pub fn names(&mut self, alloc: Global, least: usize) -> Result<NameList, LineError>
+        ensures { Gives (λ names. names) result self.new (names_at least self.old) }
+    {
+        let names = self.all_names(alloc)?;
+        if names.len() < least {
+            return Err(LineError::Form);
+        }
+        Ok(names)
+    }
+
+    fn all_names(&mut self, alloc: Global) -> Result<NameList, LineError>
+        ensures { Gives (λ names. names) result self.new (many_at next_name self.old) }
+    {
+        let mut names = NameList::new(alloc);
+        while let Some(name) = self.next_name(alloc)? {
+            names.push(name)?;
+        }
+        Ok(names)
+    }
+
+    /// Reads a name, if one stands in front.
+    #[tactic(auto, unfolding(crate::specs::Reader::next_name, crate::specs::Reader::when))]
+    fn next_name(&mut self, alloc: Global) -> Result<Option<Name>, LineError>
+        ensures { Gives (option_map (λ name. name)) result self.new (next_name self.old) }
+    {
+        match self.name() {
+            Some(text) => Ok(Some(Name::from_slice(alloc, text)?)),
+            None => Ok(None),
+        }
+    }
+
+    /// Reads rows of so many numbers, as long as a parenthesis stands in front.
+    pub fn rows(&mut self, alloc: Global, width: usize) -> Result<RowList, LineError>
+        ensures { Gives (map (map held_value)) result self.new (many_at (next_row width) self.old) }
+    {
+        let mut rows = RowList::new(alloc);
+        while let Some(row) = self.next_row(alloc, width)? {
+            rows.push(row)?;
+        }
+        Ok(rows)
+    }
+
+    /// Reads a row of so many numbers in parentheses, if a parenthesis stands in front.
+    #[tactic(auto, unfolding(crate::specs::Reader::next_row, crate::specs::Reader::when, crate::specs::Reader::choose, crate::specs::Reader::and_then))]
+    fn next_row(&mut self, alloc: Global, width: usize) -> Result<Option<ValueList>, LineError>
+        ensures { Gives (option_map (map held_value)) result self.new (next_row width self.old) }
+    {
+        if !self.takes_sign(b"(") {
+            return Ok(None);
+        }
+        let row = self.values(alloc, b")")?;
+        if row.len() != width {
+            return Err(LineError::Form);
+        }
+        Ok(Some(row))
+    }
+
+    /// Reads the terms of a sum.
+    #[tactic(auto, unfolding(crate::specs::Reader::terms_at, crate::specs::Reader::and_then))]
+    pub fn terms(&mut self, alloc: Global) -> Result<NameTermList, LineError>
+        ensures { Gives (map (λ t. term_of (held_term t))) result self.new (terms_at self.old) }
+    {
+        let mut terms = NameTermList::new(alloc);
+        terms.push(self.first_term(alloc)?)?;
+        self.more_terms(alloc, terms)
+    }
+
+    /// Reads on as long as `+` or `-` stands in front.
+    fn more_terms(
+        &mut self,
+        alloc: Global,
+        mut terms: NameTermList,
+    ) -> Result<NameTermList, LineError>
+        ensures { Gives (λ more. terms ++ map (λ t. term_of (held_term t)) more) result self.new (many_at next_term self.old) }
+    {
+        while let Some(term) = self.next_term(alloc)? {
+            terms.push(term)?;
+        }
+        Ok(terms)
+    }
+
+    /// Reads a term, before which `-` may stand.
+    #[tactic(auto, unfolding(crate::specs::Reader::first_term_at, crate::specs::Reader::when))]
+    fn first_term(&mut self, alloc: Global) -> Result<NameTerm, LineError>
+        ensures { Gives (λ t. term_of (held_term t)) result self.new (first_term_at self.old) }
+    {
+        let minus = self.takes_sign(b"-");
+        self.term(alloc, minus)
+    }
+
+    /// Reads a sign and a term, if `+` or `-` stands in front.
+    #[tactic(auto, unfolding(crate::specs::Reader::next_term, crate::specs::Reader::when, crate::specs::Reader::and_then))]
+    fn next_term(&mut self, alloc: Global) -> Result<Option<NameTerm>, LineError>
+        ensures { Gives (option_map (λ t. term_of (held_term t))) result self.new (next_term self.old) }
+    {
+        if self.takes_sign(b"+") {
+            return Ok(Some(self.term(alloc, false)?));
+        }
+        if self.takes_sign(b"-") {
+            return Ok(Some(self.term(alloc, true)?));
+        }
+        Ok(None)
+    }
+
+    /// Reads a term behind its sign: a variable, or a coefficient and a variable.
+    #[tactic(auto, unfolding(crate::specs::Reader::term_at, crate::specs::Reader::when, crate::specs::Reader::and_then))]
+    fn term(&mut self, alloc: Global, minus: bool) -> Result<NameTerm, LineError>
+        ensures { Gives (λ t. term_of (held_term t)) result self.new (term_at minus self.old) }
+    {
+        let mut factor = 1;
+        if let Some(digits) = self.digits() {
+            factor = capped(digits, FACTOR_CAP) as i32;
+            self.sign(b"*")?;
+        }
+        let name = self.owned_name(alloc)?;
+        let factor = if minus { -factor } else { factor };
+        Ok(NameTerm { factor, name })
+    }
+}

@@ -1,0 +1,124 @@
+//! Lines at the end of what was written.
+#![tactic(auto, using(crate::proofs::PrintLemmas::keeping))]
+
+ghost use Rattle.std.specs.Prelude.{[], ◌∷◌, codes, decimal};
+ghost use Rattle.std.specs.Fmt.{signed_decimal};
+ghost use Rattle.palm_lang.specs.declared.line.Line.TheVariants.{SolveDbt, SolveRepair};
+ghost use Rattle.palm_lang.specs.Print.{Puts};
+ghost use Rattle.palm_lang.specs.Text.{spaced, domain_text, shape_words, text_of};
+
+use crate::line::{DomainText, Line, Name, Shape};
+use crate::print::lists::{put_range, put_set};
+use crate::print::shapes::put_shape;
+use crate::print::words::{put_name, put_spaced_int, put_spaced_name, put_spaced_value, put_text};
+use palm_base::{NoMemory, Value};
+
+/// A domain as a line writes it.
+fn put_domain(domain: &DomainText, out: &mut Vec<u8>) -> Result<(), NoMemory>
+    ensures { Puts out.old.items out.new.items (domain_text domain.now) result }
+{
+    match domain {
+        DomainText::Range { low, high } => put_range(low, high, out),
+        DomainText::Set(values) => put_set(values.as_slice(), out),
+    }
+}
+
+/// `var NAME DOMAIN`
+fn put_declaration(name: &Name, domain: &DomainText, out: &mut Vec<u8>) -> Result<(), NoMemory>
+    ensures { Puts out.old.items out.new.items (spaced (codes "var" ∷ name.now ∷ domain_text domain.now ∷ [])) result }
+{
+    put_text("var", out)?;
+    put_spaced_name(name, out)?;
+    put_text(" ", out)?;
+    put_domain(domain, out)
+}
+
+/// `add NAME : CONSTRAINT`
+fn put_addition(name: &Name, shape: &Shape, out: &mut Vec<u8>) -> Result<(), NoMemory>
+    ensures { Puts out.old.items out.new.items (spaced (codes "add" ∷ name.now ∷ codes ":" ∷ shape_words shape.now)) result }
+{
+    put_text("add", out)?;
+    put_spaced_name(name, out)?;
+    put_text(" : ", out)?;
+    put_shape(shape, out)
+}
+
+/// A word with a name.
+fn put_named(word: &str, name: &Name, out: &mut Vec<u8>) -> Result<(), NoMemory>
+    ensures { Puts out.old.items out.new.items (spaced (word.now ∷ name.now ∷ [])) result }
+{
+    put_text(word, out)?;
+    put_spaced_name(name, out)
+}
+
+/// A word with a name and a value.
+fn put_query(word: &str, name: &Name, value: &Value, out: &mut Vec<u8>) -> Result<(), NoMemory>
+    ensures { Puts out.old.items out.new.items (spaced (word.now ∷ name.now ∷ signed_decimal value.now ∷ [])) result }
+{
+    put_text(word, out)?;
+    put_spaced_name(name, out)?;
+    put_spaced_value(value, out)
+}
+
+/// Words with a number.
+fn put_numbered(words: &str, number: u64, out: &mut Vec<u8>) -> Result<(), NoMemory>
+    ensures { Puts out.old.items out.new.items (spaced (words.now ∷ decimal number ∷ [])) result }
+{
+    put_text(words, out)?;
+    put_spaced_int(i128::from(number), out)
+}
+
+/// `solve dbt`, with `budget N` where there is a limit
+fn put_solve_dbt(budget: u64, out: &mut Vec<u8>) -> Result<(), NoMemory>
+    ensures { Puts out.old.items out.new.items (text_of (SolveDbt budget)) result }
+{
+    put_text("solve dbt", out)?;
+    if budget == u64::MAX {
+        return Ok(());
+    }
+    put_numbered(" budget", budget, out)
+}
+
+/// `solve repair tabu N budget N`
+fn put_solve_repair(tabu: u32, budget: u64, out: &mut Vec<u8>) -> Result<(), NoMemory>
+    ensures { Puts out.old.items out.new.items (text_of (SolveRepair tabu budget)) result }
+{
+    put_numbered("solve repair tabu", u64::from(tabu), out)?;
+    put_numbered(" budget", budget, out)
+}
+
+/// A line without a line feed.
+pub(crate) fn put_line(line: &Line, out: &mut Vec<u8>) -> Result<(), NoMemory>
+    ensures { Puts out.old.items out.new.items (text_of line.now) result }
+{
+    match line {
+        Line::Comment => Ok(()),
+        Line::Var { name, domain } => put_declaration(name, domain, out),
+        Line::Add { name, shape } => put_addition(name, shape, out),
+        Line::Relax(name) => put_named("relax", name, out),
+        Line::Enforce(name) => put_named("enforce", name, out),
+        Line::Retract(name) => put_named("retract", name, out),
+        Line::Domains => put_text("domains", out),
+        Line::Domain(name) => put_named("domain", name, out),
+        Line::List => put_text("list", out),
+        Line::Log => put_text("log", out),
+        Line::Why { name, value } => put_query("why", name, value, out),
+        Line::Conflict => put_text("conflict", out),
+        Line::MinimalConflict => put_text("minimal conflict", out),
+        Line::Minimal { name, value } => put_query("minimal", name, value, out),
+        Line::Pause => put_text("pause", out),
+        Line::Resume => put_text("resume", out),
+        Line::Step(number) => put_numbered("step", *number, out),
+        Line::SolveDbt { budget } => put_solve_dbt(*budget, out),
+        Line::SolveRepair { tabu, budget } => put_solve_repair(*tabu, *budget, out),
+        Line::Cert { name, value } => put_query("cert", name, value, out),
+        Line::CertConflict => put_text("cert conflict", out),
+        Line::Guide(number) => put_numbered("guide", u64::from(*number), out),
+        Line::GuideNone => put_text("guide none", out),
+        Line::Order(number) => put_numbered("order", u64::from(*number), out),
+        Line::OrderNone => put_text("order none", out),
+        Line::DropGuide(number) => put_numbered("drop guide", u64::from(*number), out),
+        Line::DropOrder(number) => put_numbered("drop order", u64::from(*number), out),
+        Line::Quit => put_text("quit", out),
+    }
+}
