@@ -1,0 +1,37 @@
+//! How a command ends.
+
+/// How a command ends, and the process with it.
+#[derive(Clone, Copy, Debug, PartialEq, Eq)]
+pub enum Status {
+    /// 0: all was read, and all replies were written.
+    Done,
+    /// 2: the words are no command, and the usage line was written.
+    Usage,
+    /// 3: a read failed.
+    ReadFault,
+    /// 4: a write failed.
+    WriteFault,
+    /// 5: out of memory.
+    NoMemory,
+    /// 6: more than 16,777,216 bytes were read.
+    TooLong,
+}
+
+impl Status {
+    ghost use Rattle.std.specs.Prelude.{◌≡◌};
+    ghost use Rattle.palm_cli.specs.Numbers.{number_of};
+
+    /// The exit status of the process.
+    pub fn number(self) -> u8
+        ensures { result ≡ number_of self }
+    {
+        match self {
+            Status::Done => 0,
+            Status::Usage => 2,
+            Status::ReadFault => 3,
+            Status::WriteFault => 4,
+            Status::NoMemory => 5,
+            Status::TooLong => 6,
+        }
+    }
+}

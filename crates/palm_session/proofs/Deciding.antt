@@ -1,0 +1,24 @@
+-- What is decided of a line.
+use Rattle.std.proofs.Common.{◌≡◌, ℕ, List, subst, sym, refl}
+use Rattle.palm_lang.specs.Reading.{IsRead, IsRefusedBy}
+use Rattle.palm_lang.specs.declared.line.Line.{Line}
+use Rattle.palm_lang.specs.declared.line.Line.TheVariants.{Quit as QuitLine}
+use Rattle.palm_lang.specs.declared.parse.LineError.{LineError}
+use Rattle.palm_session.specs.Answers.{Answers, misread}
+use Rattle.palm_session.specs.Feeding.{Decides}
+use Rattle.palm_session.specs.ReplyText.{reply_text, IsRefusal}
+use Rattle.palm_session.specs.State.{SessionState}
+use Rattle.palm_session.specs.declared.going.Going.{Going}
+use Rattle.palm_session.specs.declared.going.Going.TheVariants.{More, Quit}
+use Rattle.palm_session.specs.declared.reply.Reply.{Reply}
+use Rattle.palm_session.proofs.ReadOnce.{goes_on_read, goes_on_refused}
+
+pub decides_read : (going : Going) (bytes : List ℕ) (line : Line) → IsRead bytes line → (going ≡ Quit → line ≡ QuitLine) → (going ≡ More → line ≡ QuitLine → ⊥) → Decides going bytes
+decides_read More bytes line r quit more = goes_on_read bytes line r (more refl)
+decides_read Quit bytes line r quit more = subst (λ (x : Line). IsRead bytes x) (quit refl) r
+
+pub answers_refusal : (s : SessionState) (bytes : List ℕ) (error : LineError) → IsRefusedBy bytes error → (r : Reply × Going) → IsRefusal error r → Answers s bytes (reply_text s.book r.0) s
+answers_refusal s bytes error q r is = subst (λ (x : Reply). Answers s bytes (reply_text s.book x) s) (sym is.reply) (misread error is.refusal q is.of_error)
+
+pub decides_refusal : (bytes : List ℕ) (error : LineError) → IsRefusedBy bytes error → (r : Reply × Going) → IsRefusal error r → Decides r.1 bytes
+decides_refusal bytes error q r is = subst (λ (g : Going). Decides g bytes) (sym is.going) (goes_on_refused bytes error is.refusal q is.of_error)

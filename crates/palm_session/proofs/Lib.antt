@@ -1,0 +1,11 @@
+pub mod Delivering
+pub mod Any
+pub mod Tests
+pub mod Unknown
+pub mod Resolving
+pub mod WellFormed
+pub mod Intervals
+pub mod Actives
+pub mod ReadOnce
+pub mod Deciding
+pub mod FeedLemmas

@@ -1,0 +1,96 @@
+-- A sound constraint within the limits is well formed.
+use Rattle.std.proofs.Common.{◌≡◌, ℕ, ◌<◌, List, [], ◌∷◌, ◌++◌, map, All, length, inl, inr, refl, sym, ap, ◌∙◌, subst, arith, length-append}
+use Rattle.std.proofs.lemmas.List.{length-map}
+use Rattle.std.proofs.lemmas.List.Elements.{All-nil, All-cons, All-head, All-tail}
+use Rattle.palm_base.proofs.Members.{member_map}
+use Rattle.palm_model.specs.Constraint.{scope, Distinct, IsShaped, IsWellFormed, IsFactor, IsRow, term_vars, target_scope}
+use Rattle.palm_model.specs.declared.constraint.Con.{Con}
+use Rattle.palm_model.specs.declared.constraint.Con.TheVariants.{CompareVar as VarCompare, CompareConst as ConstCompare, Linear as SumCon, Table as TableCon, Element as ElementCon, Count as CountCon, Differ as DifferCon}
+use Rattle.palm_model.specs.declared.constraint.Target.{Target}
+use Rattle.palm_model.specs.declared.constraint.Target.TheVariants.{Const, Variable}
+use Rattle.palm_model.specs.declared.constraint.Term.{Term}
+use Rattle.palm_lang.specs.Book.{Entry, name_of}
+use Rattle.palm_lang.specs.Limits.{Repeats, names_of, line_target_names, HasManyRows}
+use Rattle.palm_lang.specs.Reply.{named, named_term, named_target}
+use Rattle.palm_lang.specs.Sound.{IsSoundShape, IsSoundTerm}
+use Rattle.palm_lang.specs.declared.line.NameTerm.{NameTerm}
+use Rattle.palm_lang.specs.declared.line.Shape.{Shape}
+use Rattle.palm_session.specs.Answers.{Resolves}
+
+-- variables with different names are different
+distinct_names : (f : ℕ → List ℕ) (xs : List ℕ) → (Repeats (map f xs) → ⊥) → Distinct xs
+distinct_names f [] r = tt
+distinct_names f (x ∷ xs) r = (λ m. r (inl (member_map f xs x m)), distinct_names f xs (λ q. r (inr q)))
+
+term_names : (variables : List Entry) (terms : List Term) → map (λ t. t.name) (map (named_term variables) terms) ≡ map (name_of variables) (term_vars terms)
+term_names variables [] = refl
+term_names variables (t ∷ ts) = ap (λ (z : List (List ℕ)). name_of variables t.var ∷ z) (term_names variables ts)
+
+target_names : (variables : List Entry) (target : Target) → line_target_names (named_target variables target) ≡ map (name_of variables) (target_scope target)
+target_names variables (Const w) = refl
+target_names variables (Variable x) = refl
+
+map_both : (f : ℕ → List ℕ) (xs ys : List ℕ) → map f (xs ++ ys) ≡ map f xs ++ map f ys
+map_both f [] ys = refl
+map_both f (x ∷ xs) ys = ap (λ (z : List (List ℕ)). f x ∷ z) (map_both f xs ys)
+
+-- the names of a constraint are those of its scope
+pub scope_names : (variables : List Entry) (con : Con) → names_of (named variables con) ≡ map (name_of variables) (scope con)
+scope_names variables (VarCompare left op right offset) = refl
+scope_names variables (ConstCompare left op value) = refl
+scope_names variables (SumCon terms op bound) = term_names variables terms
+scope_names variables (TableCon vars rows) = refl
+scope_names variables (ElementCon outcome index entries) = refl
+scope_names variables (CountCon value vars op target) =
+    ap (λ (z : List (List ℕ)). map (name_of variables) vars ++ z) (target_names variables target)
+    ∙ sym (map_both (name_of variables) vars (target_scope target))
+scope_names variables (DifferCon vars) = refl
+
+factors : (variables : List Entry) (terms : List Term) → All IsSoundTerm (map (named_term variables) terms) → All IsFactor terms
+factors variables [] sound = All-nil IsFactor
+factors variables (t ∷ ts) sound =
+    All-cons IsFactor t ts (All-head IsSoundTerm (named_term variables t) (map (named_term variables) ts) sound)
+    (factors variables ts (All-tail IsSoundTerm (named_term variables t) (map (named_term variables) ts) sound))
+
+shaped : (variables : List Entry) (con : Con) → IsSoundShape (named variables con) → (HasManyRows (named variables con) → ⊥) → IsShaped con
+shaped variables (VarCompare left op right offset) sound few = sound
+shaped variables (ConstCompare left op value) sound few = sound
+shaped variables (SumCon terms op bound) sound few = (factors variables terms sound.1, sound.2, sound.3)
+shaped variables (TableCon vars rows) sound few = ((sound.1, omega (arith, few)), subst (λ (n : ℕ). All (IsRow n) rows) (length-map vars (name_of variables)) sound.2)
+shaped variables (ElementCon outcome index entries) sound few = ((sound.0, omega (arith, few)), sound.1)
+shaped variables (CountCon value vars op (Const w)) sound few = (omega (arith, length-map vars (name_of variables), sound.0), sound.1, sound.2)
+shaped variables (CountCon value vars op (Variable x)) sound few = (omega (arith, length-map vars (name_of variables), sound.0), sound.1, tt)
+shaped variables (DifferCon vars) sound few = omega (arith, length-map vars (name_of variables))
+
+-- a constraint has a variable
+some_names : (variables : List Entry) (con : Con) → IsSoundShape (named variables con) → 0 < length (names_of (named variables con))
+some_names variables (VarCompare left op right offset) sound = omega arith
+some_names variables (ConstCompare left op value) sound = omega arith
+some_names variables (SumCon terms op bound) sound = omega (arith, length-map (map (named_term variables) terms) (λ (t : NameTerm). t.name), sound.0)
+some_names variables (TableCon vars rows) sound = sound.0
+some_names variables (ElementCon outcome index entries) sound = omega arith
+some_names variables (CountCon value vars op target) sound = omega (arith, length-append (map (name_of variables) vars) (line_target_names (named_target variables target)), sound.0)
+some_names variables (DifferCon vars) sound = omega (arith, sound)
+
+formed : (variables : List Entry) (con : Con) → All (λ x. x < length variables) (scope con)
+    → (Repeats (names_of (named variables con)) → ⊥) → IsSoundShape (named variables con)
+    → (16 < length (names_of (named variables con)) → ⊥) → (HasManyRows (named variables con) → ⊥)
+    → IsWellFormed (length variables) con
+formed variables con declared once sound narrow few =
+    let e = scope_names variables con in
+    let n : length (names_of (named variables con)) ≡ length (scope con) = ap length e ∙ length-map (scope con) (name_of variables) in
+    record {
+      declared = declared;
+      distinct = distinct_names (name_of variables) (scope con) (λ r. once (subst Repeats (sym e) r));
+      some = omega (arith, n, some_names variables con sound);
+      few = omega (arith, n, narrow);
+      shaped = shaped variables con sound few;
+    }
+
+-- a sound constraint within the limits is well formed
+pub well_formed : (variables : List Entry) (shape : Shape) (con : Con) → Resolves variables shape con
+    → (Repeats (names_of shape) → ⊥) → IsSoundShape shape → (16 < length (names_of shape) → ⊥) → (HasManyRows shape → ⊥)
+    → IsWellFormed (length variables) con
+well_formed variables shape con r once sound narrow few =
+    let P : Shape → Type 0 = λ s. (Repeats (names_of s) → ⊥) → IsSoundShape s → (16 < length (names_of s) → ⊥) → (HasManyRows s → ⊥) → IsWellFormed (length variables) con in
+    subst P r.says (formed variables con r.declared) once sound narrow few

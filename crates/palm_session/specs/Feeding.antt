@@ -1,0 +1,116 @@
+-- What feeding bytes to a session does.
+use Rattle.std.specs.Prelude.{◌≡◌, ℕ, Bool, true, false, List, [], ◌∷◌, ◌++◌, ◌⊎◌, All, map, ◌≤◌, drop, length, Option, Result, Ok, Err}
+use Rattle.palm_base.specs.Streams.{Appended}
+use Rattle.palm_session.specs.State.{SessionState}
+use Rattle.palm_session.specs.Answers.{Answers}
+use Rattle.palm_session.specs.Lines.{HasNoFeed, without_return, last_line}
+use Rattle.palm_session.specs.Replies.{Run, Answered, GoesOn, Ends, KeepsOn}
+use Rattle.palm_session.specs.Writing.{AppendedFront}
+use Rattle.palm_session.specs.declared.going.Going.{Going}
+use Rattle.palm_session.specs.declared.going.Going.TheVariants.{More, Quit}
+use Rattle.palm_session.specs.declared.stop.Stop.{Stop}
+
+-- what is seen of a session: what it holds, its unfinished line, and whether it is over
+pub record View : Type 0 where
+  pub state : SessionState
+  pub unfinished : List ℕ
+  pub over : Bool
+
+-- whether the session goes on is what the line says
+abbrev pub Decides : Going → List ℕ → Type 0
+Decides More line = GoesOn line
+Decides Quit line = Ends line
+
+-- the line was answered, and its reply written
+pub record AnswersLine (before : SessionState) (line : List ℕ) (was now : Option (List ℕ)) (going : Going) (after : SessionState) : Type 0 where
+  pub reply : List ℕ
+  pub answers : Answers before line reply after
+  pub written : Appended was now reply
+  pub decides : Decides going line
+
+-- the line was answered, and a front of its reply was written
+pub record AnswersFront (before : SessionState) (line : List ℕ) (was now : Option (List ℕ)) : Type 0 where
+  pub reply : List ℕ
+  pub after : SessionState
+  pub answers : Answers before line reply after
+  pub written : AppendedFront was now reply
+
+-- at a stop in the middle of a line nothing of its reply or a front of it was written
+abbrev pub AnswersPart : SessionState → List ℕ → Option (List ℕ) → Option (List ℕ) → Type 0
+AnswersPart before line was now = Appended was now [] ⊎ AnswersFront before line was now
+
+abbrev pub AnswersTo : SessionState → List ℕ → Option (List ℕ) → Option (List ℕ) → SessionState → Result Going Stop → Type 0
+AnswersTo before line was now after (Ok going) = AnswersLine before line was now going after
+AnswersTo before line was now after (Err stop) = AnswersPart before line was now
+
+-- each line that the text completes was answered, and the rest is kept
+pub record FeedsOn (before : SessionState) (text : List ℕ) (was now : Option (List ℕ)) (rest : List ℕ) (after : SessionState) : Type 0 where
+  pub lines : List (List ℕ)
+  pub replies : List ℕ
+  pub answered : Answered before text lines rest replies after
+  pub unfinished : HasNoFeed rest
+  pub goes_on : All GoesOn (map without_return lines)
+  pub written : Appended was now replies
+
+-- the lines up to one that ends the session were answered, and the bytes behind it were not looked at
+pub record FeedsEnd (before : SessionState) (text : List ℕ) (was now : Option (List ℕ)) (after : SessionState) : Type 0 where
+  pub lines : List (List ℕ)
+  pub last : List ℕ
+  pub rest : List ℕ
+  pub replies : List ℕ
+  pub answered : Answered before text (lines ++ last ∷ []) rest replies after
+  pub goes_on : All GoesOn (map without_return lines)
+  pub ends : Ends (without_return last)
+  pub written : Appended was now replies
+
+-- a front of the replies to the first lines was written
+pub record FeedsPart (before : SessionState) (text : List ℕ) (was now : Option (List ℕ)) : Type 0 where
+  pub lines : List (List ℕ)
+  pub rest : List ℕ
+  pub replies : List ℕ
+  pub after : SessionState
+  pub answered : Answered before text lines rest replies after
+  pub keeps_on : KeepsOn (map without_return lines)
+  pub written : AppendedFront was now replies
+
+-- what answering the lines of a text answers: whether the session goes on, and where the rest of the text begins
+abbrev pub AnswersLines : SessionState → List ℕ → Option (List ℕ) → Option (List ℕ) → SessionState → Result (Going × ℕ) Stop → Type 0
+AnswersLines before text was now after (Ok (More, used)) = (used ≤ length text) × FeedsOn before text was now (drop used text) after
+AnswersLines before text was now after (Ok (Quit, used)) = (used ≤ length text) × FeedsEnd before text was now after
+AnswersLines before text was now after (Err stop) = FeedsPart before text was now
+
+-- what feeding answers, before it is noted whether the session is over
+abbrev pub FeedsText : View → List ℕ → Option (List ℕ) → Option (List ℕ) → View → Result Going Stop → Type 0
+FeedsText before piece was now after (Ok More) = FeedsOn before.state (before.unfinished ++ piece) was now after.unfinished after.state
+FeedsText before piece was now after (Ok Quit) = FeedsEnd before.state (before.unfinished ++ piece) was now after.state
+FeedsText before piece was now after (Err stop) = FeedsPart before.state (before.unfinished ++ piece) was now
+
+-- what feeding answers
+abbrev pub Feeds : View → List ℕ → Option (List ℕ) → Option (List ℕ) → View → Result Going Stop → Type 0
+Feeds before piece was now after (Ok More) =
+    FeedsOn before.state (before.unfinished ++ piece) was now after.unfinished after.state × (after.over ≡ false)
+Feeds before piece was now after (Ok Quit) = FeedsEnd before.state (before.unfinished ++ piece) was now after.state × (after.over ≡ true)
+Feeds before piece was now after (Err stop) = FeedsPart before.state (before.unfinished ++ piece) was now × (after.over ≡ true)
+
+-- a last line without its line feed was answered, if it has a byte
+pub record FinishesAll (before : SessionState) (line : List ℕ) (was now : Option (List ℕ)) (after : SessionState) : Type 0 where
+  pub replies : List ℕ
+  pub run : Run before (last_line line) replies after
+  pub last : All GoesOn (last_line line) ⊎ All Ends (last_line line)
+  pub written : Appended was now replies
+
+-- a front of the reply to it was written
+pub record FinishesPart (before : SessionState) (line : List ℕ) (was now : Option (List ℕ)) : Type 0 where
+  pub replies : List ℕ
+  pub after : SessionState
+  pub run : Run before (last_line line) replies after
+  pub written : AppendedFront was now replies
+
+-- what answering a last line answers
+abbrev pub FinishesTo : {T : Type 0} → SessionState → List ℕ → Option (List ℕ) → Option (List ℕ) → SessionState → Result T Stop → Type 0
+FinishesTo before line was now after (Ok _) = FinishesAll before line was now after
+FinishesTo before line was now after (Err stop) = Appended was now [] ⊎ FinishesPart before line was now
+
+-- what finishing answers
+abbrev pub Finishes : {T : Type 0} → View → Option (List ℕ) → Option (List ℕ) → View → Result T Stop → Type 0
+Finishes before was now after result = FinishesTo before.state before.unfinished was now after.state result × (after.over ≡ true)

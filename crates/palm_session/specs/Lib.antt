@@ -1,0 +1,7 @@
+pub mod Answers
+pub mod Feeding
+pub mod Lines
+pub mod Replies
+pub mod ReplyText
+pub mod State
+pub mod Writing

@@ -1,0 +1,48 @@
+-- The replies to a whole text.
+use Rattle.std.specs.Prelude.{◌≡◌, ℕ, List, [], ◌∷◌, ◌++◌, All, map, flat_map}
+use Rattle.palm_lang.specs.Reading.{IsRead}
+use Rattle.palm_lang.specs.declared.line.Line.TheVariants.{Quit}
+use Rattle.palm_session.specs.State.{SessionState, fresh}
+use Rattle.palm_session.specs.Answers.{Answers}
+use Rattle.palm_lang.specs.Reply.{ended}
+use Rattle.palm_session.specs.Lines.{AreLines, HasNoFeed, without_return}
+
+-- the line ends the session
+abbrev pub Ends : List ℕ → Type 0
+Ends line = IsRead line Quit
+
+-- the line does not end the session
+abbrev pub GoesOn : List ℕ → Type 0
+GoesOn line = Ends line → ⊥
+
+-- from s the lines are answered one after another, with these replies in all, and t is held in the end
+abbrev pub Run : SessionState → List (List ℕ) → List ℕ → SessionState → Type 0
+Run s [] replies t = (replies ≡ []) × (t ≡ s)
+Run s (line ∷ lines) replies t =
+    (reply others : List ℕ) × (m : SessionState) × Answers s line reply m × (replies ≡ reply ++ others) × Run m lines others t
+
+-- all lines are answered, or those up to the first that ends the session
+pub data AreAnswered : List (List ℕ) → List (List ℕ) → Type 0 where
+  all : {lines : List (List ℕ)} → All GoesOn lines → AreAnswered lines lines
+  until : {lines : List (List ℕ)} → (before after : List (List ℕ)) (last : List ℕ) → All GoesOn before → Ends last → lines ≡ before ++ last ∷ after → AreAnswered lines (before ++ last ∷ [])
+
+-- no line but the last ends the session
+abbrev pub KeepsOn : List (List ℕ) → Type 0
+KeepsOn [] = Unit {0}
+KeepsOn (line ∷ []) = Unit {0}
+KeepsOn (line ∷ next ∷ lines) = GoesOn line × KeepsOn (next ∷ lines)
+
+-- the first lines of the text are these, a rest is left, and the lines are answered with these replies
+pub record Answered (before : SessionState) (text : List ℕ) (lines : List (List ℕ)) (rest replies : List ℕ) (after : SessionState) : Type 0 where
+  pub whole : text ≡ flat_map ended lines ++ rest
+  pub unbroken : All HasNoFeed lines
+  pub run : Run before (map without_return lines) replies after
+
+-- the output is the replies to the lines of the text, one by one
+pub record Replies (text output : List ℕ) : Type 0 where
+  pub lines : List (List ℕ)
+  pub answered : List (List ℕ)
+  pub state : SessionState
+  pub are_lines : AreLines text lines
+  pub are_answered : AreAnswered lines answered
+  pub run : Run fresh answered output state

@@ -1,0 +1,62 @@
+//! Answering one line.
+ghost use Rattle.std.specs.Prelude.{◌≡◌, ◌≤◌, IfOk, IsErrOf};
+ghost use Rattle.palm_base.specs.Streams.{Rose};
+ghost use Rattle.palm_session.specs.Answers.{Answers};
+ghost use Rattle.palm_session.specs.Feeding.{AnswersTo, Decides};
+ghost use Rattle.palm_session.specs.ReplyText.{reply_text, IsRefusal, ReplyFits};
+
+use crate::deliver::deliver;
+use crate::desk::Desk;
+use crate::going::Going;
+use crate::refuse::refusal_of;
+use crate::reply::Reply;
+use crate::stop::Stop;
+use palm_base::{NoMemory, Sink};
+use palm_lang::{LineError, parse_line};
+
+impl Desk {
+    /// Answers a line without its line end, and writes the reply.
+    pub fn answer<K: Sink>(
+        &mut self,
+        line: &[u8],
+        out: &mut K,
+        buffer: &mut Vec<u8>,
+    ) -> Result<Going, Stop>
+        ensures counts { K.faults out.old ≤ K.faults out.new }
+        ensures answers { AnswersTo self.old line.now (K.written out.old) (K.written out.new) self.new result }
+        ensures fault { IsErrOf result Stop.WriteFault → Rose (K.faults out.old) (K.faults out.new) }
+    {
+        match self.decide(line) {
+            Ok((reply, going)) => match deliver(&self.book, &reply, out, buffer) {
+                Ok(()) => Ok(going),
+                Err(stop) => Err(stop),
+            },
+            Err(NoMemory) => Err(Stop::NoMemory),
+        }
+    }
+
+    /// Reads a line and serves it.
+    fn decide(&mut self, line: &[u8]) -> Result<(Reply, Going), NoMemory>
+        ensures answers { IfOk result (λ r. Answers self.old line.now (reply_text self.new.book r.0) self.new) }
+        ensures going { IfOk result (λ r. Decides r.1 line.now) }
+        ensures fits { IfOk result (λ r. ReplyFits self.new.book r.0) }
+    {
+        match parse_line(self.alloc, line) {
+            Ok(line) => {
+                let going = Going::after(&line);
+                Ok((self.serve(line)?, going))
+            }
+            Err(error) => misread(error),
+        }
+    }
+}
+
+/// The reply to a line that could not be read.
+fn misread(error: LineError) -> Result<(Reply, Going), NoMemory>
+    ensures { IfOk result (IsRefusal error) }
+{
+    match refusal_of(error) {
+        Some(refusal) => Ok((Reply::Refused(refusal), Going::More)),
+        None => Err(NoMemory),
+    }
+}

@@ -1,0 +1,170 @@
+//! Sessions: bytes in, in any pieces; lines cut out of them; replies out.
+ghost use Rattle.std.specs.Prelude.{◌≡◌, ◌≤◌, false, IsErrOf, IfOk, drop, vec_len};
+ghost use Rattle.palm_base.specs.Streams.{Rose};
+ghost use Rattle.palm_session.specs.Feeding.{AnswersLines, Feeds, FeedsText, Finishes, FinishesTo};
+
+use crate::desk::Desk;
+use crate::going::Going;
+use crate::lines::{next_feed, without_return};
+use crate::stop::Stop;
+use palm_base::{NoMemory, Sink, Steps};
+use palm_lang::Book;
+use std::alloc::Global;
+use std::marker::Model;
+use std::sync::ledger::Ledger;
+
+/// A session. It is over after a `quit` line, after its last line was answered, and after a stop.
+#[derive(Drop)]
+pub struct Session {
+    desk: Desk,
+    unfinished: Vec<u8>,
+    buffer: Vec<u8>,
+    over: bool,
+}
+
+impl Model for Session {
+    ghost use Rattle.palm_session.specs.Feeding.{View};
+
+    ghost Value = { View };
+
+    ghost view = { λ s. record { state = s.desk; unfinished = s.unfinished.items; over = s.over } };
+}
+
+impl Session {
+    ghost use Rattle.std.specs.Prelude.{[]};
+    ghost use Rattle.palm_session.specs.State.{fresh};
+
+    /// A fresh session.
+    pub fn new(alloc: Global) -> Result<Session, NoMemory>
+        ensures { IfOk result (λ s. s ≡ record { state = fresh; unfinished = []; over = false }) }
+    {
+        Ok(Session {
+            desk: Desk::new(alloc),
+            unfinished: Vec::new(alloc),
+            buffer: Vec::new(alloc),
+            over: false,
+        })
+    }
+
+    /// Whether the session takes no more bytes.
+    pub fn is_over(&self) -> bool
+        ensures { result ≡ self.now.over }
+    {
+        self.over
+    }
+
+    /// The book.
+    pub fn book(&self) -> &Book
+        ensures { result.now ≡ self.now.state.book }
+    {
+        self.desk.book()
+    }
+
+    /// Takes the next bytes, answers each line that they complete, and writes each reply before the next line is
+    /// looked at. The bytes behind a `quit` line are not looked at.
+    pub fn feed<K: Sink, L: Ledger>(
+        &mut self,
+        piece: &[u8],
+        out: &mut K,
+        steps: &mut Steps<L>,
+    ) -> Result<Going, Stop>
+        requires { self.old.over ≡ false }
+        ensures counts { K.faults out.old ≤ K.faults out.new }
+        ensures feeds { Feeds self.old piece.now (K.written out.old) (K.written out.new) self.new result }
+        ensures fault { IsErrOf result Stop.WriteFault → Rose (K.faults out.old) (K.faults out.new) }
+        ensures steps { steps.new ≡ steps.old }
+    {
+        let result = self.feed_lines(piece, out);
+        self.over = !matches!(result, Ok(Going::More));
+        result
+    }
+
+    /// Answers a last line without its line feed, if it has a byte.
+    pub fn finish<K: Sink, L: Ledger>(
+        &mut self,
+        out: &mut K,
+        steps: &mut Steps<L>,
+    ) -> Result<(), Stop>
+        requires { self.old.over ≡ false }
+        ensures counts { K.faults out.old ≤ K.faults out.new }
+        ensures finishes { Finishes self.old (K.written out.old) (K.written out.new) self.new result }
+        ensures fault { IsErrOf result Stop.WriteFault → Rose (K.faults out.old) (K.faults out.new) }
+        ensures steps { steps.new ≡ steps.old }
+    {
+        self.over = true;
+        answer_last(&mut self.desk, &self.unfinished, out, &mut self.buffer)
+    }
+
+    /// Answers the lines that the piece completes, and keeps the rest.
+    fn feed_lines<K: Sink>(&mut self, piece: &[u8], out: &mut K) -> Result<Going, Stop>
+        ensures counts { K.faults out.old ≤ K.faults out.new }
+        ensures feeds { FeedsText self.old piece.now (K.written out.old) (K.written out.new) self.new result }
+        ensures fault { IsErrOf result Stop.WriteFault → Rose (K.faults out.old) (K.faults out.new) }
+    {
+        if self.unfinished.extend_from_slice(piece).is_err() {
+            return Err(Stop::NoMemory);
+        }
+        match answer_lines(&mut self.desk, &self.unfinished, out, &mut self.buffer) {
+            Ok((going, used)) => {
+                keep_from(&mut self.unfinished, used);
+                Ok(going)
+            }
+            Err(stop) => Err(stop),
+        }
+    }
+}
+
+/// Answers the lines of a text that have their line feeds, up to one that ends the session, and answers where the rest
+/// begins.
+fn answer_lines<K: Sink>(
+    desk: &mut Desk,
+    text: &[u8],
+    out: &mut K,
+    buffer: &mut Vec<u8>,
+) -> Result<(Going, usize), Stop>
+    ensures counts { K.faults out.old ≤ K.faults out.new }
+    ensures answers { AnswersLines desk.old text.now (K.written out.old) (K.written out.new) desk.new result }
+    ensures fault { IsErrOf result Stop.WriteFault → Rose (K.faults out.old) (K.faults out.new) }
+{
+    let mut start = 0;
+    while let Some(end) = next_feed(text, start) {
+        let line = without_return(&text[start..end]);
+        start = end + 1;
+        match desk.answer(line, out, buffer) {
+            Ok(Going::More) => {}
+            Ok(Going::Quit) => return Ok((Going::Quit, start)),
+            Err(stop) => return Err(stop),
+        }
+    }
+    Ok((Going::More, start))
+}
+
+/// Keeps the bytes from a place on.
+fn keep_from(bytes: &mut Vec<u8>, used: usize)
+    requires { used ≤ vec_len bytes.old }
+    ensures { bytes.new.items ≡ drop used bytes.old.items }
+{
+    let left = bytes.len() - used;
+    bytes.copy_within(used.., 0);
+    bytes.truncate(left);
+}
+
+/// Answers a last line without its line feed, if it has a byte.
+fn answer_last<K: Sink>(
+    desk: &mut Desk,
+    line: &[u8],
+    out: &mut K,
+    buffer: &mut Vec<u8>,
+) -> Result<(), Stop>
+    ensures counts { K.faults out.old ≤ K.faults out.new }
+    ensures answers { FinishesTo desk.old line.now (K.written out.old) (K.written out.new) desk.new result }
+    ensures fault { IsErrOf result Stop.WriteFault → Rose (K.faults out.old) (K.faults out.new) }
+{
+    if line.is_empty() {
+        return Ok(());
+    }
+    match desk.answer(without_return(line), out, buffer) {
+        Ok(_) => Ok(()),
+        Err(stop) => Err(stop),
+    }
+}
