@@ -1,3 +1,4 @@
+pub mod Ascending
 pub mod Memory
 pub mod Numbers
 pub mod Streams

@@ -76,3 +76,31 @@ impl<W: Write + Drop> Sink for StdSink<W> {
         Ok(count)
     }
 }
+
+#[cfg(test)]
+mod tests {
+    use super::*;
+    use std::test::Fail;
+
+    #[test]
+    fn a_reader_gives_its_bytes_and_then_ends(rt: HostRuntime) -> Result<(), Fail> {
+        let mut source = StdSource::new(b"list".as_slice());
+        let mut buffer = [0; 3];
+        assert_eq!(rt; source.read(&mut buffer), Ok(3));
+        assert_eq!(rt; buffer, *b"lis");
+        assert_eq!(rt; source.read(&mut buffer), Ok(1));
+        assert_eq!(rt; buffer[0], b't');
+        assert_eq!(rt; source.read(&mut buffer), Ok(0));
+        Ok(())
+    }
+
+    #[test]
+    fn a_writer_takes_what_fits_and_then_fails(rt: HostRuntime) -> Result<(), Fail> {
+        let mut room = [0; 3];
+        let mut sink = StdSink::new(room.as_mut_slice());
+        assert_eq!(rt; sink.write(b"bye"), Ok(3));
+        assert_eq!(rt; sink.write(b"!"), Err(Failed));
+        assert_eq!(rt; room, *b"bye");
+        Ok(())
+    }
+}

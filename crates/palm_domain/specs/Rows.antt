@@ -1,6 +1,7 @@
 -- The rows of a store, one for each variable, and what its calls say of them.
 use Rattle.std.specs.Prelude.{◌≡◌, ℕ, ◌^◌, ℤ, ◌<◌, ◌≤◌, ◌<ℤ◌, ◌≤ℤ◌, List, [], ◌∷◌, All, Contains, not, filter, map, length, slice_index_or, int_lt, if◌then◌else◌}
 use Rattle.std.specs.Ordering.{int_eq}
+pub use Rattle.palm_base.specs.Ascending.{Ascends}
 
 -- the values that a variable was declared with, and those of them that are left
 pub record Row : Type 0 where
@@ -31,11 +32,6 @@ IsDeclared rows x v = Contains (declared_values rows x) v
 
 abbrev pub IsPresent : List Row → ℕ → ℤ → Type 0
 IsPresent rows x v = Contains (present_values rows x) v
-
--- each value is below those after it
-abbrev pub Ascends : List ℤ → Type 0
-Ascends [] = Unit {0}
-Ascends (v ∷ vs) = All (λ w. v <ℤ w) vs × Ascends vs
 
 -- the values but this one
 abbrev pub values_without : ℤ → List ℤ → List ℤ

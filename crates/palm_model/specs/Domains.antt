@@ -1,7 +1,8 @@
 -- Domains and assignments.
-use Rattle.std.specs.Prelude.{ℕ, ℤ, ◌+◌, ◌<ℤ◌, List, [], ◌∷◌, Contains, All, Bool, not, filter, nat_eq, ◌&&◌, slice_index_or}
+use Rattle.std.specs.Prelude.{ℕ, ℤ, ◌+◌, List, [], ◌∷◌, Contains, All, Bool, not, filter, nat_eq, ◌&&◌, slice_index_or}
 use Rattle.std.specs.List.{list_any}
 use Rattle.std.specs.Ordering.{int_eq}
+pub use Rattle.palm_base.specs.Ascending.{Ascends}
 use Rattle.palm_base.specs.declared.terms.Pair.{Pair}
 
 -- a list of values for each variable; a variable is the place of its list
@@ -27,11 +28,6 @@ IsInside d e = (x : ℕ) (v : ℤ) → Has d x v → Has e x v
 -- the variables of the scope have values of their domains
 abbrev pub IsWithin : Assignment → List ℕ → Domains → Type 0
 IsWithin a scope d = (x : ℕ) → Contains scope x → Has d x (a x)
-
--- each value is below those after it
-abbrev pub Ascends : List ℤ → Type 0
-Ascends [] = Unit {0}
-Ascends (v ∷ vs) = All (λ w. v <ℤ w) vs × Ascends vs
 
 -- the values of each variable ascend
 abbrev pub AllAscend : Domains → Type 0
