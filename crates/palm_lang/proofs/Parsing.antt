@@ -50,6 +50,15 @@ odd_refused bytes says odd = record { no_comment = λ c. false≢true (sym says 
 pub no_form_refused : (bytes : List ℕ) → IsPlain bytes → form_at (tokens_of bytes) ≡ None → IsRefusedBy bytes NoForm
 no_form_refused bytes plain none = (plain, λ form is. none-some form (sym none ∙ form_again (tokens_of bytes) form is))
 
+pub no_form_held : (bytes : List ℕ) (error : LineError) → error ≡ NoForm → GivesAll held_line (Err error) (form_at (tokens_of bytes)) → form_at (tokens_of bytes) ≡ None
+no_form_held bytes error is gives = subst (λ (e : LineError). GivesAll held_line (Err e) (form_at (tokens_of bytes))) is gives
+
+-- no form fits: for odd bytes, or for the tokens
+pub formless : (bytes : List ℕ) (error : LineError) → length bytes ≤ 65536 → is_note (after_blanks bytes) ≡ false → form_at (tokens_of bytes) ≡ None → (error ≡ NoForm → All (λ b. is_plain b ≡ true) bytes) → (error ≡ Bytes → All (λ b. is_plain b ≡ true) bytes → ⊥) → ((error ≡ NoForm) ⊎ (error ≡ Bytes)) → IsRefusedBy bytes error
+formless bytes error short says none plain odd (inl is) =
+    subst (IsRefusedBy bytes) (sym is) (no_form_refused bytes (record { short = short; says = says; plain = plain is }) none)
+formless bytes error short says none plain odd (inr is) = subst (IsRefusedBy bytes) (sym is) (odd_refused bytes says (odd is))
+
 pub answered : (bytes : List ℕ) (line : Line) (result : Result Line LineError) → IsPlain bytes → HoldsAll held_line line (form_at (tokens_of bytes)) → IsKept line result → IsReadAs bytes result
 answered bytes line (Ok kept) plain h k =
     let range = in_line h.form (subst HasLineInRange h.is k.1) in
@@ -135,14 +144,6 @@ one_refusal bytes Repeated Empty r s m n = absurd (r.4 (subst HasNothing (same_f
 one_refusal bytes Repeated Repeated r s m n = refl
 one_refusal bytes Repeated NoMemory r s m n = absurd (n refl)
 one_refusal bytes NoMemory e r s m n = absurd (m refl)
-
-pub refused : (bytes : List ℕ) (error : LineError) → IsPlain bytes → GivesAll held_line (Err error) (form_at (tokens_of bytes)) → IsRefusedBy bytes error
-refused bytes NoForm plain h = no_form_refused bytes plain h
-refused bytes NoMemory plain h = tt
-refused bytes Bytes plain h = absurd h
-refused bytes OutOfRange plain h = absurd h
-refused bytes Empty plain h = absurd h
-refused bytes Repeated plain h = absurd h
 
 -- ---- each line has an answer
 

@@ -171,7 +171,7 @@ in_rows (r ∷ rs) h =
 
 -- ---- terms
 
-abbrev term_numbers : TermForm → List Bounded
+abbrev pub term_numbers : TermForm → List Bounded
 term_numbers t = map (up_to 100000) (option_to_list t.factor)
 
 abbrev HasFactorInRange : TermForm → Type 0
@@ -254,7 +254,7 @@ in_target : (t : TargetForm) → HasTargetInRange (line_target (held_target t)) 
 in_target (Number v) h = number_one (a_value v) (in_value v h)
 in_target (Variable name) h = All-nil IsWithin
 
-abbrev a_bound : ℤ → Bounded
+abbrev pub a_bound : ℤ → Bounded
 a_bound b = record { number = b; least = neg_ℤ (pos 1000000000000); greatest = pos 1000000000000 }
 
 same_shape : (s : ShapeForm) → All IsWithin (shape_numbers s) → held_shape s ≡ s

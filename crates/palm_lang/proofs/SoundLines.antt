@@ -27,11 +27,11 @@ use Rattle.palm_lang.proofs.Refusals.{nothing_in, repeat_in, any_here, any_there
 
 -- ---- a name that is read is a letter and what goes on a word
 
-abbrev IsWordText : List ℕ → Type 0
+abbrev pub IsWordText : List ℕ → Type 0
 IsWordText [] = ⊥
 IsWordText (b ∷ bytes) = (is_letter b ≡ true) × All (λ c. is_word_byte c ≡ true) bytes
 
-abbrev IsWordy : Lexeme → Type 0
+abbrev pub IsWordy : Lexeme → Type 0
 IsWordy l = l.kind ≡ Word → IsWordText l.text
 
 word_pick : (letter digit sign : Bool) → cond letter Word (cond digit Digits (cond sign Sign Other)) ≡ Word → letter ≡ true
@@ -57,11 +57,11 @@ wordy_front n [] = All-nil IsWordy
 wordy_front zero (b ∷ bs) = All-nil IsWordy
 wordy_front (suc n) (b ∷ bs) = All-cons IsWordy (lexeme_at b bs) _ (wordy_first b bs) (wordy_front n (after_blanks (drop (more_at b bs) bs)))
 
-wordy_tokens : (bytes : List ℕ) → All IsWordy (tokens_of bytes)
+pub wordy_tokens : (bytes : List ℕ) → All IsWordy (tokens_of bytes)
 unfolding tokens_of
 wordy_tokens bytes = wordy_front (length bytes) (after_blanks bytes)
 
-name_text : (name : List ℕ) → IsWordText name → IsName name → IsNameText name
+pub name_text : (name : List ℕ) → IsWordText name → IsName name → IsNameText name
 name_text [] w n = absurd w
 name_text (b ∷ bytes) w n = (w.0, w.1, n)
 

@@ -1,20 +1,24 @@
 -- A text that stands twice in a list is lost where the list is sorted and freed of repeats.
 use Rattle.std.proofs.Common.{◌≡◌, ℕ, ◌+◌, ◌<◌, ◌≤◌, Bool, true, false, cond, List, [], ◌∷◌, length, map, Contains, Ordering, Less, Equal, refl, sym, ap, ◌∙◌, subst, arith, inl, inr, ◌⊎◌}
 use Rattle.std.specs.Cmp.Lexicographic.{slice_cmp, on_texts, texts_ties}
-use Rattle.std.specs.List.{dedup, dedup_from, AllByRecursion, sum_by}
-use Rattle.std.specs.List.Retain.{IsFiltered, DiffersFromLast}
+use Rattle.std.proofs.Math.Seq.{take-append_seam}
+use Rattle.std.specs.List.{refill, dedup, dedup_from, AllByRecursion, sum_by}
 use Rattle.std.specs.List.Sorted.{IsPermutation, IsSorted, IsStrictlySortedBy}
 use Rattle.std.specs.Ordering.{nat_cmp}
 use Rattle.std.specs.Str.{bytes_eq}
 use Rattle.std.proofs.lemmas.Bool.{cases_lt}
 use Rattle.std.proofs.lemmas.Cmp.{nat_list_cmp_total, tied_itself}
-use Rattle.std.proofs.lemmas.List.Filters.{dedup_is}
 use Rattle.std.proofs.lemmas.List.Kept.{IsStrictlySortedBy-dedup}
 use Rattle.std.proofs.lemmas.List.Sums.{sum_by-cons}
 use Rattle.std.proofs.lemmas.List.Sorted.{sum_by-IsPermutation, IsPermutation-map, IsPermutation-sym, length_permutation}
 use Rattle.std.proofs.lemmas.Slice.Eq.{bytes_eq-Decides}
 use Rattle.palm_lang.specs.Limits.{Repeats}
 use Rattle.palm_lang.proofs.Sets.{contains_here, contains_there, contains_cases}
+
+-- ---- a list behind a reference, written over as a whole
+
+pub refilled : {X : Type 0} (ts ws : List X) → length ws ≡ length ts → refill (length ts) ts ws ≡ ws
+refilled ts ws long = ap (λ n. refill n ts ws) (sym long) ∙ take-append_seam ws _
 
 -- ---- how often a text stands in a list
 
@@ -155,9 +159,8 @@ module _ {X : Type 0} (f : X → List ℕ) where
             absurd (strict_apart (w ∷ ws) (subst (IsStrictlySortedBy cmp_by) (kept_whole w ws le) strict) r)
       ]
 
-  pub twice_is : (ts ws us : List X) → IsPermutation ts ws → IsSorted cmp_by ws → IsFiltered (DiffersFromLast eq_by) [] ws us → (length us < length ts → Repeats (map f ts)) × (Repeats (map f ts) → length us < length ts)
-  twice_is ts ws us moved sorted kept =
-      let is : us ≡ dedup eq_by ws = dedup_is eq_by ws us kept in
+  pub twice_is : (ts ws us : List X) → IsPermutation ts ws → IsSorted cmp_by ws → us ≡ dedup eq_by ws → (length us < length ts → Repeats (map f ts)) × (Repeats (map f ts) → length us < length ts)
+  twice_is ts ws us moved sorted is =
       let long : length ws ≡ length ts = length_permutation ts ws moved in
       let texts = IsPermutation-map f ts ws moved in (
         λ h. repeats_moved (map f ws) (map f ts) (IsPermutation-sym (map f ts) (map f ws) texts) (shorter_repeats ws (omega (arith, h, ap length is, long))),

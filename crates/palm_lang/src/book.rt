@@ -184,3 +184,8 @@ impl Book {
         remove_at(&mut self.constraints, place);
     }
 }
+
+#[cfg(test)]
+pub(crate) mod samples;
+#[cfg(test)]
+mod tests;

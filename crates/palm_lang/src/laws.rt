@@ -1,11 +1,13 @@
-//! Laws of the language. No line has two forms, two readings or two refusals.
+//! Laws of the language. No line has two forms, two readings or two refusals, and a line that is printed reads back as it was.
 ghost use Rattle.std.specs.Prelude.{◌≡◌, ◌≢◌, ◌⊎◌, ℕ, List};
 ghost use Rattle.palm_lang.specs.declared.line.Line.{Line};
 ghost use Rattle.palm_lang.specs.declared.parse.LineError.{LineError};
 ghost use Rattle.palm_lang.specs.declared.parse.LineError.TheVariants.{NoMemory};
 ghost use Rattle.palm_lang.specs.Form.{Form};
 ghost use Rattle.palm_lang.specs.Grammar.{IsForm};
+ghost use Rattle.palm_lang.specs.Limits.{IsBeyond};
 ghost use Rattle.palm_lang.specs.Reading.{IsRead, IsRefusedBy};
+ghost use Rattle.palm_lang.specs.Text.{text_of};
 ghost use Rattle.palm_lang.specs.Token.{Lexeme};
 
 /// No tokens are those of two forms.
@@ -34,4 +36,9 @@ pub fn one_refusal()
 pub fn each_line_answered()
     ensures { (bytes : List ℕ) → ((line : Line) × IsRead bytes line)
         ⊎ ((error : LineError) × (error ≢ NoMemory) × IsRefusedBy bytes error) }
+{}
+
+/// What is read and within the limits is printed so that it reads back as the same line.
+pub fn printed_lines_read_back()
+    ensures { (bytes : List ℕ) (line : Line) → IsRead bytes line → (IsBeyond line → ⊥) → IsRead (text_of line) line }
 {}

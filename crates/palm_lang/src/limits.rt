@@ -6,7 +6,11 @@ ghost use Rattle.palm_lang.specs.Limits.{IsBeyond, IsLarge, HasManyRows, names_o
 
 use crate::line::{DomainText, Line, Name, NameTarget, NameTerm, Shape};
 use palm_base::{NoMemory, Value};
+use smallvec::SmallVec;
 use std::alloc::Global;
+
+/// The names of one line. Up to the limit of a constraint's variables they take no memory.
+type Texts<'a> = SmallVec<&'a [u8], 16>;
 
 /// Whether the line breaks a limit on how many values, variables, rows or entries there may be.
 pub fn beyond(line: &Line) -> bool
@@ -184,20 +188,20 @@ fn repeats_variable(alloc: Global, shape: &Shape) -> Result<bool, NoMemory>
     }
 }
 
-fn name_texts(alloc: Global, names: &[Name]) -> Result<Vec<&[u8]>, NoMemory>
+fn name_texts(alloc: Global, names: &[Name]) -> Result<Texts<'_>, NoMemory>
     ensures { IfOk result (λ texts. map (λ t. t.now) texts.items ≡ names.now) }
 {
-    let mut texts = Vec::new(alloc);
+    let mut texts = Texts::new(alloc);
     for name in names {
         texts.push(name.as_slice())?;
     }
     Ok(texts)
 }
 
-fn term_names(alloc: Global, terms: &[NameTerm]) -> Result<Vec<&[u8]>, NoMemory>
+fn term_names(alloc: Global, terms: &[NameTerm]) -> Result<Texts<'_>, NoMemory>
     ensures { IfOk result (λ texts. map (λ t. t.now) texts.items ≡ map (λ t. t.name) terms.now) }
 {
-    let mut texts = Vec::new(alloc);
+    let mut texts = Texts::new(alloc);
     for term in terms {
         texts.push(term.name.as_slice())?;
     }
@@ -205,7 +209,7 @@ fn term_names(alloc: Global, terms: &[NameTerm]) -> Result<Vec<&[u8]>, NoMemory>
 }
 
 /// Whether a text stands twice in the list.
-fn has_twice(mut texts: Vec<&[u8]>) -> bool
+fn has_twice(mut texts: Texts<'_>) -> bool
     ensures { IsTrue result ↔ Repeats (map (λ t. t.now) texts.entry.items) }
 {
     let count = texts.len();

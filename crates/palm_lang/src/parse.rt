@@ -5,7 +5,7 @@ pub mod forms;
 pub mod lists;
 pub mod numbers;
 
-ghost use Rattle.std.specs.Prelude.{◌≡◌, ◌↔◌, IfOk, IsTrue, All, true};
+ghost use Rattle.std.specs.Prelude.{◌≡◌, ◌↔◌, ◌⊎◌, IfOk, IsTrue, All, true};
 ghost use Rattle.palm_lang.specs.declared.parse.LineError.TheVariants as LineError;
 ghost use Rattle.palm_lang.specs.Bytes.{after_blanks, is_note, is_plain};
 ghost use Rattle.palm_lang.specs.Checks.{IsKept};
@@ -68,11 +68,25 @@ pub fn parse_line(alloc: Global, bytes: &[u8]) -> Result<Line, LineError>
     if is_note(bytes) {
         return Ok(Line::Comment);
     }
-    if !are_plain(bytes) {
-        return Err(LineError::Bytes);
+    match read_form(alloc, bytes) {
+        Ok(line) => within_limits(alloc, line),
+        Err(LineError::Form) => Err(without_form(bytes)),
+        Err(error) => Err(error),
     }
-    let line = read_form(alloc, bytes)?;
-    within_limits(alloc, line)
+}
+
+/// Why no form fits the line: a byte that may not stand in it, or its tokens. A line of a form has plain bytes alone,
+/// since tokens have no others.
+fn without_form(bytes: &[u8]) -> LineError
+    ensures plain { result ≡ LineError.Form → All (λ b. is_plain b ≡ true) bytes.now }
+    ensures odd { result ≡ LineError.Bytes → All (λ b. is_plain b ≡ true) bytes.now → ⊥ }
+    ensures either { (result ≡ LineError.Form) ⊎ (result ≡ LineError.Bytes) }
+{
+    if are_plain(bytes) {
+        LineError::Form
+    } else {
+        LineError::Bytes
+    }
 }
 
 /// Whether nothing or `#` stands behind the blanks in front.
@@ -126,3 +140,6 @@ fn within_limits(alloc: Global, line: Line) -> Result<Line, LineError>
     }
     Ok(line)
 }
+
+#[cfg(test)]
+mod tests;

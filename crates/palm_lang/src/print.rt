@@ -167,3 +167,6 @@ pub fn print_spent(turns: u64, dropped: Option<u64>, out: &mut Vec<u8>) -> Resul
     let outcome = put_spent(turns, dropped, out);
     settled(outcome, length, out)
 }
+
+#[cfg(test)]
+mod tests;

@@ -6,17 +6,17 @@ use Rattle.palm_lang.specs.declared.line.Line.TheVariants.{Quit}
 use Rattle.palm_lang.specs.declared.parse.LineError.{LineError}
 use Rattle.palm_lang.specs.declared.parse.LineError.TheVariants.{NoMemory}
 use Rattle.palm_lang.specs.declared.reply.Refusal.{Refusal}
-use Rattle.palm_lang.proofs.OneReading.{one_line, only_read}
+use Rattle.palm_lang.proofs.Parsing.{one_reading, read_not_refused}
 use Rattle.palm_session.specs.Answers.{refusal_of}
 use Rattle.palm_session.specs.Replies.{GoesOn}
 
 -- a line that says something else than `quit` does not end a session
 pub goes_on_read : (bytes : List ℕ) (line : Line) → IsRead bytes line → (line ≡ Quit → ⊥) → GoesOn bytes
-goes_on_read bytes line r other ends = other (one_line bytes line Quit r ends)
+goes_on_read bytes line r other ends = other (one_reading bytes line Quit r ends)
 
 no_refusal : (error : LineError) (refusal : Refusal) → refusal_of error ≡ Some refusal → error ≡ NoMemory → ⊥
 no_refusal error refusal some none = let e : refusal_of NoMemory ≡ Some refusal = subst (λ (x : LineError). refusal_of x ≡ Some refusal) none some in cc
 
 -- a line that cannot be read does not end a session
 pub goes_on_refused : (bytes : List ℕ) (error : LineError) (refusal : Refusal) → IsRefusedBy bytes error → refusal_of error ≡ Some refusal → GoesOn bytes
-goes_on_refused bytes error refusal q some ends = no_refusal error refusal some (only_read bytes Quit error ends q)
+goes_on_refused bytes error refusal q some ends = no_refusal error refusal some (read_not_refused bytes Quit error ends q)

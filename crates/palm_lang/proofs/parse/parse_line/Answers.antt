@@ -1,22 +1,26 @@
-use Rattle.std.proofs.Common.{rules, sym}
-use Rattle.std.proofs.lemmas.Result.{err_from_is_err_and}
-use Rattle.palm_lang.specs.Bytes.{IsPlain}
-use Rattle.palm_lang.proofs.Parsing.{comment_read, refused, answered}
+use Rattle.std.proofs.Common.{sym}
+use Rattle.palm_lang.specs.Token.{tokens_of}
+use Rattle.palm_lang.proofs.LineForms.{form_takes}
+use Rattle.palm_lang.proofs.Parsing.{comment_read, answered, formless, no_form_held}
+use Rattle.palm_lang.proofs.PlainTokens.{form_plain}
 use Rattle.palm_lang.proofs.SoundLines.{sound_answer}
 use Rattle.palm_lang.proofs.parse.parse_line.Goals as goal
 
-pub returns-then-is_note : goal.returns-then-is_note
-returns-then-is_note c =
-    record { read = comment_read c.args.bytes.now c.if-bytes-gt-LONGEST_LINE.false (sym c.if-is_note.ensures); sound = tt }
+pub returns-then-is_note-clause-read : goal.returns-then-is_note-clause-read
+returns-then-is_note-clause-read c = comment_read c.args.bytes.now c.if-bytes-gt-LONGEST_LINE.false (sym c.if-is_note.ensures)
 
-pub returns-in_err-line : goal.returns-in_err-line
-returns-in_err-line c =
-    let plain : IsPlain c.args.bytes.now = record { short = c.if-bytes-gt-LONGEST_LINE.false; says = sym c.if-is_note.ensures; plain = c.are_plain.ensures.0 (search rules) } in
-    let p = err_from_is_err_and c.from_residual.result c.from_residual.ensures.1 in
-    record { read = rw (p.1, p.2) (refused c.args.bytes.now c.in_err-line.field-0.0 plain c.in_err-line.ensures); sound = rw p.1 tt }
+pub returns-in-Ok-clause-read : goal.returns-in-Ok-clause-read
+returns-in-Ok-clause-read c =
+    let bytes = c.args.bytes.now in
+    let held = c.in-Ok.ensures in
+    let plain = form_plain bytes held.form c.if-bytes-gt-LONGEST_LINE.false (sym c.if-is_note.ensures) (form_takes (tokens_of bytes) held.form held.read) in
+    answered bytes c.in-Ok.line c.within_limits.result plain held c.within_limits.ensures
 
-pub returns : goal.returns
-returns c =
-    let plain : IsPlain c.args.bytes.now = record { short = c.if-bytes-gt-LONGEST_LINE.false; says = sym c.if-is_note.ensures; plain = c.are_plain.ensures.0 (search rules) } in
-    let read = answered c.args.bytes.now c.in_ok-line.line c.within_limits.result plain c.in_ok-line.ensures c.within_limits.ensures in
-    record { read = read; sound = sound_answer c.args.bytes.now c.within_limits.result read }
+pub returns-in-Ok-clause-sound : goal.returns-in-Ok-clause-sound
+returns-in-Ok-clause-sound c = sound_answer c.args.bytes.now c.within_limits.result (returns-in-Ok-clause-read c)
+
+pub returns-in-Err-Form-clause-read : goal.returns-in-Err-Form-clause-read
+returns-in-Err-Form-clause-read c =
+    let bytes = c.args.bytes.now in
+    formless bytes c.without_form.result c.if-bytes-gt-LONGEST_LINE.false (sym c.if-is_note.ensures) (no_form_held bytes c.in-Err-Form.field-0 c.in-Err-Form.field-0-is c.in-Err-Form.ensures)
+    c.without_form.ensures.plain c.without_form.ensures.odd c.without_form.ensures.either
