@@ -1,14 +1,13 @@
 //! Support and reasons of comparisons over small domains.
-ghost use Rattle.std.specs.Prelude.{◌≡◌, ◌<◌, length, true, All, Contains, IfOk};
+ghost use Rattle.std.specs.Prelude.{◌≡◌, ◌<◌, length, Contains, IfOk};
 ghost use Rattle.palm_domain.specs.Rows.{present_of};
 ghost use Rattle.palm_model.specs.Constraint.{IsWellFormed, scope};
 ghost use Rattle.palm_model.specs.Domains.{Has};
-ghost use Rattle.palm_model.specs.Reason.{AreFilled};
 
 use crate::CompareFilter;
 use palm_base::{NoMemory, Pair, Steps, Value, Var};
 use palm_domain::DomainStore;
-use palm_filter::{Filter, Reasons, ask};
+use palm_filter::{Filter, ask, reason_of};
 use palm_model::{Con, Op};
 use std::alloc::Global;
 use std::marker::Brand;
@@ -19,41 +18,6 @@ fn pair(var: Var, value: Value) -> Pair
     ensures { result ≡ record { var = var; value = value } }
 {
     Pair { var, value }
-}
-
-/// Whether none of the variables has an empty domain.
-fn are_filled(store: &DomainStore, vars: &[Var]) -> bool
-    requires { All (λ x. x < length store.now) vars.now }
-    ensures { result ≡ true → AreFilled (present_of store.now) vars.now }
-{
-    for var in vars {
-        if store.count(*var) == 0 {
-            return false;
-        }
-    }
-    true
-}
-
-/// The reason of a pair that is present and has no support; of other pairs there is none.
-fn reason_of<F: Filter>(
-    alloc: Global,
-    filter: &F,
-    store: &DomainStore,
-    var: Var,
-    value: Value,
-) -> Result<Option<Reasons>, NoMemory>
-    requires formed { IsWellFormed (length store.now) (F.meaning filter.now) }
-    requires over { Contains (scope (F.meaning filter.now)) var }
-{
-    let mut out = Reasons::new(alloc);
-    if !store.contains(pair(var, value))
-        || !are_filled(store, filter.scope().as_slice())
-        || filter.supported(store, pair(var, value))
-    {
-        return Ok(None);
-    }
-    filter.reason(store, pair(var, value), &mut out)?;
-    Ok(Some(out))
 }
 
 /// The answer of a question that is counted from nothing.
@@ -97,7 +61,10 @@ fn a_reason_is_what_would_fit(rt: HostRuntime) -> Result<(), Fail> {
         offset: 0,
     };
     let filter = CompareFilter::new(rt.alloc(), &con)?;
-    let out = reason_of(rt.alloc(), &filter, &store, Var(0), Value(2))?.expect(&rt, "no support");
+    let out = reason_of(rt.alloc(), &filter, &store, &pair(Var(0), Value(2)))?.expect(
+        &rt,
+        "no support",
+    );
     assert_eq!(rt; out.as_slice(), [pair(Var(1), Value(3))].as_slice());
     Ok(())
 }
@@ -111,7 +78,10 @@ fn a_comparison_with_a_value_has_no_pairs_as_reason(rt: HostRuntime) -> Result<(
         value: Value(2),
     };
     let filter = CompareFilter::new(rt.alloc(), &con)?;
-    let out = reason_of(rt.alloc(), &filter, &store, Var(0), Value(1))?.expect(&rt, "no support");
+    let out = reason_of(rt.alloc(), &filter, &store, &pair(Var(0), Value(1)))?.expect(
+        &rt,
+        "no support",
+    );
     assert_eq!(rt; out.len(), 0);
     assert_eq!(rt; filter.scope().as_slice(), [Var(0)].as_slice());
     Ok(())

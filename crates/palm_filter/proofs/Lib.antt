@@ -1,1 +1,3 @@
 pub mod Singles
+pub mod Indexed
+pub mod Written

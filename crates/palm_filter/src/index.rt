@@ -1,0 +1,82 @@
+//! The places of each value of a list.
+ghost use Rattle.std.specs.Prelude.{◌≡◌, ℕ, Contains, Some, IfOk, slice_get};
+ghost use Rattle.palm_filter.specs.Index.{IsIndex, value_at};
+
+use palm_base::{NoMemory, Value};
+use std::alloc::Global;
+use std::marker::Model;
+
+/// A list of values that finds the places of a value by halves: it keeps the places in the order of their values.
+#[derive(Debug, Drop)]
+pub struct ValueIndex {
+    values: Vec<Value>,
+    places: Vec<usize>,
+}
+
+impl Model for ValueIndex {
+    ghost use Rattle.std.specs.Prelude.{List, ℤ};
+    ghost use Rattle.palm_filter.specs.Index.{IsIndex};
+
+    ghost Value = { List ℤ };
+
+    ghost view = { λ i. i.values.items };
+
+    ghost invariant = { λ i. IsIndex i.values.items i.places.items };
+}
+
+/// The places of the values, in the order of the values.
+fn sorted_places(alloc: Global, values: &[Value]) -> Result<Vec<usize>, NoMemory>
+    ensures { IfOk result (λ places. IsIndex values.now places.items) }
+{
+    let mut places = Vec::with_capacity(alloc, values.len())?;
+    for place in 0..values.len() {
+        places.push(place)?;
+    }
+    places.sort_unstable_by_key(|place| value_at(values, *place));
+    Ok(places)
+}
+
+/// The value at the place, and 0 where there is none.
+fn value_at(values: &[Value], place: usize) -> Value
+    ensures { result ≡ value_at values.now place }
+{
+    values.get(place).copied().unwrap_or_default()
+}
+
+/// Every place where the value stands, of places in the order of their values.
+fn places_of<'a>(values: &[Value], places: &'a [usize], value: &Value) -> &'a [usize]
+    requires { IsIndex values.now places.now }
+    ensures stands { (k : ℕ) → Contains result.now k → slice_get values.now k ≡ Some value.now }
+    ensures every { (k : ℕ) → slice_get values.now k ≡ Some value.now → Contains result.now k }
+{
+    let from = places.partition_point(|place| value_at(values, *place) < *value);
+    let end = places.partition_point(|place| value_at(values, *place) <= *value);
+    &places[from..end]
+}
+
+impl ValueIndex {
+    /// The index of a list of values.
+    pub fn new(alloc: Global, values: &[Value]) -> Result<ValueIndex, NoMemory>
+        ensures { IfOk result (λ index. index ≡ values.now) }
+    {
+        Ok(ValueIndex {
+            values: Vec::from_slice(alloc, values)?,
+            places: sorted_places(alloc, values)?,
+        })
+    }
+
+    /// The values.
+    pub fn values(&self) -> &[Value]
+        ensures { result.now ≡ self.now }
+    {
+        self.values.as_slice()
+    }
+
+    /// Every place where the value stands.
+    pub fn places(&self, value: &Value) -> &[usize]
+        ensures stands { (k : ℕ) → Contains result.now k → slice_get self.now k ≡ Some value.now }
+        ensures every { (k : ℕ) → slice_get self.now k ≡ Some value.now → Contains result.now k }
+    {
+        places_of(&self.values, &self.places, value)
+    }
+}
