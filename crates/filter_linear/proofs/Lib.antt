@@ -1,0 +1,5 @@
+pub mod ManyTerms
+pub mod SumReasons
+pub mod SumSupport
+pub mod Totals
+pub mod Walks

@@ -1,0 +1,193 @@
+-- What a pass over the terms keeps: the least and the greatest sum so far, and the pairs so far.
+use Rattle.std.proofs.Common.{◌≡◌, ℕ, zero, suc, ◌+◌, ◌*◌, ◌<◌, ◌≤◌, List, [], ◌∷◌, length, take, get_or, filter, add-one, Contains, ℤ, pos, ◌+ℤ◌, ◌*ℤ◌, ◌≤ℤ◌, ◌<ℤ◌, FitsSigned, to_z, of_z, w32, w64, Bool, true, false, not, cond, eqb, refl, sym, ap, ◌∙◌, subst, int_lt, arith}
+use Rattle.std.specs.List.{AllWithin}
+use Rattle.std.proofs.lemmas.Bool.{both_ways}
+use Rattle.std.proofs.lemmas.Int.{ints, by_lt_z}
+use Rattle.std.proofs.lemmas.List.{take_all}
+use Rattle.std.proofs.lemmas.List.Elements.{All-contains, AllWithin-more, AllWithin-none, All-from_all_within, Contains-get_or}
+use Rattle.palm_base.proofs.Members.{member_same, member_map, member_unmap, member_there, member_here}
+use Rattle.palm_domain.specs.Rows.{IsLeastOf, IsGreatestOf}
+use Rattle.palm_model.specs.Domains.{Domains, Has, values_of}
+use Rattle.palm_model.specs.Constraint.{IsFactor, IsUpTo, term_vars}
+use Rattle.palm_model.specs.Reason.{AreFilled, least_of, greatest_of, products, least_total, is_listed}
+use Rattle.palm_model.specs.declared.constraint.Term.{Term}
+use Rattle.palm_model.proofs.Reasons.{member_not_listed}
+use Rattle.palm_model.proofs.Standing.{stands_from_test, test_from_stands}
+use Rattle.palm_model.specs.declared.constraint.Op.TheVariants.{Lt}
+use Rattle.palm_model.proofs.Sums.{round_up_to, up_to_more, round_factor, sum_up_to, sum_read}
+use Rattle.filter_linear.specs.Linear.{IsProduct, IsTermSpan, IsFilledBeside, IsShare, IsSpan, least_share, greatest_share, greatest_total, is_beyond, values_beyond, beyond_reason}
+use Rattle.filter_linear.specs.declared.reasons.Side.{Side}
+use Rattle.filter_linear.specs.declared.reasons.Side.TheVariants.{Below, Above}
+use Rattle.filter_linear.specs.declared.span.Span.{Span}
+use Rattle.filter_linear.proofs.Totals.{product_rises, product_falls, least_is, greatest_is, total_by, least_by, greatest_by, least_product_below, greatest_product_above}
+use Rattle.filter_linear.proofs.SumReasons.{pairs_by}
+
+-- ---- numbers through their 64 bits
+
+pub round_product : (z : ℤ) → IsProduct z → to_z w64 (of_z w64 z) ≡ z
+round_product z h = round_up_to z (up_to_more 214748364800000 4000000000000000 z (omega arith) h)
+
+round_sum : (i : ℕ) (z : ℤ) → i ≤ 16 → IsUpTo (i * 214748364800000) z → to_z w64 (of_z w64 z) ≡ z
+round_sum i z few h = round_up_to z (up_to_more (i * 214748364800000) 4000000000000000 z (omega arith) h)
+
+-- one more summand
+pub step_read : (i : ℕ) (m n : ℤ) → i ≤ 16 → IsUpTo (i * 214748364800000) m → IsProduct n → to_z w64 (of_z w64 (to_z w64 (of_z w64 m) +ℤ to_z w64 (of_z w64 n))) ≡ m +ℤ n
+step_read i m n few h k = let e = round_sum i m few h in rw e (sum_read i m n few h k)
+
+pub step_fits : (i : ℕ) (m n : ℤ) → i ≤ 16 → IsUpTo (i * 214748364800000) m → IsProduct n → FitsSigned w64 (to_z w64 (of_z w64 m) +ℤ to_z w64 (of_z w64 n))
+step_fits i m n few h k =
+    let e = round_sum i m few h in
+    let f = round_product n k in
+    rw (e, f) (omega (arith, ints, h.above, h.below, k.above, k.below))
+
+-- ---- what one term can be
+
+rises : (f : ℤ) → IsUpTo 100000 f → int_lt (pos 0) (to_z w32 (of_z w32 f)) ≡ true → pos 0 <ℤ f
+rises f k h = stands_from_test Lt (pos 0) f (subst (λ z. int_lt (pos 0) z ≡ true) (round_factor f k) h)
+
+falls : (f : ℤ) → IsUpTo 100000 f → int_lt (pos 0) (to_z w32 (of_z w32 f)) ≡ false → f ≤ℤ pos 0
+falls f k h =
+    by_lt_z (pos 0) f
+    (λ lt. absurd (both_ways (int_lt (pos 0) f) (subst (λ z. int_lt (pos 0) z ≡ false) (round_factor f k) h) (test_from_stands Lt (pos 0) f lt)))
+    (λ le. le)
+
+module _ (d : Domains) (t : Term) (low high m n : ℤ) (least : IsLeastOf (values_of d t.var) low) (greatest : IsGreatestOf (values_of d t.var) high) (at_low : m ≡ t.factor *ℤ low) (at_high : n ≡ t.factor *ℤ high) (low_small : IsProduct m) (high_small : IsProduct n) where
+  in_products : (w : ℤ) → Has d t.var w → Contains (products d t) (t.factor *ℤ w)
+  in_products w h = member_map (λ u. t.factor *ℤ u) (values_of d t.var) w h
+
+  each_product : (P : ℤ → Type 0) → ((w : ℤ) → Has d t.var w → P (t.factor *ℤ w)) → (k : ℤ) → Contains (products d t) k → P k
+  each_product P each k h = let r = member_unmap (λ u. t.factor *ℤ u) (values_of d t.var) k h in subst P r.2 (each r.0 r.1)
+
+  some_value : 0 < length (values_of d t.var)
+  some_value = omega (arith, least.member.1)
+
+  pub rising_span : IsFactor t → int_lt (pos 0) (to_z w32 (of_z w32 t.factor)) ≡ true → IsTermSpan d t (record { least = to_z w64 (of_z w64 m); greatest = to_z w64 (of_z w64 n) })
+  rising_span factor test =
+      let p = rises t.factor factor.1 test in record {
+        least =
+            round_product m low_small ∙ at_low
+            ∙ least_is (products d t) (t.factor *ℤ low) (in_products low least.member) (each_product (λ k. (t.factor *ℤ low) ≤ℤ k) (λ w h. product_rises t.factor low w p (least.least w h)));
+        greatest =
+            round_product n high_small ∙ at_high
+            ∙ greatest_is (products d t) (t.factor *ℤ high) (in_products high greatest.member) (each_product (λ k. k ≤ℤ (t.factor *ℤ high)) (λ w h. product_rises t.factor w high p (greatest.greatest w h)));
+        filled = some_value;
+        least_small = subst IsProduct (sym (round_product m low_small)) low_small;
+        greatest_small = subst IsProduct (sym (round_product n high_small)) high_small;
+      }
+
+  pub falling_span : IsFactor t → int_lt (pos 0) (to_z w32 (of_z w32 t.factor)) ≡ false → IsTermSpan d t (record { least = to_z w64 (of_z w64 n); greatest = to_z w64 (of_z w64 m) })
+  falling_span factor test =
+      let p = falls t.factor factor.1 test in record {
+        least =
+            round_product n high_small ∙ at_high
+            ∙ least_is (products d t) (t.factor *ℤ high) (in_products high greatest.member) (each_product (λ k. (t.factor *ℤ high) ≤ℤ k) (λ w h. product_falls t.factor w high p (greatest.greatest w h)));
+        greatest =
+            round_product m low_small ∙ at_low
+            ∙ greatest_is (products d t) (t.factor *ℤ low) (in_products low least.member) (each_product (λ k. k ≤ℤ (t.factor *ℤ low)) (λ w h. product_falls t.factor low w p (least.least w h)));
+        filled = some_value;
+        least_small = subst IsProduct (sym (round_product n high_small)) high_small;
+        greatest_small = subst IsProduct (sym (round_product m low_small)) low_small;
+      }
+
+-- ---- the least and the greatest sum so far
+
+total_by_suc : (e : Term → ℤ) (terms : List Term) (i : ℕ) (t : Term) (x : ℕ) (v : ℤ) → i < length terms → t ≡ get_or terms i t → total_by e (take (suc i) terms) x v ≡ total_by e (take i terms) x v +ℤ cond (eqb t.var x) (t.factor *ℤ v) (e t)
+total_by_suc e [] i t x v lt at = absurd (omega arith)
+total_by_suc e (u ∷ ts) zero t x v lt at = let same = ap (λ (s : Term). cond (eqb s.var x) (s.factor *ℤ v) (e s)) at in omega (arith, ints)
+total_by_suc e (u ∷ ts) (suc i) t x v lt at = let more = total_by_suc e ts i t x v (omega arith) at in omega (arith, ints)
+
+total_by_more : (e : Term → ℤ) (terms : List Term) (i : ℕ) (t : Term) (x : ℕ) (v : ℤ) → i < length terms → t ≡ get_or terms i t → total_by e (take (i + 1) terms) x v ≡ total_by e (take i terms) x v +ℤ cond (eqb t.var x) (t.factor *ℤ v) (e t)
+total_by_more e terms i t x v lt at = rw add-one (total_by_suc e terms i t x v lt at)
+
+at_any : (terms : List Term) (i : ℕ) (t u : Term) → i < length terms → t ≡ get_or terms i t → t ≡ get_or terms i u
+at_any [] i t u lt at = absurd (omega arith)
+at_any (s ∷ ts) zero t u lt at = at
+at_any (s ∷ ts) (suc i) t u lt at = at_any ts i t u (omega arith) at
+
+-- what the first i terms can be together
+pub record IsSpanTo (d : Domains) (terms : List Term) (x : ℕ) (v : ℤ) (i : ℕ) (s : Span) : Type 0 where
+  pub least : s.least ≡ least_total d (take i terms) x v
+  pub greatest : s.greatest ≡ greatest_total d (take i terms) x v
+  pub filled : AllWithin (IsFilledBeside d x) terms 0 i
+  pub least_small : IsUpTo (i * 214748364800000) s.least
+  pub greatest_small : IsUpTo (i * 214748364800000) s.greatest
+
+module _ (d : Domains) (terms : List Term) (x : ℕ) (v : ℤ) where
+  pub span_none : IsSpanTo d terms x v 0 (record { least = pos 0; greatest = pos 0 })
+  span_none = record {
+    least = refl;
+    greatest = refl;
+    filled = AllWithin-none (IsFilledBeside d x) terms 0;
+    least_small = record { above = omega (arith, ints); below = omega (arith, ints) };
+    greatest_small = record { above = omega (arith, ints); below = omega (arith, ints) };
+  }
+
+  least_more : (i : ℕ) (t : Term) (m n : ℤ) → i < length terms → t ≡ get_or terms i t → m ≡ least_total d (take i terms) x v → n ≡ least_share d x v t → m +ℤ n ≡ least_total d (take (i + 1) terms) x v
+  least_more i t m n lt at e f =
+      ap (λ z. z +ℤ n) (e ∙ least_by d (take i terms) x v) ∙ ap (λ z. total_by (λ u. least_of (products d u)) (take i terms) x v +ℤ z) f
+      ∙ sym (least_by d (take (i + 1) terms) x v ∙ total_by_more (λ u. least_of (products d u)) terms i t x v lt at)
+
+  greatest_more : (i : ℕ) (t : Term) (m n : ℤ) → i < length terms → t ≡ get_or terms i t → m ≡ greatest_total d (take i terms) x v → n ≡ greatest_share d x v t → m +ℤ n ≡ greatest_total d (take (i + 1) terms) x v
+  greatest_more i t m n lt at e f =
+      ap (λ z. z +ℤ n) (e ∙ greatest_by d (take i terms) x v) ∙ ap (λ z. total_by (λ u. greatest_of (products d u)) (take i terms) x v +ℤ z) f
+      ∙ sym (greatest_by d (take (i + 1) terms) x v ∙ total_by_more (λ u. greatest_of (products d u)) terms i t x v lt at)
+
+  pub span_more : (i : ℕ) (t : Term) (s share : Span) → i < length terms → length terms ≤ 16 → t ≡ get_or terms i t → IsSpanTo d terms x v i s → IsShare d x v t share → IsSpanTo d terms x v (i + 1) (record {
+    least = to_z w64 (of_z w64 (to_z w64 (of_z w64 s.least) +ℤ to_z w64 (of_z w64 share.least)));
+    greatest = to_z w64 (of_z w64 (to_z w64 (of_z w64 s.greatest) +ℤ to_z w64 (of_z w64 share.greatest)));
+  })
+  span_more i t s share lt few at so_far is =
+      let up_to : i ≤ 16 = omega arith in
+      let low = step_read i s.least share.least up_to so_far.least_small is.least_small in
+      let high = step_read i s.greatest share.greatest up_to so_far.greatest_small is.greatest_small in
+      record {
+        least = low ∙ least_more i t s.least share.least lt at so_far.least is.least;
+        greatest = high ∙ greatest_more i t s.greatest share.greatest lt at so_far.greatest is.greatest;
+        filled = AllWithin-more (IsFilledBeside d x) terms 0 i so_far.filled (λ u. subst (IsFilledBeside d x) (at_any terms i t u lt at) is.filled);
+        least_small = subst (λ z. IsUpTo ((i + 1) * 214748364800000) z) (sym low) (sum_up_to i s.least share.least so_far.least_small is.least_small);
+        greatest_small = subst (λ z. IsUpTo ((i + 1) * 214748364800000) z) (sym high) (sum_up_to i s.greatest share.greatest so_far.greatest_small is.greatest_small);
+      }
+
+  pub span_end : (i : ℕ) (s : Span) → length terms ≤ i → i ≤ length terms → IsSpanTo d terms x v i s → IsSpan d terms x v s
+  span_end i s past upto is =
+      let whole : take i terms ≡ terms = take_all i terms past in
+      let at_end : i ≡ length terms = omega arith in
+      record {
+        least = is.least ∙ ap (λ (ts : List Term). least_total d ts x v) whole;
+        greatest = is.greatest ∙ ap (λ (ts : List Term). greatest_total d ts x v) whole;
+        filled = All-from_all_within (IsFilledBeside d x) terms (subst (λ n. AllWithin (IsFilledBeside d x) terms 0 n) at_end is.filled);
+      }
+
+-- ---- the pairs so far
+
+filter_both : (p q : ℤ → Bool) (vs : List ℤ) → ((w : ℤ) → Contains vs w → p w ≡ true → q w ≡ true) → filter p (filter q vs) ≡ filter p vs
+filter_both p q [] both = refl
+filter_both p q (v ∷ vs) both = by_case (p v) (q v) refl refl (λ e. both v (member_here v vs) e) (filter_both p q vs (λ w m e. both w (member_there v vs w m) e))
+  where
+    by_case : (b c : Bool) → p v ≡ b → q v ≡ c → (p v ≡ true → q v ≡ true) → filter p (filter q vs) ≡ filter p vs → filter p (cond c (v ∷ filter q vs) (filter q vs)) ≡ cond b (v ∷ filter p vs) (filter p vs)
+    by_case b true e f h rest = ap (λ z. cond z (v ∷ filter p (filter q vs)) (filter p (filter q vs))) e ∙ ap (λ ws. cond b (v ∷ ws) ws) rest
+    by_case true false e f h rest = absurd (both_ways (q v) f (h e))
+    by_case false false e f h rest = rest
+
+-- a declared value beyond the present ones is a removed one
+pub beyond_values : (side : Side) (initial present : Domains) (t : Term) (s : Span) → IsTermSpan present t s → filter (λ w. is_beyond side s (t.factor *ℤ w)) (values_of initial t.var) ≡ values_beyond side initial present t
+beyond_values Below initial present t s is =
+    ap (λ z. filter (λ w. int_lt (t.factor *ℤ w) z) (values_of initial t.var)) is.least
+    ∙ sym (filter_both (λ w. int_lt (t.factor *ℤ w) (least_of (products present t))) (λ w. not (is_listed (values_of present t.var) w)) (values_of initial t.var)
+    (λ w m e. member_not_listed (values_of present t.var) w (λ k.
+    absurd (omega (arith, ints, stands_from_test Lt (t.factor *ℤ w) (least_of (products present t)) e, least_product_below present t w k)))))
+beyond_values Above initial present t s is =
+    ap (λ z. filter (λ w. int_lt z (t.factor *ℤ w)) (values_of initial t.var)) is.greatest
+    ∙ sym (filter_both (λ w. int_lt (greatest_of (products present t)) (t.factor *ℤ w)) (λ w. not (is_listed (values_of present t.var) w)) (values_of initial t.var)
+    (λ w m e. member_not_listed (values_of present t.var) w (λ k.
+    absurd (omega (arith, ints, stands_from_test Lt (greatest_of (products present t)) (t.factor *ℤ w) e, greatest_product_above present t w k)))))
+
+pub beyond_by : (side : Side) (initial present : Domains) (terms : List Term) (x : ℕ) → pairs_by (λ t. values_beyond side initial present t) terms x ≡ beyond_reason side initial present terms x
+beyond_by Below initial present terms x = refl
+beyond_by Above initial present terms x = refl
+
+-- the variable of a term has some value
+pub term_filled : (d : Domains) (terms : List Term) (i : ℕ) (t : Term) → AreFilled d (term_vars terms) → i < length terms → t ≡ get_or terms i t → 0 < length (values_of d t.var)
+term_filled d terms i t h lt e =
+    All-contains (λ y. 0 < length (values_of d y)) (term_vars terms) t.var h
+    (member_map (λ (u : Term). u.var) terms t (member_same terms (get_or terms i t) t (sym e) (Contains-get_or terms i t lt)))

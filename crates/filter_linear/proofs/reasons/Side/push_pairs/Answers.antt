@@ -1,0 +1,46 @@
+use Rattle.std.proofs.Common.{◌++◌, ◌<◌, List, length, get_or, not, eqb, ap, sym, ◌∙◌}
+use Rattle.std.proofs.lemmas.List.{take_all}
+use Rattle.palm_domain.specs.Rows.{initial_of, present_of}
+use Rattle.palm_model.specs.Reason.{pairs_of}
+use Rattle.palm_model.specs.declared.constraint.Term.{Term}
+use Rattle.palm_model.proofs.Sums.{term_declared}
+use Rattle.filter_linear.specs.Linear.{values_beyond}
+use Rattle.filter_linear.proofs.SumReasons.{pairs_by, kept_more, kept_same}
+use Rattle.filter_linear.proofs.Walks.{beyond_by, term_filled}
+use Rattle.filter_linear.proofs.reasons.Side.push_pairs.Goals as goal
+use Rattle.filter_linear.proofs.reasons.Side.push_pairs.Goals.{then-ne+in_ok-push_values, else-ne}
+
+pub push_values-requires-clause-declared : goal.push_values-requires-clause-declared
+push_values-requires-clause-declared c =
+    let terms = c.args.sum.now.terms in
+    let e = c.as_slice-term-items.ensures in
+    let lt : c.loop-term.term-index < length terms = rw e at c.loop-term-test.true in
+    term_declared (length c.args.store.now) terms c.loop-term.term-index c.term-item.result c.requires.formed.declared lt
+    (c.term-item.is ∙ ap (λ (ts : List Term). get_or ts c.loop-term.term-index c.term-item.result) e)
+
+pub push_values-requires-clause-filled : goal.push_values-requires-clause-filled
+push_values-requires-clause-filled c =
+    let terms = c.args.sum.now.terms in
+    let e = c.as_slice-term-items.ensures in
+    let lt : c.loop-term.term-index < length terms = rw e at c.loop-term-test.true in
+    term_filled (present_of c.args.store.now) terms c.loop-term.term-index c.term-item.result c.requires.filled lt
+    (c.term-item.is ∙ ap (λ (ts : List Term). get_or ts c.loop-term.term-index c.term-item.result) e)
+
+pub loop-term-preserved : goal.loop-term-preserved
+loop-term-preserved c = elim c.if-ne.branch [
+  | then-ne+in_ok-push_values w ↦
+      kept_more (λ (t : Term). pairs_of t.var (values_beyond c.args.self (initial_of c.args.store.now) (present_of c.args.store.now) t)) (λ (t : Term). not (eqb t.var c.args.pair.now.var)) c.as_slice-term-items.result.now c.loop-term.term-index c.term-item.result
+      c.args.out.now.items c.loop-term.out.items c.if-ne.out.items
+      c.loop-term-test.true c.term-item.is (sym w.if-ne.ensures) c.loop-term.invariant (ap (λ o. o.items) w.out-is ∙ w.in_ok-push_values.ensures)
+  | else-ne w ↦
+      kept_same (λ (t : Term). pairs_of t.var (values_beyond c.args.self (initial_of c.args.store.now) (present_of c.args.store.now) t)) (λ (t : Term). not (eqb t.var c.args.pair.now.var)) c.as_slice-term-items.result.now c.loop-term.term-index c.term-item.result
+      c.args.out.now.items c.loop-term.out.items c.if-ne.out.items
+      c.loop-term-test.true c.term-item.is (sym w.if-ne.ensures) c.loop-term.invariant (ap (λ o. o.items) w.out-is)
+]
+
+pub returns : goal.returns
+returns c =
+    c.loop-term.invariant
+    ∙ ap (λ ps. c.args.out.now.items ++ ps)
+    (ap (λ (ts : List Term). pairs_by (λ t. values_beyond c.args.self (initial_of c.args.store.now) (present_of c.args.store.now) t) ts c.args.pair.now.var) (take_all c.loop-term.term-index c.as_slice-term-items.result.now c.loop-term-test.false ∙ c.as_slice-term-items.ensures)
+    ∙ beyond_by c.args.self (initial_of c.args.store.now) (present_of c.args.store.now) c.args.sum.now.terms c.args.pair.now.var)

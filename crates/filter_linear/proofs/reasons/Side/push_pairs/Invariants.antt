@@ -1,0 +1,9 @@
+use Rattle.std.proofs.Common.{◌≡◌, ◌++◌, take}
+use Rattle.palm_domain.specs.Rows.{initial_of, present_of}
+use Rattle.filter_linear.specs.Linear.{values_beyond}
+use Rattle.filter_linear.proofs.SumReasons.{pairs_by}
+use Rattle.filter_linear.proofs.reasons.Side.push_pairs.Given as goal
+
+-- the pairs of the terms so far were added
+abbrev pub invariant-loop-term : goal.invariant-loop-term
+invariant-loop-term l = l.out.items ≡ l.initial.out.items ++ pairs_by (λ t. values_beyond l.self (initial_of l.store) (present_of l.store) t) (take l.term-index l.term-items) l.pair.var

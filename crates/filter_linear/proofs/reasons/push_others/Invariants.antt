@@ -1,0 +1,9 @@
+use Rattle.std.proofs.Common.{◌≡◌, ◌++◌, take}
+use Rattle.palm_domain.specs.Rows.{initial_of, present_of}
+use Rattle.palm_model.specs.Reason.{removed_values}
+use Rattle.filter_linear.proofs.SumReasons.{pairs_by}
+use Rattle.filter_linear.proofs.reasons.push_others.Given as goal
+
+-- the pairs of the terms so far were added
+abbrev pub invariant-loop-term : goal.invariant-loop-term
+invariant-loop-term l = l.out.items ≡ l.initial.out.items ++ pairs_by (λ t. removed_values (initial_of l.store) (present_of l.store) t.var) (take l.term-index l.term-items) l.pair.var

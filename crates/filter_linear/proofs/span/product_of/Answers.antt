@@ -1,0 +1,11 @@
+use Rattle.std.proofs.Common.{◌∙◌, sym, subst}
+use Rattle.palm_model.specs.Constraint.{IsUpTo}
+use Rattle.palm_model.proofs.Sums.{product_read, round_factor, product_up_to}
+use Rattle.filter_linear.proofs.span.product_of.Goals as goal
+
+pub returns-clause-small : goal.returns-clause-small
+returns-clause-small c =
+    let f = c.args.term.now.factor in
+    let v = c.args.value.now in
+    let e = product_read c.from.result c.number_of.result f v (c.from.ensures ∙ round_factor f c.requires.1) c.number_of.ensures.same c.requires.1 c.number_of.ensures.fits in
+    subst (λ z. IsUpTo 214748364800000 z) (sym e) (product_up_to f v c.requires.1 c.number_of.ensures.fits)

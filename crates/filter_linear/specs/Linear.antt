@@ -1,0 +1,100 @@
+-- The constraint of a sum: what it can be at least and at most where one variable has its value, and the removed values
+-- beyond the present ones.
+use Rattle.std.specs.Prelude.{◌≡◌, ℕ, ℤ, pos, ◌+ℤ◌, ◌*ℤ◌, ◌<◌, ◌<ℤ◌, ◌≤ℤ◌, Bool, List, [], ◌∷◌, All, length, nat_eq, int_lt, if◌then◌else◌, ⊤}
+use Rattle.palm_base.specs.declared.terms.Pair.{Pair}
+use Rattle.palm_model.specs.Constraint.{IsUpTo}
+use Rattle.palm_model.specs.Domains.{Domains, values_of}
+use Rattle.palm_model.specs.Reason.{least_of, greatest_of, products, least_total, values_below, values_above, at_most_reason, at_least_reason}
+use Rattle.palm_model.specs.declared.constraint.Con.{Con}
+use Rattle.palm_model.specs.declared.constraint.Con.TheVariants.{CompareVar, CompareConst, Linear, Table, Element, Count, Differ}
+use Rattle.palm_model.specs.declared.constraint.Op.{Op}
+use Rattle.palm_model.specs.declared.constraint.Op.TheVariants.{Eq, Ne, Lt, Le, Gt, Ge}
+use Rattle.palm_model.specs.declared.constraint.Term.{Term}
+use Rattle.filter_linear.specs.declared.reasons.Side.{Side}
+use Rattle.filter_linear.specs.declared.reasons.Side.TheVariants.{Below, Above}
+use Rattle.filter_linear.specs.declared.span.Span.{Span}
+use Rattle.filter_linear.specs.declared.sum.Sum.{Sum}
+
+-- a sum
+abbrev pub IsSum : Con → Type 0
+IsSum (CompareVar left op right offset) = ⊥
+IsSum (CompareConst left op value) = ⊥
+IsSum (Linear terms op bound) = ⊤
+IsSum (Table vars rows) = ⊥
+IsSum (Element outcome index entries) = ⊥
+IsSum (Count value vars op target) = ⊥
+IsSum (Differ vars) = ⊥
+
+abbrev pub sum_of : Sum → Con
+sum_of s = Linear s.terms s.op s.bound
+
+-- ---- what a sum can be
+
+-- the least and the greatest that a term can be where x has the value v
+abbrev pub least_share : Domains → ℕ → ℤ → Term → ℤ
+least_share d x v t = if nat_eq t.var x then t.factor *ℤ v else least_of (products d t)
+
+abbrev pub greatest_share : Domains → ℕ → ℤ → Term → ℤ
+greatest_share d x v t = if nat_eq t.var x then t.factor *ℤ v else greatest_of (products d t)
+
+-- the greatest that the sum can be where x has the value v, as `least_total` is the least
+abbrev pub greatest_total : Domains → List Term → ℕ → ℤ → ℤ
+greatest_total d [] x v = pos 0
+greatest_total d (t ∷ ts) x v = greatest_share d x v t +ℤ greatest_total d ts x v
+
+-- a coefficient of the language times a value
+abbrev pub IsProduct : ℤ → Type 0
+IsProduct n = IsUpTo 214748364800000 n
+
+-- what the term can be, and its variable has some value
+pub record IsTermSpan (d : Domains) (t : Term) (s : Span) : Type 0 where
+  pub least : s.least ≡ least_of (products d t)
+  pub greatest : s.greatest ≡ greatest_of (products d t)
+  pub filled : 0 < length (values_of d t.var)
+  pub least_small : IsProduct s.least
+  pub greatest_small : IsProduct s.greatest
+
+-- the term's variable is x or has some value
+abbrev pub IsFilledBeside : Domains → ℕ → Term → Type 0
+IsFilledBeside d x t = (t.var ≡ x → ⊥) → 0 < length (values_of d t.var)
+
+-- what the term can be where x has the value v, and its variable is x or has some value
+pub record IsShare (d : Domains) (x : ℕ) (v : ℤ) (t : Term) (s : Span) : Type 0 where
+  pub least : s.least ≡ least_share d x v t
+  pub greatest : s.greatest ≡ greatest_share d x v t
+  pub filled : IsFilledBeside d x t
+  pub least_small : IsProduct s.least
+  pub greatest_small : IsProduct s.greatest
+
+-- what the sum can be where x has the value v, and every other variable has some value
+pub record IsSpan (d : Domains) (terms : List Term) (x : ℕ) (v : ℤ) (s : Span) : Type 0 where
+  pub least : s.least ≡ least_total d terms x v
+  pub greatest : s.greatest ≡ greatest_total d terms x v
+  pub filled : All (IsFilledBeside d x) terms
+
+-- a sum within the span can stand in the relation to the bound; where it is to be equal, at most and at least each by
+-- itself
+abbrev pub IsMetWithin : Op → ℤ → Span → Type 0
+IsMetWithin Eq bound s = (s.least ≤ℤ bound) × (bound ≤ℤ s.greatest)
+IsMetWithin Ne bound s = s.least ≡ bound → s.greatest ≡ bound → ⊥
+IsMetWithin Lt bound s = s.least <ℤ bound
+IsMetWithin Le bound s = s.least ≤ℤ bound
+IsMetWithin Gt bound s = bound <ℤ s.greatest
+IsMetWithin Ge bound s = bound ≤ℤ s.greatest
+
+-- ---- removed values beyond the present ones
+
+-- whether the number is on this side of the span
+abbrev pub is_beyond : Side → Span → ℤ → Bool
+is_beyond Below s n = int_lt n s.least
+is_beyond Above s n = int_lt s.greatest n
+
+-- the removed values of a term's variable whose products are on this side of those of all present values
+abbrev pub values_beyond : Side → Domains → Domains → Term → List ℤ
+values_beyond Below initial present t = values_below initial present t
+values_beyond Above initial present t = values_above initial present t
+
+-- why the sum cannot be as low or as high as it is to be
+abbrev pub beyond_reason : Side → Domains → Domains → List Term → ℕ → List Pair
+beyond_reason Below initial present terms x = at_most_reason initial present terms x
+beyond_reason Above initial present terms x = at_least_reason initial present terms x

@@ -1,0 +1,14 @@
+//! The filter of sums of variables with coefficients.
+#![tactic(auto)]
+
+pub mod laws;
+pub mod linear;
+pub mod reasons;
+pub mod span;
+pub mod sum;
+
+pub use laws::reasons_of_sums_are_right;
+pub use linear::LinearFilter;
+
+#[cfg(test)]
+mod tests;

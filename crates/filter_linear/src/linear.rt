@@ -1,0 +1,88 @@
+//! The filter of a sum.
+ghost use Rattle.std.specs.Prelude.{◌≡◌, ℕ, IfOk};
+ghost use Rattle.filter_linear.specs.Linear.{IsSum};
+ghost use Rattle.palm_model.specs.Constraint.{IsWellFormed, term_vars};
+
+use crate::reasons::push_reason;
+use crate::span::Span;
+use crate::sum::Sum;
+use palm_base::{NoMemory, Pair, VarList};
+use palm_domain::DomainStore;
+use palm_filter::{Filter, Reasons, whole_or_none};
+use palm_model::{Con, TermList};
+use std::alloc::Global;
+use std::marker::Model;
+
+/// Filters a sum. It asks for support by one pass over the terms, by the ends of the other variables' domains, and
+/// never walks a domain.
+#[derive(Debug, Drop)]
+pub struct LinearFilter {
+    vars: VarList,
+    sum: Sum,
+}
+
+impl Model for LinearFilter {
+    ghost use Rattle.std.specs.Prelude.{◌≡◌, ℕ};
+    ghost use Rattle.filter_linear.specs.Linear.{sum_of};
+    ghost use Rattle.palm_model.specs.Constraint.{IsWellFormed, term_vars};
+    ghost use Rattle.palm_model.specs.declared.constraint.Con.{Con};
+
+    ghost Value = { Con };
+
+    ghost view = { λ f. sum_of f.sum };
+
+    ghost invariant = { λ f. (f.vars ≡ term_vars f.sum.terms) × ((variables : ℕ) × IsWellFormed variables (sum_of f.sum)) };
+}
+
+impl LinearFilter {
+    /// The filter of a sum.
+    pub fn new(alloc: Global, con: &Con) -> Result<LinearFilter, NoMemory>
+        requires formed { (variables : ℕ) × IsWellFormed variables con.now }
+        requires kind { IsSum con.now }
+        ensures { IfOk result (λ filter. filter ≡ con.now) }
+    {
+        match con {
+            Con::Linear { terms, op, bound } => Ok(LinearFilter {
+                vars: variables_of(alloc, terms)?,
+                sum: Sum {
+                    terms: terms.copy()?,
+                    op: *op,
+                    bound: *bound,
+                },
+            }),
+            _ => unreachable!(),
+        }
+    }
+}
+
+/// The variables of the terms, in their order.
+fn variables_of(alloc: Global, terms: &TermList) -> Result<VarList, NoMemory>
+    ensures { IfOk result (λ vars. vars ≡ term_vars terms.now) }
+{
+    let mut vars = VarList::new(alloc);
+    for term in terms.as_slice() {
+        vars.push(term.var)?;
+    }
+    Ok(vars)
+}
+
+impl Filter for LinearFilter {
+    ghost meaning = { λ con. con };
+
+    fn scope(&self) -> &VarList {
+        &self.vars
+    }
+
+    fn supported(&self, store: &DomainStore, pair: Pair) -> bool {
+        match Span::of_sum(self.sum.terms.as_slice(), store, &pair) {
+            Some(span) => self.sum.is_met_within(&span),
+            None => false,
+        }
+    }
+
+    fn reason(&self, store: &DomainStore, pair: Pair, out: &mut Reasons) -> Result<(), NoMemory> {
+        out.clear();
+        let written = push_reason(&self.sum, store, &pair, out);
+        whole_or_none(written, out)
+    }
+}

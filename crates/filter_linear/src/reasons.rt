@@ -1,0 +1,123 @@
+//! Reasons of sums: removed values beyond the present ones, or all removed values.
+ghost use Rattle.std.specs.Prelude.{◌≡◌, ◌*ℤ◌, ◌++◌, ◌<◌, length, OnOk};
+ghost use Rattle.filter_linear.specs.Linear.{beyond_reason, is_beyond, sum_of, values_beyond};
+ghost use Rattle.palm_domain.specs.Rows.{initial_of, present_of};
+ghost use Rattle.palm_model.specs.Constraint.{IsFactor, IsWellFormed, term_vars};
+ghost use Rattle.palm_model.specs.Domains.{values_of};
+ghost use Rattle.palm_model.specs.Reason.{AreFilled, others, pairs_of, removed_pairs, sum_reason};
+
+use crate::span::{Span, product_of};
+use crate::sum::Sum;
+use palm_base::{NoMemory, Pair, Value};
+use palm_domain::DomainStore;
+use palm_filter::{Reasons, push_removed};
+use palm_model::{Op, Term};
+
+/// On which side of the present values others are missing.
+#[derive(Clone, Copy, Debug, PartialEq, Eq)]
+pub enum Side {
+    /// Products below the present ones.
+    Below,
+    /// Products above the present ones.
+    Above,
+}
+
+impl Side {
+    /// Whether the product of the value is on this side of the span.
+    fn is_beyond(self, span: &Span, term: &Term, value: &Value) -> bool
+        requires { IsFactor term.now }
+        ensures { result ≡ is_beyond self span.now (term.now.factor *ℤ value.now) }
+    {
+        let product = product_of(term, value);
+        match self {
+            Side::Below => product < span.least,
+            Side::Above => span.greatest < product,
+        }
+    }
+
+    /// Appends every removed pair of the term's variable whose product is on this side of those of all present values.
+    fn push_values(
+        self,
+        term: &Term,
+        store: &DomainStore,
+        out: &mut Reasons,
+    ) -> Result<(), NoMemory>
+        requires factor { IsFactor term.now }
+        requires declared { term.now.var < length store.now }
+        requires filled { 0 < length (values_of (present_of store.now) term.now.var) }
+        ensures { OnOk result (out.new.items ≡ out.old.items ++ pairs_of term.now.var (values_beyond self (initial_of store.now) (present_of store.now) term.now)) }
+    {
+        let span = match Span::of_term(term, store) {
+            Some(span) => span,
+            None => unreachable!(),
+        };
+        for value in store.initial_values(term.var) {
+            if self.is_beyond(&span, term, value) {
+                out.push(Pair {
+                    var: term.var,
+                    value: *value,
+                })?;
+            }
+        }
+        Ok(())
+    }
+
+    /// Appends these pairs of every variable of the sum but that of the pair.
+    fn push_pairs(
+        self,
+        sum: &Sum,
+        store: &DomainStore,
+        pair: &Pair,
+        out: &mut Reasons,
+    ) -> Result<(), NoMemory>
+        requires formed { IsWellFormed (length store.now) (sum_of sum.now) }
+        requires filled { AreFilled (present_of store.now) (term_vars sum.now.terms) }
+        ensures { OnOk result (out.new.items ≡ out.old.items ++ beyond_reason self (initial_of store.now) (present_of store.now) sum.now.terms pair.now.var) }
+    {
+        for term in sum.terms.as_slice() {
+            if term.var != pair.var {
+                self.push_values(term, store, out)?;
+            }
+        }
+        Ok(())
+    }
+}
+
+/// Appends the removed pairs of every variable of the sum but that of the pair.
+fn push_others(
+    sum: &Sum,
+    store: &DomainStore,
+    pair: &Pair,
+    out: &mut Reasons,
+) -> Result<(), NoMemory>
+    requires formed { IsWellFormed (length store.now) (sum_of sum.now) }
+    ensures { OnOk result (out.new.items ≡ out.old.items ++ removed_pairs (initial_of store.now) (present_of store.now) (others (term_vars sum.now.terms) pair.now.var)) }
+{
+    for term in sum.terms.as_slice() {
+        if term.var != pair.var {
+            push_removed(store, term.var, out)?;
+        }
+    }
+    Ok(())
+}
+
+/// Appends the removed pairs for which the sum does not stand in the relation where the variable has its value.
+pub(crate) fn push_reason(
+    sum: &Sum,
+    store: &DomainStore,
+    pair: &Pair,
+    out: &mut Reasons,
+) -> Result<(), NoMemory>
+    requires formed { IsWellFormed (length store.now) (sum_of sum.now) }
+    requires filled { AreFilled (present_of store.now) (term_vars sum.now.terms) }
+    ensures { OnOk result (out.new.items ≡ out.old.items ++ sum_reason (initial_of store.now) (present_of store.now) sum.now.terms sum.now.op sum.now.bound pair.now.var pair.now.value) }
+{
+    match sum.op {
+        Op::Eq => sum
+            .missing_side(store, pair)
+            .push_pairs(sum, store, pair, out),
+        Op::Ne => push_others(sum, store, pair, out),
+        Op::Lt | Op::Le => Side::Below.push_pairs(sum, store, pair, out),
+        Op::Gt | Op::Ge => Side::Above.push_pairs(sum, store, pair, out),
+    }
+}
