@@ -1,0 +1,84 @@
+//! The filter of a difference.
+ghost use Rattle.std.specs.Prelude.{◌≡◌, ◌++◌, ◌<◌, ℕ, length, All, IfOk, OnOk};
+ghost use Rattle.filter_differ.specs.Others.{IsDiffer};
+ghost use Rattle.palm_domain.specs.Rows.{initial_of, present_of};
+ghost use Rattle.palm_model.specs.Constraint.{IsWellFormed};
+ghost use Rattle.palm_model.specs.Reason.{differ_reason};
+
+use crate::others::{first_lone, leave_room};
+use palm_base::{NoMemory, Pair, Var, VarList};
+use palm_domain::DomainStore;
+use palm_filter::{Filter, Reasons, push_removed, whole_or_none};
+use palm_model::Con;
+use std::alloc::Global;
+use std::marker::Model;
+
+/// Filters a difference. It asks for support in one pass over the other variables, by the ends of their domains.
+#[derive(Debug, Drop)]
+pub struct DifferFilter {
+    vars: VarList,
+}
+
+impl Model for DifferFilter {
+    ghost use Rattle.std.specs.Prelude.{ℕ};
+    ghost use Rattle.palm_model.specs.Constraint.{IsWellFormed};
+    ghost use Rattle.palm_model.specs.declared.constraint.Con.{Con};
+
+    ghost Value = { Con };
+
+    ghost view = { λ f. Con.Differ f.vars };
+
+    ghost invariant = { λ f. (variables : ℕ) × IsWellFormed variables (Con.Differ f.vars) };
+}
+
+/// Appends the removed pairs of the first other variable whose only present value is the pair's.
+fn push_reason(
+    store: &DomainStore,
+    vars: &[Var],
+    pair: &Pair,
+    out: &mut Reasons,
+) -> Result<(), NoMemory>
+    requires { All (λ x. x < length store.now) vars.now }
+    ensures { OnOk result (out.new.items ≡ out.old.items ++ differ_reason (initial_of store.now) (present_of store.now) vars.now pair.now.var pair.now.value) }
+{
+    match first_lone(store, vars, pair) {
+        Some(var) => push_removed(store, var, out),
+        None => Ok(()),
+    }
+}
+
+impl DifferFilter {
+    /// The filter of a difference.
+    pub fn new(alloc: Global, con: &Con) -> Result<DifferFilter, NoMemory>
+        requires formed { (variables : ℕ) × IsWellFormed variables con.now }
+        requires kind { IsDiffer con.now }
+        ensures { IfOk result (λ filter. filter ≡ con.now) }
+    {
+        match con {
+            Con::Differ { vars } => Ok(DifferFilter {
+                vars: VarList::from_slice(alloc, vars.as_slice())?,
+            }),
+            _ => unreachable!(),
+        }
+    }
+}
+
+impl Filter for DifferFilter {
+    ghost meaning = { λ con. con };
+
+    fn scope(&self) -> &VarList {
+        &self.vars
+    }
+
+    fn supported(&self, store: &DomainStore, pair: Pair) -> bool {
+        leave_room(store, self.vars.as_slice(), &pair)
+    }
+
+    fn reason(&self, store: &DomainStore, pair: Pair, out: &mut Reasons) -> Result<(), NoMemory> {
+        out.clear();
+        // The store tells here that present values ascend: so an only value is one without any other.
+        let _ = store.variables();
+        let written = push_reason(store, self.vars.as_slice(), &pair, out);
+        whole_or_none(written, out)
+    }
+}

@@ -1,0 +1,12 @@
+//! The filter of a difference: no two of the variables have one value.
+#![tactic(auto)]
+
+pub mod differ;
+pub mod laws;
+mod others;
+
+pub use differ::DifferFilter;
+pub use laws::reasons_of_differences_are_right;
+
+#[cfg(test)]
+mod tests;

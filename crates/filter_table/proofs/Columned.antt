@@ -1,0 +1,225 @@
+-- Rows, the columns of a table, and the rows that have a value in a column.
+use Rattle.std.proofs.Common.{◌≡◌, ℕ, ◌+◌, ◌<◌, ◌≤◌, ℤ, pos, Bool, true, false, ◌&&◌, cond, List, [], ◌∷◌, length, map, get_or, slice_get, Some, All, Contains, eqb, eq-eqb, ne_eqb, inl, inr, refl, sym, ap, ◌∙◌, subst, arith}
+use Rattle.std.specs.List.{list_any}
+use Rattle.std.proofs.lemmas.Bool.{cases_Bool, cases_lt, both_ways, and_parts}
+use Rattle.std.proofs.lemmas.List.{get_or-map, length-map, get_or_default}
+use Rattle.std.proofs.lemmas.List.Elements.{Contains-get_or}
+use Rattle.std.proofs.lemmas.Option.{slice_get_within, get_or_from_slice_get, slice_get-get_or}
+use Rattle.palm_base.proofs.Members.{member_nil, member_cases, member_single, member_same, member_map, member_unmap, member_get, all_members, map_agree}
+use Rattle.palm_base.specs.declared.terms.Pair.{Pair}
+use Rattle.palm_model.specs.Constraint.{Distinct}
+use Rattle.palm_model.specs.Domains.{Domains, Has, values_of, is_among}
+use Rattle.palm_model.specs.Reason.{is_listed, are_there, first_missing, is_blocked_at, row_pairs}
+use Rattle.palm_model.proofs.Reasons.{listed_member}
+use Rattle.palm_model.proofs.Supports.{any_member, member_any, among_member, member_among}
+use Rattle.filter_table.specs.Columns.{IsIndexed, column_values, gives, row_at}
+use Rattle.filter_table.specs.declared.indexed.IndexedTable.{IndexedTable}
+use Rattle.filter_table.proofs.Entries.{missing_cases}
+
+-- ---- an assignment with the entries of a row
+
+-- the entry of the row in the column of the variable
+abbrev pub entry_of : List ℕ → List ℤ → ℕ → ℤ
+entry_of [] row y = pos 0
+entry_of (x ∷ xs) [] y = pos 0
+entry_of (x ∷ xs) (w ∷ row) y = cond (eqb x y) w (entry_of xs row y)
+
+pub row_is : (vars : List ℕ) (row : List ℤ) → Distinct vars → length row ≡ length vars → row ≡ map (entry_of vars row) vars
+row_is [] [] distinct long = refl
+row_is [] (w ∷ row) distinct long = absurd (omega (arith, long))
+row_is (x ∷ xs) [] distinct long = absurd (omega (arith, long))
+row_is (x ∷ xs) (w ∷ row) distinct long =
+    let first : w ≡ cond (eqb x x) w (entry_of xs row x) = sym (ap (λ b. cond b w (entry_of xs row x)) (eq-eqb x x refl)) in
+    let others : map (entry_of xs row) xs ≡ map (λ y. cond (eqb x y) w (entry_of xs row y)) xs =
+    map_agree (entry_of xs row) (λ y. cond (eqb x y) w (entry_of xs row y)) xs (λ y m. sym (ap (λ b. cond b w (entry_of xs row y)) (ne_eqb x y (λ e. distinct.0 (member_same xs y x (sym e) m))))) in
+    ap (λ ws. w ∷ ws) (row_is xs row distinct.1 (omega (arith, long)) ∙ others) ∙ ap (λ z. z ∷ map (λ y. cond (eqb x y) w (entry_of xs row y)) xs) first
+
+-- the pair of a variable with its value
+abbrev pub given : (ℕ → ℤ) → ℕ → Pair
+given a y = record { var = y; value = a y }
+
+pub entries_of_map : (a : ℕ → ℤ) (vars : List ℕ) → row_pairs vars (map a vars) ≡ map (given a) vars
+entries_of_map a [] = refl
+entries_of_map a (y ∷ ys) = ap (λ ps. given a y ∷ ps) (entries_of_map a ys)
+
+there_each : (d : Domains) (ps : List Pair) → are_there d ps ≡ true → (p : Pair) → Contains ps p → Has d p.var p.value
+there_each d [] h p m = absurd (member_nil p m)
+there_each d (q ∷ ps) h p m =
+    let t = and_parts (is_listed (values_of d q.var) q.value) (are_there d ps) h in
+    elim (member_cases q ps p m) [
+      | inl e ↦ subst (λ (r : Pair). Has d r.var r.value) e (listed_member (values_of d q.var) q.value t.0)
+      | inr k ↦ there_each d ps t.1 p k
+    ]
+
+module _ (vars : List ℕ) (a : ℕ → ℤ) where
+  pub among_gives : (x : ℕ) (v : ℤ) → is_among (row_pairs vars (map a vars)) x v ≡ true → Contains vars x × (a x ≡ v)
+  among_gives x v h =
+      let here : Pair = record { var = x; value = v } in
+      let m = subst (λ ps. Contains ps here) (entries_of_map a vars) (among_member (row_pairs vars (map a vars)) x v h) in
+      let r = member_unmap (given a) vars here m in
+      let e : r.0 ≡ x = ap (λ (p : Pair). p.var) r.2 in
+      (member_same vars r.0 x e r.1, sym (ap a e) ∙ ap (λ (p : Pair). p.value) r.2)
+
+  pub gives_among : (x : ℕ) (v : ℤ) → Contains vars x → a x ≡ v → is_among (row_pairs vars (map a vars)) x v ≡ true
+  gives_among x v m e =
+      let here : ℤ → Pair = λ w. record { var = x; value = w } in
+      member_among (row_pairs vars (map a vars)) x v
+      (subst (λ ps. Contains ps (here v)) (sym (entries_of_map a vars)) (subst (λ w. Contains (map (given a) vars) (here w)) e (member_map (given a) vars x m)))
+
+  pub there_gives : (d : Domains) → are_there d (row_pairs vars (map a vars)) ≡ true → (y : ℕ) → Contains vars y → Has d y (a y)
+  there_gives d h y m =
+      there_each d (row_pairs vars (map a vars)) h (given a y) (subst (λ ps. Contains ps (given a y)) (sym (entries_of_map a vars)) (member_map (given a) vars y m))
+
+  -- an entry of the row is the value of one of the variables
+  pub entry_gives : (p : Pair) → Contains (row_pairs vars (map a vars)) p → Contains vars p.var × (a p.var ≡ p.value)
+  entry_gives p m =
+      let r = member_unmap (given a) vars p (subst (λ ps. Contains ps p) (entries_of_map a vars) m) in
+      let e : r.0 ≡ p.var = ap (λ (q : Pair). q.var) r.2 in
+      (member_same vars r.0 p.var e r.1, sym (ap a e) ∙ ap (λ (q : Pair). q.value) r.2)
+
+  pub gives_there : (d : Domains) → ((y : ℕ) → Contains vars y → Has d y (a y)) → are_there d (row_pairs vars (map a vars)) ≡ true
+  gives_there d each = elim (missing_cases d (row_pairs vars (map a vars))) [
+    | inl r ↦ r.0
+    | inr r ↦ let g = entry_gives r.0 r.2 in absurd (r.3 (subst (λ w. Has d r.0.var w) g.1 (each r.0.var g.0)))
+  ]
+
+-- ---- the rows that have a value in a column
+
+module _ (vars : List ℕ) (rows : List (List ℤ)) (distinct : Distinct vars) (long : All (λ row. length row ≡ length vars) rows) where
+  -- the entry in the column of x
+  column_entry : (c x k : ℕ) → slice_get vars c ≡ Some x → k < length rows → get_or (row_at rows k) c (pos 0) ≡ entry_of vars (row_at rows k) x
+  column_entry c x k at lt =
+      let row = row_at rows k in
+      let a = entry_of vars row in
+      let is = row_is vars row distinct (long k [] lt) in
+      let inside = slice_get_within vars c x at in
+      ap (λ r. get_or r c (pos 0)) is ∙ get_or-map a vars c x (pos 0) inside ∙ ap a (get_or_from_slice_get vars c x x at)
+
+  column_at : (c k : ℕ) → k < length rows → slice_get (column_values rows c) k ≡ Some (get_or (row_at rows k) c (pos 0))
+  column_at c k lt =
+      let entry : List ℤ → ℤ = λ r. get_or r c (pos 0) in
+      slice_get-get_or (map entry rows) k (pos 0) (omega (arith, length-map rows entry)) ∙ ap Some (get_or-map entry rows k [] (pos 0) lt)
+
+  pub column_within : (c k : ℕ) (v : ℤ) → slice_get (column_values rows c) k ≡ Some v → k < length rows
+  column_within c k v h =
+      let entry : List ℤ → ℤ = λ r. get_or r c (pos 0) in
+      let lt = slice_get_within (map entry rows) k v h in omega (arith, length-map rows entry)
+
+  pub column_stands : (c x k : ℕ) (v : ℤ) → slice_get vars c ≡ Some x → slice_get (column_values rows c) k ≡ Some v → is_among (row_pairs vars (row_at rows k)) x v ≡ true
+  column_stands c x k v at h =
+      let lt = column_within c k v h in
+      let row = row_at rows k in
+      let a = entry_of vars row in
+      let same : a x ≡ v = sym (column_entry c x k at lt) ∙ some_same (sym (column_at c k lt) ∙ h) in
+      subst (λ r. is_among (row_pairs vars r) x v ≡ true) (sym (row_is vars row distinct (long k [] lt)))
+      (gives_among vars a x v (member_get vars c x at) same)
+    where
+      some_same : {w u : ℤ} → Some w ≡ Some u → w ≡ u
+      some_same e = cc
+
+  pub column_every : (c x k : ℕ) (v : ℤ) → slice_get vars c ≡ Some x → k < length rows → is_among (row_pairs vars (row_at rows k)) x v ≡ true → slice_get (column_values rows c) k ≡ Some v
+  column_every c x k v at lt h =
+      let row = row_at rows k in
+      let a = entry_of vars row in
+      let g = among_gives vars a x v (subst (λ r. is_among (row_pairs vars r) x v ≡ true) (row_is vars row distinct (long k [] lt)) h) in
+      column_at c k lt ∙ ap Some (column_entry c x k at lt ∙ g.1)
+
+  pub column_none : (x k : ℕ) (v : ℤ) → (Contains vars x → ⊥) → k < length rows → is_among (row_pairs vars (row_at rows k)) x v ≡ true → ⊥
+  column_none x k v n lt h =
+      let row = row_at rows k in
+      n (among_gives vars (entry_of vars row) x v (subst (λ r. is_among (row_pairs vars r) x v ≡ true) (row_is vars row distinct (long k [] lt)) h)).0
+
+-- ---- the places that the index of a column lends
+
+module _ (t : IndexedTable) (indexed : IsIndexed t) (c x : ℕ) (v : ℤ) (at : slice_get t.vars c ≡ Some x) (list : List ℤ) (of_columns : list ≡ get_or t.columns.items c list) (places : List ℕ) where
+  index_is : list ≡ column_values t.rows c
+  index_is = of_columns ∙ indexed.columns.each c list (slice_get_within t.vars c x at)
+
+  pub places_within : ((k : ℕ) → Contains places k → slice_get list k ≡ Some v) → All (λ k. k < length t.rows) places
+  places_within stands = all_members (λ k. k < length t.rows) places (λ k m.
+      column_within t.vars t.rows indexed.distinct indexed.long c k v (subst (λ vs. slice_get vs k ≡ Some v) index_is (stands k m)))
+
+  pub places_stand : ((k : ℕ) → Contains places k → slice_get list k ≡ Some v) → All (λ k. is_among (row_pairs t.vars (row_at t.rows k)) x v ≡ true) places
+  places_stand stands = all_members (λ k. is_among (row_pairs t.vars (row_at t.rows k)) x v ≡ true) places (λ k m.
+      column_stands t.vars t.rows indexed.distinct indexed.long c x k v at (subst (λ vs. slice_get vs k ≡ Some v) index_is (stands k m)))
+
+  pub places_every : ((k : ℕ) → slice_get list k ≡ Some v → Contains places k) → (k : ℕ) → k < length t.rows → is_among (row_pairs t.vars (row_at t.rows k)) x v ≡ true → Contains places k
+  places_every every k lt h =
+      every k (subst (λ vs. slice_get vs k ≡ Some v) (sym index_is) (column_every t.vars t.rows indexed.distinct indexed.long c x k v at lt h))
+
+-- ---- some row
+
+pub some_row : (p : List ℤ → Bool) (rows : List (List ℤ)) (k : ℕ) → k < length rows → p (row_at rows k) ≡ true → true ≡ list_any p rows
+some_row p rows k lt h = sym (member_any p rows (row_at rows k) (Contains-get_or rows k [] lt) h)
+
+-- every row that passes the test is at one of the places, and no row at these places passes it
+pub no_row : (p : List ℤ → Bool) (rows : List (List ℤ)) (places : List ℕ) → ((k : ℕ) → k < length rows → p (row_at rows k) ≡ true → Contains places k) → ((j d : ℕ) → j < length places → p (row_at rows (get_or places j d)) ≡ true → ⊥) → false ≡ list_any p rows
+no_row p rows places every none = elim (cases_Bool (list_any p rows)) [
+  | inl t ↦
+      let r = any_member p rows t in
+      let k = r.1.0 in
+      let at : row_at rows k ≡ r.0 = get_or_default rows k [] r.0 r.1.1 ∙ r.1.2 in
+      let m = every k r.1.1 (ap p at ∙ r.2) in
+      absurd (none m.0 k m.1 (ap (λ i. p (row_at rows i)) m.2 ∙ ap p at ∙ r.2))
+  | inr f ↦ sym f
+]
+
+-- ---- the first entry that is not present is an entry
+
+-- what is known of a row that is blocked at y and w
+pub record IsBlocked (initial present : Domains) (vars : List ℕ) (x : ℕ) (v : ℤ) (y : ℕ) (w : ℤ) (row : List ℤ) : Type 0 where
+  pub has : is_among (row_pairs vars row) x v ≡ true
+  pub declared : are_there initial (row_pairs vars row) ≡ true
+  pub first : is_among (first_missing present (row_pairs vars row)) y w ≡ true
+
+pub blocked_parts : (initial present : Domains) (vars : List ℕ) (x : ℕ) (v : ℤ) (y : ℕ) (w : ℤ) (row : List ℤ) → is_blocked_at initial present vars x v y w row ≡ true → IsBlocked initial present vars x v y w row
+blocked_parts initial present vars x v y w row h =
+    let ps = row_pairs vars row in
+    let t = and_parts (is_among ps x v && are_there initial ps) (is_among (first_missing present ps) y w) h in
+    let u = and_parts (is_among ps x v) (are_there initial ps) t.0 in
+    record { has = u.0; declared = u.1; first = t.1 }
+
+pub missing_entry : (d : Domains) (ps : List Pair) (y : ℕ) (w : ℤ) → is_among (first_missing d ps) y w ≡ true → Contains ps (record { var = y; value = w }) × (Has d y w → ⊥)
+missing_entry d ps y w h =
+    let here : Pair = record { var = y; value = w } in
+    let m = among_member (first_missing d ps) y w h in
+    elim (missing_cases d ps) [
+      | inl r ↦ absurd (member_nil here (subst (λ qs. Contains qs here) r.1 m))
+      | inr r ↦
+          let e = member_single r.0 here (subst (λ qs. Contains qs here) r.1 m) in
+          (member_same ps r.0 here e r.2, subst (λ (p : Pair). Has d p.var p.value → ⊥) e r.3)
+    ]
+
+blocked_entry : (initial present : Domains) (vars : List ℕ) (x : ℕ) (v : ℤ) (y : ℕ) (w : ℤ) (row : List ℤ) → is_blocked_at initial present vars x v y w row ≡ true → is_among (row_pairs vars row) y w ≡ true
+blocked_entry initial present vars x v y w row h =
+    member_among (row_pairs vars row) y w (missing_entry present (row_pairs vars row) y w (blocked_parts initial present vars x v y w row h).first).0
+
+-- ---- the rows that are looked at
+
+module _ (vars : List ℕ) (rows : List (List ℤ)) (places : List ℕ) (x : ℕ) (v : ℤ)
+    (every : (k : ℕ) → k < length rows → is_among (row_pairs vars (row_at rows k)) x v ≡ true → Contains places k) where
+  -- every row that is looked at has an entry that is not present
+  pub none_gives : (present : Domains) → ((j d : ℕ) → j < length places → are_there present (row_pairs vars (row_at rows (get_or places j d))) ≡ false) → false ≡ list_any (gives present vars x v) rows
+  none_gives present missing =
+      no_row (gives present vars x v) rows places
+      (λ k lt h. every k lt (and_parts (is_among (row_pairs vars (row_at rows k)) x v) (are_there present (row_pairs vars (row_at rows k))) h).0)
+      (λ j d lt h.
+      let row = row_at rows (get_or places j d) in
+      both_ways (are_there present (row_pairs vars row)) (missing j d lt) (and_parts (is_among (row_pairs vars row) x v) (are_there present (row_pairs vars row)) h).1)
+
+  -- no row that is looked at is blocked at x and v
+  pub none_blocked : (initial present : Domains) (z : ℕ) (u : ℤ) → ((j d : ℕ) → j < length places → is_blocked_at initial present vars z u x v (row_at rows (get_or places j d)) ≡ false) → false ≡ list_any (is_blocked_at initial present vars z u x v) rows
+  none_blocked initial present z u not_blocked =
+      no_row (is_blocked_at initial present vars z u x v) rows places
+      (λ k lt h. every k lt (blocked_entry initial present vars z u x v (row_at rows k) h))
+      (λ j d lt h. both_ways (is_blocked_at initial present vars z u x v (row_at rows (get_or places j d))) (not_blocked j d lt) h)
+
+-- one more row that does not pass a test
+pub no_row_more : (p : List ℤ → Bool) (rows : List (List ℤ)) (places : List ℕ) (i : ℕ) (row : List ℤ) (e : ℕ) → i < length places → row ≡ row_at rows (get_or places i e) → p row ≡ false → ((k d : ℕ) → 0 ≤ k → k < i → p (row_at rows (get_or places k d)) ≡ false) → (k d : ℕ) → 0 ≤ k → k < i + 1 → p (row_at rows (get_or places k d)) ≡ false
+no_row_more p rows places i row e lt at fails before k d low below = elim (cases_lt k i) [
+  | inl l ↦ before k d low l
+  | inr ge ↦
+      let here : k ≡ i = omega arith in
+      let same : get_or places k d ≡ get_or places i e = ap (λ z. get_or places z d) here ∙ get_or_default places i d e lt in
+      ap (λ j. p (row_at rows j)) same ∙ ap p (sym at) ∙ fails
+]

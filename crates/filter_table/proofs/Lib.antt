@@ -1,0 +1,4 @@
+pub mod Entries
+pub mod Columned
+pub mod Blocking
+pub mod Supporting

@@ -1,0 +1,18 @@
+use Rattle.std.proofs.Common.{arith, sym, ap, ◌∙◌}
+use Rattle.palm_domain.specs.Rows.{initial_of, present_of}
+use Rattle.palm_model.specs.Reason.{is_blocked_at}
+use Rattle.filter_table.proofs.Columned.{none_blocked, no_row_more}
+use Rattle.filter_table.proofs.indexed.IndexedTable.is_blocking.Goals as goal
+
+pub loop-place-preserved : goal.loop-place-preserved
+loop-place-preserved c =
+    let test = is_blocked_at (initial_of c.args.store.now) (present_of c.args.store.now) c.args.self.now.vars c.args.pair.now.var c.args.pair.now.value c.args.at.now.var c.args.at.now.value in
+    no_row_more test c.args.self.now.rows c.places-place-items.result.now c.loop-place.place-index c.row.result.now _ c.loop-place-test.true c.row.ensures
+    (ap (λ vars. is_blocked_at (initial_of c.args.store.now) (present_of c.args.store.now) vars c.args.pair.now.var c.args.pair.now.value c.args.at.now.var c.args.at.now.value c.row.result.now) (sym c.as_slice.ensures)
+    ∙ sym c.is_blocked_at.ensures ∙ c.if-is_blocked_at.false)
+    c.loop-place.invariant
+
+pub returns : goal.returns
+returns c =
+    none_blocked c.args.self.now.vars c.args.self.now.rows c.places-place-items.result.now c.args.at.now.var c.args.at.now.value c.places-place-items.ensures.every
+    (initial_of c.args.store.now) (present_of c.args.store.now) c.args.pair.now.var c.args.pair.now.value (λ j d lt. c.loop-place.invariant j d (omega arith) (omega arith))

@@ -1,0 +1,13 @@
+//! The filter of a table: the values of the variables are one of the rows.
+#![tactic(auto)]
+
+mod indexed;
+pub mod laws;
+mod row;
+pub mod table;
+
+pub use laws::reasons_of_tables_are_right;
+pub use table::TableFilter;
+
+#[cfg(test)]
+mod tests;
