@@ -1,0 +1,273 @@
+-- Support and reasons of elements of a list.
+use Rattle.std.proofs.Common.{◌≡◌, ℕ, zero, suc, ℤ, pos, negsuc, ◌+◌, ◌<◌, ◌≤◌, ◌<ℤ◌, true, cond, List, [], ◌∷◌, ◌++◌, length, Contains, slice_get, Option, Some, eq-eqb, ne_eqb, ◌⊎◌, inl, inr, refl, sym, ap, ◌∙◌, subst, arith, get_or, append-nil}
+use Rattle.std.proofs.lemmas.Int.{ints}
+use Rattle.std.proofs.lemmas.Bool.{false≢true}
+use Rattle.std.proofs.lemmas.Bool.Decides.{Decides-int_eq}
+use Rattle.std.specs.List.{AllWithin}
+use Rattle.std.proofs.lemmas.List.{get_or_default}
+use Rattle.std.proofs.lemmas.List.Elements.{All-nil, All-contains, AllWithin-more}
+use Rattle.std.proofs.lemmas.Option.{same_Some, slice_get_within}
+use Rattle.palm_base.proofs.Members.{member_nil, member_here, member_there, member_cases, member_single, member_same, filter_member, member_filter, nat_known}
+use Rattle.palm_base.specs.declared.terms.Pair.{Pair}
+use Rattle.palm_model.specs.Domains.{Domains, Has, Ascends, AllAscend, values_of, without}
+use Rattle.palm_model.specs.Constraint.{scope, Distinct, IsWellFormed}
+use Rattle.palm_model.specs.Part.{scope_of}
+use Rattle.palm_model.specs.Support.{HasSupport, IsSupported, LacksSupport}
+use Rattle.palm_model.specs.Reason.{entry_at, yields, is_entry, indices_of, outcomes_at, pairs_of, element_reason, reason, IsReason, WantsReason}
+use Rattle.palm_model.specs.declared.constraint.Con.{Con}
+use Rattle.palm_model.specs.declared.constraint.Con.TheVariants.{CompareVar, CompareConst, Linear, Table, Element, Count, Differ}
+use Rattle.palm_model.specs.declared.part.Part.{Part}
+use Rattle.palm_model.specs.declared.part.Part.TheVariants.{EntryChosen}
+use Rattle.palm_model.proofs.Ascending.{ascends_at, ascends_filter, ascending_same}
+use Rattle.palm_model.proofs.Reasons.{pairs_member, member_pairs}
+use Rattle.palm_model.proofs.Supports.{supported_by_part, lacking_by_part, part_unsupported, two_first, two_second, support_by_two, without_has}
+use Rattle.filter_element.specs.Entry.{IsElement, element_of, IsReached, IsOpen}
+use Rattle.filter_element.specs.declared.entry.EntryChoice.{EntryChoice}
+
+-- ---- entries by their indices
+
+-- the place of an entry
+place_of : (entries : List ℤ) (k w : ℤ) → entry_at entries k ≡ Some w → (place : ℕ) × (k ≡ pos (place + 1)) × (slice_get entries place ≡ Some w)
+place_of entries (pos zero) w e = cc
+place_of entries (pos (suc n)) w e = (n, omega (arith, ints), e)
+place_of entries (negsuc n) w e = cc
+
+entry_of : (entries : List ℤ) (place : ℕ) (w : ℤ) → slice_get entries place ≡ Some w → entry_at entries (pos (place + 1)) ≡ Some w
+entry_of entries place w e = let n : suc place ≡ place + 1 = omega arith in subst (λ m. entry_at entries (pos m) ≡ Some w) n e
+
+entry_test : (o : Option ℤ) (w : ℤ) → yields o w ≡ true → o ≡ Some w
+entry_test Option.None w t = absurd (false≢true t)
+entry_test (Some v) w t = ap Some ((Decides-int_eq v w).0 t)
+
+test_entry : (o : Option ℤ) (w : ℤ) → o ≡ Some w → yields o w ≡ true
+test_entry o w e = ap (λ p. yields p w) e ∙ (Decides-int_eq w w).1 refl
+
+-- ---- support
+
+module _ (c : EntryChoice) where
+  abbrev part : Part
+  part = EntryChosen c.outcome c.index c.entries
+
+  -- the two variables
+  abbrev both : List ℕ
+  both = c.outcome ∷ c.index ∷ []
+
+  of_two : (z : ℕ) → Contains both z → (c.outcome ≡ z) ⊎ (c.index ≡ z)
+  of_two z m = elim (member_cases c.outcome (c.index ∷ []) z m) [ inl e ↦ inl e | inr k ↦ inr (member_single c.index z k) ]
+
+  apart : Distinct both → c.outcome ≡ c.index → ⊥
+  apart distinct e = distinct.0 (member_same (c.index ∷ []) c.index c.outcome (sym e) (member_here c.index []))
+
+  pub outcome_support : (d : Domains) (w : ℤ) → Distinct both → Has d c.outcome w → IsReached d c w → HasSupport d part c.outcome w
+  outcome_support d w distinct has r =
+      let k = pos (r.place + 1) in
+      let ne : c.index ≡ c.outcome → ⊥ = λ e. apart distinct (sym e) in
+      support_by_two d part c.outcome w c.index k ne of_two has r.index
+      (r.place, two_second c.outcome w c.index k ne, r.stands ∙ ap Some (sym (two_first c.outcome w c.index k)))
+
+  pub index_support : (d : Domains) (k : ℤ) → Distinct both → Has d c.index k → IsOpen d c k → HasSupport d part c.index k
+  index_support d k distinct has r =
+      let s = place_of c.entries k r.entry r.stands in
+      support_by_two d part c.index k c.outcome r.entry (apart distinct) (λ z m. elim (of_two z m) [ inl e ↦ inr e | inr e ↦ inl e ]) has r.outcome
+      (s.0, two_first c.index k c.outcome r.entry ∙ s.1, s.2 ∙ ap Some (sym (two_second c.index k c.outcome r.entry (apart distinct))))
+
+  pub support_outcome : (d : Domains) (w : ℤ) → HasSupport d part c.outcome w → IsReached d c w
+  support_outcome d w s = record {
+    place = s.holds.0;
+    stands = s.holds.2 ∙ ap Some s.gives;
+    index = subst (λ k. Has d c.index k) s.holds.1 (s.within c.index (member_there c.outcome (c.index ∷ []) c.index (member_here c.index [])));
+  }
+
+  pub support_index : (d : Domains) (k : ℤ) → HasSupport d part c.index k → IsOpen d c k
+  support_index d k s = record {
+    entry = s.assignment c.outcome;
+    stands = ap (entry_at c.entries) (sym s.gives ∙ s.holds.1) ∙ entry_of c.entries s.holds.0 (s.assignment c.outcome) s.holds.2;
+    outcome = s.within c.outcome (member_here c.outcome (c.index ∷ []));
+  }
+
+  -- ---- reasons
+
+  pub outcome_reason : (initial : Domains) (x : ℕ) (w : ℤ) → x ≡ c.outcome → element_reason initial c.outcome c.index c.entries x w ≡ pairs_of c.index (indices_of initial c.index c.entries w)
+  outcome_reason initial x w e = ap (λ b. cond b (pairs_of c.index (indices_of initial c.index c.entries w)) (pairs_of c.outcome (outcomes_at initial c.outcome c.entries w))) (eq-eqb x c.outcome e)
+
+  pub index_reason : (initial : Domains) (x : ℕ) (k : ℤ) → (x ≡ c.outcome → ⊥) → element_reason initial c.outcome c.index c.entries x k ≡ pairs_of c.outcome (outcomes_at initial c.outcome c.entries k)
+  index_reason initial x k n = ap (λ b. cond b (pairs_of c.index (indices_of initial c.index c.entries k)) (pairs_of c.outcome (outcomes_at initial c.outcome c.entries k))) (ne_eqb x c.outcome n)
+
+  -- the indices of an outcome: none is present, and without them no index is left
+  outcome_right : (initial present : Domains) (w : ℤ) → Distinct both → Has present c.outcome w → LacksSupport present (element_of c) c.outcome w → IsReason initial present (element_of c) c.outcome w (pairs_of c.index (indices_of initial c.index c.entries w))
+  outcome_right initial present w distinct has lacks =
+      let values = indices_of initial c.index c.entries w in
+      let test = λ (k : ℤ). is_entry c.entries k w in
+      record {
+        removed = λ p m.
+            let r = pairs_member c.index values p m in
+            let s = filter_member test (values_of initial c.index) p.value r.1 in
+            let g = place_of c.entries p.value w (entry_test (entry_at c.entries p.value) w s.1) in (
+              subst (λ z. Has initial z p.value) r.0 s.0,
+              λ h.
+                  part_unsupported present (element_of c) part c.outcome w refl lacks
+                  (outcome_support present w distinct has (record { place = g.0; stands = g.2; index = subst (λ k. Has present c.index k) g.1 (subst (λ z. Has present z p.value) (sym r.0) h) })),
+            );
+        others = λ p m.
+            let r = pairs_member c.index values p m in
+            (member_same both c.index p.var r.0 (member_there c.outcome (c.index ∷ []) c.index (member_here c.index [])), λ e. apart distinct (sym (r.0 ∙ e)));
+        lacks = lacking_by_part (without initial (pairs_of c.index values)) (element_of c) part c.outcome w refl (member_here c.outcome (c.index ∷ [])) (λ s.
+            let q = support_outcome (without initial (pairs_of c.index values)) w s in
+            let k = pos (q.place + 1) in
+            let r = without_has initial (pairs_of c.index values) c.index k q.index in
+            r.1 (member_pairs c.index values k (member_filter test (values_of initial c.index) k r.0 (test_entry (entry_at c.entries k) w (entry_of c.entries q.place w q.stands)))));
+      }
+
+  -- the outcome of an index: it is not present, and without it no outcome is left
+  index_right : (initial present : Domains) (k : ℤ) → Distinct both → Has present c.index k → LacksSupport present (element_of c) c.index k → IsReason initial present (element_of c) c.index k (pairs_of c.outcome (outcomes_at initial c.outcome c.entries k))
+  index_right initial present k distinct has lacks =
+      let values = outcomes_at initial c.outcome c.entries k in
+      let test = λ (w : ℤ). is_entry c.entries k w in
+      record {
+        removed = λ p m.
+            let r = pairs_member c.outcome values p m in
+            let s = filter_member test (values_of initial c.outcome) p.value r.1 in (
+              subst (λ z. Has initial z p.value) r.0 s.0,
+              λ h.
+                  part_unsupported present (element_of c) part c.index k refl lacks
+                  (index_support present k distinct has (record { entry = p.value; stands = entry_test (entry_at c.entries k) p.value s.1; outcome = subst (λ z. Has present z p.value) (sym r.0) h })),
+            );
+        others = λ p m.
+            let r = pairs_member c.outcome values p m in
+            (member_same both c.outcome p.var r.0 (member_here c.outcome (c.index ∷ [])), λ e. apart distinct (r.0 ∙ e));
+        lacks = lacking_by_part (without initial (pairs_of c.outcome values)) (element_of c) part c.index k refl (member_there c.outcome (c.index ∷ []) c.index (member_here c.index [])) (λ s.
+            let q = support_index (without initial (pairs_of c.outcome values)) k s in
+            let r = without_has initial (pairs_of c.outcome values) c.outcome q.entry q.outcome in
+            r.1 (member_pairs c.outcome values q.entry (member_filter test (values_of initial c.outcome) q.entry r.0 (test_entry (entry_at c.entries k) q.entry q.stands))));
+      }
+
+  pub element_right : (initial present : Domains) (x : ℕ) (v : ℤ) → Distinct both → Has present x v → LacksSupport present (element_of c) x v → IsReason initial present (element_of c) x v (element_reason initial c.outcome c.index c.entries x v)
+  element_right initial present x v distinct has lacks =
+      let over : Contains both x = subst (λ q. Contains (scope_of q) x) (sym (member_single part lacks.part lacks.is_part)) lacks.over in
+      elim (nat_known x c.outcome) [
+        | inl e ↦
+            subst (λ ps. IsReason initial present (element_of c) x v ps) (sym (outcome_reason initial x v e))
+            (subst (λ z. IsReason initial present (element_of c) z v (pairs_of c.index (indices_of initial c.index c.entries v))) (sym e)
+            (outcome_right initial present v distinct (subst (λ z. Has present z v) e has) (subst (λ z. LacksSupport present (element_of c) z v) e lacks)))
+        | inr n ↦
+            let e : c.index ≡ x = elim (of_two x over) [ inl s ↦ absurd (n (sym s)) | inr s ↦ s ] in
+            subst (λ ps. IsReason initial present (element_of c) x v ps) (sym (index_reason initial x v n))
+            (subst (λ z. IsReason initial present (element_of c) z v (pairs_of c.outcome (outcomes_at initial c.outcome c.entries v))) e
+            (index_right initial present v distinct (subst (λ z. Has present z v) (sym e) has) (subst (λ z. LacksSupport present (element_of c) z v) (sym e) lacks)))
+      ]
+
+pub elements_right : (initial present : Domains) (k : Con) (x : ℕ) (v : ℤ) → IsElement k → WantsReason initial present k x v → IsReason initial present k x v (reason initial present k x v)
+elements_right initial present (CompareVar left op right offset) x v is w = absurd is
+elements_right initial present (CompareConst left op value) x v is w = absurd is
+elements_right initial present (Linear terms op bound) x v is w = absurd is
+elements_right initial present (Table vars rows) x v is w = absurd is
+elements_right initial present (Element outcome index entries) x v is w =
+    element_right (record { outcome = outcome; index = index; entries = entries }) initial present x v w.formed.distinct w.present_value w.lacks
+elements_right initial present (Count value vars op target) x v is w = absurd is
+elements_right initial present (Differ vars) x v is w = absurd is
+
+-- ---- the outcome of an index, among declared values
+
+module _ (initial : Domains) (up : AllAscend initial) (outcome : ℕ) (entries : List ℤ) (k : ℤ) where
+  kept_member : (w : ℤ) → Contains (outcomes_at initial outcome entries k) w → Has initial outcome w × (entry_at entries k ≡ Some w)
+  kept_member w m =
+      let r = filter_member (λ u. is_entry entries k u) (values_of initial outcome) w m in
+      (r.0, entry_test (entry_at entries k) w r.1)
+
+  kept_ascends : Ascends (outcomes_at initial outcome entries k)
+  kept_ascends = ascends_filter (λ u. is_entry entries k u) (values_of initial outcome) (ascends_at initial outcome up)
+
+  pub declared_outcomes : (u : ℤ) → entry_at entries k ≡ Some u → Has initial outcome u → outcomes_at initial outcome entries k ≡ u ∷ []
+  declared_outcomes u at has =
+      ascending_same (outcomes_at initial outcome entries k) (u ∷ []) kept_ascends (All-nil (λ w. u <ℤ w), tt)
+      (λ w m. member_same (u ∷ []) u w (same_Some u w (sym at ∙ (kept_member w m).1)) (member_here u []))
+      (λ w m. member_same (outcomes_at initial outcome entries k) u w (member_single u w m)
+      (member_filter (λ z. is_entry entries k z) (values_of initial outcome) u has (test_entry (entry_at entries k) u at)))
+
+  pub missing_outcomes : ((w : ℤ) → Has initial outcome w → entry_at entries k ≡ Some w → ⊥) → outcomes_at initial outcome entries k ≡ []
+  missing_outcomes none =
+      ascending_same (outcomes_at initial outcome entries k) [] kept_ascends tt
+      (λ w m. let r = kept_member w m in absurd (none w r.0 r.1)) (λ w m. absurd (member_nil w m))
+
+  pub undeclared_outcomes : (u : ℤ) → entry_at entries k ≡ Some u → (Has initial outcome u → ⊥) → outcomes_at initial outcome entries k ≡ []
+  undeclared_outcomes u at missing = missing_outcomes (λ w has e. missing (member_same (values_of initial outcome) w u (sym (same_Some u w (sym at ∙ e))) has))
+
+-- nothing is written
+pub none_written : (out : List Pair) (y : ℕ) (ws : List ℤ) → ws ≡ [] → out ≡ out ++ pairs_of y ws
+none_written out y ws e = sym (ap (λ vs. out ++ pairs_of y vs) e ∙ append-nil out)
+
+-- ---- a filter's answers, for its meaning m
+
+module _ (c : EntryChoice) (m : Con) (n : ℕ) (is : element_of c ≡ m) (formed : IsWellFormed n m) where
+  own_formed : IsWellFormed n (element_of c)
+  own_formed = subst (λ k. IsWellFormed n k) (sym is) formed
+
+  own_over : (x : ℕ) → Contains (scope m) x → (c.outcome ≡ x) ⊎ (c.index ≡ x)
+  own_over x over = of_two c x (subst (λ k. Contains (scope k) x) (sym is) over)
+
+  index_is : (x : ℕ) → Contains (scope m) x → (x ≡ c.outcome → ⊥) → c.index ≡ x
+  index_is x over n = elim (own_over x over) [ inl e ↦ absurd (n (sym e)) | inr e ↦ e ]
+
+  pub outcome_declared : c.outcome < n
+  outcome_declared = All-contains (λ y. y < n) (c.outcome ∷ c.index ∷ []) c.outcome own_formed.declared (member_here c.outcome (c.index ∷ []))
+
+  pub index_declared : c.index < n
+  index_declared = All-contains (λ y. y < n) (c.outcome ∷ c.index ∷ []) c.index own_formed.declared (member_there c.outcome (c.index ∷ []) c.index (member_here c.index []))
+
+  pub few_entries : length c.entries ≤ 256
+  few_entries = own_formed.shaped.0.1
+
+  module _ (d : Domains) (x : ℕ) (v : ℤ) where
+    pub outcome_supported : x ≡ c.outcome → Has d x v → IsReached d c v → IsSupported d m x v
+    outcome_supported e has r =
+        subst (λ k. IsSupported d k x v) is (subst (λ z. IsSupported d (element_of c) z v) (sym e)
+        (supported_by_part d (element_of c) (EntryChosen c.outcome c.index c.entries) c.outcome v refl
+        (outcome_support c d v own_formed.distinct (subst (λ z. Has d z v) e has) r)))
+
+    pub outcome_lacking : x ≡ c.outcome → (IsReached d c v → ⊥) → LacksSupport d m x v
+    outcome_lacking e none =
+        subst (λ k. LacksSupport d k x v) is (subst (λ z. LacksSupport d (element_of c) z v) (sym e)
+        (lacking_by_part d (element_of c) (EntryChosen c.outcome c.index c.entries) c.outcome v refl (member_here c.outcome (c.index ∷ [])) (λ s. none (support_outcome c d v s))))
+
+    pub index_supported : Contains (scope m) x → (x ≡ c.outcome → ⊥) → Has d x v → IsOpen d c v → IsSupported d m x v
+    index_supported over ne has r =
+        let e = index_is x over ne in
+        subst (λ k. IsSupported d k x v) is (subst (λ z. IsSupported d (element_of c) z v) e
+        (supported_by_part d (element_of c) (EntryChosen c.outcome c.index c.entries) c.index v refl
+        (index_support c d v own_formed.distinct (subst (λ z. Has d z v) (sym e) has) r)))
+
+    pub index_lacking : Contains (scope m) x → (x ≡ c.outcome → ⊥) → (IsOpen d c v → ⊥) → LacksSupport d m x v
+    index_lacking over ne none =
+        let e = index_is x over ne in
+        subst (λ k. LacksSupport d k x v) is (subst (λ z. LacksSupport d (element_of c) z v) e
+        (lacking_by_part d (element_of c) (EntryChosen c.outcome c.index c.entries) c.index v refl (member_there c.outcome (c.index ∷ []) c.index (member_here c.index []))
+        (λ s. none (support_index c d v s))))
+
+  pub gives_reason : (initial present : Domains) (x : ℕ) (v : ℤ) (out : List Pair) → out ≡ element_reason initial c.outcome c.index c.entries x v → out ≡ reason initial present m x v
+  gives_reason initial present x v out e = e ∙ ap (λ k. reason initial present k x v) is
+
+  pub gives_right : (initial present : Domains) (x : ℕ) (v : ℤ) (out : List Pair) → Has present x v → LacksSupport present m x v → out ≡ element_reason initial c.outcome c.index c.entries x v → IsReason initial present m x v out
+  gives_right initial present x v out has lacks e =
+      subst (λ ps. IsReason initial present m x v ps) (sym e)
+      (subst (λ k. IsReason initial present k x v (element_reason initial c.outcome c.index c.entries x v)) is
+      (element_right c initial present x v own_formed.distinct has (subst (λ k. LacksSupport present k x v) (sym is) lacks)))
+
+-- ---- a walk over the places of an outcome
+
+module _ (entries : List ℤ) (w : ℤ) (places : List ℕ) (stands : (k : ℕ) → Contains places k → slice_get entries k ≡ Some w) where
+  place_at : (i : ℕ) → i < length places → slice_get entries (get_or places i 0) ≡ Some w
+  place_at i lt = stands (get_or places i 0) (i, lt, get_or_default places i (get_or places i 0) 0 lt)
+
+  pub place_few : (i : ℕ) → i < length places → length entries ≤ 256 → get_or places i 0 < 256
+  place_few i lt few = let g = slice_get_within entries (get_or places i 0) w (place_at i lt) in omega arith
+
+module _ (d : Domains) (c : EntryChoice) (w : ℤ) (places : List ℕ) (i : ℕ) where
+  pub place_missed : (k : ℤ) → i < length places → k ≡ pos (get_or places i 0 + 1) → (Has d c.index k → ⊥) → AllWithin (λ n. Has d c.index (pos (n + 1)) → ⊥) places 0 i → AllWithin (λ n. Has d c.index (pos (n + 1)) → ⊥) places 0 (i + 1)
+  place_missed k lt e missing before =
+      AllWithin-more (λ n. Has d c.index (pos (n + 1)) → ⊥) places 0 i before
+      (λ z. subst (λ n. Has d c.index (pos (n + 1)) → ⊥) (get_or_default places i 0 z lt) (subst (λ u. Has d c.index u → ⊥) e missing))
+
+  pub all_missed : ((k : ℕ) → slice_get c.entries k ≡ Some w → Contains places k) → length places ≤ i → AllWithin (λ n. Has d c.index (pos (n + 1)) → ⊥) places 0 i → IsReached d c w → ⊥
+  all_missed every le before r =
+      let m = every r.place r.stands in
+      subst (λ n. Has d c.index (pos (n + 1)) → ⊥) m.2 (before m.0 r.place (omega arith) (omega (arith, m.1, le))) r.index

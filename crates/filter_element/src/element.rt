@@ -1,0 +1,80 @@
+//! The filter of an element of a list.
+ghost use Rattle.std.specs.Prelude.{◌≡◌, ℕ, IfOk};
+ghost use Rattle.filter_element.specs.Entry.{IsElement};
+ghost use Rattle.palm_model.specs.Constraint.{IsWellFormed};
+
+use crate::entry::EntryChoice;
+use palm_base::{NoMemory, Pair, VarList};
+use palm_domain::DomainStore;
+use palm_filter::{Filter, Reasons, ValueIndex, whole_or_none};
+use palm_model::Con;
+use std::alloc::Global;
+use std::marker::Model;
+
+/// Filters an element of a list. It finds the places of an outcome, and the entry at an index, without walking the
+/// other entries.
+#[derive(Debug, Drop)]
+pub struct ElementFilter {
+    vars: VarList,
+    choice: EntryChoice,
+}
+
+impl Model for ElementFilter {
+    ghost use Rattle.std.specs.Prelude.{◌≡◌, ℕ};
+    ghost use Rattle.filter_element.specs.Entry.{element_of};
+    ghost use Rattle.palm_model.specs.Constraint.{IsWellFormed, scope};
+    ghost use Rattle.palm_model.specs.declared.constraint.Con.{Con};
+
+    ghost Value = { Con };
+
+    ghost view = { λ f. element_of f.choice };
+
+    ghost invariant = { λ f. (f.vars ≡ scope (element_of f.choice)) × ((variables : ℕ) × IsWellFormed variables (element_of f.choice)) };
+}
+
+impl ElementFilter {
+    /// The filter of an element of a list.
+    pub fn new(alloc: Global, con: &Con) -> Result<ElementFilter, NoMemory>
+        requires formed { (variables : ℕ) × IsWellFormed variables con.now }
+        requires kind { IsElement con.now }
+        ensures { IfOk result (λ filter. filter ≡ con.now) }
+    {
+        match con {
+            Con::Element {
+                outcome,
+                index,
+                entries,
+            } => Ok(ElementFilter {
+                vars: VarList::from_slice(alloc, &[*outcome, *index])?,
+                choice: EntryChoice {
+                    outcome: *outcome,
+                    index: *index,
+                    entries: ValueIndex::new(alloc, entries.as_slice())?,
+                },
+            }),
+            _ => unreachable!(),
+        }
+    }
+}
+
+impl Filter for ElementFilter {
+    ghost meaning = { λ con. con };
+
+    fn scope(&self) -> &VarList {
+        &self.vars
+    }
+
+    fn supported(&self, store: &DomainStore, pair: Pair) -> bool {
+        if pair.var == self.choice.outcome {
+            self.choice.is_reached(store, &pair.value)
+        } else {
+            self.choice.is_open(store, &pair.value)
+        }
+    }
+
+    fn reason(&self, store: &DomainStore, pair: Pair, out: &mut Reasons) -> Result<(), NoMemory> {
+        out.clear();
+        let written = self.choice.push_reason(store, &pair, out);
+        whole_or_none(written, out)
+    }
+}

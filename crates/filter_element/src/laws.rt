@@ -1,0 +1,14 @@
+//! The law of the reasons of elements.
+ghost use Rattle.std.specs.Prelude.{ℕ, ℤ};
+ghost use Rattle.filter_element.specs.Entry.{IsElement};
+ghost use Rattle.palm_model.specs.Domains.{Domains};
+ghost use Rattle.palm_model.specs.Reason.{IsReason, WantsReason, reason};
+ghost use Rattle.palm_model.specs.declared.constraint.Con.{Con};
+
+/// Where a reason of an element is asked for, its pairs are removed ones of the other variable, and the value has no
+/// support within the declared values without them.
+pub fn reasons_of_elements_are_right()
+    ensures { (initial present : Domains) (c : Con) (x : ℕ) (v : ℤ)
+        → IsElement c → WantsReason initial present c x v
+        → IsReason initial present c x v (reason initial present c x v) }
+{}

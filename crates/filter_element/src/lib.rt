@@ -1,0 +1,12 @@
+//! Filters of elements of a list: a variable that is the entry at the index that another variable gives.
+#![tactic(auto)]
+
+pub mod element;
+pub mod entry;
+pub mod laws;
+
+pub use element::ElementFilter;
+pub use laws::reasons_of_elements_are_right;
+
+#[cfg(test)]
+mod tests;

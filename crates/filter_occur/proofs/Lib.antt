@@ -1,0 +1,4 @@
+pub mod Counting
+pub mod Occurrences
+pub mod Reached
+pub mod Written

@@ -1,0 +1,95 @@
+//! How many of some variables have a value: at least so many, and at most so many.
+ghost use Rattle.std.specs.Prelude.{◌≡◌, ◌++◌, ◌-◌, ◌<◌, ◌≤◌, [], ◌∷◌, length, true, false, filter, OnOk};
+ghost use Rattle.filter_occur.specs.Occurrence.{IsReached};
+ghost use Rattle.palm_domain.specs.Rows.{initial_of, present_of};
+ghost use Rattle.palm_model.specs.Domains.{values_of};
+ghost use Rattle.palm_model.specs.Reason.{is_within_counts, pairs_of};
+
+use palm_base::{NoMemory, Pair, Value, Var};
+use palm_domain::DomainStore;
+use palm_filter::Reasons;
+use palm_model::{Op, number_of, stands};
+
+/// Every number from the lower to the higher one is the number of occurrences in some assignment.
+#[derive(Debug, Drop)]
+pub struct Counts {
+    pub low: u32,
+    pub high: u32,
+}
+
+impl Counts {
+    /// Whether one of the numbers stands in the relation to a present value of the variable.
+    pub(crate) fn fits_some(&self, op: Op, store: &DomainStore, target: Var) -> bool
+        requires ordered { self.now.low ≤ self.now.high }
+        requires small { self.now.high ≤ 16 }
+        requires declared { target < length store.now }
+        ensures reached { result ≡ true → IsReached self.now op (values_of (present_of store.now) target) }
+        ensures missed { result ≡ false → IsReached self.now op (values_of (present_of store.now) target) → ⊥ }
+    {
+        if store.count(target) == 0 {
+            return false;
+        }
+        let least = store.least(target);
+        let greatest = store.greatest(target);
+        match op {
+            Op::Eq => self.meets(store, target),
+            Op::Ne => self.fits(op, &least) || self.fits(op, &greatest),
+            Op::Lt | Op::Le => self.fits(op, &greatest),
+            Op::Gt | Op::Ge => self.fits(op, &least),
+        }
+    }
+
+    /// Whether one of the numbers stands in the relation to the value.
+    pub(crate) fn fits(&self, op: Op, value: &Value) -> bool
+        requires { self.now.low ≤ self.now.high }
+        ensures reached { result ≡ true → IsReached self.now op (value.now ∷ []) }
+        ensures missed { result ≡ false → IsReached self.now op (value.now ∷ []) → ⊥ }
+    {
+        let low = i64::from(self.low);
+        let high = i64::from(self.high);
+        let number = number_of(value);
+        match op {
+            Op::Eq => low <= number && number <= high,
+            Op::Ne => low != number || high != number,
+            Op::Lt | Op::Le => stands(op, low, number),
+            Op::Gt | Op::Ge => stands(op, high, number),
+        }
+    }
+
+    /// Whether one of the numbers is a present value of the variable.
+    fn meets(&self, store: &DomainStore, target: Var) -> bool
+        requires ordered { self.now.low ≤ self.now.high }
+        requires small { self.now.high ≤ 16 }
+        requires declared { target < length store.now }
+        ensures reached { result ≡ true → IsReached self.now Op.Eq (values_of (present_of store.now) target) }
+        ensures missed { result ≡ false → IsReached self.now Op.Eq (values_of (present_of store.now) target) → ⊥ }
+    {
+        match store.next_from(target, Value(self.low as i32)) {
+            Some(value) => number_of(&value) <= i64::from(self.high),
+            None => false,
+        }
+    }
+
+    /// Appends every declared pair of the variable to whose value one of the numbers stands in the relation.
+    pub(crate) fn push_fitting(
+        &self,
+        op: Op,
+        store: &DomainStore,
+        target: Var,
+        out: &mut Reasons,
+    ) -> Result<(), NoMemory>
+        requires ordered { self.now.low ≤ self.now.high }
+        requires declared { target < length store.now }
+        ensures { OnOk result (out.new.items ≡ out.old.items ++ pairs_of target (filter (is_within_counts self.now.low (self.now.high - self.now.low) op) (values_of (initial_of store.now) target))) }
+    {
+        for value in store.initial_values(target) {
+            if self.fits(op, value) {
+                out.push(Pair {
+                    var: target,
+                    value: *value,
+                })?;
+            }
+        }
+        Ok(())
+    }
+}
