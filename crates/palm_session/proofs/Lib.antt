@@ -1,10 +1,12 @@
 pub mod Delivering
 pub mod Any
+pub mod Closing
 pub mod Tests
 pub mod Unknown
 pub mod Resolving
 pub mod WellFormed
 pub mod Intervals
+pub mod Presents
 pub mod Actives
 pub mod ReadOnce
 pub mod Deciding

@@ -13,7 +13,6 @@ use Rattle.palm_lang.specs.declared.line.DomainText.TheVariants.{Range, Set}
 use Rattle.palm_lang.specs.declared.line.Line.{Line}
 use Rattle.palm_lang.specs.declared.line.Line.TheVariants.{Comment, Var, Add, Domains as DomainsLine, Domain, List as ListLine, Quit}
 use Rattle.palm_lang.specs.declared.line.Shape.{Shape}
-use Rattle.palm_lang.specs.declared.line.Shape.TheVariants.{CompareVar, CompareConst}
 use Rattle.palm_lang.specs.declared.parse.LineError.{LineError}
 use Rattle.palm_lang.specs.declared.parse.LineError.TheVariants.{Bytes, Form, Range as OutOfRange, Empty, Repeated, NoMemory}
 use Rattle.palm_lang.specs.declared.reply.Fixed.TheVariants.{Done, Contradiction, Bye, End}
@@ -21,17 +20,11 @@ use Rattle.palm_lang.specs.declared.reply.Refusal.{Refusal}
 use Rattle.palm_lang.specs.declared.reply.Refusal.TheVariants.{E1, E2, E3, E4, E5, E6, E7, E8, E9, E10, E11, E12}
 use Rattle.palm_session.specs.State.{SessionState, HasVariable, HasConstraint, AreDomains}
 
--- the constraint's kind is served: comparisons are
-abbrev pub IsBuiltShape : Shape → Type 0
-IsBuiltShape (CompareVar left op right offset) = Unit {0}
-IsBuiltShape (CompareConst left op value) = Unit {0}
-IsBuiltShape _ = ⊥
-
 -- the line's form is served
 abbrev pub IsBuilt : Line → Type 0
 IsBuilt Comment = Unit {0}
 IsBuilt (Var name domain) = Unit {0}
-IsBuilt (Add name shape) = IsBuiltShape shape
+IsBuilt (Add name shape) = Unit {0}
 IsBuilt DomainsLine = Unit {0}
 IsBuilt (Domain name) = Unit {0}
 IsBuilt ListLine = Unit {0}

@@ -1,5 +1,6 @@
 pub mod Answers
 pub mod Feeding
+pub mod Filtering
 pub mod Lines
 pub mod Replies
 pub mod ReplyText

@@ -5,6 +5,7 @@ pub mod answer;
 pub mod deliver;
 pub mod desk;
 pub mod domains;
+pub mod filtering;
 pub mod going;
 pub mod lines;
 pub mod refuse;

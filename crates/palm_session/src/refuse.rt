@@ -1,7 +1,7 @@
 //! Refusals of lines that were read, in the order in which they are looked for.
 ghost use Rattle.std.specs.Prelude.{◌≡◌, ◌≤◌, ◌⊎◌, ◌↔◌, true, false, Any, length, MatchOption, List, ℕ, [], ◌∷◌, ◌++◌, map};
 ghost use Rattle.palm_lang.specs.Limits.{names_of, line_target_names, IsBeyond};
-ghost use Rattle.palm_session.specs.Answers.{IsBuilt, IsBuiltShape, TakesName, NamesNone, HasNoRoom, Meets, IsFirst, IsNone, IsUnknown, in_order, refusal_of};
+ghost use Rattle.palm_session.specs.Answers.{IsBuilt, TakesName, NamesNone, HasNoRoom, Meets, IsFirst, IsNone, IsUnknown, in_order, refusal_of};
 ghost use Rattle.palm_session.specs.State.{SessionState, HasVariable, HasConstraint};
 
 use crate::desk::Desk;
@@ -29,21 +29,13 @@ fn is_built(line: &Line) -> bool
     match line {
         Line::Comment
         | Line::Var { .. }
+        | Line::Add { .. }
         | Line::Domains
         | Line::Domain(_)
         | Line::List
         | Line::Quit => true,
-        Line::Add { name: _, shape } => is_built_shape(shape),
         _ => false,
     }
-}
-
-/// Whether constraints of this kind are served.
-fn is_built_shape(shape: &Shape) -> bool
-    ensures yes_if { result ≡ true → IsBuiltShape shape.now }
-    ensures no_if { result ≡ false → IsBuiltShape shape.now → ⊥ }
-{
-    matches!(shape, Shape::CompareVar { .. } | Shape::CompareConst { .. })
 }
 
 impl Desk {

@@ -1,0 +1,89 @@
+//! The filter of a constraint, whatever its kind.
+ghost use Rattle.std.specs.Prelude.{◌≡◌, ℕ, IfOk};
+ghost use Rattle.palm_kind.specs.Kind.{con_of};
+ghost use Rattle.palm_model.specs.Constraint.{IsWellFormed};
+
+use filter_compare::CompareFilter;
+use filter_differ::DifferFilter;
+use filter_element::ElementFilter;
+use filter_linear::LinearFilter;
+use filter_occur::OccurFilter;
+use filter_table::TableFilter;
+use palm_base::{NoMemory, Pair, VarList};
+use palm_domain::DomainStore;
+use palm_filter::{Filter, Reasons};
+use palm_model::Con;
+use std::alloc::Global;
+
+/// The filter of a constraint of any kind.
+#[derive(Debug, Drop)]
+pub enum Kind {
+    /// A variable compared with another one or with a value.
+    Compare(CompareFilter),
+    /// A sum of variables with coefficients.
+    Linear(LinearFilter),
+    /// A list of the rows that are allowed.
+    Table(TableFilter),
+    /// An entry of a list at a variable index.
+    Element(ElementFilter),
+    /// How many of some variables have a value.
+    Occur(OccurFilter),
+    /// Variables that are pairwise different.
+    Differ(DifferFilter),
+}
+
+impl Kind {
+    /// The filter of a constraint.
+    pub fn from_con(alloc: Global, con: &Con) -> Result<Kind, NoMemory>
+        requires { (variables : ℕ) × IsWellFormed variables con.now }
+        ensures { IfOk result (λ kind. con_of kind ≡ con.now) }
+    {
+        Ok(match con {
+            Con::CompareVar { .. } | Con::CompareConst { .. } => {
+                Kind::Compare(CompareFilter::new(alloc, con)?)
+            }
+            Con::Linear { .. } => Kind::Linear(LinearFilter::new(alloc, con)?),
+            Con::Table { .. } => Kind::Table(TableFilter::new(alloc, con)?),
+            Con::Element { .. } => Kind::Element(ElementFilter::new(alloc, con)?),
+            Con::Count { .. } => Kind::Occur(OccurFilter::new(alloc, con)?),
+            Con::Differ { .. } => Kind::Differ(DifferFilter::new(alloc, con)?),
+        })
+    }
+}
+
+impl Filter for Kind {
+    ghost meaning = { con_of };
+
+    fn scope(&self) -> &VarList {
+        match self {
+            Kind::Compare(filter) => filter.scope(),
+            Kind::Linear(filter) => filter.scope(),
+            Kind::Table(filter) => filter.scope(),
+            Kind::Element(filter) => filter.scope(),
+            Kind::Occur(filter) => filter.scope(),
+            Kind::Differ(filter) => filter.scope(),
+        }
+    }
+
+    fn supported(&self, store: &DomainStore, pair: Pair) -> bool {
+        match self {
+            Kind::Compare(filter) => filter.supported(store, pair),
+            Kind::Linear(filter) => filter.supported(store, pair),
+            Kind::Table(filter) => filter.supported(store, pair),
+            Kind::Element(filter) => filter.supported(store, pair),
+            Kind::Occur(filter) => filter.supported(store, pair),
+            Kind::Differ(filter) => filter.supported(store, pair),
+        }
+    }
+
+    fn reason(&self, store: &DomainStore, pair: Pair, out: &mut Reasons) -> Result<(), NoMemory> {
+        match self {
+            Kind::Compare(filter) => filter.reason(store, pair, out),
+            Kind::Linear(filter) => filter.reason(store, pair, out),
+            Kind::Table(filter) => filter.reason(store, pair, out),
+            Kind::Element(filter) => filter.reason(store, pair, out),
+            Kind::Occur(filter) => filter.reason(store, pair, out),
+            Kind::Differ(filter) => filter.reason(store, pair, out),
+        }
+    }
+}

@@ -1,0 +1,9 @@
+//! The filters of all kinds of constraint as one.
+#![tactic(auto)]
+
+pub mod kind;
+
+pub use kind::Kind;
+
+#[cfg(test)]
+mod tests;
