@@ -168,3 +168,6 @@ fn answer_last<K: Sink>(
         Err(stop) => Err(stop),
     }
 }
+
+#[cfg(test)]
+mod tests;
