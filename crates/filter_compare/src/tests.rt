@@ -7,18 +7,13 @@ ghost use Rattle.palm_model.specs.Domains.{Has};
 use crate::CompareFilter;
 use palm_base::{NoMemory, Pair, Steps, Value, Var};
 use palm_domain::DomainStore;
-use palm_filter::{Filter, ask, reason_of};
+use palm_filter::testing::{is_reason, is_supported, pair, take_out_all};
+use palm_filter::{Filter, ask};
 use palm_model::{Con, Op};
 use std::alloc::Global;
 use std::marker::Brand;
 use std::sync::ledger::{Blank, Ledger};
 use std::test::Fail;
-
-fn pair(var: Var, value: Value) -> Pair
-    ensures { result ≡ record { var = var; value = value } }
-{
-    Pair { var, value }
-}
 
 /// The answer of a question that is counted from nothing.
 fn answer<F: Filter, L: Ledger>(
@@ -36,7 +31,7 @@ fn answer<F: Filter, L: Ledger>(
     requires shared { 0 < L.parts }
 {
     let mut steps = Steps::<L>::start(blank);
-    ask(filter, store, pair(var, value), &mut steps)
+    ask(filter, store, Pair { var, value }, &mut steps)
 }
 
 fn two_variables(alloc: Global) -> Result<DomainStore, NoMemory>
@@ -51,9 +46,7 @@ fn two_variables(alloc: Global) -> Result<DomainStore, NoMemory>
 #[test]
 fn a_reason_is_what_would_fit(rt: HostRuntime) -> Result<(), Fail> {
     let mut store = two_variables(rt.alloc())?;
-    if store.contains(pair(Var(1), Value(3))) {
-        store.take_out(pair(Var(1), Value(3)));
-    }
+    take_out_all(&mut store, &[pair(1, 3)]);
     let con = Con::CompareVar {
         left: Var(0),
         op: Op::Lt,
@@ -61,11 +54,7 @@ fn a_reason_is_what_would_fit(rt: HostRuntime) -> Result<(), Fail> {
         offset: 0,
     };
     let filter = CompareFilter::new(rt.alloc(), &con)?;
-    let out = reason_of(rt.alloc(), &filter, &store, &pair(Var(0), Value(2)))?.expect(
-        &rt,
-        "no support",
-    );
-    assert_eq!(rt; out.as_slice(), [pair(Var(1), Value(3))].as_slice());
+    assert!(rt; is_reason(rt.alloc(), &filter, &store, &pair(0, 2), &[pair(1, 3)])?);
     Ok(())
 }
 
@@ -78,11 +67,7 @@ fn a_comparison_with_a_value_has_no_pairs_as_reason(rt: HostRuntime) -> Result<(
         value: Value(2),
     };
     let filter = CompareFilter::new(rt.alloc(), &con)?;
-    let out = reason_of(rt.alloc(), &filter, &store, &pair(Var(0), Value(1)))?.expect(
-        &rt,
-        "no support",
-    );
-    assert_eq!(rt; out.len(), 0);
+    assert!(rt; is_reason(rt.alloc(), &filter, &store, &pair(0, 1), &[])?);
     assert_eq!(rt; filter.scope().as_slice(), [Var(0)].as_slice());
     Ok(())
 }
@@ -97,13 +82,11 @@ fn a_question_is_counted_and_answered(rt: HostRuntime) -> Result<(), Fail> {
         offset: -2,
     };
     let filter = CompareFilter::new(rt.alloc(), &con)?;
-    if store.contains(pair(Var(0), Value(1))) {
+    if store.contains(pair(0, 1)) {
         assert!(rt;
             answer::<CompareFilter, Brand>(&filter, &store, Var(0), Value(1), Blank::new(1))
         );
     }
-    if store.contains(pair(Var(0), Value(2))) {
-        assert!(rt; !filter.supported(&store, pair(Var(0), Value(2))));
-    }
+    assert!(rt; !is_supported(&filter, &store, &pair(0, 2)));
     Ok(())
 }

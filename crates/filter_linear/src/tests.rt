@@ -7,21 +7,18 @@ ghost use Rattle.palm_model.specs.declared.constraint.Op.TheVariants.{Le};
 use crate::LinearFilter;
 use palm_base::{NoMemory, Pair, Value, Var};
 use palm_domain::DomainStore;
-use palm_filter::{Filter, Reasons, reason_of};
+use palm_filter::reason_of;
+use palm_filter::testing::{is_reason, is_supported, pair, take_out_all};
 use palm_model::{Con, Op, Term, TermList};
 use std::alloc::Global;
 use std::test::Fail;
 
-fn x(value: Value) -> Pair
-    ensures { result ≡ record { var = 0; value = value } }
-{
-    Pair { var: Var(0), value }
+fn x(value: i32) -> Pair {
+    pair(0, value)
 }
 
-fn y(value: Value) -> Pair
-    ensures { result ≡ record { var = 1; value = value } }
-{
-    Pair { var: Var(1), value }
+fn y(value: i32) -> Pair {
+    pair(1, value)
 }
 
 /// The terms of `x + y`.
@@ -55,88 +52,54 @@ fn filter_of(alloc: Global, terms: &[Term], op: Op, bound: &i64) -> Result<Linea
 
 /// Two variables with the values 1 to 3, without these pairs.
 fn store_without(alloc: Global, removed: &[Pair]) -> Result<DomainStore, NoMemory>
-    requires { All (λ p. p.var < 2) removed.now }
     ensures { IfOk result (λ store. length store ≡ 2) }
 {
     let mut store = DomainStore::new(alloc);
     store.add_variable(&[Value(1), Value(2), Value(3)])?;
     store.add_variable(&[Value(1), Value(2), Value(3)])?;
-    for pair in removed {
-        remove(&mut store, pair);
-    }
+    take_out_all(&mut store, removed);
     Ok(store)
 }
 
-fn remove(store: &mut DomainStore, pair: &Pair)
-    requires { pair.now.var < length store.old }
-    ensures { length store.new ≡ length store.old }
-{
-    let Pair { var, value } = *pair;
-    if store.contains(Pair { var, value }) {
-        store.take_out(Pair { var, value });
-    }
-}
-
 /// Whether these pairs are the reason of a pair, where others are removed.
-fn is_reason(
+fn is_reason_without(
     alloc: Global,
     filter: &LinearFilter,
     removed: &[Pair],
     asked: &Pair,
     reason: &[Pair],
 ) -> Result<bool, NoMemory>
-    requires formed { IsWellFormed 2 filter.now }
-    requires over { Contains (scope filter.now) asked.now.var }
-    requires removed { All (λ p. p.var < 2) removed.now }
+    requires { IsWellFormed 2 filter.now }
 {
     let store = store_without(alloc, removed)?;
-    match reason_of(alloc, filter, &store, asked)? {
-        Some(pairs) => Ok(pairs.as_slice() == reason),
-        None => Ok(false),
-    }
-}
-
-/// Whether a pair is present and has support, where others are removed.
-fn is_supported(
-    alloc: Global,
-    filter: &LinearFilter,
-    removed: &[Pair],
-    asked: &Pair,
-) -> Result<bool, NoMemory>
-    requires formed { IsWellFormed 2 filter.now }
-    requires over { Contains (scope filter.now) asked.now.var }
-    requires removed { All (λ p. p.var < 2) removed.now }
-{
-    let store = store_without(alloc, removed)?;
-    let Pair { var, value } = *asked;
-    Ok(store.contains(Pair { var, value }) && filter.supported(&store, Pair { var, value }))
+    is_reason(alloc, filter, &store, asked, reason)
 }
 
 #[test]
 fn a_reason_is_what_would_make_the_sum_right(rt: HostRuntime) -> Result<(), Fail> {
     let alloc = rt.alloc();
-    let low = [y(Value(1))];
-    let high = [y(Value(3))];
-    let both = [y(Value(1)), y(Value(3))];
-    let asked = x(Value(2));
+    let low = [y(1)];
+    let high = [y(3)];
+    let both = [y(1), y(3)];
+    let asked = x(2);
     let at_most = filter_of(alloc, &plain(), Op::Le, &3)?;
-    assert!(rt; is_reason(alloc, &at_most, &low, &asked, &low)?);
+    assert!(rt; is_reason_without(alloc, &at_most, &low, &asked, &low)?);
     let at_least = filter_of(alloc, &plain(), Op::Ge, &5)?;
-    assert!(rt; is_reason(alloc, &at_least, &high, &asked, &high)?);
+    assert!(rt; is_reason_without(alloc, &at_least, &high, &asked, &high)?);
     let other = filter_of(alloc, &plain(), Op::Ne, &4)?;
-    assert!(rt; is_reason(alloc, &other, &both, &asked, &both)?);
+    assert!(rt; is_reason_without(alloc, &other, &both, &asked, &both)?);
     Ok(())
 }
 
 #[test]
 fn an_equal_sum_fails_on_one_side(rt: HostRuntime) -> Result<(), Fail> {
     let alloc = rt.alloc();
-    let both = [y(Value(1)), y(Value(3))];
-    let asked = x(Value(2));
+    let both = [y(1), y(3)];
+    let asked = x(2);
     let three = filter_of(alloc, &plain(), Op::Eq, &3)?;
-    assert!(rt; is_reason(alloc, &three, &both, &asked, &[y(Value(1))])?);
+    assert!(rt; is_reason_without(alloc, &three, &both, &asked, &[y(1)])?);
     let five = filter_of(alloc, &plain(), Op::Eq, &5)?;
-    assert!(rt; is_reason(alloc, &five, &both, &asked, &[y(Value(3))])?);
+    assert!(rt; is_reason_without(alloc, &five, &both, &asked, &[y(3)])?);
     Ok(())
 }
 
@@ -153,25 +116,26 @@ fn a_negative_coefficient_turns_low_and_high_round(rt: HostRuntime) -> Result<()
             var: Var(1),
         },
     ];
-    let both = [y(Value(1)), y(Value(3))];
-    let asked = x(Value(1));
+    let both = [y(1), y(3)];
+    let asked = x(1);
     let at_most = filter_of(alloc, &terms, Op::Le, &-5)?;
-    assert!(rt; is_reason(alloc, &at_most, &both, &asked, &[y(Value(3))])?);
+    assert!(rt; is_reason_without(alloc, &at_most, &both, &asked, &[y(3)])?);
     let at_least = filter_of(alloc, &terms, Op::Ge, &0)?;
-    assert!(rt; is_reason(alloc, &at_least, &both, &asked, &[y(Value(1))])?);
+    assert!(rt; is_reason_without(alloc, &at_least, &both, &asked, &[y(1)])?);
     Ok(())
 }
 
 #[test]
 fn support_looks_at_the_least_and_the_greatest_sum(rt: HostRuntime) -> Result<(), Fail> {
     let alloc = rt.alloc();
-    let asked = x(Value(2));
     let other = filter_of(alloc, &plain(), Op::Ne, &4)?;
-    assert!(rt; is_supported(alloc, &other, &[y(Value(3))], &asked)?);
-    let none = [y(Value(1)), y(Value(2)), y(Value(3))];
-    assert!(rt; !is_supported(alloc, &other, &none, &asked)?);
+    let two = store_without(alloc, &[y(3)])?;
+    assert!(rt; is_supported(&other, &two, &x(2)));
+    let none = store_without(alloc, &[y(1), y(2), y(3)])?;
+    assert!(rt; !is_supported(&other, &none, &x(2)));
     let four = filter_of(alloc, &plain(), Op::Eq, &4)?;
-    assert!(rt; is_supported(alloc, &four, &[y(Value(2))], &asked)?);
+    let gap = store_without(alloc, &[y(2)])?;
+    assert!(rt; is_supported(&four, &gap, &x(2)));
     Ok(())
 }
 
@@ -184,13 +148,7 @@ fn many_variables(alloc: Global) -> Result<DomainStore, NoMemory>
         store.add_variable(&[Value(-1_000_000), Value(1_000_000)])?;
     }
     for number in 1..16 {
-        remove(
-            &mut store,
-            &Pair {
-                var: Var(number),
-                value: Value(-1_000_000),
-            },
-        );
+        take_out_all(&mut store, &[pair(number, -1_000_000)]);
     }
     Ok(store)
 }
@@ -219,9 +177,9 @@ fn the_largest_sums_are_exact(rt: HostRuntime) -> Result<(), Fail> {
         bound: 1_000_000_000_000,
     };
     let filter = LinearFilter::new(rt.alloc(), &con)?;
-    let asked = x(Value(-1_000_000));
+    let asked = pair(0, -1_000_000);
     let reason = reason_of(rt.alloc(), &filter, &store, &asked)?.expect(&rt, "no support");
     assert_eq!(rt; reason.len(), 15);
-    assert_eq!(rt; reason[0], y(Value(-1_000_000)));
+    assert_eq!(rt; reason[0], y(-1_000_000));
     Ok(())
 }

@@ -1,47 +1,39 @@
 //! Support and reasons of numbers of occurrences over small domains: how many of two variables are 1.
 ghost use Rattle.std.specs.Prelude.{◌≡◌, length, IfOk};
-ghost use Rattle.filter_occur.specs.Occurrence.{IsCount};
 ghost use Rattle.palm_model.specs.Constraint.{IsWellFormed};
 
 use crate::OccurFilter;
 use palm_base::{NoMemory, Pair, Value, Var, VarList};
 use palm_domain::DomainStore;
-use palm_filter::{Filter, reason_of};
+use palm_filter::testing::{is_reason, is_supported, pair, take_out_all};
 use palm_model::{Con, Op, Target};
 use std::alloc::Global;
 use std::test::Fail;
 
-fn pair(var: u32, value: i32) -> Pair {
-    Pair {
-        var: Var(var),
-        value: Value(value),
-    }
-}
-
 /// The number of 1 among the first two variables, against a number.
-fn against_number(alloc: Global, op: Op, number: u8) -> Result<Con, NoMemory>
-    ensures formed { IfOk result (IsWellFormed 3) }
-    ensures kind { IfOk result IsCount }
+fn against_number(alloc: Global, op: Op, number: u8) -> Result<OccurFilter, NoMemory>
+    ensures { IfOk result (IsWellFormed 3) }
 {
-    Ok(Con::Count {
+    let con = Con::Count {
         value: Value(1),
         vars: VarList::from_slice(alloc, &[Var(0), Var(1)])?,
         op,
         target: Target::Const(Value(i32::from(number))),
-    })
+    };
+    OccurFilter::new(alloc, &con)
 }
 
 /// The number of 1 among the first two variables, against the third one.
-fn against_variable(alloc: Global, op: Op) -> Result<Con, NoMemory>
-    ensures formed { IfOk result (IsWellFormed 3) }
-    ensures kind { IfOk result IsCount }
+fn against_variable(alloc: Global, op: Op) -> Result<OccurFilter, NoMemory>
+    ensures { IfOk result (IsWellFormed 3) }
 {
-    Ok(Con::Count {
+    let con = Con::Count {
         value: Value(1),
         vars: VarList::from_slice(alloc, &[Var(0), Var(1)])?,
         op,
         target: Target::Variable(Var(2)),
-    })
+    };
+    OccurFilter::new(alloc, &con)
 }
 
 /// Two variables with the values 1 and 2, and one with 0 to 2, without these pairs.
@@ -52,59 +44,8 @@ fn store_without(alloc: Global, removed: &[Pair]) -> Result<DomainStore, NoMemor
     store.add_variable(&[Value(1), Value(2)])?;
     store.add_variable(&[Value(1), Value(2)])?;
     store.add_variable(&[Value(0), Value(1), Value(2)])?;
-    for taken in removed {
-        take_if_there(&mut store, taken);
-    }
+    take_out_all(&mut store, removed);
     Ok(store)
-}
-
-fn take_if_there(store: &mut DomainStore, taken: &Pair)
-    ensures { length store.new ≡ length store.old }
-{
-    let Pair { var, value } = *taken;
-    if var.0 < store.variables() && store.contains(Pair { var, value }) {
-        store.take_out(Pair { var, value });
-    }
-}
-
-/// Whether the pair has no support, and this reason, where these pairs are removed.
-fn is_reason(
-    alloc: Global,
-    con: &Con,
-    removed: &[Pair],
-    asked: &Pair,
-    expected: &[Pair],
-) -> Result<bool, NoMemory>
-    requires formed { IsWellFormed 3 con.now }
-    requires kind { IsCount con.now }
-{
-    let store = store_without(alloc, removed)?;
-    let filter = OccurFilter::new(alloc, con)?;
-    if !filter.scope().as_slice().contains(&asked.var) {
-        return Ok(false);
-    }
-    Ok(match reason_of(alloc, &filter, &store, asked)? {
-        Some(reason) => reason.as_slice() == expected,
-        None => false,
-    })
-}
-
-/// Whether the pair has support, where these pairs are removed.
-fn is_supported(alloc: Global, con: &Con, removed: &[Pair], asked: &Pair) -> Result<bool, NoMemory>
-    requires formed { IsWellFormed 3 con.now }
-    requires kind { IsCount con.now }
-{
-    let store = store_without(alloc, removed)?;
-    let filter = OccurFilter::new(alloc, con)?;
-    if !filter.scope().as_slice().contains(&asked.var) {
-        return Ok(false);
-    }
-    let Pair { var, value } = *asked;
-    Ok(
-        var.0 < store.variables()
-            && store.contains(Pair { var, value })
-            && filter.supported(&store, Pair { var, value }),
-    )
 }
 
 #[test]
@@ -119,9 +60,10 @@ fn a_number_of_occurrences_reaches_a_number(rt: HostRuntime) -> Result<(), Fail>
         (Op::Gt, 1, &high, &pair(0, 1)),
         (Op::Ge, 1, &high, &pair(0, 2)),
     ] {
-        let con = against_number(alloc, op, number)?;
-        assert!(rt; is_supported(alloc, &con, &[], asked)?);
-        assert!(rt; is_reason(alloc, &con, &[*removed], asked, &[*removed])?);
+        let filter = against_number(alloc, op, number)?;
+        assert!(rt; is_supported(&filter, &store_without(alloc, &[])?, asked));
+        let store = store_without(alloc, &[*removed])?;
+        assert!(rt; is_reason(alloc, &filter, &store, asked, &[*removed])?);
     }
     Ok(())
 }
@@ -140,9 +82,10 @@ fn a_number_of_occurrences_reaches_a_variable(rt: HostRuntime) -> Result<(), Fai
         (Op::Gt, high.as_slice(), &pair(0, 1)),
         (Op::Ge, high.as_slice(), &pair(0, 2)),
     ] {
-        let con = against_variable(alloc, op)?;
-        assert!(rt; is_supported(alloc, &con, &[], asked)?);
-        assert!(rt; is_reason(alloc, &con, removed, asked, removed)?);
+        let filter = against_variable(alloc, op)?;
+        assert!(rt; is_supported(&filter, &store_without(alloc, &[])?, asked));
+        let store = store_without(alloc, removed)?;
+        assert!(rt; is_reason(alloc, &filter, &store, asked, removed)?);
     }
     Ok(())
 }
@@ -159,9 +102,10 @@ fn a_value_of_the_target_is_reached(rt: HostRuntime) -> Result<(), Fail> {
         (Op::Le, both.as_slice(), &pair(2, 1), both.as_slice()),
         (Op::Ge, one.as_slice(), &pair(2, 2), [pair(0, 1)].as_slice()),
     ] {
-        let con = against_variable(alloc, op)?;
-        assert!(rt; is_supported(alloc, &con, &[], asked)?);
-        assert!(rt; is_reason(alloc, &con, removed, asked, expected)?);
+        let filter = against_variable(alloc, op)?;
+        assert!(rt; is_supported(&filter, &store_without(alloc, &[])?, asked));
+        let store = store_without(alloc, removed)?;
+        assert!(rt; is_reason(alloc, &filter, &store, asked, expected)?);
     }
     Ok(())
 }
@@ -176,9 +120,9 @@ fn over_an_empty_domain_nothing_is_supported(rt: HostRuntime) -> Result<(), Fail
         (counted.as_slice(), &pair(2, 0)),
         (target.as_slice(), &pair(0, 1)),
     ] {
-        let con = against_variable(alloc, Op::Ne)?;
-        assert!(rt; is_supported(alloc, &con, &[], asked)?);
-        assert!(rt; !is_supported(alloc, &con, removed, asked)?);
+        let filter = against_variable(alloc, Op::Ne)?;
+        assert!(rt; is_supported(&filter, &store_without(alloc, &[])?, asked));
+        assert!(rt; !is_supported(&filter, &store_without(alloc, removed)?, asked));
     }
     Ok(())
 }

@@ -1,21 +1,16 @@
 //! Support and reasons of tables of two rows.
-ghost use Rattle.std.specs.Prelude.{◌≡◌, ◌<◌, ◌∷◌, [], length, Contains, IfOk};
-ghost use Rattle.palm_model.specs.Constraint.{IsWellFormed, scope};
+ghost use Rattle.std.specs.Prelude.{◌≡◌, ◌∷◌, [], length, IfOk};
+ghost use Rattle.palm_model.specs.Constraint.{IsWellFormed};
 ghost use Rattle.palm_model.specs.declared.constraint.Con.{Con};
 
 use crate::TableFilter;
-use palm_base::{NoMemory, Pair, Value, ValueList, Var, VarList};
+use palm_base::{NoMemory, Value, ValueList, Var, VarList};
 use palm_domain::DomainStore;
-use palm_filter::{Filter, reason_of};
+use palm_filter::Filter;
+use palm_filter::testing::{is_reason, is_supported, pair, take_out_all};
 use palm_model::{Con, RowList};
 use std::alloc::Global;
 use std::test::Fail;
-
-fn pair(var: Var, value: Value) -> Pair
-    ensures { result ≡ record { var = var; value = value } }
-{
-    Pair { var, value }
-}
 
 /// Three variables with the values from 1 to 3.
 fn three_variables(alloc: Global) -> Result<DomainStore, NoMemory>
@@ -27,16 +22,6 @@ fn three_variables(alloc: Global) -> Result<DomainStore, NoMemory>
     store.add_variable(&values)?;
     store.add_variable(&values)?;
     Ok(store)
-}
-
-/// Takes a value out, if it is present.
-fn take_out(store: &mut DomainStore, var: Var, value: Value)
-    requires { var < length store.old }
-    ensures { length store.new ≡ length store.old }
-{
-    if store.contains(pair(var, value)) {
-        store.take_out(pair(var, value));
-    }
 }
 
 /// The filter of a table of two rows.
@@ -60,14 +45,6 @@ fn filter_of(
     TableFilter::new(alloc, &con)
 }
 
-/// Whether the pair is present and supported.
-fn is_supported(filter: &TableFilter, store: &DomainStore, var: Var, value: Value) -> bool
-    requires formed { IsWellFormed (length store.now) filter.now }
-    requires over { Contains (scope filter.now) var }
-{
-    store.contains(pair(var, value)) && filter.supported(store, pair(var, value))
-}
-
 #[test]
 fn a_row_supports_its_entries(rt: HostRuntime) -> Result<(), Fail> {
     let store = three_variables(rt.alloc())?;
@@ -75,8 +52,8 @@ fn a_row_supports_its_entries(rt: HostRuntime) -> Result<(), Fail> {
     let first = [Value(1), Value(2)];
     let second = [Value(2), Value(3)];
     let filter = filter_of(rt.alloc(), &vars, &first, &second)?;
-    assert!(rt; is_supported(&filter, &store, Var(0), Value(1)));
-    assert!(rt; !is_supported(&filter, &store, Var(1), Value(1)));
+    assert!(rt; is_supported(&filter, &store, &pair(0, 1)));
+    assert!(rt; !is_supported(&filter, &store, &pair(1, 1)));
     Ok(())
 }
 
@@ -87,11 +64,7 @@ fn a_row_with_an_undeclared_entry_gives_nothing(rt: HostRuntime) -> Result<(), F
     let first = [Value(1), Value(9)];
     let second = [Value(2), Value(3)];
     let filter = filter_of(rt.alloc(), &vars, &first, &second)?;
-    let out = reason_of(rt.alloc(), &filter, &store, &pair(Var(0), Value(1)))?.expect(
-        &rt,
-        "no support",
-    );
-    assert_eq!(rt; out.len(), 0);
+    assert!(rt; is_reason(rt.alloc(), &filter, &store, &pair(0, 1), &[])?);
     assert_eq!(rt; filter.scope().as_slice(), vars.as_slice());
     Ok(())
 }
@@ -99,17 +72,12 @@ fn a_row_with_an_undeclared_entry_gives_nothing(rt: HostRuntime) -> Result<(), F
 #[test]
 fn a_reason_is_the_first_removed_entry_of_each_row(rt: HostRuntime) -> Result<(), Fail> {
     let mut store = three_variables(rt.alloc())?;
-    take_out(&mut store, Var(1), Value(1));
-    take_out(&mut store, Var(2), Value(2));
+    take_out_all(&mut store, &[pair(1, 1), pair(2, 2)]);
     let vars = [Var(2), Var(0), Var(1)];
     let first = [Value(3), Value(1), Value(1)];
     let second = [Value(2), Value(1), Value(1)];
     let filter = filter_of(rt.alloc(), &vars, &first, &second)?;
-    let out = reason_of(rt.alloc(), &filter, &store, &pair(Var(0), Value(1)))?.expect(
-        &rt,
-        "no support",
-    );
-    let removed = [pair(Var(2), Value(2)), pair(Var(1), Value(1))];
-    assert_eq!(rt; out.as_slice(), removed.as_slice());
+    let removed = [pair(2, 2), pair(1, 1)];
+    assert!(rt; is_reason(rt.alloc(), &filter, &store, &pair(0, 1), &removed)?);
     Ok(())
 }

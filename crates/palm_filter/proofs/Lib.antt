@@ -1,3 +1,4 @@
 pub mod Singles
 pub mod Indexed
 pub mod Written
+pub mod Pairs

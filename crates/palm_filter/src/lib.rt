@@ -5,6 +5,7 @@ pub mod filter;
 pub mod index;
 pub mod laws;
 pub mod removed;
+pub mod testing;
 pub mod wanted;
 
 pub use filter::{Filter, Reasons, ask};

@@ -1,0 +1,10 @@
+use Rattle.std.proofs.Common.{◌≡◌, true, sym, ◌∙◌}
+use Rattle.std.proofs.lemmas.Slice.Eq.{slice_eq-Decides}
+use Rattle.palm_filter.proofs.Pairs.{pair_same}
+use Rattle.palm_filter.proofs.testing.is_reason.Goals as goal
+
+pub returns-in-Some : goal.returns-in-Some
+returns-in-Some g c same =
+    let listed = (slice_eq-Decides pair_same c.as_slice-in-Some.result.now c.args.expected.now c.eq.result c.eq.ensures).0 same in
+    let exact = rw c.in-Some.is at c.in_ok-reason.ensures.exact in
+    sym exact ∙ sym c.as_slice-in-Some.ensures ∙ listed

@@ -1,0 +1,73 @@
+//! What the tests of the filters share: domains without some pairs, and questions that ask for no promise.
+ghost use Rattle.std.specs.Prelude.{◌≡◌, length, IfOk, true};
+ghost use Rattle.palm_domain.specs.Rows.{initial_of, present_of};
+ghost use Rattle.palm_model.specs.Constraint.{IsWellFormed};
+ghost use Rattle.palm_model.specs.Reason.{reason};
+ghost use Rattle.palm_model.specs.Support.{IsSupported};
+
+use crate::filter::Filter;
+use crate::wanted::reason_of;
+use palm_base::{NoMemory, Pair, Value, Var};
+use palm_domain::DomainStore;
+use std::alloc::Global;
+
+/// The pair of a variable and a value.
+pub fn pair(var: u32, value: i32) -> Pair
+    ensures { result ≡ record { var = var; value = value } }
+{
+    Pair {
+        var: Var(var),
+        value: Value(value),
+    }
+}
+
+/// Takes out those of the pairs that are present.
+pub fn take_out_all(store: &mut DomainStore, pairs: &[Pair])
+    ensures { length store.new ≡ length store.old }
+{
+    for pair in pairs {
+        take_out_if_present(store, pair);
+    }
+}
+
+fn take_out_if_present(store: &mut DomainStore, pair: &Pair)
+    ensures { length store.new ≡ length store.old }
+{
+    let Pair { var, value } = *pair;
+    if var.0 < store.variables() && store.contains(Pair { var, value }) {
+        store.take_out(Pair { var, value });
+    }
+}
+
+/// Whether the pair is one of the constraint's variables, present and supported.
+pub fn is_supported<F: Filter>(filter: &F, store: &DomainStore, asked: &Pair) -> bool
+    requires { IsWellFormed (length store.now) (F.meaning filter.now) }
+    ensures { result ≡ true → IsSupported (present_of store.now) (F.meaning filter.now) asked.now.var asked.now.value }
+{
+    let Pair { var, value } = *asked;
+    filter.scope().as_slice().contains(&var)
+        && var.0 < store.variables()
+        && store.contains(Pair { var, value })
+        && filter.supported(store, Pair { var, value })
+}
+
+/// Whether there is a reason why the constraint takes the pair out, and it is this list.
+pub fn is_reason<F: Filter>(
+    alloc: Global,
+    filter: &F,
+    store: &DomainStore,
+    asked: &Pair,
+    expected: &[Pair],
+) -> Result<bool, NoMemory>
+    requires { IsWellFormed (length store.now) (F.meaning filter.now) }
+    ensures { IfOk result (λ same. same ≡ true
+        → reason (initial_of store.now) (present_of store.now) (F.meaning filter.now) asked.now.var asked.now.value ≡ expected.now) }
+{
+    if !filter.scope().as_slice().contains(&asked.var) {
+        return Ok(false);
+    }
+    Ok(match reason_of(alloc, filter, store, asked)? {
+        Some(reason) => reason.as_slice() == expected,
+        None => false,
+    })
+}
