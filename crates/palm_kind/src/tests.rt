@@ -1,5 +1,6 @@
 //! Filters made from constraints: asked for support, and for reasons.
 ghost use Rattle.std.specs.Prelude.{◌≡◌, ◌∷◌, [], length, IfOk};
+ghost use Rattle.palm_model.specs.Constraint.{IsWellFormed};
 ghost use Rattle.palm_model.specs.declared.constraint.Con.TheVariants.{Differ};
 
 use crate::Kind;
@@ -30,6 +31,24 @@ fn two_variables(alloc: Global) -> Result<DomainStore, NoMemory>
     Ok(store)
 }
 
+/// Whether these pairs are the reason for which the constraint takes the pair out.
+fn takes_out(alloc: Global, con: &Con, asked: &Pair, expected: &[Pair]) -> Result<bool, NoMemory>
+    requires { IsWellFormed 2 con.now }
+{
+    let store = two_variables(alloc)?;
+    let kind = Kind::from_con(alloc, con)?;
+    is_reason(alloc, &kind, &store, asked, expected)
+}
+
+/// Whether the constraint is over two variables and supports the pair.
+fn keeps(alloc: Global, con: &Con, asked: &Pair) -> Result<bool, NoMemory>
+    requires { IsWellFormed 2 con.now }
+{
+    let store = two_variables(alloc)?;
+    let kind = Kind::from_con(alloc, con)?;
+    Ok(kind.scope().len() == 2 && is_supported(&kind, &store, asked))
+}
+
 /// `differ x y`
 fn differ(alloc: Global) -> Result<Con, NoMemory>
     ensures { IfOk result (λ con. con ≡ Differ (0 ∷ 1 ∷ [])) }
@@ -48,14 +67,11 @@ fn a_kind_is_the_filter_of_its_constraint(rt: HostRuntime) -> Result<(), Fail> {
         right: Var(1),
         offset: 0,
     };
-    let store = two_variables(alloc)?;
     let higher = [y(2), y(3)];
-    let kind = Kind::from_con(alloc, &less)?;
-    assert!(rt; is_reason(alloc, &kind, &store, &x(1), &higher)?);
-    assert!(rt; is_reason(alloc, &kind, &store, &x(2), &[y(3)])?);
-    let kind = Kind::from_con(alloc, &differ(alloc)?)?;
-    assert!(rt; is_reason(alloc, &kind, &store, &x(1), &higher)?);
-    assert!(rt; is_supported(&kind, &store, &x(2)));
-    assert_eq!(rt; kind.scope().len(), 2);
+    assert!(rt; takes_out(alloc, &less, &x(1), &higher)?);
+    assert!(rt; takes_out(alloc, &less, &x(2), &[y(3)])?);
+    let differ = differ(alloc)?;
+    assert!(rt; takes_out(alloc, &differ, &x(1), &higher)?);
+    assert!(rt; keeps(alloc, &differ, &x(2))?);
     Ok(())
 }
