@@ -1,5 +1,5 @@
 -- When two pairs are the same.
-use Rattle.std.proofs.Common.{◌≡◌, ◌&&◌, Bool, true, nat_eq, ap, ◌∙◌, ℕ, ℤ}
+use Rattle.std.proofs.Common.{◌≡◌, ◌&&◌, nat_eq, ap, ◌∙◌, ℕ, ℤ}
 use Rattle.std.proofs.lemmas.Bool.Decides.{Decides-and, Decides-eqb, Decides-int_eq}
 use Rattle.std.specs.Bool.{Decides}
 use Rattle.std.specs.Ordering.{int_eq}

@@ -1,5 +1,5 @@
 -- A text whose tokens are those of a form has plain bytes alone.
-use Rattle.std.proofs.Common.{codes, ◌≡◌, ◌≢◌, ℕ, zero, suc, ◌+◌, ◌≤◌, ◌<◌, Bool, true, false, cond, ◌||◌, List, [], ◌∷◌, ◌++◌, length, take, drop, All, refl, sym, ap, ◌∙◌, subst, arith, inl, inr, length-drop}
+use Rattle.std.proofs.Common.{codes, ◌≡◌, ◌≢◌, ℕ, zero, suc, ◌≤◌, Bool, true, false, cond, ◌||◌, List, [], ◌∷◌, length, take, drop, All, refl, sym, subst, arith, inl, inr, length-drop}
 use Rattle.std.specs.List.{prefix_len}
 use Rattle.std.proofs.lemmas.Bool.Decides.{nat_tests}
 use Rattle.std.proofs.lemmas.List.{take-append-drop}
@@ -8,7 +8,6 @@ use Rattle.palm_lang.specs.Bytes.{after_blanks, is_blank, is_digit, is_letter, i
 use Rattle.palm_lang.specs.Form.{Form}
 use Rattle.palm_lang.specs.Token.{Lexeme, is_sign, are_sign, begins_long_sign, kind_at, more_at, lexeme_at, tokens_of}
 use Rattle.palm_lang.specs.Grammar.{IsForm, pieces, Piece, Keyword, Named, Mark, Integer, Natural, IsPiece, IsInteger, Spells, sign}
-use Rattle.palm_lang.specs.declared.tokens.TokenKind.{TokenKind}
 use Rattle.palm_lang.specs.declared.tokens.TokenKind.TheVariants.{Word, Digits, Sign, Other}
 use Rattle.palm_lang.proofs.TokenLemmas.{tokens_of-blank, tokens_of-front, take-prefix_len}
 

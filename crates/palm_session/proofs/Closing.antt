@@ -1,5 +1,5 @@
 -- Taking out values without support loses no value of any domains in which each value has support.
-use Rattle.std.proofs.Common.{◌≡◌, ℕ, ◌+◌, ◌<◌, ◌≤◌, Bool, true, false, ◌||◌, List, [], ◌∷◌, length, map, take, get_or, slice_set, Contains, ℤ, inl, inr, refl, sym, ap, ◌∙◌, subst, arith, length-set, take_all}
+use Rattle.std.proofs.Common.{◌≡◌, ℕ, ◌+◌, ◌<◌, ◌≤◌, Bool, true, false, ◌||◌, List, [], ◌∷◌, length, take, get_or, slice_set, Contains, ℤ, inl, inr, refl, sym, ap, ◌∙◌, subst, arith, length-set, take_all}
 use Rattle.std.proofs.lemmas.List.Elements.{All-set, Contains-get_or}
 use Rattle.palm_base.specs.Ascending.{Ascends}
 use Rattle.palm_base.proofs.Members.{member_same, member_here, member_take_more, member_cases, member_nil}
@@ -7,7 +7,7 @@ use Rattle.palm_domain.specs.Rows.{Row, present_of, present_values, IsPresent, v
 use Rattle.palm_model.specs.Closure.{IsClosed, IsGreatest}
 use Rattle.palm_model.specs.Constraint.{scope}
 use Rattle.palm_model.specs.Domains.{Domains, Has, IsInside, AllAscend, values_of}
-use Rattle.palm_model.specs.Support.{HasSupport, IsSupported, LacksSupport}
+use Rattle.palm_model.specs.Support.{IsSupported, LacksSupport}
 use Rattle.palm_model.specs.Trial.{Narrowed, Narrows, value_count}
 use Rattle.palm_model.specs.declared.constraint.Con.{Con}
 use Rattle.palm_model.proofs.Ascending.{ascends_at, ascends_filter}

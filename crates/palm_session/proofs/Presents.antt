@@ -1,13 +1,12 @@
 -- The present values of a store as lists, and the domains that a book starts from.
-use Rattle.std.proofs.Common.{◌≡◌, ℕ, ◌+◌, ◌<◌, ◌≤◌, Bool, true, false, cond, List, [], ◌∷◌, ◌++◌, length, map, take, get_or, filter, Contains, All, ℤ, Result, Ok, Err, refl, sym, ap, ◌∙◌, subst, take_all, append-nil}
-use Rattle.std.specs.Prelude.{IfOk}
-use Rattle.std.proofs.lemmas.List.{length-map, map-append}
+use Rattle.std.proofs.Common.{◌≡◌, ℕ, ◌+◌, ◌<◌, Bool, true, false, cond, List, [], ◌∷◌, ◌++◌, length, map, take, get_or, filter, Contains, All, ℤ, refl, sym, ap, ◌∙◌, subst, append-nil}
+use Rattle.std.proofs.lemmas.List.{length-map}
 use Rattle.std.proofs.lemmas.List.Elements.{All-nil, All-cons, All-head, All-tail, filter_more}
 use Rattle.palm_base.proofs.Members.{filter_member, member_filter}
 use Rattle.palm_domain.specs.Rows.{Row, present_of}
 use Rattle.palm_kind.specs.Kind.{con_of}
 use Rattle.palm_kind.specs.declared.kind.Kind.{Kind}
-use Rattle.palm_lang.specs.Book.{Entry, initial_of}
+use Rattle.palm_lang.specs.Book.{Entry}
 use Rattle.palm_model.specs.Closure.{IsGreatest}
 use Rattle.palm_model.specs.Constraint.{IsWellFormed}
 use Rattle.palm_model.specs.Domains.{Domains, Ascends, AllAscend}

@@ -85,7 +85,7 @@ fn comparisons(rt: HostRuntime) -> Result<(), Fail> {
 }
 
 #[test]
-fn sums(rt: HostRuntime) -> Result<(), Fail> {
+fn sums_of_the_largest_numbers(rt: HostRuntime) -> Result<(), Fail> {
     let far = two(
         rt.alloc(),
         &[Value(999_999), Value(1_000_000)],
@@ -115,6 +115,11 @@ fn sums(rt: HostRuntime) -> Result<(), Fail> {
             &[&[1_000_000], &[-1_000_000]]
         )
     );
+    Ok(())
+}
+
+#[test]
+fn a_sum_that_differs_from_a_number(rt: HostRuntime) -> Result<(), Fail> {
     let near = two(rt.alloc(), &[Value(0), Value(1)], &[Value(1)])?;
     let terms = TermList::from_slice(
         rt.alloc(),

@@ -1,4 +1,4 @@
-use Rattle.std.proofs.Common.{◌≡◌, ◌<◌, ◌≤◌, ◌||◌, length, get_or, Contains, List, ℤ, sym, ap, ◌∙◌, subst, arith}
+use Rattle.std.proofs.Common.{◌≡◌, ◌<◌, ◌≤◌, ◌||◌, length, get_or, Contains, List, ℤ, ap, ◌∙◌, subst, arith}
 use Rattle.palm_domain.specs.Rows.{present_of, declared_values, values_at}
 use Rattle.palm_kind.specs.Kind.{con_of}
 use Rattle.palm_model.proofs.Narrowing.{or_then, or_else}
