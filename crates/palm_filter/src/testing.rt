@@ -1,9 +1,10 @@
 //! What the tests of the filters share: domains without some pairs, and questions that ask for no promise.
-ghost use Rattle.std.specs.Prelude.{◌≡◌, length, IfOk, true};
-ghost use Rattle.palm_domain.specs.Rows.{initial_of, present_of};
-ghost use Rattle.palm_model.specs.Constraint.{IsWellFormed};
-ghost use Rattle.palm_model.specs.Reason.{reason};
-ghost use Rattle.palm_model.specs.Support.{IsSupported};
+ghost use Rattle.std.specs.Prelude.{◌≡◌, ℕ, ℤ, length, All, Contains, IfOk, false, true};
+ghost use Rattle.palm_domain.specs.Rows.{initial_of, present_of, IsPresent};
+ghost use Rattle.palm_model.specs.Constraint.{IsWellFormed, scope};
+ghost use Rattle.palm_model.specs.Domains.{Has};
+ghost use Rattle.palm_model.specs.Reason.{AreFilled, reason};
+ghost use Rattle.palm_model.specs.Support.{IsSupported, LacksSupport};
 
 use crate::filter::Filter;
 use crate::wanted::reason_of;
@@ -23,7 +24,8 @@ pub fn pair(var: u32, value: i32) -> Pair
 
 /// Takes out those of the pairs that are present.
 pub fn take_out_all(store: &mut DomainStore, pairs: &[Pair])
-    ensures { length store.new ≡ length store.old }
+    ensures variables { length store.new ≡ length store.old }
+    ensures gone { All (λ p. IsPresent store.new p.var p.value → ⊥) pairs.now }
 {
     for pair in pairs {
         take_out_if_present(store, pair);
@@ -31,7 +33,9 @@ pub fn take_out_all(store: &mut DomainStore, pairs: &[Pair])
 }
 
 fn take_out_if_present(store: &mut DomainStore, pair: &Pair)
-    ensures { length store.new ≡ length store.old }
+    ensures variables { length store.new ≡ length store.old }
+    ensures gone { IsPresent store.new pair.now.var pair.now.value → ⊥ }
+    ensures fewer { (x : ℕ) (v : ℤ) → IsPresent store.new x v → IsPresent store.old x v }
 {
     let Pair { var, value } = *pair;
     if var.0 < store.variables() && store.contains(Pair { var, value }) {
@@ -42,7 +46,10 @@ fn take_out_if_present(store: &mut DomainStore, pair: &Pair)
 /// Whether the pair is one of the constraint's variables, present and supported.
 pub fn is_supported<F: Filter>(filter: &F, store: &DomainStore, asked: &Pair) -> bool
     requires { IsWellFormed (length store.now) (F.meaning filter.now) }
-    ensures { result ≡ true → IsSupported (present_of store.now) (F.meaning filter.now) asked.now.var asked.now.value }
+    ensures supported { result ≡ true → IsSupported (present_of store.now) (F.meaning filter.now) asked.now.var asked.now.value }
+    ensures lacking { result ≡ false → Contains (scope (F.meaning filter.now)) asked.now.var
+        → Has (present_of store.now) asked.now.var asked.now.value
+        → LacksSupport (present_of store.now) (F.meaning filter.now) asked.now.var asked.now.value }
 {
     let Pair { var, value } = *asked;
     filter.scope().as_slice().contains(&var)
@@ -60,8 +67,13 @@ pub fn is_reason<F: Filter>(
     expected: &[Pair],
 ) -> Result<bool, NoMemory>
     requires { IsWellFormed (length store.now) (F.meaning filter.now) }
-    ensures { IfOk result (λ same. same ≡ true
+    ensures same { IfOk result (λ same. same ≡ true
         → reason (initial_of store.now) (present_of store.now) (F.meaning filter.now) asked.now.var asked.now.value ≡ expected.now) }
+    ensures other { IfOk result (λ same. same ≡ false → Contains (scope (F.meaning filter.now)) asked.now.var
+        → Has (present_of store.now) asked.now.var asked.now.value
+        → LacksSupport (present_of store.now) (F.meaning filter.now) asked.now.var asked.now.value
+        → AreFilled (present_of store.now) (scope (F.meaning filter.now))
+        → reason (initial_of store.now) (present_of store.now) (F.meaning filter.now) asked.now.var asked.now.value ≡ expected.now → ⊥) }
 {
     if !filter.scope().as_slice().contains(&asked.var) {
         return Ok(false);
