@@ -2,3 +2,4 @@ pub mod Ascending
 pub mod Memory
 pub mod Numbers
 pub mod Streams
+pub mod Tells

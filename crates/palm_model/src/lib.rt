@@ -5,6 +5,7 @@
 pub mod constraint;
 pub mod copy;
 pub mod greatest;
+mod limits;
 pub mod part;
 pub mod parts;
 mod satisfied;
@@ -13,6 +14,9 @@ mod support;
 pub use constraint::{Con, ConList, DomainList, Op, RowList, Target, Term, TermList};
 pub use copy::copy_of;
 pub use greatest::scratch;
+pub use limits::{
+    GREATEST_BOUND, GREATEST_FACTOR, GREATEST_OFFSET, GREATEST_VALUE, MOST_ROWS, MOST_SCOPE,
+};
 pub use part::{Part, PartList};
 pub use parts::parts_of;
 pub use satisfied::{number_of, stands};
