@@ -6,21 +6,24 @@ use Rattle.palm_base.proofs.Members.{member_nil, member_here, member_there, memb
 use Rattle.palm_base.specs.declared.terms.Pair.{Pair}
 use Rattle.palm_domain.specs.Rows.{IsLeastOf, IsGreatestOf}
 use Rattle.palm_model.specs.Domains.{Domains, Has, values_of, without}
-use Rattle.palm_model.specs.Constraint.{Stands, scope, Distinct, IsWellFormed}
+use Rattle.palm_model.specs.Relation.{Stands, is_standing}
+use Rattle.palm_model.specs.Constraint.{scope, Distinct, IsWellFormed}
 use Rattle.palm_model.specs.Part.{scope_of}
 use Rattle.palm_model.specs.Support.{HasSupport, IsSupported, LacksSupport}
-use Rattle.palm_model.specs.Reason.{is_standing, pairs_of, comparison_reason, reason, IsReason, WantsReason}
+use Rattle.palm_model.specs.Removed.{pairs_of}
+use Rattle.palm_model.specs.Comparison.{comparison_reason, IsComparison}
+use Rattle.palm_model.specs.Reason.{reason, IsReason, WantsReason}
 use Rattle.palm_model.specs.declared.constraint.Con.{Con}
 use Rattle.palm_model.specs.declared.constraint.Con.TheVariants.{CompareVar, CompareConst, Linear, Table, Element, Count, Differ}
 use Rattle.palm_model.specs.declared.constraint.Op.{Op}
 use Rattle.palm_model.specs.declared.constraint.Op.TheVariants.{Eq, Ne, Lt, Le, Gt, Ge}
 use Rattle.palm_model.specs.declared.part.Part.{Part}
-use Rattle.palm_model.specs.declared.part.Part.TheVariants.{VarCompared, ValueCompared}
+use Rattle.palm_model.specs.declared.part.Part.TheVariants.{CompareVar as CompareVarPart, CompareConst as CompareConstPart}
 use Rattle.palm_model.proofs.Reasons.{pairs_member, member_pairs, pairs_more, pairs_same}
 use Rattle.palm_model.proofs.Standing.{stands_from_test, test_from_stands}
 use Rattle.palm_model.proofs.Supports.{supported_by_part, lacking_by_part, part_unsupported, two, two_first, two_second, support_by_two, support_by_one, without_has}
 use Rattle.palm_model.proofs.Trials.{put, put_same}
-use Rattle.filter_compare.specs.Comparison.{IsComparison, comparison_of, flipped_of, demand_of, IsMet, meeting_values}
+use Rattle.filter_compare.specs.Comparison.{comparison_of, flipped_of, demand_of, IsMet, meeting_values}
 use Rattle.filter_compare.specs.declared.compare.Comparison.TheVariants.{Variables, Constant}
 use Rattle.filter_compare.specs.declared.compare.VarComparison.{VarComparison}
 use Rattle.filter_compare.specs.declared.demand.Demand.{Demand}
@@ -155,7 +158,7 @@ module _ (c : VarComparison) (x : ℕ) (v : ℤ) where
   -- ---- support
 
   abbrev part : Part
-  part = VarCompared left op right offset
+  part = CompareVarPart left op right offset
 
   over_two : (a b : ℕ) → Contains (a ∷ b ∷ []) x → (z : ℕ) → Contains (a ∷ b ∷ []) z → (a ≡ z) ⊎ (b ≡ z)
   over_two a b over z m = elim (member_cases a (b ∷ []) z m) [ inl e ↦ inl e | inr k ↦ inr (member_single b z k) ]
@@ -246,7 +249,7 @@ module _ (d : Demand) (x : ℕ) (v : ℤ) where
   const_con = comparison_of (Constant d)
 
   abbrev const_part : Part
-  const_part = ValueCompared d.var d.op d.bound
+  const_part = CompareConstPart d.var d.op d.bound
 
   pub const_supported : (e : Domains) → Has e x v → Contains (d.var ∷ []) x → Stands d.op v d.bound → IsSupported e const_con x v
   const_supported e has over h =

@@ -1,7 +1,6 @@
 -- The constraint of a comparison, and what it asks of one variable where the other one has a value.
 use Rattle.std.specs.Prelude.{ℕ, ℤ, ◌+ℤ◌, ◌-ℤ◌, List, Contains, filter, nat_eq, if◌then◌else◌, ⊤}
-use Rattle.palm_model.specs.Constraint.{Stands}
-use Rattle.palm_model.specs.Reason.{is_standing}
+use Rattle.palm_model.specs.Relation.{Stands, is_standing}
 use Rattle.palm_model.specs.declared.constraint.Con.{Con}
 use Rattle.palm_model.specs.declared.constraint.Con.TheVariants.{CompareVar, CompareConst, Linear, Table, Element, Count, Differ}
 use Rattle.palm_model.specs.declared.constraint.Op.{Op}
@@ -10,16 +9,6 @@ use Rattle.filter_compare.specs.declared.compare.Comparison.{Comparison}
 use Rattle.filter_compare.specs.declared.compare.Comparison.TheVariants.{Variables, Constant}
 use Rattle.filter_compare.specs.declared.compare.VarComparison.{VarComparison}
 use Rattle.filter_compare.specs.declared.demand.Demand.{Demand}
-
--- a comparison, with a variable or with a value
-abbrev pub IsComparison : Con → Type 0
-IsComparison (CompareVar left op right offset) = ⊤
-IsComparison (CompareConst left op value) = ⊤
-IsComparison (Linear terms op bound) = ⊥
-IsComparison (Table vars rows) = ⊥
-IsComparison (Element outcome index entries) = ⊥
-IsComparison (Count value vars op target) = ⊥
-IsComparison (Differ vars) = ⊥
 
 abbrev pub comparison_of : Comparison → Con
 comparison_of (Variables c) = CompareVar c.left c.op c.right c.offset

@@ -1,6 +1,7 @@
 //! The filter of a comparison.
 ghost use Rattle.std.specs.Prelude.{◌≡◌, ℕ, IfOk};
-ghost use Rattle.filter_compare.specs.Comparison.{IsComparison, demand_of};
+ghost use Rattle.palm_model.specs.Comparison.{IsComparison};
+ghost use Rattle.filter_compare.specs.Comparison.{demand_of};
 ghost use Rattle.palm_model.specs.Constraint.{IsWellFormed};
 
 use crate::demand::{Demand, flipped};

@@ -3,9 +3,9 @@ ghost use Rattle.std.specs.Prelude.{◌≡◌, ◌++◌, ◌<◌, ◌≤ℤ◌, 
 ghost use Rattle.std.specs.Int.{w32};
 ghost use Rattle.filter_compare.specs.Comparison.{IsMet, flipped_of, meeting_values};
 ghost use Rattle.palm_domain.specs.Rows.{initial_of, present_of};
-ghost use Rattle.palm_model.specs.Constraint.{Stands};
+ghost use Rattle.palm_model.specs.Relation.{Stands, is_standing};
 ghost use Rattle.palm_model.specs.Domains.{values_of};
-ghost use Rattle.palm_model.specs.Reason.{is_standing, pairs_of};
+ghost use Rattle.palm_model.specs.Removed.{pairs_of};
 
 use palm_base::{NoMemory, Pair, Value, Var};
 use palm_domain::DomainStore;

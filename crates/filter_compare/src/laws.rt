@@ -1,6 +1,6 @@
 //! The law of the reasons of comparisons.
 ghost use Rattle.std.specs.Prelude.{ℕ, ℤ};
-ghost use Rattle.filter_compare.specs.Comparison.{IsComparison};
+ghost use Rattle.palm_model.specs.Comparison.{IsComparison};
 ghost use Rattle.palm_model.specs.Domains.{Domains};
 ghost use Rattle.palm_model.specs.Reason.{IsReason, WantsReason, reason};
 ghost use Rattle.palm_model.specs.declared.constraint.Con.{Con};

@@ -8,17 +8,19 @@ use Rattle.palm_base.specs.declared.terms.Pair.{Pair}
 use Rattle.palm_domain.specs.Rows.{IsLeastOf, IsGreatestOf}
 use Rattle.palm_model.specs.Constraint.{scope, Distinct, IsWellFormed}
 use Rattle.palm_model.specs.Domains.{Domains, Has, Ascends, AllAscend, values_of, without}
-use Rattle.palm_model.specs.Part.{scope_of, differ_parts}
+use Rattle.palm_model.specs.Part.{scope_of}
+use Rattle.palm_model.specs.Differ.{differ_parts, differ_reason, IsDiffer}
 use Rattle.palm_model.specs.Support.{HasSupport, IsSupported, LacksSupport}
-use Rattle.palm_model.specs.Reason.{is_alone, others, removed_values, differ_reason, reason, AreFilled, IsReason, WantsReason}
+use Rattle.palm_model.specs.Removed.{is_alone, others, removed_values}
+use Rattle.palm_model.specs.Reason.{reason, AreFilled, IsReason, WantsReason}
 use Rattle.palm_model.specs.declared.constraint.Con.{Con}
 use Rattle.palm_model.specs.declared.constraint.Con.TheVariants.{CompareVar, CompareConst, Linear, Table, Element, Count, Differ}
 use Rattle.palm_model.specs.declared.part.Part.{Part}
-use Rattle.palm_model.specs.declared.part.Part.TheVariants.{Apart}
+use Rattle.palm_model.specs.declared.part.Part.TheVariants.{Differ as DifferPart}
 use Rattle.palm_model.proofs.Ascending.{ascends_at}
 use Rattle.palm_model.proofs.Reasons.{alone_only, only_alone, removed_member, member_removed, all_pairs_member, member_all_pairs, others_member, member_others}
 use Rattle.palm_model.proofs.Supports.{support_by_two, two_first, two_second, without_has}
-use Rattle.filter_differ.specs.Others.{IsDiffer, HasOther, LeavesRoom, TakesRoom, is_lone, first_lone}
+use Rattle.filter_differ.specs.Differ.{HasOther, LeavesRoom, TakesRoom, is_lone, first_lone}
 
 -- ---- the ends of a domain
 
@@ -34,25 +36,25 @@ other_ends vs v least greatest low high e f o =
 -- ---- the parts of a difference
 
 -- a part is over two different variables
-pub part_apart : (vars : List ℕ) (p : Part) → Distinct vars → Contains (differ_parts vars) p → (a : ℕ) × (b : ℕ) × Contains vars a × Contains vars b × (a ≡ b → ⊥) × (Apart a b ≡ p)
+pub part_apart : (vars : List ℕ) (p : Part) → Distinct vars → Contains (differ_parts vars) p → (a : ℕ) × (b : ℕ) × Contains vars a × Contains vars b × (a ≡ b → ⊥) × (DifferPart a b ≡ p)
 part_apart [] p distinct h = absurd (member_nil p h)
-part_apart (z ∷ zs) p distinct h = elim (Contains-append_cases (map (Apart z) zs) (differ_parts zs) p h) [
-  | inl m ↦ let r = member_unmap (Apart z) zs p m in (z, r.0, member_here z zs, member_there z zs r.0 r.1, (λ e. distinct.0 (member_same zs r.0 z (sym e) r.1)), r.2)
+part_apart (z ∷ zs) p distinct h = elim (Contains-append_cases (map (DifferPart z) zs) (differ_parts zs) p h) [
+  | inl m ↦ let r = member_unmap (DifferPart z) zs p m in (z, r.0, member_here z zs, member_there z zs r.0 r.1, (λ e. distinct.0 (member_same zs r.0 z (sym e) r.1)), r.2)
   | inr m ↦ let r = part_apart zs p distinct.1 m in (r.0, r.1, member_there z zs r.0 r.2, member_there z zs r.1 r.3, r.4, r.5)
 ]
 
 -- two different variables have a part
-pub has_part : (vars : List ℕ) (a b : ℕ) → Contains vars a → Contains vars b → (a ≡ b → ⊥) → Contains (differ_parts vars) (Apart a b) ⊎ Contains (differ_parts vars) (Apart b a)
+pub has_part : (vars : List ℕ) (a b : ℕ) → Contains vars a → Contains vars b → (a ≡ b → ⊥) → Contains (differ_parts vars) (DifferPart a b) ⊎ Contains (differ_parts vars) (DifferPart b a)
 has_part [] a b at_a at_b ne = absurd (member_nil a at_a)
 has_part (z ∷ zs) a b at_a at_b ne = elim (member_cases z zs a at_a) [
   | inl e ↦
       let rest = member_tail z zs b (λ f. ne (sym e ∙ f)) at_b in
-      inl (subst (λ y. Contains (differ_parts (z ∷ zs)) (Apart y b)) e (Contains-append_left (map (Apart z) zs) (differ_parts zs) (Apart z b) (member_map (Apart z) zs b rest)))
+      inl (subst (λ y. Contains (differ_parts (z ∷ zs)) (DifferPart y b)) e (Contains-append_left (map (DifferPart z) zs) (differ_parts zs) (DifferPart z b) (member_map (DifferPart z) zs b rest)))
   | inr m ↦ elim (member_cases z zs b at_b) [
-    | inl f ↦ inr (subst (λ y. Contains (differ_parts (z ∷ zs)) (Apart y a)) f (Contains-append_left (map (Apart z) zs) (differ_parts zs) (Apart z a) (member_map (Apart z) zs a m)))
+    | inl f ↦ inr (subst (λ y. Contains (differ_parts (z ∷ zs)) (DifferPart y a)) f (Contains-append_left (map (DifferPart z) zs) (differ_parts zs) (DifferPart z a) (member_map (DifferPart z) zs a m)))
     | inr k ↦ elim (has_part zs a b m k ne) [
-      | inl r ↦ inl (Contains-append_right (map (Apart z) zs) (differ_parts zs) (Apart a b) r)
-      | inr r ↦ inr (Contains-append_right (map (Apart z) zs) (differ_parts zs) (Apart b a) r)
+      | inl r ↦ inl (Contains-append_right (map (DifferPart z) zs) (differ_parts zs) (DifferPart a b) r)
+      | inr r ↦ inr (Contains-append_right (map (DifferPart z) zs) (differ_parts zs) (DifferPart b a) r)
     ]
   ]
 ]
@@ -60,32 +62,32 @@ has_part (z ∷ zs) a b at_a at_b ne = elim (member_cases z zs a at_a) [
 -- ---- support
 
 module _ (d : Domains) (x : ℕ) (v : ℤ) (has : Has d x v) where
-  first_supported : (y : ℕ) → (y ≡ x → ⊥) → HasOther (values_of d y) v → HasSupport d (Apart x y) x v
+  first_supported : (y : ℕ) → (y ≡ x → ⊥) → HasOther (values_of d y) v → HasSupport d (DifferPart x y) x v
   first_supported y ne o =
-      support_by_two d (Apart x y) x v y o.value ne (λ z m. either z m) has o.member
+      support_by_two d (DifferPart x y) x v y o.value ne (λ z m. either z m) has o.member
       (λ e. o.apart (sym (two_second x v y o.value ne) ∙ sym e ∙ two_first x v y o.value))
     where
       either : (z : ℕ) → Contains (x ∷ y ∷ []) z → (x ≡ z) ⊎ (y ≡ z)
       either z m = elim (member_cases x (y ∷ []) z m) [ inl e ↦ inl e | inr k ↦ inr (member_single y z k) ]
 
-  second_supported : (y : ℕ) → (y ≡ x → ⊥) → HasOther (values_of d y) v → HasSupport d (Apart y x) x v
+  second_supported : (y : ℕ) → (y ≡ x → ⊥) → HasOther (values_of d y) v → HasSupport d (DifferPart y x) x v
   second_supported y ne o =
-      support_by_two d (Apart y x) x v y o.value ne (λ z m. either z m) has o.member
+      support_by_two d (DifferPart y x) x v y o.value ne (λ z m. either z m) has o.member
       (λ e. o.apart (sym (two_second x v y o.value ne) ∙ e ∙ two_first x v y o.value))
     where
       either : (z : ℕ) → Contains (y ∷ x ∷ []) z → (x ≡ z) ⊎ (y ≡ z)
       either z m = elim (member_cases y (x ∷ []) z m) [ inl e ↦ inr e | inr k ↦ inl (member_single x z k) ]
 
   -- the variable of a part other than x, and its support where that has another value
-  pub partner : (a b : ℕ) → (a ≡ b → ⊥) → Contains (a ∷ b ∷ []) x → (y : ℕ) × ((a ≡ y) ⊎ (b ≡ y)) × (y ≡ x → ⊥) × (HasOther (values_of d y) v → HasSupport d (Apart a b) x v)
+  pub partner : (a b : ℕ) → (a ≡ b → ⊥) → Contains (a ∷ b ∷ []) x → (y : ℕ) × ((a ≡ y) ⊎ (b ≡ y)) × (y ≡ x → ⊥) × (HasOther (values_of d y) v → HasSupport d (DifferPart a b) x v)
   partner a b ne over = elim (member_cases a (b ∷ []) x over) [
     | inl e ↦
         let apart : b ≡ x → ⊥ = λ f. ne (e ∙ sym f) in
-        (b, inr refl, apart, λ o. subst (λ z. HasSupport d (Apart z b) x v) (sym e) (first_supported b apart o))
+        (b, inr refl, apart, λ o. subst (λ z. HasSupport d (DifferPart z b) x v) (sym e) (first_supported b apart o))
     | inr k ↦
         let f = member_single b x k in
         let apart : a ≡ x → ⊥ = λ e. ne (e ∙ sym f) in
-        (a, inl refl, apart, λ o. subst (λ z. HasSupport d (Apart a z) x v) (sym f) (second_supported a apart o))
+        (a, inl refl, apart, λ o. subst (λ z. HasSupport d (DifferPart a z) x v) (sym f) (second_supported a apart o))
   ]
 
   partner_member : (vars : List ℕ) (a b y : ℕ) → Contains vars a → Contains vars b → (a ≡ y) ⊎ (b ≡ y) → Contains vars y
@@ -114,13 +116,13 @@ module _ (d : Domains) (x : ℕ) (v : ℤ) (has : Has d x v) where
 pub room_lacks : (d : Domains) (x : ℕ) (v : ℤ) (vars : List ℕ) → Contains vars x → TakesRoom d vars x v → LacksSupport d (Differ vars) x v
 room_lacks d x v vars over t = elim (has_part vars x t.var over t.member (λ e. t.apart (sym e))) [
   | inl m ↦ record {
-    part = Apart x t.var;
+    part = DifferPart x t.var;
     is_part = m;
     over = member_here x (t.var ∷ []);
     lacks = λ s. t.none (record { value = s.assignment t.var; member = s.within t.var (member_there x (t.var ∷ []) t.var (member_here t.var [])); apart = λ e. s.holds (s.gives ∙ sym e) });
   }
   | inr m ↦ record {
-    part = Apart t.var x;
+    part = DifferPart t.var x;
     is_part = m;
     over = member_there t.var (x ∷ []) x (member_here x []);
     lacks = λ s. t.none (record { value = s.assignment t.var; member = s.within t.var (member_here t.var (x ∷ [])); apart = λ e. s.holds (e ∙ sym s.gives) });

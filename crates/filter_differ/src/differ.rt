@@ -1,9 +1,8 @@
 //! The filter of a difference.
 ghost use Rattle.std.specs.Prelude.{◌≡◌, ◌++◌, ◌<◌, ℕ, length, All, IfOk, OnOk};
-ghost use Rattle.filter_differ.specs.Others.{IsDiffer};
+ghost use Rattle.palm_model.specs.Differ.{IsDiffer, differ_reason};
 ghost use Rattle.palm_domain.specs.Rows.{initial_of, present_of};
 ghost use Rattle.palm_model.specs.Constraint.{IsWellFormed};
-ghost use Rattle.palm_model.specs.Reason.{differ_reason};
 
 use crate::others::{first_lone, leave_room};
 use palm_base::{NoMemory, Pair, Var, VarList};

@@ -1,6 +1,6 @@
 //! What the other variables leave for the value of a pair.
 ghost use Rattle.std.specs.Prelude.{◌≡◌, ◌<◌, [], ◌∷◌, length, true, false, All, MatchOption};
-ghost use Rattle.filter_differ.specs.Others.{HasOther, LeavesRoom, TakesRoom, first_lone, is_lone};
+ghost use Rattle.filter_differ.specs.Differ.{HasOther, LeavesRoom, TakesRoom, first_lone, is_lone};
 ghost use Rattle.palm_domain.specs.Rows.{present_of};
 ghost use Rattle.palm_model.specs.Domains.{values_of};
 

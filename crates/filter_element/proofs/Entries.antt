@@ -13,16 +13,18 @@ use Rattle.palm_model.specs.Domains.{Domains, Has, Ascends, AllAscend, values_of
 use Rattle.palm_model.specs.Constraint.{scope, Distinct, IsWellFormed}
 use Rattle.palm_model.specs.Part.{scope_of}
 use Rattle.palm_model.specs.Support.{HasSupport, IsSupported, LacksSupport}
-use Rattle.palm_model.specs.Reason.{entry_at, yields, is_entry, indices_of, outcomes_at, pairs_of, element_reason, reason, IsReason, WantsReason}
+use Rattle.palm_model.specs.Element.{entry_at, yields, is_entry, indices_of, outcomes_at, element_reason, IsElement}
+use Rattle.palm_model.specs.Removed.{pairs_of}
+use Rattle.palm_model.specs.Reason.{reason, IsReason, WantsReason}
 use Rattle.palm_model.specs.declared.constraint.Con.{Con}
 use Rattle.palm_model.specs.declared.constraint.Con.TheVariants.{CompareVar, CompareConst, Linear, Table, Element, Count, Differ}
 use Rattle.palm_model.specs.declared.part.Part.{Part}
-use Rattle.palm_model.specs.declared.part.Part.TheVariants.{EntryChosen}
+use Rattle.palm_model.specs.declared.part.Part.TheVariants.{Element as ElementPart}
 use Rattle.palm_model.proofs.Ascending.{ascends_at, ascends_filter, ascending_same}
 use Rattle.palm_model.proofs.Reasons.{pairs_member, member_pairs}
 use Rattle.palm_model.proofs.Supports.{supported_by_part, lacking_by_part, part_unsupported, two_first, two_second, support_by_two, without_has}
-use Rattle.filter_element.specs.Entry.{IsElement, element_of, IsReached, IsOpen}
-use Rattle.filter_element.specs.declared.entry.EntryChoice.{EntryChoice}
+use Rattle.filter_element.specs.Element.{element_of, IsEntryReached, IsOpen}
+use Rattle.filter_element.specs.declared.rule.ElementRule.{ElementRule}
 
 -- ---- entries by their indices
 
@@ -44,9 +46,9 @@ test_entry o w e = ap (λ p. yields p w) e ∙ (Decides-int_eq w w).1 refl
 
 -- ---- support
 
-module _ (c : EntryChoice) where
+module _ (c : ElementRule) where
   abbrev part : Part
-  part = EntryChosen c.outcome c.index c.entries
+  part = ElementPart c.outcome c.index c.entries
 
   -- the two variables
   abbrev both : List ℕ
@@ -58,7 +60,7 @@ module _ (c : EntryChoice) where
   apart : Distinct both → c.outcome ≡ c.index → ⊥
   apart distinct e = distinct.0 (member_same (c.index ∷ []) c.index c.outcome (sym e) (member_here c.index []))
 
-  pub outcome_support : (d : Domains) (w : ℤ) → Distinct both → Has d c.outcome w → IsReached d c w → HasSupport d part c.outcome w
+  pub outcome_support : (d : Domains) (w : ℤ) → Distinct both → Has d c.outcome w → IsEntryReached d c w → HasSupport d part c.outcome w
   outcome_support d w distinct has r =
       let k = pos (r.place + 1) in
       let ne : c.index ≡ c.outcome → ⊥ = λ e. apart distinct (sym e) in
@@ -71,7 +73,7 @@ module _ (c : EntryChoice) where
       support_by_two d part c.index k c.outcome r.entry (apart distinct) (λ z m. elim (of_two z m) [ inl e ↦ inr e | inr e ↦ inl e ]) has r.outcome
       (s.0, two_first c.index k c.outcome r.entry ∙ s.1, s.2 ∙ ap Some (sym (two_second c.index k c.outcome r.entry (apart distinct))))
 
-  pub support_outcome : (d : Domains) (w : ℤ) → HasSupport d part c.outcome w → IsReached d c w
+  pub support_outcome : (d : Domains) (w : ℤ) → HasSupport d part c.outcome w → IsEntryReached d c w
   support_outcome d w s = record {
     place = s.holds.0;
     stands = s.holds.2 ∙ ap Some s.gives;
@@ -198,7 +200,7 @@ none_written out y ws e = sym (ap (λ vs. out ++ pairs_of y vs) e ∙ append-nil
 
 -- ---- a filter's answers, for its meaning m
 
-module _ (c : EntryChoice) (m : Con) (n : ℕ) (is : element_of c ≡ m) (formed : IsWellFormed n m) where
+module _ (c : ElementRule) (m : Con) (n : ℕ) (is : element_of c ≡ m) (formed : IsWellFormed n m) where
   own_formed : IsWellFormed n (element_of c)
   own_formed = subst (λ k. IsWellFormed n k) (sym is) formed
 
@@ -218,29 +220,29 @@ module _ (c : EntryChoice) (m : Con) (n : ℕ) (is : element_of c ≡ m) (formed
   few_entries = own_formed.shaped.0.1
 
   module _ (d : Domains) (x : ℕ) (v : ℤ) where
-    pub outcome_supported : x ≡ c.outcome → Has d x v → IsReached d c v → IsSupported d m x v
+    pub outcome_supported : x ≡ c.outcome → Has d x v → IsEntryReached d c v → IsSupported d m x v
     outcome_supported e has r =
         subst (λ k. IsSupported d k x v) is (subst (λ z. IsSupported d (element_of c) z v) (sym e)
-        (supported_by_part d (element_of c) (EntryChosen c.outcome c.index c.entries) c.outcome v refl
+        (supported_by_part d (element_of c) (ElementPart c.outcome c.index c.entries) c.outcome v refl
         (outcome_support c d v own_formed.distinct (subst (λ z. Has d z v) e has) r)))
 
-    pub outcome_lacking : x ≡ c.outcome → (IsReached d c v → ⊥) → LacksSupport d m x v
+    pub outcome_lacking : x ≡ c.outcome → (IsEntryReached d c v → ⊥) → LacksSupport d m x v
     outcome_lacking e none =
         subst (λ k. LacksSupport d k x v) is (subst (λ z. LacksSupport d (element_of c) z v) (sym e)
-        (lacking_by_part d (element_of c) (EntryChosen c.outcome c.index c.entries) c.outcome v refl (member_here c.outcome (c.index ∷ [])) (λ s. none (support_outcome c d v s))))
+        (lacking_by_part d (element_of c) (ElementPart c.outcome c.index c.entries) c.outcome v refl (member_here c.outcome (c.index ∷ [])) (λ s. none (support_outcome c d v s))))
 
     pub index_supported : Contains (scope m) x → (x ≡ c.outcome → ⊥) → Has d x v → IsOpen d c v → IsSupported d m x v
     index_supported over ne has r =
         let e = index_is x over ne in
         subst (λ k. IsSupported d k x v) is (subst (λ z. IsSupported d (element_of c) z v) e
-        (supported_by_part d (element_of c) (EntryChosen c.outcome c.index c.entries) c.index v refl
+        (supported_by_part d (element_of c) (ElementPart c.outcome c.index c.entries) c.index v refl
         (index_support c d v own_formed.distinct (subst (λ z. Has d z v) (sym e) has) r)))
 
     pub index_lacking : Contains (scope m) x → (x ≡ c.outcome → ⊥) → (IsOpen d c v → ⊥) → LacksSupport d m x v
     index_lacking over ne none =
         let e = index_is x over ne in
         subst (λ k. LacksSupport d k x v) is (subst (λ z. LacksSupport d (element_of c) z v) e
-        (lacking_by_part d (element_of c) (EntryChosen c.outcome c.index c.entries) c.index v refl (member_there c.outcome (c.index ∷ []) c.index (member_here c.index []))
+        (lacking_by_part d (element_of c) (ElementPart c.outcome c.index c.entries) c.index v refl (member_there c.outcome (c.index ∷ []) c.index (member_here c.index []))
         (λ s. none (support_index c d v s))))
 
   pub gives_reason : (initial present : Domains) (x : ℕ) (v : ℤ) (out : List Pair) → out ≡ element_reason initial c.outcome c.index c.entries x v → out ≡ reason initial present m x v
@@ -261,13 +263,13 @@ module _ (entries : List ℤ) (w : ℤ) (places : List ℕ) (stands : (k : ℕ) 
   pub place_few : (i : ℕ) → i < length places → length entries ≤ 256 → get_or places i 0 < 256
   place_few i lt few = let g = slice_get_within entries (get_or places i 0) w (place_at i lt) in omega arith
 
-module _ (d : Domains) (c : EntryChoice) (w : ℤ) (places : List ℕ) (i : ℕ) where
+module _ (d : Domains) (c : ElementRule) (w : ℤ) (places : List ℕ) (i : ℕ) where
   pub place_missed : (k : ℤ) → i < length places → k ≡ pos (get_or places i 0 + 1) → (Has d c.index k → ⊥) → AllWithin (λ n. Has d c.index (pos (n + 1)) → ⊥) places 0 i → AllWithin (λ n. Has d c.index (pos (n + 1)) → ⊥) places 0 (i + 1)
   place_missed k lt e missing before =
       AllWithin-more (λ n. Has d c.index (pos (n + 1)) → ⊥) places 0 i before
       (λ z. subst (λ n. Has d c.index (pos (n + 1)) → ⊥) (get_or_default places i 0 z lt) (subst (λ u. Has d c.index u → ⊥) e missing))
 
-  pub all_missed : ((k : ℕ) → slice_get c.entries k ≡ Some w → Contains places k) → length places ≤ i → AllWithin (λ n. Has d c.index (pos (n + 1)) → ⊥) places 0 i → IsReached d c w → ⊥
+  pub all_missed : ((k : ℕ) → slice_get c.entries k ≡ Some w → Contains places k) → length places ≤ i → AllWithin (λ n. Has d c.index (pos (n + 1)) → ⊥) places 0 i → IsEntryReached d c w → ⊥
   all_missed every le before r =
       let m = every r.place r.stands in
       subst (λ n. Has d c.index (pos (n + 1)) → ⊥) m.2 (before m.0 r.place (omega arith) (omega (arith, m.1, le))) r.index

@@ -1,9 +1,9 @@
 //! The filter of an element of a list.
 ghost use Rattle.std.specs.Prelude.{◌≡◌, ℕ, IfOk};
-ghost use Rattle.filter_element.specs.Entry.{IsElement};
+ghost use Rattle.palm_model.specs.Element.{IsElement};
 ghost use Rattle.palm_model.specs.Constraint.{IsWellFormed};
 
-use crate::entry::EntryChoice;
+use crate::rule::ElementRule;
 use palm_base::{NoMemory, Pair, VarList};
 use palm_domain::DomainStore;
 use palm_filter::{Filter, Reasons, ValueIndex, whole_or_none};
@@ -16,12 +16,12 @@ use std::marker::Model;
 #[derive(Debug, Drop)]
 pub struct ElementFilter {
     vars: VarList,
-    choice: EntryChoice,
+    choice: ElementRule,
 }
 
 impl Model for ElementFilter {
     ghost use Rattle.std.specs.Prelude.{◌≡◌, ℕ};
-    ghost use Rattle.filter_element.specs.Entry.{element_of};
+    ghost use Rattle.filter_element.specs.Element.{element_of};
     ghost use Rattle.palm_model.specs.Constraint.{IsWellFormed, scope};
     ghost use Rattle.palm_model.specs.declared.constraint.Con.{Con};
 
@@ -46,7 +46,7 @@ impl ElementFilter {
                 entries,
             } => Ok(ElementFilter {
                 vars: VarList::from_slice(alloc, &[*outcome, *index])?,
-                choice: EntryChoice {
+                choice: ElementRule {
                     outcome: *outcome,
                     index: *index,
                     entries: ValueIndex::new(alloc, entries.as_slice())?,

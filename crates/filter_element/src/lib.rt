@@ -2,7 +2,7 @@
 #![tactic(auto)]
 
 pub mod element;
-pub mod entry;
+pub mod rule;
 pub mod laws;
 
 pub use element::ElementFilter;

@@ -1,5 +1,5 @@
 pub mod ManyTerms
-pub mod SumReasons
-pub mod SumSupport
+pub mod LinearReasons
+pub mod LinearSupport
 pub mod Totals
 pub mod Walks

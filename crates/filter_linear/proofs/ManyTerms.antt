@@ -4,7 +4,8 @@ use Rattle.std.proofs.lemmas.Int.{ints}
 use Rattle.std.proofs.lemmas.List.{map-append, length-map}
 use Rattle.std.proofs.lemmas.List.Elements.{All-contains, All-push, All-weaker, Contains-push_cases, Contains-append_left, Contains-append_right}
 use Rattle.palm_base.proofs.Members.{member_nil, member_here}
-use Rattle.palm_model.specs.Constraint.{Distinct, IsFactor, IsWellFormed, term_vars}
+use Rattle.palm_model.specs.Constraint.{Distinct, IsWellFormed}
+use Rattle.palm_model.specs.Linear.{IsFactor, term_vars}
 use Rattle.palm_model.specs.declared.constraint.Con.TheVariants.{Linear}
 use Rattle.palm_model.specs.declared.constraint.Op.TheVariants.{Le}
 use Rattle.palm_model.specs.declared.constraint.Term.{Term}

@@ -2,9 +2,9 @@
 -- beyond the present ones.
 use Rattle.std.specs.Prelude.{◌≡◌, ℕ, ℤ, pos, ◌+ℤ◌, ◌*ℤ◌, ◌<◌, ◌<ℤ◌, ◌≤ℤ◌, Bool, List, [], ◌∷◌, All, length, nat_eq, int_lt, if◌then◌else◌, ⊤}
 use Rattle.palm_base.specs.declared.terms.Pair.{Pair}
-use Rattle.palm_model.specs.Constraint.{IsUpTo}
+use Rattle.palm_model.specs.Limits.{IsUpTo}
 use Rattle.palm_model.specs.Domains.{Domains, values_of}
-use Rattle.palm_model.specs.Reason.{least_of, greatest_of, products, least_total, values_below, values_above, at_most_reason, at_least_reason}
+use Rattle.palm_model.specs.Linear.{least_of, greatest_of, products, least_total, values_below, values_above, at_most_reason, at_least_reason}
 use Rattle.palm_model.specs.declared.constraint.Con.{Con}
 use Rattle.palm_model.specs.declared.constraint.Con.TheVariants.{CompareVar, CompareConst, Linear, Table, Element, Count, Differ}
 use Rattle.palm_model.specs.declared.constraint.Op.{Op}
@@ -13,20 +13,10 @@ use Rattle.palm_model.specs.declared.constraint.Term.{Term}
 use Rattle.filter_linear.specs.declared.reasons.Side.{Side}
 use Rattle.filter_linear.specs.declared.reasons.Side.TheVariants.{Below, Above}
 use Rattle.filter_linear.specs.declared.span.Span.{Span}
-use Rattle.filter_linear.specs.declared.sum.Sum.{Sum}
+use Rattle.filter_linear.specs.declared.rule.LinearRule.{LinearRule}
 
--- a sum
-abbrev pub IsSum : Con → Type 0
-IsSum (CompareVar left op right offset) = ⊥
-IsSum (CompareConst left op value) = ⊥
-IsSum (Linear terms op bound) = ⊤
-IsSum (Table vars rows) = ⊥
-IsSum (Element outcome index entries) = ⊥
-IsSum (Count value vars op target) = ⊥
-IsSum (Differ vars) = ⊥
-
-abbrev pub sum_of : Sum → Con
-sum_of s = Linear s.terms s.op s.bound
+abbrev pub linear_of : LinearRule → Con
+linear_of s = Linear s.terms s.op s.bound
 
 -- ---- what a sum can be
 

@@ -5,9 +5,9 @@ pub mod laws;
 pub mod linear;
 pub mod reasons;
 pub mod span;
-pub mod sum;
+pub mod rule;
 
-pub use laws::reasons_of_sums_are_right;
+pub use laws::linear_reasons_are_right;
 pub use linear::LinearFilter;
 
 #[cfg(test)]

@@ -1,11 +1,11 @@
 //! The filter of a sum.
 ghost use Rattle.std.specs.Prelude.{◌≡◌, ℕ, IfOk};
-ghost use Rattle.filter_linear.specs.Linear.{IsSum};
-ghost use Rattle.palm_model.specs.Constraint.{IsWellFormed, term_vars};
+ghost use Rattle.palm_model.specs.Linear.{IsLinear, term_vars};
+ghost use Rattle.palm_model.specs.Constraint.{IsWellFormed};
 
 use crate::reasons::push_reason;
 use crate::span::Span;
-use crate::sum::Sum;
+use crate::rule::LinearRule;
 use palm_base::{NoMemory, Pair, VarList};
 use palm_domain::DomainStore;
 use palm_filter::{Filter, Reasons, whole_or_none};
@@ -18,33 +18,34 @@ use std::marker::Model;
 #[derive(Debug, Drop)]
 pub struct LinearFilter {
     vars: VarList,
-    sum: Sum,
+    sum: LinearRule,
 }
 
 impl Model for LinearFilter {
     ghost use Rattle.std.specs.Prelude.{◌≡◌, ℕ};
-    ghost use Rattle.filter_linear.specs.Linear.{sum_of};
-    ghost use Rattle.palm_model.specs.Constraint.{IsWellFormed, term_vars};
+    ghost use Rattle.filter_linear.specs.Linear.{linear_of};
+    ghost use Rattle.palm_model.specs.Constraint.{IsWellFormed};
+    ghost use Rattle.palm_model.specs.Linear.{term_vars};
     ghost use Rattle.palm_model.specs.declared.constraint.Con.{Con};
 
     ghost Value = { Con };
 
-    ghost view = { λ f. sum_of f.sum };
+    ghost view = { λ f. linear_of f.sum };
 
-    ghost invariant = { λ f. (f.vars ≡ term_vars f.sum.terms) × ((variables : ℕ) × IsWellFormed variables (sum_of f.sum)) };
+    ghost invariant = { λ f. (f.vars ≡ term_vars f.sum.terms) × ((variables : ℕ) × IsWellFormed variables (linear_of f.sum)) };
 }
 
 impl LinearFilter {
     /// The filter of a sum.
     pub fn new(alloc: Global, con: &Con) -> Result<LinearFilter, NoMemory>
         requires formed { (variables : ℕ) × IsWellFormed variables con.now }
-        requires kind { IsSum con.now }
+        requires kind { IsLinear con.now }
         ensures { IfOk result (λ filter. filter ≡ con.now) }
     {
         match con {
             Con::Linear { terms, op, bound } => Ok(LinearFilter {
                 vars: variables_of(alloc, terms)?,
-                sum: Sum {
+                sum: LinearRule {
                     terms: terms.copy()?,
                     op: *op,
                     bound: *bound,

@@ -1,13 +1,15 @@
 //! Reasons of sums: removed values beyond the present ones, or all removed values.
 ghost use Rattle.std.specs.Prelude.{◌≡◌, ◌*ℤ◌, ◌++◌, ◌<◌, length, OnOk};
-ghost use Rattle.filter_linear.specs.Linear.{beyond_reason, is_beyond, sum_of, values_beyond};
+ghost use Rattle.filter_linear.specs.Linear.{beyond_reason, is_beyond, linear_of, values_beyond};
 ghost use Rattle.palm_domain.specs.Rows.{initial_of, present_of};
-ghost use Rattle.palm_model.specs.Constraint.{IsFactor, IsWellFormed, term_vars};
+ghost use Rattle.palm_model.specs.Linear.{IsFactor, term_vars, linear_reason};
+ghost use Rattle.palm_model.specs.Constraint.{IsWellFormed};
 ghost use Rattle.palm_model.specs.Domains.{values_of};
-ghost use Rattle.palm_model.specs.Reason.{AreFilled, others, pairs_of, removed_pairs, sum_reason};
+ghost use Rattle.palm_model.specs.Reason.{AreFilled};
+ghost use Rattle.palm_model.specs.Removed.{others, pairs_of, removed_pairs};
 
 use crate::span::{Span, product_of};
-use crate::sum::Sum;
+use crate::rule::LinearRule;
 use palm_base::{NoMemory, Pair, Value};
 use palm_domain::DomainStore;
 use palm_filter::{Reasons, push_removed};
@@ -65,12 +67,12 @@ impl Side {
     /// Appends these pairs of every variable of the sum but that of the pair.
     fn push_pairs(
         self,
-        sum: &Sum,
+        sum: &LinearRule,
         store: &DomainStore,
         pair: &Pair,
         out: &mut Reasons,
     ) -> Result<(), NoMemory>
-        requires formed { IsWellFormed (length store.now) (sum_of sum.now) }
+        requires formed { IsWellFormed (length store.now) (linear_of sum.now) }
         requires filled { AreFilled (present_of store.now) (term_vars sum.now.terms) }
         ensures { OnOk result (out.new.items ≡ out.old.items ++ beyond_reason self (initial_of store.now) (present_of store.now) sum.now.terms pair.now.var) }
     {
@@ -85,12 +87,12 @@ impl Side {
 
 /// Appends the removed pairs of every variable of the sum but that of the pair.
 fn push_others(
-    sum: &Sum,
+    sum: &LinearRule,
     store: &DomainStore,
     pair: &Pair,
     out: &mut Reasons,
 ) -> Result<(), NoMemory>
-    requires formed { IsWellFormed (length store.now) (sum_of sum.now) }
+    requires formed { IsWellFormed (length store.now) (linear_of sum.now) }
     ensures { OnOk result (out.new.items ≡ out.old.items ++ removed_pairs (initial_of store.now) (present_of store.now) (others (term_vars sum.now.terms) pair.now.var)) }
 {
     for term in sum.terms.as_slice() {
@@ -103,14 +105,14 @@ fn push_others(
 
 /// Appends the removed pairs for which the sum does not stand in the relation where the variable has its value.
 pub(crate) fn push_reason(
-    sum: &Sum,
+    sum: &LinearRule,
     store: &DomainStore,
     pair: &Pair,
     out: &mut Reasons,
 ) -> Result<(), NoMemory>
-    requires formed { IsWellFormed (length store.now) (sum_of sum.now) }
+    requires formed { IsWellFormed (length store.now) (linear_of sum.now) }
     requires filled { AreFilled (present_of store.now) (term_vars sum.now.terms) }
-    ensures { OnOk result (out.new.items ≡ out.old.items ++ sum_reason (initial_of store.now) (present_of store.now) sum.now.terms sum.now.op sum.now.bound pair.now.var pair.now.value) }
+    ensures { OnOk result (out.new.items ≡ out.old.items ++ linear_reason (initial_of store.now) (present_of store.now) sum.now.terms sum.now.op sum.now.bound pair.now.var pair.now.value) }
 {
     match sum.op {
         Op::Eq => sum

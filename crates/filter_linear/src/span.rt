@@ -2,7 +2,7 @@
 ghost use Rattle.std.specs.Prelude.{◌≡◌, ◌<◌, ◌≤◌, ◌*ℤ◌, length, All, IfNone, IfSome};
 ghost use Rattle.filter_linear.specs.Linear.{IsFilledBeside, IsProduct, IsShare, IsSpan, IsTermSpan};
 ghost use Rattle.palm_domain.specs.Rows.{present_of};
-ghost use Rattle.palm_model.specs.Constraint.{IsFactor, term_vars};
+ghost use Rattle.palm_model.specs.Linear.{IsFactor, term_vars};
 ghost use Rattle.palm_model.specs.Domains.{values_of};
 
 use palm_base::{Pair, Value};

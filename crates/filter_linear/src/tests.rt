@@ -1,6 +1,7 @@
 //! Reasons and support of sums.
 ghost use Rattle.std.specs.Prelude.{◌≡◌, ◌∷◌, [], ◌<◌, pos, length, All, Contains, IfOk};
-ghost use Rattle.palm_model.specs.Constraint.{IsWellFormed, scope, term_vars};
+ghost use Rattle.palm_model.specs.Constraint.{IsWellFormed, scope};
+ghost use Rattle.palm_model.specs.Linear.{term_vars};
 ghost use Rattle.palm_model.specs.declared.constraint.Con.TheVariants.{Linear};
 ghost use Rattle.palm_model.specs.declared.constraint.Op.TheVariants.{Le};
 

@@ -1,5 +1,5 @@
 -- How many of some variables have a value, over plain lists of values: any number from the lower to the higher one is
--- the number of occurrences in some assignment within the lists, and every assignment's number is one of these.
+-- the count in some assignment within the lists, and every assignment's number is one of these.
 use Rattle.std.proofs.Common.{◌≡◌, ℕ, zero, suc, ℤ, pos, ◌+◌, ◌-◌, ◌<◌, ◌≤◌, ◌<ℤ◌, Bool, true, false, not, cond, List, [], ◌∷◌, ◌++◌, length, filter, take, Contains, eq-eqb, ne_eqb, inl, inr, refl, sym, ap, ◌∙◌, subst, arith, int_eq}
 use Rattle.std.proofs.lemmas.Int.{ints}
 use Rattle.std.proofs.lemmas.Bool.{cases_Bool, cases_lt, or_cases, or_left, or_right, false≢true}
@@ -8,17 +8,18 @@ use Rattle.std.proofs.lemmas.List.Elements.{All-contains, Contains-append_left, 
 use Rattle.std.specs.List.{AllWithin}
 use Rattle.palm_base.proofs.Members.{member_nil, member_here, member_there, member_cases, member_single, member_same, filter_agree_members, nat_known}
 use Rattle.palm_model.specs.Domains.{Assignment, Domains, Has, Ascends, values_of}
-use Rattle.palm_model.specs.Constraint.{Stands, Distinct}
-use Rattle.palm_model.specs.Part.{occurrences}
-use Rattle.palm_model.specs.Reason.{is_standing, is_alone, is_listed, others, needs_low, needs_high, is_within_counts}
+use Rattle.palm_model.specs.Relation.{Stands, is_standing}
+use Rattle.palm_model.specs.Constraint.{Distinct}
+use Rattle.palm_model.specs.Count.{count_among, needs_low, needs_high, is_within_counts}
+use Rattle.palm_model.specs.Removed.{is_alone, is_listed, others}
 use Rattle.palm_model.specs.declared.constraint.Op.{Op}
 use Rattle.palm_model.specs.declared.constraint.Op.TheVariants.{Eq, Ne, Lt, Le, Gt, Ge}
 use Rattle.palm_model.proofs.Assignments.{occurrences_agree}
 use Rattle.palm_model.proofs.Reasons.{alone_only, listed_member, member_listed}
 use Rattle.palm_model.proofs.Standing.{stands_from_test, test_from_stands}
 use Rattle.palm_model.proofs.Trials.{put, put_same, put_other}
-use Rattle.filter_occur.specs.Occurrence.{values_where, low_count, high_count, IsChance}
-use Rattle.filter_occur.specs.declared.occurrence.Chance.{Chance}
+use Rattle.filter_occur.specs.Count.{values_where, low_count, high_count, IsChance}
+use Rattle.filter_occur.specs.declared.rule.Chance.{Chance}
 
 -- ---- how many members pass a test
 
@@ -65,11 +66,11 @@ pub alone_has : (vs : List ℤ) (v w : ℤ) → is_alone vs v ≡ true → Conta
 alone_has vs v w t m = sym (member_single v w (subst (λ ws. Contains ws w) (alone_only vs v t) m))
 
 module _ (f : ℕ → List ℤ) (value : ℤ) (vars : List ℕ) (a : Assignment) (within : (y : ℕ) → Contains vars y → Contains (f y) (a y)) where
-  pub at_least_low : low_count f value vars ≤ occurrences a value vars
+  pub at_least_low : low_count f value vars ≤ count_among a value vars
   at_least_low = passed_rises (λ y. is_alone (f y) value) (λ y. int_eq (a y) value) vars (λ y m t.
       (Decides-int_eq (a y) value).1 (alone_has (f y) value (a y) t (within y m)))
 
-  pub at_most_high : occurrences a value vars ≤ high_count f value vars
+  pub at_most_high : count_among a value vars ≤ high_count f value vars
   at_most_high = passed_rises (λ y. int_eq (a y) value) (λ y. is_listed (f y) value) vars (λ y m t.
       member_listed (f y) value (member_same (f y) (a y) value ((Decides-int_eq (a y) value).0 t) (within y m)))
 
@@ -78,7 +79,7 @@ module _ (f : ℕ → List ℤ) (value : ℤ) (vars : List ℕ) (a : Assignment)
 pub record Choice (f : ℕ → List ℤ) (value : ℤ) (vars : List ℕ) (number : ℕ) : Type 0 where
   pub assignment : Assignment
   pub within : (y : ℕ) → Contains vars y → Contains (f y) (assignment y)
-  pub counted : occurrences assignment value vars ≡ number
+  pub counted : count_among assignment value vars ≡ number
 
 -- a value other than the counted one
 other_value : (vs : List ℤ) (value : ℤ) → Ascends vs → 0 < length vs → is_alone vs value ≡ false → (w : ℤ) × Contains vs w × (int_eq w value ≡ false)
@@ -100,14 +101,14 @@ choice_more f value y ys w rest number new has e c =
     let a = put c.assignment y w in
     let apart : (z : ℕ) → Contains ys z → z ≡ y → ⊥ = λ z m s. new (member_same ys z y s m) in
     let first : int_eq (a y) value ≡ int_eq w value = ap (λ u. int_eq u value) (put_same c.assignment y w) in
-    let others : occurrences a value ys ≡ rest = occurrences_agree a c.assignment value ys (λ z m. put_other c.assignment y w z (apart z m)) ∙ c.counted in
+    let others : count_among a value ys ≡ rest = occurrences_agree a c.assignment value ys (λ z m. put_other c.assignment y w z (apart z m)) ∙ c.counted in
     record {
       assignment = a;
       within = λ z m. elim (member_cases y ys z m) [
         | inl s ↦ subst (λ t. Contains (f t) (a t)) s (subst (λ u. Contains (f y) u) (sym (put_same c.assignment y w)) has)
         | inr k ↦ subst (λ u. Contains (f z) u) (sym (put_other c.assignment y w z (apart z k))) (c.within z k)
       ];
-      counted = passed_cons (λ z. int_eq (a z) value) y ys ∙ ap (λ b. bit b + occurrences a value ys) first ∙ ap (λ n. bit (int_eq w value) + n) others ∙ e;
+      counted = passed_cons (λ z. int_eq (a z) value) y ys ∙ ap (λ b. bit b + count_among a value ys) first ∙ ap (λ n. bit (int_eq w value) + n) others ∙ e;
     }
 
 same_is : (v : ℤ) → int_eq v v ≡ true

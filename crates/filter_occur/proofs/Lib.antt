@@ -1,4 +1,4 @@
 pub mod Counting
-pub mod Occurrences
+pub mod CountSupport
 pub mod Reached
 pub mod Written

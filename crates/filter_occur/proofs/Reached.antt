@@ -4,34 +4,34 @@ use Rattle.std.proofs.lemmas.Int.{ints}
 use Rattle.std.proofs.lemmas.Bool.{cases_Bool}
 use Rattle.palm_base.proofs.Members.{member_here, member_single}
 use Rattle.palm_domain.specs.Rows.{IsLeastOf, IsGreatestOf, IsNextFrom}
-use Rattle.palm_model.specs.Constraint.{Stands}
-use Rattle.palm_model.specs.Reason.{is_within_counts}
+use Rattle.palm_model.specs.Relation.{Stands}
+use Rattle.palm_model.specs.Count.{is_within_counts}
 use Rattle.palm_model.specs.declared.constraint.Op.{Op}
 use Rattle.palm_model.specs.declared.constraint.Op.TheVariants.{Eq, Ne, Lt, Le, Gt, Ge}
-use Rattle.filter_occur.specs.Occurrence.{IsReached}
+use Rattle.filter_occur.specs.Count.{IsCountReached}
 use Rattle.filter_occur.specs.declared.counts.Counts.{Counts}
 use Rattle.filter_occur.proofs.Counting.{within_test, test_within}
 
 module _ (counts : Counts) where
   -- ---- equal to one of the numbers
 
-  pub equal_reached : (vs : List ℤ) (w : ℤ) → Contains vs w → pos counts.low ≤ℤ w → w ≤ℤ pos counts.high → IsReached counts Eq vs
+  pub equal_reached : (vs : List ℤ) (w : ℤ) → Contains vs w → pos counts.low ≤ℤ w → w ≤ℤ pos counts.high → IsCountReached counts Eq vs
   equal_reached vs (pos n) m from to = record { number = n; from = omega (arith, ints, from); to = omega (arith, ints, to); target = pos n; member = m; stands = refl }
   equal_reached vs (negsuc n) m from to = absurd (omega (arith, ints, from))
 
-  pub op_equal_reached : (op : Op) (w : ℤ) → op ≡ Eq → pos counts.low ≤ℤ w → w ≤ℤ pos counts.high → IsReached counts op (w ∷ [])
-  op_equal_reached op w is from to = subst (λ o. IsReached counts o (w ∷ [])) (sym is) (equal_reached (w ∷ []) w (member_here w []) from to)
+  pub op_equal_reached : (op : Op) (w : ℤ) → op ≡ Eq → pos counts.low ≤ℤ w → w ≤ℤ pos counts.high → IsCountReached counts op (w ∷ [])
+  op_equal_reached op w is from to = subst (λ o. IsCountReached counts o (w ∷ [])) (sym is) (equal_reached (w ∷ []) w (member_here w []) from to)
 
-  pub next_reached : (vs : List ℤ) (low u : ℤ) → low ≡ pos counts.low → IsNextFrom vs low u → u ≤ℤ pos counts.high → IsReached counts Eq vs
+  pub next_reached : (vs : List ℤ) (low u : ℤ) → low ≡ pos counts.low → IsNextFrom vs low u → u ≤ℤ pos counts.high → IsCountReached counts Eq vs
   next_reached vs low u e next le = equal_reached vs u next.member (subst (λ z. z ≤ℤ u) e next.from) le
 
-  pub next_missed : (vs : List ℤ) (low u : ℤ) → low ≡ pos counts.low → IsNextFrom vs low u → pos counts.high <ℤ u → IsReached counts Eq vs → ⊥
+  pub next_missed : (vs : List ℤ) (low u : ℤ) → low ≡ pos counts.low → IsNextFrom vs low u → pos counts.high <ℤ u → IsCountReached counts Eq vs → ⊥
   next_missed vs low u e next lt r =
       let same : pos r.number ≡ r.target = r.stands in
       let least = next.least r.target r.member (omega (arith, ints, e, same, r.from)) in
       omega (arith, ints, least, same, r.to, lt)
 
-  pub none_missed : (vs : List ℤ) (low : ℤ) → low ≡ pos counts.low → ((w : ℤ) → Contains vs w → w <ℤ low) → IsReached counts Eq vs → ⊥
+  pub none_missed : (vs : List ℤ) (low : ℤ) → low ≡ pos counts.low → ((w : ℤ) → Contains vs w → w <ℤ low) → IsCountReached counts Eq vs → ⊥
   none_missed vs low e below r =
       let same : pos r.number ≡ r.target = r.stands in
       omega (arith, ints, below r.target r.member, e, same, r.from)
@@ -39,23 +39,23 @@ module _ (counts : Counts) where
   -- ---- the least and the greatest value
 
   -- the number of one answer with another value
-  other_target : (op : Op) (vs ws : List ℤ) (r : IsReached counts op vs) (w : ℤ) → Contains ws w → Stands op (pos r.number) w → IsReached counts op ws
+  other_target : (op : Op) (vs ws : List ℤ) (r : IsCountReached counts op vs) (w : ℤ) → Contains ws w → Stands op (pos r.number) w → IsCountReached counts op ws
   other_target op vs ws r w m h = record { number = r.number; from = r.from; to = r.to; target = w; member = m; stands = h }
 
-  one_value : (op : Op) (vs : List ℤ) (r : IsReached counts op vs) (w : ℤ) → Stands op (pos r.number) w → IsReached counts op (w ∷ [])
+  one_value : (op : Op) (vs : List ℤ) (r : IsCountReached counts op vs) (w : ℤ) → Stands op (pos r.number) w → IsCountReached counts op (w ∷ [])
   one_value op vs r w h = other_target op vs (w ∷ []) r w (member_here w []) h
 
-  unlike_missed : (vs : List ℤ) (least greatest : ℤ) → IsLeastOf vs least → IsGreatestOf vs greatest → (IsReached counts Ne (least ∷ []) → ⊥) → (IsReached counts Ne (greatest ∷ []) → ⊥) → IsReached counts Ne vs → ⊥
+  unlike_missed : (vs : List ℤ) (least greatest : ℤ) → IsLeastOf vs least → IsGreatestOf vs greatest → (IsCountReached counts Ne (least ∷ []) → ⊥) → (IsCountReached counts Ne (greatest ∷ []) → ⊥) → IsCountReached counts Ne vs → ⊥
   unlike_missed vs least greatest low high n m r =
       n (one_value Ne vs r least (λ e. m (one_value Ne vs r greatest (λ g. r.stands (omega (arith, ints, e, g, low.least r.target r.member, high.greatest r.target r.member))))))
 
-  pub op_unlike_missed : (op : Op) (vs : List ℤ) (least greatest : ℤ) → op ≡ Ne → IsLeastOf vs least → IsGreatestOf vs greatest → (IsReached counts op (least ∷ []) → ⊥) → (IsReached counts op (greatest ∷ []) → ⊥) → IsReached counts op vs → ⊥
+  pub op_unlike_missed : (op : Op) (vs : List ℤ) (least greatest : ℤ) → op ≡ Ne → IsLeastOf vs least → IsGreatestOf vs greatest → (IsCountReached counts op (least ∷ []) → ⊥) → (IsCountReached counts op (greatest ∷ []) → ⊥) → IsCountReached counts op vs → ⊥
   op_unlike_missed op vs least greatest is low high n m r =
       unlike_missed vs least greatest low high
-      (λ q. n (subst (λ o. IsReached counts o (least ∷ [])) (sym is) q)) (λ q. m (subst (λ o. IsReached counts o (greatest ∷ [])) (sym is) q))
-      (subst (λ o. IsReached counts o vs) is r)
+      (λ q. n (subst (λ o. IsCountReached counts o (least ∷ [])) (sym is) q)) (λ q. m (subst (λ o. IsCountReached counts o (greatest ∷ [])) (sym is) q))
+      (subst (λ o. IsCountReached counts o vs) is r)
 
-  below_missed : (op : Op) (vs : List ℤ) (greatest : ℤ) → ((n w : ℤ) → w ≤ℤ greatest → Stands op n w → Stands op n greatest) → IsGreatestOf vs greatest → (IsReached counts op (greatest ∷ []) → ⊥) → IsReached counts op vs → ⊥
+  below_missed : (op : Op) (vs : List ℤ) (greatest : ℤ) → ((n w : ℤ) → w ≤ℤ greatest → Stands op n w → Stands op n greatest) → IsGreatestOf vs greatest → (IsCountReached counts op (greatest ∷ []) → ⊥) → IsCountReached counts op vs → ⊥
   below_missed op vs greatest rises high n r = n (one_value op vs r greatest (rises (pos r.number) r.target (high.greatest r.target r.member) r.stands))
 
   rises_lt : (greatest n w : ℤ) → w ≤ℤ greatest → Stands Lt n w → Stands Lt n greatest
@@ -64,13 +64,13 @@ module _ (counts : Counts) where
   rises_le : (greatest n w : ℤ) → w ≤ℤ greatest → Stands Le n w → Stands Le n greatest
   rises_le greatest n w le h = omega (arith, ints, le, h)
 
-  pub op_below_missed : (op : Op) (vs : List ℤ) (greatest : ℤ) → (op ≡ Lt) ⊎ (op ≡ Le) → IsGreatestOf vs greatest → (IsReached counts op (greatest ∷ []) → ⊥) → IsReached counts op vs → ⊥
+  pub op_below_missed : (op : Op) (vs : List ℤ) (greatest : ℤ) → (op ≡ Lt) ⊎ (op ≡ Le) → IsGreatestOf vs greatest → (IsCountReached counts op (greatest ∷ []) → ⊥) → IsCountReached counts op vs → ⊥
   op_below_missed op vs greatest is high n = elim is [
     | inl e ↦ below_missed op vs greatest (subst (λ o. (n w : ℤ) → w ≤ℤ greatest → Stands o n w → Stands o n greatest) (sym e) (rises_lt greatest)) high n
     | inr e ↦ below_missed op vs greatest (subst (λ o. (n w : ℤ) → w ≤ℤ greatest → Stands o n w → Stands o n greatest) (sym e) (rises_le greatest)) high n
   ]
 
-  above_missed : (op : Op) (vs : List ℤ) (least : ℤ) → ((n w : ℤ) → least ≤ℤ w → Stands op n w → Stands op n least) → IsLeastOf vs least → (IsReached counts op (least ∷ []) → ⊥) → IsReached counts op vs → ⊥
+  above_missed : (op : Op) (vs : List ℤ) (least : ℤ) → ((n w : ℤ) → least ≤ℤ w → Stands op n w → Stands op n least) → IsLeastOf vs least → (IsCountReached counts op (least ∷ []) → ⊥) → IsCountReached counts op vs → ⊥
   above_missed op vs least falls low n r = n (one_value op vs r least (falls (pos r.number) r.target (low.least r.target r.member) r.stands))
 
   falls_gt : (least n w : ℤ) → least ≤ℤ w → Stands Gt n w → Stands Gt n least
@@ -79,7 +79,7 @@ module _ (counts : Counts) where
   falls_ge : (least n w : ℤ) → least ≤ℤ w → Stands Ge n w → Stands Ge n least
   falls_ge least n w le h = omega (arith, ints, le, h)
 
-  pub op_above_missed : (op : Op) (vs : List ℤ) (least : ℤ) → (op ≡ Gt) ⊎ (op ≡ Ge) → IsLeastOf vs least → (IsReached counts op (least ∷ []) → ⊥) → IsReached counts op vs → ⊥
+  pub op_above_missed : (op : Op) (vs : List ℤ) (least : ℤ) → (op ≡ Gt) ⊎ (op ≡ Ge) → IsLeastOf vs least → (IsCountReached counts op (least ∷ []) → ⊥) → IsCountReached counts op vs → ⊥
   op_above_missed op vs least is low n = elim is [
     | inl e ↦ above_missed op vs least (subst (λ o. (n w : ℤ) → least ≤ℤ w → Stands o n w → Stands o n least) (sym e) (falls_gt least)) low n
     | inr e ↦ above_missed op vs least (subst (λ o. (n w : ℤ) → least ≤ℤ w → Stands o n w → Stands o n least) (sym e) (falls_ge least)) low n
@@ -87,12 +87,12 @@ module _ (counts : Counts) where
 
   -- ---- the test of the reasons
 
-  pub reached_test : (op : Op) (w : ℤ) → IsReached counts op (w ∷ []) → is_within_counts counts.low (counts.high - counts.low) op w ≡ true
+  pub reached_test : (op : Op) (w : ℤ) → IsCountReached counts op (w ∷ []) → is_within_counts counts.low (counts.high - counts.low) op w ≡ true
   reached_test op w r =
       within_test counts.low (counts.high - counts.low) op w r.number r.from (omega (arith, r.from, r.to))
       (subst (λ z. Stands op (pos r.number) z) (sym (member_single w r.target r.member)) r.stands)
 
-  pub missed_test : (op : Op) (w : ℤ) → counts.low ≤ counts.high → (IsReached counts op (w ∷ []) → ⊥) → is_within_counts counts.low (counts.high - counts.low) op w ≡ false
+  pub missed_test : (op : Op) (w : ℤ) → counts.low ≤ counts.high → (IsCountReached counts op (w ∷ []) → ⊥) → is_within_counts counts.low (counts.high - counts.low) op w ≡ false
   missed_test op w le n = elim (cases_Bool (is_within_counts counts.low (counts.high - counts.low) op w)) [
     | inl t ↦
         let r = test_within counts.low (counts.high - counts.low) op w t in

@@ -6,7 +6,8 @@ use Rattle.std.proofs.lemmas.List.Elements.{All-nil, filter_more}
 use Rattle.palm_base.proofs.Members.{member_nil, member_here, member_single, member_same, filter_member, member_filter}
 use Rattle.palm_base.specs.declared.terms.Pair.{Pair}
 use Rattle.palm_model.specs.Domains.{Domains, Has, Ascends, AllAscend, values_of}
-use Rattle.palm_model.specs.Reason.{is_listed, others, pairs_of, high_pairs}
+use Rattle.palm_model.specs.Removed.{is_listed, others, pairs_of}
+use Rattle.palm_model.specs.Count.{high_pairs}
 use Rattle.palm_model.proofs.Ascending.{ascends_at, ascends_filter, ascending_same}
 use Rattle.filter_occur.proofs.Counting.{listed_is}
 

@@ -1,1 +1,1 @@
-pub mod Occurrence
+pub mod CountRule

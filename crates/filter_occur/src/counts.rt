@@ -1,16 +1,17 @@
 //! How many of some variables have a value: at least so many, and at most so many.
 ghost use Rattle.std.specs.Prelude.{◌≡◌, ◌++◌, ◌-◌, ◌<◌, ◌≤◌, [], ◌∷◌, length, true, false, filter, OnOk};
-ghost use Rattle.filter_occur.specs.Occurrence.{IsReached};
+ghost use Rattle.filter_occur.specs.Count.{IsCountReached};
 ghost use Rattle.palm_domain.specs.Rows.{initial_of, present_of};
 ghost use Rattle.palm_model.specs.Domains.{values_of};
-ghost use Rattle.palm_model.specs.Reason.{is_within_counts, pairs_of};
+ghost use Rattle.palm_model.specs.Count.{is_within_counts};
+ghost use Rattle.palm_model.specs.Removed.{pairs_of};
 
 use palm_base::{NoMemory, Pair, Value, Var};
 use palm_domain::DomainStore;
 use palm_filter::Reasons;
 use palm_model::{Op, number_of, stands};
 
-/// Every number from the lower to the higher one is the number of occurrences in some assignment.
+/// Every number from the lower to the higher one is the count in some assignment.
 #[derive(Debug, Drop)]
 pub struct Counts {
     pub low: u32,
@@ -23,8 +24,8 @@ impl Counts {
         requires ordered { self.now.low ≤ self.now.high }
         requires small { self.now.high ≤ 16 }
         requires declared { target < length store.now }
-        ensures reached { result ≡ true → IsReached self.now op (values_of (present_of store.now) target) }
-        ensures missed { result ≡ false → IsReached self.now op (values_of (present_of store.now) target) → ⊥ }
+        ensures reached { result ≡ true → IsCountReached self.now op (values_of (present_of store.now) target) }
+        ensures missed { result ≡ false → IsCountReached self.now op (values_of (present_of store.now) target) → ⊥ }
     {
         if store.count(target) == 0 {
             return false;
@@ -42,8 +43,8 @@ impl Counts {
     /// Whether one of the numbers stands in the relation to the value.
     pub(crate) fn fits(&self, op: Op, value: &Value) -> bool
         requires { self.now.low ≤ self.now.high }
-        ensures reached { result ≡ true → IsReached self.now op (value.now ∷ []) }
-        ensures missed { result ≡ false → IsReached self.now op (value.now ∷ []) → ⊥ }
+        ensures reached { result ≡ true → IsCountReached self.now op (value.now ∷ []) }
+        ensures missed { result ≡ false → IsCountReached self.now op (value.now ∷ []) → ⊥ }
     {
         let low = i64::from(self.low);
         let high = i64::from(self.high);
@@ -61,8 +62,8 @@ impl Counts {
         requires ordered { self.now.low ≤ self.now.high }
         requires small { self.now.high ≤ 16 }
         requires declared { target < length store.now }
-        ensures reached { result ≡ true → IsReached self.now Op.Eq (values_of (present_of store.now) target) }
-        ensures missed { result ≡ false → IsReached self.now Op.Eq (values_of (present_of store.now) target) → ⊥ }
+        ensures reached { result ≡ true → IsCountReached self.now Op.Eq (values_of (present_of store.now) target) }
+        ensures missed { result ≡ false → IsCountReached self.now Op.Eq (values_of (present_of store.now) target) → ⊥ }
     {
         match store.next_from(target, Value(self.low as i32)) {
             Some(value) => number_of(&value) <= i64::from(self.high),

@@ -1,13 +1,13 @@
-//! Filters of numbers of occurrences: how many of some variables have a value, against a number or a variable.
+//! Filters of counts: how many of some variables have a value, against a number or a variable.
 #![tactic(auto)]
 
 pub mod counts;
 pub mod laws;
-pub mod occur;
-pub mod occurrence;
+pub mod count;
+pub mod rule;
 
 pub use laws::reasons_of_counts_are_right;
-pub use occur::OccurFilter;
+pub use count::OccurFilter;
 
 #[cfg(test)]
 mod tests;

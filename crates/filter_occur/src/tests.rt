@@ -1,4 +1,4 @@
-//! Support and reasons of numbers of occurrences over small domains: how many of two variables are 1.
+//! Support and reasons of counts over small domains: how many of two variables are 1.
 ghost use Rattle.std.specs.Prelude.{◌≡◌, length, IfOk};
 ghost use Rattle.palm_model.specs.Constraint.{IsWellFormed};
 

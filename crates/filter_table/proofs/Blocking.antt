@@ -4,9 +4,10 @@ use Rattle.std.specs.List.{list_any}
 use Rattle.std.proofs.Math.Seq.{take-length}
 use Rattle.palm_base.specs.declared.terms.Pair.{Pair}
 use Rattle.palm_model.specs.Domains.{Domains, Has, values_of}
-use Rattle.palm_model.specs.Reason.{blocking_values, is_blocked_at, is_listed, pairs_of}
+use Rattle.palm_model.specs.Table.{blocking_values, is_blocked_at}
+use Rattle.palm_model.specs.Removed.{is_listed, pairs_of}
 use Rattle.palm_model.proofs.Reasons.{member_not_listed}
-use Rattle.filter_table.specs.Columns.{is_blocker}
+use Rattle.filter_table.specs.Table.{is_blocker}
 
 -- two tests, one after the other
 filter_twice : {X : Type 0} (p q : X → Bool) (xs : List X) → filter q (filter p xs) ≡ filter (λ x. p x && q x) xs

@@ -9,10 +9,11 @@ use Rattle.palm_base.proofs.Members.{member_nil, member_cases, member_single, me
 use Rattle.palm_base.specs.declared.terms.Pair.{Pair}
 use Rattle.palm_model.specs.Constraint.{Distinct}
 use Rattle.palm_model.specs.Domains.{Domains, Has, values_of, is_among}
-use Rattle.palm_model.specs.Reason.{is_listed, are_there, first_missing, is_blocked_at, row_pairs}
+use Rattle.palm_model.specs.Removed.{is_listed}
+use Rattle.palm_model.specs.Table.{are_there, first_missing, is_blocked_at, row_pairs}
 use Rattle.palm_model.proofs.Reasons.{listed_member}
 use Rattle.palm_model.proofs.Supports.{any_member, member_any, among_member, member_among}
-use Rattle.filter_table.specs.Columns.{IsIndexed, column_values, gives, row_at}
+use Rattle.filter_table.specs.Table.{IsIndexed, column_values, gives, row_at}
 use Rattle.filter_table.specs.declared.indexed.IndexedTable.{IndexedTable}
 use Rattle.filter_table.proofs.Entries.{missing_cases}
 

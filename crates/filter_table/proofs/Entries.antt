@@ -4,7 +4,8 @@ use Rattle.std.proofs.lemmas.Bool.{cases_Bool, both_ways}
 use Rattle.palm_base.proofs.Members.{member_here, member_there}
 use Rattle.palm_base.specs.declared.terms.Pair.{Pair}
 use Rattle.palm_model.specs.Domains.{Domains, Has, values_of, is_among}
-use Rattle.palm_model.specs.Reason.{is_listed, are_there, first_missing, row_pairs}
+use Rattle.palm_model.specs.Removed.{is_listed}
+use Rattle.palm_model.specs.Table.{are_there, first_missing, row_pairs}
 use Rattle.palm_model.proofs.Reasons.{listed_member, member_listed}
 
 -- the entry at a place, before the entries after it

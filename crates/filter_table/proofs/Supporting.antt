@@ -9,13 +9,15 @@ use Rattle.palm_model.specs.Constraint.{scope, Distinct, IsWellFormed}
 use Rattle.palm_model.specs.Domains.{Domains, Has, is_among, without}
 use Rattle.palm_model.specs.Part.{scope_of}
 use Rattle.palm_model.specs.Support.{HasSupport, IsSupported, LacksSupport}
-use Rattle.palm_model.specs.Reason.{are_there, first_missing, is_blocked_at, blocking_values, removed_values, others, row_pairs, table_reason, reason, IsReason, WantsReason}
+use Rattle.palm_model.specs.Table.{are_there, first_missing, is_blocked_at, blocking_values, row_pairs, table_reason, IsTable}
+use Rattle.palm_model.specs.Removed.{removed_values, others}
+use Rattle.palm_model.specs.Reason.{reason, IsReason, WantsReason}
 use Rattle.palm_model.specs.declared.constraint.Con.{Con}
 use Rattle.palm_model.specs.declared.constraint.Con.TheVariants.{CompareVar, CompareConst, Linear, Table, Element, Count, Differ}
-use Rattle.palm_model.specs.declared.part.Part.TheVariants.{RowListed}
+use Rattle.palm_model.specs.declared.part.Part.TheVariants.{Table as TablePart}
 use Rattle.palm_model.proofs.Reasons.{removed_member, member_removed, all_pairs_member, member_all_pairs, others_member, member_others}
 use Rattle.palm_model.proofs.Supports.{any_member, member_any, member_among, supported_by_part, lacking_by_part, part_unsupported, without_has}
-use Rattle.filter_table.specs.Columns.{IsTable, IsIndexed, gives, table_of}
+use Rattle.filter_table.specs.Table.{IsIndexed, gives, table_of}
 use Rattle.filter_table.specs.declared.indexed.IndexedTable.{IndexedTable}
 use Rattle.filter_table.proofs.Entries.{missing_cases}
 use Rattle.filter_table.proofs.Columned.{entry_of, row_is, among_gives, gives_among, there_gives, gives_there, entry_gives}
@@ -23,7 +25,7 @@ use Rattle.filter_table.proofs.Columned.{entry_of, row_is, among_gives, gives_am
 -- ---- support
 
 module _ (vars : List ℕ) (rows : List (List ℤ)) (x : ℕ) (v : ℤ) where
-  pub given_supports : (d : Domains) → Distinct vars → All (λ row. length row ≡ length vars) rows → list_any (gives d vars x v) rows ≡ true → HasSupport d (RowListed vars rows) x v
+  pub given_supports : (d : Domains) → Distinct vars → All (λ row. length row ≡ length vars) rows → list_any (gives d vars x v) rows ≡ true → HasSupport d (TablePart vars rows) x v
   given_supports d distinct long h =
       let r = any_member (gives d vars x v) rows h in
       let a = entry_of vars r.0 in
@@ -36,7 +38,7 @@ module _ (vars : List ℕ) (rows : List (List ℤ)) (x : ℕ) (v : ℤ) where
         holds = member_same rows r.0 (map a vars) is r.1;
       }
 
-  pub support_given : (d : Domains) → Contains vars x → HasSupport d (RowListed vars rows) x v → list_any (gives d vars x v) rows ≡ true
+  pub support_given : (d : Domains) → Contains vars x → HasSupport d (TablePart vars rows) x v → list_any (gives d vars x v) rows ≡ true
   support_given d over s =
       let a = s.assignment in
       member_any (gives d vars x v) rows (map a vars) s.holds
@@ -71,7 +73,7 @@ module _ (initial present : Domains) (vars : List ℕ) (rows : List (List ℤ)) 
         (member_filter (λ w. list_any (is_blocked_at initial present vars x v p.var w) rows) (removed_values initial present p.var) p.value gone blocks) in
         (g.0, subst (λ w. Contains why (record { var = p.var; value = w })) (sym g.1) in_why)
 
-  why_lacks : Contains vars x → Has present x v → (HasSupport present (RowListed vars rows) x v → ⊥) → HasSupport (without initial why) (RowListed vars rows) x v → ⊥
+  why_lacks : Contains vars x → Has present x v → (HasSupport present (TablePart vars rows) x v → ⊥) → HasSupport (without initial why) (TablePart vars rows) x v → ⊥
   why_lacks over present_value lacks s =
       let a = s.assignment in
       let declared = λ (y : ℕ) (m : Contains vars y). (without_has initial why y (a y) (s.within y m)).0 in
@@ -84,13 +86,13 @@ module _ (initial present : Domains) (vars : List ℕ) (rows : List (List ℤ)) 
 
   pub reason_right : Has present x v → LacksSupport present (Table vars rows) x v → IsReason initial present (Table vars rows) x v why
   reason_right present_value lacks =
-      let over = subst (λ q. Contains (scope_of q) x) (sym (member_single (RowListed vars rows) lacks.part lacks.is_part)) lacks.over in
+      let over = subst (λ q. Contains (scope_of q) x) (sym (member_single (TablePart vars rows) lacks.part lacks.is_part)) lacks.over in
       record {
         removed = λ p m.
             let r = all_pairs_member blocking (others vars x) p m in
             removed_member initial present p.var p.value (filter_member (λ w. list_any (is_blocked_at initial present vars x v p.var w) rows) (removed_values initial present p.var) p.value r.1).0;
         others = λ p m. others_member vars x p.var (all_pairs_member blocking (others vars x) p m).0;
-        lacks = lacking_by_part (without initial why) (Table vars rows) (RowListed vars rows) x v refl over (why_lacks over present_value (part_unsupported present (Table vars rows) (RowListed vars rows) x v refl lacks));
+        lacks = lacking_by_part (without initial why) (Table vars rows) (TablePart vars rows) x v refl over (why_lacks over present_value (part_unsupported present (Table vars rows) (TablePart vars rows) x v refl lacks));
       }
 
 -- ---- what the filter answers
@@ -102,13 +104,13 @@ module _ (t : IndexedTable) (indexed : IsIndexed t) (m : Con) (is : table_of t �
   pub answers_supported : (d : Domains) (b : Bool) → b ≡ list_any (gives d t.vars x v) t.rows → b ≡ true → IsSupported d m x v
   answers_supported d b e h =
       subst (λ k. IsSupported d k x v) is
-      (supported_by_part d (Table t.vars t.rows) (RowListed t.vars t.rows) x v refl (given_supports t.vars t.rows x v d indexed.distinct indexed.long (sym e ∙ h)))
+      (supported_by_part d (Table t.vars t.rows) (TablePart t.vars t.rows) x v refl (given_supports t.vars t.rows x v d indexed.distinct indexed.long (sym e ∙ h)))
 
   pub answers_lacking : (d : Domains) (b : Bool) → b ≡ list_any (gives d t.vars x v) t.rows → Contains (scope m) x → b ≡ false → LacksSupport d m x v
   answers_lacking d b e over h =
       let over_t : Contains t.vars x = subst (λ k. Contains (scope k) x) (sym is) over in
       subst (λ k. LacksSupport d k x v) is
-      (lacking_by_part d (Table t.vars t.rows) (RowListed t.vars t.rows) x v refl over_t (λ s. both_ways b h (e ∙ support_given t.vars t.rows x v d over_t s)))
+      (lacking_by_part d (Table t.vars t.rows) (TablePart t.vars t.rows) x v refl over_t (λ s. both_ways b h (e ∙ support_given t.vars t.rows x v d over_t s)))
 
   pub gives_reason : (initial present : Domains) (out : List Pair) → out ≡ table_reason initial present t.vars t.rows x v → out ≡ reason initial present m x v
   gives_reason initial present out e = e ∙ ap (λ k. reason initial present k x v) is

@@ -1,12 +1,13 @@
 //! A table with an index of each of its columns.
 ghost use Rattle.std.specs.Prelude.{◌≡◌, ◌++◌, ℕ, ◌<◌, length, true, All, Contains, IfOk, OnOk, MatchOption, Some, slice_get};
 ghost use Rattle.std.specs.List.{list_any};
-ghost use Rattle.filter_table.specs.Columns.{AreColumns, IsIndexed, column_values, gives, is_blocker, row_at, table_of};
+ghost use Rattle.filter_table.specs.Table.{AreColumns, IsIndexed, column_values, gives, is_blocker, row_at, table_of};
 ghost use Rattle.palm_domain.specs.Rows.{initial_of, present_of};
 ghost use Rattle.palm_model.specs.Constraint.{Distinct};
 ghost use Rattle.palm_model.specs.declared.constraint.Con.{Con};
 ghost use Rattle.palm_model.specs.Domains.{is_among};
-ghost use Rattle.palm_model.specs.Reason.{blocking_values, is_blocked_at, pairs_of, row_pairs, table_reason};
+ghost use Rattle.palm_model.specs.Table.{blocking_values, is_blocked_at, row_pairs, table_reason};
+ghost use Rattle.palm_model.specs.Removed.{pairs_of};
 
 use crate::row::{are_present, is_blocked_at};
 use palm_base::{NoMemory, Pair, Value, ValueList, Var, VarList};

@@ -3,7 +3,7 @@ ghost use Rattle.std.specs.Prelude.{◌≡◌, ◌<◌, ◌&&◌, [], ◌∷◌,
 ghost use Rattle.std.specs.Ordering.{int_eq};
 ghost use Rattle.palm_domain.specs.Rows.{initial_of, present_of};
 ghost use Rattle.palm_model.specs.Domains.{is_among};
-ghost use Rattle.palm_model.specs.Reason.{are_there, first_missing, is_blocked_at, row_pairs};
+ghost use Rattle.palm_model.specs.Table.{are_there, first_missing, is_blocked_at, row_pairs};
 
 use palm_base::{Pair, Value, Var};
 use palm_domain::DomainStore;

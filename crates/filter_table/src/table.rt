@@ -1,6 +1,6 @@
 //! The filter of a table.
 ghost use Rattle.std.specs.Prelude.{◌≡◌, ℕ, IfOk};
-ghost use Rattle.filter_table.specs.Columns.{IsTable};
+ghost use Rattle.palm_model.specs.Table.{IsTable};
 ghost use Rattle.palm_model.specs.Constraint.{IsWellFormed};
 
 use crate::indexed::IndexedTable;
@@ -19,7 +19,7 @@ pub struct TableFilter {
 
 impl Model for TableFilter {
     ghost use Rattle.std.specs.Prelude.{ℕ};
-    ghost use Rattle.filter_table.specs.Columns.{IsIndexed, table_of};
+    ghost use Rattle.filter_table.specs.Table.{IsIndexed, table_of};
     ghost use Rattle.palm_model.specs.Constraint.{IsWellFormed};
     ghost use Rattle.palm_model.specs.declared.constraint.Con.{Con};
 

@@ -4,7 +4,7 @@ use Rattle.std.proofs.lemmas.Bool.{cases_lt, cases_eq}
 use Rattle.std.proofs.lemmas.List.{get_or-map, get_or_past, map-set, set-get_or, length-map, length_push, get_or_default}
 use Rattle.std.proofs.lemmas.List.Elements.{All-set, All-push, All-map, All-weaker}
 use Rattle.palm_base.proofs.Members.{member_nil, member_same}
-use Rattle.palm_domain.specs.Rows.{Row, initial_of, present_of, values_at, present_values, values_with, values_without, IsFormed, AreFormed, LosesPair, GainsPair, Ascends}
+use Rattle.palm_domain.specs.Rows.{Row, initial_of, present_of, values_of, present_values, values_with, values_without, IsFormed, AreFormed, LosesPair, GainsPair, Ascends}
 use Rattle.palm_domain.proofs.RowMarks.{row}
 use Rattle.palm_domain.proofs.Values.{without_member, member_without, Ascends-without, with_member, member_with, member_with_itself, Ascends-with, length-with, length-without}
 
@@ -40,21 +40,21 @@ pub AreFormed-set : (rows : List Row) (i : ℕ) (r : Row) → AreFormed rows →
 AreFormed-set rows i r f formed = record { few = omega (arith, length-set rows i r, f.few); each = All-set IsFormed rows i r formed f.each }
 
 -- the values of a row, among those of all rows
-pub initial-row : (rows : List Row) (i : ℕ) (r : Row) → i < length rows → r ≡ get_or rows i r → values_at (initial_of rows) i ≡ r.initial
+pub initial-row : (rows : List Row) (i : ℕ) (r : Row) → i < length rows → r ≡ get_or rows i r → values_of (initial_of rows) i ≡ r.initial
 initial-row rows i r l e = get_or-map (λ (s : Row). s.initial) rows i r [] l ∙ ap (λ (s : Row). s.initial) (sym e)
 
-pub present-row : (rows : List Row) (i : ℕ) (r : Row) → i < length rows → r ≡ get_or rows i r → values_at (present_of rows) i ≡ r.present
+pub present-row : (rows : List Row) (i : ℕ) (r : Row) → i < length rows → r ≡ get_or rows i r → values_of (present_of rows) i ≡ r.present
 present-row rows i r l e = get_or-map (λ (s : Row). s.present) rows i r [] l ∙ ap (λ (s : Row). s.present) (sym e)
 
 -- a variable with some value is one of the store's
-pub exists_from_member : (lists : List (List ℤ)) (i : ℕ) (v : ℤ) → Contains (values_at lists i) v → i < length lists
+pub exists_from_member : (lists : List (List ℤ)) (i : ℕ) (v : ℤ) → Contains (values_of lists i) v → i < length lists
 exists_from_member lists i v h =
     ⊎_elim (λ l. l) (λ ge. absurd (member_nil v (subst (λ vs. Contains vs v) (get_or_past lists i [] ge) h))) (cases_lt i (length lists))
 
-pub exists_from_present : (rows : List Row) (i : ℕ) (v : ℤ) → Contains (values_at (present_of rows) i) v → i < length rows
+pub exists_from_present : (rows : List Row) (i : ℕ) (v : ℤ) → Contains (values_of (present_of rows) i) v → i < length rows
 exists_from_present rows i v h = omega (arith, exists_from_member (present_of rows) i v h, length-map rows (λ (t : Row). t.present))
 
-pub exists_from_declared : (rows : List Row) (i : ℕ) (v : ℤ) → Contains (values_at (initial_of rows) i) v → i < length rows
+pub exists_from_declared : (rows : List Row) (i : ℕ) (v : ℤ) → Contains (values_of (initial_of rows) i) v → i < length rows
 exists_from_declared rows i v h = omega (arith, exists_from_member (initial_of rows) i v h, length-map rows (λ (t : Row). t.initial))
 
 -- a row is changed
@@ -63,7 +63,7 @@ module _ (rows : List Row) (i : ℕ) (r s : Row) (within : i < length rows) (is 
   initial_of-changed same =
       map-set (λ (t : Row). t.initial) rows i s ∙ ap (set (initial_of rows) i) (same ∙ sym (initial-row rows i r within is)) ∙ set-get_or (initial_of rows) i []
 
-  pub present_of-changed : (change : List ℤ → List ℤ) → s.present ≡ change r.present → present_of (set rows i s) ≡ set (present_of rows) i (change (values_at (present_of rows) i))
+  pub present_of-changed : (change : List ℤ → List ℤ) → s.present ≡ change r.present → present_of (set rows i s) ≡ set (present_of rows) i (change (values_of (present_of rows) i))
   present_of-changed change same =
       map-set (λ (t : Row). t.present) rows i s ∙ ap (set (present_of rows) i) (same ∙ ap change (sym (present-row rows i r within is)))
 
@@ -71,11 +71,11 @@ module _ (rows : List Row) (i : ℕ) (r s : Row) (within : i < length rows) (is 
 
 -- the values of one variable are changed
 module _ (lists after : List (List ℤ)) (x : ℕ) (vs : List ℤ) (within : x < length lists) (is : after ≡ set lists x vs) where
-  at_changed : values_at after x ≡ vs
-  at_changed = ap (λ ls. values_at ls x) is ∙ get_or-set_same lists x vs [] within
+  at_changed : values_of after x ≡ vs
+  at_changed = ap (λ ls. values_of ls x) is ∙ get_or-set_same lists x vs [] within
 
-  at_other : (y : ℕ) → (y ≡ x → ⊥) → values_at after y ≡ values_at lists y
-  at_other y apart = ap (λ ls. values_at ls y) is ∙ get_or-set_other lists x y vs [] apart
+  at_other : (y : ℕ) → (y ≡ x → ⊥) → values_of after y ≡ values_of lists y
+  at_other y apart = ap (λ ls. values_of ls y) is ∙ get_or-set_other lists x y vs [] apart
 
 to_member : (xs ys : List ℤ) (w : ℤ) → xs ≡ ys → Contains xs w → Contains ys w
 to_member xs ys w e h = subst (λ zs. Contains zs w) e h
@@ -119,14 +119,14 @@ gains_pair rows after x v within is =
 
 pub record IsTakenOut (rows after : List Row) (x : ℕ) (v : ℤ) : Type 0 where
   pub initial : initial_of after ≡ initial_of rows
-  pub present : present_of after ≡ set (present_of rows) x (values_without v (values_at (present_of rows) x))
-  pub fewer : AreFormed rows → Contains (values_at (present_of rows) x) v → length (values_at (present_of after) x) + 1 ≡ length (values_at (present_of rows) x)
+  pub present : present_of after ≡ set (present_of rows) x (values_without v (values_of (present_of rows) x))
+  pub fewer : AreFormed rows → Contains (values_of (present_of rows) x) v → length (values_of (present_of after) x) + 1 ≡ length (values_of (present_of rows) x)
   pub loses : LosesPair rows after x v
 
 pub record IsPutBack (rows after : List Row) (x : ℕ) (v : ℤ) : Type 0 where
   pub initial : initial_of after ≡ initial_of rows
-  pub present : present_of after ≡ set (present_of rows) x (values_with v (values_at (present_of rows) x))
-  pub more : length (values_at (present_of after) x) ≡ length (values_at (present_of rows) x) + 1
+  pub present : present_of after ≡ set (present_of rows) x (values_with v (values_of (present_of rows) x))
+  pub more : length (values_of (present_of after) x) ≡ length (values_of (present_of rows) x) + 1
   pub gains : GainsPair rows after x v
 
 -- a row of formed rows
@@ -159,7 +159,7 @@ module _ (rows : List Row) (x : ℕ) (r s : Row) (v : ℤ) (within : x < length 
   taken_out_formed formed e =
       AreFormed-set rows x s formed (subst IsFormed (sym e) (formed_without r v (formed_at rows x r formed within is)))
 
-  pub put_back_formed : AreFormed rows → Contains (values_at (initial_of rows) x) v → (Contains (values_at (present_of rows) x) v → ⊥) → s ≡ row r.initial (values_with v r.present) → AreFormed (set rows x s)
+  pub put_back_formed : AreFormed rows → Contains (values_of (initial_of rows) x) v → (Contains (values_of (present_of rows) x) v → ⊥) → s ≡ row r.initial (values_with v r.present) → AreFormed (set rows x s)
   put_back_formed formed there none e =
       let declared = subst (λ vs. Contains vs v) (initial-row rows x r within is) there in
       let removed : Contains r.present v → ⊥ = λ h. none (subst (λ vs. Contains vs v) (sym (present-row rows x r within is)) h) in
@@ -180,7 +180,7 @@ module _ (rows : List Row) (formed : AreFormed rows) where
   pub present_ascend : All Ascends (present_of rows)
   present_ascend = All-map Ascends (λ (r : Row). r.present) rows (All-weaker IsFormed (λ r. Ascends r.present) (λ r f. f.present_ascends) rows formed.each)
 
-  pub present_inside : (x : ℕ) (v : ℤ) → Contains (values_at (present_of rows) x) v → Contains (values_at (initial_of rows) x) v
+  pub present_inside : (x : ℕ) (v : ℤ) → Contains (values_of (present_of rows) x) v → Contains (values_of (initial_of rows) x) v
   present_inside x v h =
       let l : x < length rows = omega (arith, exists_from_member (present_of rows) x v h, length-map rows (λ (r : Row). r.present)) in
       let r = get_or rows x (row [] []) in

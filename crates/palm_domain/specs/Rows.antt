@@ -17,14 +17,14 @@ abbrev pub present_of : List Row → List (List ℤ)
 present_of rows = map (λ r. r.present) rows
 
 -- the values of a variable, and none for a variable that does not exist
-abbrev pub values_at : List (List ℤ) → ℕ → List ℤ
-values_at lists x = slice_index_or lists x []
+abbrev pub values_of : List (List ℤ) → ℕ → List ℤ
+values_of lists x = slice_index_or lists x []
 
 abbrev pub declared_values : List Row → ℕ → List ℤ
-declared_values rows x = values_at (initial_of rows) x
+declared_values rows x = values_of (initial_of rows) x
 
 abbrev pub present_values : List Row → ℕ → List ℤ
-present_values rows x = values_at (present_of rows) x
+present_values rows x = values_of (present_of rows) x
 
 -- the variable has the value, among the declared ones and among the present ones
 abbrev pub IsDeclared : List Row → ℕ → ℤ → Type 0

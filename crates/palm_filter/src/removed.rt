@@ -1,7 +1,7 @@
 //! Reasons are made of removed pairs: all those of a variable.
 ghost use Rattle.std.specs.Prelude.{◌≡◌, ◌++◌, ◌<◌, length, OnOk};
 ghost use Rattle.palm_domain.specs.Rows.{initial_of, present_of};
-ghost use Rattle.palm_model.specs.Reason.{pairs_of, removed_values};
+ghost use Rattle.palm_model.specs.Removed.{pairs_of, removed_values};
 
 use crate::filter::Reasons;
 use palm_base::{NoMemory, Pair, Var};

@@ -3,7 +3,8 @@ ghost use Rattle.std.specs.Prelude.{◌≡◌, ◌<◌, [], length, true, false,
 ghost use Rattle.palm_domain.specs.Rows.{initial_of, present_of};
 ghost use Rattle.palm_model.specs.Constraint.{scope, IsWellFormed};
 ghost use Rattle.palm_model.specs.Domains.{Has, values_of};
-ghost use Rattle.palm_model.specs.Reason.{AreFilled, is_alone, reason};
+ghost use Rattle.palm_model.specs.Reason.{AreFilled, reason};
+ghost use Rattle.palm_model.specs.Removed.{is_alone};
 ghost use Rattle.palm_model.specs.Support.{LacksSupport};
 
 use crate::filter::{Filter, Reasons};

@@ -5,7 +5,7 @@ use Rattle.std.specs.List.{flat_map, Contains}
 use Rattle.std.proofs.lemmas.Int.{ints, by_lt_z}
 use Rattle.std.proofs.lemmas.Bool.{cases_lt, le-leb, lt-leb}
 use Rattle.std.proofs.lemmas.List.Elements.{All-nil, All-cons, All-head, All-tail, All-append, All-contains, Contains-get_or}
-use Rattle.palm_model.specs.Constraint.{IsUpTo, IsValue}
+use Rattle.palm_model.specs.Limits.{IsUpTo, IsValue}
 use Rattle.palm_lang.specs.Limits.{Bounded, a_value, up_to, from_one_to, domain_numbers, offset_numbers, target_numbers, shape_numbers, numbers, IsInRange, IsOutOfRange}
 use Rattle.palm_lang.specs.Form.{DomainForm, Interval, Members, TermForm, OffsetForm, NoOffset, Plus, Minus, TargetForm, Number, Variable, ShapeForm, Compared, ComparedTo, Summed, Tabled, Chosen, Counting, Differing, Form, DeclareForm, AddForm, WhyForm, MinimalForm, StepForm, SolveDbtForm, SolveRepairForm, CertForm, GuideForm, OrderForm, DropGuideForm, DropOrderForm}
 use Rattle.palm_lang.specs.Reading.{set_of, count_in, signed, term_of, offset_of, line_target, domain_of, shape_of, no_budget}

@@ -6,7 +6,7 @@ use Rattle.std.specs.Str.{bytes_eq}
 use Rattle.std.proofs.lemmas.Bool.{leb-true, le-leb, false_from_ne_true}
 use Rattle.std.proofs.lemmas.List.Elements.{All-from_recursion, recursion_from_All}
 use Rattle.std.proofs.lemmas.Option.{same_Some}
-use Rattle.palm_model.specs.Constraint.{IsSumOp}
+use Rattle.palm_model.specs.Linear.{IsLinearOp}
 use Rattle.palm_model.specs.declared.constraint.Op.{Op}
 use Rattle.palm_model.specs.declared.constraint.Op.TheVariants.{Eq, Ne, Lt, Le, Gt, Ge}
 use Rattle.palm_lang.specs.declared.tokens.TokenKind.TheVariants.{Sign}
@@ -273,7 +273,7 @@ terms_again t ts tokens rest b stop =
     let s = begins_split (first_term t.minus (unsigned_term t.factor t.name)) (flat_map term_pieces ts) b in
     rw (first_term_again t.minus t.factor t.name tokens s.0 s.1, many_at_again next_term term_pieces (λ _. ⊤) term_item ts s.0 rest (all_fit ts) s.2 stop) refl
 
-sum_op : (op : Op) → is_sum_op op ≡ true → IsSumOp op
+sum_op : (op : Op) → is_sum_op op ≡ true → IsLinearOp op
 sum_op Eq e = (λ h. cc, λ h. cc)
 sum_op Ne e = (λ h. cc, λ h. cc)
 sum_op Lt e = absurd cc
@@ -281,7 +281,7 @@ sum_op Le e = (λ h. cc, λ h. cc)
 sum_op Gt e = absurd cc
 sum_op Ge e = (λ h. cc, λ h. cc)
 
-is_sum_op-sum : (op : Op) → IsSumOp op → is_sum_op op ≡ true
+is_sum_op-sum : (op : Op) → IsLinearOp op → is_sum_op op ≡ true
 is_sum_op-sum Eq h = refl
 is_sum_op-sum Ne h = refl
 is_sum_op-sum Lt h = absurd (h.0 refl)
@@ -301,7 +301,7 @@ sum_takes tokens back x k e =
     let taken : Proper made tokens = (by_keyword k (begins_then sum.0 (by_mark (op_takes terms.0.1 op.0 op.1) (by_integer bound.1 over))), (sum.1, sum_op op.0.0 fits.0)) in
     subst (λ y. Proper y tokens) (same_Some made x bound.2) taken
 
-sum_again : (terms : List TermForm) (op : Op) (bound : ℤ) (back : List Lexeme) → (0 < length terms) × IsSumOp op → Begins back (sum_pieces terms ++ Mark (op_text op) ∷ Integer bound ∷ []) [] → sum_at back ≡ Some (Summed terms op bound, [])
+sum_again : (terms : List TermForm) (op : Op) (bound : ℤ) (back : List Lexeme) → (0 < length terms) × IsLinearOp op → Begins back (sum_pieces terms ++ Mark (op_text op) ∷ Integer bound ∷ []) [] → sum_at back ≡ Some (Summed terms op bound, [])
 unfolding sum_at and_then choose
 sum_again [] op bound back proper b = absurd (omega (arith, proper.0))
 sum_again (t ∷ ts) op bound back proper b =

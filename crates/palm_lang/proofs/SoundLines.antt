@@ -5,7 +5,8 @@ use Rattle.std.specs.List.{AllByRecursion}
 use Rattle.std.proofs.lemmas.Int.{by_lt_z}
 use Rattle.std.proofs.lemmas.List.Elements.{All-nil, All-cons, All-head, All-tail}
 use Rattle.palm_model.specs.Domains.{Ascends}
-use Rattle.palm_model.specs.Constraint.{IsUpTo, IsValue, IsRow}
+use Rattle.palm_model.specs.Limits.{IsUpTo, IsValue}
+use Rattle.palm_model.specs.Table.{IsRow}
 use Rattle.palm_lang.specs.Bytes.{is_letter, is_digit, is_word_byte, after_blanks}
 use Rattle.palm_lang.specs.Token.{Lexeme, kind_at, more_at, lexeme_at, front_tokens, tokens_of, begins_long_sign, is_sign}
 use Rattle.palm_lang.specs.declared.tokens.TokenKind.TheVariants.{Word, Digits, Sign, Other}

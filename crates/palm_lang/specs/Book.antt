@@ -7,7 +7,8 @@ use Rattle.palm_lang.specs.Grammar.{IsName}
 use Rattle.palm_lang.specs.declared.book.BookCon.{BookCon}
 use Rattle.palm_model.specs.declared.constraint.Con.{Con}
 use Rattle.palm_model.specs.Domains.{Domains, Ascends}
-use Rattle.palm_model.specs.Constraint.{IsWellFormed, IsValue}
+use Rattle.palm_model.specs.Constraint.{IsWellFormed}
+use Rattle.palm_model.specs.Limits.{IsValue}
 
 -- a variable
 pub record Entry : Type 0 where

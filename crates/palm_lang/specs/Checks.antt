@@ -1,6 +1,6 @@
 -- What the limits ask of a line that was read, number by number and name by name.
 use Rattle.std.specs.Prelude.{◌≡◌, pos, ◌<◌, ◌<ℤ◌, [], All, Any, Result, Ok, Err, ⊤}
-use Rattle.palm_model.specs.Constraint.{IsUpTo, IsValue}
+use Rattle.palm_model.specs.Limits.{IsUpTo, IsValue}
 use Rattle.palm_lang.specs.Limits.{names_of, Repeats}
 use Rattle.palm_lang.specs.declared.parse.LineError.{LineError}
 use Rattle.palm_lang.specs.declared.parse.LineError.TheVariants.{Range as OutOfRange, Empty, Repeated, NoMemory}

@@ -19,7 +19,7 @@ pub data OffsetForm : Type 0 where
   Plus : (number : ℕ) → OffsetForm
   Minus : (number : ℕ) → OffsetForm
 
--- what a number of occurrences is compared with
+-- what a count is compared with
 pub data TargetForm : Type 0 where
   Number : (value : ℤ) → TargetForm
   Variable : (name : List ℕ) → TargetForm

@@ -1,7 +1,7 @@
 -- The grammar: which pieces a form is written with, one after another, and which tokens spell a piece.
 use Rattle.std.specs.Prelude.{◌≡◌, ℕ, ℤ, pos, neg_ℤ, ◌<◌, ◌≤◌, Bool, true, false, Option, Some, None, List, [], ◌∷◌, ◌++◌, ◌⊎◌, length, map, flat_map, All, codes, ⊤}
 pub use Rattle.palm_base.specs.Numbers.{number_of}
-use Rattle.palm_model.specs.Constraint.{IsSumOp}
+use Rattle.palm_model.specs.Linear.{IsLinearOp}
 use Rattle.palm_model.specs.declared.constraint.Op.{Op}
 use Rattle.palm_model.specs.declared.constraint.Op.TheVariants.{Eq, Ne, Lt, Le, Gt, Ge}
 use Rattle.palm_lang.specs.declared.tokens.TokenKind.TheVariants.{Word, Digits, Sign}
@@ -159,7 +159,7 @@ pieces QuitForm = Keyword (codes "quit") ∷ []
 abbrev pub IsProperShape : ShapeForm → Type 0
 IsProperShape (Compared left op right _) = ⊤
 IsProperShape (ComparedTo left op value) = ⊤
-IsProperShape (Summed terms op bound) = (0 < length terms) × IsSumOp op
+IsProperShape (Summed terms op bound) = (0 < length terms) × IsLinearOp op
 IsProperShape (Tabled vars rows) = (0 < length vars) × All (λ row. length row ≡ length vars) rows
 IsProperShape (Chosen outcome index entries) = ⊤
 IsProperShape (Counting value vars op target) = 0 < length vars

@@ -1,7 +1,9 @@
 -- What every line that is read keeps to.
 use Rattle.std.specs.Prelude.{◌<◌, ◌≤◌, ◌≤ℤ◌, ◌≢◌, pos, length, All, ⊤}
 use Rattle.palm_model.specs.Domains.{Ascends}
-use Rattle.palm_model.specs.Constraint.{IsValue, IsUpTo, IsSumOp, IsRow}
+use Rattle.palm_model.specs.Limits.{IsValue, IsUpTo}
+use Rattle.palm_model.specs.Linear.{IsLinearOp}
+use Rattle.palm_model.specs.Table.{IsRow}
 use Rattle.palm_lang.specs.Book.{IsNameText}
 use Rattle.palm_lang.specs.Limits.{names_of, Repeats}
 use Rattle.palm_lang.specs.declared.line.DomainText.{DomainText}
@@ -30,7 +32,7 @@ IsSoundTarget (Variable name) = ⊤
 abbrev pub IsSoundShape : Shape → Type 0
 IsSoundShape (CompareVar left op right offset) = IsUpTo 2000000 offset
 IsSoundShape (CompareConst left op value) = IsValue value
-IsSoundShape (Linear terms op bound) = (0 < length terms) × All IsSoundTerm terms × IsSumOp op × IsUpTo 1000000000000 bound
+IsSoundShape (Linear terms op bound) = (0 < length terms) × All IsSoundTerm terms × IsLinearOp op × IsUpTo 1000000000000 bound
 IsSoundShape (Table vars rows) = (0 < length vars) × (0 < length rows) × All (IsRow (length vars)) rows
 IsSoundShape (Element outcome index entries) = (0 < length entries) × All IsValue entries
 IsSoundShape (Count value vars op target) = (0 < length vars) × IsValue value × IsSoundTarget target

@@ -1,6 +1,6 @@
 //! The limits of the language, asked of a line that was read.
 ghost use Rattle.std.specs.Prelude.{◌≡◌, ◌↔◌, ℤ, pos, neg_ℤ, ◌≤ℤ◌, ◌<◌, All, IsTrue, IfOk, length, List, ℕ, map};
-ghost use Rattle.palm_model.specs.Constraint.{IsUpTo, IsValue};
+ghost use Rattle.palm_model.specs.Limits.{IsUpTo, IsValue};
 ghost use Rattle.palm_lang.specs.Checks.{HasDomainInRange, HasTargetInRange, HasShapeInRange, HasLineInRange, LacksSomething, RepeatsName};
 ghost use Rattle.palm_lang.specs.Limits.{IsBeyond, IsLarge, HasManyRows, names_of, Repeats};
 

@@ -18,7 +18,7 @@ pub struct NameTerm {
     pub name: Name,
 }
 
-/// What a number of occurrences is compared with, by name.
+/// What a count is compared with, by name.
 #[derive(Debug, Drop)]
 pub enum NameTarget {
     Const(Value),

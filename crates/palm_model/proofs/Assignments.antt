@@ -5,15 +5,17 @@ use Rattle.std.proofs.lemmas.List.Elements.{Contains-append_left, Contains-appen
 use Rattle.std.proofs.lemmas.Option.{same_Some}
 use Rattle.palm_base.proofs.Members.{member_here, member_there, map_agree, filter_agree_members, Known, known_like, known_not, int_known, list_known, member_known}
 use Rattle.palm_model.specs.Domains.{Assignment}
-use Rattle.palm_model.specs.Constraint.{Stands, term_vars, target_scope}
-use Rattle.palm_model.specs.Part.{scope_of, total, occurrences, target_of, Holds}
+use Rattle.palm_model.specs.Relation.{Stands}
+use Rattle.palm_model.specs.Linear.{term_vars, total}
+use Rattle.palm_model.specs.Count.{target_scope, count_among, target_of}
+use Rattle.palm_model.specs.Part.{scope_of, Holds}
 use Rattle.palm_model.specs.declared.constraint.Op.{Op}
 use Rattle.palm_model.specs.declared.constraint.Op.TheVariants.{Eq, Ne, Lt, Le, Gt, Ge}
 use Rattle.palm_model.specs.declared.constraint.Target.{Target}
 use Rattle.palm_model.specs.declared.constraint.Target.TheVariants.{Const, Variable}
 use Rattle.palm_model.specs.declared.constraint.Term.{Term}
 use Rattle.palm_model.specs.declared.part.Part.{Part}
-use Rattle.palm_model.specs.declared.part.Part.TheVariants.{VarCompared, ValueCompared, SumCompared, RowListed, EntryChosen, Counted, Apart}
+use Rattle.palm_model.specs.declared.part.Part.TheVariants.{CompareVar as CompareVarPart, CompareConst as CompareConstPart, Linear as LinearPart, Table as TablePart, Element as ElementPart, Count as CountPart, Differ as DifferPart}
 
 -- two assignments give the variables of the scope the same values
 abbrev pub Agree : List ℕ → Assignment → Assignment → Type 0
@@ -25,7 +27,7 @@ total_agree a b (t ∷ ts) same =
     ap (λ v. (t.factor *ℤ v) +ℤ total a ts) (same t.var (member_here t.var (term_vars ts)))
     ∙ ap (λ s. (t.factor *ℤ b t.var) +ℤ s) (total_agree a b ts (λ y m. same y (member_there t.var (term_vars ts) y m)))
 
-pub occurrences_agree : (a b : Assignment) (value : ℤ) (vars : List ℕ) → Agree vars a b → occurrences a value vars ≡ occurrences b value vars
+pub occurrences_agree : (a b : Assignment) (value : ℤ) (vars : List ℕ) → Agree vars a b → count_among a value vars ≡ count_among b value vars
 occurrences_agree a b value vars same =
     ap length (filter_agree_members (λ x. int_eq (a x) value) (λ x. int_eq (b x) value) vars (λ x m. ap (λ v. int_eq v value) (same x m)))
 
@@ -38,22 +40,22 @@ stands_agree op m m' n n' e f h = subst (λ z. Stands op z n') e (subst (λ z. S
 
 -- whether a part is satisfied depends on the variables of its scope alone
 pub holds_agree : (p : Part) (a b : Assignment) → Agree (scope_of p) a b → Holds p a → Holds p b
-holds_agree (VarCompared left op right offset) a b same h =
+holds_agree (CompareVarPart left op right offset) a b same h =
     stands_agree op (a left) (b left) (a right +ℤ offset) (b right +ℤ offset) (same left (member_here left (right ∷ [])))
     (ap (λ v. v +ℤ offset) (same right (member_there left (right ∷ []) right (member_here right [])))) h
-holds_agree (ValueCompared var op value) a b same h =
+holds_agree (CompareConstPart var op value) a b same h =
     stands_agree op (a var) (b var) value value (same var (member_here var [])) refl h
-holds_agree (SumCompared terms op bound) a b same h =
+holds_agree (LinearPart terms op bound) a b same h =
     stands_agree op (total a terms) (total b terms) bound bound (total_agree a b terms same) refl h
-holds_agree (RowListed vars rows) a b same h = subst (λ row. Contains rows row) (map_agree a b vars same) h
-holds_agree (EntryChosen outcome index entries) a b same h =
+holds_agree (TablePart vars rows) a b same h = subst (λ row. Contains rows row) (map_agree a b vars same) h
+holds_agree (ElementPart outcome index entries) a b same h =
     let at_index = same index (member_there outcome (index ∷ []) index (member_here index [])) in
     (h.0, sym at_index ∙ h.1, h.2 ∙ ap Some (same outcome (member_here outcome (index ∷ []))))
-holds_agree (Counted value vars op target) a b same h =
-    stands_agree op (pos (occurrences a value vars)) (pos (occurrences b value vars)) (target_of a target) (target_of b target)
+holds_agree (CountPart value vars op target) a b same h =
+    stands_agree op (pos (count_among a value vars)) (pos (count_among b value vars)) (target_of a target) (target_of b target)
     (ap pos (occurrences_agree a b value vars (λ x m. same x (Contains-append_left vars (target_scope target) x m))))
     (target_agree a b target (λ x m. same x (Contains-append_right vars (target_scope target) x m))) h
-holds_agree (Apart first second) a b same h = λ e. h (same first (member_here first (second ∷ [])) ∙ e ∙ sym (same second (member_there first (second ∷ []) second (member_here second []))))
+holds_agree (DifferPart first second) a b same h = λ e. h (same first (member_here first (second ∷ [])) ∙ e ∙ sym (same second (member_there first (second ∷ []) second (member_here second []))))
 
 below_known : (m n : ℤ) → Known (m <ℤ n)
 below_known m n = by_lt_z m n (λ h. inl h) (λ h. inr (λ k. absurd (omega (arith, ints))))
@@ -83,10 +85,10 @@ entry_known entries (pos (suc k)) w = elim (some_known (slice_get entries k) w) 
 
 -- an assignment satisfies a part, or it does not
 pub holds_known : (p : Part) (a : Assignment) → Known (Holds p a)
-holds_known (VarCompared left op right offset) a = stands_known op (a left) (a right +ℤ offset)
-holds_known (ValueCompared var op value) a = stands_known op (a var) value
-holds_known (SumCompared terms op bound) a = stands_known op (total a terms) bound
-holds_known (RowListed vars rows) a = member_known (list_known int_known) rows (map a vars)
-holds_known (EntryChosen outcome index entries) a = entry_known entries (a index) (a outcome)
-holds_known (Counted value vars op target) a = stands_known op (pos (occurrences a value vars)) (target_of a target)
-holds_known (Apart first second) a = known_not (int_known (a first) (a second))
+holds_known (CompareVarPart left op right offset) a = stands_known op (a left) (a right +ℤ offset)
+holds_known (CompareConstPart var op value) a = stands_known op (a var) value
+holds_known (LinearPart terms op bound) a = stands_known op (total a terms) bound
+holds_known (TablePart vars rows) a = member_known (list_known int_known) rows (map a vars)
+holds_known (ElementPart outcome index entries) a = entry_known entries (a index) (a outcome)
+holds_known (CountPart value vars op target) a = stands_known op (pos (count_among a value vars)) (target_of a target)
+holds_known (DifferPart first second) a = known_not (int_known (a first) (a second))

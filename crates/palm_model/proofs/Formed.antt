@@ -4,7 +4,9 @@ use Rattle.std.proofs.lemmas.List.{length-map}
 use Rattle.std.proofs.lemmas.List.Elements.{All-contains, Contains-append_cases}
 use Rattle.palm_base.proofs.Members.{member_nil, member_here, member_there, member_cases, member_single, member_same, member_unmap, flat_map_member, all_members}
 use Rattle.palm_model.specs.Constraint.{scope, IsShaped, IsWellFormed}
-use Rattle.palm_model.specs.Part.{scope_of, sum_parts, differ_parts, parts}
+use Rattle.palm_model.specs.Part.{scope_of, parts}
+use Rattle.palm_model.specs.Linear.{linear_parts}
+use Rattle.palm_model.specs.Differ.{differ_parts}
 use Rattle.palm_model.specs.Trial.{IsSmall, IsTriable}
 use Rattle.palm_model.specs.declared.constraint.Con.{Con}
 use Rattle.palm_model.specs.declared.constraint.Con.TheVariants.{CompareVar, CompareConst, Linear, Table, Element, Count, Differ}
@@ -12,25 +14,25 @@ use Rattle.palm_model.specs.declared.constraint.Op.{Op}
 use Rattle.palm_model.specs.declared.constraint.Op.TheVariants.{Eq, Ne, Lt, Le, Gt, Ge}
 use Rattle.palm_model.specs.declared.constraint.Term.{Term}
 use Rattle.palm_model.specs.declared.part.Part.{Part}
-use Rattle.palm_model.specs.declared.part.Part.TheVariants.{SumCompared, Apart}
+use Rattle.palm_model.specs.declared.part.Part.TheVariants.{Linear as LinearPart, Differ as DifferPart}
 
 -- ---- the parts of a sum and of a difference
 
-pub sum_part : (terms : List Term) (op : Op) (bound : ℤ) (p : Part) → Contains (sum_parts terms op bound) p → (o : Op) × (SumCompared terms o bound ≡ p)
-sum_part terms Eq bound p h = elim (member_cases (SumCompared terms Le bound) (SumCompared terms Ge bound ∷ []) p h) [
+pub sum_part : (terms : List Term) (op : Op) (bound : ℤ) (p : Part) → Contains (linear_parts terms op bound) p → (o : Op) × (LinearPart terms o bound ≡ p)
+sum_part terms Eq bound p h = elim (member_cases (LinearPart terms Le bound) (LinearPart terms Ge bound ∷ []) p h) [
   | inl e ↦ (Le, e)
-  | inr m ↦ (Ge, member_single (SumCompared terms Ge bound) p m)
+  | inr m ↦ (Ge, member_single (LinearPart terms Ge bound) p m)
 ]
-sum_part terms Ne bound p h = (Ne, member_single (SumCompared terms Ne bound) p h)
-sum_part terms Lt bound p h = (Lt, member_single (SumCompared terms Lt bound) p h)
-sum_part terms Le bound p h = (Le, member_single (SumCompared terms Le bound) p h)
-sum_part terms Gt bound p h = (Gt, member_single (SumCompared terms Gt bound) p h)
-sum_part terms Ge bound p h = (Ge, member_single (SumCompared terms Ge bound) p h)
+sum_part terms Ne bound p h = (Ne, member_single (LinearPart terms Ne bound) p h)
+sum_part terms Lt bound p h = (Lt, member_single (LinearPart terms Lt bound) p h)
+sum_part terms Le bound p h = (Le, member_single (LinearPart terms Le bound) p h)
+sum_part terms Gt bound p h = (Gt, member_single (LinearPart terms Gt bound) p h)
+sum_part terms Ge bound p h = (Ge, member_single (LinearPart terms Ge bound) p h)
 
-pub differ_part : (vars : List ℕ) (p : Part) → Contains (differ_parts vars) p → (x : ℕ) × (y : ℕ) × Contains vars x × Contains vars y × (Apart x y ≡ p)
+pub differ_part : (vars : List ℕ) (p : Part) → Contains (differ_parts vars) p → (x : ℕ) × (y : ℕ) × Contains vars x × Contains vars y × (DifferPart x y ≡ p)
 differ_part [] p h = absurd (member_nil p h)
-differ_part (x ∷ xs) p h = elim (Contains-append_cases (map (Apart x) xs) (differ_parts xs) p h) [
-  | inl m ↦ let r = member_unmap (Apart x) xs p m in (x, r.0, member_here x xs, member_there x xs r.0 r.1, r.2)
+differ_part (x ∷ xs) p h = elim (Contains-append_cases (map (DifferPart x) xs) (differ_parts xs) p h) [
+  | inl m ↦ let r = member_unmap (DifferPart x) xs p m in (x, r.0, member_here x xs, member_there x xs r.0 r.1, r.2)
   | inr m ↦ let r = differ_part xs p m in (r.0, r.1, member_there x xs r.0 r.2, member_there x xs r.1 r.3, r.4)
 ]
 

@@ -8,7 +8,8 @@ use Rattle.std.proofs.lemmas.List.Elements.{filter_more, All-contains}
 use Rattle.palm_base.proofs.Members.{member_same, member_map, member_unmap, filter_member, member_filter, flat_map_member, member_flat_map, member_here, member_single}
 use Rattle.palm_base.specs.declared.terms.Pair.{Pair}
 use Rattle.palm_model.specs.Domains.{Domains, Has, values_of}
-use Rattle.palm_model.specs.Reason.{is_listed, is_alone, pairs_of, others, removed_values, AreFilled}
+use Rattle.palm_model.specs.Removed.{is_listed, is_alone, pairs_of, others, removed_values}
+use Rattle.palm_model.specs.Reason.{AreFilled}
 use Rattle.palm_model.proofs.Supports.{any_member, member_any, not_true}
 
 pub listed_member : (vs : List ℤ) (v : ℤ) → is_listed vs v ≡ true → Contains vs v

@@ -3,8 +3,7 @@ use Rattle.std.proofs.Common.{◌≡◌, ℤ, ◌<ℤ◌, ◌≤ℤ◌, true, fa
 use Rattle.std.proofs.lemmas.Int.{ints}
 use Rattle.std.proofs.lemmas.Bool.{not-true, both_ways}
 use Rattle.std.proofs.lemmas.Bool.Decides.{Decides-int_eq, not_from_Decides}
-use Rattle.palm_model.specs.Constraint.{Stands}
-use Rattle.palm_model.specs.Reason.{is_standing}
+use Rattle.palm_model.specs.Relation.{Stands, is_standing}
 use Rattle.palm_model.specs.declared.constraint.Op.{Op}
 use Rattle.palm_model.proofs.Supports.{not_true}
 use Rattle.palm_model.specs.declared.constraint.Op.TheVariants.{Eq, Ne, Lt, Le, Gt, Ge}

@@ -4,8 +4,8 @@ use Rattle.std.proofs.lemmas.Int.{ints, unsigned_abs-mul, fits_signed_from_abs, 
 use Rattle.std.proofs.lemmas.List.Elements.{All-contains, Contains-get_or}
 use Rattle.palm_base.proofs.Members.{member_map, member_same}
 use Rattle.palm_model.specs.Domains.{Assignment}
-use Rattle.palm_model.specs.Constraint.{IsUpTo, term_vars}
-use Rattle.palm_model.specs.Part.{total}
+use Rattle.palm_model.specs.Limits.{IsUpTo}
+use Rattle.palm_model.specs.Linear.{term_vars, total}
 use Rattle.palm_model.specs.declared.constraint.Term.{Term}
 
 total_suc : (a : Assignment) (terms : List Term) (i : ℕ) (t : Term) → i < length terms → t ≡ get_or terms i t → total a (take (suc i) terms) ≡ total a (take i terms) +ℤ (t.factor *ℤ a t.var)

@@ -1,7 +1,16 @@
 pub mod Closure
+pub mod Comparison
 pub mod Constraint
+pub mod Count
+pub mod Differ
 pub mod Domains
+pub mod Element
+pub mod Limits
+pub mod Linear
 pub mod Part
 pub mod Reason
+pub mod Relation
+pub mod Removed
 pub mod Support
+pub mod Table
 pub mod Trial

@@ -1,12 +1,12 @@
 -- Words for trying assignments one after another, and for taking out values that have no support.
 use Rattle.std.specs.Prelude.{◌≡◌, ℕ, ℤ, pos, ◌+◌, ◌<◌, ◌≤◌, List, [], ◌∷◌, length, Contains, All, ⊤, Bool, true, false, slice_index_or}
 use Rattle.palm_model.specs.Domains.{Domains, Assignment, Has, IsInside, AllAscend, values_of}
-use Rattle.palm_model.specs.Constraint.{IsFactor}
+use Rattle.palm_model.specs.Linear.{IsFactor}
 use Rattle.palm_model.specs.Part.{scope_of, Holds}
 use Rattle.palm_model.specs.Support.{HasSupport}
 use Rattle.palm_model.specs.Closure.{IsClosedFor}
 use Rattle.palm_model.specs.declared.part.Part.{Part}
-use Rattle.palm_model.specs.declared.part.Part.TheVariants.{VarCompared, ValueCompared, SumCompared, RowListed, EntryChosen, Counted, Apart}
+use Rattle.palm_model.specs.declared.part.Part.TheVariants.{CompareVar as CompareVarPart, CompareConst as CompareConstPart, Linear as LinearPart, Table as TablePart, Element as ElementPart, Count as CountPart, Differ as DifferPart}
 
 -- the assignment that gives each variable the value at its place
 abbrev pub listed : List ℤ → Assignment
@@ -39,13 +39,13 @@ pub record Narrows (Closed : Domains → Type 0) (old new : Domains) : Type 0 wh
 
 -- the sums of the part stay far below 64 bits
 abbrev pub IsSmall : Part → Type 0
-IsSmall (VarCompared left op right offset) = ⊤
-IsSmall (ValueCompared var op value) = ⊤
-IsSmall (SumCompared terms op bound) = All IsFactor terms × (length terms ≤ 16)
-IsSmall (RowListed vars rows) = ⊤
-IsSmall (EntryChosen outcome index entries) = ⊤
-IsSmall (Counted value vars op target) = ⊤
-IsSmall (Apart first second) = ⊤
+IsSmall (CompareVarPart left op right offset) = ⊤
+IsSmall (CompareConstPart var op value) = ⊤
+IsSmall (LinearPart terms op bound) = All IsFactor terms × (length terms ≤ 16)
+IsSmall (TablePart vars rows) = ⊤
+IsSmall (ElementPart outcome index entries) = ⊤
+IsSmall (CountPart value vars op target) = ⊤
+IsSmall (DifferPart first second) = ⊤
 
 -- the part is over the first so many variables, and its sums are small
 pub record IsTriable (variables : ℕ) (p : Part) : Type 0 where

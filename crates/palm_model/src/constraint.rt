@@ -25,7 +25,7 @@ pub struct Term {
     pub var: Var,
 }
 
-/// What a number of occurrences is compared with.
+/// What a count is compared with.
 #[derive(Clone, Copy, Debug, PartialEq, Eq, Hash)]
 pub enum Target {
     Const(Value),

@@ -9,7 +9,7 @@ ghost use Rattle.palm_model.specs.Trial.{EachSupported, IsClosedForAll, IsTriabl
 use crate::constraint::{ConList, DomainList};
 use crate::part::Part;
 use crate::parts::{all_parts, copy_lists, variables_of};
-use crate::support::{is_supported, values_at};
+use crate::support::{is_supported, values_of};
 use palm_base::{NoMemory, Value, ValueList, Var};
 use std::alloc::Global;
 
@@ -111,8 +111,8 @@ fn narrow_variable(
 {
     let mut lost = false;
     let mut index = 0;
-    while index < values_at(domains, var).len() {
-        let value = values_at(domains, var)[index];
+    while index < values_of(domains, var).len() {
+        let value = values_of(domains, var)[index];
         if is_supported(part, scope, var, &value, domains, values) {
             index += 1;
         } else {
@@ -135,7 +135,7 @@ fn remove_value(
     ensures { let shorter = remove (values_of domains.old var.now) index in
         OnOk result (domains.new ≡ slice_set domains.old var.now shorter) }
 {
-    let shorter = without_value(alloc, values_at(domains, var), index)?;
+    let shorter = without_value(alloc, values_of(domains, var), index)?;
     domains[var.0 as usize] = shorter;
     Ok(())
 }

@@ -6,44 +6,44 @@ use palm_base::{Sequence, Value, ValueList, Var, VarList};
 #[derive(Debug, Drop)]
 pub enum Part {
     /// `left op right + offset`
-    VarCompared {
+    CompareVar {
         left: Var,
         op: Op,
         right: Var,
         offset: i32,
     },
     /// `var op value`
-    ValueCompared {
+    CompareConst {
         var: Var,
         op: Op,
         value: Value,
     },
     /// The sum of the terms stands in relation `op` to the bound.
-    SumCompared {
+    Linear {
         terms: TermList,
         op: Op,
         bound: i64,
     },
     /// The values of the variables are one of the rows.
-    RowListed {
+    Table {
         vars: VarList,
         rows: RowList,
     },
     /// `outcome` is the entry at `index`, counted from 1.
-    EntryChosen {
+    Element {
         outcome: Var,
         index: Var,
         entries: ValueList,
     },
     /// The number of variables that have the value stands in relation `op` to the target.
-    Counted {
+    Count {
         value: Value,
         vars: VarList,
         op: Op,
         target: Target,
     },
     /// The two variables have different values.
-    Apart {
+    Differ {
         first: Var,
         second: Var,
     },

@@ -1,8 +1,10 @@
 //! The parts of constraints, and the variables of a part, as lists of their own.
 ghost use Rattle.std.specs.Prelude.{◌≡◌, [], ◌∷◌, ◌++◌, map, OnOk, IfOk};
 ghost use Rattle.std.specs.List.{flat_map};
-ghost use Rattle.palm_model.specs.Constraint.{target_scope};
-ghost use Rattle.palm_model.specs.Part.{parts, scope_of, sum_parts, differ_parts};
+ghost use Rattle.palm_model.specs.Count.{target_scope};
+ghost use Rattle.palm_model.specs.Part.{parts, scope_of};
+ghost use Rattle.palm_model.specs.Linear.{linear_parts};
+ghost use Rattle.palm_model.specs.Differ.{differ_parts};
 
 use crate::constraint::{Con, ConList, Op, RowList, Target, TermList};
 use crate::part::{Part, PartList};
@@ -49,9 +51,9 @@ fn push_parts(alloc: Global, list: &mut PartList, con: &Con) -> Result<(), NoMem
             op,
             right,
             offset,
-        } => push_var_compared(list, left, *op, right, *offset),
-        Con::CompareConst { left, op, value } => push_value_compared(list, left, *op, value),
-        Con::Linear { terms, op, bound } => push_sums(alloc, list, terms, op, *bound),
+        } => push_compare_var(list, left, *op, right, *offset),
+        Con::CompareConst { left, op, value } => push_compare_const(list, left, *op, value),
+        Con::Linear { terms, op, bound } => push_linear(alloc, list, terms, op, *bound),
         Con::Table { vars, rows } => push_table(alloc, list, vars, rows),
         Con::Element {
             outcome,
@@ -64,21 +66,21 @@ fn push_parts(alloc: Global, list: &mut PartList, con: &Con) -> Result<(), NoMem
             op,
             target,
         } => push_count(alloc, list, value, vars, op, target),
-        Con::Differ { vars } => push_pairs(list, vars.as_slice()),
+        Con::Differ { vars } => push_differ(list, vars.as_slice()),
     }
 }
 
-fn push_var_compared(
+fn push_compare_var(
     list: &mut PartList,
     left: &Var,
     op: Op,
     right: &Var,
     offset: i32,
 ) -> Result<(), NoMemory>
-    ensures { let part = Part.VarCompared left.now op right.now offset in
+    ensures { let part = Part.CompareVar left.now op right.now offset in
         OnOk result (list.new ≡ list.old ++ part ∷ []) }
 {
-    list.push(Part::VarCompared {
+    list.push(Part::CompareVar {
         left: *left,
         op,
         right: *right,
@@ -86,49 +88,49 @@ fn push_var_compared(
     })
 }
 
-fn push_value_compared(
+fn push_compare_const(
     list: &mut PartList,
     var: &Var,
     op: Op,
     value: &Value,
 ) -> Result<(), NoMemory>
-    ensures { OnOk result (list.new ≡ list.old ++ Part.ValueCompared var.now op value.now ∷ []) }
+    ensures { OnOk result (list.new ≡ list.old ++ Part.CompareConst var.now op value.now ∷ []) }
 {
-    list.push(Part::ValueCompared {
+    list.push(Part::CompareConst {
         var: *var,
         op,
         value: *value,
     })
 }
 
-fn push_sums(
+fn push_linear(
     alloc: Global,
     list: &mut PartList,
     terms: &TermList,
     op: &Op,
     bound: i64,
 ) -> Result<(), NoMemory>
-    ensures { OnOk result (list.new ≡ list.old ++ sum_parts terms.now op.now bound) }
+    ensures { OnOk result (list.new ≡ list.old ++ linear_parts terms.now op.now bound) }
 {
     match op {
         Op::Eq => {
-            push_sum(alloc, list, terms, Op::Le, bound)?;
-            push_sum(alloc, list, terms, Op::Ge, bound)
+            push_linear_part(alloc, list, terms, Op::Le, bound)?;
+            push_linear_part(alloc, list, terms, Op::Ge, bound)
         }
-        _ => push_sum(alloc, list, terms, *op, bound),
+        _ => push_linear_part(alloc, list, terms, *op, bound),
     }
 }
 
-fn push_sum(
+fn push_linear_part(
     alloc: Global,
     list: &mut PartList,
     terms: &TermList,
     op: Op,
     bound: i64,
 ) -> Result<(), NoMemory>
-    ensures { OnOk result (list.new ≡ list.old ++ Part.SumCompared terms.now op bound ∷ []) }
+    ensures { OnOk result (list.new ≡ list.old ++ Part.Linear terms.now op bound ∷ []) }
 {
-    list.push(Part::SumCompared {
+    list.push(Part::Linear {
         terms: TermList::from_slice(alloc, terms.as_slice())?,
         op,
         bound,
@@ -141,9 +143,9 @@ fn push_table(
     vars: &VarList,
     rows: &RowList,
 ) -> Result<(), NoMemory>
-    ensures { OnOk result (list.new ≡ list.old ++ Part.RowListed vars.now rows.now ∷ []) }
+    ensures { OnOk result (list.new ≡ list.old ++ Part.Table vars.now rows.now ∷ []) }
 {
-    list.push(Part::RowListed {
+    list.push(Part::Table {
         vars: VarList::from_slice(alloc, vars.as_slice())?,
         rows: RowList::from_vec(copy_lists(alloc, rows.as_slice())?),
     })
@@ -156,10 +158,10 @@ fn push_element(
     index: &Var,
     entries: &ValueList,
 ) -> Result<(), NoMemory>
-    ensures { let part = Part.EntryChosen outcome.now index.now entries.now in
+    ensures { let part = Part.Element outcome.now index.now entries.now in
         OnOk result (list.new ≡ list.old ++ part ∷ []) }
 {
-    list.push(Part::EntryChosen {
+    list.push(Part::Element {
         outcome: *outcome,
         index: *index,
         entries: ValueList::from_slice(alloc, entries.as_slice())?,
@@ -174,10 +176,10 @@ fn push_count(
     op: &Op,
     target: &Target,
 ) -> Result<(), NoMemory>
-    ensures { let part = Part.Counted value.now vars.now op.now target.now in
+    ensures { let part = Part.Count value.now vars.now op.now target.now in
         OnOk result (list.new ≡ list.old ++ part ∷ []) }
 {
-    list.push(Part::Counted {
+    list.push(Part::Count {
         value: *value,
         vars: VarList::from_slice(alloc, vars.as_slice())?,
         op: *op,
@@ -194,22 +196,22 @@ fn same_target(target: &Target) -> Target
     }
 }
 
-fn push_pairs(list: &mut PartList, vars: &[Var]) -> Result<(), NoMemory>
+fn push_differ(list: &mut PartList, vars: &[Var]) -> Result<(), NoMemory>
     ensures { OnOk result (list.new ≡ list.old ++ differ_parts vars.now) }
 {
     let mut rest = vars;
     while let [first, others @ ..] = rest {
-        push_pairs_with(list, first, others)?;
+        push_differ_with(list, first, others)?;
         rest = others;
     }
     Ok(())
 }
 
-fn push_pairs_with(list: &mut PartList, first: &Var, others: &[Var]) -> Result<(), NoMemory>
-    ensures { OnOk result (list.new ≡ list.old ++ map (Part.Apart first.now) others.now) }
+fn push_differ_with(list: &mut PartList, first: &Var, others: &[Var]) -> Result<(), NoMemory>
+    ensures { OnOk result (list.new ≡ list.old ++ map (Part.Differ first.now) others.now) }
 {
     for other in others {
-        list.push(Part::Apart {
+        list.push(Part::Differ {
             first: *first,
             second: *other,
         })?;
@@ -222,13 +224,13 @@ pub(crate) fn variables_of(alloc: Global, part: &Part) -> Result<VarList, NoMemo
     ensures { IfOk result (λ list. list ≡ scope_of part.now) }
 {
     match part {
-        Part::VarCompared { left, right, .. } => two_variables(alloc, left, right),
-        Part::ValueCompared { var, .. } => one_variable(alloc, var),
-        Part::SumCompared { terms, .. } => term_variables(alloc, terms),
-        Part::RowListed { vars, .. } => Ok(VarList::from_slice(alloc, vars.as_slice())?),
-        Part::EntryChosen { outcome, index, .. } => two_variables(alloc, outcome, index),
-        Part::Counted { vars, target, .. } => counted_variables(alloc, vars, target),
-        Part::Apart { first, second } => two_variables(alloc, first, second),
+        Part::CompareVar { left, right, .. } => two_variables(alloc, left, right),
+        Part::CompareConst { var, .. } => one_variable(alloc, var),
+        Part::Linear { terms, .. } => term_variables(alloc, terms),
+        Part::Table { vars, .. } => Ok(VarList::from_slice(alloc, vars.as_slice())?),
+        Part::Element { outcome, index, .. } => two_variables(alloc, outcome, index),
+        Part::Count { vars, target, .. } => counted_variables(alloc, vars, target),
+        Part::Differ { first, second } => two_variables(alloc, first, second),
     }
 }
 

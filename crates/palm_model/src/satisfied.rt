@@ -1,9 +1,11 @@
 //! Whether an assignment satisfies a part. An assignment is a list with a value for each variable.
 ghost use Rattle.std.specs.Prelude.{◌≡◌, ◌≢◌, ◌<◌, ◌≤◌, ◌^◌, ◌*ℤ◌, FitsSigned, true, false, length, map, All};
 ghost use Rattle.std.specs.Int.{w32};
-ghost use Rattle.palm_model.specs.Constraint.{Stands, IsUpTo, IsFactor, term_vars, target_scope};
-ghost use Rattle.palm_model.specs.Part.{total, occurrences, Holds};
-ghost use Rattle.palm_model.specs.Reason.{is_standing};
+ghost use Rattle.palm_model.specs.Relation.{Stands, is_standing};
+ghost use Rattle.palm_model.specs.Limits.{IsUpTo};
+ghost use Rattle.palm_model.specs.Linear.{IsFactor, term_vars, total};
+ghost use Rattle.palm_model.specs.Count.{target_scope, count_among};
+ghost use Rattle.palm_model.specs.Part.{Holds};
 ghost use Rattle.palm_model.specs.Trial.{listed, IsTriable};
 
 use crate::constraint::{Op, RowList, Target, Term, TermList};
@@ -17,29 +19,29 @@ pub(crate) fn is_satisfied(part: &Part, values: &[Value]) -> bool
     ensures fails { result ≡ false → ¬ Holds part.now (listed values.now) }
 {
     match part {
-        Part::VarCompared {
+        Part::CompareVar {
             left,
             op,
             right,
             offset,
-        } => is_compared(values, left, *op, right, *offset),
-        Part::ValueCompared { var, op, value } => {
+        } => meets_comparison(values, left, *op, right, *offset),
+        Part::CompareConst { var, op, value } => {
             stands(*op, number_at(values, var), number_of(value))
         }
-        Part::SumCompared { terms, op, bound } => stands(*op, total_of(values, terms), *bound),
-        Part::RowListed { vars, rows } => is_listed(values, vars, rows),
-        Part::EntryChosen {
+        Part::Linear { terms, op, bound } => stands(*op, total_of(values, terms), *bound),
+        Part::Table { vars, rows } => is_listed(values, vars, rows),
+        Part::Element {
             outcome,
             index,
             entries,
         } => is_entry(values, outcome, index, entries),
-        Part::Counted {
+        Part::Count {
             value,
             vars,
             op,
             target,
-        } => is_counted(values, value, vars, *op, target),
-        Part::Apart { first, second } => number_at(values, first) != number_at(values, second),
+        } => meets_count(values, value, vars, *op, target),
+        Part::Differ { first, second } => number_at(values, first) != number_at(values, second),
     }
 }
 
@@ -77,13 +79,13 @@ pub fn stands(op: Op, left: i64, right: i64) -> bool
 }
 
 /// Whether one variable stands in the relation to another with an offset.
-fn is_compared(values: &[Value], left: &Var, op: Op, right: &Var, offset: i32) -> bool
+fn meets_comparison(values: &[Value], left: &Var, op: Op, right: &Var, offset: i32) -> bool
     requires left { left.now < length values.now }
     requires right { right.now < length values.now }
     ensures holds { result ≡ true
-        → Holds (Part.VarCompared left.now op right.now offset) (listed values.now) }
+        → Holds (Part.CompareVar left.now op right.now offset) (listed values.now) }
     ensures fails { result ≡ false
-        → ¬ Holds (Part.VarCompared left.now op right.now offset) (listed values.now) }
+        → ¬ Holds (Part.CompareVar left.now op right.now offset) (listed values.now) }
 {
     stands(
         op,
@@ -119,9 +121,9 @@ fn term_value(values: &[Value], term: &Term) -> i64
 /// Whether the values of the variables are one of the rows.
 fn is_listed(values: &[Value], vars: &VarList, rows: &RowList) -> bool
     requires { All (λ x. x < length values.now) vars.now }
-    ensures holds { result ≡ true → Holds (Part.RowListed vars.now rows.now) (listed values.now) }
+    ensures holds { result ≡ true → Holds (Part.Table vars.now rows.now) (listed values.now) }
     ensures fails { result ≡ false
-        → ¬ Holds (Part.RowListed vars.now rows.now) (listed values.now) }
+        → ¬ Holds (Part.Table vars.now rows.now) (listed values.now) }
 {
     for row in rows.as_slice() {
         if is_row(values, vars.as_slice(), row.as_slice()) {
@@ -153,9 +155,9 @@ fn is_entry(values: &[Value], outcome: &Var, index: &Var, entries: &ValueList) -
     requires outcome { outcome.now < length values.now }
     requires index { index.now < length values.now }
     ensures holds { result ≡ true
-        → Holds (Part.EntryChosen outcome.now index.now entries.now) (listed values.now) }
+        → Holds (Part.Element outcome.now index.now entries.now) (listed values.now) }
     ensures fails { result ≡ false
-        → ¬ Holds (Part.EntryChosen outcome.now index.now entries.now) (listed values.now) }
+        → ¬ Holds (Part.Element outcome.now index.now entries.now) (listed values.now) }
 {
     let place = number_at(values, index);
     if place < 1 {
@@ -168,13 +170,13 @@ fn is_entry(values: &[Value], outcome: &Var, index: &Var, entries: &ValueList) -
 }
 
 /// Whether the number of variables that have the value stands in the relation to the target.
-fn is_counted(values: &[Value], value: &Value, vars: &VarList, op: Op, target: &Target) -> bool
+fn meets_count(values: &[Value], value: &Value, vars: &VarList, op: Op, target: &Target) -> bool
     requires vars { All (λ x. x < length values.now) vars.now }
     requires target { All (λ x. x < length values.now) (target_scope target.now) }
     ensures holds { result ≡ true
-        → Holds (Part.Counted value.now vars.now op target.now) (listed values.now) }
+        → Holds (Part.Count value.now vars.now op target.now) (listed values.now) }
     ensures fails { result ≡ false
-        → ¬ Holds (Part.Counted value.now vars.now op target.now) (listed values.now) }
+        → ¬ Holds (Part.Count value.now vars.now op target.now) (listed values.now) }
 {
     let bound = match target {
         Target::Const(number) => number_of(number),
@@ -182,15 +184,15 @@ fn is_counted(values: &[Value], value: &Value, vars: &VarList, op: Op, target: &
     };
     stands(
         op,
-        occurrences_of(values, value, vars.as_slice()) as i64,
+        count_among(values, value, vars.as_slice()) as i64,
         bound,
     )
 }
 
 /// How many of the variables have the value.
-fn occurrences_of(values: &[Value], value: &Value, vars: &[Var]) -> usize
+fn count_among(values: &[Value], value: &Value, vars: &[Var]) -> usize
     requires { All (λ x. x < length values.now) vars.now }
-    ensures count { result ≡ occurrences (listed values.now) value.now vars.now }
+    ensures count { result ≡ count_among (listed values.now) value.now vars.now }
     ensures small { result < 2 ^ 63 }
 {
     let mut count = 0;

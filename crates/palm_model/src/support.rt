@@ -10,7 +10,7 @@ use crate::satisfied::is_satisfied;
 use palm_base::{Value, ValueList, Var};
 
 /// The values of a variable.
-pub(crate) fn values_at<'a>(domains: &'a [ValueList], var: &Var) -> &'a [Value]
+pub(crate) fn values_of<'a>(domains: &'a [ValueList], var: &Var) -> &'a [Value]
     requires { var.now < length domains.now }
     ensures { result.now ≡ values_of domains.now var.now }
 {
@@ -50,7 +50,7 @@ fn is_completed(
     if first == fixed {
         return is_completed(part, fixed, rest, domains, values);
     }
-    for value in values_at(domains, first) {
+    for value in values_of(domains, first) {
         assign(values, first, value);
         if is_completed(part, fixed, rest, domains, values) {
             return true;

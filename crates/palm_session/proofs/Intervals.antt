@@ -4,7 +4,7 @@ use Rattle.std.proofs.Common.{◌≡◌, ℕ, zero, suc, ℤ, pos, negsuc, ◌+�
 use Rattle.std.proofs.lemmas.Bool.{cases_lt}
 use Rattle.std.proofs.lemmas.Int.{ints}
 use Rattle.std.proofs.lemmas.List.Elements.{All-nil, All-cons, All-weaker}
-use Rattle.palm_model.specs.Constraint.{IsValue}
+use Rattle.palm_model.specs.Limits.{IsValue}
 use Rattle.palm_model.specs.Domains.{Ascends}
 use Rattle.palm_lang.specs.Book.{AreValues}
 use Rattle.palm_session.specs.Answers.{from_on}

@@ -10,7 +10,7 @@ use Rattle.palm_lang.specs.Book.{Entry}
 use Rattle.palm_model.specs.Closure.{IsGreatest}
 use Rattle.palm_model.specs.Constraint.{IsWellFormed}
 use Rattle.palm_model.specs.Domains.{Domains, Ascends, AllAscend}
-use Rattle.palm_model.specs.Reason.{is_listed}
+use Rattle.palm_model.specs.Removed.{is_listed}
 use Rattle.palm_model.specs.Trial.{Narrows}
 use Rattle.palm_model.specs.declared.constraint.Con.{Con}
 use Rattle.palm_model.proofs.Ascending.{ascends_filter, ascending_same}

@@ -1,7 +1,7 @@
 -- Names that are known, and the constraints that they stand in.
 use Rattle.std.proofs.Common.{◌≡◌, ℕ, ℤ, ◌<◌, List, [], ◌∷◌, ◌++◌, map, All, Any, length, subst, sym, ap, ◌∙◌}
 use Rattle.std.proofs.lemmas.List.Elements.{All-map, All-append}
-use Rattle.palm_model.specs.Constraint.{target_scope}
+use Rattle.palm_model.specs.Count.{target_scope}
 use Rattle.palm_model.specs.declared.constraint.Con.TheVariants.{Linear as SumCon, Count as CountCon}
 use Rattle.palm_model.specs.declared.constraint.Op.{Op}
 use Rattle.palm_model.specs.declared.constraint.Target.{Target}

@@ -3,7 +3,10 @@ use Rattle.std.proofs.Common.{◌≡◌, ℕ, ◌<◌, List, [], ◌∷◌, ◌+
 use Rattle.std.proofs.lemmas.List.{length-map}
 use Rattle.std.proofs.lemmas.List.Elements.{All-nil, All-cons, All-head, All-tail}
 use Rattle.palm_base.proofs.Members.{member_map}
-use Rattle.palm_model.specs.Constraint.{scope, Distinct, IsShaped, IsWellFormed, IsFactor, IsRow, term_vars, target_scope}
+use Rattle.palm_model.specs.Constraint.{scope, Distinct, IsShaped, IsWellFormed}
+use Rattle.palm_model.specs.Linear.{IsFactor, term_vars}
+use Rattle.palm_model.specs.Table.{IsRow}
+use Rattle.palm_model.specs.Count.{target_scope}
 use Rattle.palm_model.specs.declared.constraint.Con.{Con}
 use Rattle.palm_model.specs.declared.constraint.Con.TheVariants.{CompareVar as VarCompare, CompareConst as ConstCompare, Linear as SumCon, Table as TableCon, Element as ElementCon, Count as CountCon, Differ as DifferCon}
 use Rattle.palm_model.specs.declared.constraint.Target.{Target}

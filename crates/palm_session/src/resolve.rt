@@ -3,7 +3,8 @@ ghost use Rattle.std.specs.Prelude.{◌≡◌, ◌<◌, ℕ, All, Any, IfOk, len
 ghost use Rattle.palm_lang.specs.Book.{name_of};
 ghost use Rattle.palm_lang.specs.Limits.{names_of, line_target_names};
 ghost use Rattle.palm_lang.specs.Reply.{named_target, named_term};
-ghost use Rattle.palm_model.specs.Constraint.{term_vars, target_scope};
+ghost use Rattle.palm_model.specs.Linear.{term_vars};
+ghost use Rattle.palm_model.specs.Count.{target_scope};
 ghost use Rattle.palm_session.specs.Answers.{IsUnknown, Resolves};
 ghost use Rattle.palm_session.specs.State.{HasVariable};
 

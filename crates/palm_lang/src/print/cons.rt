@@ -8,7 +8,8 @@ ghost use Rattle.palm_lang.specs.Grammar.{op_text};
 ghost use Rattle.palm_lang.specs.Print.{Puts};
 ghost use Rattle.palm_lang.specs.Reply.{named_target, named_term, con_text};
 ghost use Rattle.palm_lang.specs.Text.{spaced, after_spaces, later_term_words, sum_words, target_words, row_text};
-ghost use Rattle.palm_model.specs.Constraint.{scope, target_scope};
+ghost use Rattle.palm_model.specs.Constraint.{scope};
+ghost use Rattle.palm_model.specs.Count.{target_scope};
 
 use crate::book::Book;
 use crate::print::lists::{put_rows, put_vars};
@@ -44,7 +45,7 @@ fn put_terms(book: &Book, terms: &[Term], out: &mut Vec<u8>) -> Result<(), NoMem
     }
 }
 
-/// What is compared with a number of occurrences, behind a space.
+/// What is compared with a count, behind a space.
 fn put_target(book: &Book, target: &Target, out: &mut Vec<u8>) -> Result<(), NoMemory>
     requires { All (λ x. x < length book.now.variables) (target_scope target.now) }
     ensures { Puts out.old.items out.new.items (after_spaces (target_words (named_target book.now.variables target.now))) result }

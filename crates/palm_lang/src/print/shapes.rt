@@ -114,7 +114,7 @@ pub(crate) fn put_bound(op: Op, bound: &i64, out: &mut Vec<u8>) -> Result<(), No
     put_spaced_int(i128::from(*bound), out)
 }
 
-/// What is compared with a number of occurrences, behind a space.
+/// What is compared with a count, behind a space.
 fn put_target(target: &NameTarget, out: &mut Vec<u8>) -> Result<(), NoMemory>
     ensures { Puts out.old.items out.new.items (after_spaces (target_words target.now)) result }
 {

@@ -1,5 +1,5 @@
 use Rattle.std.proofs.Common.{◌≡◌, drop}
-use Rattle.filter_differ.specs.Others.{first_lone}
+use Rattle.filter_differ.specs.Differ.{first_lone}
 use Rattle.palm_domain.specs.Rows.{present_of}
 use Rattle.filter_differ.proofs.others.first_lone.Given as goal
 

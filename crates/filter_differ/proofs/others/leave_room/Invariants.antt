@@ -1,5 +1,5 @@
 use Rattle.std.specs.List.{AllWithin}
-use Rattle.filter_differ.specs.Others.{LeavesRoom}
+use Rattle.filter_differ.specs.Differ.{LeavesRoom}
 use Rattle.palm_domain.specs.Rows.{present_of}
 use Rattle.filter_differ.proofs.others.leave_room.Given as goal
 

@@ -1,5 +1,5 @@
 use Rattle.std.proofs.Common.{◌≡◌, take}
-use Rattle.palm_model.specs.Constraint.{term_vars}
+use Rattle.palm_model.specs.Linear.{term_vars}
 use Rattle.filter_linear.proofs.linear.variables_of.Given as goal
 
 -- the variables so far

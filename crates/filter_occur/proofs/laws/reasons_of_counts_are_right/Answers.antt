@@ -1,4 +1,4 @@
-use Rattle.filter_occur.proofs.Occurrences.{counts_right}
+use Rattle.filter_occur.proofs.CountSupport.{counts_right}
 use Rattle.filter_occur.proofs.laws.reasons_of_counts_are_right.Goals as goal
 
 pub returns : goal.returns

@@ -1,5 +1,5 @@
 use Rattle.std.proofs.Common.{◌≡◌, take}
-use Rattle.filter_table.specs.Columns.{column_values}
+use Rattle.filter_table.specs.Table.{column_values}
 use Rattle.filter_table.proofs.indexed.column_index.Given as goal
 
 -- the entries of the rows so far

@@ -1,4 +1,4 @@
-use Rattle.filter_table.specs.Columns.{AreColumns}
+use Rattle.filter_table.specs.Table.{AreColumns}
 use Rattle.filter_table.proofs.indexed.column_indexes.Given as goal
 
 -- the columns so far

@@ -1,6 +1,6 @@
 use Rattle.std.proofs.Common.{◌≡◌, drop}
 use Rattle.palm_domain.specs.Rows.{initial_of}
-use Rattle.palm_model.specs.Reason.{are_there, row_pairs}
+use Rattle.palm_model.specs.Table.{are_there, row_pairs}
 use Rattle.filter_table.proofs.row.are_declared.Given as goal
 
 -- all entries are declared where those left are

@@ -1,5 +1,5 @@
 use Rattle.palm_domain.specs.Rows.{present_of}
-use Rattle.palm_model.specs.Reason.{row_pairs}
+use Rattle.palm_model.specs.Table.{row_pairs}
 use Rattle.filter_table.proofs.Entries.{there_none, there_not}
 use Rattle.filter_table.proofs.row.are_present.Goals as goal
 

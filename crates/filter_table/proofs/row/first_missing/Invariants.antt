@@ -1,6 +1,6 @@
 use Rattle.std.proofs.Common.{◌≡◌, drop}
 use Rattle.palm_domain.specs.Rows.{present_of}
-use Rattle.palm_model.specs.Reason.{first_missing, row_pairs}
+use Rattle.palm_model.specs.Table.{first_missing, row_pairs}
 use Rattle.filter_table.proofs.row.first_missing.Given as goal
 
 -- the first entry that is not present is among those left

@@ -1,6 +1,6 @@
 use Rattle.std.proofs.Common.{◌≡◌, drop}
 use Rattle.palm_model.specs.Domains.{is_among}
-use Rattle.palm_model.specs.Reason.{row_pairs}
+use Rattle.palm_model.specs.Table.{row_pairs}
 use Rattle.filter_table.proofs.row.has_pair.Given as goal
 
 -- the pair is among the entries left, if it is one

@@ -1,7 +1,7 @@
 use Rattle.std.proofs.Common.{ap, refl, not, ◌∙◌}
 use Rattle.palm_domain.specs.Rows.{present_of}
 use Rattle.palm_model.specs.Domains.{values_of}
-use Rattle.palm_model.specs.Reason.{is_listed}
+use Rattle.palm_model.specs.Removed.{is_listed}
 use Rattle.palm_model.proofs.Reasons.{pairs_more, pairs_same, member_listed, member_not_listed}
 use Rattle.palm_filter.proofs.removed.push_removed.Goals as goal
 use Rattle.palm_filter.proofs.removed.push_removed.Goals.{then-not-contains+in_ok-push, else-not-contains}

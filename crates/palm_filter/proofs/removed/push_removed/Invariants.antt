@@ -1,7 +1,7 @@
 use Rattle.std.proofs.Common.{◌≡◌, ◌++◌, take, filter, not}
 use Rattle.palm_domain.specs.Rows.{present_of}
 use Rattle.palm_model.specs.Domains.{values_of}
-use Rattle.palm_model.specs.Reason.{is_listed, pairs_of}
+use Rattle.palm_model.specs.Removed.{is_listed, pairs_of}
 use Rattle.palm_filter.proofs.removed.push_removed.Given as goal
 
 -- the removed pairs of the values so far were added

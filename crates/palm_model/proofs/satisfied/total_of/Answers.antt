@@ -1,6 +1,6 @@
 use Rattle.std.proofs.Common.{◌<◌, ◌≤◌, ◌+◌, ◌*◌, ◌+ℤ◌, List, length, take, get_or, to_z, w64, sym, ap, ◌∙◌, subst, arith}
-use Rattle.palm_model.specs.Constraint.{IsUpTo}
-use Rattle.palm_model.specs.Part.{total}
+use Rattle.palm_model.specs.Limits.{IsUpTo}
+use Rattle.palm_model.specs.Linear.{total}
 use Rattle.palm_model.specs.Trial.{listed}
 use Rattle.palm_model.specs.declared.constraint.Term.{Term}
 use Rattle.palm_model.proofs.Sums.{term_declared, total_more, sum_up_to, sum_read}

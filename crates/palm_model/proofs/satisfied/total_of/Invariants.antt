@@ -1,6 +1,6 @@
 use Rattle.std.proofs.Common.{◌≡◌, ◌*◌, take}
-use Rattle.palm_model.specs.Constraint.{IsUpTo}
-use Rattle.palm_model.specs.Part.{total}
+use Rattle.palm_model.specs.Limits.{IsUpTo}
+use Rattle.palm_model.specs.Linear.{total}
 use Rattle.palm_model.specs.Trial.{listed}
 use Rattle.palm_model.proofs.satisfied.total_of.Given as goal
 

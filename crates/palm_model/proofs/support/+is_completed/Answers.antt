@@ -70,8 +70,8 @@ returns-then-is_completed-clause-holds t c h =
     let declared : y < length before = omega (arith, All-contains (λ z. z < length old) xs y c.requires.declared (first_member xs y (omega (arith, c.in-len1-up.len_at_least)) c.first-item.is), c.loop-value.auto.values) in
     let s = try_made xs x y w old before now (omega (arith, c.in-len1-up.len_at_least)) c.first-item.is (sym c.eq.ensures ∙ c.if-eq.false) declared c.loop-value.invariant.changes c.assign.ensures.set in
     let d = c.args.domains.now in
-    let vs = c.values_at-value-items.result.now in
-    let has : Has d y w = subst (λ us. Contains us w) c.values_at-value-items.ensures (member_same vs (get_or vs c.loop-value.value-index w) w (sym c.value-item.is) (Contains-get_or vs c.loop-value.value-index w c.loop-value-test.true)) in
+    let vs = c.values_of-value-items.result.now in
+    let has : Has d y w = subst (λ us. Contains us w) c.values_of-value-items.ensures (member_same vs (get_or vs c.loop-value.value-index w) w (sym c.value-item.is) (Contains-get_or vs c.loop-value.value-index w c.loop-value-test.true)) in
     try_holds xs ys x y w old before now s d c.args.part.now has (c.is_completed-in-loop-value.ensures.holds c.if-is_completed.true)
 
 pub loop-value-preserved : goal.loop-value-preserved
@@ -88,7 +88,7 @@ loop-value-preserved t c =
     let s = try_made xs x y w old before now (omega (arith, c.in-len1-up.len_at_least)) c.first-item.is (sym c.eq.ensures ∙ c.if-eq.false) declared c.loop-value.invariant.changes c.assign.ensures.set in
     let d = c.args.domains.now in
     let p = c.args.part.now in
-    let vs = c.values_at-value-items.result.now in
+    let vs = c.values_of-value-items.result.now in
     record {
       changes = try_changes xs ys x y w old before now s c.is_completed-in-loop-value.new.values c.is_completed-in-loop-value.ensures.changes;
       tried = tries_more d p x y ys old vs c.loop-value.value-index w c.loop-value-test.true c.value-item.is
@@ -99,7 +99,7 @@ pub returns-clause-fails : goal.returns-clause-fails
 returns-clause-fails t c h =
     let xs = c.args.open_vars.now in
     let y = c.first-item.result in
-    let vs = c.values_at-value-items.result.now in
+    let vs = c.values_of-value-items.result.now in
     tries_fail c.args.domains.now c.args.part.now c.args.fixed.now y xs (take (length xs - 1) (drop 1 xs)) c.args.values.now vs c.loop-value.value-index
     (open_split xs y (omega (arith, c.in-len1-up.len_at_least)) c.first-item.is) (eqb-false y c.args.fixed.now (sym c.eq.ensures ∙ c.if-eq.false))
-    c.values_at-value-items.ensures c.loop-value-test.false c.loop-value.invariant.tried
+    c.values_of-value-items.ensures c.loop-value-test.false c.loop-value.invariant.tried

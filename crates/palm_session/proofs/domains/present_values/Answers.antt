@@ -1,7 +1,7 @@
 use Rattle.std.proofs.Common.{List, [], ◌∷◌, ◌++◌, ℤ, filter, refl, ap, ◌∙◌, take_all}
 use Rattle.palm_domain.specs.Rows.{present_of}
 use Rattle.palm_model.specs.Domains.{values_of}
-use Rattle.palm_model.specs.Reason.{is_listed}
+use Rattle.palm_model.specs.Removed.{is_listed}
 use Rattle.palm_model.proofs.Ascending.{ascends_at}
 use Rattle.palm_model.proofs.Reasons.{member_listed}
 use Rattle.palm_session.proofs.Presents.{filter_taken, filter_left, presents_listed, not_listed}

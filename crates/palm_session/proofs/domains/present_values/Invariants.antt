@@ -1,7 +1,7 @@
 use Rattle.std.proofs.Common.{◌≡◌, take, filter}
 use Rattle.palm_domain.specs.Rows.{present_of}
 use Rattle.palm_model.specs.Domains.{values_of}
-use Rattle.palm_model.specs.Reason.{is_listed}
+use Rattle.palm_model.specs.Removed.{is_listed}
 use Rattle.palm_session.proofs.domains.present_values.Given as goal
 
 -- the present ones of the declared values so far

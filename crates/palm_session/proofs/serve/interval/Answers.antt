@@ -2,7 +2,7 @@ use Rattle.std.proofs.Common.{◌≡◌, ◌+◌, ◌<◌, ◌≤◌, ◌≤ℤ�
 use Rattle.std.proofs.lemmas.Int.{ints}
 use mir.Val.{to_z, of_z}
 use mir.Syntax.{w32}
-use Rattle.palm_model.specs.Constraint.{IsValue}
+use Rattle.palm_model.specs.Limits.{IsValue}
 use Rattle.palm_lang.specs.Book.{AreValues}
 use Rattle.palm_session.specs.Answers.{from_on}
 use Rattle.palm_session.proofs.Intervals.{abs_is, narrow, from_on_more, are_values}

@@ -2,7 +2,8 @@ use Rattle.std.proofs.Common.{◌≡◌, length, ap, sym, ◌∙◌}
 use Rattle.std.proofs.lemmas.Result.{on_ok_weaker}
 use Rattle.palm_domain.specs.Rows.{initial_of, present_of}
 use Rattle.palm_model.specs.Domains.{values_of}
-use Rattle.palm_model.specs.Reason.{pairs_of, reason, IsReason}
+use Rattle.palm_model.specs.Removed.{pairs_of}
+use Rattle.palm_model.specs.Reason.{reason, IsReason}
 use Rattle.filter_compare.specs.Comparison.{comparison_of, meeting_values}
 use Rattle.filter_compare.proofs.Comparisons.{gives_reason, gives_right, const_gives_right}
 use Rattle.filter_compare.proofs.compare.CompareFilterFilter.reason.Goals as goal

@@ -1,6 +1,6 @@
 use Rattle.std.proofs.Common.{◌≡◌, ◌++◌, take}
 use Rattle.filter_compare.specs.Comparison.{meeting_values}
-use Rattle.palm_model.specs.Reason.{pairs_of}
+use Rattle.palm_model.specs.Removed.{pairs_of}
 use Rattle.filter_compare.proofs.demand.Demand.push_declared.Given as goal
 
 -- the pairs of the values so far were added

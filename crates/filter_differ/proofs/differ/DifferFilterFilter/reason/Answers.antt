@@ -1,6 +1,7 @@
 use Rattle.std.proofs.Common.{◌≡◌, ◌++◌, length, ap, ◌∙◌}
 use Rattle.palm_domain.specs.Rows.{initial_of, present_of}
-use Rattle.palm_model.specs.Reason.{IsReason, differ_reason}
+use Rattle.palm_model.specs.Reason.{IsReason}
+use Rattle.palm_model.specs.Differ.{differ_reason}
 use Rattle.palm_filter.proofs.Written.{whole_ok}
 use Rattle.filter_differ.proofs.Differing.{gives_right}
 use Rattle.filter_differ.proofs.differ.DifferFilterFilter.reason.Goals as goal

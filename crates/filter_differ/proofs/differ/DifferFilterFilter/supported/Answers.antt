@@ -1,6 +1,6 @@
 use Rattle.std.proofs.Common.{length, All, subst}
 use Rattle.palm_domain.specs.Rows.{present_of}
-use Rattle.filter_differ.specs.Others.{LeavesRoom, TakesRoom}
+use Rattle.filter_differ.specs.Differ.{LeavesRoom, TakesRoom}
 use Rattle.filter_differ.proofs.Differing.{answers_supported, answers_lacking}
 use Rattle.filter_differ.proofs.differ.DifferFilterFilter.supported.Goals as goal
 

@@ -1,8 +1,9 @@
 use Rattle.std.proofs.Common.{length}
 use Rattle.palm_domain.specs.Rows.{initial_of, present_of}
-use Rattle.palm_model.specs.Reason.{sum_reason, IsReason}
+use Rattle.palm_model.specs.Linear.{linear_reason}
+use Rattle.palm_model.specs.Reason.{IsReason}
 use Rattle.palm_filter.proofs.Written.{written_right}
-use Rattle.filter_linear.proofs.SumReasons.{gives_right}
+use Rattle.filter_linear.proofs.LinearReasons.{gives_right}
 use Rattle.filter_linear.proofs.linear.LinearFilterFilter.reason.Goals as goal
 
 pub returns-clause-right : goal.returns-clause-right
@@ -11,7 +12,7 @@ returns-clause-right c =
     let initial = initial_of c.args.store.now in
     let present = present_of c.args.store.now in
     written_right (IsReason initial present c.args.self.now c.args.pair.var c.args.pair.value) c.push_reason-written.result c.whole_or_none.result
-    c.clear.new.self.items c.push_reason-written.new.out.items c.whole_or_none.new.out.items (sum_reason initial present sum.terms sum.op sum.bound c.args.pair.var c.args.pair.value)
+    c.clear.new.self.items c.push_reason-written.new.out.items c.whole_or_none.new.out.items (linear_reason initial present sum.terms sum.op sum.bound c.args.pair.var c.args.pair.value)
     c.clear.ensures.items c.whole_or_none.ensures.answer c.push_reason-written.ensures c.whole_or_none.ensures.ok
     (λ e. gives_right initial present sum.terms sum.op sum.bound c.args.pair.var c.args.pair.value (length c.args.store.now) c.args.self.now c.whole_or_none.new.out.items
     c.self.view_is c.requires.formed c.requires.present c.requires.filled c.requires.unsupported e)

@@ -4,7 +4,7 @@ use Rattle.palm_model.specs.Constraint.{Distinct, scope}
 use Rattle.palm_model.specs.declared.constraint.Con.{Con}
 use Rattle.palm_model.specs.declared.constraint.Term.{Term}
 use Rattle.filter_linear.specs.Linear.{IsSpan, IsFilledBeside}
-use Rattle.filter_linear.proofs.SumSupport.{span_supported, span_lacking, empty_lacking}
+use Rattle.filter_linear.proofs.LinearSupport.{span_supported, span_lacking, empty_lacking}
 use Rattle.filter_linear.proofs.linear.LinearFilterFilter.supported.Goals as goal
 
 pub returns-in-Some-clause-supported : goal.returns-in-Some-clause-supported

@@ -1,11 +1,11 @@
 use Rattle.std.proofs.Common.{◌++◌, ◌<◌, List, length, get_or, not, eqb, ap, sym, ◌∙◌}
 use Rattle.std.proofs.lemmas.List.{take_all}
 use Rattle.palm_domain.specs.Rows.{initial_of, present_of}
-use Rattle.palm_model.specs.Reason.{pairs_of}
+use Rattle.palm_model.specs.Removed.{pairs_of}
 use Rattle.palm_model.specs.declared.constraint.Term.{Term}
 use Rattle.palm_model.proofs.Sums.{term_declared}
 use Rattle.filter_linear.specs.Linear.{values_beyond}
-use Rattle.filter_linear.proofs.SumReasons.{pairs_by, kept_more, kept_same}
+use Rattle.filter_linear.proofs.LinearReasons.{pairs_by, kept_more, kept_same}
 use Rattle.filter_linear.proofs.Walks.{beyond_by, term_filled}
 use Rattle.filter_linear.proofs.reasons.Side.push_pairs.Goals as goal
 use Rattle.filter_linear.proofs.reasons.Side.push_pairs.Goals.{then-ne+in_ok-push_values, else-ne}

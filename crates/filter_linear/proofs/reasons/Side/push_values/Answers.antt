@@ -1,7 +1,7 @@
 use Rattle.std.proofs.Common.{◌++◌, ◌*ℤ◌, filter, ap, sym, ◌∙◌}
 use Rattle.std.proofs.lemmas.List.{take_all}
 use Rattle.palm_domain.specs.Rows.{initial_of, present_of}
-use Rattle.palm_model.specs.Reason.{pairs_of}
+use Rattle.palm_model.specs.Removed.{pairs_of}
 use Rattle.palm_model.proofs.Reasons.{pairs_more, pairs_same}
 use Rattle.filter_linear.specs.Linear.{is_beyond}
 use Rattle.filter_linear.proofs.Walks.{beyond_values}

@@ -1,5 +1,5 @@
 use Rattle.std.proofs.Common.{◌≡◌, ◌++◌, ◌*ℤ◌, take, filter}
-use Rattle.palm_model.specs.Reason.{pairs_of}
+use Rattle.palm_model.specs.Removed.{pairs_of}
 use Rattle.filter_linear.specs.Linear.{is_beyond}
 use Rattle.filter_linear.proofs.reasons.Side.push_values.Given as goal
 

@@ -1,5 +1,5 @@
 use Rattle.std.proofs.Common.{refl, ap, ◌∙◌, ◌-◌}
-use Rattle.palm_model.specs.Reason.{is_within_counts}
+use Rattle.palm_model.specs.Count.{is_within_counts}
 use Rattle.palm_model.proofs.Reasons.{pairs_more, pairs_same}
 use Rattle.filter_occur.proofs.Reached.{reached_test, missed_test}
 use Rattle.filter_occur.proofs.counts.Counts.push_fitting.Goals as goal

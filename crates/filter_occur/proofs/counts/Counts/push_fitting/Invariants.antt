@@ -1,5 +1,6 @@
 use Rattle.std.proofs.Common.{◌≡◌, ◌++◌, ◌-◌, take, filter}
-use Rattle.palm_model.specs.Reason.{is_within_counts, pairs_of}
+use Rattle.palm_model.specs.Count.{is_within_counts}
+use Rattle.palm_model.specs.Removed.{pairs_of}
 use Rattle.filter_occur.proofs.counts.Counts.push_fitting.Given as goal
 
 -- the pairs of the values so far were added

@@ -1,6 +1,6 @@
 use Rattle.std.proofs.Common.{arith, sym, ap, ◌∙◌}
 use Rattle.palm_domain.specs.Rows.{initial_of, present_of}
-use Rattle.palm_model.specs.Reason.{is_blocked_at}
+use Rattle.palm_model.specs.Table.{is_blocked_at}
 use Rattle.filter_table.proofs.Columned.{none_blocked, no_row_more}
 use Rattle.filter_table.proofs.indexed.IndexedTable.is_blocking.Goals as goal
 

@@ -1,8 +1,8 @@
 use Rattle.std.proofs.Common.{◌≡◌, false}
 use Rattle.std.specs.List.{AllWithin}
-use Rattle.filter_table.specs.Columns.{row_at}
+use Rattle.filter_table.specs.Table.{row_at}
 use Rattle.palm_domain.specs.Rows.{present_of}
-use Rattle.palm_model.specs.Reason.{are_there, row_pairs}
+use Rattle.palm_model.specs.Table.{are_there, row_pairs}
 use Rattle.filter_table.proofs.indexed.IndexedTable.is_given.Given as goal
 
 -- each row so far has an entry that is not present

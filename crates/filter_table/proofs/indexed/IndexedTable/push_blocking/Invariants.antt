@@ -1,7 +1,7 @@
 use Rattle.std.proofs.Common.{◌≡◌, ◌++◌, take, filter}
 use Rattle.palm_domain.specs.Rows.{initial_of, present_of}
-use Rattle.palm_model.specs.Reason.{pairs_of}
-use Rattle.filter_table.specs.Columns.{is_blocker}
+use Rattle.palm_model.specs.Removed.{pairs_of}
+use Rattle.filter_table.specs.Table.{is_blocker}
 use Rattle.filter_table.proofs.indexed.IndexedTable.push_blocking.Given as goal
 
 -- the blocking ones of the values so far were added

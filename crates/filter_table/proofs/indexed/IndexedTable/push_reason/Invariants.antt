@@ -1,6 +1,7 @@
 use Rattle.std.proofs.Common.{◌≡◌, ◌++◌, take, flat_map}
 use Rattle.palm_domain.specs.Rows.{initial_of, present_of}
-use Rattle.palm_model.specs.Reason.{blocking_values, others, pairs_of}
+use Rattle.palm_model.specs.Table.{blocking_values}
+use Rattle.palm_model.specs.Removed.{others, pairs_of}
 use Rattle.filter_table.proofs.indexed.IndexedTable.push_reason.Given as goal
 
 -- the pairs of the variables so far were added

@@ -1,0 +1,63 @@
+-- The number of some variables that have a value: how low and how high it can be where one variable of the constraint
+-- has a value of its own, and whether it can stand in the relation to the target.
+use Rattle.std.specs.Prelude.{◌≡◌, ℕ, ℤ, pos, ◌<◌, ◌≤◌, List, [], ◌∷◌, length, filter, All, Contains, nat_eq, if◌then◌else◌, ⊤}
+use Rattle.palm_model.specs.Relation.{Stands}
+use Rattle.palm_model.specs.Domains.{Domains, values_of}
+use Rattle.palm_model.specs.Removed.{is_alone, is_listed}
+use Rattle.palm_model.specs.declared.constraint.Con.{Con}
+use Rattle.palm_model.specs.declared.constraint.Con.TheVariants.{CompareVar, CompareConst, Linear, Table, Element, Count, Differ}
+use Rattle.palm_model.specs.declared.constraint.Op.{Op}
+use Rattle.palm_model.specs.declared.constraint.Target.{Target}
+use Rattle.palm_model.specs.declared.constraint.Target.TheVariants.{Const, Variable}
+use Rattle.filter_occur.specs.declared.counts.Counts.{Counts}
+use Rattle.filter_occur.specs.declared.rule.Chance.{Chance}
+use Rattle.filter_occur.specs.declared.rule.CountRule.{CountRule}
+
+abbrev pub count_of : CountRule → Con
+count_of o = Count o.value o.vars o.op o.target
+
+-- the values that y can have where x has the value v
+abbrev pub values_where : Domains → ℕ → ℤ → ℕ → List ℤ
+values_where d x v y = if nat_eq y x then v ∷ [] else values_of d y
+
+-- the numbers that the target can be where x has the value v
+abbrev pub target_values : Domains → ℕ → ℤ → Target → List ℤ
+target_values d x v (Const w) = w ∷ []
+target_values d x v (Variable y) = values_where d x v y
+
+-- how many of the variables have no other value
+abbrev pub low_count : (ℕ → List ℤ) → ℤ → List ℕ → ℕ
+low_count f value vars = length (filter (λ y. is_alone (f y) value) vars)
+
+-- how many of the variables have the value
+abbrev pub high_count : (ℕ → List ℤ) → ℤ → List ℕ → ℕ
+high_count f value vars = length (filter (λ y. is_listed (f y) value) vars)
+
+-- whether the counted value is the only one of a variable, and whether it is one of them
+pub record IsChance (values : List ℤ) (value : ℤ) (chance : Chance) : Type 0 where
+  pub filled : 0 < length values
+  pub certain : chance.certain ≡ is_alone values value
+  pub possible : chance.possible ≡ is_listed values value
+
+-- the least and the greatest count where x has the value v
+pub record AreCounts (d : Domains) (x : ℕ) (v : ℤ) (o : CountRule) (counts : Counts) : Type 0 where
+  pub low : counts.low ≡ low_count (values_where d x v) o.value o.vars
+  pub high : counts.high ≡ high_count (values_where d x v) o.value o.vars
+  pub ordered : counts.low ≤ counts.high
+  pub small : counts.high ≤ 16
+  pub filled : All (λ y. 0 < length (values_where d x v y)) o.vars
+
+-- one of the numbers stands in the relation to one of the values
+pub record IsCountReached (counts : Counts) (op : Op) (values : List ℤ) : Type 0 where
+  pub number : ℕ
+  pub from : counts.low ≤ number
+  pub to : number ≤ counts.high
+  pub target : ℤ
+  pub member : Contains values target
+  pub stands : Stands op (pos number) target
+
+-- no variable is without a value where x has the value v, and some number stands in the relation to the target
+pub record CanReach (d : Domains) (x : ℕ) (v : ℤ) (o : CountRule) : Type 0 where
+  pub counts : Counts
+  pub are : AreCounts d x v o counts
+  pub reached : IsCountReached counts o.op (target_values d x v o.target)

@@ -1,0 +1,243 @@
+//! The number of some variables that have a value, and the target that it is compared with.
+ghost use Rattle.std.specs.Prelude.{◌≡◌, ◌++◌, ◌<◌, ◌≤◌, [], ◌∷◌, length, true, false, flat_map, if◌then◌else◌, All, Contains, IfNone, IfSome, MatchOption, OnOk};
+ghost use Rattle.filter_occur.specs.Count.{AreCounts, CanReach, IsChance, IsCountReached, target_values, values_where};
+ghost use Rattle.palm_domain.specs.Rows.{initial_of, present_of};
+ghost use Rattle.palm_model.specs.Constraint.{Distinct};
+ghost use Rattle.palm_model.specs.Count.{target_scope, count_reason, counted_pairs, high_pairs, low_pairs, needs_high, needs_low, target_pairs};
+ghost use Rattle.palm_model.specs.Reason.{AreFilled};
+ghost use Rattle.palm_model.specs.Removed.{others};
+
+use crate::counts::Counts;
+use palm_base::{NoMemory, Pair, Value, Var, VarList};
+use palm_domain::DomainStore;
+use palm_filter::{Reasons, is_alone, push_removed};
+use palm_model::{Op, Target};
+
+/// The number of the variables that have the value stands in the relation to the target.
+#[derive(Debug, Drop)]
+pub struct CountRule {
+    pub value: Value,
+    pub vars: VarList,
+    pub op: Op,
+    pub target: Target,
+}
+
+/// Whether a variable has the counted value as its only one, and whether it has it at all.
+#[derive(Debug, Drop)]
+pub struct Chance {
+    pub certain: bool,
+    pub possible: bool,
+}
+
+/// Whether a number can be too high because variables have no other value.
+fn needs_low(op: Op) -> bool
+    ensures { result ≡ needs_low op }
+{
+    matches!(op, Op::Eq | Op::Ne | Op::Lt | Op::Le)
+}
+
+/// Whether a number can be too low because variables lack the value.
+fn needs_high(op: Op) -> bool
+    ensures { result ≡ needs_high op }
+{
+    matches!(op, Op::Eq | Op::Ne | Op::Gt | Op::Ge)
+}
+
+impl CountRule {
+    /// Whether the number can stand in the relation to the target where the variable of the pair has its value.
+    pub(crate) fn is_reachable(&self, store: &DomainStore, pair: &Pair) -> bool
+        requires declared { All (λ y. y < length store.now) self.now.vars }
+        requires target { All (λ y. y < length store.now) (target_scope self.now.target) }
+        requires few { length self.now.vars ≤ 16 }
+        ensures reached { result ≡ true → CanReach (present_of store.now) pair.now.var pair.now.value self.now }
+        ensures missed { result ≡ false → CanReach (present_of store.now) pair.now.var pair.now.value self.now → ⊥ }
+    {
+        match self.counts(store, pair) {
+            Some(counts) => self.is_reached(&counts, store, pair),
+            None => false,
+        }
+    }
+
+    /// Whether one of the numbers stands in the relation to a value that the target may have.
+    fn is_reached(&self, counts: &Counts, store: &DomainStore, pair: &Pair) -> bool
+        requires target { All (λ y. y < length store.now) (target_scope self.now.target) }
+        requires ordered { counts.now.low ≤ counts.now.high }
+        requires small { counts.now.high ≤ 16 }
+        ensures reached { result ≡ true → IsCountReached counts.now self.now.op (target_values (present_of store.now) pair.now.var pair.now.value self.now.target) }
+        ensures missed { result ≡ false → IsCountReached counts.now self.now.op (target_values (present_of store.now) pair.now.var pair.now.value self.now.target) → ⊥ }
+    {
+        match &self.target {
+            Target::Const(number) => counts.fits(self.op, number),
+            Target::Variable(target) => {
+                if *target == pair.var {
+                    counts.fits(self.op, &pair.value)
+                } else {
+                    counts.fits_some(self.op, store, *target)
+                }
+            }
+        }
+    }
+
+    /// How many of the variables have the value, where the variable of the pair has its value. There is no number
+    /// where another variable has an empty domain.
+    fn counts(&self, store: &DomainStore, pair: &Pair) -> Option<Counts>
+        requires declared { All (λ y. y < length store.now) self.now.vars }
+        requires few { length self.now.vars ≤ 16 }
+        ensures counts { IfSome result (AreCounts (present_of store.now) pair.now.var pair.now.value self.now) }
+        ensures empty { IfNone result (All (λ y. 0 < length (values_where (present_of store.now) pair.now.var pair.now.value y)) self.now.vars → ⊥) }
+    {
+        let mut low = 0;
+        let mut high = 0;
+        for var in self.vars.as_slice() {
+            let chance = self.chance(store, *var, pair)?;
+            low += u32::from(chance.certain);
+            high += u32::from(chance.possible);
+        }
+        Some(Counts { low, high })
+    }
+
+    /// Whether the variable has the value, where the variable of the pair has its value. There is no answer where the
+    /// domain is empty.
+    fn chance(&self, store: &DomainStore, var: Var, pair: &Pair) -> Option<Chance>
+        requires { var < length store.now }
+        ensures { MatchOption result
+            (length (values_where (present_of store.now) pair.now.var pair.now.value var) ≡ 0)
+            (IsChance (values_where (present_of store.now) pair.now.var pair.now.value var) self.now.value) }
+    {
+        if var == pair.var {
+            let own = pair.value == self.value;
+            return Some(Chance {
+                certain: own,
+                possible: own,
+            });
+        }
+        let count = store.count(var);
+        if count == 0 {
+            return None;
+        }
+        let possible = store.contains(Pair {
+            var,
+            value: self.value,
+        });
+        Some(Chance {
+            certain: possible && count == 1,
+            possible,
+        })
+    }
+}
+
+impl CountRule {
+    /// Appends the reason of the pair: what keeps the number of the other variables too low or too high, and the
+    /// declared values of the target that would fit.
+    pub(crate) fn push_reason(
+        &self,
+        store: &DomainStore,
+        pair: &Pair,
+        out: &mut Reasons,
+    ) -> Result<(), NoMemory>
+        requires declared { All (λ y. y < length store.now) self.now.vars }
+        requires target { All (λ y. y < length store.now) (target_scope self.now.target) }
+        requires distinct { Distinct (self.now.vars ++ target_scope self.now.target) }
+        requires few { length self.now.vars ≤ 16 }
+        requires over { Contains (self.now.vars ++ target_scope self.now.target) pair.now.var }
+        requires filled { AreFilled (present_of store.now) self.now.vars }
+        ensures { OnOk result (out.new.items ≡ out.old.items ++ count_reason (initial_of store.now) (present_of store.now) self.now.value self.now.vars self.now.op self.now.target pair.now.var pair.now.value) }
+    {
+        self.push_others(store, pair.var, out)?;
+        self.push_targets(store, pair, out)
+    }
+
+    /// Appends the low and the high pairs of the variables but one, as the relation needs them.
+    fn push_others(
+        &self,
+        store: &DomainStore,
+        except: Var,
+        out: &mut Reasons,
+    ) -> Result<(), NoMemory>
+        requires { All (λ y. y < length store.now) self.now.vars }
+        ensures { OnOk result (out.new.items ≡ out.old.items ++ flat_map (counted_pairs (initial_of store.now) (present_of store.now) self.now.value self.now.op) (others self.now.vars except)) }
+    {
+        for var in self.vars.as_slice() {
+            if *var != except {
+                self.push_low(store, *var, out)?;
+                self.push_high(store, *var, out)?;
+            }
+        }
+        Ok(())
+    }
+
+    /// Appends all removed pairs of the variable, where the relation needs them and it has the counted value alone.
+    fn push_low(&self, store: &DomainStore, var: Var, out: &mut Reasons) -> Result<(), NoMemory>
+        requires { var < length store.now }
+        ensures { OnOk result (out.new.items ≡ out.old.items ++ (if needs_low self.now.op then low_pairs (initial_of store.now) (present_of store.now) self.now.value var else [])) }
+    {
+        let counted = Pair {
+            var,
+            value: self.value,
+        };
+        if needs_low(self.op) && is_alone(store, &counted) {
+            push_removed(store, var, out)?;
+        }
+        Ok(())
+    }
+
+    /// Appends the counted value of the variable, where the relation needs it and it is declared and removed.
+    fn push_high(&self, store: &DomainStore, var: Var, out: &mut Reasons) -> Result<(), NoMemory>
+        requires { var < length store.now }
+        ensures { OnOk result (out.new.items ≡ out.old.items ++ (if needs_high self.now.op then high_pairs (initial_of store.now) (present_of store.now) self.now.value var else [])) }
+    {
+        let counted = Pair {
+            var,
+            value: self.value,
+        };
+        if needs_high(self.op) && is_removed(store, &counted) {
+            out.push(counted)?;
+        }
+        Ok(())
+    }
+
+    /// Appends the declared values of the target that would fit, where the target is another variable.
+    fn push_targets(
+        &self,
+        store: &DomainStore,
+        pair: &Pair,
+        out: &mut Reasons,
+    ) -> Result<(), NoMemory>
+        requires declared { All (λ y. y < length store.now) self.now.vars }
+        requires target { All (λ y. y < length store.now) (target_scope self.now.target) }
+        requires distinct { Distinct (self.now.vars ++ target_scope self.now.target) }
+        requires few { length self.now.vars ≤ 16 }
+        requires over { Contains (self.now.vars ++ target_scope self.now.target) pair.now.var }
+        requires filled { AreFilled (present_of store.now) self.now.vars }
+        ensures { OnOk result (out.new.items ≡ out.old.items ++ target_pairs (initial_of store.now) (present_of store.now) self.now.value self.now.vars self.now.op self.now.target pair.now.var pair.now.value) }
+    {
+        match &self.target {
+            Target::Const(_) => Ok(()),
+            Target::Variable(target) => {
+                if *target == pair.var {
+                    return Ok(());
+                }
+                match self.counts(store, pair) {
+                    Some(counts) => counts.push_fitting(self.op, store, *target, out),
+                    None => unreachable!(),
+                }
+            }
+        }
+    }
+}
+
+/// Whether the pair is declared and not present.
+fn is_removed(store: &DomainStore, pair: &Pair) -> bool
+    requires { pair.now.var < length store.now }
+    ensures { high_pairs (initial_of store.now) (present_of store.now) pair.now.value pair.now.var ≡ (if result then (pair.now ∷ []) else []) }
+{
+    // The declared values ascend, as `variables` tells.
+    prove!(store.variables() > 0);
+    store.declared(Pair {
+        var: pair.var,
+        value: pair.value,
+    }) && !store.contains(Pair {
+        var: pair.var,
+        value: pair.value,
+    })
+}

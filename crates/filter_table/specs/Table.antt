@@ -1,0 +1,40 @@
+-- A table, its columns, and the rows that give a value.
+use Rattle.std.specs.Prelude.{◌≡◌, ℕ, ℤ, pos, ◌<◌, List, [], length, map, All, Bool, not, ◌&&◌, slice_index_or, ⊤}
+use Rattle.std.specs.List.{list_any}
+use Rattle.palm_model.specs.Constraint.{Distinct}
+use Rattle.palm_model.specs.Domains.{Domains, is_among, values_of}
+use Rattle.palm_model.specs.Table.{are_there, is_blocked_at, row_pairs}
+use Rattle.palm_model.specs.Removed.{is_listed}
+use Rattle.palm_model.specs.declared.constraint.Con.{Con}
+use Rattle.palm_model.specs.declared.constraint.Con.TheVariants.{CompareVar, CompareConst, Linear, Table, Element, Count, Differ}
+use Rattle.filter_table.specs.declared.indexed.IndexedTable.{IndexedTable}
+
+abbrev pub table_of : IndexedTable → Con
+table_of t = Table t.vars t.rows
+
+-- the row at a place, and an empty one where there is none
+abbrev pub row_at : List (List ℤ) → ℕ → List ℤ
+row_at rows k = slice_index_or rows k []
+
+-- the entries of a column, counted from 0
+abbrev pub column_values : List (List ℤ) → ℕ → List ℤ
+column_values rows c = map (λ row. slice_index_or row c (pos 0)) rows
+
+-- the first so many columns of the rows, one after another
+pub record AreColumns (rows : List (List ℤ)) (count : ℕ) (columns : List (List ℤ)) : Type 0 where
+  pub many : length columns ≡ count
+  pub each : (c : ℕ) (d : List ℤ) → c < count → slice_index_or columns c d ≡ column_values rows c
+
+-- the rows are as long as the variables, which differ, and each column has its index
+pub record IsIndexed (t : IndexedTable) : Type 0 where
+  pub distinct : Distinct t.vars
+  pub long : All (λ row. length row ≡ length t.vars) t.rows
+  pub columns : AreColumns t.rows (length t.vars) t.columns.items
+
+-- whether the row has v in the column of x, and every entry of it is present
+abbrev pub gives : Domains → List ℕ → ℕ → ℤ → List ℤ → Bool
+gives present vars x v row = is_among (row_pairs vars row) x v && are_there present (row_pairs vars row)
+
+-- whether w of y is not present, and the first such entry of some row with v in the column of x and all entries declared
+abbrev pub is_blocker : Domains → Domains → List ℕ → List (List ℤ) → ℕ → ℤ → ℕ → ℤ → Bool
+is_blocker initial present vars rows x v y w = not (is_listed (values_of present y) w) && list_any (is_blocked_at initial present vars x v y w) rows
