@@ -1,8 +1,8 @@
 //! The filter of a difference: no two of the variables have one value.
 #![tactic(auto)]
 
-pub mod differ;
-pub mod laws;
+mod differ;
+mod laws;
 mod others;
 
 pub use differ::DifferFilter;

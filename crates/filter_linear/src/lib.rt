@@ -1,11 +1,11 @@
 //! The filter of sums of variables with coefficients.
 #![tactic(auto)]
 
-pub mod laws;
-pub mod linear;
-pub mod reasons;
-pub mod span;
-pub mod rule;
+mod laws;
+mod linear;
+mod reasons;
+mod rule;
+mod span;
 
 pub use laws::linear_reasons_are_right;
 pub use linear::LinearFilter;

@@ -2,9 +2,9 @@
 #![tactic(auto)]
 
 mod indexed;
-pub mod laws;
+mod laws;
 mod row;
-pub mod table;
+mod table;
 
 pub use laws::reasons_of_tables_are_right;
 pub use table::TableFilter;

@@ -3,3 +3,4 @@ pub mod Memory
 pub mod Numbers
 pub mod Streams
 pub mod Tells
+pub mod Values

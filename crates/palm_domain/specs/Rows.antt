@@ -1,7 +1,8 @@
 -- The rows of a store, one for each variable, and what its calls say of them.
-use Rattle.std.specs.Prelude.{◌≡◌, ℕ, ◌^◌, ℤ, ◌<◌, ◌≤◌, ◌<ℤ◌, ◌≤ℤ◌, List, [], ◌∷◌, All, Contains, not, filter, map, length, slice_index_or, int_lt, if◌then◌else◌}
+use Rattle.std.specs.Prelude.{◌≡◌, ℕ, ◌^◌, ℤ, ◌<◌, ◌≤◌, ◌<ℤ◌, ◌≤ℤ◌, List, [], ◌∷◌, All, Contains, not, filter, map, length, int_lt, if◌then◌else◌}
 use Rattle.std.specs.Ordering.{int_eq}
 pub use Rattle.palm_base.specs.Ascending.{Ascends}
+pub use Rattle.palm_base.specs.Values.{values_of}
 
 -- the values that a variable was declared with, and those of them that are left
 pub record Row : Type 0 where
@@ -15,10 +16,6 @@ initial_of rows = map (λ r. r.initial) rows
 -- the present values of each variable
 abbrev pub present_of : List Row → List (List ℤ)
 present_of rows = map (λ r. r.present) rows
-
--- the values of a variable, and none for a variable that does not exist
-abbrev pub values_of : List (List ℤ) → ℕ → List ℤ
-values_of lists x = slice_index_or lists x []
 
 abbrev pub declared_values : List Row → ℕ → List ℤ
 declared_values rows x = values_of (initial_of rows) x

@@ -5,7 +5,7 @@ mod bits;
 mod domain;
 mod marks;
 mod places;
-pub mod store;
+mod store;
 
 pub use store::DomainStore;
 

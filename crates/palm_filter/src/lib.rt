@@ -1,12 +1,12 @@
 //! What filters one constraint: whether a value has support, and why it has none.
 #![tactic(auto)]
 
-pub mod filter;
-pub mod index;
-pub mod laws;
-pub mod removed;
+mod filter;
+mod index;
+mod laws;
+mod removed;
 pub mod testing;
-pub mod wanted;
+mod wanted;
 
 pub use filter::{Filter, Reasons, ask};
 pub use index::ValueIndex;

@@ -1,7 +1,7 @@
 //! The filters of all kinds of constraint as one.
 #![tactic(auto)]
 
-pub mod kind;
+mod kind;
 
 pub use kind::Kind;
 

@@ -2,9 +2,9 @@
 //! stands for the set of its members.
 #![tactic(auto)]
 
-pub mod explained;
-pub mod greatest;
-pub mod supported;
+mod explained;
+mod greatest;
+mod supported;
 
 pub use explained::{
     conflict_has_no_solution, conflicts_are_empty_domains, explained_value_is_in_no_solution,

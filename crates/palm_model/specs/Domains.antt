@@ -1,8 +1,9 @@
 -- Domains and assignments.
-use Rattle.std.specs.Prelude.{ℕ, ℤ, ◌+◌, List, [], ◌∷◌, Contains, All, Bool, not, filter, nat_eq, ◌&&◌, slice_index_or}
+use Rattle.std.specs.Prelude.{ℕ, ℤ, ◌+◌, List, [], ◌∷◌, Contains, All, Bool, not, filter, nat_eq, ◌&&◌}
 use Rattle.std.specs.List.{list_any}
 use Rattle.std.specs.Ordering.{int_eq}
 pub use Rattle.palm_base.specs.Ascending.{Ascends}
+pub use Rattle.palm_base.specs.Values.{values_of}
 use Rattle.palm_base.specs.declared.terms.Pair.{Pair}
 
 -- a list of values for each variable; a variable is the place of its list
@@ -12,10 +13,6 @@ Domains = List (List ℤ)
 -- a value for each variable; what it gives to variables that are not spoken of does not matter
 abbrev pub Assignment : Type 0
 Assignment = ℕ → ℤ
-
--- the values of a variable, and none for a variable that does not exist
-abbrev pub values_of : Domains → ℕ → List ℤ
-values_of d x = slice_index_or d x []
 
 -- the variable has the value
 abbrev pub Has : Domains → ℕ → ℤ → Type 0

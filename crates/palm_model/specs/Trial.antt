@@ -5,6 +5,7 @@ use Rattle.palm_model.specs.Linear.{IsFactor}
 use Rattle.palm_model.specs.Part.{scope_of, Holds}
 use Rattle.palm_model.specs.Support.{HasSupport}
 use Rattle.palm_model.specs.Closure.{IsClosedFor}
+use Rattle.palm_model.specs.declared.limits.TheConstants.{MOST_SCOPE}
 use Rattle.palm_model.specs.declared.part.Part.{Part}
 use Rattle.palm_model.specs.declared.part.Part.TheVariants.{CompareVar as CompareVarPart, CompareConst as CompareConstPart, Linear as LinearPart, Table as TablePart, Element as ElementPart, Count as CountPart, Differ as DifferPart}
 
@@ -41,7 +42,7 @@ pub record Narrows (Closed : Domains → Type 0) (old new : Domains) : Type 0 wh
 abbrev pub IsSmall : Part → Type 0
 IsSmall (CompareVarPart left op right offset) = ⊤
 IsSmall (CompareConstPart var op value) = ⊤
-IsSmall (LinearPart terms op bound) = All IsFactor terms × (length terms ≤ 16)
+IsSmall (LinearPart terms op bound) = All IsFactor terms × (length terms ≤ MOST_SCOPE)
 IsSmall (TablePart vars rows) = ⊤
 IsSmall (ElementPart outcome index entries) = ⊤
 IsSmall (CountPart value vars op target) = ⊤

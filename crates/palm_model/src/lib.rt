@@ -2,12 +2,12 @@
 //! and what explains a missing value. Everything above is proved against these definitions.
 #![tactic(auto)]
 
-pub mod constraint;
-pub mod copy;
-pub mod greatest;
+mod constraint;
+mod copy;
+mod greatest;
 mod limits;
-pub mod part;
-pub mod parts;
+mod part;
+mod parts;
 mod satisfied;
 mod support;
 
@@ -15,7 +15,8 @@ pub use constraint::{Con, ConList, DomainList, Op, RowList, Target, Term, TermLi
 pub use copy::copy_of;
 pub use greatest::scratch;
 pub use limits::{
-    GREATEST_BOUND, GREATEST_FACTOR, GREATEST_OFFSET, GREATEST_VALUE, MOST_ROWS, MOST_SCOPE,
+    GREATEST_BOUND, GREATEST_FACTOR, GREATEST_OFFSET, GREATEST_PRODUCT, GREATEST_VALUE, MOST_ROWS,
+    MOST_SCOPE,
 };
 pub use part::{Part, PartList};
 pub use parts::parts_of;

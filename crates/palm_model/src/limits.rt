@@ -17,3 +17,6 @@ pub const GREATEST_FACTOR: u32 = 100_000;
 
 /// The size of the greatest and of the least number that a sum is compared with.
 pub const GREATEST_BOUND: u64 = 1_000_000_000_000;
+
+/// The size of the greatest coefficient times the least number of 32 bits: no term of a sum is greater.
+pub const GREATEST_PRODUCT: u64 = 214_748_364_800_000;

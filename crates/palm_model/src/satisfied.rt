@@ -1,6 +1,7 @@
 //! Whether an assignment satisfies a part. An assignment is a list with a value for each variable.
 ghost use Rattle.std.specs.Prelude.{◌≡◌, ◌≢◌, ◌<◌, ◌≤◌, ◌^◌, ◌*ℤ◌, FitsSigned, true, false, length, map, All};
 ghost use Rattle.std.specs.Int.{w32};
+ghost use Rattle.palm_base.specs.Tells.{Tells};
 ghost use Rattle.palm_model.specs.Relation.{Stands, is_standing};
 ghost use Rattle.palm_model.specs.Limits.{IsUpTo};
 ghost use Rattle.palm_model.specs.Linear.{IsFactor, term_vars, total};
@@ -9,14 +10,14 @@ ghost use Rattle.palm_model.specs.Part.{Holds};
 ghost use Rattle.palm_model.specs.Trial.{listed, IsTriable};
 
 use crate::constraint::{Op, RowList, Target, Term, TermList};
+use crate::limits::{GREATEST_PRODUCT, MOST_SCOPE};
 use crate::part::Part;
 use palm_base::{Value, ValueList, Var, VarList};
 
 /// Whether the assignment satisfies the part.
 pub(crate) fn is_satisfied(part: &Part, values: &[Value]) -> bool
     requires { IsTriable (length values.now) part.now }
-    ensures holds { result ≡ true → Holds part.now (listed values.now) }
-    ensures fails { result ≡ false → ¬ Holds part.now (listed values.now) }
+    ensures { Tells result (Holds part.now (listed values.now)) }
 {
     match part {
         Part::CompareVar {
@@ -29,7 +30,7 @@ pub(crate) fn is_satisfied(part: &Part, values: &[Value]) -> bool
             stands(*op, number_at(values, var), number_of(value))
         }
         Part::Linear { terms, op, bound } => stands(*op, total_of(values, terms), *bound),
-        Part::Table { vars, rows } => is_listed(values, vars, rows),
+        Part::Table { vars, rows } => is_table_row(values, vars, rows),
         Part::Element {
             outcome,
             index,
@@ -65,8 +66,7 @@ fn number_at(values: &[Value], var: &Var) -> i64
 /// Whether the first number stands in the relation to the second.
 pub fn stands(op: Op, left: i64, right: i64) -> bool
     ensures test { result ≡ is_standing op left right }
-    ensures holds { result ≡ true → Stands op left right }
-    ensures fails { result ≡ false → ¬ Stands op left right }
+    ensures stands { Tells result (Stands op left right) }
 {
     match op {
         Op::Eq => left == right,
@@ -82,10 +82,7 @@ pub fn stands(op: Op, left: i64, right: i64) -> bool
 fn meets_comparison(values: &[Value], left: &Var, op: Op, right: &Var, offset: i32) -> bool
     requires left { left.now < length values.now }
     requires right { right.now < length values.now }
-    ensures holds { result ≡ true
-        → Holds (Part.CompareVar left.now op right.now offset) (listed values.now) }
-    ensures fails { result ≡ false
-        → ¬ Holds (Part.CompareVar left.now op right.now offset) (listed values.now) }
+    ensures { Tells result (Holds (Part.CompareVar left.now op right.now offset) (listed values.now)) }
 {
     stands(
         op,
@@ -97,7 +94,7 @@ fn meets_comparison(values: &[Value], left: &Var, op: Op, right: &Var, offset: i
 /// The sum of the terms.
 fn total_of(values: &[Value], terms: &TermList) -> i64
     requires factors { All IsFactor terms.now }
-    requires few { length terms.now ≤ 16 }
+    requires few { length terms.now ≤ MOST_SCOPE }
     requires declared { All (λ x. x < length values.now) (term_vars terms.now) }
     ensures { result ≡ total (listed values.now) terms.now }
 {
@@ -113,17 +110,15 @@ fn term_value(values: &[Value], term: &Term) -> i64
     requires factor { IsFactor term.now }
     requires declared { term.now.var < length values.now }
     ensures product { result ≡ term.now.factor *ℤ listed values.now term.now.var }
-    ensures small { IsUpTo 214748364800000 result }
+    ensures small { IsUpTo GREATEST_PRODUCT result }
 {
     i64::from(term.factor) * number_at(values, &term.var)
 }
 
 /// Whether the values of the variables are one of the rows.
-fn is_listed(values: &[Value], vars: &VarList, rows: &RowList) -> bool
+fn is_table_row(values: &[Value], vars: &VarList, rows: &RowList) -> bool
     requires { All (λ x. x < length values.now) vars.now }
-    ensures holds { result ≡ true → Holds (Part.Table vars.now rows.now) (listed values.now) }
-    ensures fails { result ≡ false
-        → ¬ Holds (Part.Table vars.now rows.now) (listed values.now) }
+    ensures { Tells result (Holds (Part.Table vars.now rows.now) (listed values.now)) }
 {
     for row in rows.as_slice() {
         if is_row(values, vars.as_slice(), row.as_slice()) {
@@ -136,8 +131,7 @@ fn is_listed(values: &[Value], vars: &VarList, rows: &RowList) -> bool
 /// Whether the row has the values of the variables.
 fn is_row(values: &[Value], vars: &[Var], row: &[Value]) -> bool
     requires { All (λ x. x < length values.now) vars.now }
-    ensures same { result ≡ true → row.now ≡ map (listed values.now) vars.now }
-    ensures other { result ≡ false → row.now ≢ map (listed values.now) vars.now }
+    ensures { Tells result (row.now ≡ map (listed values.now) vars.now) }
 {
     if row.len() != vars.len() {
         return false;
@@ -154,10 +148,7 @@ fn is_row(values: &[Value], vars: &[Var], row: &[Value]) -> bool
 fn is_entry(values: &[Value], outcome: &Var, index: &Var, entries: &ValueList) -> bool
     requires outcome { outcome.now < length values.now }
     requires index { index.now < length values.now }
-    ensures holds { result ≡ true
-        → Holds (Part.Element outcome.now index.now entries.now) (listed values.now) }
-    ensures fails { result ≡ false
-        → ¬ Holds (Part.Element outcome.now index.now entries.now) (listed values.now) }
+    ensures { Tells result (Holds (Part.Element outcome.now index.now entries.now) (listed values.now)) }
 {
     let place = number_at(values, index);
     if place < 1 {
@@ -173,10 +164,7 @@ fn is_entry(values: &[Value], outcome: &Var, index: &Var, entries: &ValueList) -
 fn meets_count(values: &[Value], value: &Value, vars: &VarList, op: Op, target: &Target) -> bool
     requires vars { All (λ x. x < length values.now) vars.now }
     requires target { All (λ x. x < length values.now) (target_scope target.now) }
-    ensures holds { result ≡ true
-        → Holds (Part.Count value.now vars.now op target.now) (listed values.now) }
-    ensures fails { result ≡ false
-        → ¬ Holds (Part.Count value.now vars.now op target.now) (listed values.now) }
+    ensures { Tells result (Holds (Part.Count value.now vars.now op target.now) (listed values.now)) }
 {
     let bound = match target {
         Target::Const(number) => number_of(number),

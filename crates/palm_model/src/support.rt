@@ -1,5 +1,6 @@
 //! Whether a value has support in a part, by trying the values of the other variables one after another.
 ghost use Rattle.std.specs.Prelude.{◌≡◌, ◌<◌, true, false, length, All, slice_set};
+ghost use Rattle.palm_base.specs.Tells.{Tells};
 ghost use Rattle.palm_model.specs.Domains.{Has, values_of};
 ghost use Rattle.palm_model.specs.Part.{scope_of};
 ghost use Rattle.palm_model.specs.Support.{HasSupport};
@@ -39,10 +40,7 @@ fn is_completed(
     requires declared { All (λ x. x < length values.old) open_vars.now }
     requires domains { length domains.now ≡ length values.old }
     ensures changes { ChangesOnly open_vars.now fixed.now values.old values.new }
-    ensures holds { result ≡ true
-        → IsCompleted domains.now part.now fixed.now open_vars.now (listed values.old) }
-    ensures fails { result ≡ false
-        → ¬ IsCompleted domains.now part.now fixed.now open_vars.now (listed values.old) }
+    ensures completed { Tells result (IsCompleted domains.now part.now fixed.now open_vars.now (listed values.old)) }
 {
     let [first, rest @ ..] = open_vars else {
         return is_satisfied(part, values);
@@ -73,8 +71,7 @@ pub(crate) fn is_supported(
     requires scope { scope.now ≡ scope_of part.now }
     requires domains { length domains.now ≡ length values.old }
     requires present { Has domains.now var.now value.now }
-    ensures holds { result ≡ true → HasSupport domains.now part.now var.now value.now }
-    ensures fails { result ≡ false → ¬ HasSupport domains.now part.now var.now value.now }
+    ensures { Tells result (HasSupport domains.now part.now var.now value.now) }
 {
     assign(values, var, value);
     is_completed(part, var, scope, domains, values)
