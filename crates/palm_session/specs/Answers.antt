@@ -1,129 +1,47 @@
 -- What a session answers to a line, and what it holds afterwards.
-use Rattle.std.specs.Prelude.{◌≡◌, ℕ, zero, suc, ℤ, pos, ◌+◌, ◌<◌, ◌≤◌, ◌+ℤ◌, ◌-ℤ◌, Bool, true, false, List, [], ◌∷◌, ◌++◌, ◌⊎◌, length, flat_map, zip, All, Any, if◌then◌else◌, Option, Some, None}
-use Rattle.std.specs.List.{list_any}
-use Rattle.palm_model.specs.Constraint.{scope}
+use Rattle.std.specs.Prelude.{◌≡◌, ℕ, ◌<◌, true, List, [], ◌++◌, length, flat_map, zip, Some}
 use Rattle.palm_model.specs.Domains.{Domains, values_of}
-use Rattle.palm_model.specs.declared.constraint.Con.{Con}
 use Rattle.palm_lang.specs.Book.{Entry, Contents, name_of}
-use Rattle.palm_lang.specs.Limits.{names_of, IsBeyond}
-use Rattle.palm_lang.specs.Reading.{IsRead, IsRefusedBy, count_in}
-use Rattle.palm_lang.specs.Reply.{fixed_text, refusal_text, domain_line, var_line, entry_line, named}
-use Rattle.palm_lang.specs.declared.line.DomainText.{DomainText}
-use Rattle.palm_lang.specs.declared.line.DomainText.TheVariants.{Range, Set}
+use Rattle.palm_lang.specs.Reading.{IsRead, IsRefusedBy}
+use Rattle.palm_lang.specs.Reply.{fixed_text, refusal_text, domain_line, var_line, entry_line}
 use Rattle.palm_lang.specs.declared.line.Line.{Line}
-use Rattle.palm_lang.specs.declared.line.Line.TheVariants.{Comment, Var, Add, Domains as DomainsLine, Domain, List as ListLine, Quit}
-use Rattle.palm_lang.specs.declared.line.Shape.{Shape}
+use Rattle.palm_lang.specs.declared.line.Line.TheVariants.{Comment, Var, Add, Relax, Enforce, Retract, Domains as DomainsLine, Domain, List as ListLine, Log, Why, Conflict, MinimalConflict, Minimal, Resume, SolveDbt, SolveRepair, Cert, CertConflict, Quit}
 use Rattle.palm_lang.specs.declared.parse.LineError.{LineError}
-use Rattle.palm_lang.specs.declared.parse.LineError.TheVariants.{Bytes, Form, Range as OutOfRange, Empty, Repeated, NoMemory}
-use Rattle.palm_lang.specs.declared.reply.Fixed.TheVariants.{Done, Contradiction, Bye, End}
+use Rattle.palm_lang.specs.declared.reply.Fixed.TheVariants.{Done, Contradiction, Paused, Bye, End}
 use Rattle.palm_lang.specs.declared.reply.Refusal.{Refusal}
-use Rattle.palm_lang.specs.declared.reply.Refusal.TheVariants.{E1, E2, E3, E4, E5, E6, E7, E8, E9, E10, E11, E12}
-use Rattle.palm_session.specs.State.{SessionState, HasVariable, HasConstraint, AreDomains}
+use Rattle.palm_session.specs.State.{SessionState, AreDomains, IsContradiction}
+use Rattle.palm_session.specs.Refusals.{Meets, in_order, IsFirst, IsNone, refusal_of, heard}
+use Rattle.palm_session.specs.Effects.{Effect, Nothing, Settled, Searched, Does}
 
--- the line's form is served
-abbrev pub IsBuilt : Line → Type 0
-IsBuilt Comment = Unit {0}
-IsBuilt (Var name domain) = Unit {0}
-IsBuilt (Add name shape) = Unit {0}
-IsBuilt DomainsLine = Unit {0}
-IsBuilt (Domain name) = Unit {0}
-IsBuilt ListLine = Unit {0}
-IsBuilt Quit = Unit {0}
-IsBuilt _ = ⊥
+-- the lines that are answered by `paused` while filtering waits
+abbrev pub IsPausable : Line → Type 0
+IsPausable DomainsLine = Unit {0}
+IsPausable (Domain name) = Unit {0}
+IsPausable Log = Unit {0}
+IsPausable (Why name value) = Unit {0}
+IsPausable Conflict = Unit {0}
+IsPausable MinimalConflict = Unit {0}
+IsPausable (Minimal name value) = Unit {0}
+IsPausable (Cert name value) = Unit {0}
+IsPausable CertConflict = Unit {0}
+IsPausable (SolveDbt budget) = Unit {0}
+IsPausable (SolveRepair tabu budget) = Unit {0}
+IsPausable _ = ⊥
 
--- a name of a variable is wanted and there is none
-abbrev pub IsUnknown : SessionState → List ℕ → Type 0
-IsUnknown s name = HasVariable s name → ⊥
-
--- the line declares or adds a name that stands for something already
-abbrev pub TakesName : SessionState → Line → Type 0
-TakesName s (Var name domain) = HasVariable s name
-TakesName s (Add name shape) = HasConstraint s name
-TakesName s _ = ⊥
-
--- a name in a variable's place names no variable
-abbrev pub NamesNone : SessionState → Line → Type 0
-NamesNone s (Add name shape) = Any (IsUnknown s) (names_of shape)
-NamesNone s (Domain name) = IsUnknown s name
-NamesNone s _ = ⊥
-
--- the session is full
-abbrev pub HasNoRoom : SessionState → Line → Type 0
-HasNoRoom s (Var name domain) = 64 ≤ length s.book.variables
-HasNoRoom s (Add name shape) = (256 ≤ length s.book.constraints) ⊎ (65535 ≤ s.accepted)
-HasNoRoom s _ = ⊥
-
--- the condition of a refusal, on a line that was read
-abbrev pub Meets : SessionState → Line → Refusal → Type 0
-Meets s line E2 = IsBuilt line → ⊥
-Meets s line E3 = TakesName s line
-Meets s line E4 = NamesNone s line
-Meets s line E7 = IsBeyond line ⊎ HasNoRoom s line
-Meets s line _ = ⊥
-
--- the order in which a session looks for refusals of a line that was read
-abbrev pub in_order : List Refusal
-in_order = E2 ∷ E3 ∷ E4 ∷ E5 ∷ E7 ∷ E11 ∷ E12 ∷ E10 ∷ []
-
--- the first of the list that holds
-abbrev pub IsFirst : (Refusal → Type 0) → List Refusal → Refusal → Type 0
-IsFirst holds [] r = ⊥
-IsFirst holds (q ∷ qs) r = (holds q × (r ≡ q)) ⊎ ((holds q → ⊥) × IsFirst holds qs r)
-
--- none of the list holds
-abbrev pub IsNone : (Refusal → Type 0) → List Refusal → Type 0
-IsNone holds [] = Unit {0}
-IsNone holds (q ∷ qs) = (holds q → ⊥) × IsNone holds qs
-
--- the reply to a line that could not be read
-abbrev pub refusal_of : LineError → Option Refusal
-refusal_of Bytes = Some E1
-refusal_of Form = Some E2
-refusal_of OutOfRange = Some E6
-refusal_of Empty = Some E9
-refusal_of Repeated = Some E8
-refusal_of NoMemory = None
-
--- so many numbers from one on
-abbrev pub from_on : ℤ → ℕ → List ℤ
-from_on v zero = []
-from_on v (suc n) = v ∷ from_on (v +ℤ pos 1) n
-
--- the values of a domain as it is written, ascending
-abbrev pub values_in : DomainText → List ℤ
-values_in (Range low high) = from_on low (count_in (high -ℤ low) + 1)
-values_in (Set values) = values
-
--- the constraint says what the shape says, of the variables with these names
-pub record Resolves (variables : List Entry) (shape : Shape) (con : Con) : Type 0 where
-  pub declared : All (λ x. x < length variables) (scope con)
-  pub says : named variables con ≡ shape
-
--- a constraint behind the others, active, under the next number
-abbrev pub with_constraint : SessionState → List ℕ → Con → SessionState
-with_constraint s name con = record {
-  book = record s.book { constraints = s.book.constraints ++ record { number = s.accepted + 1; name = name; active = true; con = con } ∷ [] };
-  accepted = s.accepted + 1;
-}
-
--- what the session holds after an accepted line
-abbrev pub Takes : SessionState → Line → SessionState → Type 0
-Takes s (Var name domain) t =
-    t ≡ record s { book = record s.book { variables = s.book.variables ++ record { name = name; values = values_in domain } ∷ [] } }
-Takes s (Add name shape) t = (con : Con) × Resolves s.book.variables shape con × (t ≡ with_constraint s name con)
-Takes s _ t = t ≡ s
-
-abbrev pub is_nil : List ℤ → Bool
-is_nil [] = true
-is_nil (v ∷ vs) = false
-
--- some variable has no value
-abbrev pub has_empty : Domains → Bool
-has_empty d = list_any is_nil d
-
--- `contradiction` where a domain is empty, and else the text
-abbrev pub unless_empty : Domains → List ℕ → List ℕ
-unless_empty d text = if has_empty d then fixed_text Contradiction else text
+-- the lines that are answered by `contradiction` where some variable has no value afterwards
+abbrev pub IsContradictable : Line → Type 0
+IsContradictable (Var name domain) = Unit {0}
+IsContradictable (Add name shape) = Unit {0}
+IsContradictable (Relax name) = Unit {0}
+IsContradictable (Enforce name) = Unit {0}
+IsContradictable (Retract name) = Unit {0}
+IsContradictable Resume = Unit {0}
+IsContradictable DomainsLine = Unit {0}
+IsContradictable (Domain name) = Unit {0}
+IsContradictable (Why name value) = Unit {0}
+IsContradictable (Minimal name value) = Unit {0}
+IsContradictable (Cert name value) = Unit {0}
+IsContradictable _ = ⊥
 
 -- a line for each variable, and `end`
 abbrev pub domains_text : List Entry → Domains → List ℕ
@@ -135,29 +53,39 @@ list_text book =
     flat_map (λ e. var_line e.name e.values) book.variables ++ flat_map (entry_line book.variables) book.constraints
     ++ fixed_text End
 
--- the reply to an accepted line, by what the session holds after it
-abbrev pub Gives : SessionState → Line → List ℕ → Type 0
-Gives s (Var name domain) reply = (d : Domains) × AreDomains s d × (reply ≡ unless_empty d (fixed_text Done))
-Gives s (Add name shape) reply = (d : Domains) × AreDomains s d × (reply ≡ unless_empty d (fixed_text Done))
-Gives s DomainsLine reply = (d : Domains) × AreDomains s d × (reply ≡ unless_empty d (domains_text s.book.variables d))
-Gives s (Domain name) reply =
+-- the reply of the line's own to an accepted line, by what is held after it and by what happened; a form without a row
+-- of its own has no reply
+abbrev pub Says : SessionState → Line → Effect → List ℕ → Type 0
+Says s Comment Nothing reply = reply ≡ []
+Says s (Var name domain) Nothing reply = reply ≡ fixed_text Done
+Says s (Add name shape) Nothing reply = reply ≡ fixed_text Done
+Says s DomainsLine Nothing reply = (d : Domains) × AreDomains s d × (reply ≡ domains_text s.book.variables d)
+Says s (Domain name) Nothing reply =
     (d : Domains) × (x : ℕ) × AreDomains s d × (x < length s.book.variables) × (name_of s.book.variables x ≡ name)
-    × (reply ≡ unless_empty d (domain_line name (values_of d x)))
-Gives s ListLine reply = reply ≡ list_text s.book
-Gives s Quit reply = reply ≡ fixed_text Bye
-Gives s _ reply = reply ≡ []
+    × (reply ≡ domain_line name (values_of d x))
+Says s ListLine Nothing reply = reply ≡ list_text s.book
+Says s Quit Nothing reply = reply ≡ fixed_text Bye
+Says s _ _ reply = ⊥
 
--- an accepted line changes what the session holds, and its reply is about what is held then
-pub record AcceptedLine (s : SessionState) (line : Line) (reply : List ℕ) (t : SessionState) : Type 0 where
-  pub takes : Takes s line t
-  pub gives : Gives t line reply
+-- filtering waits, and the line is one that waits with it
+pub record WaitsFor (s : SessionState) (line : Line) : Type 0 where
+  pub paused : s.paused ≡ true
+  pub pausable : IsPausable line
 
--- what a line that was read does: its first refusal changes nothing, and without one it is accepted
-pub data Serves : SessionState → Line → List ℕ → SessionState → Type 0 where
-  refused : {s : SessionState} {line : Line} → (refusal : Refusal) → IsFirst (Meets s line) in_order refusal → Serves s line (refusal_text refusal) s
-  accepted : {s t : SessionState} {line : Line} {reply : List ℕ} → IsNone (Meets s line) in_order → AcceptedLine s line reply t → Serves s line reply t
+-- some variable has no value, and the line is one that tells so
+pub record Contradicts (s : SessionState) (line : Line) : Type 0 where
+  pub contradiction : IsContradiction s
+  pub contradictable : IsContradictable line
 
--- between what the session holds, a line, its reply and what the session holds afterwards
+-- what an accepted line does and what is replied, in this order: `paused`, `contradiction`, the reply of its own
+pub data Accepts : SessionState → Line → List ℕ → SessionState → Type 0 where
+  waits : {s : SessionState} {line : Line} → WaitsFor s line → Accepts s line (fixed_text Paused) s
+  contradicts : {s t : SessionState} {line : Line} → (effect : Effect) → (WaitsFor s line → ⊥) → Does s line effect t → Contradicts t line → Accepts s line (fixed_text Contradiction) t
+  says : {s t : SessionState} {line : Line} {reply : List ℕ} → (effect : Effect) → (WaitsFor s line → ⊥) → Does s line effect t → (Contradicts t line → ⊥) → Says t line effect reply → Accepts s line reply t
+
+-- between what the session holds, a line, its reply and what the session holds afterwards: a line that cannot be read and
+-- one that meets a refusal are refused, and every other line is accepted
 pub data Answers : SessionState → List ℕ → List ℕ → SessionState → Type 0 where
-  misread : {s : SessionState} {bytes : List ℕ} → (error : LineError) (refusal : Refusal) → IsRefusedBy bytes error → refusal_of error ≡ Some refusal → Answers s bytes (refusal_text refusal) s
-  read : {s t : SessionState} {bytes reply : List ℕ} → (line : Line) → IsRead bytes line → Serves s line reply t → Answers s bytes reply t
+  misread : {s : SessionState} {bytes : List ℕ} → (error : LineError) (refusal : Refusal) → IsRefusedBy bytes error → refusal_of error ≡ Some refusal → Answers s bytes (refusal_text refusal) (heard s bytes)
+  refused : {s : SessionState} {bytes : List ℕ} → (line : Line) (refusal : Refusal) → IsRead bytes line → IsFirst (Meets s line) in_order refusal → Answers s bytes (refusal_text refusal) (heard s bytes)
+  accepted : {s t : SessionState} {bytes reply : List ℕ} → (line : Line) → IsRead bytes line → IsNone (Meets s line) in_order → Accepts s line reply t → Answers s bytes reply t

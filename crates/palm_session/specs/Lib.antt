@@ -1,7 +1,9 @@
 pub mod Answers
+pub mod Effects
 pub mod Feeding
 pub mod Filtering
 pub mod Lines
+pub mod Refusals
 pub mod Replies
 pub mod ReplyText
 pub mod State

@@ -38,11 +38,11 @@ pub record Answered (before : SessionState) (text : List ℕ) (lines : List (Lis
   pub unbroken : All HasNoFeed lines
   pub run : Run before (map without_return lines) replies after
 
--- the output is the replies to the lines of the text, one by one
-pub record Replies (text output : List ℕ) : Type 0 where
+-- the output is the replies to the lines of the text, one by one, from a fresh session with these guides and orders
+pub record Replies (guides orders : List ℕ) (text output : List ℕ) : Type 0 where
   pub lines : List (List ℕ)
   pub answered : List (List ℕ)
   pub state : SessionState
   pub are_lines : AreLines text lines
   pub are_answered : AreAnswered lines answered
-  pub run : Run fresh answered output state
+  pub run : Run (fresh guides orders) answered output state

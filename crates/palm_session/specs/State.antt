@@ -1,17 +1,40 @@
 -- What a session holds between two lines.
-use Rattle.std.specs.Prelude.{◌≡◌, ℕ, List, [], Any, Contains}
+use Rattle.std.specs.Prelude.{◌≡◌, ℕ, ◌≤◌, Bool, true, false, List, [], All, Any, Contains, Option, None, IfSome}
+use Rattle.std.specs.List.{list_any}
 use Rattle.palm_model.specs.Domains.{Domains}
 use Rattle.palm_model.specs.Closure.{IsGreatest}
-use Rattle.palm_lang.specs.Book.{Contents, initial_of, active_of}
+use Rattle.palm_lang.specs.Book.{Contents, IsBook, initial_of, active_of}
 
--- the book, and how many `add` lines were accepted
+-- the book, how many `add` lines were accepted, whether filtering waits, and the guides and orders: the numbers of those
+-- that are there, and which one is chosen
 pub record SessionState : Type 0 where
   pub book : Contents
   pub accepted : ℕ
+  pub paused : Bool
+  pub guides : List ℕ
+  pub orders : List ℕ
+  pub guide : Option ℕ
+  pub order : Option ℕ
 
--- no variable, no constraint, and nothing accepted
-abbrev pub fresh : SessionState
-fresh = record { book = record { variables = []; constraints = [] }; accepted = 0 }
+-- no variable, no constraint, nothing accepted; the guides and orders that were handed in are there, and none is chosen
+abbrev pub fresh : List ℕ → List ℕ → SessionState
+fresh guides orders = record {
+  book = record { variables = []; constraints = [] };
+  accepted = 0;
+  paused = false;
+  guides = guides;
+  orders = orders;
+  guide = None;
+  order = None;
+}
+
+-- a state that a session can hold
+pub record IsState (s : SessionState) : Type 0 where
+  pub book : IsBook s.book
+  pub accepted : s.accepted ≤ 65535
+  pub numbered : All (λ c. c.number ≤ s.accepted) s.book.constraints
+  pub guide : IfSome s.guide (Contains s.guides)
+  pub order : IfSome s.order (Contains s.orders)
 
 -- a variable has the name
 abbrev pub HasVariable : SessionState → List ℕ → Type 0
@@ -24,3 +47,18 @@ HasConstraint s name = Any (λ c. c.name ≡ name) s.book.constraints
 -- the greatest closed domains of the active constraints
 abbrev pub AreDomains : SessionState → Domains → Type 0
 AreDomains s d = IsGreatest (initial_of s.book) (Contains (active_of s.book)) d
+
+abbrev pub is_nil : {X : Type 0} → List X → Bool
+is_nil [] = true
+is_nil _ = false
+
+-- some variable has no value
+abbrev pub has_empty : Domains → Bool
+has_empty d = list_any is_nil d
+
+-- filtering does not wait, and some variable has no value in the greatest closed domains
+pub record IsContradiction (s : SessionState) : Type 0 where
+  pub awake : s.paused ≡ false
+  pub domains : Domains
+  pub greatest : AreDomains s domains
+  pub empty : has_empty domains ≡ true

@@ -1,0 +1,78 @@
+-- Which lines are refused, and by which refusal.
+use Rattle.std.specs.Prelude.{◌≡◌, ◌≤◌, List, [], ◌∷◌, ◌⊎◌, ℕ, length, Any, Option, Some, None}
+use Rattle.palm_lang.specs.Limits.{names_of, IsBeyond}
+use Rattle.palm_lang.specs.declared.line.Line.{Line}
+use Rattle.palm_lang.specs.declared.line.Line.TheVariants.{Comment, Var, Add, Domains as DomainsLine, Domain, List as ListLine, Quit}
+use Rattle.palm_lang.specs.declared.parse.LineError.{LineError}
+use Rattle.palm_lang.specs.declared.parse.LineError.TheVariants.{Bytes, Form, Range as OutOfRange, Empty, Repeated, NoMemory}
+use Rattle.palm_lang.specs.declared.reply.Refusal.{Refusal}
+use Rattle.palm_lang.specs.declared.reply.Refusal.TheVariants.{E1, E2, E3, E4, E5, E6, E7, E8, E9, E10, E11, E12}
+use Rattle.palm_session.specs.State.{SessionState, HasVariable, HasConstraint}
+
+-- the line's form is served
+abbrev pub IsBuilt : Line → Type 0
+IsBuilt Comment = Unit {0}
+IsBuilt (Var name domain) = Unit {0}
+IsBuilt (Add name shape) = Unit {0}
+IsBuilt DomainsLine = Unit {0}
+IsBuilt (Domain name) = Unit {0}
+IsBuilt ListLine = Unit {0}
+IsBuilt Quit = Unit {0}
+IsBuilt _ = ⊥
+
+-- a name of a variable is wanted and there is none
+abbrev pub IsUnknown : SessionState → List ℕ → Type 0
+IsUnknown s name = HasVariable s name → ⊥
+
+-- the line declares or adds a name that stands for something already
+abbrev pub TakesName : SessionState → Line → Type 0
+TakesName s (Var name domain) = HasVariable s name
+TakesName s (Add name shape) = HasConstraint s name
+TakesName s _ = ⊥
+
+-- a name in a variable's place names no variable
+abbrev pub NamesNone : SessionState → Line → Type 0
+NamesNone s (Add name shape) = Any (IsUnknown s) (names_of shape)
+NamesNone s (Domain name) = IsUnknown s name
+NamesNone s _ = ⊥
+
+-- the session is full
+abbrev pub HasNoRoom : SessionState → Line → Type 0
+HasNoRoom s (Var name domain) = 64 ≤ length s.book.variables
+HasNoRoom s (Add name shape) = (256 ≤ length s.book.constraints) ⊎ (65535 ≤ s.accepted)
+HasNoRoom s _ = ⊥
+
+-- the condition of a refusal, on a line that was read
+abbrev pub Meets : SessionState → Line → Refusal → Type 0
+Meets s line E2 = IsBuilt line → ⊥
+Meets s line E3 = TakesName s line
+Meets s line E4 = NamesNone s line
+Meets s line E7 = IsBeyond line ⊎ HasNoRoom s line
+Meets s line _ = ⊥
+
+-- the order in which a session looks for refusals of a line that was read
+abbrev pub in_order : List Refusal
+in_order = E2 ∷ E3 ∷ E4 ∷ E5 ∷ E7 ∷ E11 ∷ E12 ∷ E10 ∷ []
+
+-- the first of the list that holds
+abbrev pub IsFirst : (Refusal → Type 0) → List Refusal → Refusal → Type 0
+IsFirst holds [] r = ⊥
+IsFirst holds (q ∷ qs) r = (holds q × (r ≡ q)) ⊎ ((holds q → ⊥) × IsFirst holds qs r)
+
+-- none of the list holds
+abbrev pub IsNone : (Refusal → Type 0) → List Refusal → Type 0
+IsNone holds [] = Unit {0}
+IsNone holds (q ∷ qs) = (holds q → ⊥) × IsNone holds qs
+
+-- the refusal of a line that could not be read
+abbrev pub refusal_of : LineError → Option Refusal
+refusal_of Bytes = Some E1
+refusal_of Form = Some E2
+refusal_of OutOfRange = Some E6
+refusal_of Empty = Some E9
+refusal_of Repeated = Some E8
+refusal_of NoMemory = None
+
+-- what a session holds after a line that it refuses
+abbrev pub heard : SessionState → List ℕ → SessionState
+heard s bytes = s
