@@ -1,4 +1,5 @@
 pub mod Members
+pub mod Naming
 pub mod Numerals
 pub mod StreamLemmas
 pub mod Telling
