@@ -4,9 +4,9 @@ use Rattle.palm_lang.specs.Reading.{IsRead, IsRefusedBy}
 use Rattle.palm_lang.specs.declared.line.Line.{Line}
 use Rattle.palm_lang.specs.declared.line.Line.TheVariants.{Quit as QuitLine}
 use Rattle.palm_lang.specs.declared.parse.LineError.{LineError}
-use Rattle.palm_session.specs.Answers.{Answers, misread}
+use Rattle.palm_session.specs.Answers.{Answers, misread, refused, accepted}
 use Rattle.palm_session.specs.Feeding.{Decides}
-use Rattle.palm_session.specs.ReplyText.{reply_text, IsRefusal}
+use Rattle.palm_session.specs.ReplyText.{reply_text, IsRefusal, Serves, refuses, accepts}
 use Rattle.palm_session.specs.State.{SessionState}
 use Rattle.palm_session.specs.declared.going.Going.{Going}
 use Rattle.palm_session.specs.declared.going.Going.TheVariants.{More, Quit}
@@ -17,8 +17,13 @@ pub decides_read : (going : Going) (bytes : List ℕ) (line : Line) → IsRead b
 decides_read More bytes line r quit more = goes_on_read bytes line r (more refl)
 decides_read Quit bytes line r quit more = subst (λ (x : Line). IsRead bytes x) (quit refl) r
 
-pub answers_refusal : (s : SessionState) (bytes : List ℕ) (error : LineError) → IsRefusedBy bytes error → (r : Reply × Going) → IsRefusal error r → Answers s bytes (reply_text s.book r.0) s
-answers_refusal s bytes error q r is = subst (λ (x : Reply). Answers s bytes (reply_text s.book x) s) (sym is.reply) (misread error is.refusal q is.of_error)
+pub answers_refusal : (s : SessionState) (bytes : List ℕ) (error : LineError) → IsRefusedBy bytes error → (r : Reply × Going) → IsRefusal error r → Answers s bytes (reply_text s r.0) s
+answers_refusal s bytes error q r is = subst (λ (x : Reply). Answers s bytes (reply_text s x) s) (sym is.reply) (misread error is.refusal q is.of_error)
 
 pub decides_refusal : (bytes : List ℕ) (error : LineError) → IsRefusedBy bytes error → (r : Reply × Going) → IsRefusal error r → Decides r.1 bytes
 decides_refusal bytes error q r is = subst (λ (g : Going). Decides g bytes) (sym is.going) (goes_on_refused bytes error is.refusal q is.of_error)
+
+-- a line that was read and served was answered
+pub serves_answers : (s t : SessionState) (bytes : List ℕ) (line : Line) (reply : List ℕ) → IsRead bytes line → Serves s line reply t → Answers s bytes reply t
+serves_answers s t bytes line reply r (refuses refusal first) = refused line refusal r first
+serves_answers s t bytes line reply r (accepts none took) = accepted line r none took

@@ -1,3 +1,4 @@
+pub mod Accepting
 pub mod Delivering
 pub mod Any
 pub mod Closing
@@ -11,3 +12,4 @@ pub mod Actives
 pub mod ReadOnce
 pub mod Deciding
 pub mod FeedLemmas
+pub mod States

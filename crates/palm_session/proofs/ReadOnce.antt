@@ -7,7 +7,7 @@ use Rattle.palm_lang.specs.declared.parse.LineError.{LineError}
 use Rattle.palm_lang.specs.declared.parse.LineError.TheVariants.{NoMemory}
 use Rattle.palm_lang.specs.declared.reply.Refusal.{Refusal}
 use Rattle.palm_lang.proofs.Parsing.{one_reading, read_not_refused}
-use Rattle.palm_session.specs.Answers.{refusal_of}
+use Rattle.palm_session.specs.Refusals.{refusal_of}
 use Rattle.palm_session.specs.Replies.{GoesOn}
 
 -- a line that says something else than `quit` does not end a session

@@ -13,7 +13,8 @@ use Rattle.palm_lang.specs.declared.line.NameTerm.{NameTerm}
 use Rattle.palm_lang.specs.declared.line.Shape.{Shape}
 use Rattle.palm_lang.specs.declared.line.Shape.TheVariants.{Linear, Count}
 use Rattle.palm_session.specs.State.{SessionState}
-use Rattle.palm_session.specs.Answers.{IsUnknown, Resolves}
+use Rattle.palm_session.specs.Refusals.{IsUnknown}
+use Rattle.palm_session.specs.Effects.{Resolves}
 use Rattle.palm_session.proofs.Any.{any_here, any_there, any_left, any_right}
 use Rattle.palm_session.proofs.Unknown.{unknown_name}
 

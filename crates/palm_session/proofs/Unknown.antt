@@ -2,7 +2,7 @@
 use Rattle.std.proofs.Common.{◌≡◌, List, map, Any, subst, sym}
 use Rattle.palm_lang.specs.declared.line.NameTerm.{NameTerm}
 use Rattle.palm_session.specs.State.{SessionState}
-use Rattle.palm_session.specs.Answers.{IsUnknown}
+use Rattle.palm_session.specs.Refusals.{IsUnknown}
 use Rattle.palm_session.proofs.Any.{any_map, any_unmap}
 
 pub unknown_name : (s : SessionState) (terms xs : List NameTerm) → xs ≡ terms → Any (λ t. IsUnknown s t.name) xs → Any (IsUnknown s) (map (λ t. t.name) terms)

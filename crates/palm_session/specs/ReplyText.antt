@@ -1,12 +1,14 @@
 -- The text of a reply.
-use Rattle.std.specs.Prelude.{◌≡◌, ◌<◌, ℕ, List, [], length, Some}
+use Rattle.std.specs.Prelude.{◌≡◌, ◌⊎◌, ◌<◌, ℕ, List, [], length, Some}
 use Rattle.palm_model.specs.Domains.{values_of}
 use Rattle.palm_lang.specs.Book.{name_of}
 use Rattle.palm_lang.specs.Reply.{fixed_text, refusal_text, domain_line}
-use Rattle.palm_session.specs.Answers.{domains_text, list_text}
-use Rattle.palm_session.specs.Refusals.{refusal_of}
-use Rattle.palm_session.specs.State.{SessionState}
+use Rattle.palm_session.specs.Answers.{Accepts, domains_text, list_text}
+use Rattle.palm_session.specs.Refusals.{IsFirst, IsNone, Meets, in_order, refusal_of}
+use Rattle.palm_session.specs.State.{SessionState, IsContradiction}
+use Rattle.palm_lang.specs.declared.line.Line.{Line}
 use Rattle.palm_lang.specs.declared.parse.LineError.{LineError}
+use Rattle.palm_lang.specs.declared.reply.Fixed.TheVariants.{Contradiction}
 use Rattle.palm_lang.specs.declared.reply.Refusal.{Refusal}
 use Rattle.palm_session.specs.declared.going.Going.{Going}
 use Rattle.palm_session.specs.declared.going.Going.TheVariants.{More}
@@ -34,3 +36,13 @@ pub record IsRefusal (error : LineError) (answer : Reply × Going) : Type 0 wher
   pub of_error : refusal_of error ≡ Some refusal
   pub reply : answer.0 ≡ Refused refusal
   pub going : answer.1 ≡ More
+
+-- `contradiction` where some variable has no value, and else a text as it is wanted
+abbrev pub TellsDomains : SessionState → (List ℕ → Type 0) → List ℕ → Type 0
+TellsDomains s IsOwn text =
+    (IsContradiction s × (text ≡ fixed_text Contradiction)) ⊎ ((IsContradiction s → ⊥) × IsOwn text)
+
+-- what serving a line that was read does: its first refusal changes nothing, and without one it is accepted
+pub data Serves : SessionState → Line → List ℕ → SessionState → Type 0 where
+  refuses : {s : SessionState} {line : Line} → (refusal : Refusal) → IsFirst (Meets s line) in_order refusal → Serves s line (refusal_text refusal) s
+  accepts : {s t : SessionState} {line : Line} {reply : List ℕ} → IsNone (Meets s line) in_order → Accepts s line reply t → Serves s line reply t

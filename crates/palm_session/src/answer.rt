@@ -26,7 +26,7 @@ impl Desk {
         ensures answers { AnswersTo self.old line.now (K.state out.old).written (K.state out.new).written self.new result }
     {
         match self.decide(line) {
-            Ok((reply, going)) => match deliver(&self.book, &reply, out, buffer) {
+            Ok((reply, going)) => match deliver(self, &reply, out, buffer) {
                 Ok(()) => Ok(going),
                 Err(stop) => Err(stop),
             },
@@ -36,9 +36,9 @@ impl Desk {
 
     /// Reads a line and serves it.
     fn decide(&mut self, line: &[u8]) -> Result<(Reply, Going), NoMemory>
-        ensures answers { IfOk result (λ r. Answers self.old line.now (reply_text self.new.book r.0) self.new) }
+        ensures answers { IfOk result (λ r. Answers self.old line.now (reply_text self.new r.0) self.new) }
         ensures going { IfOk result (λ r. Decides r.1 line.now) }
-        ensures fits { IfOk result (λ r. ReplyFits self.new.book r.0) }
+        ensures fits { IfOk result (λ r. ReplyFits self.new r.0) }
     {
         match parse_line(self.alloc, line) {
             Ok(line) => {

@@ -7,6 +7,7 @@ ghost use Rattle.palm_session.specs.ReplyText.{reply_text, ReplyFits};
 ghost use Rattle.palm_model.specs.Domains.{values_of};
 ghost use Rattle.palm_session.specs.Writing.{Delivers};
 
+use crate::desk::Desk;
 use crate::reply::Reply;
 use crate::stop::Stop;
 use palm_base::{Failed, Sink, Var, write_all};
@@ -16,21 +17,21 @@ use palm_model::DomainList;
 
 /// Writes a reply.
 pub fn deliver<K: Sink>(
-    book: &Book,
+    desk: &Desk,
     reply: &Reply,
     out: &mut K,
     buffer: &mut Vec<u8>,
 ) -> Result<(), Stop>
-    requires { ReplyFits book.now reply.now }
-    ensures { Delivers (K.state out.old) (K.state out.new) (reply_text book.now reply.now) result }
+    requires { ReplyFits desk.now reply.now }
+    ensures { Delivers (K.state out.old) (K.state out.new) (reply_text desk.now reply.now) result }
 {
     match reply {
         Reply::Nothing => Ok(()),
         Reply::Word(word) => write_word(*word, out, buffer),
         Reply::Refused(refusal) => write_refusal(*refusal, out, buffer),
-        Reply::Domains(domains) => write_domains(book, domains, out, buffer),
-        Reply::Domain { var, domains } => write_domain(book, *var, domains, out, buffer),
-        Reply::Listing => write_list(book, out, buffer),
+        Reply::Domains(domains) => write_domains(desk.book(), domains, out, buffer),
+        Reply::Domain { var, domains } => write_domain(desk.book(), *var, domains, out, buffer),
+        Reply::Listing => write_list(desk.book(), out, buffer),
     }
 }
 

@@ -5,9 +5,8 @@ ghost use Rattle.palm_kind.specs.Kind.{con_of};
 ghost use Rattle.palm_lang.specs.Book.{active_of, initial_of};
 ghost use Rattle.palm_model.specs.Domains.{AllAscend, values_of};
 ghost use Rattle.palm_model.specs.Constraint.{IsWellFormed};
-ghost use Rattle.palm_session.specs.Answers.{has_empty};
 ghost use Rattle.palm_session.specs.Filtering.{declared_row};
-ghost use Rattle.palm_session.specs.State.{AreDomains};
+ghost use Rattle.palm_session.specs.State.{AreDomains, has_empty};
 
 use crate::desk::Desk;
 use crate::filtering::close;

@@ -1,7 +1,7 @@
 //! Refusals of lines that were read, in the order in which they are looked for.
 ghost use Rattle.std.specs.Prelude.{◌≡◌, ◌≤◌, ◌⊎◌, ◌↔◌, true, false, Any, length, MatchOption, List, ℕ, [], ◌∷◌, ◌++◌, map};
 ghost use Rattle.palm_lang.specs.Limits.{names_of, line_target_names, IsBeyond};
-ghost use Rattle.palm_session.specs.Answers.{IsBuilt, TakesName, NamesNone, HasNoRoom, Meets, IsFirst, IsNone, IsUnknown, in_order, refusal_of};
+ghost use Rattle.palm_session.specs.Refusals.{IsBuilt, TakesName, NamesNone, HasNoRoom, Meets, IsFirst, IsNone, IsUnknown, in_order, refusal_of};
 ghost use Rattle.palm_session.specs.State.{SessionState, HasVariable, HasConstraint};
 
 use crate::desk::Desk;

@@ -5,7 +5,8 @@ ghost use Rattle.palm_lang.specs.Limits.{names_of, line_target_names};
 ghost use Rattle.palm_lang.specs.Reply.{named_target, named_term};
 ghost use Rattle.palm_model.specs.Linear.{term_vars};
 ghost use Rattle.palm_model.specs.Count.{target_scope};
-ghost use Rattle.palm_session.specs.Answers.{IsUnknown, Resolves};
+ghost use Rattle.palm_session.specs.Effects.{Resolves};
+ghost use Rattle.palm_session.specs.Refusals.{IsUnknown};
 ghost use Rattle.palm_session.specs.State.{HasVariable};
 
 use crate::desk::Desk;

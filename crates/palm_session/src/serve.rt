@@ -1,44 +1,61 @@
 //! What each line does.
-ghost use Rattle.std.specs.Prelude.{◌≡◌, ◌≤ℤ◌, ◌-ℤ◌, ◌<◌, ◌≤◌, ◌+◌, Any, pos, length, IfOk, OnOk};
+ghost use Rattle.std.specs.Prelude.{◌≡◌, ◌≤ℤ◌, ◌-ℤ◌, ◌<◌, ◌≤◌, ◌+◌, Any, pos, length, IfOk, OnOk, OnErr, ℕ, List, [], true, false};
 ghost use Rattle.palm_lang.specs.Limits.{HasManyRows, IsLarge, Repeats, names_of};
 ghost use Rattle.palm_lang.specs.Reading.{count_in};
 ghost use Rattle.palm_lang.specs.Sound.{IsSound, IsSoundDomain, IsSoundShape};
 ghost use Rattle.palm_lang.specs.Book.{AreValues, IsNameText};
 ghost use Rattle.palm_lang.specs.Reply.{fixed_text};
-ghost use Rattle.palm_model.specs.Limits.{IsValue};
 ghost use Rattle.palm_model.specs.Constraint.{IsWellFormed};
-ghost use Rattle.palm_model.specs.Domains.{Domains};
-ghost use Rattle.palm_session.specs.Answers.{IsNone, IsUnknown, Meets, Serves, Gives, AcceptedLine, in_order, unless_empty, values_in, from_on, with_constraint, domains_text};
-ghost use Rattle.palm_session.specs.ReplyText.{reply_text, ReplyFits};
-ghost use Rattle.palm_session.specs.State.{AreDomains, HasVariable, HasConstraint};
+ghost use Rattle.palm_model.specs.Limits.{IsValue};
+ghost use Rattle.palm_base.specs.Tells.{Tells};
+ghost use Rattle.palm_session.specs.Answers.{Accepts, IsPausable, Says, WaitsFor};
+ghost use Rattle.palm_session.specs.Effects.{Nothing, values_in, from_on, with_variable, with_constraint};
+ghost use Rattle.palm_session.specs.Refusals.{IsNone, IsUnknown, Meets, in_order};
+ghost use Rattle.palm_session.specs.ReplyText.{reply_text, ReplyFits, Serves, TellsDomains};
+ghost use Rattle.palm_session.specs.State.{AreDomains, IsContradiction, HasVariable, HasConstraint, has_empty};
 
 use crate::desk::Desk;
 use crate::domains::has_empty;
 use crate::reply::Reply;
 use palm_base::{NoMemory, Value, ValueList};
 use palm_lang::{BookCon, DomainText, Fixed, Line, Name, Shape};
-use palm_model::Con;
+use palm_model::{Con, DomainList};
 use std::alloc::Global;
 
 impl Desk {
     /// Serves a line that was read: refuses it, or takes it.
     pub fn serve(&mut self, line: Line) -> Result<Reply, NoMemory>
         requires { IsSound line }
-        ensures serves { IfOk result (λ reply. Serves self.old line (reply_text self.new.book reply) self.new) }
-        ensures fits { IfOk result (ReplyFits self.new.book) }
+        ensures serves { IfOk result (λ reply. Serves self.old line (reply_text self.new reply) self.new) }
+        ensures fits { IfOk result (ReplyFits self.new) }
     {
         match self.first_refusal(&line) {
             Some(refusal) => Ok(Reply::Refused(refusal)),
-            None => self.accept(line),
+            None => self.take(line),
         }
     }
 
-    /// Takes a line that is not refused.
+    /// Takes a line that is not refused, unless it waits with the filtering.
+    fn take(&mut self, line: Line) -> Result<Reply, NoMemory>
+        requires sound { IsSound line }
+        requires accepted { IsNone (Meets self.old line) in_order }
+        ensures accepts { IfOk result (λ reply. Accepts self.old line (reply_text self.new reply) self.new) }
+        ensures fits { IfOk result (ReplyFits self.new) }
+    {
+        if self.waits_for(&line) {
+            Ok(Reply::Word(Fixed::Paused))
+        } else {
+            self.accept(line)
+        }
+    }
+
+    /// Takes a line that is neither refused nor waiting.
     fn accept(&mut self, line: Line) -> Result<Reply, NoMemory>
         requires sound { IsSound line }
         requires accepted { IsNone (Meets self.old line) in_order }
-        ensures takes { IfOk result (λ reply. AcceptedLine self.old line (reply_text self.new.book reply) self.new) }
-        ensures fits { IfOk result (ReplyFits self.new.book) }
+        requires goes { WaitsFor self.old line → ⊥ }
+        ensures accepts { IfOk result (λ reply. Accepts self.old line (reply_text self.new reply) self.new) }
+        ensures fits { IfOk result (ReplyFits self.new) }
     {
         match line {
             Line::Comment => Ok(Reply::Nothing),
@@ -52,47 +69,57 @@ impl Desk {
         }
     }
 
-    /// `ok`, or `contradiction` where some domain is empty.
+    /// Whether filtering waits and the line waits with it.
+    fn waits_for(&self, line: &Line) -> bool
+        ensures { Tells result (WaitsFor self.now line.now) }
+    {
+        self.paused && is_pausable(line)
+    }
+
+    /// Whether filtering does not wait and one of the domains, which are the greatest closed ones, is empty.
+    fn is_contradiction(&self, domains: &DomainList) -> bool
+        requires { AreDomains self.now domains.now }
+        ensures { Tells result (IsContradiction self.now) }
+    {
+        !self.paused && has_empty(domains)
+    }
+
+    /// `ok`, or `contradiction` where some variable has no value.
     fn settled(&self) -> Result<Reply, NoMemory>
-        ensures gives { IfOk result (λ reply. (d : Domains) × AreDomains self.now d
-            × (reply_text self.now.book reply ≡ unless_empty d (fixed_text Fixed.Done))) }
-        ensures fits { IfOk result (ReplyFits self.now.book) }
+        ensures tells { IfOk result (λ reply. TellsDomains self.now (λ text. text ≡ fixed_text Fixed.Done) (reply_text self.now reply)) }
+        ensures fits { IfOk result (ReplyFits self.now) }
     {
         let domains = self.greatest()?;
-        Ok(Reply::Word(if has_empty(&domains) {
-            Fixed::Contradiction
-        } else {
-            Fixed::Done
-        }))
+        if self.is_contradiction(&domains) {
+            return Ok(Reply::Word(Fixed::Contradiction));
+        }
+        Ok(Reply::Word(Fixed::Done))
     }
 
     /// The values of every variable.
     fn all_domains(&self) -> Result<Reply, NoMemory>
-        ensures gives { IfOk result (λ reply. (d : Domains) × AreDomains self.now d
-            × (reply_text self.now.book reply ≡ unless_empty d (domains_text self.now.book.variables d))) }
-        ensures fits { IfOk result (ReplyFits self.now.book) }
+        ensures tells { IfOk result (λ reply. TellsDomains self.now (Says self.now Line.Domains Nothing) (reply_text self.now reply)) }
+        ensures fits { IfOk result (ReplyFits self.now) }
     {
         let domains = self.greatest()?;
-        Ok(if has_empty(&domains) {
-            Reply::Word(Fixed::Contradiction)
-        } else {
-            Reply::Domains(domains)
-        })
+        if self.is_contradiction(&domains) {
+            return Ok(Reply::Word(Fixed::Contradiction));
+        }
+        Ok(Reply::Domains(domains))
     }
 
     /// The values of the variable with the name.
     fn one_domain(&self, name: &Name) -> Result<Reply, NoMemory>
         requires { IsUnknown self.now name.now → ⊥ }
-        ensures gives { IfOk result (λ reply. Gives self.now (Line.Domain name.now) (reply_text self.now.book reply)) }
-        ensures fits { IfOk result (ReplyFits self.now.book) }
+        ensures tells { IfOk result (λ reply. TellsDomains self.now (Says self.now (Line.Domain name.now) Nothing) (reply_text self.now reply)) }
+        ensures fits { IfOk result (ReplyFits self.now) }
     {
         let domains = self.greatest()?;
+        if self.is_contradiction(&domains) {
+            return Ok(Reply::Word(Fixed::Contradiction));
+        }
         let var = self.var_of(name);
-        Ok(if has_empty(&domains) {
-            Reply::Word(Fixed::Contradiction)
-        } else {
-            Reply::Domain { var, domains }
-        })
+        Ok(Reply::Domain { var, domains })
     }
 
     /// Declares a variable.
@@ -102,12 +129,25 @@ impl Desk {
         requires fresh { HasVariable self.old name → ⊥ }
         requires small { IsLarge domain → ⊥ }
         requires room { 64 ≤ length self.old.book.variables → ⊥ }
-        ensures takes { IfOk result (λ reply. AcceptedLine self.old (Line.Var name domain) (reply_text self.new.book reply) self.new) }
-        ensures fits { IfOk result (ReplyFits self.new.book) }
+        ensures accepts { IfOk result (λ reply. Accepts self.old (Line.Var name domain) (reply_text self.new reply) self.new) }
+        ensures fits { IfOk result (ReplyFits self.new) }
     {
         let values = values_in(self.alloc, domain)?;
-        self.book.add_variable(name, values)?;
+        self.enter(name, values)?;
         self.settled()
+    }
+
+    /// Puts a variable into the book.
+    fn enter(&mut self, name: Name, values: ValueList) -> Result<(), NoMemory>
+        requires text { IsNameText name }
+        requires fresh { HasVariable self.old name → ⊥ }
+        requires values { AreValues values }
+        requires room { 64 ≤ length self.old.book.variables → ⊥ }
+        ensures ok { OnOk result (self.new ≡ with_variable self.old name values) }
+        ensures err { OnErr result (self.new ≡ self.old) }
+    {
+        self.book.add_variable(name, values)?;
+        Ok(())
     }
 
     /// Adds a constraint under the next number.
@@ -121,8 +161,8 @@ impl Desk {
         requires few { HasManyRows shape → ⊥ }
         requires room { 256 ≤ length self.old.book.constraints → ⊥ }
         requires numbers { 65535 ≤ self.old.accepted → ⊥ }
-        ensures takes { IfOk result (λ reply. AcceptedLine self.old (Line.Add name shape) (reply_text self.new.book reply) self.new) }
-        ensures fits { IfOk result (ReplyFits self.new.book) }
+        ensures accepts { IfOk result (λ reply. Accepts self.old (Line.Add name shape) (reply_text self.new reply) self.new) }
+        ensures fits { IfOk result (ReplyFits self.new) }
     {
         let con = self.resolve(shape)?;
         self.post(name, con)?;
@@ -136,7 +176,8 @@ impl Desk {
         requires formed { IsWellFormed (length self.old.book.variables) con }
         requires room { 256 ≤ length self.old.book.constraints → ⊥ }
         requires numbers { 65535 ≤ self.old.accepted → ⊥ }
-        ensures { OnOk result (self.new ≡ with_constraint self.old name con) }
+        ensures ok { OnOk result (self.new ≡ with_constraint self.old name con) }
+        ensures err { OnErr result (self.new ≡ self.old) }
     {
         let number = self.accepted + 1;
         self.book.add_constraint(BookCon {
@@ -148,6 +189,26 @@ impl Desk {
         self.accepted = number;
         Ok(())
     }
+}
+
+/// Whether the line is answered by `paused` while filtering waits.
+fn is_pausable(line: &Line) -> bool
+    ensures { Tells result (IsPausable line.now) }
+{
+    matches!(
+        line,
+        Line::Domains
+            | Line::Domain(_)
+            | Line::Log
+            | Line::Why { .. }
+            | Line::Conflict
+            | Line::MinimalConflict
+            | Line::Minimal { .. }
+            | Line::Cert { .. }
+            | Line::CertConflict
+            | Line::SolveDbt { .. }
+            | Line::SolveRepair { .. }
+    )
 }
 
 /// The values of a domain, ascending.

@@ -36,7 +36,7 @@ impl Session {
 
     /// A fresh session.
     pub fn new(alloc: Global) -> Result<Session, NoMemory>
-        ensures { IfOk result (λ s. s ≡ record { state = fresh; unfinished = []; over = false }) }
+        ensures { IfOk result (λ s. s ≡ record { state = fresh [] []; unfinished = []; over = false }) }
     {
         Ok(Session {
             desk: Desk::new(alloc),

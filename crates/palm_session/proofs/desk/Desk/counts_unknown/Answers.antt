@@ -1,6 +1,6 @@
 use Rattle.palm_lang.specs.Limits.{line_target_names}
 use Rattle.palm_session.proofs.Any.{any_right}
-use Rattle.palm_session.specs.Answers.{IsUnknown}
+use Rattle.palm_session.specs.Refusals.{IsUnknown}
 use Rattle.palm_session.proofs.desk.Desk.counts_unknown.Goals as goal
 
 pub returns-else-has_unknown-clause-unknown : goal.returns-else-has_unknown-clause-unknown

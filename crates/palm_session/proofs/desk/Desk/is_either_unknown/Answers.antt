@@ -1,6 +1,6 @@
 use Rattle.std.proofs.Common.{[], ◌∷◌}
 use Rattle.palm_session.proofs.Any.{any_here, any_there}
-use Rattle.palm_session.specs.Answers.{IsUnknown}
+use Rattle.palm_session.specs.Refusals.{IsUnknown}
 use Rattle.palm_session.proofs.Tests.{false_of_not}
 use Rattle.palm_session.proofs.desk.Desk.is_either_unknown.Goals as goal
 
