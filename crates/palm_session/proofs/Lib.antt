@@ -11,3 +11,7 @@ pub mod Actives
 pub mod ReadOnce
 pub mod Deciding
 pub mod FeedLemmas
+pub mod LawsOfLines
+pub mod LawsOfStates
+pub mod LawsOfAnswers
+pub mod LawsOfTexts

@@ -18,7 +18,7 @@ use Rattle.palm_lang.specs.Reply.{named, named_term, named_target}
 use Rattle.palm_lang.specs.Sound.{IsSoundShape, IsSoundTerm}
 use Rattle.palm_lang.specs.declared.line.NameTerm.{NameTerm}
 use Rattle.palm_lang.specs.declared.line.Shape.{Shape}
-use Rattle.palm_session.specs.Answers.{Resolves}
+use Rattle.palm_session.specs.Effects.{Resolves}
 
 -- variables with different names are different
 distinct_names : (f : ℕ → List ℕ) (xs : List ℕ) → (Repeats (map f xs) → ⊥) → Distinct xs
