@@ -82,6 +82,14 @@ long_bytes bytes long = long_refused bytes long
 pub long_unread : (bytes : List ℕ) (line : Line) → 65536 < length bytes → IsRead bytes line → ⊥
 long_unread bytes line long r = let e : Bytes ≡ NoMemory = read_not_refused bytes line Bytes r (long_bytes bytes long) in cc
 
+-- ---- the parts of a list that all its members share
+
+all_left : {X : Type 0} (P : X → Type 0) (xs ys : List X) → All P (xs ++ ys) → All P xs
+all_left P xs ys h = all_members P xs (λ x m. All-contains P (xs ++ ys) x h (Contains-append_left xs ys x m))
+
+all_right : {X : Type 0} (P : X → Type 0) (xs ys : List X) → All P (xs ++ ys) → All P ys
+all_right P xs ys h = all_members P ys (λ x m. All-contains P (xs ++ ys) x h (Contains-append_right xs ys x m))
+
 -- ---- variables by name
 
 -- there is a variable with a name that one has
@@ -126,12 +134,6 @@ module _ (variables : List Entry) where
   target_with (VariableTarget name) h =
       let x = variable_with variables name (All-head IsNamed name [] h) in
       (Variable x.0, All-cons IsDeclared x.0 [] x.1 (All-nil IsDeclared), ap VariableTarget x.2)
-
-  all_left : {X : Type 0} (P : X → Type 0) (xs ys : List X) → All P (xs ++ ys) → All P xs
-  all_left P xs ys h = all_members P xs (λ x m. All-contains P (xs ++ ys) x h (Contains-append_left xs ys x m))
-
-  all_right : {X : Type 0} (P : X → Type 0) (xs ys : List X) → All P (xs ++ ys) → All P ys
-  all_right P xs ys h = all_members P ys (λ x m. All-contains P (xs ++ ys) x h (Contains-append_right xs ys x m))
 
   -- there is a constraint that says a shape of variables that all have their names
   pub constraint_with : (shape : Shape) → All IsNamed (names_of shape) → (con : Con) × All IsDeclared (scope con) × (named variables con ≡ shape)

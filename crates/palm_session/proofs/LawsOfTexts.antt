@@ -63,24 +63,36 @@ HasCut text = (lines : List (List ℕ)) × (rest : List ℕ) × Cuts text lines 
 
 -- one more byte in front, which is no line feed
 cut_byte : (b : ℕ) (text : List ℕ) (lines : List (List ℕ)) (rest : List ℕ) → IsNoFeed b → Cuts text lines rest → HasCut (b ∷ text)
-cut_byte b text [] rest n c = ([], b ∷ rest, record {
-  whole = ap (λ (z : List ℕ). b ∷ z) c.whole;
-  unbroken = All-nil HasNoFeed;
-  unfinished = All-cons IsNoFeed b rest n c.unfinished;
-})
-cut_byte b text (l ∷ ls) rest n c = ((b ∷ l) ∷ ls, rest, record {
-  whole = ap (λ (z : List ℕ). b ∷ z) c.whole;
-  unbroken = All-cons HasNoFeed (b ∷ l) ls (All-cons IsNoFeed b l n (All-head HasNoFeed l ls c.unbroken)) (All-tail HasNoFeed l ls c.unbroken);
-  unfinished = c.unfinished;
-})
+cut_byte b text [] rest n c = (
+  [],
+  b ∷ rest,
+  record {
+    whole = ap (λ (z : List ℕ). b ∷ z) c.whole;
+    unbroken = All-nil HasNoFeed;
+    unfinished = All-cons IsNoFeed b rest n c.unfinished;
+  },
+)
+cut_byte b text (l ∷ ls) rest n c = (
+  (b ∷ l) ∷ ls,
+  rest,
+  record {
+    whole = ap (λ (z : List ℕ). b ∷ z) c.whole;
+    unbroken = All-cons HasNoFeed (b ∷ l) ls (All-cons IsNoFeed b l n (All-head HasNoFeed l ls c.unbroken)) (All-tail HasNoFeed l ls c.unbroken);
+    unfinished = c.unfinished;
+  },
+)
 
 -- a line feed in front
 cut_feed : (b : ℕ) (text : List ℕ) (lines : List (List ℕ)) (rest : List ℕ) → b ≡ 10 → Cuts text lines rest → HasCut (b ∷ text)
-cut_feed b text lines rest e c = ([] ∷ lines, rest, record {
-  whole = ap (λ (z : ℕ). z ∷ text) e ∙ ap (λ (z : List ℕ). 10 ∷ z) c.whole;
-  unbroken = All-cons HasNoFeed [] lines (All-nil IsNoFeed) c.unbroken;
-  unfinished = c.unfinished;
-})
+cut_feed b text lines rest e c = (
+  [] ∷ lines,
+  rest,
+  record {
+    whole = ap (λ (z : ℕ). z ∷ text) e ∙ ap (λ (z : List ℕ). 10 ∷ z) c.whole;
+    unbroken = All-cons HasNoFeed [] lines (All-nil IsNoFeed) c.unbroken;
+    unfinished = c.unfinished;
+  },
+)
 
 has_cut : (text : List ℕ) → HasCut text
 has_cut [] = ([], [], record { whole = refl; unbroken = All-nil HasNoFeed; unfinished = All-nil IsNoFeed })
@@ -151,7 +163,7 @@ answered_once lines xs ys (until a x k on e is) (until b y l too f other) = ends
 
 -- ---- the lines are answered in one way
 
-run_once : (s : SessionState) (lines : List (List ℕ)) (a b : List ℕ) (t u : SessionState) → IsState s → Run s lines a t → Run s lines b u → a ≡ b
+pub run_once : (s : SessionState) (lines : List (List ℕ)) (a b : List ℕ) (t u : SessionState) → IsState s → Run s lines a t → Run s lines b u → a ≡ b
 run_once s [] a b t u is x y = x.0 ∙ sym y.0
 run_once s (l ∷ ls) a b t u is x y =
     let one = answers_once s l x.0 y.0 x.2 y.2 is x.3 y.3 in
@@ -159,12 +171,17 @@ run_once s (l ∷ ls) a b t u is x y =
     let rest : x.1 ≡ y.1 = run_once x.2 ls x.1 y.1 t u (answers_keep s l x.0 x.2 is x.3) x.5 next in
     x.4 ∙ ap (λ (z : List ℕ). z ++ x.1) one.0 ∙ ap (λ (z : List ℕ). y.0 ++ z) rest ∙ sym y.4
 
-has_run : (s : SessionState) (lines : List (List ℕ)) → IsState s → (replies : List ℕ) × (t : SessionState) × Run s lines replies t
+pub has_run : (s : SessionState) (lines : List (List ℕ)) → IsState s → (replies : List ℕ) × (t : SessionState) × Run s lines replies t
 has_run s [] is = ([], s, (refl, refl))
 has_run s (l ∷ ls) is =
     let one = has_answer s is l in
     let rest = has_run one.1 ls (answers_keep s l one.0 one.1 is one.2) in
     (one.0 ++ rest.0, rest.1, (one.0, rest.0, one.1, one.2, refl, rest.2))
+
+-- what is held after the lines is again a state that a session can hold
+pub run_keeps : (s : SessionState) (lines : List (List ℕ)) (replies : List ℕ) (t : SessionState) → IsState s → Run s lines replies t → IsState t
+run_keeps s [] replies t is run = subst IsState (sym run.1) is
+run_keeps s (l ∷ ls) replies t is run = run_keeps run.2 ls run.1 t (answers_keep s l run.0 run.2 is run.3) run.5
 
 -- ---- a text has one output
 
