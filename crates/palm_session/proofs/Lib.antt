@@ -13,3 +13,7 @@ pub mod ReadOnce
 pub mod Deciding
 pub mod FeedLemmas
 pub mod States
+pub mod LawsOfLines
+pub mod LawsOfStates
+pub mod LawsOfAnswers
+pub mod LawsOfTexts

@@ -7,6 +7,8 @@ pub mod desk;
 pub mod domains;
 pub mod filtering;
 pub mod going;
+mod laws;
+mod limits;
 pub mod lines;
 pub mod refuse;
 pub mod reply;
@@ -16,5 +18,10 @@ pub mod session;
 pub mod stop;
 
 pub use going::Going;
+pub use laws::{
+    a_text_has_an_output, a_text_has_one_output, each_line_has_an_answer, fresh_states_are_states,
+    no_line_has_two_answers, states_stay, the_first_bytes_decide, the_first_bytes_end,
+};
+pub use limits::MOST_KEPT_BYTES;
 pub use session::Session;
 pub use stop::Stop;

@@ -1,0 +1,53 @@
+//! Laws of sessions: in every state that a session can hold, every line has one answer, and a text has one output.
+ghost use Rattle.std.specs.Prelude.{◌≡◌, ◌↔◌, ℕ, List, take};
+ghost use Rattle.palm_session.specs.State.{SessionState, IsState, fresh};
+ghost use Rattle.palm_session.specs.Answers.{Answers};
+ghost use Rattle.palm_session.specs.Lines.{without_return};
+ghost use Rattle.palm_session.specs.Replies.{Ends, Replies};
+
+use crate::limits::MOST_KEPT_BYTES;
+
+/// A fresh session holds a state that a session can hold.
+pub fn fresh_states_are_states()
+    ensures { (guides orders : List ℕ) → IsState (fresh guides orders) }
+{}
+
+/// Every line has an answer.
+pub fn each_line_has_an_answer()
+    ensures { (s : SessionState) → IsState s → (bytes : List ℕ)
+        → (reply : List ℕ) × (t : SessionState) × Answers s bytes reply t }
+{}
+
+/// What is held after a line is again a state that a session can hold.
+pub fn states_stay()
+    ensures { (s : SessionState) (bytes reply : List ℕ) (t : SessionState)
+        → IsState s → Answers s bytes reply t → IsState t }
+{}
+
+/// No line has two replies, or leaves two states.
+pub fn no_line_has_two_answers()
+    ensures { (s : SessionState) (bytes a b : List ℕ) (t u : SessionState)
+        → IsState s → Answers s bytes a t → Answers s bytes b u → (a ≡ b) × (t ≡ u) }
+{}
+
+/// A text has an output.
+pub fn a_text_has_an_output()
+    ensures { (guides orders text : List ℕ) → (output : List ℕ) × Replies guides orders text output }
+{}
+
+/// A text has no two outputs.
+pub fn a_text_has_one_output()
+    ensures { (guides orders text a b : List ℕ)
+        → Replies guides orders text a → Replies guides orders text b → a ≡ b }
+{}
+
+/// The answer to a line depends on its first bytes alone, a carriage return at their end counted.
+pub fn the_first_bytes_decide()
+    ensures { (s : SessionState) (line reply : List ℕ) (t : SessionState)
+        → (Answers s (without_return line) reply t ↔ Answers s (without_return (take MOST_KEPT_BYTES line)) reply t) }
+{}
+
+/// And so does whether it ends the session.
+pub fn the_first_bytes_end()
+    ensures { (line : List ℕ) → (Ends (without_return line) ↔ Ends (without_return (take MOST_KEPT_BYTES line))) }
+{}
