@@ -1,9 +1,6 @@
 pub mod Delivering
-pub mod Any
 pub mod Closing
-pub mod Tests
-pub mod Unknown
-pub mod Resolving
+pub mod Serving
 pub mod WellFormed
 pub mod Intervals
 pub mod Presents

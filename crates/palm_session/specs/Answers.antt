@@ -4,17 +4,20 @@ use Rattle.std.specs.List.{list_any}
 use Rattle.palm_model.specs.Constraint.{scope}
 use Rattle.palm_model.specs.Domains.{Domains, values_of}
 use Rattle.palm_model.specs.declared.constraint.Con.{Con}
-use Rattle.palm_lang.specs.Book.{Entry, Contents, name_of}
-use Rattle.palm_lang.specs.Limits.{names_of, IsBeyond}
-use Rattle.palm_lang.specs.Reading.{IsRead, IsRefusedBy, count_in}
-use Rattle.palm_lang.specs.Reply.{fixed_text, refusal_text, domain_line, var_line, entry_line, named}
-use Rattle.palm_lang.specs.declared.line.DomainText.{DomainText}
-use Rattle.palm_lang.specs.declared.line.DomainText.TheVariants.{Range, Set}
-use Rattle.palm_lang.specs.declared.line.Line.{Line}
-use Rattle.palm_lang.specs.declared.line.Line.TheVariants.{Comment, Var, Add, Domains as DomainsLine, Domain, List as ListLine, Quit}
-use Rattle.palm_lang.specs.declared.line.Shape.{Shape}
-use Rattle.palm_lang.specs.declared.parse.LineError.{LineError}
-use Rattle.palm_lang.specs.declared.parse.LineError.TheVariants.{Bytes, Form, Range as OutOfRange, Empty, Repeated, NoMemory}
+use Rattle.palm_book.specs.Book.{Entry, Contents, name_of}
+use Rattle.palm_read.specs.Limits.{names_of, IsBeyond}
+use Rattle.palm_read.specs.Domain.{values_in}
+use Rattle.palm_read.specs.Reading.{IsRead, IsRefusedBy}
+use Rattle.palm_book.specs.Named.{Resolves}
+use Rattle.palm_book.specs.declared.limits.TheConstants.{MOST_VARIABLES, MOST_CONSTRAINTS, MOST_ADDED}
+use Rattle.palm_lang.specs.Reply.{fixed_text, refusal_text, domain_line, var_line, entry_line}
+use Rattle.palm_read.specs.declared.line.DomainText.{DomainText}
+use Rattle.palm_read.specs.declared.line.DomainText.TheVariants.{Range, Set}
+use Rattle.palm_read.specs.declared.line.Line.{Line}
+use Rattle.palm_read.specs.declared.line.Line.TheVariants.{Comment, Var, Add, Domains as DomainsLine, Domain, List as ListLine, Quit}
+use Rattle.palm_read.specs.declared.line.Shape.{Shape}
+use Rattle.palm_read.specs.declared.parse.LineError.{LineError}
+use Rattle.palm_read.specs.declared.parse.LineError.TheVariants.{Bytes, Form, Range as OutOfRange, Empty, Repeated, NoMemory}
 use Rattle.palm_lang.specs.declared.reply.Fixed.TheVariants.{Done, Contradiction, Bye, End}
 use Rattle.palm_lang.specs.declared.reply.Refusal.{Refusal}
 use Rattle.palm_lang.specs.declared.reply.Refusal.TheVariants.{E1, E2, E3, E4, E5, E6, E7, E8, E9, E10, E11, E12}
@@ -49,8 +52,8 @@ NamesNone s _ = ⊥
 
 -- the session is full
 abbrev pub HasNoRoom : SessionState → Line → Type 0
-HasNoRoom s (Var name domain) = 64 ≤ length s.book.variables
-HasNoRoom s (Add name shape) = (256 ≤ length s.book.constraints) ⊎ (65535 ≤ s.accepted)
+HasNoRoom s (Var name domain) = MOST_VARIABLES ≤ length s.book.variables
+HasNoRoom s (Add name shape) = (MOST_CONSTRAINTS ≤ length s.book.constraints) ⊎ (MOST_ADDED ≤ s.accepted)
 HasNoRoom s _ = ⊥
 
 -- the condition of a refusal, on a line that was read
@@ -83,21 +86,6 @@ refusal_of OutOfRange = Some E6
 refusal_of Empty = Some E9
 refusal_of Repeated = Some E8
 refusal_of NoMemory = None
-
--- so many numbers from one on
-abbrev pub from_on : ℤ → ℕ → List ℤ
-from_on v zero = []
-from_on v (suc n) = v ∷ from_on (v +ℤ pos 1) n
-
--- the values of a domain as it is written, ascending
-abbrev pub values_in : DomainText → List ℤ
-values_in (Range low high) = from_on low (count_in (high -ℤ low) + 1)
-values_in (Set values) = values
-
--- the constraint says what the shape says, of the variables with these names
-pub record Resolves (variables : List Entry) (shape : Shape) (con : Con) : Type 0 where
-  pub declared : All (λ x. x < length variables) (scope con)
-  pub says : named variables con ≡ shape
 
 -- a constraint behind the others, active, under the next number
 abbrev pub with_constraint : SessionState → List ℕ → Con → SessionState

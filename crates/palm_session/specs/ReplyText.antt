@@ -1,10 +1,10 @@
 -- The text of a reply.
 use Rattle.std.specs.Prelude.{◌≡◌, ◌<◌, ℕ, List, [], length, Some}
 use Rattle.palm_model.specs.Domains.{values_of}
-use Rattle.palm_lang.specs.Book.{Contents, name_of}
+use Rattle.palm_book.specs.Book.{Contents, name_of}
 use Rattle.palm_lang.specs.Reply.{fixed_text, refusal_text, domain_line}
 use Rattle.palm_session.specs.Answers.{domains_text, list_text, refusal_of}
-use Rattle.palm_lang.specs.declared.parse.LineError.{LineError}
+use Rattle.palm_read.specs.declared.parse.LineError.{LineError}
 use Rattle.palm_lang.specs.declared.reply.Refusal.{Refusal}
 use Rattle.palm_session.specs.declared.going.Going.{Going}
 use Rattle.palm_session.specs.declared.going.Going.TheVariants.{More}

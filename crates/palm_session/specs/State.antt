@@ -2,7 +2,7 @@
 use Rattle.std.specs.Prelude.{◌≡◌, ℕ, List, [], Any, Contains}
 use Rattle.palm_model.specs.Domains.{Domains}
 use Rattle.palm_model.specs.Closure.{IsGreatest}
-use Rattle.palm_lang.specs.Book.{Contents, initial_of, active_of}
+use Rattle.palm_book.specs.Book.{Contents, initial_of, active_of}
 
 -- the book, and how many `add` lines were accepted
 pub record SessionState : Type 0 where

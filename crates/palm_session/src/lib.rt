@@ -10,7 +10,6 @@ pub mod going;
 pub mod lines;
 pub mod refuse;
 pub mod reply;
-pub mod resolve;
 pub mod serve;
 pub mod session;
 pub mod stop;

@@ -1,22 +1,27 @@
 //! What each line does.
-ghost use Rattle.std.specs.Prelude.{◌≡◌, ◌≤ℤ◌, ◌-ℤ◌, ◌<◌, ◌≤◌, ◌+◌, Any, pos, length, IfOk, OnOk};
-ghost use Rattle.palm_lang.specs.Limits.{HasManyRows, IsLarge, Repeats, names_of};
-ghost use Rattle.palm_lang.specs.Reading.{count_in};
-ghost use Rattle.palm_lang.specs.Sound.{IsSound, IsSoundDomain, IsSoundShape};
-ghost use Rattle.palm_lang.specs.Book.{AreValues, IsNameText};
-ghost use Rattle.palm_lang.specs.Reply.{fixed_text};
+ghost use Rattle.std.specs.Prelude.{◌≡◌, ◌≤ℤ◌, ◌-ℤ◌, ◌<◌, ◌≤◌, ◌+◌, ◌⊎◌, pos, length, IfOk, OnOk};
+ghost use Rattle.palm_read.specs.Domain.{IsLarge, count_in, IsSoundDomain, values_in, from_on};
+ghost use Rattle.palm_base.specs.Tells.{Tells};
+ghost use Rattle.palm_read.specs.Limits.{IsBeyond};
+ghost use Rattle.palm_read.specs.Sound.{IsSound};
+ghost use Rattle.palm_book.specs.Book.{AreValues, name_of};
+ghost use Rattle.palm_read.specs.Name.{IsNameText};
+ghost use Rattle.palm_lang.specs.Reply.{fixed_text, domain_line};
 ghost use Rattle.palm_model.specs.Limits.{IsValue};
 ghost use Rattle.palm_model.specs.Constraint.{IsWellFormed};
-ghost use Rattle.palm_model.specs.Domains.{Domains};
-ghost use Rattle.palm_session.specs.Answers.{IsNone, IsUnknown, Meets, Serves, Gives, AcceptedLine, in_order, unless_empty, values_in, from_on, with_constraint, domains_text};
+ghost use Rattle.palm_model.specs.Domains.{Domains, values_of};
+ghost use Rattle.palm_session.specs.Answers.{AcceptedLine, IsBuilt, HasNoRoom, Serves, TakesName, unless_empty, with_constraint, domains_text};
 ghost use Rattle.palm_session.specs.ReplyText.{reply_text, ReplyFits};
 ghost use Rattle.palm_session.specs.State.{AreDomains, HasVariable, HasConstraint};
 
 use crate::desk::Desk;
 use crate::domains::has_empty;
 use crate::reply::Reply;
-use palm_base::{NoMemory, Value, ValueList};
-use palm_lang::{BookCon, DomainText, Fixed, Line, Name, Shape};
+use palm_base::{NoMemory, Value, ValueList, Var};
+use palm_lang::{
+    BookCon, DomainText, Fixed, Line, MOST_ADDED, MOST_CONSTRAINTS, MOST_VALUES, MOST_VARIABLES, Name,
+    Refusal, Shape, Unresolved,
+};
 use palm_model::Con;
 use std::alloc::Global;
 
@@ -27,28 +32,75 @@ impl Desk {
         ensures serves { IfOk result (λ reply. Serves self.old line (reply_text self.new.book reply) self.new) }
         ensures fits { IfOk result (ReplyFits self.new.book) }
     {
-        match self.first_refusal(&line) {
+        let is_over = self.goes_beyond(&line);
+        match self.early_refusal(&line) {
             Some(refusal) => Ok(Reply::Refused(refusal)),
-            None => self.accept(line),
+            None => self.serve_named(line, is_over),
         }
     }
 
-    /// Takes a line that is not refused.
-    fn accept(&mut self, line: Line) -> Result<Reply, NoMemory>
+    /// Serves a line whose names are looked up now; it is told whether the line goes beyond a limit.
+    fn serve_named(&mut self, line: Line, is_over: bool) -> Result<Reply, NoMemory>
         requires sound { IsSound line }
-        requires accepted { IsNone (Meets self.old line) in_order }
-        ensures takes { IfOk result (λ reply. AcceptedLine self.old line (reply_text self.new.book reply) self.new) }
+        requires built { IsBuilt line }
+        requires free { TakesName self.old line → ⊥ }
+        requires over { Tells is_over (IsBeyond line ⊎ HasNoRoom self.old line) }
+        ensures serves { IfOk result (λ reply. Serves self.old line (reply_text self.new.book reply) self.new) }
         ensures fits { IfOk result (ReplyFits self.new.book) }
     {
         match line {
             Line::Comment => Ok(Reply::Nothing),
-            Line::Var { name, domain } => self.declare(name, domain),
-            Line::Add { name, shape } => self.add(name, shape),
+            Line::Var { name, domain } => self.serve_var(name, domain, is_over),
+            Line::Add { name, shape } => self.serve_add(name, shape, is_over),
             Line::Domains => self.all_domains(),
-            Line::Domain(name) => self.one_domain(&name),
+            Line::Domain(name) => self.serve_domain(&name),
             Line::List => Ok(Reply::Listing),
             Line::Quit => Ok(Reply::Word(Fixed::Bye)),
             _ => unreachable!(),
+        }
+    }
+
+    /// Serves `var`.
+    fn serve_var(&mut self, name: Name, domain: DomainText, is_over: bool) -> Result<Reply, NoMemory>
+        requires sound { IsSound (Line.Var name domain) }
+        requires free { HasVariable self.old name → ⊥ }
+        requires over { Tells is_over (IsLarge domain ⊎ (MOST_VARIABLES ≤ length self.old.book.variables)) }
+        ensures serves { IfOk result (λ reply. Serves self.old (Line.Var name domain) (reply_text self.new.book reply) self.new) }
+        ensures fits { IfOk result (ReplyFits self.new.book) }
+    {
+        if is_over {
+            return Ok(Reply::Refused(Refusal::E7));
+        }
+        self.declare(name, domain)
+    }
+
+    /// Serves `add`: looks the names of its constraint up, once.
+    fn serve_add(&mut self, name: Name, shape: Shape, is_over: bool) -> Result<Reply, NoMemory>
+        requires sound { IsSound (Line.Add name shape) }
+        requires free { HasConstraint self.old name → ⊥ }
+        requires over { Tells is_over (IsBeyond (Line.Add name shape) ⊎ HasNoRoom self.old (Line.Add name shape)) }
+        ensures serves { IfOk result (λ reply. Serves self.old (Line.Add name shape) (reply_text self.new.book reply) self.new) }
+        ensures fits { IfOk result (ReplyFits self.new.book) }
+    {
+        let con = match self.book.resolve(self.alloc, shape) {
+            Ok(con) => con,
+            Err(Unresolved::UnknownName) => return Ok(Reply::Refused(Refusal::E4)),
+            Err(Unresolved::NoMemory) => return Err(NoMemory),
+        };
+        if is_over {
+            return Ok(Reply::Refused(Refusal::E7));
+        }
+        self.add(name, con)
+    }
+
+    /// Serves `domain NAME`: looks the name up, once.
+    fn serve_domain(&mut self, name: &Name) -> Result<Reply, NoMemory>
+        ensures serves { IfOk result (λ reply. Serves self.old (Line.Domain name.now) (reply_text self.new.book reply) self.new) }
+        ensures fits { IfOk result (ReplyFits self.new.book) }
+    {
+        match self.book.variable_named(name) {
+            Some(var) => self.one_domain(var),
+            None => Ok(Reply::Refused(Refusal::E4)),
         }
     }
 
@@ -80,14 +132,14 @@ impl Desk {
         })
     }
 
-    /// The values of the variable with the name.
-    fn one_domain(&self, name: &Name) -> Result<Reply, NoMemory>
-        requires { IsUnknown self.now name.now → ⊥ }
-        ensures gives { IfOk result (λ reply. Gives self.now (Line.Domain name.now) (reply_text self.now.book reply)) }
+    /// The values of a variable.
+    fn one_domain(&self, var: Var) -> Result<Reply, NoMemory>
+        requires { var < length self.now.book.variables }
+        ensures gives { IfOk result (λ reply. (d : Domains) × AreDomains self.now d
+            × (reply_text self.now.book reply ≡ unless_empty d (domain_line (name_of self.now.book.variables var) (values_of d var)))) }
         ensures fits { IfOk result (ReplyFits self.now.book) }
     {
         let domains = self.greatest()?;
-        let var = self.var_of(name);
         Ok(if has_empty(&domains) {
             Reply::Word(Fixed::Contradiction)
         } else {
@@ -101,7 +153,7 @@ impl Desk {
         requires sound { IsSoundDomain domain }
         requires fresh { HasVariable self.old name → ⊥ }
         requires small { IsLarge domain → ⊥ }
-        requires room { 64 ≤ length self.old.book.variables → ⊥ }
+        requires room { MOST_VARIABLES ≤ length self.old.book.variables → ⊥ }
         ensures takes { IfOk result (λ reply. AcceptedLine self.old (Line.Var name domain) (reply_text self.new.book reply) self.new) }
         ensures fits { IfOk result (ReplyFits self.new.book) }
     {
@@ -111,20 +163,16 @@ impl Desk {
     }
 
     /// Adds a constraint under the next number.
-    fn add(&mut self, name: Name, shape: Shape) -> Result<Reply, NoMemory>
+    fn add(&mut self, name: Name, con: Con) -> Result<Reply, NoMemory>
         requires text { IsNameText name }
-        requires sound { IsSoundShape shape }
-        requires once { Repeats (names_of shape) → ⊥ }
         requires fresh { HasConstraint self.old name → ⊥ }
-        requires known { Any (IsUnknown self.old) (names_of shape) → ⊥ }
-        requires narrow { 16 < length (names_of shape) → ⊥ }
-        requires few { HasManyRows shape → ⊥ }
-        requires room { 256 ≤ length self.old.book.constraints → ⊥ }
-        requires numbers { 65535 ≤ self.old.accepted → ⊥ }
-        ensures takes { IfOk result (λ reply. AcceptedLine self.old (Line.Add name shape) (reply_text self.new.book reply) self.new) }
+        requires formed { IsWellFormed (length self.old.book.variables) con }
+        requires room { MOST_CONSTRAINTS ≤ length self.old.book.constraints → ⊥ }
+        requires numbers { MOST_ADDED ≤ self.old.accepted → ⊥ }
+        ensures adds { IfOk result (λ reply. (self.new ≡ with_constraint self.old name con)
+            × ((d : Domains) × AreDomains self.new d × (reply_text self.new.book reply ≡ unless_empty d (fixed_text Fixed.Done)))) }
         ensures fits { IfOk result (ReplyFits self.new.book) }
     {
-        let con = self.resolve(shape)?;
         self.post(name, con)?;
         self.settled()
     }
@@ -134,8 +182,8 @@ impl Desk {
         requires text { IsNameText name }
         requires fresh { HasConstraint self.old name → ⊥ }
         requires formed { IsWellFormed (length self.old.book.variables) con }
-        requires room { 256 ≤ length self.old.book.constraints → ⊥ }
-        requires numbers { 65535 ≤ self.old.accepted → ⊥ }
+        requires room { MOST_CONSTRAINTS ≤ length self.old.book.constraints → ⊥ }
+        requires numbers { MOST_ADDED ≤ self.old.accepted → ⊥ }
         ensures { OnOk result (self.new ≡ with_constraint self.old name con) }
     {
         let number = self.accepted + 1;
@@ -168,7 +216,7 @@ fn interval(alloc: Global, low: Value, high: Value) -> Result<ValueList, NoMemor
     requires low { IsValue low }
     requires high { IsValue high }
     requires ordered { low ≤ℤ high }
-    requires small { (pos 256 ≤ℤ (high -ℤ low)) → ⊥ }
+    requires small { (pos MOST_VALUES ≤ℤ (high -ℤ low)) → ⊥ }
     ensures values { IfOk result (λ values. values ≡ from_on low (count_in (high -ℤ low) + 1)) }
     ensures fit { IfOk result AreValues }
 {

@@ -1,7 +1,7 @@
 use Rattle.std.proofs.Common.{◌≡◌, map, filter, All, length, arith, sym, subst, ◌∙◌, ap, List}
 use Rattle.std.proofs.lemmas.List.{take_all}
-use Rattle.palm_lang.specs.Book.{active_of}
-use Rattle.palm_lang.specs.declared.book.BookCon.{BookCon}
+use Rattle.palm_book.specs.Book.{active_of}
+use Rattle.palm_book.specs.declared.book.BookCon.{BookCon}
 use Rattle.palm_model.specs.Constraint.{IsWellFormed}
 use Rattle.palm_model.specs.declared.constraint.Con.{Con}
 use Rattle.palm_session.proofs.Actives.{active_formed, active_more, active_same}
