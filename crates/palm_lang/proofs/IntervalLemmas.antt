@@ -1,12 +1,14 @@
 -- Ascending values are an interval where the last is as far from the first as there are values between them.
-use Rattle.std.proofs.Common.{◌≡◌, ℕ, suc, ℤ, pos, negsuc, ◌+◌, ◌-◌, ◌<◌, ◌≤◌, ◌+ℤ◌, ◌-ℤ◌, ◌<ℤ◌, true, ◌&&◌, eqb, List, [], ◌∷◌, length, get_or, ⊎_elim, refl, sym, ap, ◌∙◌, true≢false, arith}
+use Rattle.std.proofs.Common.{◌≡◌, ℕ, zero, suc, ℤ, pos, negsuc, ◌+◌, ◌-◌, ◌<◌, ◌≤◌, ◌+ℤ◌, ◌-ℤ◌, ◌<ℤ◌, ◌≤ℤ◌, Bool, true, false, cond, ◌&&◌, eqb, List, [], ◌∷◌, length, get_or, All, Contains, ⊎_elim, inl, inr, refl, sym, ap, ◌∙◌, true≢false, arith}
 use Rattle.std.specs.Ordering.{int_eq}
 use Rattle.std.specs.Int.RustNames.{unsigned_abs}
 use Rattle.std.proofs.lemmas.Bool.{cases_eq, eq-eqb, ne_eqb, false_from_ne_true}
 use Rattle.std.proofs.lemmas.Bool.Decides.{Decides-int_eq}
 use Rattle.std.proofs.lemmas.Int.{ints}
-use Rattle.palm_lang.specs.Reply.{is_interval, last_of, values_text}
-use Rattle.palm_lang.specs.Text.{range_text}
+use Rattle.std.proofs.lemmas.List.Elements.{All-contains}
+use Rattle.palm_read.proofs.Sets.{contains_cases, contains_there}
+use Rattle.palm_lang.specs.Reply.{is_interval, last_of, values_text, HasAllBetween}
+use Rattle.palm_read.specs.Domain.{range_text, set_text}
 use Rattle.palm_model.specs.Domains.{Ascends}
 
 -- how far the greater of two numbers is from the other
@@ -67,3 +69,58 @@ interval_text [] first last tested is_first is_last = absurd (true≢false (sym 
 interval_text (v ∷ vs) first last tested is_first is_last =
     let ends : last ≡ last_of v vs = is_last ∙ last_at v vs last (length (v ∷ vs) - 1) (omega arith) in
     rw tested (ap (λ z. range_text z last) is_first ∙ ap (λ z. range_text v z) ends)
+
+-- ---- the test tells the values that are all whole numbers from the first to the last
+
+head_least : (w z : ℤ) (ws : List ℤ) → Ascends (w ∷ ws) → Contains (w ∷ ws) z → w ≤ℤ z
+head_least w z ws up c =
+    elim (contains_cases w z ws c) [
+      | inl e ↦ omega (arith, ints, e)
+      | inr d ↦ let above = All-contains (λ (y : ℤ). w <ℤ y) ws z up.0 d in omega (arith, ints, above)
+    ]
+
+next_is : (v w : ℤ) (ws : List ℤ) → Ascends (w ∷ ws) → v <ℤ w → Contains (v ∷ w ∷ ws) (v +ℤ pos 1) → w ≡ v +ℤ pos 1
+next_is v w ws up step c =
+    elim (contains_cases v (v +ℤ pos 1) (w ∷ ws) c) [
+      | inl e ↦ absurd (omega (arith, ints, e))
+      | inr d ↦ let least = head_least w (v +ℤ pos 1) ws up d in omega (arith, ints, least, step)
+    ]
+
+rest_between : (v w : ℤ) (ws : List ℤ) → v <ℤ w → HasAllBetween v (w ∷ ws) → HasAllBetween w ws
+rest_between v w ws step all z low high =
+    elim (contains_cases v z (w ∷ ws) (all z (omega (arith, ints, step, low)) high)) [
+      | inl e ↦ absurd (omega (arith, ints, e, step, low))
+      | inr c ↦ c
+    ]
+
+pub all_tested : (v : ℤ) (vs : List ℤ) → Ascends (v ∷ vs) → HasAllBetween v vs → is_interval (v ∷ vs) ≡ true
+all_tested v [] up all = refl
+all_tested v (w ∷ ws) up all =
+    let step : v <ℤ w = up.0 0 w (omega arith) in
+    let s = spans w ws up.1 in
+    let reach : (v +ℤ pos 1) ≤ℤ last_of w ws = let l = s.last in omega (arith, ints, step, l) in
+    let next = next_is v w ws up.1 step (all (v +ℤ pos 1) (omega (arith, ints)) reach) in
+    ap (λ b. b && is_interval (w ∷ ws)) ((Decides-int_eq w (v +ℤ pos 1)).1 next) ∙ all_tested w ws up.1 (rest_between v w ws step all)
+
+both : (p q : Bool) → p && q ≡ true → (p ≡ true) × (q ≡ true)
+both true q e = (refl, e)
+both false q e = cc
+
+-- a number from the first on is the first, or from the next one on
+beside : (v w : ℤ) (ws : List ℤ) (z : ℤ) → w ≡ v +ℤ pos 1 → v ≤ℤ z → (w ≤ℤ z → Contains (w ∷ ws) z) → (far : ℤ) → z -ℤ v ≡ far → Contains (v ∷ w ∷ ws) z
+beside v w ws z next low rest (pos zero) e = let is : v ≡ z = omega (arith, ints, e) in (0, omega arith, is)
+beside v w ws z next low rest (pos (suc k)) e = contains_there v z (w ∷ ws) (rest (omega (arith, ints, e, next)))
+beside v w ws z next low rest (negsuc k) e = absurd (omega (arith, ints, e, low))
+
+pub tested_all : (v : ℤ) (vs : List ℤ) → is_interval (v ∷ vs) ≡ true → HasAllBetween v vs
+tested_all v [] t z low high = let is : v ≡ z = omega (arith, ints, low, high) in (0, omega arith, is)
+tested_all v (w ∷ ws) t z low high =
+    let tests = both (int_eq w (v +ℤ pos 1)) (is_interval (w ∷ ws)) t in
+    beside v w ws z ((Decides-int_eq w (v +ℤ pos 1)).0 tests.0) low (λ above. tested_all w ws tests.1 z above high) (z -ℤ v) refl
+
+pub printed_interval : (v : ℤ) (vs : List ℤ) → Ascends (v ∷ vs) → HasAllBetween v vs → values_text (v ∷ vs) ≡ range_text v (last_of v vs)
+printed_interval v vs up all = ap (λ b. cond b (range_text v (last_of v vs)) (set_text (v ∷ vs))) (all_tested v vs up all)
+
+pub printed_set : (v : ℤ) (vs : List ℤ) → Ascends (v ∷ vs) → (HasAllBetween v vs → ⊥) → values_text (v ∷ vs) ≡ set_text (v ∷ vs)
+printed_set v vs up gap =
+    ap (λ b. cond b (range_text v (last_of v vs)) (set_text (v ∷ vs))) (false_from_ne_true (is_interval (v ∷ vs)) (λ q. gap (tested_all v vs q)))

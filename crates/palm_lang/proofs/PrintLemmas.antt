@@ -5,10 +5,12 @@ use Rattle.std.proofs.lemmas.Slice.Zip.{get_or-zip, length-zip}
 use Rattle.std.specs.Fmt.{signed_decimal}
 use Rattle.std.proofs.lemmas.List.Concat.{flat_map-append}
 use Rattle.palm_lang.specs.Print.{Keeps, Puts}
-use Rattle.palm_lang.specs.Text.{after_spaces, sum_words, first_term_text, later_term_words}
-use Rattle.palm_lang.specs.Book.{Entry, name_of}
-use Rattle.palm_lang.specs.Reply.{named_term, assigned_text}
-use Rattle.palm_lang.specs.declared.line.NameTerm.{NameTerm}
+use Rattle.palm_read.specs.Linear.{linear_terms_words, linear_first_text, linear_later_words}
+use Rattle.palm_read.specs.Words.{after_spaces}
+use Rattle.palm_book.specs.Book.{Entry, name_of}
+use Rattle.palm_book.specs.Named.{named_term}
+use Rattle.palm_lang.specs.Reply.{assigned_text}
+use Rattle.palm_read.specs.declared.line.NameTerm.{NameTerm}
 use Rattle.palm_model.specs.declared.constraint.Term.{Term}
 
 pub Keeps-self : (a b : List ℕ) → b ≡ a → Keeps a b
@@ -28,19 +30,19 @@ flat_map-map f g [] = refl
 flat_map-map f g (x ∷ xs) = ap (λ (rest : List ℕ). f (g x) ++ rest) (flat_map-map f g xs)
 
 -- the words of a sum's terms, the first of them and the rest
-pub sum_text : (terms : List NameTerm) (first : NameTerm) → 0 < length terms → first ≡ get_or terms 0 first → after_spaces (sum_words terms) ≡ codes " " ++ first_term_text first.factor first.name ++ flat_map (λ t. after_spaces (later_term_words t.factor t.name)) (take (length terms - 1) (drop 1 terms))
-sum_text [] first some is = absurd (omega arith)
-sum_text (t ∷ ts) first some is =
+pub linear_text : (terms : List NameTerm) (first : NameTerm) → 0 < length terms → first ≡ get_or terms 0 first → after_spaces (linear_terms_words terms) ≡ codes " " ++ linear_first_text first.factor first.name ++ flat_map (λ t. after_spaces (linear_later_words t.factor t.name)) (take (length terms - 1) (drop 1 terms))
+linear_text [] first some is = absurd (omega arith)
+linear_text (t ∷ ts) first some is =
     let rest : take (length (t ∷ ts) - 1) ts ≡ ts = take_all (length (t ∷ ts) - 1) ts (omega arith) in
     rw (is, after_spaces-flat_map, rest) refl
 
 -- the same for the terms of a constraint with variables in place of names
-pub con_sum_text : (variables : List Entry) (terms : List Term) (first : Term) → 0 < length terms → first ≡ get_or terms 0 first → after_spaces (sum_words (map (named_term variables) terms)) ≡ codes " " ++ first_term_text first.factor (name_of variables first.var) ++ flat_map (λ t. after_spaces (later_term_words t.factor (name_of variables t.var))) (take (length terms - 1) (drop 1 terms))
-con_sum_text variables [] first some is = absurd (omega arith)
-con_sum_text variables (t ∷ ts) first some is =
+pub linear_con_text : (variables : List Entry) (terms : List Term) (first : Term) → 0 < length terms → first ≡ get_or terms 0 first → after_spaces (linear_terms_words (map (named_term variables) terms)) ≡ codes " " ++ linear_first_text first.factor (name_of variables first.var) ++ flat_map (λ t. after_spaces (linear_later_words t.factor (name_of variables t.var))) (take (length terms - 1) (drop 1 terms))
+linear_con_text variables [] first some is = absurd (omega arith)
+linear_con_text variables (t ∷ ts) first some is =
     let rest : take (length (t ∷ ts) - 1) ts ≡ ts = take_all (length (t ∷ ts) - 1) ts (omega arith) in
-    let later : NameTerm → List ℕ = λ u. after_spaces (later_term_words u.factor u.name) in
-    let named : flat_map later (map (named_term variables) ts) ≡ flat_map (λ u. after_spaces (later_term_words u.factor (name_of variables u.var))) ts = flat_map-map later (named_term variables) ts in
+    let later : NameTerm → List ℕ = λ u. after_spaces (linear_later_words u.factor u.name) in
+    let named : flat_map later (map (named_term variables) ts) ≡ flat_map (λ u. after_spaces (linear_later_words u.factor (name_of variables u.var))) ts = flat_map-map later (named_term variables) ts in
     rw (is, rest, after_spaces-flat_map, named) refl
 
 -- where memory ran out

@@ -1,14 +1,2 @@
-pub mod Book
-pub mod Bytes
-pub mod Checks
-pub mod Form
-pub mod Grammar
-pub mod Held
-pub mod Limits
 pub mod Print
-pub mod Reader
-pub mod Reading
 pub mod Reply
-pub mod Sound
-pub mod Text
-pub mod Token

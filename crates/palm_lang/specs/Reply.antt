@@ -1,22 +1,16 @@
 -- The texts of replies: each is a line with its line feed.
-use Rattle.std.specs.Prelude.{ℕ, ℤ, pos, ◌+ℤ◌, Bool, true, false, ◌&&◌, Option, Some, None, List, [], ◌∷◌, ◌++◌, map, flat_map, zip, slice_get, option_to_list, codes, decimal, if◌then◌else◌}
+use Rattle.std.specs.Prelude.{ℕ, ℤ, pos, ◌+ℤ◌, ◌≤ℤ◌, Contains, Bool, true, false, ◌&&◌, Option, Some, None, List, [], ◌∷◌, ◌++◌, map, flat_map, zip, slice_get, option_to_list, codes, decimal, if◌then◌else◌}
 use Rattle.std.specs.List.{join_by}
 use Rattle.std.specs.Ordering.{int_eq}
 use Rattle.std.specs.Fmt.{signed_decimal}
 use Rattle.palm_base.specs.declared.terms.Pair.{Pair}
 use Rattle.palm_model.specs.declared.constraint.Con.{Con}
-use Rattle.palm_model.specs.declared.constraint.Con.TheVariants.{CompareVar as VarCompare, CompareConst as ConstCompare, Linear as SumCon, Table as TableCon, Element as ElementCon, Count as CountCon, Differ as DifferCon}
-use Rattle.palm_model.specs.declared.constraint.Target.{Target}
-use Rattle.palm_model.specs.declared.constraint.Target.TheVariants.{Const, Variable}
-use Rattle.palm_model.specs.declared.constraint.Term.{Term}
-use Rattle.palm_lang.specs.Book.{Entry, Contents, name_of}
-use Rattle.palm_lang.specs.Text.{spaced, shape_words, range_text, set_text}
-use Rattle.palm_lang.specs.declared.book.BookCon.{BookCon}
-use Rattle.palm_lang.specs.declared.line.Shape.{Shape}
-use Rattle.palm_lang.specs.declared.line.Shape.TheVariants.{CompareVar, CompareConst, Linear, Table, Element, Count, Differ}
-use Rattle.palm_lang.specs.declared.line.NameTerm.{NameTerm}
-use Rattle.palm_lang.specs.declared.line.NameTarget.{NameTarget}
-use Rattle.palm_lang.specs.declared.line.NameTarget.TheVariants.{Const as ConstTarget, Variable as VariableTarget}
+use Rattle.palm_book.specs.Named.{named}
+use Rattle.palm_book.specs.Book.{Entry, Contents, name_of}
+use Rattle.palm_read.specs.Domain.{range_text, set_text}
+use Rattle.palm_read.specs.Text.{shape_words}
+use Rattle.palm_read.specs.Words.{spaced}
+use Rattle.palm_book.specs.declared.book.BookCon.{BookCon}
 use Rattle.palm_lang.specs.declared.reply.Fixed.{Fixed}
 use Rattle.palm_lang.specs.declared.reply.Fixed.TheVariants.{Done, Contradiction, Paused, Present, Consistent, Bye, End}
 use Rattle.palm_lang.specs.declared.reply.Refusal.{Refusal}
@@ -77,6 +71,10 @@ abbrev pub last_of : ℤ → List ℤ → ℤ
 last_of v [] = v
 last_of v (w ∷ ws) = last_of w ws
 
+-- all whole numbers from the first value to the last are among the values
+abbrev pub HasAllBetween : ℤ → List ℤ → Type 0
+HasAllBetween v vs = (w : ℤ) → v ≤ℤ w → w ≤ℤ last_of v vs → Contains (v ∷ vs) w
+
 -- ascending values: LO..HI where they are all from LO to HI, and else {v,v}
 abbrev pub values_text : List ℤ → List ℕ
 values_text [] = set_text []
@@ -85,23 +83,6 @@ values_text (v ∷ vs) = if is_interval (v ∷ vs) then range_text v (last_of v 
 -- a variable as `list` shows it
 abbrev pub var_line : List ℕ → List ℤ → List ℕ
 var_line name values = ended (spaced (codes "var" ∷ name ∷ values_text values ∷ []))
-
-abbrev pub named_target : List Entry → Target → NameTarget
-named_target variables (Const w) = ConstTarget w
-named_target variables (Variable x) = VariableTarget (name_of variables x)
-
-abbrev pub named_term : List Entry → Term → NameTerm
-named_term variables t = record { factor = t.factor; name = name_of variables t.var }
-
--- a constraint with the names of its variables
-abbrev pub named : List Entry → Con → Shape
-named variables (VarCompare left op right offset) = CompareVar (name_of variables left) op (name_of variables right) offset
-named variables (ConstCompare left op value) = CompareConst (name_of variables left) op value
-named variables (SumCon terms op bound) = Linear (map (named_term variables) terms) op bound
-named variables (TableCon vars rows) = Table (map (name_of variables) vars) rows
-named variables (ElementCon outcome index entries) = Element (name_of variables outcome) (name_of variables index) entries
-named variables (CountCon value vars op target) = Count value (map (name_of variables) vars) op (named_target variables target)
-named variables (DifferCon vars) = Differ (map (name_of variables) vars)
 
 -- the text of a constraint
 abbrev pub con_text : List Entry → Con → List ℕ

@@ -1,21 +1,18 @@
-//! The session language: tokens, the grammar of lines and their refusals, the book of a session, and every text that
-//! is printed.
+//! The session language: every text that is printed. What reads it, and the book of a session, stand below and are
+//! passed on.
 #![tactic(auto)]
 
-pub mod book;
 pub mod laws;
-pub mod limits;
-pub mod line;
-pub mod parse;
-pub mod print;
-pub mod reply;
-pub mod scan;
-pub mod tokens;
+mod print;
+mod reply;
 
-pub use book::{Book, BookCon};
-pub use limits::beyond;
-pub use line::{DomainText, Line, Name, NameList, NameTarget, NameTerm, NameTermList, Shape};
-pub use parse::{LineError, parse_line};
+pub use palm_book::{Book, BookCon, MOST_ADDED, MOST_CONSTRAINTS, MOST_VARIABLES, Unresolved};
+pub use palm_read::{
+    DomainText, Line, LineError, MOST_VALUES, Name, NameList, NameTarget, NameTerm, NameTermList,
+    Shape, Token, TokenKind, beyond, parse_line, token,
+};
+pub use print::{
+    print_con, print_domain, print_entry, print_fixed, print_found, print_line, print_names,
+    print_ran, print_refusal, print_removal, print_spent, print_var,
+};
 pub use reply::{Fixed, Lead, Refusal};
-pub use scan::token;
-pub use tokens::{Token, TokenKind};

@@ -2,22 +2,26 @@
 #![tactic(auto, using(crate::proofs::PrintLemmas::keeping))]
 
 ghost use Rattle.std.specs.Prelude.{◌≡◌, ◌<◌, length, map, take, All, OnOk, OnErr};
-ghost use Rattle.palm_lang.specs.Text.{text_of};
-ghost use Rattle.palm_lang.specs.Book.{number_name, user_name, IsUser, HasNumber};
+ghost use Rattle.palm_read.specs.Text.{text_of};
+ghost use Rattle.palm_book.specs.Book.{number_name, user_name, IsUser, HasNumber};
 ghost use Rattle.palm_lang.specs.Reply.{con_text, fixed_text, refusal_text, ran_text, domain_line, var_line, entry_at, removal_line, names_line, found_line, spent_line};
 ghost use Rattle.palm_lang.specs.Print.{Appends};
 ghost use Rattle.palm_model.specs.Constraint.{scope};
 ghost use Rattle.palm_model.specs.Domains.{Ascends};
 
+mod comparison;
 mod cons;
+mod count;
+mod differ;
+mod element;
+mod linear;
 mod lines;
 mod lists;
 mod replies;
 mod shapes;
+mod table;
 mod words;
 
-use crate::book::Book;
-use crate::line::{Line, Name};
 use crate::print::cons::put_con;
 use crate::print::lines::put_line;
 use crate::print::replies::{
@@ -26,7 +30,9 @@ use crate::print::replies::{
 };
 use crate::reply::{Fixed, Lead, Refusal};
 use palm_base::{CidList, NoMemory, Pair, Value, ValueList};
+use palm_book::Book;
 use palm_model::Con;
+use palm_read::{Line, Name};
 
 /// Takes back what was written past the first `length` bytes, unless the outcome is good.
 fn settled(outcome: Result<(), NoMemory>, length: usize, out: &mut Vec<u8>) -> Result<(), NoMemory>
@@ -167,6 +173,3 @@ pub fn print_spent(turns: u64, dropped: Option<u64>, out: &mut Vec<u8>) -> Resul
     let outcome = put_spent(turns, dropped, out);
     settled(outcome, length, out)
 }
-
-#[cfg(test)]
-mod tests;

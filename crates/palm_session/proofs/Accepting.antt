@@ -1,7 +1,7 @@
 -- Accepted lines, and what is told of domains.
 use Rattle.std.proofs.Common.{◌≡◌, ℕ, List, Contains, Bool, true, false, inl, inr, refl, sym, subst}
-use Rattle.palm_lang.specs.Book.{initial_of, active_of}
-use Rattle.palm_lang.specs.declared.line.Line.{Line}
+use Rattle.palm_book.specs.Book.{initial_of, active_of}
+use Rattle.palm_read.specs.declared.line.Line.{Line}
 use Rattle.palm_laws.proofs.Uniqueness.{greatest_unique}
 use Rattle.palm_model.specs.Domains.{Domains}
 use Rattle.palm_session.specs.Answers.{Accepts, Contradicts, Says, WaitsFor, contradicts, says, IsContradictable}
@@ -34,15 +34,6 @@ pub accepts_quietly : (s t : SessionState) (line : Line) (effect : Effect) (text
     → (WaitsFor s line → ⊥) → Does s line effect t → (IsContradictable line → ⊥) → Says t line effect text → Accepts s line text t
 accepts_quietly s t line effect text goes does quiet said = says effect goes does (λ c. quiet c.contradictable) said
 
--- the same of a line that is known
-pub telling_at : (s t : SessionState) (line l : Line) (effect : Effect) (own : List ℕ → Type 0) (text : List ℕ) → line ≡ l
-    → (WaitsFor s line → ⊥) → Does s l effect t → IsContradictable l → ((x : List ℕ) → own x → Says t l effect x) → TellsDomains t own text → Accepts s line text t
-telling_at s t line l effect own text e goes does tells is told =
-    subst (λ (x : Line). Accepts s x text t) (sym e)
-    (accepts_telling s t l effect own text (λ w. goes (subst (λ (x : Line). WaitsFor s x) (sym e) w)) does tells is told)
-
-pub quiet_at : (s t : SessionState) (line l : Line) (effect : Effect) (text : List ℕ) → line ≡ l
-    → (WaitsFor s line → ⊥) → Does s l effect t → (IsContradictable l → ⊥) → Says t l effect text → Accepts s line text t
-quiet_at s t line l effect text e goes does quiet said =
-    subst (λ (x : Line). Accepts s x text t) (sym e)
-    (accepts_quietly s t l effect text (λ w. goes (subst (λ (x : Line). WaitsFor s x) (sym e) w)) does quiet said)
+-- a state that does not wait
+pub awake_goes : (s : SessionState) (line : Line) → s.paused ≡ false → WaitsFor s line → ⊥
+awake_goes s line awake w = let e = w.paused in cc

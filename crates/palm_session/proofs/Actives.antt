@@ -5,8 +5,8 @@ use Rattle.std.proofs.lemmas.Option.{slice_get_within, get_or_from_slice_get}
 use Rattle.palm_model.specs.Constraint.{IsWellFormed}
 use Rattle.palm_model.specs.Domains.{Ascends, AllAscend}
 use Rattle.palm_model.specs.declared.constraint.Con.{Con}
-use Rattle.palm_lang.specs.Book.{Entry, Contents, IsBook, AreValues, initial_of, active_of}
-use Rattle.palm_lang.specs.declared.book.BookCon.{BookCon}
+use Rattle.palm_book.specs.Book.{Entry, Contents, IsBook, AreValues, initial_of, active_of}
+use Rattle.palm_book.specs.declared.book.BookCon.{BookCon}
 
 pub initial_ascend : (book : Contents) → IsBook book → AllAscend (initial_of book)
 initial_ascend book b =

@@ -1,9 +1,9 @@
 -- What is decided of a line.
 use Rattle.std.proofs.Common.{◌≡◌, ℕ, List, subst, sym, refl}
-use Rattle.palm_lang.specs.Reading.{IsRead, IsRefusedBy}
-use Rattle.palm_lang.specs.declared.line.Line.{Line}
-use Rattle.palm_lang.specs.declared.line.Line.TheVariants.{Quit as QuitLine}
-use Rattle.palm_lang.specs.declared.parse.LineError.{LineError}
+use Rattle.palm_read.specs.Reading.{IsRead, IsRefusedBy}
+use Rattle.palm_read.specs.declared.line.Line.{Line}
+use Rattle.palm_read.specs.declared.line.Line.TheVariants.{Quit as QuitLine}
+use Rattle.palm_read.specs.declared.parse.LineError.{LineError}
 use Rattle.palm_session.specs.Answers.{Answers, misread, refused, accepted}
 use Rattle.palm_session.specs.Feeding.{Decides}
 use Rattle.palm_session.specs.ReplyText.{reply_text, IsRefusal, Serves, refuses, accepts}

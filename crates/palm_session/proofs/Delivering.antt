@@ -5,11 +5,11 @@ use Rattle.std.proofs.Common.{ℤ, zip, option_to_list, append-nil, slice_get, S
 use Rattle.std.proofs.lemmas.Option.{get_or_from_slice_get}
 use Rattle.std.proofs.lemmas.Slice.Zip.{get_or-zip, length-zip}
 use Rattle.palm_model.specs.Domains.{Domains, values_of}
-use Rattle.palm_lang.specs.Book.{Entry, Contents, name_of}
+use Rattle.palm_book.specs.Book.{Entry, Contents, name_of}
 use Rattle.palm_lang.specs.Reply.{domain_line, entry_line, entry_at, var_line, fixed_text}
 use Rattle.palm_lang.specs.declared.reply.Fixed.TheVariants.{End}
 use Rattle.palm_session.specs.Answers.{domains_text, list_text}
-use Rattle.palm_lang.specs.declared.book.BookCon.{BookCon}
+use Rattle.palm_book.specs.declared.book.BookCon.{BookCon}
 use Rattle.palm_base.specs.Streams.{SinkState}
 use Rattle.palm_session.specs.Writing.{Delivers, HasStopCause}
 use Rattle.palm_session.specs.declared.stop.Stop.{Stop}

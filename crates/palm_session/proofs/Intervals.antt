@@ -6,8 +6,8 @@ use Rattle.std.proofs.lemmas.Int.{ints}
 use Rattle.std.proofs.lemmas.List.Elements.{All-nil, All-cons, All-weaker}
 use Rattle.palm_model.specs.Limits.{IsValue}
 use Rattle.palm_model.specs.Domains.{Ascends}
-use Rattle.palm_lang.specs.Book.{AreValues}
-use Rattle.palm_session.specs.Effects.{from_on}
+use Rattle.palm_book.specs.Book.{AreValues}
+use Rattle.palm_read.specs.Domain.{from_on}
 
 later : (v : ℤ) (n : ℕ) → (v +ℤ pos 1) +ℤ pos n ≡ v +ℤ pos (suc n)
 later v n = omega (arith, ints)

@@ -5,22 +5,23 @@ use Rattle.std.proofs.lemmas.Bool.{cases_lt}
 use Rattle.std.proofs.lemmas.Option.{same_Some, none-some}
 use Rattle.palm_base.proofs.Members.{Known, known_both, known_not, all_members}
 use Rattle.palm_model.specs.Domains.{Domains, values_of}
-use Rattle.palm_lang.specs.Limits.{names_of}
-use Rattle.palm_lang.specs.Reading.{IsRead, IsRefusedBy}
+use Rattle.palm_read.specs.Limits.{names_of}
+use Rattle.palm_read.specs.Reading.{IsRead, IsRefusedBy}
 use Rattle.palm_lang.specs.Reply.{fixed_text, refusal_text, domain_line}
-use Rattle.palm_lang.specs.Sound.{IsSound}
-use Rattle.palm_lang.specs.declared.line.Line.{Line}
-use Rattle.palm_lang.specs.declared.line.Line.TheVariants.{Comment, Var, Add, Relax, Enforce, Retract, Domains as DomainsLine, Domain, List as ListLine, Log, Why, Conflict, MinimalConflict, Minimal, Resume, SolveDbt, SolveRepair, Cert, CertConflict, Quit}
-use Rattle.palm_lang.specs.declared.parse.LineError.{LineError}
-use Rattle.palm_lang.specs.declared.parse.LineError.TheVariants.{Bytes, Form, Range as OutOfRange, Empty, Repeated, NoMemory}
+use Rattle.palm_read.specs.Sound.{IsSound}
+use Rattle.palm_read.specs.declared.line.Line.{Line}
+use Rattle.palm_read.specs.declared.line.Line.TheVariants.{Comment, Var, Add, Relax, Enforce, Retract, Domains as DomainsLine, Domain, List as ListLine, Log, Why, Conflict, MinimalConflict, Minimal, Resume, SolveDbt, SolveRepair, Cert, CertConflict, Quit}
+use Rattle.palm_read.specs.declared.parse.LineError.{LineError}
+use Rattle.palm_read.specs.declared.parse.LineError.TheVariants.{Bytes, Form, Range as OutOfRange, Empty, Repeated, NoMemory}
 use Rattle.palm_lang.specs.declared.reply.Fixed.TheVariants.{Done, Contradiction, Paused, Bye}
 use Rattle.palm_lang.specs.declared.reply.Refusal.{Refusal}
 use Rattle.palm_lang.specs.declared.reply.Refusal.TheVariants.{E1, E2, E3, E4, E6, E7, E8, E9}
-use Rattle.palm_lang.proofs.Parsing.{one_reading, read_not_refused, one_refusal, each_answered}
-use Rattle.palm_lang.proofs.SoundLines.{read_sound}
+use Rattle.palm_read.proofs.Parsing.{one_reading, read_not_refused, one_refusal, each_answered}
+use Rattle.palm_read.proofs.SoundLines.{read_sound}
 use Rattle.palm_session.specs.State.{SessionState, IsState, HasVariable}
 use Rattle.palm_session.specs.Refusals.{IsBuilt, IsUnknown, TakesName, NamesNone, HasNoRoom, Meets, in_order, IsFirst, IsNone, refusal_of, heard}
-use Rattle.palm_session.specs.Effects.{Effect, Nothing, values_in, with_variable, with_constraint, Does}
+use Rattle.palm_session.specs.Effects.{Effect, Nothing, with_variable, with_constraint, Does}
+use Rattle.palm_read.specs.Domain.{values_in}
 use Rattle.palm_session.specs.Answers.{IsPausable, IsContradictable, domains_text, list_text, Says, WaitsFor, Contradicts, Accepts, waits, contradicts, says, Answers, misread, refused, accepted}
 use Rattle.palm_session.specs.Lines.{without_return}
 use Rattle.palm_session.specs.declared.limits.TheConstants.{MOST_KEPT_BYTES}

@@ -13,20 +13,21 @@ use Rattle.palm_model.specs.declared.constraint.Con.TheVariants.{CompareVar as V
 use Rattle.palm_model.specs.declared.constraint.Target.{Target}
 use Rattle.palm_model.specs.declared.constraint.Target.TheVariants.{Const, Variable}
 use Rattle.palm_model.specs.declared.constraint.Term.{Term}
-use Rattle.palm_lang.specs.Book.{Entry, name_of}
-use Rattle.palm_lang.specs.Limits.{names_of, line_target_names, HasManyRows, IsBeyond}
-use Rattle.palm_lang.specs.Reading.{IsRead, IsRefusedBy}
-use Rattle.palm_lang.specs.Reply.{named, named_term, named_target}
-use Rattle.palm_lang.specs.declared.line.DomainText.TheVariants.{Range, Set}
-use Rattle.palm_lang.specs.declared.line.Line.{Line}
-use Rattle.palm_lang.specs.declared.line.Line.TheVariants.{Var, Add, Quit}
-use Rattle.palm_lang.specs.declared.line.NameTarget.{NameTarget}
-use Rattle.palm_lang.specs.declared.line.NameTarget.TheVariants.{Const as ConstTarget, Variable as VariableTarget}
-use Rattle.palm_lang.specs.declared.line.NameTerm.{NameTerm}
-use Rattle.palm_lang.specs.declared.line.Shape.{Shape}
-use Rattle.palm_lang.specs.declared.line.Shape.TheVariants.{CompareVar, CompareConst, Linear, Table, Element, Count, Differ}
-use Rattle.palm_lang.specs.declared.parse.LineError.TheVariants.{Bytes, NoMemory}
-use Rattle.palm_lang.proofs.Parsing.{one_reading, read_not_refused, each_answered, long_refused}
+use Rattle.palm_book.specs.Book.{Entry, name_of}
+use Rattle.palm_read.specs.Limits.{names_of, HasManyRows, IsBeyond}
+use Rattle.palm_read.specs.Count.{line_target_names}
+use Rattle.palm_read.specs.Reading.{IsRead, IsRefusedBy}
+use Rattle.palm_book.specs.Named.{named, named_term, named_target}
+use Rattle.palm_read.specs.declared.line.DomainText.TheVariants.{Range, Set}
+use Rattle.palm_read.specs.declared.line.Line.{Line}
+use Rattle.palm_read.specs.declared.line.Line.TheVariants.{Var, Add, Quit}
+use Rattle.palm_read.specs.declared.line.NameTarget.{NameTarget}
+use Rattle.palm_read.specs.declared.line.NameTarget.TheVariants.{Const as ConstTarget, Variable as VariableTarget}
+use Rattle.palm_read.specs.declared.line.NameTerm.{NameTerm}
+use Rattle.palm_read.specs.declared.line.Shape.{Shape}
+use Rattle.palm_read.specs.declared.line.Shape.TheVariants.{CompareVar, CompareConst, Linear, Table, Element, Count, Differ}
+use Rattle.palm_read.specs.declared.parse.LineError.TheVariants.{Bytes, NoMemory}
+use Rattle.palm_read.proofs.Parsing.{one_reading, read_not_refused, each_answered, long_refused}
 
 -- ---- what is known
 

@@ -6,22 +6,26 @@ use Rattle.palm_base.proofs.Members.{Known, all_members}
 use Rattle.palm_model.specs.Domains.{Domains}
 use Rattle.palm_model.specs.Limits.{IsValue}
 use Rattle.palm_model.specs.declared.constraint.Con.{Con}
-use Rattle.palm_lang.specs.Book.{Entry, initial_of, active_of, AreValues}
-use Rattle.palm_lang.specs.Limits.{names_of, IsLarge, HasManyRows}
-use Rattle.palm_lang.specs.Reading.{count_in}
-use Rattle.palm_lang.specs.Sound.{IsSound, IsSoundDomain}
-use Rattle.palm_lang.specs.declared.book.BookCon.{BookCon}
-use Rattle.palm_lang.specs.declared.line.DomainText.{DomainText}
-use Rattle.palm_lang.specs.declared.line.DomainText.TheVariants.{Range, Set}
-use Rattle.palm_lang.specs.declared.line.Line.{Line}
-use Rattle.palm_lang.specs.declared.line.Line.TheVariants.{Comment, Var, Add, Domains as DomainsLine, Domain, List as ListLine, Quit}
-use Rattle.palm_lang.specs.declared.line.Shape.{Shape}
-use Rattle.palm_lang.proofs.BookLemmas.{IsBook-with_variable, IsBook-with_constraint}
+use Rattle.palm_book.specs.Book.{Entry, initial_of, active_of, AreValues}
+use Rattle.palm_read.specs.Limits.{names_of, HasManyRows}
+use Rattle.palm_read.specs.Domain.{IsLarge}
+use Rattle.palm_read.specs.Domain.{count_in}
+use Rattle.palm_read.specs.Sound.{IsSound}
+use Rattle.palm_read.specs.Domain.{IsSoundDomain}
+use Rattle.palm_book.specs.declared.book.BookCon.{BookCon}
+use Rattle.palm_read.specs.declared.line.DomainText.{DomainText}
+use Rattle.palm_read.specs.declared.line.DomainText.TheVariants.{Range, Set}
+use Rattle.palm_read.specs.declared.line.Line.{Line}
+use Rattle.palm_read.specs.declared.line.Line.TheVariants.{Comment, Var, Add, Domains as DomainsLine, Domain, List as ListLine, Quit}
+use Rattle.palm_read.specs.declared.line.Shape.{Shape}
+use Rattle.palm_book.proofs.BookLemmas.{IsBook-with_variable, IsBook-with_constraint}
 use Rattle.palm_laws.proofs.Existence.{greatest_exists}
 use Rattle.palm_laws.proofs.Uniqueness.{greatest_unique}
 use Rattle.palm_session.specs.State.{SessionState, IsState, fresh, AreDomains, has_empty, IsContradiction}
 use Rattle.palm_session.specs.Refusals.{Meets, in_order, IsNone}
-use Rattle.palm_session.specs.Effects.{Effect, Nothing, Settled, Searched, values_in, Resolves, with_variable, with_constraint, Does}
+use Rattle.palm_session.specs.Effects.{Effect, Nothing, Settled, Searched, with_variable, with_constraint, Does}
+use Rattle.palm_read.specs.Domain.{values_in}
+use Rattle.palm_book.specs.Named.{Resolves}
 use Rattle.palm_session.proofs.Actives.{initial_ascend}
 use Rattle.palm_session.proofs.Intervals.{are_values, narrow}
 use Rattle.palm_session.proofs.LawsOfLines.{constraint_once}

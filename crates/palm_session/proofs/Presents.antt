@@ -6,7 +6,7 @@ use Rattle.palm_base.proofs.Members.{filter_member, member_filter}
 use Rattle.palm_domain.specs.Rows.{Row, present_of}
 use Rattle.palm_kind.specs.Kind.{con_of}
 use Rattle.palm_kind.specs.declared.kind.Kind.{Kind}
-use Rattle.palm_lang.specs.Book.{Entry}
+use Rattle.palm_book.specs.Book.{Entry}
 use Rattle.palm_model.specs.Closure.{IsGreatest}
 use Rattle.palm_model.specs.Constraint.{IsWellFormed}
 use Rattle.palm_model.specs.Domains.{Domains, Ascends, AllAscend}

@@ -2,13 +2,14 @@
 use Rattle.std.proofs.Common.{◌≡◌, ◌≢◌, ℕ, ℤ, ◌+◌, ◌<◌, ◌≤◌, List, [], ◌∷◌, ◌++◌, true, length, get_or, All, Any, refl, sym, ap, ◌∙◌, subst, arith}
 use Rattle.std.proofs.Math.Nat.{lt_of_not-le}
 use Rattle.std.proofs.lemmas.List.Elements.{All-push, Contains-get_or}
-use Rattle.palm_lang.specs.Book.{AreValues, Contents, Entry, IsBook, IsNameText}
-use Rattle.palm_lang.specs.declared.book.BookCon.{BookCon}
-use Rattle.palm_lang.proofs.BookLemmas.{IsBook-with_constraint, IsBook-with_variable}
+use Rattle.palm_book.specs.Book.{AreValues, Contents, Entry, IsBook}
+use Rattle.palm_read.specs.Name.{IsNameText}
+use Rattle.palm_book.specs.declared.book.BookCon.{BookCon}
+use Rattle.palm_book.proofs.BookLemmas.{IsBook-with_constraint, IsBook-with_variable}
 use Rattle.palm_model.specs.Constraint.{IsWellFormed}
 use Rattle.palm_model.specs.declared.constraint.Con.{Con}
 use Rattle.palm_session.specs.Effects.{with_constraint, with_variable}
-use Rattle.palm_session.proofs.Any.{any_member}
+use Rattle.palm_book.proofs.Any.{any_member}
 use Rattle.palm_session.specs.State.{HasConstraint, HasVariable, IsState, SessionState}
 
 -- a fact that holds of none of the members

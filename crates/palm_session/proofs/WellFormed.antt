@@ -8,46 +8,24 @@ use Rattle.palm_model.specs.Linear.{IsFactor, term_vars}
 use Rattle.palm_model.specs.Table.{IsRow}
 use Rattle.palm_model.specs.Count.{target_scope}
 use Rattle.palm_model.specs.declared.constraint.Con.{Con}
-use Rattle.palm_model.specs.declared.constraint.Con.TheVariants.{CompareVar as VarCompare, CompareConst as ConstCompare, Linear as SumCon, Table as TableCon, Element as ElementCon, Count as CountCon, Differ as DifferCon}
+use Rattle.palm_model.specs.declared.constraint.Con.TheVariants.{CompareVar as CompareVarCon, CompareConst as CompareConstCon, Linear as LinearCon, Table as TableCon, Element as ElementCon, Count as CountCon, Differ as DifferCon}
 use Rattle.palm_model.specs.declared.constraint.Target.{Target}
 use Rattle.palm_model.specs.declared.constraint.Target.TheVariants.{Const, Variable}
 use Rattle.palm_model.specs.declared.constraint.Term.{Term}
-use Rattle.palm_lang.specs.Book.{Entry, name_of}
-use Rattle.palm_lang.specs.Limits.{Repeats, names_of, line_target_names, HasManyRows}
-use Rattle.palm_lang.specs.Reply.{named, named_term, named_target}
-use Rattle.palm_lang.specs.Sound.{IsSoundShape, IsSoundTerm}
-use Rattle.palm_lang.specs.declared.line.NameTerm.{NameTerm}
-use Rattle.palm_lang.specs.declared.line.Shape.{Shape}
-use Rattle.palm_session.specs.Effects.{Resolves}
+use Rattle.palm_book.specs.Book.{Entry, name_of}
+use Rattle.palm_read.specs.Count.{line_target_names}
+use Rattle.palm_book.proofs.Resolving.{scope_names}
+use Rattle.palm_read.specs.Limits.{Repeats, names_of, HasManyRows}
+use Rattle.palm_book.specs.Named.{named, named_term, named_target, Resolves}
+use Rattle.palm_read.specs.Linear.{IsSoundTerm}
+use Rattle.palm_read.specs.Sound.{IsSoundShape}
+use Rattle.palm_read.specs.declared.line.NameTerm.{NameTerm}
+use Rattle.palm_read.specs.declared.line.Shape.{Shape}
 
 -- variables with different names are different
 distinct_names : (f : ℕ → List ℕ) (xs : List ℕ) → (Repeats (map f xs) → ⊥) → Distinct xs
 distinct_names f [] r = tt
 distinct_names f (x ∷ xs) r = (λ m. r (inl (member_map f xs x m)), distinct_names f xs (λ q. r (inr q)))
-
-term_names : (variables : List Entry) (terms : List Term) → map (λ t. t.name) (map (named_term variables) terms) ≡ map (name_of variables) (term_vars terms)
-term_names variables [] = refl
-term_names variables (t ∷ ts) = ap (λ (z : List (List ℕ)). name_of variables t.var ∷ z) (term_names variables ts)
-
-target_names : (variables : List Entry) (target : Target) → line_target_names (named_target variables target) ≡ map (name_of variables) (target_scope target)
-target_names variables (Const w) = refl
-target_names variables (Variable x) = refl
-
-map_both : (f : ℕ → List ℕ) (xs ys : List ℕ) → map f (xs ++ ys) ≡ map f xs ++ map f ys
-map_both f [] ys = refl
-map_both f (x ∷ xs) ys = ap (λ (z : List (List ℕ)). f x ∷ z) (map_both f xs ys)
-
--- the names of a constraint are those of its scope
-pub scope_names : (variables : List Entry) (con : Con) → names_of (named variables con) ≡ map (name_of variables) (scope con)
-scope_names variables (VarCompare left op right offset) = refl
-scope_names variables (ConstCompare left op value) = refl
-scope_names variables (SumCon terms op bound) = term_names variables terms
-scope_names variables (TableCon vars rows) = refl
-scope_names variables (ElementCon outcome index entries) = refl
-scope_names variables (CountCon value vars op target) =
-    ap (λ (z : List (List ℕ)). map (name_of variables) vars ++ z) (target_names variables target)
-    ∙ sym (map_both (name_of variables) vars (target_scope target))
-scope_names variables (DifferCon vars) = refl
 
 factors : (variables : List Entry) (terms : List Term) → All IsSoundTerm (map (named_term variables) terms) → All IsFactor terms
 factors variables [] sound = All-nil IsFactor
@@ -56,9 +34,9 @@ factors variables (t ∷ ts) sound =
     (factors variables ts (All-tail IsSoundTerm (named_term variables t) (map (named_term variables) ts) sound))
 
 shaped : (variables : List Entry) (con : Con) → IsSoundShape (named variables con) → (HasManyRows (named variables con) → ⊥) → IsShaped con
-shaped variables (VarCompare left op right offset) sound few = sound
-shaped variables (ConstCompare left op value) sound few = sound
-shaped variables (SumCon terms op bound) sound few = (factors variables terms sound.1, sound.2, sound.3)
+shaped variables (CompareVarCon left op right offset) sound few = sound
+shaped variables (CompareConstCon left op value) sound few = sound
+shaped variables (LinearCon terms op bound) sound few = (factors variables terms sound.1, sound.2, sound.3)
 shaped variables (TableCon vars rows) sound few = ((sound.1, omega (arith, few)), subst (λ (n : ℕ). All (IsRow n) rows) (length-map vars (name_of variables)) sound.2)
 shaped variables (ElementCon outcome index entries) sound few = ((sound.0, omega (arith, few)), sound.1)
 shaped variables (CountCon value vars op (Const w)) sound few = (omega (arith, length-map vars (name_of variables), sound.0), sound.1, sound.2)
@@ -67,9 +45,9 @@ shaped variables (DifferCon vars) sound few = omega (arith, length-map vars (nam
 
 -- a constraint has a variable
 some_names : (variables : List Entry) (con : Con) → IsSoundShape (named variables con) → 0 < length (names_of (named variables con))
-some_names variables (VarCompare left op right offset) sound = omega arith
-some_names variables (ConstCompare left op value) sound = omega arith
-some_names variables (SumCon terms op bound) sound = omega (arith, length-map (map (named_term variables) terms) (λ (t : NameTerm). t.name), sound.0)
+some_names variables (CompareVarCon left op right offset) sound = omega arith
+some_names variables (CompareConstCon left op value) sound = omega arith
+some_names variables (LinearCon terms op bound) sound = omega (arith, length-map (map (named_term variables) terms) (λ (t : NameTerm). t.name), sound.0)
 some_names variables (TableCon vars rows) sound = sound.0
 some_names variables (ElementCon outcome index entries) sound = omega arith
 some_names variables (CountCon value vars op target) sound = omega (arith, length-append (map (name_of variables) vars) (line_target_names (named_target variables target)), sound.0)

@@ -1,17 +1,17 @@
 -- What a session answers to a line, and what it holds afterwards.
 use Rattle.std.specs.Prelude.{◌≡◌, ℕ, ◌<◌, true, List, [], ◌++◌, length, flat_map, zip, Some}
 use Rattle.palm_model.specs.Domains.{Domains, values_of}
-use Rattle.palm_lang.specs.Book.{Entry, Contents, name_of}
-use Rattle.palm_lang.specs.Reading.{IsRead, IsRefusedBy}
+use Rattle.palm_book.specs.Book.{Entry, Contents, name_of}
+use Rattle.palm_read.specs.Reading.{IsRead, IsRefusedBy}
 use Rattle.palm_lang.specs.Reply.{fixed_text, refusal_text, domain_line, var_line, entry_line}
-use Rattle.palm_lang.specs.declared.line.Line.{Line}
-use Rattle.palm_lang.specs.declared.line.Line.TheVariants.{Comment, Var, Add, Relax, Enforce, Retract, Domains as DomainsLine, Domain, List as ListLine, Log, Why, Conflict, MinimalConflict, Minimal, Resume, SolveDbt, SolveRepair, Cert, CertConflict, Quit}
-use Rattle.palm_lang.specs.declared.parse.LineError.{LineError}
+use Rattle.palm_read.specs.declared.line.Line.{Line}
+use Rattle.palm_read.specs.declared.line.Line.TheVariants.{Comment, Var, Add, Relax, Enforce, Retract, Domains as DomainsLine, Domain, List as ListLine, Log, Why, Conflict, MinimalConflict, Minimal, Resume, SolveDbt, SolveRepair, Cert, CertConflict, Quit}
+use Rattle.palm_read.specs.declared.parse.LineError.{LineError}
 use Rattle.palm_lang.specs.declared.reply.Fixed.TheVariants.{Done, Contradiction, Paused, Bye, End}
 use Rattle.palm_lang.specs.declared.reply.Refusal.{Refusal}
 use Rattle.palm_session.specs.State.{SessionState, AreDomains, IsContradiction}
 use Rattle.palm_session.specs.Refusals.{Meets, in_order, IsFirst, IsNone, refusal_of, heard}
-use Rattle.palm_session.specs.Effects.{Effect, Nothing, Settled, Searched, Does}
+use Rattle.palm_session.specs.Effects.{Effect, Nothing, Does}
 
 -- the lines that are answered by `paused` while filtering waits
 abbrev pub IsPausable : Line → Type 0

@@ -1,15 +1,10 @@
 -- What an accepted line does.
-use Rattle.std.specs.Prelude.{◌≡◌, ℕ, zero, suc, ℤ, pos, ◌+◌, ◌+ℤ◌, ◌-ℤ◌, ◌<◌, List, [], ◌∷◌, ◌++◌, length, All, true, Option}
-use Rattle.palm_model.specs.Constraint.{scope}
+use Rattle.std.specs.Prelude.{◌≡◌, ℕ, ℤ, ◌+◌, List, [], ◌∷◌, ◌++◌, true, Option}
 use Rattle.palm_model.specs.declared.constraint.Con.{Con}
-use Rattle.palm_lang.specs.Book.{Entry}
-use Rattle.palm_lang.specs.Reading.{count_in}
-use Rattle.palm_lang.specs.Reply.{named}
-use Rattle.palm_lang.specs.declared.line.DomainText.{DomainText}
-use Rattle.palm_lang.specs.declared.line.DomainText.TheVariants.{Range, Set}
-use Rattle.palm_lang.specs.declared.line.Line.{Line}
-use Rattle.palm_lang.specs.declared.line.Line.TheVariants.{Comment, Var, Add, Domains as DomainsLine, Domain, List as ListLine, Quit}
-use Rattle.palm_lang.specs.declared.line.Shape.{Shape}
+use Rattle.palm_book.specs.Named.{Resolves}
+use Rattle.palm_read.specs.Domain.{values_in}
+use Rattle.palm_read.specs.declared.line.Line.{Line}
+use Rattle.palm_read.specs.declared.line.Line.TheVariants.{Comment, Var, Add, Domains as DomainsLine, Domain, List as ListLine, Quit}
 use Rattle.palm_session.specs.State.{SessionState}
 
 -- how a search ended: with a value for each variable, with constraints that have no solution, or after so many turns,
@@ -24,21 +19,6 @@ pub data Effect : Type 0 where
   Nothing : Effect
   Settled : (revisions : ℕ) → Effect
   Searched : (end : SearchEnd) → Effect
-
--- so many numbers from one on
-abbrev pub from_on : ℤ → ℕ → List ℤ
-from_on v zero = []
-from_on v (suc n) = v ∷ from_on (v +ℤ pos 1) n
-
--- the values of a domain as it is written, ascending
-abbrev pub values_in : DomainText → List ℤ
-values_in (Range low high) = from_on low (count_in (high -ℤ low) + 1)
-values_in (Set values) = values
-
--- the constraint says what the shape says, of the variables with these names
-pub record Resolves (variables : List Entry) (shape : Shape) (con : Con) : Type 0 where
-  pub declared : All (λ x. x < length variables) (scope con)
-  pub says : named variables con ≡ shape
 
 -- a variable behind the others
 abbrev pub with_variable : SessionState → List ℕ → List ℤ → SessionState

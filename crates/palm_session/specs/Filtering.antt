@@ -1,7 +1,7 @@
 -- Domains in which the values of constraints have support, one constraint and one variable after another.
 use Rattle.std.specs.Prelude.{ℕ, ℤ, List, Contains}
 use Rattle.palm_domain.specs.Rows.{Row}
-use Rattle.palm_lang.specs.Book.{Entry}
+use Rattle.palm_book.specs.Book.{Entry}
 use Rattle.palm_model.specs.Domains.{Domains, Has}
 use Rattle.palm_model.specs.Constraint.{scope}
 use Rattle.palm_model.specs.Support.{IsSupported}

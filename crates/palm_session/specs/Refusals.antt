@@ -1,12 +1,13 @@
 -- Which lines are refused, and by which refusal.
 use Rattle.std.specs.Prelude.{◌≡◌, ◌≤◌, List, [], ◌∷◌, ◌⊎◌, ℕ, length, Any, Option, Some, None}
-use Rattle.palm_lang.specs.Limits.{names_of, IsBeyond}
-use Rattle.palm_lang.specs.declared.line.Line.{Line}
-use Rattle.palm_lang.specs.declared.line.Line.TheVariants.{Comment, Var, Add, Domains as DomainsLine, Domain, List as ListLine, Quit}
-use Rattle.palm_lang.specs.declared.parse.LineError.{LineError}
-use Rattle.palm_lang.specs.declared.parse.LineError.TheVariants.{Bytes, Form, Range as OutOfRange, Empty, Repeated, NoMemory}
+use Rattle.palm_read.specs.Limits.{names_of, IsBeyond}
+use Rattle.palm_read.specs.declared.line.Line.{Line}
+use Rattle.palm_read.specs.declared.line.Line.TheVariants.{Comment, Var, Add, Domains as DomainsLine, Domain, List as ListLine, Quit}
+use Rattle.palm_read.specs.declared.parse.LineError.{LineError}
+use Rattle.palm_read.specs.declared.parse.LineError.TheVariants.{Bytes, Form, Range as OutOfRange, Empty, Repeated, NoMemory}
 use Rattle.palm_lang.specs.declared.reply.Refusal.{Refusal}
 use Rattle.palm_lang.specs.declared.reply.Refusal.TheVariants.{E1, E2, E3, E4, E5, E6, E7, E8, E9, E10, E11, E12}
+use Rattle.palm_book.specs.declared.limits.TheConstants.{MOST_VARIABLES, MOST_CONSTRAINTS, MOST_ADDED}
 use Rattle.palm_session.specs.State.{SessionState, HasVariable, HasConstraint}
 
 -- the line's form is served
@@ -38,8 +39,8 @@ NamesNone s _ = ⊥
 
 -- the session is full
 abbrev pub HasNoRoom : SessionState → Line → Type 0
-HasNoRoom s (Var name domain) = 64 ≤ length s.book.variables
-HasNoRoom s (Add name shape) = (256 ≤ length s.book.constraints) ⊎ (65535 ≤ s.accepted)
+HasNoRoom s (Var name domain) = MOST_VARIABLES ≤ length s.book.variables
+HasNoRoom s (Add name shape) = (MOST_CONSTRAINTS ≤ length s.book.constraints) ⊎ (MOST_ADDED ≤ s.accepted)
 HasNoRoom s _ = ⊥
 
 -- the condition of a refusal, on a line that was read

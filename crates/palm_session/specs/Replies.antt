@@ -1,7 +1,7 @@
 -- The replies to a whole text.
 use Rattle.std.specs.Prelude.{◌≡◌, ℕ, List, [], ◌∷◌, ◌++◌, All, map, flat_map}
-use Rattle.palm_lang.specs.Reading.{IsRead}
-use Rattle.palm_lang.specs.declared.line.Line.TheVariants.{Quit}
+use Rattle.palm_read.specs.Reading.{IsRead}
+use Rattle.palm_read.specs.declared.line.Line.TheVariants.{Quit}
 use Rattle.palm_session.specs.State.{SessionState, fresh}
 use Rattle.palm_session.specs.Answers.{Answers}
 use Rattle.palm_lang.specs.Reply.{ended}

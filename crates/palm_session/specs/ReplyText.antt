@@ -1,13 +1,13 @@
 -- The text of a reply.
 use Rattle.std.specs.Prelude.{◌≡◌, ◌⊎◌, ◌<◌, ℕ, List, [], length, Some}
 use Rattle.palm_model.specs.Domains.{values_of}
-use Rattle.palm_lang.specs.Book.{name_of}
+use Rattle.palm_book.specs.Book.{name_of}
 use Rattle.palm_lang.specs.Reply.{fixed_text, refusal_text, domain_line}
 use Rattle.palm_session.specs.Answers.{Accepts, domains_text, list_text}
 use Rattle.palm_session.specs.Refusals.{IsFirst, IsNone, Meets, in_order, refusal_of}
 use Rattle.palm_session.specs.State.{SessionState, IsContradiction}
-use Rattle.palm_lang.specs.declared.line.Line.{Line}
-use Rattle.palm_lang.specs.declared.parse.LineError.{LineError}
+use Rattle.palm_read.specs.declared.line.Line.{Line}
+use Rattle.palm_read.specs.declared.parse.LineError.{LineError}
 use Rattle.palm_lang.specs.declared.reply.Fixed.TheVariants.{Contradiction}
 use Rattle.palm_lang.specs.declared.reply.Refusal.{Refusal}
 use Rattle.palm_session.specs.declared.going.Going.{Going}

@@ -3,7 +3,8 @@ use Rattle.std.specs.Prelude.{◌≡◌, ℕ, ◌≤◌, Bool, true, false, List
 use Rattle.std.specs.List.{list_any}
 use Rattle.palm_model.specs.Domains.{Domains}
 use Rattle.palm_model.specs.Closure.{IsGreatest}
-use Rattle.palm_lang.specs.Book.{Contents, IsBook, initial_of, active_of}
+use Rattle.palm_book.specs.declared.limits.TheConstants.{MOST_ADDED}
+use Rattle.palm_book.specs.Book.{Contents, IsBook, initial_of, active_of}
 
 -- the book, how many `add` lines were accepted, whether filtering waits, and the guides and orders: the numbers of those
 -- that are there, and which one is chosen
@@ -31,7 +32,7 @@ fresh guides orders = record {
 -- a state that a session can hold
 pub record IsState (s : SessionState) : Type 0 where
   pub book : IsBook s.book
-  pub accepted : s.accepted ≤ 65535
+  pub accepted : s.accepted ≤ MOST_ADDED
   pub numbered : All (λ c. c.number ≤ s.accepted) s.book.constraints
   pub guide : IfSome s.guide (Contains s.guides)
   pub order : IfSome s.order (Contains s.orders)

@@ -1,6 +1,6 @@
 //! Writing replies, a line at a time, so that no whole reply is held.
 ghost use Rattle.std.specs.Prelude.{◌≡◌, ◌<◌, length, flat_map};
-ghost use Rattle.palm_lang.specs.Book.{AreValues, name_of, values_at};
+ghost use Rattle.palm_book.specs.Book.{AreValues, name_of, values_at};
 ghost use Rattle.palm_lang.specs.Reply.{fixed_text, refusal_text, domain_line, var_line, entry_at, entry_line};
 ghost use Rattle.palm_session.specs.Answers.{domains_text, list_text};
 ghost use Rattle.palm_session.specs.ReplyText.{reply_text, ReplyFits};
@@ -11,8 +11,9 @@ use crate::desk::Desk;
 use crate::reply::Reply;
 use crate::stop::Stop;
 use palm_base::{Failed, Sink, Var, write_all};
-use palm_lang::print::{print_domain, print_entry, print_fixed, print_refusal, print_var};
-use palm_lang::{Book, Fixed, Refusal};
+use palm_lang::{
+    Book, Fixed, Refusal, print_domain, print_entry, print_fixed, print_refusal, print_var,
+};
 use palm_model::DomainList;
 
 /// Writes a reply.

@@ -2,7 +2,7 @@
 ghost use Rattle.std.specs.Prelude.{◌≡◌, ◌<◌, length, map, All, IfOk, OnOk};
 ghost use Rattle.palm_domain.specs.Rows.{present_of};
 ghost use Rattle.palm_kind.specs.Kind.{con_of};
-ghost use Rattle.palm_lang.specs.Book.{active_of, initial_of};
+ghost use Rattle.palm_book.specs.Book.{active_of, initial_of};
 ghost use Rattle.palm_model.specs.Domains.{AllAscend, values_of};
 ghost use Rattle.palm_model.specs.Constraint.{IsWellFormed};
 ghost use Rattle.palm_session.specs.Filtering.{declared_row};

@@ -1,6 +1,6 @@
 //! Whether a session goes on.
 ghost use Rattle.std.specs.Prelude.{◌≡◌};
-ghost use Rattle.palm_lang.specs.declared.line.Line.TheVariants.{Quit as QuitLine};
+ghost use Rattle.palm_read.specs.declared.line.Line.TheVariants.{Quit as QuitLine};
 
 use palm_lang::Line;
 

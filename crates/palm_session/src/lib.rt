@@ -12,7 +12,6 @@ mod limits;
 pub mod lines;
 pub mod refuse;
 pub mod reply;
-pub mod resolve;
 pub mod serve;
 pub mod session;
 pub mod stop;

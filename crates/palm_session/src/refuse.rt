@@ -1,11 +1,14 @@
 //! Refusals of lines that were read, in the order in which they are looked for.
-ghost use Rattle.std.specs.Prelude.{◌≡◌, ◌≤◌, ◌⊎◌, ◌↔◌, true, false, Any, length, MatchOption, List, ℕ, [], ◌∷◌, ◌++◌, map};
-ghost use Rattle.palm_lang.specs.Limits.{names_of, line_target_names, IsBeyond};
-ghost use Rattle.palm_session.specs.Refusals.{IsBuilt, TakesName, NamesNone, HasNoRoom, Meets, IsFirst, IsNone, IsUnknown, in_order, refusal_of};
-ghost use Rattle.palm_session.specs.State.{SessionState, HasVariable, HasConstraint};
+ghost use Rattle.std.specs.Prelude.{◌≡◌, ◌⊎◌, true, false, IfNone, IfSome};
+ghost use Rattle.palm_base.specs.Tells.{Tells};
+ghost use Rattle.palm_read.specs.Limits.{IsBeyond};
+ghost use Rattle.palm_session.specs.Refusals.{IsBuilt, TakesName, HasNoRoom, Meets, IsFirst, in_order, refusal_of};
+ghost use Rattle.palm_session.specs.State.{HasVariable, HasConstraint};
 
 use crate::desk::Desk;
-use palm_lang::{Line, LineError, Name, NameTarget, NameTerm, Refusal, Shape, beyond};
+use palm_lang::{
+    Line, LineError, MOST_ADDED, MOST_CONSTRAINTS, MOST_VARIABLES, Name, Refusal, beyond,
+};
 
 /// The refusal of a line that could not be read; want of memory has none.
 pub fn refusal_of(error: LineError) -> Option<Refusal>
@@ -39,20 +42,15 @@ fn is_built(line: &Line) -> bool
 }
 
 impl Desk {
-    /// The first refusal of a line that was read.
-    pub fn first_refusal(&self, line: &Line) -> Option<Refusal>
-        ensures { MatchOption result
-            (IsNone (Meets self.now line.now) in_order)
-            (IsFirst (Meets self.now line.now) in_order) }
+    /// The first refusal of a line that is looked for before the names in its variables' places.
+    pub fn early_refusal(&self, line: &Line) -> Option<Refusal>
+        ensures none { IfNone result (IsBuilt line.now × (TakesName self.now line.now → ⊥)) }
+        ensures first { IfSome result (IsFirst (Meets self.now line.now) in_order) }
     {
         if !is_built(line) {
             Some(Refusal::E2)
         } else if self.takes_name(line) {
             Some(Refusal::E3)
-        } else if self.names_none(line) {
-            Some(Refusal::E4)
-        } else if self.goes_beyond(line) {
-            Some(Refusal::E7)
         } else {
             None
         }
@@ -92,22 +90,9 @@ impl Desk {
         }
     }
 
-    /// Whether a name in a variable's place names no variable.
-    fn names_none(&self, line: &Line) -> bool
-        ensures unknown { result ≡ true → NamesNone self.now line.now }
-        ensures known { result ≡ false → NamesNone self.now line.now → ⊥ }
-    {
-        match line {
-            Line::Add { name: _, shape } => self.names_unknown(shape),
-            Line::Domain(name) => !self.has_variable(name),
-            _ => false,
-        }
-    }
-
     /// Whether the line breaks a limit by itself, or the session is full.
-    fn goes_beyond(&self, line: &Line) -> bool
-        ensures full { result ≡ true → IsBeyond line.now ⊎ HasNoRoom self.now line.now }
-        ensures room { result ≡ false → IsBeyond line.now ⊎ HasNoRoom self.now line.now → ⊥ }
+    pub fn goes_beyond(&self, line: &Line) -> bool
+        ensures { Tells result (IsBeyond line.now ⊎ HasNoRoom self.now line.now) }
     {
         beyond(line) || self.has_no_room(line)
     }
@@ -118,90 +103,10 @@ impl Desk {
         ensures room { result ≡ false → HasNoRoom self.now line.now → ⊥ }
     {
         match line {
-            Line::Var { .. } => self.book.variables() >= 64,
-            Line::Add { .. } => self.book.constraints() >= 256 || self.accepted >= 65_535,
+            Line::Var { .. } => self.book.variables() >= MOST_VARIABLES as u32,
+            Line::Add { .. } => self.book.constraints() >= MOST_CONSTRAINTS
+                || self.accepted >= MOST_ADDED,
             _ => false,
-        }
-    }
-
-    /// Whether some name of the constraint names no variable.
-    fn names_unknown(&self, shape: &Shape) -> bool
-        ensures unknown { result ≡ true → Any (IsUnknown self.now) (names_of shape.now) }
-        ensures known { result ≡ false → Any (IsUnknown self.now) (names_of shape.now) → ⊥ }
-    {
-        match shape {
-            Shape::CompareVar {
-                left,
-                op: _,
-                right,
-                offset: _,
-            } => self.is_either_unknown(left, right),
-            Shape::CompareConst {
-                left,
-                op: _,
-                value: _,
-            } => !self.has_variable(left),
-            Shape::Linear {
-                terms,
-                op: _,
-                bound: _,
-            } => self.has_unknown_term(terms.as_slice()),
-            Shape::Table { vars, rows: _ } => self.has_unknown(vars.as_slice()),
-            Shape::Element {
-                outcome,
-                index,
-                entries: _,
-            } => self.is_either_unknown(outcome, index),
-            Shape::Count {
-                value: _,
-                vars,
-                op: _,
-                target,
-            } => self.counts_unknown(vars.as_slice(), target),
-            Shape::Differ { vars } => self.has_unknown(vars.as_slice()),
-        }
-    }
-
-    /// Whether one of the two names names no variable.
-    fn is_either_unknown(&self, left: &Name, right: &Name) -> bool
-        ensures unknown { result ≡ true → Any (IsUnknown self.now) (left.now ∷ right.now ∷ []) }
-        ensures known { result ≡ false → Any (IsUnknown self.now) (left.now ∷ right.now ∷ []) → ⊥ }
-    {
-        !self.has_variable(left) || !self.has_variable(right)
-    }
-
-    /// Whether some term's name names no variable.
-    fn has_unknown_term(&self, terms: &[NameTerm]) -> bool
-        ensures unknown { result ≡ true → Any (λ t. IsUnknown self.now t.name) terms.now }
-        ensures known { result ≡ false → Any (λ t. IsUnknown self.now t.name) terms.now → ⊥ }
-    {
-        terms.iter().any(|term| !self.has_variable(&term.name))
-    }
-
-    /// Whether some counted name or the target's names no variable.
-    fn counts_unknown(&self, vars: &[Name], target: &NameTarget) -> bool
-        ensures unknown { result ≡ true → Any (IsUnknown self.now) (vars.now ++ line_target_names target.now) }
-        ensures known { result ≡ false → Any (IsUnknown self.now) (vars.now ++ line_target_names target.now) → ⊥ }
-    {
-        self.has_unknown(vars) || self.is_unknown(target)
-    }
-
-    /// Whether some of the names names no variable.
-    fn has_unknown(&self, names: &[Name]) -> bool
-        ensures unknown { result ≡ true → Any (IsUnknown self.now) names.now }
-        ensures known { result ≡ false → Any (IsUnknown self.now) names.now → ⊥ }
-    {
-        names.iter().any(|name| !self.has_variable(name))
-    }
-
-    /// Whether the target is a name that names no variable.
-    fn is_unknown(&self, target: &NameTarget) -> bool
-        ensures unknown { result ≡ true → Any (IsUnknown self.now) (line_target_names target.now) }
-        ensures known { result ≡ false → Any (IsUnknown self.now) (line_target_names target.now) → ⊥ }
-    {
-        match target {
-            NameTarget::Const(_) => false,
-            NameTarget::Variable(name) => !self.has_variable(name),
         }
     }
 }

@@ -1,25 +1,30 @@
 //! What each line does.
-ghost use Rattle.std.specs.Prelude.{◌≡◌, ◌≤ℤ◌, ◌-ℤ◌, ◌<◌, ◌≤◌, ◌+◌, Any, pos, length, IfOk, OnOk, OnErr, ℕ, List, [], true, false};
-ghost use Rattle.palm_lang.specs.Limits.{HasManyRows, IsLarge, Repeats, names_of};
-ghost use Rattle.palm_lang.specs.Reading.{count_in};
-ghost use Rattle.palm_lang.specs.Sound.{IsSound, IsSoundDomain, IsSoundShape};
-ghost use Rattle.palm_lang.specs.Book.{AreValues, IsNameText};
-ghost use Rattle.palm_lang.specs.Reply.{fixed_text};
-ghost use Rattle.palm_model.specs.Constraint.{IsWellFormed};
-ghost use Rattle.palm_model.specs.Limits.{IsValue};
+ghost use Rattle.std.specs.Prelude.{◌≡◌, ◌≤ℤ◌, ◌-ℤ◌, ◌<◌, ◌≤◌, ◌+◌, ◌⊎◌, pos, length, IfOk, OnOk, OnErr};
+ghost use Rattle.palm_read.specs.Domain.{IsLarge, count_in, IsSoundDomain, values_in, from_on};
 ghost use Rattle.palm_base.specs.Tells.{Tells};
-ghost use Rattle.palm_session.specs.Answers.{Accepts, IsPausable, Says, WaitsFor};
-ghost use Rattle.palm_session.specs.Effects.{Nothing, values_in, from_on, with_variable, with_constraint};
-ghost use Rattle.palm_session.specs.Refusals.{IsNone, IsUnknown, Meets, in_order};
+ghost use Rattle.palm_read.specs.Limits.{IsBeyond};
+ghost use Rattle.palm_read.specs.Sound.{IsSound};
+ghost use Rattle.palm_book.specs.Book.{AreValues, name_of};
+ghost use Rattle.palm_read.specs.Name.{IsNameText};
+ghost use Rattle.palm_lang.specs.Reply.{fixed_text};
+ghost use Rattle.palm_model.specs.Limits.{IsValue};
+ghost use Rattle.palm_model.specs.Constraint.{IsWellFormed};
+ghost use Rattle.palm_session.specs.Answers.{Accepts};
+ghost use Rattle.palm_session.specs.Effects.{with_variable, with_constraint};
+ghost use Rattle.palm_session.specs.Refusals.{IsBuilt, HasNoRoom, TakesName};
 ghost use Rattle.palm_session.specs.ReplyText.{reply_text, ReplyFits, Serves, TellsDomains};
-ghost use Rattle.palm_session.specs.State.{AreDomains, IsContradiction, HasVariable, HasConstraint, has_empty};
+ghost use Rattle.palm_session.specs.State.{AreDomains, IsContradiction, HasVariable, HasConstraint};
 
 use crate::desk::Desk;
 use crate::domains::has_empty;
 use crate::reply::Reply;
-use palm_base::{NoMemory, Value, ValueList};
-use palm_lang::{BookCon, DomainText, Fixed, Line, Name, Shape};
+use palm_base::{NoMemory, Value, ValueList, Var};
+use palm_lang::{
+    BookCon, DomainText, Fixed, Line, MOST_ADDED, MOST_CONSTRAINTS, MOST_VARIABLES, Name, Refusal,
+    Shape, Unresolved,
+};
 use palm_model::{Con, DomainList};
+use palm_read::MOST_VALUES;
 use std::alloc::Global;
 
 impl Desk {
@@ -29,51 +34,81 @@ impl Desk {
         ensures serves { IfOk result (λ reply. Serves self.old line (reply_text self.new reply) self.new) }
         ensures fits { IfOk result (ReplyFits self.new) }
     {
-        match self.first_refusal(&line) {
+        let is_over = self.goes_beyond(&line);
+        match self.early_refusal(&line) {
             Some(refusal) => Ok(Reply::Refused(refusal)),
-            None => self.take(line),
+            None => self.serve_named(line, is_over),
         }
     }
 
-    /// Takes a line that is not refused, unless it waits with the filtering.
-    fn take(&mut self, line: Line) -> Result<Reply, NoMemory>
+    /// Serves a line whose names are looked up now; it is told whether the line goes beyond a limit.
+    fn serve_named(&mut self, line: Line, is_over: bool) -> Result<Reply, NoMemory>
         requires sound { IsSound line }
-        requires accepted { IsNone (Meets self.old line) in_order }
-        ensures accepts { IfOk result (λ reply. Accepts self.old line (reply_text self.new reply) self.new) }
-        ensures fits { IfOk result (ReplyFits self.new) }
-    {
-        if self.waits_for(&line) {
-            Ok(Reply::Word(Fixed::Paused))
-        } else {
-            self.accept(line)
-        }
-    }
-
-    /// Takes a line that is neither refused nor waiting.
-    fn accept(&mut self, line: Line) -> Result<Reply, NoMemory>
-        requires sound { IsSound line }
-        requires accepted { IsNone (Meets self.old line) in_order }
-        requires goes { WaitsFor self.old line → ⊥ }
-        ensures accepts { IfOk result (λ reply. Accepts self.old line (reply_text self.new reply) self.new) }
+        requires built { IsBuilt line }
+        requires free { TakesName self.old line → ⊥ }
+        requires over { Tells is_over (IsBeyond line ⊎ HasNoRoom self.old line) }
+        ensures serves { IfOk result (λ reply. Serves self.old line (reply_text self.new reply) self.new) }
         ensures fits { IfOk result (ReplyFits self.new) }
     {
         match line {
             Line::Comment => Ok(Reply::Nothing),
-            Line::Var { name, domain } => self.declare(name, domain),
-            Line::Add { name, shape } => self.add(name, shape),
+            Line::Var { name, domain } => self.serve_var(name, domain, is_over),
+            Line::Add { name, shape } => self.serve_add(name, shape, is_over),
             Line::Domains => self.all_domains(),
-            Line::Domain(name) => self.one_domain(&name),
+            Line::Domain(name) => self.serve_domain(&name),
             Line::List => Ok(Reply::Listing),
             Line::Quit => Ok(Reply::Word(Fixed::Bye)),
             _ => unreachable!(),
         }
     }
 
-    /// Whether filtering waits and the line waits with it.
-    fn waits_for(&self, line: &Line) -> bool
-        ensures { Tells result (WaitsFor self.now line.now) }
+    /// Serves `var`.
+    fn serve_var(
+        &mut self,
+        name: Name,
+        domain: DomainText,
+        is_over: bool,
+    ) -> Result<Reply, NoMemory>
+        requires sound { IsSound (Line.Var name domain) }
+        requires free { HasVariable self.old name → ⊥ }
+        requires over { Tells is_over (IsLarge domain ⊎ (MOST_VARIABLES ≤ length self.old.book.variables)) }
+        ensures serves { IfOk result (λ reply. Serves self.old (Line.Var name domain) (reply_text self.new reply) self.new) }
+        ensures fits { IfOk result (ReplyFits self.new) }
     {
-        self.paused && is_pausable(line)
+        if is_over {
+            return Ok(Reply::Refused(Refusal::E7));
+        }
+        self.declare(name, domain)
+    }
+
+    /// Serves `add`: looks the names of its constraint up, once.
+    fn serve_add(&mut self, name: Name, shape: Shape, is_over: bool) -> Result<Reply, NoMemory>
+        requires sound { IsSound (Line.Add name shape) }
+        requires free { HasConstraint self.old name → ⊥ }
+        requires over { Tells is_over (IsBeyond (Line.Add name shape) ⊎ HasNoRoom self.old (Line.Add name shape)) }
+        ensures serves { IfOk result (λ reply. Serves self.old (Line.Add name shape) (reply_text self.new reply) self.new) }
+        ensures fits { IfOk result (ReplyFits self.new) }
+    {
+        let con = match self.book.resolve(self.alloc, shape) {
+            Ok(con) => con,
+            Err(Unresolved::UnknownName) => return Ok(Reply::Refused(Refusal::E4)),
+            Err(Unresolved::NoMemory) => return Err(NoMemory),
+        };
+        if is_over {
+            return Ok(Reply::Refused(Refusal::E7));
+        }
+        self.add(name, con)
+    }
+
+    /// Serves `domain NAME`: looks the name up, once.
+    fn serve_domain(&mut self, name: &Name) -> Result<Reply, NoMemory>
+        ensures serves { IfOk result (λ reply. Serves self.old (Line.Domain name.now) (reply_text self.new reply) self.new) }
+        ensures fits { IfOk result (ReplyFits self.new) }
+    {
+        match self.book.variable_named(name) {
+            Some(var) => self.one_domain(var),
+            None => Ok(Reply::Refused(Refusal::E4)),
+        }
     }
 
     /// Whether filtering does not wait and one of the domains, which are the greatest closed ones, is empty.
@@ -96,11 +131,14 @@ impl Desk {
         Ok(Reply::Word(Fixed::Done))
     }
 
-    /// The values of every variable.
+    /// The values of every variable, unless filtering waits.
     fn all_domains(&self) -> Result<Reply, NoMemory>
-        ensures tells { IfOk result (λ reply. TellsDomains self.now (Says self.now Line.Domains Nothing) (reply_text self.now reply)) }
+        ensures accepts { IfOk result (λ reply. Accepts self.now Line.Domains (reply_text self.now reply) self.now) }
         ensures fits { IfOk result (ReplyFits self.now) }
     {
+        if self.paused {
+            return Ok(Reply::Word(Fixed::Paused));
+        }
         let domains = self.greatest()?;
         if self.is_contradiction(&domains) {
             return Ok(Reply::Word(Fixed::Contradiction));
@@ -108,17 +146,19 @@ impl Desk {
         Ok(Reply::Domains(domains))
     }
 
-    /// The values of the variable with the name.
-    fn one_domain(&self, name: &Name) -> Result<Reply, NoMemory>
-        requires { IsUnknown self.now name.now → ⊥ }
-        ensures tells { IfOk result (λ reply. TellsDomains self.now (Says self.now (Line.Domain name.now) Nothing) (reply_text self.now reply)) }
+    /// The values of a variable, unless filtering waits.
+    fn one_domain(&self, var: Var) -> Result<Reply, NoMemory>
+        requires { var < length self.now.book.variables }
+        ensures accepts { IfOk result (λ reply. Accepts self.now (Line.Domain (name_of self.now.book.variables var)) (reply_text self.now reply) self.now) }
         ensures fits { IfOk result (ReplyFits self.now) }
     {
+        if self.paused {
+            return Ok(Reply::Word(Fixed::Paused));
+        }
         let domains = self.greatest()?;
         if self.is_contradiction(&domains) {
             return Ok(Reply::Word(Fixed::Contradiction));
         }
-        let var = self.var_of(name);
         Ok(Reply::Domain { var, domains })
     }
 
@@ -128,21 +168,22 @@ impl Desk {
         requires sound { IsSoundDomain domain }
         requires fresh { HasVariable self.old name → ⊥ }
         requires small { IsLarge domain → ⊥ }
-        requires room { 64 ≤ length self.old.book.variables → ⊥ }
+        requires room { MOST_VARIABLES ≤ length self.old.book.variables → ⊥ }
         ensures accepts { IfOk result (λ reply. Accepts self.old (Line.Var name domain) (reply_text self.new reply) self.new) }
         ensures fits { IfOk result (ReplyFits self.new) }
+        ensures left { OnErr result ((self.new ≡ self.old) ⊎ (self.new ≡ with_variable self.old name (values_in domain))) }
     {
         let values = values_in(self.alloc, domain)?;
         self.enter(name, values)?;
         self.settled()
     }
 
-    /// Puts a variable into the book.
+    /// Puts a variable into the book; without memory nothing changes.
     fn enter(&mut self, name: Name, values: ValueList) -> Result<(), NoMemory>
         requires text { IsNameText name }
         requires fresh { HasVariable self.old name → ⊥ }
         requires values { AreValues values }
-        requires room { 64 ≤ length self.old.book.variables → ⊥ }
+        requires room { MOST_VARIABLES ≤ length self.old.book.variables → ⊥ }
         ensures ok { OnOk result (self.new ≡ with_variable self.old name values) }
         ensures err { OnErr result (self.new ≡ self.old) }
     {
@@ -151,31 +192,28 @@ impl Desk {
     }
 
     /// Adds a constraint under the next number.
-    fn add(&mut self, name: Name, shape: Shape) -> Result<Reply, NoMemory>
+    fn add(&mut self, name: Name, con: Con) -> Result<Reply, NoMemory>
         requires text { IsNameText name }
-        requires sound { IsSoundShape shape }
-        requires once { Repeats (names_of shape) → ⊥ }
         requires fresh { HasConstraint self.old name → ⊥ }
-        requires known { Any (IsUnknown self.old) (names_of shape) → ⊥ }
-        requires narrow { 16 < length (names_of shape) → ⊥ }
-        requires few { HasManyRows shape → ⊥ }
-        requires room { 256 ≤ length self.old.book.constraints → ⊥ }
-        requires numbers { 65535 ≤ self.old.accepted → ⊥ }
-        ensures accepts { IfOk result (λ reply. Accepts self.old (Line.Add name shape) (reply_text self.new reply) self.new) }
+        requires formed { IsWellFormed (length self.old.book.variables) con }
+        requires room { MOST_CONSTRAINTS ≤ length self.old.book.constraints → ⊥ }
+        requires numbers { MOST_ADDED ≤ self.old.accepted → ⊥ }
+        ensures adds { IfOk result (λ reply. (self.new ≡ with_constraint self.old name con)
+            × TellsDomains self.new (λ text. text ≡ fixed_text Fixed.Done) (reply_text self.new reply)) }
         ensures fits { IfOk result (ReplyFits self.new) }
+        ensures left { OnErr result ((self.new ≡ self.old) ⊎ (self.new ≡ with_constraint self.old name con)) }
     {
-        let con = self.resolve(shape)?;
         self.post(name, con)?;
         self.settled()
     }
 
-    /// Puts a constraint into the book, under the next number.
+    /// Puts a constraint into the book, under the next number; without memory nothing changes.
     fn post(&mut self, name: Name, con: Con) -> Result<(), NoMemory>
         requires text { IsNameText name }
         requires fresh { HasConstraint self.old name → ⊥ }
         requires formed { IsWellFormed (length self.old.book.variables) con }
-        requires room { 256 ≤ length self.old.book.constraints → ⊥ }
-        requires numbers { 65535 ≤ self.old.accepted → ⊥ }
+        requires room { MOST_CONSTRAINTS ≤ length self.old.book.constraints → ⊥ }
+        requires numbers { MOST_ADDED ≤ self.old.accepted → ⊥ }
         ensures ok { OnOk result (self.new ≡ with_constraint self.old name con) }
         ensures err { OnErr result (self.new ≡ self.old) }
     {
@@ -189,26 +227,6 @@ impl Desk {
         self.accepted = number;
         Ok(())
     }
-}
-
-/// Whether the line is answered by `paused` while filtering waits.
-fn is_pausable(line: &Line) -> bool
-    ensures { Tells result (IsPausable line.now) }
-{
-    matches!(
-        line,
-        Line::Domains
-            | Line::Domain(_)
-            | Line::Log
-            | Line::Why { .. }
-            | Line::Conflict
-            | Line::MinimalConflict
-            | Line::Minimal { .. }
-            | Line::Cert { .. }
-            | Line::CertConflict
-            | Line::SolveDbt { .. }
-            | Line::SolveRepair { .. }
-    )
 }
 
 /// The values of a domain, ascending.
@@ -229,7 +247,7 @@ fn interval(alloc: Global, low: Value, high: Value) -> Result<ValueList, NoMemor
     requires low { IsValue low }
     requires high { IsValue high }
     requires ordered { low ≤ℤ high }
-    requires small { (pos 256 ≤ℤ (high -ℤ low)) → ⊥ }
+    requires small { (pos MOST_VALUES ≤ℤ (high -ℤ low)) → ⊥ }
     ensures values { IfOk result (λ values. values ≡ from_on low (count_in (high -ℤ low) + 1)) }
     ensures fit { IfOk result AreValues }
 {

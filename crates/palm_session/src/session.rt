@@ -163,6 +163,3 @@ fn answer_last<K: Sink>(
         Err(stop) => Err(stop),
     }
 }
-
-#[cfg(test)]
-mod tests;

@@ -3,15 +3,17 @@
 
 ghost use Rattle.std.specs.Prelude.{[], ◌∷◌, codes, decimal};
 ghost use Rattle.std.specs.Fmt.{signed_decimal};
-ghost use Rattle.palm_lang.specs.declared.line.Line.TheVariants.{SolveDbt, SolveRepair};
+ghost use Rattle.palm_read.specs.declared.line.Line.TheVariants.{SolveDbt, SolveRepair};
 ghost use Rattle.palm_lang.specs.Print.{Puts};
-ghost use Rattle.palm_lang.specs.Text.{spaced, domain_text, shape_words, text_of};
+ghost use Rattle.palm_read.specs.Domain.{domain_text};
+ghost use Rattle.palm_read.specs.Text.{shape_words, text_of};
+ghost use Rattle.palm_read.specs.Words.{spaced};
 
-use crate::line::{DomainText, Line, Name, Shape};
 use crate::print::lists::{put_range, put_set};
 use crate::print::shapes::put_shape;
 use crate::print::words::{put_name, put_spaced_int, put_spaced_name, put_spaced_value, put_text};
 use palm_base::{NoMemory, Value};
+use palm_read::{DomainText, Line, NO_BUDGET, Name, Shape};
 
 /// A domain as a line writes it.
 fn put_domain(domain: &DomainText, out: &mut Vec<u8>) -> Result<(), NoMemory>
@@ -73,7 +75,7 @@ fn put_solve_dbt(budget: u64, out: &mut Vec<u8>) -> Result<(), NoMemory>
     ensures { Puts out.old.items out.new.items (text_of (SolveDbt budget)) result }
 {
     put_text("solve dbt", out)?;
-    if budget == u64::MAX {
+    if budget == NO_BUDGET {
         return Ok(());
     }
     put_numbered(" budget", budget, out)

@@ -3,15 +3,16 @@
 
 ghost use Rattle.std.specs.Prelude.{◌<◌, ◌++◌, All, codes, flat_map, length, map};
 ghost use Rattle.std.specs.Fmt.{signed_decimal};
-ghost use Rattle.palm_lang.specs.Book.{name_of};
+ghost use Rattle.palm_book.specs.Book.{name_of};
 ghost use Rattle.palm_lang.specs.Print.{Puts};
-ghost use Rattle.palm_lang.specs.Text.{after_spaces, with_commas, range_text, set_text, row_text};
+ghost use Rattle.palm_read.specs.Domain.{range_text, set_text};
+ghost use Rattle.palm_read.specs.Words.{after_spaces, with_commas, row_text};
 
-use crate::book::Book;
-use crate::line::NameList;
 use crate::print::words::{put_spaced_name, put_text, put_value};
 use palm_base::{NoMemory, Value, ValueList, VarList};
+use palm_book::Book;
 use palm_model::RowList;
+use palm_read::NameList;
 
 /// Names with a space before each.
 pub(crate) fn put_names(names: &NameList, out: &mut Vec<u8>) -> Result<(), NoMemory>

@@ -3,15 +3,13 @@
 
 ghost use Rattle.std.specs.Prelude.{◌≡◌, ◌<◌, ◌++◌, [], All, codes, flat_map, length, map, zip};
 ghost use Rattle.std.specs.Fmt.{signed_decimal};
-ghost use Rattle.palm_lang.specs.Book.{number_name, user_name, HasNumber, IsUser};
+ghost use Rattle.palm_book.specs.Book.{number_name, user_name, HasNumber, IsUser};
 ghost use Rattle.palm_lang.specs.Print.{Puts};
 ghost use Rattle.palm_lang.specs.Reply.{ended, fixed_word, refusal_words, ran_text, domain_line, is_interval, values_text, var_line, entry_line, pair_text, reasons_text, removal_line, lead_word, names_line, assigned_text, found_line, spent_line};
-ghost use Rattle.palm_lang.specs.Text.{after_spaces};
+ghost use Rattle.palm_read.specs.Words.{after_spaces};
 ghost use Rattle.palm_model.specs.Constraint.{scope};
 ghost use Rattle.palm_model.specs.Domains.{Ascends};
 
-use crate::book::{Book, BookCon};
-use crate::line::Name;
 use crate::print::cons::put_con;
 use crate::print::lists::{put_range, put_set};
 use crate::print::words::{
@@ -19,6 +17,8 @@ use crate::print::words::{
 };
 use crate::reply::{Fixed, Lead, Refusal};
 use palm_base::{Cid, CidList, NoMemory, Pair, Value, ValueList, Var};
+use palm_book::{Book, BookCon};
+use palm_read::Name;
 
 /// A reply of one word, without its line feed.
 pub(crate) fn fixed_word(word: Fixed) -> &'static str

@@ -4,12 +4,12 @@
 
 ghost use Rattle.std.specs.Prelude.{◌≡◌, codes, ◌++◌};
 ghost use Rattle.std.specs.Fmt.{signed_decimal};
-ghost use Rattle.palm_lang.specs.Grammar.{op_text};
+ghost use Rattle.palm_read.specs.Piece.{op_text};
 ghost use Rattle.palm_lang.specs.Print.{Puts};
 
-use crate::line::Name;
 use palm_base::{NoMemory, Value, push_int};
 use palm_model::Op;
+use palm_read::Name;
 
 /// A fixed text.
 pub(crate) fn put_text(text: &str, out: &mut Vec<u8>) -> Result<(), NoMemory>

@@ -1,7 +1,7 @@
 use Rattle.std.proofs.Common.{List, [], ◌∷◌, ◌++◌, map, filter, take, ap, ◌∙◌}
 use Rattle.std.proofs.lemmas.List.{map-append}
 use Rattle.palm_kind.specs.Kind.{con_of}
-use Rattle.palm_lang.specs.declared.book.BookCon.{BookCon}
+use Rattle.palm_book.specs.declared.book.BookCon.{BookCon}
 use Rattle.palm_model.specs.declared.constraint.Con.{Con}
 use Rattle.palm_session.proofs.Actives.{active_formed, active_more, active_same}
 use Rattle.palm_session.proofs.domains.active_kinds.Goals as goal

@@ -3,8 +3,8 @@ use Rattle.std.proofs.lemmas.Int.{ints}
 use mir.Val.{to_z, of_z}
 use mir.Syntax.{w32}
 use Rattle.palm_model.specs.Limits.{IsValue}
-use Rattle.palm_lang.specs.Book.{AreValues}
-use Rattle.palm_session.specs.Effects.{from_on}
+use Rattle.palm_book.specs.Book.{AreValues}
+use Rattle.palm_read.specs.Domain.{from_on}
 use Rattle.palm_session.proofs.Intervals.{abs_is, narrow, from_on_more, are_values}
 use Rattle.palm_session.proofs.serve.interval.Goals as goal
 

@@ -1,5 +1,5 @@
 use Rattle.std.proofs.Common.{◌≡◌}
-use Rattle.palm_session.specs.Effects.{from_on}
+use Rattle.palm_read.specs.Domain.{from_on}
 use Rattle.palm_session.proofs.serve.interval.Given as goal
 
 abbrev pub invariant-loop-offset : goal.invariant-loop-offset

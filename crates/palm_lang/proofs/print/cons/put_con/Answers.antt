@@ -4,6 +4,6 @@ use Rattle.palm_model.specs.Constraint.{scope}
 use Rattle.palm_lang.proofs.PrintLemmas.{terms_declared}
 use Rattle.palm_lang.proofs.print.cons.put_con.Goals as goal
 
-pub put_sum-requires : goal.put_sum-requires
-put_sum-requires c =
+pub put_linear_con-requires : goal.put_linear_con-requires
+put_linear_con-requires c =
     terms_declared (length c.args.book.now.variables) c.in-Linear.terms (subst (λ (con : Con). All (λ x. x < length c.args.book.now.variables) (scope con)) c.in-Linear.is c.requires)

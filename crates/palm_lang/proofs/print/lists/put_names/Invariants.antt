@@ -1,5 +1,5 @@
 use Rattle.std.proofs.Common.{◌≡◌, ◌++◌, take}
-use Rattle.palm_lang.specs.Text.{after_spaces}
+use Rattle.palm_read.specs.Words.{after_spaces}
 use Rattle.palm_lang.proofs.print.lists.put_names.Given as goal
 
 abbrev pub invariant-loop-name : goal.invariant-loop-name

@@ -1,5 +1,5 @@
 use Rattle.std.proofs.Common.{◌≡◌, ◌++◌, map, take}
-use Rattle.palm_lang.specs.Text.{after_spaces, row_text}
+use Rattle.palm_read.specs.Words.{after_spaces, row_text}
 use Rattle.palm_lang.proofs.print.lists.put_rows.Given as goal
 
 abbrev pub invariant-loop-row : goal.invariant-loop-row

@@ -2,9 +2,9 @@ use Rattle.std.proofs.Common.{◌≡◌, ◌<◌, ◌≤◌, ◌++◌, ℕ, ℤ,
 use Rattle.std.specs.Fmt.{signed_decimal}
 use Rattle.std.proofs.lemmas.List.{take_all}
 use Rattle.std.proofs.lemmas.Slice.Zip.{length-zip}
-use Rattle.palm_lang.specs.Book.{Entry, name_of}
+use Rattle.palm_book.specs.Book.{Entry, name_of}
 use Rattle.palm_lang.specs.Reply.{assigned_text}
-use Rattle.palm_lang.specs.Text.{after_spaces}
+use Rattle.palm_read.specs.Words.{after_spaces}
 use Rattle.palm_lang.proofs.PrintLemmas.{assigned_more}
 use Rattle.palm_lang.proofs.print.replies.put_assignment.Goals as goal
 

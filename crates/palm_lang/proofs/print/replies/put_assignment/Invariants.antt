@@ -1,6 +1,6 @@
 use Rattle.std.proofs.Common.{◌≡◌, ◌++◌, map, take, zip}
 use Rattle.palm_lang.specs.Reply.{assigned_text}
-use Rattle.palm_lang.specs.Text.{after_spaces}
+use Rattle.palm_read.specs.Words.{after_spaces}
 use Rattle.palm_lang.proofs.print.replies.put_assignment.Given as goal
 
 abbrev pub invariant-loop-var : goal.invariant-loop-var

@@ -1,6 +1,6 @@
 use Rattle.std.proofs.Common.{◌≡◌, ◌++◌, map, take}
-use Rattle.palm_lang.specs.Book.{user_name}
-use Rattle.palm_lang.specs.Text.{after_spaces}
+use Rattle.palm_book.specs.Book.{user_name}
+use Rattle.palm_read.specs.Words.{after_spaces}
 use Rattle.palm_lang.proofs.print.replies.put_users.Given as goal
 
 abbrev pub invariant-loop-user : goal.invariant-loop-user

@@ -1,7 +1,7 @@
 use Rattle.std.proofs.lemmas.Result.{IfOk-weaker}
 use Rattle.std.proofs.Common.{◌≡◌, ℕ, ℤ, List, ◌∙◌, ap}
 use Rattle.palm_lang.specs.Reply.{fixed_text}
-use Rattle.palm_lang.specs.declared.line.Line.TheVariants.{Var}
+use Rattle.palm_read.specs.declared.line.Line.TheVariants.{Var}
 use Rattle.palm_lang.specs.declared.reply.Fixed.TheVariants.{Done}
 use Rattle.palm_session.specs.Answers.{Accepts, WaitsFor}
 use Rattle.palm_session.specs.Effects.{Nothing, with_variable}

@@ -3,7 +3,7 @@ use Rattle.std.proofs.lemmas.Result.{IfOk-weaker}
 use Rattle.palm_domain.specs.Rows.{present_of}
 use Rattle.palm_kind.specs.Kind.{con_of}
 use Rattle.palm_kind.specs.declared.kind.Kind.{Kind}
-use Rattle.palm_lang.specs.Book.{initial_of, active_of}
+use Rattle.palm_book.specs.Book.{initial_of, active_of}
 use Rattle.palm_model.specs.Constraint.{IsWellFormed}
 use Rattle.palm_model.specs.Domains.{Domains}
 use Rattle.palm_session.specs.State.{AreDomains, SessionState}

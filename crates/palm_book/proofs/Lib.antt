@@ -1,0 +1,5 @@
+pub mod Any
+pub mod BookLemmas
+pub mod NameLemmas
+pub mod NumberLemmas
+pub mod Resolving

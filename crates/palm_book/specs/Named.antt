@@ -1,0 +1,40 @@
+-- Constraints with the names of their variables, and what a constraint says with names in place of variables.
+use Rattle.std.specs.Prelude.{◌≡◌, ℕ, ◌<◌, List, map, length, All, Any}
+use Rattle.palm_model.specs.Constraint.{scope}
+use Rattle.palm_model.specs.declared.constraint.Con.{Con}
+use Rattle.palm_model.specs.declared.constraint.Con.TheVariants.{CompareVar as CompareVarCon, CompareConst as CompareConstCon, Linear as LinearCon, Table as TableCon, Element as ElementCon, Count as CountCon, Differ as DifferCon}
+use Rattle.palm_model.specs.declared.constraint.Target.{Target}
+use Rattle.palm_model.specs.declared.constraint.Target.TheVariants.{Const, Variable}
+use Rattle.palm_model.specs.declared.constraint.Term.{Term}
+use Rattle.palm_read.specs.declared.line.NameTarget.{NameTarget}
+use Rattle.palm_read.specs.declared.line.NameTarget.TheVariants.{Const as ConstTarget, Variable as VariableTarget}
+use Rattle.palm_read.specs.declared.line.NameTerm.{NameTerm}
+use Rattle.palm_read.specs.declared.line.Shape.{Shape}
+use Rattle.palm_read.specs.declared.line.Shape.TheVariants.{CompareVar, CompareConst, Linear, Table, Element, Count, Differ}
+use Rattle.palm_book.specs.Book.{Entry, name_of}
+
+abbrev pub named_target : List Entry → Target → NameTarget
+named_target variables (Const w) = ConstTarget w
+named_target variables (Variable x) = VariableTarget (name_of variables x)
+
+abbrev pub named_term : List Entry → Term → NameTerm
+named_term variables t = record { factor = t.factor; name = name_of variables t.var }
+
+-- a constraint with the names of its variables
+abbrev pub named : List Entry → Con → Shape
+named variables (CompareVarCon left op right offset) = CompareVar (name_of variables left) op (name_of variables right) offset
+named variables (CompareConstCon left op value) = CompareConst (name_of variables left) op value
+named variables (LinearCon terms op bound) = Linear (map (named_term variables) terms) op bound
+named variables (TableCon vars rows) = Table (map (name_of variables) vars) rows
+named variables (ElementCon outcome index entries) = Element (name_of variables outcome) (name_of variables index) entries
+named variables (CountCon value vars op target) = Count value (map (name_of variables) vars) op (named_target variables target)
+named variables (DifferCon vars) = Differ (map (name_of variables) vars)
+
+-- no variable has the name
+abbrev pub IsUnknownName : List Entry → List ℕ → Type 0
+IsUnknownName variables name = Any (λ e. e.name ≡ name) variables → ⊥
+
+-- the constraint says what the shape says, of the variables with these names
+pub record Resolves (variables : List Entry) (shape : Shape) (con : Con) : Type 0 where
+  pub declared : All (λ x. x < length variables) (scope con)
+  pub says : named variables con ≡ shape

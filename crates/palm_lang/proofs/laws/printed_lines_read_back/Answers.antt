@@ -1,5 +1,0 @@
-use Rattle.palm_lang.proofs.ReadBack.{read_back}
-use Rattle.palm_lang.proofs.laws.printed_lines_read_back.Goals as goal
-
-pub returns : goal.returns
-returns c = read_back

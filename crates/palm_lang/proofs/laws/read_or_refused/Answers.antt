@@ -1,5 +1,0 @@
-use Rattle.palm_lang.proofs.Parsing.{read_not_refused}
-use Rattle.palm_lang.proofs.laws.read_or_refused.Goals as goal
-
-pub returns : goal.returns
-returns c = read_not_refused

@@ -1,5 +1,0 @@
-use Rattle.std.proofs.Common.{◌≡◌, map, take}
-use Rattle.palm_lang.proofs.limits.term_names.Given as goal
-
-abbrev pub invariant-loop-term : goal.invariant-loop-term
-invariant-loop-term l = map (λ t. t.now) l.texts.items ≡ map (λ t. t.name) (take l.term-index l.terms)

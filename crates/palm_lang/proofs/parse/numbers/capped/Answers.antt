@@ -1,7 +1,0 @@
-use Rattle.std.proofs.Common.{arith}
-use Rattle.palm_base.proofs.Numerals.{digits_too_large}
-use Rattle.palm_lang.proofs.parse.numbers.capped.Goals as goal
-
-pub returns-in-None : goal.returns-in-None
-returns-in-None c =
-    omega (arith, digits_too_large c.args.digits.now c.requires.digits c.in-None.ensures.none)

@@ -1,5 +1,0 @@
-use Rattle.palm_lang.proofs.PrintLemmas.{Puts-more, sum_text}
-use Rattle.palm_lang.proofs.print.shapes.put_terms.Goals as goal
-
-pub returns-in_ok-put_first_term-in-len1-up : goal.returns-in_ok-put_first_term-in-len1-up
-returns-in_ok-put_first_term-in-len1-up c = Puts-more _ _ _ _ _ _ _ c.in_ok-put_first_term-in-len1-up.ensures (sum_text c.args.terms.now c.first-item.result c.in-len1-up.len_at_least c.first-item.is) c.put_later_terms.ensures

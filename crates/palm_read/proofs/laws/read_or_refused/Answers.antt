@@ -1,0 +1,5 @@
+use Rattle.palm_read.proofs.Parsing.{read_not_refused}
+use Rattle.palm_read.proofs.laws.read_or_refused.Goals as goal
+
+pub returns : goal.returns
+returns c = read_not_refused

@@ -1,0 +1,20 @@
+-- Numbers of a line, each with its range.
+use Rattle.std.specs.Prelude.{ℕ, ℤ, pos, neg_ℤ}
+use Rattle.palm_model.specs.declared.limits.TheConstants.{GREATEST_VALUE}
+
+-- a number and the least and the greatest that may stand in its place
+pub record Bounded : Type 0 where
+  pub number : ℤ
+  pub least : ℤ
+  pub greatest : ℤ
+
+abbrev pub a_value : ℤ → Bounded
+a_value v = record { number = v; least = neg_ℤ (pos GREATEST_VALUE); greatest = pos GREATEST_VALUE }
+
+-- digits, from 0 on
+abbrev pub up_to : ℕ → ℕ → Bounded
+up_to most n = record { number = pos n; least = pos 0; greatest = pos most }
+
+-- a number that is counted from 1
+abbrev pub from_one_to : ℕ → ℤ → Bounded
+from_one_to most z = record { number = z; least = pos 1; greatest = pos most }

@@ -1,0 +1,101 @@
+-- The limits of the language: which numbers a form may have, which lists may not be empty, which names may not stand
+-- twice, and how many of each there may be.
+use Rattle.std.specs.Prelude.{◌≡◌, ℕ, ◌<◌, ◌<ℤ◌, ◌≤ℤ◌, List, [], ◌∷◌, ◌++◌, ◌⊎◌, length, map, All, Any, Contains, option_to_list}
+use Rattle.palm_model.specs.declared.limits.TheConstants.{MOST_SCOPE}
+use Rattle.palm_read.specs.Bounds.{Bounded, a_value, from_one_to}
+use Rattle.palm_read.specs.Comparison.{offset_numbers, compare_const_numbers}
+use Rattle.palm_read.specs.Count.{count_numbers, target_names, line_target_names}
+use Rattle.palm_read.specs.Domain.{domain_numbers, IsEmptyDomain, IsLarge}
+use Rattle.palm_read.specs.Element.{element_numbers, HasManyEntries}
+use Rattle.palm_read.specs.Form.{ShapeForm, CompareVarForm, CompareConstForm, LinearForm, TableForm, ElementForm, CountForm, DifferForm, Form, DeclareForm, AddForm, WhyForm, MinimalForm, StepForm, SolveDbtForm, SolveRepairForm, CertForm, GuideForm, OrderForm, DropGuideForm, DropOrderForm}
+use Rattle.palm_read.specs.Linear.{linear_numbers, HasZeroFactor}
+use Rattle.palm_read.specs.Table.{table_numbers, HasManyTableRows}
+use Rattle.palm_read.specs.declared.limits.TheConstants.{GREATEST_NUMBER, GREATEST_TABU, NO_BUDGET}
+use Rattle.palm_read.specs.declared.line.Line.{Line}
+use Rattle.palm_read.specs.declared.line.Line.TheVariants.{Var, Add}
+use Rattle.palm_read.specs.declared.line.Shape.{Shape}
+use Rattle.palm_read.specs.declared.line.Shape.TheVariants.{CompareVar, CompareConst, Linear, Table, Element, Count, Differ}
+
+-- the numbers of a constraint
+abbrev pub shape_numbers : ShapeForm → List Bounded
+shape_numbers (CompareVarForm left op right offset) = offset_numbers offset
+shape_numbers (CompareConstForm left op value) = compare_const_numbers value
+shape_numbers (LinearForm terms op bound) = linear_numbers terms bound
+shape_numbers (TableForm vars rows) = table_numbers rows
+shape_numbers (ElementForm outcome index entries) = element_numbers entries
+shape_numbers (CountForm value vars op target) = count_numbers value target
+shape_numbers (DifferForm vars) = []
+
+-- the numbers of a form
+abbrev pub numbers : Form → List Bounded
+numbers (DeclareForm name domain) = domain_numbers domain
+numbers (AddForm name shape) = shape_numbers shape
+numbers (WhyForm name value) = a_value value ∷ []
+numbers (MinimalForm name value) = a_value value ∷ []
+numbers (CertForm name value) = a_value value ∷ []
+numbers (StepForm number) = from_one_to GREATEST_NUMBER number ∷ []
+numbers (SolveDbtForm budget) = map (from_one_to NO_BUDGET) (option_to_list budget)
+numbers (SolveRepairForm tabu budget) = from_one_to GREATEST_TABU tabu ∷ from_one_to NO_BUDGET budget ∷ []
+numbers (GuideForm number) = from_one_to GREATEST_NUMBER number ∷ []
+numbers (OrderForm number) = from_one_to GREATEST_NUMBER number ∷ []
+numbers (DropGuideForm number) = from_one_to GREATEST_NUMBER number ∷ []
+numbers (DropOrderForm number) = from_one_to GREATEST_NUMBER number ∷ []
+numbers _ = []
+
+-- each number of the form is within its bounds
+abbrev pub IsInRange : Form → Type 0
+IsInRange form = All (λ b. (b.least ≤ℤ b.number) × (b.number ≤ℤ b.greatest)) (numbers form)
+
+-- some number of the form is below its least or above its greatest
+abbrev pub IsOutOfRange : Form → Type 0
+IsOutOfRange form = Any (λ b. (b.number <ℤ b.least) ⊎ (b.greatest <ℤ b.number)) (numbers form)
+
+-- a domain, a table or a list of entries has nothing in it, or a coefficient is 0
+abbrev pub HasNothing : Form → Type 0
+HasNothing (DeclareForm name domain) = IsEmptyDomain domain
+HasNothing (AddForm name (LinearForm terms op bound)) = HasZeroFactor terms
+HasNothing (AddForm name (TableForm vars rows)) = rows ≡ []
+HasNothing (AddForm name (ElementForm outcome index entries)) = entries ≡ []
+HasNothing _ = ⊥
+
+-- the variables' names of a constraint, in the order of its text
+abbrev pub scope_names : ShapeForm → List (List ℕ)
+scope_names (CompareVarForm left op right _) = left ∷ right ∷ []
+scope_names (CompareConstForm left op value) = left ∷ []
+scope_names (LinearForm terms op bound) = map (λ t. t.name) terms
+scope_names (TableForm vars rows) = vars
+scope_names (ElementForm outcome index entries) = outcome ∷ index ∷ []
+scope_names (CountForm value vars op target) = vars ++ target_names target
+scope_names (DifferForm vars) = vars
+
+-- some name stands again behind its first place
+abbrev pub Repeats : List (List ℕ) → Type 0
+Repeats [] = ⊥
+Repeats (name ∷ names) = Contains names name ⊎ Repeats names
+
+-- a variable stands twice in the constraint
+abbrev pub HasRepeat : Form → Type 0
+HasRepeat (AddForm name shape) = Repeats (scope_names shape)
+HasRepeat _ = ⊥
+
+-- the variables' names of a constraint that was read
+abbrev pub names_of : Shape → List (List ℕ)
+names_of (CompareVar left op right offset) = left ∷ right ∷ []
+names_of (CompareConst left op value) = left ∷ []
+names_of (Linear terms op bound) = map (λ t. t.name) terms
+names_of (Table vars rows) = vars
+names_of (Element outcome index entries) = outcome ∷ index ∷ []
+names_of (Count value vars op target) = vars ++ line_target_names target
+names_of (Differ vars) = vars
+
+-- more rows or entries than there may be
+abbrev pub HasManyRows : Shape → Type 0
+HasManyRows (Table vars rows) = HasManyTableRows rows
+HasManyRows (Element outcome index entries) = HasManyEntries entries
+HasManyRows _ = ⊥
+
+-- the line breaks a limit on how many there may be, which the line alone shows
+abbrev pub IsBeyond : Line → Type 0
+IsBeyond (Var name domain) = IsLarge domain
+IsBeyond (Add name shape) = (MOST_SCOPE < length (names_of shape)) ⊎ HasManyRows shape
+IsBeyond _ = ⊥

@@ -1,0 +1,20 @@
+//! Reading the session language: tokens, the grammar of lines, their limits, and lines that were read.
+#![tactic(auto)]
+
+mod amounts;
+pub mod laws;
+mod limits;
+mod line;
+mod parse;
+mod reader;
+mod scan;
+mod tokens;
+
+pub use amounts::beyond;
+pub use limits::{
+    GREATEST_NUMBER, GREATEST_TABU, MOST_LINE_BYTES, MOST_NAME_BYTES, MOST_VALUES, NO_BUDGET,
+};
+pub use line::{DomainText, Line, Name, NameList, NameTarget, NameTerm, NameTermList, Shape};
+pub use parse::{LineError, parse_line};
+pub use scan::token;
+pub use tokens::{Token, TokenKind};

@@ -1,0 +1,108 @@
+//! Whether the numbers of a line are within their ranges, and whether nothing is missing in it.
+ghost use Rattle.std.specs.Prelude.{◌↔◌, ◌<◌, All, IsTrue};
+ghost use Rattle.palm_read.specs.Reader.Checks.{HasDomainInRange, HasTargetInRange, HasShapeInRange, HasLineInRange, LacksSomething};
+ghost use Rattle.palm_model.specs.Limits.{IsUpTo, IsValue};
+
+use crate::line::{DomainText, Line, NameTarget, NameTerm, Shape};
+use palm_base::Value;
+use palm_model::{GREATEST_BOUND, GREATEST_FACTOR, GREATEST_OFFSET, GREATEST_VALUE};
+
+/// Whether each number of the line is within its range.
+pub fn is_in_range(line: &Line) -> bool
+    ensures { IsTrue result ↔ HasLineInRange line.now }
+{
+    match line {
+        Line::Var { domain, .. } => is_domain_in_range(domain),
+        Line::Add { shape, .. } => is_shape_in_range(shape),
+        Line::Why { value, .. } | Line::Minimal { value, .. } | Line::Cert { value, .. } =>
+            is_value(value),
+        Line::Step(number) => *number > 0,
+        Line::SolveDbt { budget } => *budget > 0,
+        Line::SolveRepair { tabu, budget } => *tabu > 0 && *budget > 0,
+        Line::Guide(number)
+        | Line::Order(number)
+        | Line::DropGuide(number)
+        | Line::DropOrder(number) => *number > 0,
+        _ => true,
+    }
+}
+
+fn is_domain_in_range(domain: &DomainText) -> bool
+    ensures { IsTrue result ↔ HasDomainInRange domain.now }
+{
+    match domain {
+        DomainText::Range { low, high } => is_value(low) && is_value(high),
+        DomainText::Set(values) => are_values(values.as_slice()),
+    }
+}
+
+fn is_shape_in_range(shape: &Shape) -> bool
+    ensures { IsTrue result ↔ HasShapeInRange shape.now }
+{
+    match shape {
+        Shape::CompareVar { offset, .. } => is_up_to(
+            u64::from(GREATEST_OFFSET),
+            i64::from(*offset),
+        ),
+        Shape::CompareConst { value, .. } => is_value(value),
+        Shape::Linear { terms, bound, .. } => are_factors(terms.as_slice())
+            && is_up_to(GREATEST_BOUND, *bound),
+        Shape::Table { rows, .. } => rows.as_slice().iter().all(|row| are_values(row.as_slice())),
+        Shape::Element { entries, .. } => are_values(entries.as_slice()),
+        Shape::Count { value, target, .. } => is_value(value) && is_target_in_range(target),
+        Shape::Differ { .. } => true,
+    }
+}
+
+fn is_target_in_range(target: &NameTarget) -> bool
+    ensures { IsTrue result ↔ HasTargetInRange target.now }
+{
+    match target {
+        NameTarget::Const(value) => is_value(value),
+        NameTarget::Variable(_) => true,
+    }
+}
+
+fn are_values(values: &[Value]) -> bool
+    ensures { IsTrue result ↔ All IsValue values.now }
+{
+    values.iter().all(is_value)
+}
+
+fn are_factors(terms: &[NameTerm]) -> bool
+    ensures { IsTrue result ↔ All (λ t. IsUpTo GREATEST_FACTOR t.factor) terms.now }
+{
+    terms.iter().all(|t| is_up_to(u64::from(GREATEST_FACTOR), i64::from(t.factor)))
+}
+
+fn is_value(value: &Value) -> bool
+    ensures { IsTrue result ↔ IsValue value.now }
+{
+    is_up_to(u64::from(GREATEST_VALUE), i64::from(value.0))
+}
+
+/// Whether a number is at most so far from 0.
+fn is_up_to(most: u64, number: i64) -> bool
+    ensures { IsTrue result ↔ IsUpTo most number }
+{
+    number.unsigned_abs() <= most
+}
+
+/// Whether nothing stands where something has to, or a coefficient is 0.
+pub fn lacks_something(line: &Line) -> bool
+    ensures { IsTrue result ↔ LacksSomething line.now }
+{
+    match line {
+        Line::Var { domain, .. } => match domain {
+            DomainText::Range { low, high } => high.0 < low.0,
+            DomainText::Set(values) => values.len() == 0,
+        },
+        Line::Add { shape, .. } => match shape {
+            Shape::Linear { terms, .. } => terms.as_slice().iter().any(|t| t.factor == 0),
+            Shape::Table { rows, .. } => rows.len() == 0,
+            Shape::Element { entries, .. } => entries.len() == 0,
+            _ => false,
+        },
+        _ => false,
+    }
+}
