@@ -12,7 +12,7 @@ use Rattle.std.proofs.lemmas.Int.{ints}
 use Rattle.std.proofs.lemmas.Bool.{cases_eq, cases_lt}
 use Rattle.std.proofs.lemmas.Str.Ascii.{IsAscii-from_all, IsAscii-cons}
 use Rattle.std.proofs.lemmas.Str.Parse.{IsDigitsTest, FoldsDigits, IsNumeralModel, numerals_by_fold, parse_signed_minus, parse_signed_plain}
-use Rattle.palm_base.specs.Numbers.{number_of, AreDigits, IsIntText}
+use Rattle.palm_base.specs.Numbers.{digits_number, AreDigits, IsIntText}
 
 abbrev Each : List ℕ → Type 0
 Each bytes = All (λ b. (48 ≤ b) × (b ≤ 57)) bytes
@@ -34,7 +34,7 @@ folds = record {
   more = λ n b bs h. ap (λ m. fold (λ k c. 10 * k + (c - 48)) m bs) (omega arith);
 }
 
-own : IsNumeralModel Each number_of
+own : IsNumeralModel Each digits_number
 own = numerals_by_fold Each tells_each _ folds
 
 -- the number that fits is read, and where none is read no number that fits stands there
@@ -57,27 +57,27 @@ small_minus n h = omega (arith, ints)
 no_digits : (b : ℕ) (bs : List ℕ) → b < 48 → AreDigits (b ∷ bs) → ⊥
 no_digits b bs h d = absurd (omega (arith, (d.each 0 0 (omega arith)).0))
 
-plain : {E : Type 0} (b : ℕ) (bs : List ℕ) (r : Result ℤ E) → b ≢ 45 → OkIff r (Each (b ∷ bs) × (0 < length (b ∷ bs)) × (number_of (b ∷ bs) < 2 ^ 127)) (pos (number_of (b ∷ bs))) → Reads (b ∷ bs) r
+plain : {E : Type 0} (b : ℕ) (bs : List ℕ) (r : Result ℤ E) → b ≢ 45 → OkIff r (Each (b ∷ bs) × (0 < length (b ∷ bs)) × (digits_number (b ∷ bs) < 2 ^ 127)) (pos (digits_number (b ∷ bs))) → Reads (b ∷ bs) r
 plain b bs (Ok z) ne h =
-    (inl (record { some = h.0.1; each = h.0.0 }, h.1), rw h.1 (fits_plain (number_of (b ∷ bs)) h.0.2))
+    (inl (record { some = h.0.1; each = h.0.0 }, h.1), rw h.1 (fits_plain (digits_number (b ∷ bs)) h.0.2))
 plain b bs (Err e) ne h = λ z t f.
     elim t [
-      | inl d ↦ h (d.0.each, d.0.some, small_plain (number_of (b ∷ bs)) (rw d.1 at f))
+      | inl d ↦ h (d.0.each, d.0.some, small_plain (digits_number (b ∷ bs)) (rw d.1 at f))
       | inr d ↦ absurd (ne (ap (λ xs. get_or xs 0 0) d.1))
     ]
 
-minus : {E : Type 0} (bs : List ℕ) (r : Result ℤ E) → OkIff r (Each bs × (0 < length bs) × (number_of bs ≤ 2 ^ 127)) (neg_ℤ (pos (number_of bs))) → Reads (45 ∷ bs) r
+minus : {E : Type 0} (bs : List ℕ) (r : Result ℤ E) → OkIff r (Each bs × (0 < length bs) × (digits_number bs ≤ 2 ^ 127)) (neg_ℤ (pos (digits_number bs))) → Reads (45 ∷ bs) r
 minus bs (Ok z) h =
-    (inr (bs, refl, record { some = h.0.1; each = h.0.0 }, h.1), rw h.1 (fits_minus (number_of bs) h.0.2))
+    (inr (bs, refl, record { some = h.0.1; each = h.0.0 }, h.1), rw h.1 (fits_minus (digits_number bs) h.0.2))
 minus bs (Err e) h = λ z t f.
     elim t [
       | inl d ↦ no_digits 45 bs (omega arith) d.0
       | inr d ↦
           let same : d.0 ≡ bs = sym (ap (drop 1) d.1) in
-          h (rw same at d.2.each, rw same at d.2.some, small_minus (number_of bs) (rw (d.3, same) at f))
+          h (rw same at d.2.each, rw same at d.2.some, small_minus (digits_number bs) (rw (d.3, same) at f))
     ]
 
-empty : {E : Type 0} (r : Result ℤ E) → OkIff r (Each [] × (0 < length {A = ℕ} []) × (number_of [] < 2 ^ 127)) (pos (number_of [])) → Reads [] r
+empty : {E : Type 0} (r : Result ℤ E) → OkIff r (Each [] × (0 < length {A = ℕ} []) × (digits_number [] < 2 ^ 127)) (pos (digits_number [])) → Reads [] r
 empty (Ok z) h = absurd (omega (arith, h.0.1))
 empty (Err e) h = λ z t f. elim t [ inl d ↦ absurd (omega (arith, d.0.some)) | inr d ↦ cc d.1 ]
 
@@ -129,22 +129,22 @@ decimal_digits n h =
     let d = (decimal_is_IsNumeral_wide n h).0 in
     record { some = d.0; each = own.from (decimal n) d.1 }
 
-pub number_of-decimal : (n : ℕ) → n < 10 ^ 64 → number_of (decimal n) ≡ n
-number_of-decimal n h =
+pub digits_number-decimal : (n : ℕ) → n < 10 ^ 64 → digits_number (decimal n) ≡ n
+digits_number-decimal n h =
     let d = decimal_is_IsNumeral_wide n h in
     own.same (decimal n) d.0.1 ∙ d.1
 
 -- digits are read as their number, and where nothing is read the number is too large
-pub digits_read : (bytes : List ℕ) (z : ℤ) → AreDigits bytes → IsIntText bytes z → z ≡ pos (number_of bytes)
+pub digits_read : (bytes : List ℕ) (z : ℤ) → AreDigits bytes → IsIntText bytes z → z ≡ pos (digits_number bytes)
 digits_read bytes z d t =
     elim t [
       | inl r ↦ r.1
       | inr r ↦ absurd (omega (arith, (d.each 0 0 d.some).0, ap (λ xs. get_or xs 0 0) r.1))
     ]
 
-pub digits_too_large : (bytes : List ℕ) → AreDigits bytes → ((z : ℤ) → IsIntText bytes z → FitsSigned w128 z → ⊥) → 2 ^ 127 ≤ number_of bytes
+pub digits_too_large : (bytes : List ℕ) → AreDigits bytes → ((z : ℤ) → IsIntText bytes z → FitsSigned w128 z → ⊥) → 2 ^ 127 ≤ digits_number bytes
 digits_too_large bytes d none =
-    elim (cases_lt (number_of bytes) (2 ^ 127)) [
-      | inl small ↦ absurd (none (pos (number_of bytes)) (inl (d, refl)) (fits_plain (number_of bytes) small))
+    elim (cases_lt (digits_number bytes) (2 ^ 127)) [
+      | inl small ↦ absurd (none (pos (digits_number bytes)) (inl (d, refl)) (fits_plain (digits_number bytes) small))
       | inr large ↦ large
     ]

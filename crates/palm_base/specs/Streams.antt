@@ -1,20 +1,42 @@
--- What a read and a write do to the bytes of a stream, where the stream tells them, and the causes of its failures.
-use Rattle.std.specs.Prelude.{◌≡◌, ℕ, ◌+◌, ◌-◌, ◌^◌, ◌<◌, ◌≤◌, min, List, [], ◌++◌, length, take, ⊤, Option, None, Some, Result, MatchResult, OnErr}
+-- What a read and a write do to a stream: to its bytes, where the stream tells them, and to its count of faults.
+use Rattle.std.specs.Prelude.{◌≡◌, ℕ, ◌<◌, ◌≤◌, List, [], ◌++◌, length, take, ⊤, Option, None, Some, Result, MatchResult, OnOk, OnErr}
+use Rattle.palm_base.specs.Counts.{one_more}
 
--- a count of faults that ends at the last number of 64 bits rose, or stands there
+-- a source: the bytes that are left, where it tells them, and how many faults there were
+pub record SourceState : Type 0 where
+  pub left : Option (List ℕ)
+  pub faults : ℕ
+
+-- a sink: the bytes that were written, where it tells them, and how many faults there were
+pub record SinkState : Type 0 where
+  pub written : Option (List ℕ)
+  pub faults : ℕ
+
+abbrev pub source : Option (List ℕ) → ℕ → SourceState
+source left faults = record { left = left; faults = faults }
+
+abbrev pub sink : Option (List ℕ) → ℕ → SinkState
+sink written faults = record { written = written; faults = faults }
+
+-- a sink that tells nothing of its bytes
+abbrev pub silent_sink : ℕ → SinkState
+silent_sink faults = sink None faults
+
+-- a count of faults rose, or stands at its last number
 abbrev pub Rose : ℕ → ℕ → Type 0
-Rose before now = min (before + 1) (2 ^ 64 - 1) ≤ now
+Rose before now = one_more before ≤ now
 
--- the count never falls, and an error comes only where it rose
+-- the count never falls; it stands at a good answer, and a failure comes only where it rose
 pub record HasCause {T E : Type 0} (before now : ℕ) (result : Result T E) : Type 0 where
   pub later : before ≤ now
+  pub ok : OnOk result (now ≡ before)
   pub failed : OnErr result (Rose before now)
 
 -- the bytes that were left, where they were told, are these bytes and then those that are left now
-abbrev pub Takes : Option (List ℕ) → Option (List ℕ) → List ℕ → Type 0
-Takes None now bytes = ⊤
-Takes (Some before) None bytes = ⊥
-Takes (Some before) (Some now) bytes = before ≡ bytes ++ now
+abbrev pub Consumes : Option (List ℕ) → Option (List ℕ) → List ℕ → Type 0
+Consumes None now bytes = ⊤
+Consumes (Some before) None bytes = ⊥
+Consumes (Some before) (Some now) bytes = before ≡ bytes ++ now
 
 -- no byte is left, where the bytes are told
 abbrev pub IsAtEnd : Option (List ℕ) → Type 0
@@ -22,10 +44,10 @@ IsAtEnd None = ⊤
 IsAtEnd (Some left) = left ≡ []
 
 -- a read gives the first bytes that were left and takes these; none only at the end; a failure takes nothing
-abbrev pub Reads : {E : Type 0} → Option (List ℕ) → Option (List ℕ) → List ℕ → Result ℕ E → Type 0
+abbrev pub Reads : {E : Type 0} → SourceState → SourceState → List ℕ → Result ℕ E → Type 0
 Reads before now buffer result =
-    MatchResult result (λ n. (n ≤ length buffer) × Takes before now (take n buffer) × (n ≡ 0 → IsAtEnd before))
-    (λ _. Takes before now [])
+    MatchResult result (λ n. (n ≤ length buffer) × Consumes before.left now.left (take n buffer) × (n ≡ 0 → IsAtEnd before.left))
+    (λ _. Consumes before.left now.left [])
 
 -- what was written grew by these bytes, where it is told afterwards
 abbrev pub Appended : Option (List ℕ) → Option (List ℕ) → List ℕ → Type 0
@@ -34,7 +56,19 @@ Appended None (Some now) bytes = ⊥
 Appended (Some before) (Some now) bytes = now ≡ before ++ bytes
 
 -- a write appends the first bytes of the piece, at least one; a failure appends nothing
-abbrev pub Writes : {E : Type 0} → Option (List ℕ) → Option (List ℕ) → List ℕ → Result ℕ E → Type 0
+abbrev pub Writes : {E : Type 0} → SinkState → SinkState → List ℕ → Result ℕ E → Type 0
 Writes before now piece result =
-    MatchResult result (λ n. (0 < n) × (n ≤ length piece) × Appended before now (take n piece))
-    (λ _. Appended before now [])
+    MatchResult result (λ n. (0 < n) × (n ≤ length piece) × Appended before.written now.written (take n piece))
+    (λ _. Appended before.written now.written [])
+
+-- a front of the text was written
+pub record AppendedFront (before now : Option (List ℕ)) (text : List ℕ) : Type 0 where
+  pub front : List ℕ
+  pub back : List ℕ
+  pub whole : text ≡ front ++ back
+  pub written : Appended before now front
+
+-- the whole text is written, or a front of it at a failure
+abbrev pub WritesAll : {T E : Type 0} → SinkState → SinkState → List ℕ → Result T E → Type 0
+WritesAll before now text result =
+    MatchResult result (λ _. Appended before.written now.written text) (λ _. AppendedFront before.written now.written text)

@@ -1,8 +1,10 @@
 //! The edge to the outside: any reader of std as a source, and any writer of std as a sink.
-ghost use Rattle.std.specs.Prelude.{◌≡◌, ◌<◌, ℕ, length, None};
-ghost use Rattle.std.specs.Io.KnownBytes.{WriteAppends};
-ghost use Rattle.palm_base.specs.Streams.{HasCause, Reads, Writes};
+ghost use Rattle.std.specs.Prelude.{◌≡◌, ◌<◌, length, take, IfOk, OnOk, None};
+ghost use Rattle.std.specs.Io.KnownBytes.{Appends, WriteAppends};
+ghost use Rattle.palm_base.specs.Streams.{HasCause, Reads, Writes, source, silent_sink};
+ghost use Rattle.palm_base.specs.Adapters.{Counted};
 
+use crate::counts::next_count;
 use crate::errors::Failed;
 use crate::stream::{Sink, Source};
 use std::io::{Read, Write};
@@ -15,26 +17,31 @@ pub struct StdSource<R: Read + Drop> {
     faults: u64,
 }
 
+impl<R: Read + Drop> Model for StdSource<R> {
+    ghost use Rattle.palm_base.specs.Adapters.{Counted};
+
+    ghost Value = { Counted R };
+
+    ghost view = { λ s. record { inner = s.reader; faults = s.faults } };
+}
+
 impl<R: Read + Drop> StdSource<R> {
     /// No fault so far.
     pub fn new(reader: R) -> StdSource<R>
-        ensures reader { result.reader ≡ reader }
-        ensures faults { result.faults ≡ 0 }
+        ensures { result ≡ record { inner = reader; faults = 0 } }
     {
         StdSource { reader, faults: 0 }
     }
 }
 
 impl<R: Read + Drop> Source for StdSource<R> {
-    ghost left = { λ s. R.remaining s.reader };
-
-    ghost faults = { λ s. s.faults };
+    ghost state = { λ s. source (R.remaining s.inner) s.faults };
 
     fn read(&mut self, buffer: &mut [u8]) -> Result<usize, Failed> {
         match self.reader.read(buffer) {
             Ok(count) => Ok(count),
             Err(_) => {
-                self.faults = self.faults.saturating_add(1);
+                self.faults = next_count(self.faults);
                 Err(Failed)
             }
         }
@@ -42,65 +49,47 @@ impl<R: Read + Drop> Source for StdSource<R> {
 }
 
 /// A writer of std as a sink. It flushes after each write, and counts an error of either, and a write of nothing.
+/// It tells nothing of its bytes; of a writer that tells its own, it is known that they were taken as answered.
 #[derive(Drop)]
 pub struct StdSink<W: Write + Drop> {
     writer: W,
     faults: u64,
 }
 
+impl<W: Write + Drop> Model for StdSink<W> {
+    ghost use Rattle.palm_base.specs.Adapters.{Counted};
+
+    ghost Value = { Counted W };
+
+    ghost view = { λ s. record { inner = s.writer; faults = s.faults } };
+}
+
 impl<W: Write + Drop> StdSink<W> {
     /// No fault so far.
     pub fn new(writer: W) -> StdSink<W>
-        ensures writer { result.writer ≡ writer }
-        ensures faults { result.faults ≡ 0 }
+        ensures { result ≡ record { inner = writer; faults = 0 } }
     {
         StdSink { writer, faults: 0 }
     }
 }
 
 impl<W: Write + Drop> Sink for StdSink<W> {
-    ghost written = { λ _. None };
+    ghost state = { λ s. silent_sink s.faults };
 
-    ghost faults = { λ s. s.faults };
-
-    fn write(&mut self, piece: &[u8]) -> Result<usize, Failed> {
-        let count = match self.writer.write(piece) {
-            Ok(count) => count,
-            Err(_) => 0,
-        };
-        let flushed = self.writer.flush().is_ok();
-        if count == 0 || !flushed {
-            self.faults = self.faults.saturating_add(1);
-            return Err(Failed);
+    fn write(&mut self, piece: &[u8]) -> Result<usize, Failed>
+        requires { 0 < length piece.now }
+        ensures cause { HasCause self.old.faults self.new.faults result }
+        ensures bytes { Writes (silent_sink self.old.faults) (silent_sink self.new.faults) piece.now result }
+        ensures taken { IfOk result (λ n. Appends (W.contents self.old.inner) (W.contents self.new.inner) (take n piece.now)) }
+    {
+        let written = self.writer.write(piece);
+        let flushed = self.writer.flush();
+        match (written, flushed) {
+            (Ok(count), Ok(())) if count > 0 => Ok(count),
+            _ => {
+                self.faults = next_count(self.faults);
+                Err(Failed)
+            }
         }
-        Ok(count)
-    }
-}
-
-#[cfg(test)]
-mod tests {
-    use super::*;
-    use std::test::Fail;
-
-    #[test]
-    fn a_reader_gives_its_bytes_and_then_ends(rt: HostRuntime) -> Result<(), Fail> {
-        let mut source = StdSource::new(b"list".as_slice());
-        let mut buffer = [0; 3];
-        assert_eq!(rt; source.read(&mut buffer), Ok(3));
-        assert_eq!(rt; buffer, *b"lis");
-        assert_eq!(rt; source.read(&mut buffer), Ok(1));
-        assert_eq!(rt; buffer[0], b't');
-        assert_eq!(rt; source.read(&mut buffer), Ok(0));
-        Ok(())
-    }
-
-    #[test]
-    fn a_writer_takes_what_fits_and_then_fails(rt: HostRuntime) -> Result<(), Fail> {
-        let mut room = [0; 3];
-        let mut sink = StdSink::new(room.as_mut_slice());
-        assert_eq!(rt; sink.write(b"bye"), Ok(3));
-        assert_eq!(rt; sink.write(b"!"), Err(Failed));
-        assert_eq!(rt; room, *b"bye");
-        Ok(())
     }
 }

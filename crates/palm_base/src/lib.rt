@@ -2,17 +2,23 @@
 //! contracts see as lists, the want of memory, and the byte streams at the edge with their counts of faults.
 #![tactic(auto)]
 
-pub mod adapters;
-pub mod errors;
-pub mod memory;
-pub mod numbers;
-pub mod sequence;
-pub mod steps;
-pub mod stream;
-pub mod terms;
+mod adapters;
+mod counts;
+mod errors;
+mod laws;
+mod limits;
+mod memory;
+mod numbers;
+mod sequence;
+mod steps;
+mod stream;
+mod terms;
+mod writing;
 
 pub use adapters::{StdSink, StdSource};
 pub use errors::{Failed, NoMemory};
+pub use laws::names_are_ordered;
+pub use limits::LAST_COUNT;
 pub use memory::sinks::{MemorySink, SteadySink};
 pub use memory::sources::{MemorySource, SteadySource};
 pub use numbers::{push_int, read_int};
@@ -20,3 +26,4 @@ pub use sequence::{ByteList, CallList, CidList, Sequence, ValueList, VarList};
 pub use steps::Steps;
 pub use stream::{Sink, Source};
 pub use terms::{Cid, Pair, Value, Var};
+pub use writing::write_all;

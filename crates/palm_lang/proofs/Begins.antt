@@ -2,7 +2,7 @@
 use Rattle.std.proofs.Common.{◌≡◌, ℕ, ℤ, ◌+◌, ◌<◌, ◌≤◌, Some, List, [], ◌∷◌, ◌++◌, length, refl, ap, ◌∙◌, arith, length-append, inl, inr}
 use Rattle.palm_lang.specs.declared.tokens.TokenKind.TheVariants.{Word, Digits, Sign}
 use Rattle.palm_lang.specs.Token.{Lexeme}
-use Rattle.palm_lang.specs.Grammar.{Piece, Keyword, Named, Mark, Integer, Natural, word, sign, IsName, IsInteger, IsPiece, Spells, number_of}
+use Rattle.palm_lang.specs.Grammar.{Piece, Keyword, Named, Mark, Integer, Natural, word, sign, IsName, IsInteger, IsPiece, Spells, digits_number}
 use Rattle.palm_lang.specs.Reader.{token_at, keyword_at, mark_at, name_at, natural_at, integer_at}
 use Rattle.palm_lang.proofs.Front.{token_is, behind_is, name_is, natural_is, integer_is, Starts, digits_first, minus_first}
 
@@ -46,7 +46,7 @@ by_name {x = x} e b = let n = name_is _ x e in next (word x.0 ∷ []) n.0 (refl,
 pub by_natural : {tokens rest : List Lexeme} {x : ℕ × List Lexeme} {ps : List Piece} → natural_at tokens ≡ Some x → Begins x.1 ps rest → Begins tokens (Natural x.0 ∷ ps) rest
 by_natural {x = x} e b = let n = natural_is _ x e in next (record { kind = Digits; text = n.0 } ∷ []) n.1 (n.0, refl, n.2) b
 
-pub by_digits : {tokens rest : List Lexeme} {x : List ℕ × List Lexeme} {ps : List Piece} → token_at Digits tokens ≡ Some x → Begins x.1 ps rest → Begins tokens (Natural (number_of x.0) ∷ ps) rest
+pub by_digits : {tokens rest : List Lexeme} {x : List ℕ × List Lexeme} {ps : List Piece} → token_at Digits tokens ≡ Some x → Begins x.1 ps rest → Begins tokens (Natural (digits_number x.0) ∷ ps) rest
 by_digits {x = x} e b = next (record { kind = Digits; text = x.0 } ∷ []) (token_is Digits _ x e) (x.0, refl, refl) b
 
 pub by_integer : {tokens rest : List Lexeme} {x : ℤ × List Lexeme} {ps : List Piece} → integer_at tokens ≡ Some x → Begins x.1 ps rest → Begins tokens (Integer x.0 ∷ ps) rest
@@ -63,7 +63,7 @@ mark_first (next {back = back} front e p b) = (back, e ∙ ap (λ ts. ts ++ back
 pub name_first : {tokens rest : List Lexeme} {w : List ℕ} {ps : List Piece} → Begins tokens (Named w ∷ ps) rest → (back : List Lexeme) × (tokens ≡ word w ∷ back) × IsName w × Begins back ps rest
 name_first (next {back = back} front e p b) = (back, e ∙ ap (λ ts. ts ++ back) p.0, p.1, b)
 
-pub natural_first : {tokens rest : List Lexeme} {n : ℕ} {ps : List Piece} → Begins tokens (Natural n ∷ ps) rest → (digits : List ℕ) × (back : List Lexeme) × (tokens ≡ record { kind = Digits; text = digits } ∷ back) × (n ≡ number_of digits) × Begins back ps rest
+pub natural_first : {tokens rest : List Lexeme} {n : ℕ} {ps : List Piece} → Begins tokens (Natural n ∷ ps) rest → (digits : List ℕ) × (back : List Lexeme) × (tokens ≡ record { kind = Digits; text = digits } ∷ back) × (n ≡ digits_number digits) × Begins back ps rest
 natural_first (next {back = back} front e p b) = (p.0, back, e ∙ ap (λ ts. ts ++ back) p.1, p.2, b)
 
 pub integer_first : {tokens rest : List Lexeme} {z : ℤ} {ps : List Piece} → Begins tokens (Integer z ∷ ps) rest → (back : List Lexeme) × Starts tokens z back × Begins back ps rest

@@ -9,7 +9,7 @@ use Rattle.std.proofs.lemmas.Slice.Eq.{bytes_eq-Decides}
 use Rattle.palm_lang.specs.declared.tokens.TokenKind.{TokenKind}
 use Rattle.palm_lang.specs.declared.tokens.TokenKind.TheVariants.{Word, Digits, Sign, Other}
 use Rattle.palm_lang.specs.Token.{Lexeme}
-use Rattle.palm_lang.specs.Grammar.{word, sign, IsName, IsReserved, IsInteger, number_of}
+use Rattle.palm_lang.specs.Grammar.{word, sign, IsName, IsReserved, IsInteger, digits_number}
 use Rattle.palm_lang.specs.Reader.{and_then, when, choose, is_kind, front_text, token_at, behind, is_name, is_reserved, name_at, natural_at, integer_at}
 
 -- ---- a reader that answered
@@ -136,7 +136,7 @@ name_at-cons w rest n = rw (token_at-cons Word w rest, is_name-name w n) refl
 
 -- ---- numbers
 
-pub natural_is : (tokens : List Lexeme) (x : ℕ × List Lexeme) → natural_at tokens ≡ Some x → (digits : List ℕ) × (tokens ≡ record { kind = Digits; text = digits } ∷ x.1) × (x.0 ≡ number_of digits)
+pub natural_is : (tokens : List Lexeme) (x : ℕ × List Lexeme) → natural_at tokens ≡ Some x → (digits : List ℕ) × (tokens ≡ record { kind = Digits; text = digits } ∷ x.1) × (x.0 ≡ digits_number digits)
 unfolding natural_at
 natural_is tokens x e =
     let a = and_then_some e in
@@ -144,7 +144,7 @@ natural_is tokens x e =
     let is = token_is Digits tokens a.0 a.1 in
     (a.0.0, cc, cc)
 
-pub natural_at-cons : (digits : List ℕ) (rest : List Lexeme) → natural_at (record { kind = Digits; text = digits } ∷ rest) ≡ Some (number_of digits, rest)
+pub natural_at-cons : (digits : List ℕ) (rest : List Lexeme) → natural_at (record { kind = Digits; text = digits } ∷ rest) ≡ Some (digits_number digits, rest)
 unfolding natural_at and_then
 natural_at-cons digits rest = rw (token_at-cons Digits digits rest) refl
 
@@ -176,8 +176,8 @@ integer_is tokens x e =
 
 -- a number in front begins with digits or with `-` and digits
 pub data Starts : List Lexeme → ℤ → List Lexeme → Type 0 where
-  digits_first : {digits : List ℕ} {rest : List Lexeme} → Starts (record { kind = Digits; text = digits } ∷ rest) (pos (number_of digits)) rest
-  minus_first : {digits : List ℕ} {rest : List Lexeme} → Starts (sign (codes "-") ∷ record { kind = Digits; text = digits } ∷ rest) (neg_ℤ (pos (number_of digits))) rest
+  digits_first : {digits : List ℕ} {rest : List Lexeme} → Starts (record { kind = Digits; text = digits } ∷ rest) (pos (digits_number digits)) rest
+  minus_first : {digits : List ℕ} {rest : List Lexeme} → Starts (sign (codes "-") ∷ record { kind = Digits; text = digits } ∷ rest) (neg_ℤ (pos (digits_number digits))) rest
 
 pub integer_at-starts : {tokens : List Lexeme} {z : ℤ} {rest : List Lexeme} → Starts tokens z rest → integer_at tokens ≡ Some (z, rest)
 unfolding integer_at natural_at behind token_at front_text and_then when choose

@@ -7,7 +7,7 @@ use Rattle.std.proofs.lemmas.Bool.{eqb-true, eq-eqb}
 use Rattle.std.proofs.lemmas.Option.{same_Some, none-some, some_pair_parts}
 use Rattle.palm_lang.specs.declared.tokens.TokenKind.TheVariants.{Digits, Sign}
 use Rattle.palm_lang.specs.Token.{Lexeme}
-use Rattle.palm_lang.specs.Grammar.{Piece, Named, Mark, Integer, word, sign, number_of, listed, in_parentheses, unsigned_term, later_term}
+use Rattle.palm_lang.specs.Grammar.{Piece, Named, Mark, Integer, word, sign, digits_number, listed, in_parentheses, unsigned_term, later_term}
 use Rattle.palm_lang.specs.Form.{TermForm}
 use Rattle.palm_lang.specs.Reader.{Reading, and_then, when, choose, front_text, token_at, behind, mark_at, next_name, next_value, values_at, next_row, term_at, next_term}
 use Rattle.palm_lang.proofs.Front.{Starts, digits_first, minus_first, and_then_some, when_some, guard_some, token_at-cons, behind-cons, name_at-cons, integer_at-starts}
@@ -215,7 +215,7 @@ term_takes minus tokens x e =
       | inl w ↦
           let rest = and_then_some w.2 in
           let name = and_then_some rest.2 in
-          let made : TermForm × List Lexeme = (record { minus = minus; factor = Some (number_of w.0.0); name = name.0.0 }, name.0.1) in
+          let made : TermForm × List Lexeme = (record { minus = minus; factor = Some (digits_number w.0.0); name = name.0.0 }, name.0.1) in
           let taken : Taken made = (by_digits w.1 (by_mark rest.1 (by_name name.1 over)), refl) in
           subst Taken (same_Some made x name.2) taken
       | inr w ↦

@@ -10,7 +10,7 @@ use Rattle.std.proofs.lemmas.List.{append_assoc, append-nil}
 use Rattle.std.proofs.lemmas.List.Concat.{flat_map-append}
 use Rattle.std.proofs.lemmas.List.Elements.{All-nil, All-cons, All-append, All-tail, All-weaker}
 use Rattle.std.proofs.lemmas.List.Sums.{AllPass-from_list_all}
-use Rattle.palm_base.proofs.Numerals.{decimal_digits, number_of-decimal}
+use Rattle.palm_base.proofs.Numerals.{decimal_digits, digits_number-decimal}
 use Rattle.palm_model.specs.declared.constraint.Op.{Op}
 use Rattle.palm_model.specs.declared.constraint.Op.TheVariants.{Eq, Ne, Lt, Le, Gt, Ge}
 use Rattle.palm_lang.specs.Book.{IsNameText}
@@ -162,7 +162,7 @@ decimal_plain n small = All-weaker (λ b. (48 ≤ b) × (b ≤ 57)) IsPlainByte 
 
 pub lays_natural : (k n : ℕ) → 0 < k → n < 10 ^ k → n < 10 ^ 64 → Lays NoDigit k (decimal n) (Natural n ∷ [])
 lays_natural k n some few small = record {
-  begins = λ rest stops. next (record { kind = Digits; text = decimal n } ∷ []) (tokens_of-decimal n rest small stops) (decimal n, refl, sym (number_of-decimal n small)) over;
+  begins = λ rest stops. next (record { kind = Digits; text = decimal n } ∷ []) (tokens_of-decimal n rest small stops) (decimal n, refl, sym (digits_number-decimal n small)) over;
   plain = decimal_plain n small;
   short = length-decimal-le_wide k n some few small;
 }
@@ -170,14 +170,14 @@ lays_natural k n some few small = record {
 -- a whole number that is not negative
 pub lays_count : (k n : ℕ) → 0 < k → n < 10 ^ k → n < 10 ^ 64 → Lays NoDigit k (decimal n) (Integer (pos n) ∷ [])
 lays_count k n some few small = record {
-  begins = λ rest stops. next (record { kind = Digits; text = decimal n } ∷ []) (tokens_of-decimal n rest small stops) (inl (n, (decimal n, refl, sym (number_of-decimal n small)), refl)) over;
+  begins = λ rest stops. next (record { kind = Digits; text = decimal n } ∷ []) (tokens_of-decimal n rest small stops) (inl (n, (decimal n, refl, sym (digits_number-decimal n small)), refl)) over;
   plain = decimal_plain n small;
   short = length-decimal-le_wide k n some few small;
 }
 
 lays_negative : (k n : ℕ) → 0 < k → suc n < 10 ^ k → suc n < 10 ^ 64 → Lays NoDigit (1 + k) (45 ∷ decimal (suc n)) (Integer (negsuc n) ∷ [])
 lays_negative k n some few small = record {
-  begins = λ rest stops. next (sign (codes "-") ∷ record { kind = Digits; text = decimal (suc n) } ∷ []) (tokens_of-lone_sign 45 (decimal (suc n) ++ rest) refl refl ∙ ap (λ ts. sign (codes "-") ∷ ts) (tokens_of-decimal (suc n) rest small stops)) (inr (suc n, record { kind = Digits; text = decimal (suc n) } ∷ [], refl, (decimal (suc n), refl, sym (number_of-decimal (suc n) small)), refl)) over;
+  begins = λ rest stops. next (sign (codes "-") ∷ record { kind = Digits; text = decimal (suc n) } ∷ []) (tokens_of-lone_sign 45 (decimal (suc n) ++ rest) refl refl ∙ ap (λ ts. sign (codes "-") ∷ ts) (tokens_of-decimal (suc n) rest small stops)) (inr (suc n, record { kind = Digits; text = decimal (suc n) } ∷ [], refl, (decimal (suc n), refl, sym (digits_number-decimal (suc n) small)), refl)) over;
   plain = All-cons IsPlainByte 45 (decimal (suc n)) refl (decimal_plain (suc n) small);
   short = omega (arith, length-decimal-le_wide k (suc n) some few small);
 }

@@ -1,6 +1,6 @@
 -- The grammar: which pieces a form is written with, one after another, and which tokens spell a piece.
 use Rattle.std.specs.Prelude.{◌≡◌, ℕ, ℤ, pos, neg_ℤ, ◌<◌, ◌≤◌, Bool, true, false, Option, Some, None, List, [], ◌∷◌, ◌++◌, ◌⊎◌, length, map, flat_map, All, codes, ⊤}
-pub use Rattle.palm_base.specs.Numbers.{number_of}
+pub use Rattle.palm_base.specs.Numbers.{digits_number}
 use Rattle.palm_model.specs.Linear.{IsLinearOp}
 use Rattle.palm_model.specs.declared.constraint.Op.{Op}
 use Rattle.palm_model.specs.declared.constraint.Op.TheVariants.{Eq, Ne, Lt, Le, Gt, Ge}
@@ -35,7 +35,7 @@ pub record IsName (w : List ℕ) : Type 0 where
 
 -- digits for a number, leading zeros among them
 abbrev pub IsNatural : List Lexeme → ℕ → Type 0
-IsNatural tokens n = (digits : List ℕ) × (tokens ≡ record { kind = Digits; text = digits } ∷ []) × (n ≡ number_of digits)
+IsNatural tokens n = (digits : List ℕ) × (tokens ≡ record { kind = Digits; text = digits } ∷ []) × (n ≡ digits_number digits)
 
 -- digits for a number, or `-` and digits
 abbrev pub IsInteger : List Lexeme → ℤ → Type 0

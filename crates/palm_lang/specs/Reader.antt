@@ -7,7 +7,7 @@ use Rattle.palm_model.specs.declared.constraint.Op.TheVariants.{Eq, Ne, Lt, Le, 
 use Rattle.palm_lang.specs.declared.tokens.TokenKind.{TokenKind}
 use Rattle.palm_lang.specs.declared.tokens.TokenKind.TheVariants.{Word, Digits, Sign, Other}
 use Rattle.palm_lang.specs.Token.{Lexeme}
-use Rattle.palm_lang.specs.Grammar.{number_of}
+use Rattle.palm_lang.specs.Grammar.{digits_number}
 use Rattle.palm_lang.specs.Form.{DomainForm, Interval, Members, TermForm, OffsetForm, NoOffset, Plus, Minus, TargetForm, Number, Variable, ShapeForm, Compared, ComparedTo, Summed, Tabled, Chosen, Counting, Differing, Form, DeclareForm, AddForm, RelaxForm, EnforceForm, RetractForm, DomainsForm, DomainOfForm, ListForm, LogForm, WhyForm, ConflictForm, MinimalConflictForm, MinimalForm, PauseForm, ResumeForm, StepForm, SolveDbtForm, SolveRepairForm, CertForm, CertConflictForm, GuideForm, GuideNoneForm, OrderForm, OrderNoneForm, DropGuideForm, DropOrderForm, QuitForm}
 
 -- what was read, and the tokens behind it
@@ -87,7 +87,7 @@ name_at tokens = do
 unfoldable pub natural_at : List Lexeme → Reading ℕ
 natural_at tokens = do
   digits ← token_at Digits tokens
-  Some (number_of digits.0, digits.1)
+  Some (digits_number digits.0, digits.1)
 
 unfoldable pub integer_at : List Lexeme → Reading ℤ
 integer_at tokens = when (mark_at (codes "-") tokens)
@@ -158,7 +158,7 @@ term_at minus tokens = when (token_at Digits tokens)
     (λ digits. do
       rest ← mark_at (codes "*") digits.1
       name ← name_at rest
-      Some (record { minus = minus; factor = Some (number_of digits.0); name = name.0 }, name.1))
+      Some (record { minus = minus; factor = Some (digits_number digits.0); name = name.0 }, name.1))
     (do
       name ← name_at tokens
       Some (record { minus = minus; factor = None; name = name.0 }, name.1))

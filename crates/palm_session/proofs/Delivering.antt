@@ -1,5 +1,5 @@
 -- Steps of writing.
-use Rattle.std.proofs.Common.{◌≡◌, ℕ, ◌+◌, ◌-◌, ◌<◌, ◌≤◌, List, flat_map, get_or, subst, ◌++◌, length, take, drop, refl, sym, ap, ◌∙◌, append_assoc, arith, [], Option, Result, Ok, Err}
+use Rattle.std.proofs.Common.{◌≡◌, ℕ, ◌+◌, ◌<◌, ◌≤◌, List, flat_map, get_or, subst, ◌++◌, length, take, drop, refl, sym, ap, ◌∙◌, append_assoc, arith, [], Result, Ok, Err}
 use Rattle.palm_base.proofs.StreamLemmas.{appended_both, appended_nothing}
 use Rattle.std.proofs.Common.{ℤ, zip, option_to_list, append-nil, slice_get, Some, zero, suc, ◌∷◌}
 use Rattle.std.proofs.lemmas.Option.{get_or_from_slice_get}
@@ -10,44 +10,36 @@ use Rattle.palm_lang.specs.Reply.{domain_line, entry_line, entry_at, var_line, f
 use Rattle.palm_lang.specs.declared.reply.Fixed.TheVariants.{End}
 use Rattle.palm_session.specs.Answers.{domains_text, list_text}
 use Rattle.palm_lang.specs.declared.book.BookCon.{BookCon}
-use Rattle.palm_session.specs.Writing.{Delivers}
+use Rattle.palm_base.specs.Streams.{SinkState}
+use Rattle.palm_session.specs.Writing.{Delivers, HasStopCause}
 use Rattle.palm_session.specs.declared.stop.Stop.{Stop}
 use Rattle.std.proofs.lemmas.List.{take-append-drop, take_more, take_all, flat_map_more}
 use Rattle.std.proofs.lemmas.Grind.{flat_map-append}
-use Rattle.std.proofs.lemmas.Slice.{between_to_end}
-
--- a text of which a front was written, after some more bytes of it
-pub front_more : (text front rest : List ℕ) (n : ℕ) → text ≡ front ++ rest → text ≡ (front ++ take n rest) ++ take (length rest - n) (drop n rest)
-front_more text front rest n e =
-    e ∙ ap (λ z. front ++ z) (sym (take-append-drop n rest)) ∙ sym (append_assoc front (take n rest) (drop n rest))
-    ∙ ap (λ z. (front ++ take n rest) ++ z) (sym (between_to_end rest n (length rest) (omega arith)))
 
 -- the last write of a longer text
-pub delivers_then : {T U : Type 0} (f0 f1 f2 : ℕ) (w0 w1 w2 : Option (List ℕ)) (x y : List ℕ) (t : T) (r : Result U Stop)
-    → Delivers {T = T} f0 f1 w0 w1 x (Ok t) → Delivers f1 f2 w1 w2 y r → Delivers f0 f2 w0 w2 (x ++ y) r
-delivers_then f0 f1 f2 w0 w1 w2 x y t (Ok u) a b = record {
-  counts = omega (arith, a.counts, b.counts);
-  ok = appended_both w0 w1 w2 x y a.ok b.ok;
+pub delivers_then : {T U : Type 0} (s0 s1 s2 : SinkState) (x y : List ℕ) (t : T) (r : Result U Stop)
+    → Delivers {T = T} s0 s1 x (Ok t) → Delivers s1 s2 y r → Delivers s0 s2 (x ++ y) r
+delivers_then s0 s1 s2 x y t (Ok u) a b = record {
+  counted = b.counted ∙ a.counted;
+  ok = appended_both s0.written s1.written s2.written x y a.ok b.ok;
   err = tt;
-  fault = λ e. cc;
 }
-delivers_then f0 f1 f2 w0 w1 w2 x y t (Err stop) a b = record {
-  counts = omega (arith, a.counts, b.counts);
+delivers_then s0 s1 s2 x y t (Err stop) a b = record {
+  counted = subst (λ (n : ℕ). HasStopCause n s2.faults stop) a.counted b.counted;
   ok = tt;
   err = record {
     front = x ++ b.err.front;
     back = b.err.back;
     whole = ap (λ z. x ++ z) b.err.whole ∙ sym (append_assoc x b.err.front b.err.back);
-    written = appended_both w0 w1 w2 x b.err.front a.ok b.err.written;
+    written = appended_both s0.written s1.written s2.written x b.err.front a.ok b.err.written;
   };
-  fault = λ e. omega (arith, a.counts, b.fault e);
 }
 
 -- a failure in the middle of a longer text
-pub delivers_front : {T U : Type 0} (f0 f1 : ℕ) (w0 w1 : Option (List ℕ)) (x y : List ℕ) (stop : Stop)
-    → Delivers {T = T} f0 f1 w0 w1 x (Err stop) → Delivers {T = U} f0 f1 w0 w1 (x ++ y) (Err stop)
-delivers_front f0 f1 w0 w1 x y stop a = record {
-  counts = a.counts;
+pub delivers_front : {T U : Type 0} (s0 s1 : SinkState) (x y : List ℕ) (stop : Stop)
+    → Delivers {T = T} s0 s1 x (Err stop) → Delivers {T = U} s0 s1 (x ++ y) (Err stop)
+delivers_front s0 s1 x y stop a = record {
+  counted = a.counted;
   ok = tt;
   err = record {
     front = a.err.front;
@@ -55,24 +47,23 @@ delivers_front f0 f1 w0 w1 x y stop a = record {
     whole = ap (λ z. z ++ y) a.err.whole ∙ append_assoc a.err.front a.err.back y;
     written = a.err.written;
   };
-  fault = λ e. a.fault cc;
 }
 
 -- nothing was written yet
-pub delivers_nothing : {T : Type 0} (f : ℕ) (w : Option (List ℕ)) (t : T) → Delivers {T = T} f f w w [] (Ok t)
-delivers_nothing f w t = record { counts = omega arith; ok = appended_nothing w; err = tt; fault = λ e. cc }
+pub delivers_nothing : {T : Type 0} (s : SinkState) (t : T) → Delivers {T = T} s s [] (Ok t)
+delivers_nothing s t = record { counted = refl; ok = appended_nothing s.written; err = tt }
 
 -- a failure in a text that stands in the middle of a longer one
-pub delivers_within : {T U V : Type 0} (f0 f1 f2 : ℕ) (w0 w1 w2 : Option (List ℕ)) (whole x y z : List ℕ) (t : T) (stop : Stop)
-    → whole ≡ (x ++ y) ++ z → Delivers {T = T} f0 f1 w0 w1 x (Ok t) → Delivers {T = U} f1 f2 w1 w2 y (Err stop)
-    → Delivers {T = V} f0 f2 w0 w2 whole (Err stop)
-delivers_within {T} {U} {V} f0 f1 f2 w0 w1 w2 whole x y z t stop e a b =
-    subst (λ (text : List ℕ). Delivers {T = V} f0 f2 w0 w2 text (Err stop)) (sym e)
-    (delivers_front {T = U} {U = V} f0 f2 w0 w2 (x ++ y) z stop (delivers_then {T = T} {U = U} f0 f1 f2 w0 w1 w2 x y t (Err stop) a b))
+pub delivers_within : {T U V : Type 0} (s0 s1 s2 : SinkState) (whole x y z : List ℕ) (t : T) (stop : Stop)
+    → whole ≡ (x ++ y) ++ z → Delivers {T = T} s0 s1 x (Ok t) → Delivers {T = U} s1 s2 y (Err stop)
+    → Delivers {T = V} s0 s2 whole (Err stop)
+delivers_within {T} {U} {V} s0 s1 s2 whole x y z t stop e a b =
+    subst (λ (text : List ℕ). Delivers {T = V} s0 s2 text (Err stop)) (sym e)
+    (delivers_front {T = U} {U = V} s0 s2 (x ++ y) z stop (delivers_then {T = T} {U = U} s0 s1 s2 x y t (Err stop) a b))
 
 -- the same text
-pub delivers_text : {T : Type 0} (f0 f1 : ℕ) (w0 w1 : Option (List ℕ)) (x y : List ℕ) (r : Result T Stop) → x ≡ y → Delivers f0 f1 w0 w1 x r → Delivers f0 f1 w0 w1 y r
-delivers_text {T} f0 f1 w0 w1 x y r e a = subst (λ (text : List ℕ). Delivers {T = T} f0 f1 w0 w1 text r) e a
+pub delivers_text : {T : Type 0} (s0 s1 : SinkState) (x y : List ℕ) (r : Result T Stop) → x ≡ y → Delivers s0 s1 x r → Delivers s0 s1 y r
+delivers_text {T} s0 s1 x y r e a = subst (λ (text : List ℕ). Delivers {T = T} s0 s1 text r) e a
 
 -- the texts of the first members, with one more
 pub flat_step : {X : Type 0} (f : X → List ℕ) (xs : List X) (i : ℕ) (d : X) → i < length xs

@@ -3,14 +3,13 @@ use Rattle.std.proofs.Common.{◌≡◌, ℕ, ◌+◌, ◌⊎◌, inl, inr, List
 use Rattle.std.specs.Prelude.{slice_range}
 use Rattle.std.proofs.lemmas.List.Elements.{All-nil, All-head, All-tail, All-push, All-append}
 use Rattle.std.proofs.lemmas.Grind.{flat_map-append}
-use Rattle.palm_base.specs.Streams.{Appended}
+use Rattle.palm_base.specs.Streams.{Appended, AppendedFront}
 use Rattle.palm_base.proofs.StreamLemmas.{appended_nothing, appended_both}
 use Rattle.palm_lang.specs.Reply.{ended}
 use Rattle.palm_session.specs.State.{SessionState}
 use Rattle.palm_session.specs.Answers.{Answers}
 use Rattle.palm_session.specs.Lines.{HasNoFeed, IsNextFeed, without_return}
 use Rattle.palm_session.specs.Replies.{Run, Answered, GoesOn, Ends, KeepsOn}
-use Rattle.palm_session.specs.Writing.{AppendedFront}
 use Rattle.palm_session.specs.Feeding.{AnswersLine, AnswersPart, FeedsOn, FeedsEnd, FeedsPart, FinishesAll, FinishesPart}
 use Rattle.palm_session.specs.declared.going.Going.{Going}
 use Rattle.palm_session.specs.declared.going.Going.TheVariants.{More, Quit}

@@ -1,11 +1,10 @@
 -- What feeding bytes to a session does.
 use Rattle.std.specs.Prelude.{◌≡◌, ℕ, Bool, true, false, List, [], ◌∷◌, ◌++◌, ◌⊎◌, All, map, ◌≤◌, drop, length, Option, Result, Ok, Err}
-use Rattle.palm_base.specs.Streams.{Appended}
+use Rattle.palm_base.specs.Streams.{Appended, AppendedFront}
 use Rattle.palm_session.specs.State.{SessionState}
 use Rattle.palm_session.specs.Answers.{Answers}
 use Rattle.palm_session.specs.Lines.{HasNoFeed, without_return, last_line}
 use Rattle.palm_session.specs.Replies.{Run, Answered, GoesOn, Ends, KeepsOn}
-use Rattle.palm_session.specs.Writing.{AppendedFront}
 use Rattle.palm_session.specs.declared.going.Going.{Going}
 use Rattle.palm_session.specs.declared.going.Going.TheVariants.{More, Quit}
 use Rattle.palm_session.specs.declared.stop.Stop.{Stop}

@@ -1,19 +1,20 @@
--- What writing a text to a sink does.
-use Rattle.std.specs.Prelude.{◌≡◌, ℕ, ◌≤◌, List, ◌++◌, Option, Result, OnOk, OnErr, IsErrOf}
-use Rattle.palm_base.specs.Streams.{Appended, Rose}
+-- What writing a reply to a sink does.
+use Rattle.std.specs.Prelude.{◌≡◌, ℕ, ◌≤◌, List, Result, MatchResult, OnOk, OnErr}
+use Rattle.palm_base.specs.Streams.{SinkState, Appended, AppendedFront, Rose}
 use Rattle.palm_session.specs.declared.stop.Stop.{Stop}
-use Rattle.palm_session.specs.declared.stop.Stop.TheVariants.{WriteFault}
+use Rattle.palm_session.specs.declared.stop.Stop.TheVariants.{WriteFault, NoMemory}
 
--- a front of the text was written
-pub record AppendedFront (before now : Option (List ℕ)) (text : List ℕ) : Type 0 where
-  pub front : List ℕ
-  pub back : List ℕ
-  pub whole : text ≡ front ++ back
-  pub written : Appended before now front
+-- the sink's count of faults rose at a fault of writing, and stands at want of memory
+abbrev pub HasStopCause : ℕ → ℕ → Stop → Type 0
+HasStopCause before now WriteFault = (before ≤ now) × Rose before now
+HasStopCause before now NoMemory = now ≡ before
 
--- the text was written, or a front of it; a fault of writing comes only where the sink's count of faults rose
-pub record Delivers {T : Type 0} (faults later : ℕ) (before now : Option (List ℕ)) (text : List ℕ) (result : Result T Stop) : Type 0 where
-  pub counts : faults ≤ later
-  pub ok : OnOk result (Appended before now text)
-  pub err : OnErr result (AppendedFront before now text)
-  pub fault : IsErrOf result WriteFault → Rose faults later
+-- the count rose at a fault of writing, and stands at every other answer
+abbrev pub IsCounted : {T : Type 0} → ℕ → ℕ → Result T Stop → Type 0
+IsCounted before now result = MatchResult result (λ _. now ≡ before) (λ stop. HasStopCause before now stop)
+
+-- the text was written, or a front of it at a stop
+pub record Delivers {T : Type 0} (before now : SinkState) (text : List ℕ) (result : Result T Stop) : Type 0 where
+  pub counted : IsCounted before.faults now.faults result
+  pub ok : OnOk result (Appended before.written now.written text)
+  pub err : OnErr result (AppendedFront before.written now.written text)

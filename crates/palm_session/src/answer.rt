@@ -1,6 +1,6 @@
 //! Answering one line.
-ghost use Rattle.std.specs.Prelude.{◌≡◌, ◌≤◌, IfOk, IsErrOf};
-ghost use Rattle.palm_base.specs.Streams.{Rose};
+ghost use Rattle.std.specs.Prelude.{IfOk};
+ghost use Rattle.palm_session.specs.Writing.{IsCounted};
 ghost use Rattle.palm_session.specs.Answers.{Answers};
 ghost use Rattle.palm_session.specs.Feeding.{AnswersTo, Decides};
 ghost use Rattle.palm_session.specs.ReplyText.{reply_text, IsRefusal, ReplyFits};
@@ -22,9 +22,8 @@ impl Desk {
         out: &mut K,
         buffer: &mut Vec<u8>,
     ) -> Result<Going, Stop>
-        ensures counts { K.faults out.old ≤ K.faults out.new }
-        ensures answers { AnswersTo self.old line.now (K.written out.old) (K.written out.new) self.new result }
-        ensures fault { IsErrOf result Stop.WriteFault → Rose (K.faults out.old) (K.faults out.new) }
+        ensures counted { IsCounted (K.state out.old).faults (K.state out.new).faults result }
+        ensures answers { AnswersTo self.old line.now (K.state out.old).written (K.state out.new).written self.new result }
     {
         match self.decide(line) {
             Ok((reply, going)) => match deliver(&self.book, &reply, out, buffer) {

@@ -14,7 +14,6 @@ pub mod resolve;
 pub mod serve;
 pub mod session;
 pub mod stop;
-pub mod write;
 
 pub use going::Going;
 pub use session::Session;

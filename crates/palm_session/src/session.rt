@@ -1,6 +1,6 @@
 //! Sessions: bytes in, in any pieces; lines cut out of them; replies out.
-ghost use Rattle.std.specs.Prelude.{◌≡◌, ◌≤◌, false, IsErrOf, IfOk, drop, vec_len};
-ghost use Rattle.palm_base.specs.Streams.{Rose};
+ghost use Rattle.std.specs.Prelude.{◌≡◌, ◌≤◌, false, IfOk, drop, vec_len};
+ghost use Rattle.palm_session.specs.Writing.{IsCounted};
 ghost use Rattle.palm_session.specs.Feeding.{AnswersLines, Feeds, FeedsText, Finishes, FinishesTo};
 
 use crate::desk::Desk;
@@ -69,9 +69,8 @@ impl Session {
         steps: &mut Steps<L>,
     ) -> Result<Going, Stop>
         requires { self.old.over ≡ false }
-        ensures counts { K.faults out.old ≤ K.faults out.new }
-        ensures feeds { Feeds self.old piece.now (K.written out.old) (K.written out.new) self.new result }
-        ensures fault { IsErrOf result Stop.WriteFault → Rose (K.faults out.old) (K.faults out.new) }
+        ensures counted { IsCounted (K.state out.old).faults (K.state out.new).faults result }
+        ensures feeds { Feeds self.old piece.now (K.state out.old).written (K.state out.new).written self.new result }
         ensures steps { steps.new ≡ steps.old }
     {
         let result = self.feed_lines(piece, out);
@@ -86,9 +85,8 @@ impl Session {
         steps: &mut Steps<L>,
     ) -> Result<(), Stop>
         requires { self.old.over ≡ false }
-        ensures counts { K.faults out.old ≤ K.faults out.new }
-        ensures finishes { Finishes self.old (K.written out.old) (K.written out.new) self.new result }
-        ensures fault { IsErrOf result Stop.WriteFault → Rose (K.faults out.old) (K.faults out.new) }
+        ensures counted { IsCounted (K.state out.old).faults (K.state out.new).faults result }
+        ensures finishes { Finishes self.old (K.state out.old).written (K.state out.new).written self.new result }
         ensures steps { steps.new ≡ steps.old }
     {
         self.over = true;
@@ -97,9 +95,8 @@ impl Session {
 
     /// Answers the lines that the piece completes, and keeps the rest.
     fn feed_lines<K: Sink>(&mut self, piece: &[u8], out: &mut K) -> Result<Going, Stop>
-        ensures counts { K.faults out.old ≤ K.faults out.new }
-        ensures feeds { FeedsText self.old piece.now (K.written out.old) (K.written out.new) self.new result }
-        ensures fault { IsErrOf result Stop.WriteFault → Rose (K.faults out.old) (K.faults out.new) }
+        ensures counted { IsCounted (K.state out.old).faults (K.state out.new).faults result }
+        ensures feeds { FeedsText self.old piece.now (K.state out.old).written (K.state out.new).written self.new result }
     {
         if self.unfinished.extend_from_slice(piece).is_err() {
             return Err(Stop::NoMemory);
@@ -122,9 +119,8 @@ fn answer_lines<K: Sink>(
     out: &mut K,
     buffer: &mut Vec<u8>,
 ) -> Result<(Going, usize), Stop>
-    ensures counts { K.faults out.old ≤ K.faults out.new }
-    ensures answers { AnswersLines desk.old text.now (K.written out.old) (K.written out.new) desk.new result }
-    ensures fault { IsErrOf result Stop.WriteFault → Rose (K.faults out.old) (K.faults out.new) }
+    ensures counted { IsCounted (K.state out.old).faults (K.state out.new).faults result }
+    ensures answers { AnswersLines desk.old text.now (K.state out.old).written (K.state out.new).written desk.new result }
 {
     let mut start = 0;
     while let Some(end) = next_feed(text, start) {
@@ -156,9 +152,8 @@ fn answer_last<K: Sink>(
     out: &mut K,
     buffer: &mut Vec<u8>,
 ) -> Result<(), Stop>
-    ensures counts { K.faults out.old ≤ K.faults out.new }
-    ensures answers { FinishesTo desk.old line.now (K.written out.old) (K.written out.new) desk.new result }
-    ensures fault { IsErrOf result Stop.WriteFault → Rose (K.faults out.old) (K.faults out.new) }
+    ensures counted { IsCounted (K.state out.old).faults (K.state out.new).faults result }
+    ensures answers { FinishesTo desk.old line.now (K.state out.old).written (K.state out.new).written desk.new result }
 {
     if line.is_empty() {
         return Ok(());

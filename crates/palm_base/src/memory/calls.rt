@@ -2,6 +2,7 @@
 ghost use Rattle.std.specs.Prelude.{◌≡◌, IsTrue, ◌↔◌, ◌≤◌};
 ghost use Rattle.palm_base.specs.Memory.{IsListed, after_call};
 
+use crate::counts::next_count;
 use crate::sequence::CallList;
 use std::marker::Model;
 
@@ -39,10 +40,10 @@ impl CallLog {
         ensures counted { self.new ≡ after_call self.old result }
         ensures later { self.old.faults ≤ self.new.faults }
     {
-        self.made = self.made.saturating_add(1);
+        self.made = next_count(self.made);
         let listed = self.failing.as_slice().contains(&self.made);
         if listed {
-            self.faults = self.faults.saturating_add(1);
+            self.faults = next_count(self.faults);
         }
         listed
     }

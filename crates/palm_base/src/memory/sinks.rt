@@ -1,7 +1,7 @@
 //! Sinks over memory.
-ghost use Rattle.std.specs.Prelude.{◌≡◌, ◌<◌, ◌≤◌, ℕ, [], length, Some, IsErr, IsOk, IfOk, OnOk, OnErr, Ok, min, max, take};
+ghost use Rattle.std.specs.Prelude.{◌≡◌, ◌<◌, [], length, IfOk, OnOk, OnErr, Ok, min, max, take};
 ghost use Rattle.palm_base.specs.Streams.{HasCause, Writes};
-ghost use Rattle.palm_base.specs.Memory.{Kept, Calls, IsListed, Flawed, Keeping, after_keeping, told_bytes};
+ghost use Rattle.palm_base.specs.Memory.{Kept, Calls, IsCalled, Flawed, Keeping, after_keeping, sink_state};
 
 use super::calls::CallLog;
 use super::kept::Store;
@@ -52,14 +52,12 @@ impl SteadySink {
 }
 
 impl Sink for SteadySink {
-    ghost written = { told_bytes };
-
-    ghost faults = { λ _. 0 };
+    ghost state = { λ s. sink_state s 0 };
 
     fn write(&mut self, piece: &[u8]) -> Result<usize, Failed>
         requires { 0 < length piece.now }
         ensures cause { HasCause 0 0 result }
-        ensures bytes { Writes (told_bytes self.old) (told_bytes self.new) piece.now result }
+        ensures bytes { Writes (sink_state self.old 0) (sink_state self.new 0) piece.now result }
         ensures whole { result ≡ Ok (length piece.now) }
         ensures kept { self.new ≡ after_keeping self.old piece.now }
     {
@@ -121,19 +119,17 @@ impl MemorySink {
 }
 
 impl Sink for MemorySink {
-    ghost written = { λ s. told_bytes s.inner.kept };
-
-    ghost faults = { λ s. s.calls.faults };
+    ghost state = { λ s. sink_state s.inner.kept s.calls.faults };
 
     fn write(&mut self, piece: &[u8]) -> Result<usize, Failed>
         requires { 0 < length piece.now }
         ensures cause { HasCause self.old.calls.faults self.new.calls.faults result }
-        ensures bytes { Writes (told_bytes self.old.inner.kept) (told_bytes self.new.inner.kept) piece.now result }
+        ensures bytes { Writes (sink_state self.old.inner.kept self.old.calls.faults) (sink_state self.new.inner.kept self.new.calls.faults) piece.now result }
         ensures count { IfOk result (λ n. n ≡ min self.old.inner.piece (length piece.now)) }
         ensures kept { IfOk result (λ n. self.new.inner.kept ≡ after_keeping self.old.inner.kept (take n piece.now)) }
+        ensures piece { self.new.inner.piece ≡ self.old.inner.piece }
         ensures err { OnErr result (self.new.inner ≡ self.old.inner) }
-        ensures listed { IsErr result → IsListed self.old.calls }
-        ensures unlisted { IsOk result → IsListed self.old.calls → ⊥ }
+        ensures called { IsCalled self.old.calls self.new.calls result }
     {
         if self.calls.is_failing() {
             return Err(Failed);

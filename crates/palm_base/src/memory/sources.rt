@@ -1,7 +1,7 @@
 //! Sources over memory.
-ghost use Rattle.std.specs.Prelude.{◌≡◌, ◌<◌, ◌↔◌, ℕ, length, Some, IsErr, IsOk, IfOk, Ok, min};
+ghost use Rattle.std.specs.Prelude.{◌≡◌, ◌<◌, length, IfOk, OnErr, Ok};
 ghost use Rattle.palm_base.specs.Streams.{HasCause, Reads};
-ghost use Rattle.palm_base.specs.Memory.{Left, Calls, IsListed, handed_out, Flawed};
+ghost use Rattle.palm_base.specs.Memory.{Left, Calls, IsCalled, handed_out, source_state, Flawed};
 
 use super::calls::CallLog;
 use super::remaining::Remaining;
@@ -37,14 +37,12 @@ impl SteadySource {
 }
 
 impl Source for SteadySource {
-    ghost left = { λ s. Some s.bytes };
-
-    ghost faults = { λ _. 0 };
+    ghost state = { λ s. source_state s 0 };
 
     fn read(&mut self, buffer: &mut [u8]) -> Result<usize, Failed>
         requires { 0 < length buffer.old }
         ensures cause { HasCause 0 0 result }
-        ensures bytes { Reads (Some self.old.bytes) (Some self.new.bytes) buffer.new result }
+        ensures bytes { Reads (source_state self.old 0) (source_state self.new 0) buffer.new result }
         ensures count { result ≡ Ok (handed_out self.old (length buffer.old)) }
         ensures piece { self.new.piece ≡ self.old.piece }
     {
@@ -82,17 +80,16 @@ impl MemorySource {
 }
 
 impl Source for MemorySource {
-    ghost left = { λ s. Some s.inner.bytes };
-
-    ghost faults = { λ s. s.calls.faults };
+    ghost state = { λ s. source_state s.inner s.calls.faults };
 
     fn read(&mut self, buffer: &mut [u8]) -> Result<usize, Failed>
         requires { 0 < length buffer.old }
         ensures cause { HasCause self.old.calls.faults self.new.calls.faults result }
-        ensures bytes { Reads (Some self.old.inner.bytes) (Some self.new.inner.bytes) buffer.new result }
+        ensures bytes { Reads (source_state self.old.inner self.old.calls.faults) (source_state self.new.inner self.new.calls.faults) buffer.new result }
         ensures count { IfOk result (λ n. n ≡ handed_out self.old.inner (length buffer.old)) }
-        ensures listed { IsErr result → IsListed self.old.calls }
-        ensures unlisted { IsOk result → IsListed self.old.calls → ⊥ }
+        ensures piece { self.new.inner.piece ≡ self.old.inner.piece }
+        ensures err { OnErr result (self.new.inner ≡ self.old.inner) }
+        ensures called { IsCalled self.old.calls self.new.calls result }
     {
         if self.calls.is_failing() {
             return Err(Failed);

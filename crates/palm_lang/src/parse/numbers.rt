@@ -1,6 +1,6 @@
 //! Numbers of any size, as far as the limits of the language reach.
 ghost use Rattle.std.specs.Prelude.{◌≡◌, ◌<◌, ◌≤◌, ◌^◌, min};
-ghost use Rattle.palm_base.specs.Numbers.{AreDigits, number_of};
+ghost use Rattle.palm_base.specs.Numbers.{AreDigits, digits_number};
 ghost use Rattle.palm_lang.specs.Held.{Gives, held, held_value, counted};
 ghost use Rattle.palm_lang.specs.Reading.{count_in};
 ghost use Rattle.palm_lang.specs.Reader.{natural_at, integer_at};
@@ -74,7 +74,7 @@ const BOUND_CAP: u128 = 1_000_000_000_001;
 pub fn capped(digits: &[u8], cap: u128) -> u128
     requires digits { AreDigits digits.now }
     requires cap { cap < 2 ^ 127 }
-    ensures { result ≡ min (number_of digits.now) cap }
+    ensures { result ≡ min (digits_number digits.now) cap }
 {
     match read_int(digits) {
         Some(number) => (number as u128).min(cap),

@@ -10,13 +10,13 @@ returns-in_err-write_entry g c =
     let lt : c.loop-place.place < length c.args.book.now.constraints = omega (arith, c.loop-place-test.true, c.constraints-place-end.ensures.count) in
     let r = entry_read c.args.book.now c.loop-place.place lt in
     rw (p.1, p.2)
-    (delivers_within _ _ _ _ _ _ _ _ _ _ tt c.in_err-write_entry.field-0.0
+    (delivers_within _ _ _ _ _ _ _ tt c.in_err-write_entry.field-0.0
     (flat_split (entry_line c.args.book.now.variables) c.args.book.now.constraints c.loop-place.place r.0 lt)
-    c.loop-place.invariant (delivers_text _ _ _ _ _ _ _ r.1 c.in_err-write_entry.ensures))
+    c.loop-place.invariant (delivers_text _ _ _ _ _ r.1 c.in_err-write_entry.ensures))
 
 pub loop-place-preserved : goal.loop-place-preserved
 loop-place-preserved g c =
     let lt : c.loop-place.place < length c.args.book.now.constraints = omega (arith, c.loop-place-test.true, c.constraints-place-end.ensures.count) in
     let r = entry_read c.args.book.now c.loop-place.place lt in
-    delivers_text _ _ _ _ _ _ _ (flat_step (entry_line c.args.book.now.variables) c.args.book.now.constraints c.loop-place.place r.0 lt)
-    (delivers_then _ _ _ _ _ _ _ _ tt _ c.loop-place.invariant (delivers_text _ _ _ _ _ _ _ r.1 c.in_ok-write_entry.ensures))
+    delivers_text _ _ _ _ _ (flat_step (entry_line c.args.book.now.variables) c.args.book.now.constraints c.loop-place.place r.0 lt)
+    (delivers_then _ _ _ _ _ tt _ c.loop-place.invariant (delivers_text _ _ _ _ _ r.1 c.in_ok-write_entry.ensures))

@@ -5,5 +5,5 @@ use Rattle.palm_session.proofs.deliver.write_constraints.Given as goal
 
 abbrev pub invariant-loop-place : goal.invariant-loop-place
 invariant-loop-place g l =
-    Delivers {T = Unit {0}} (g.K.Sink.faults l.initial.out) (g.K.Sink.faults l.out) (g.K.Sink.written l.initial.out) (g.K.Sink.written l.out)
+    Delivers {T = Unit {0}} (g.K.Sink.state l.initial.out) (g.K.Sink.state l.out)
     (flat_map (entry_line l.book.variables) (take l.place l.book.constraints)) (Ok tt)

@@ -10,18 +10,18 @@ returns-in_err-write_domain g c =
     let lt : c.loop-index.index < length c.args.book.now.variables = omega (arith, c.loop-index-test.true, c.variables-index-end.ensures.count) in
     let r = pair_read c.args.book.now.variables c.args.domains.now c.loop-index.index c.requires lt in
     rw (p.1, p.2)
-    (delivers_within _ _ _ _ _ _ _ _ _ _ tt c.in_err-write_domain.field-0.0
+    (delivers_within _ _ _ _ _ _ _ tt c.in_err-write_domain.field-0.0
     (domains_split c.args.book.now.variables c.args.domains.now c.loop-index.index r.0)
-    c.loop-index.invariant (delivers_text _ _ _ _ _ _ _ r.1 c.in_err-write_domain.ensures))
+    c.loop-index.invariant (delivers_text _ _ _ _ _ r.1 c.in_err-write_domain.ensures))
 
 pub loop-index-preserved : goal.loop-index-preserved
 loop-index-preserved g c =
     let lt : c.loop-index.index < length c.args.book.now.variables = omega (arith, c.loop-index-test.true, c.variables-index-end.ensures.count) in
     let r = pair_read c.args.book.now.variables c.args.domains.now c.loop-index.index c.requires lt in
-    delivers_text _ _ _ _ _ _ _ (flat_step (λ q. domain_line q.0.name q.1) _ c.loop-index.index (record { name = []; values = [] }, []) r.0)
-    (delivers_then _ _ _ _ _ _ _ _ tt _ c.loop-index.invariant (delivers_text _ _ _ _ _ _ _ r.1 c.in_ok-write_domain.ensures))
+    delivers_text _ _ _ _ _ (flat_step (λ q. domain_line q.0.name q.1) _ c.loop-index.index (record { name = []; values = [] }, []) r.0)
+    (delivers_then _ _ _ _ _ tt _ c.loop-index.invariant (delivers_text _ _ _ _ _ r.1 c.in_ok-write_domain.ensures))
 
 pub returns : goal.returns
 returns g c =
     let all = pairs_end c.args.book.now.variables c.args.domains.now c.loop-index.index c.requires (omega (arith, c.loop-index-test.false, c.variables-index-end.ensures.count)) in
-    delivers_then _ _ _ _ _ _ _ _ tt _ (delivers_text _ _ _ _ _ _ _ all c.loop-index.invariant) c.write_word.ensures
+    delivers_then _ _ _ _ _ tt _ (delivers_text _ _ _ _ _ all c.loop-index.invariant) c.write_word.ensures

@@ -5,5 +5,5 @@ use Rattle.palm_session.proofs.deliver.write_domains.Given as goal
 
 abbrev pub invariant-loop-index : goal.invariant-loop-index
 invariant-loop-index g l =
-    Delivers {T = Unit {0}} (g.K.Sink.faults l.initial.out) (g.K.Sink.faults l.out) (g.K.Sink.written l.initial.out) (g.K.Sink.written l.out)
+    Delivers {T = Unit {0}} (g.K.Sink.state l.initial.out) (g.K.Sink.state l.out)
     (flat_map (λ p. domain_line p.0.name p.1) (take l.index (zip l.book.variables l.domains))) (Ok tt)

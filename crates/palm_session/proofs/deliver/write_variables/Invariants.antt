@@ -5,5 +5,5 @@ use Rattle.palm_session.proofs.deliver.write_variables.Given as goal
 
 abbrev pub invariant-loop-index : goal.invariant-loop-index
 invariant-loop-index g l =
-    Delivers {T = Unit {0}} (g.K.Sink.faults l.initial.out) (g.K.Sink.faults l.out) (g.K.Sink.written l.initial.out) (g.K.Sink.written l.out)
+    Delivers {T = Unit {0}} (g.K.Sink.state l.initial.out) (g.K.Sink.state l.out)
     (flat_map (λ e. var_line e.name e.values) (take l.index l.book.variables)) (Ok tt)
