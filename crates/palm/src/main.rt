@@ -5,14 +5,18 @@ use palm_base::{StdSink, StdSource};
 use palm_cli::{Status, top};
 use std::alloc::Global;
 use std::env;
+use std::io::ErrorKind;
 use std::process::ExitCode;
 use std::rt::Env;
 
-/// The words after the program's name; none, if they are no text, so that the usage line answers them.
+/// The words after the program's name, or `None` for want of memory. Words that are no text count as none at all, so
+/// that the usage line answers them.
 fn words_of(rt: &(impl Env + Alloc<A = Global>)) -> Option<Vec<String>> {
     let mut words = Vec::new(rt.alloc());
-    let Ok(args) = env::args(rt) else {
-        return Some(words);
+    let args = match env::args(rt) {
+        Ok(args) => args,
+        Err(error) if error.kind() == ErrorKind::OutOfMemory => return None,
+        Err(_) => return Some(words),
     };
     for word in args.skip(1) {
         words.push(word).ok()?;

@@ -1,78 +1,130 @@
 -- What `run` keeps from one read to the next, and how it ends.
-use Rattle.std.proofs.Common.{◌≡◌, ℕ, ◌+◌, ◌-◌, ◌<◌, ◌≤◌, ◌⊎◌, inl, inr, List, [], ◌∷◌, ◌++◌, map, flat_map, take, drop, length, All, Option, Some, None, false, get_or, Global, String, string_bytes, refl, sym, ap, ◌∙◌, subst, arith, append_assoc, append-nil, length-append, min, zero, suc}
+use Rattle.std.proofs.Common.{◌≡◌, ℕ, ◌+◌, ◌-◌, ◌<◌, ◌≤◌, ◌⊎◌, inl, inr, List, [], ◌∷◌, ◌++◌, map, flat_map, take, drop, length, All, Option, Some, None, Ok, Err, false, get_or, Global, String, string_bytes, refl, sym, ap, ◌∙◌, subst, arith, append_assoc, append-nil, length-append, min, zero, suc}
 use Rattle.std.proofs.lemmas.List.{take_all, length-take, take-append-drop}
 use Rattle.std.proofs.Math.Seq.{take-append-add, take-append_seam}
 use Rattle.std.proofs.lemmas.List.Elements.{All-nil, All-cons, All-append, All-head, All-tail}
 use Rattle.palm_base.proofs.Members.{Known, nat_known}
-use Rattle.palm_base.specs.Streams.{Takes, IsAtEnd, Appended, Rose}
-use Rattle.palm_base.proofs.StreamLemmas.{takes_nothing, takes_both, appended_nothing, appended_both}
+use Rattle.palm_base.specs.Streams.{SinkState, Consumes, IsAtEnd, Appended, AppendedFront, Rose}
+use Rattle.palm_base.proofs.StreamLemmas.{consumes_nothing, consumes_both, appended_nothing, appended_both}
 use Rattle.palm_lang.specs.Reply.{ended}
 use Rattle.palm_session.specs.State.{SessionState, fresh}
 use Rattle.palm_session.specs.Lines.{HasNoFeed, Cuts, AreLines, last_line, without_return}
 use Rattle.palm_session.specs.Replies.{Run, AreAnswered, GoesOn, Ends, KeepsOn, all, until}
 use Rattle.palm_session.specs.Feeding.{View, FeedsOn, FeedsEnd, FeedsPart, FinishesAll, FinishesPart}
-use Rattle.palm_session.specs.Writing.{AppendedFront}
 use Rattle.palm_session.proofs.FeedLemmas.{feeds_more, feeds_more_end, feeds_more_part, feeds_none, run_append, map_more, map_append}
 use Rattle.std.proofs.lemmas.Grind.{flat_map-append}
-use Rattle.palm_cli.specs.Commands.{RunsAll, RunsLines, RunsPart, HasEnd, IsAll, IsWhole, IsCut, Runs, FinishesStatus, FeedsStatus, longest_text}
+use Rattle.palm_cli.specs.Commands.{Streams, IsCalm, FailsToWrite, RunsAll, RunsPart, HasEnd, StopsInTime, IsAll, IsWhole, IsCut, Runs, HasNoFault, TakesAnswerable, TakesTooMuch, first_bytes}
+use Rattle.palm_cli.specs.Serving.{FinishesStatus, FeedsStatus, ReadsPiece, ReadsEnd, PumpsFault, PumpsPiece, Pumps}
+use Rattle.palm_cli.proofs.Endings.{no_end}
+use Rattle.palm_cli.specs.declared.limits.TheConstants.{MOST_INPUT_BYTES, PIECE}
 use Rattle.palm_cli.specs.declared.status.Status.{Status}
 use Rattle.palm_cli.specs.declared.status.Status.TheVariants.{Done, Usage, ReadFault, WriteFault, NoMemory, TooLong}
 
--- the text: what was taken, of which the session was fed what a text may have
-pub record Served (left now_left was now : Option (List ℕ)) (taken : ℕ) (session : View) : Type 0 where
+-- the text: what was taken without a fault, of which the session was fed what can be answered
+pub record Served (before now : Streams) (taken : ℕ) (session : View) : Type 0 where
   pub text : List ℕ
   pub long : length text ≡ taken
-  pub takes : Takes left now_left text
-  pub feeds : FeedsOn fresh (take longest_text text) was now session.unfinished session.state
+  pub takes : Consumes before.source.left now.source.left text
+  pub in_time : StopsInTime text
+  pub feeds : FeedsOn fresh (first_bytes text) before.sink.written now.sink.written session.unfinished session.state
   pub going : session.over ≡ false
+  pub calm : IsCalm before now
 
-pub served_start : (left was : Option (List ℕ)) (session : View) → session ≡ record { state = fresh; unfinished = []; over = false } → Served left left was was 0 session
-served_start left was session e =
-    subst (λ (v : View). Served left left was was 0 v) (sym e)
-    (record { text = []; long = refl; takes = takes_nothing left; feeds = feeds_none fresh was; going = refl })
+-- a text that has no line that ends the session, and is within the limit, stopped in time
+in_time_whole : (text : List ℕ) → length text ≤ MOST_INPUT_BYTES → (HasEnd text → ⊥) → StopsInTime text
+in_time_whole text le none = record { front = text; piece = []; whole = sym (append-nil text); small = omega arith; within = le; unended = none }
+
+no_end_nothing : HasEnd [] → ⊥
+no_end_nothing e = no_end fresh fresh [] [] None None (feeds_none fresh None) e
+
+in_time_nothing : StopsInTime []
+in_time_nothing = in_time_whole [] (omega arith) no_end_nothing
+
+calm_still : (before : Streams) → IsCalm before before
+calm_still before = record { read = refl; write = refl }
+
+pub served_start : (before : Streams) (session : View) → session ≡ record { state = fresh; unfinished = []; over = false } → Served before before 0 session
+served_start before session e =
+    subst (λ (v : View). Served before before 0 v) (sym e)
+    (record {
+      text = [];
+      long = refl;
+      takes = consumes_nothing before.source.left;
+      in_time = in_time_nothing;
+      feeds = feeds_none fresh before.sink.written;
+      going = refl;
+      calm = calm_still before;
+    })
 
 no_lines : AreLines [] []
 no_lines = record { ended_lines = []; rest = []; cuts = record { whole = refl; unbroken = All-nil HasNoFeed; unfinished = All-nil (λ b. b ≡ 10 → ⊥) }; all = refl }
 
 -- nothing was taken and nothing written
-pub part_none : (left was : Option (List ℕ)) → RunsPart left left was was
-part_none left was = record {
+part_nothing : (before : Streams) → RunsPart before before
+part_nothing before = record {
   text = [];
   lines = [];
   others = [];
   replies = [];
   state = fresh;
-  takes = takes_nothing left;
+  takes = consumes_nothing before.source.left;
+  in_time = in_time_nothing;
   are_lines = no_lines;
   keeps_on = tt;
   run = (refl, refl);
-  written = record { front = []; back = []; whole = refl; written = appended_nothing was };
+  written = record { front = []; back = []; whole = refl; written = appended_nothing before.sink.written };
 }
+
+pub want_at_once : (before : Streams) → Runs before before NoMemory
+want_at_once before = (calm_still before, part_nothing before)
 
 -- a text in which the session's bytes are all that was taken
-whole_text : (text : List ℕ) (taken : ℕ) → length text ≡ taken → taken ≤ longest_text → take longest_text text ≡ text
-whole_text text taken e le = take_all longest_text text (omega (arith, e, le))
+whole_text : (text : List ℕ) (taken : ℕ) → length text ≡ taken → taken ≤ MOST_INPUT_BYTES → first_bytes text ≡ text
+whole_text text taken e le = take_all MOST_INPUT_BYTES text (omega (arith, e, le))
 
-takes_more_nothing : (a b c : Option (List ℕ)) (x : List ℕ) → Takes a b x → Takes b c [] → Takes a c x
-takes_more_nothing a b c x p q = subst (λ (z : List ℕ). Takes a c z) (append-nil x) (takes_both a b c x [] p q)
+takes_more_nothing : (a b c : Option (List ℕ)) (x : List ℕ) → Consumes a b x → Consumes b c [] → Consumes a c x
+takes_more_nothing a b c x p q = subst (λ (z : List ℕ). Consumes a c z) (append-nil x) (consumes_both a b c x [] p q)
 
-pub read_fault : (left mid now_left was now : Option (List ℕ)) (taken : ℕ) (session : View) → Served left mid was now taken session → taken ≤ longest_text → Takes mid now_left [] → RunsLines left now_left was now
-read_fault left mid now_left was now taken session s le t = record {
-  text = s.text;
-  rest = session.unfinished;
-  state = session.state;
-  takes = takes_more_nothing left mid now_left s.text s.takes t;
-  short = omega (arith, s.long, le);
-  feeds = subst (λ (z : List ℕ). FeedsOn fresh z was now session.unfinished session.state) (whole_text s.text taken s.long le) s.feeds;
-}
+-- what was fed is all that was taken
+whole_feeds : (before now : Streams) (taken : ℕ) (session : View) (s : Served before now taken session) → taken ≤ MOST_INPUT_BYTES
+    → FeedsOn fresh s.text before.sink.written now.sink.written session.unfinished session.state
+whole_feeds before now taken session s le =
+    subst (λ (z : List ℕ). FeedsOn fresh z before.sink.written now.sink.written session.unfinished session.state) (whole_text s.text taken s.long le) s.feeds
+
+served_unended : (before now : Streams) (taken : ℕ) (session : View) (s : Served before now taken session) → taken ≤ MOST_INPUT_BYTES → HasEnd s.text → ⊥
+served_unended before now taken session s le =
+    no_end fresh session.state s.text session.unfinished before.sink.written now.sink.written (whole_feeds before now taken session s le)
+
+same_written : (a b : SinkState) (was : Option (List ℕ)) (text rest : List ℕ) (t : SessionState) → a ≡ b → FeedsOn fresh text was b.written rest t → FeedsOn fresh text was a.written rest t
+same_written a b was text rest t e f = subst (λ (k : SinkState). FeedsOn fresh text was k.written rest t) (sym e) f
+
+rose_after : (a b c : ℕ) → b ≡ a → Rose b c → Rose a c
+rose_after a b c e r = subst (λ (n : ℕ). Rose n c) e r
+
+fault_runs : (before mid now : Streams) (taken : ℕ) (session : View) → Served before mid taken session → taken ≤ MOST_INPUT_BYTES
+    → PumpsFault mid now ReadFault → Runs before now ReadFault
+fault_runs before mid now taken session s le f = (
+  record {
+    read = rose_after before.source.faults mid.source.faults now.source.faults s.calm.read f.rose;
+    write = ap (λ (k : SinkState). k.faults) f.sink ∙ s.calm.write;
+  },
+  record {
+    text = s.text;
+    rest = session.unfinished;
+    state = session.state;
+    takes = takes_more_nothing before.source.left mid.source.left now.source.left s.text s.takes f.takes;
+    short = omega (arith, s.long, le);
+    feeds = same_written now.sink mid.sink before.sink.written s.text session.unfinished session.state f.sink (whole_feeds before mid taken session s le);
+  },
+)
 
 -- the bytes that are fed are the first ones of the text
-fed_text : (text piece : List ℕ) (taken : ℕ) → length text ≡ taken → taken ≤ longest_text
-    → take longest_text (text ++ piece) ≡ take longest_text text ++ take (longest_text - taken) piece
+fed_text : (text piece : List ℕ) (taken : ℕ) → length text ≡ taken → taken ≤ MOST_INPUT_BYTES
+    → take MOST_INPUT_BYTES (text ++ piece) ≡ take MOST_INPUT_BYTES text ++ take (MOST_INPUT_BYTES - taken) piece
 fed_text text piece taken e le =
-    let m : longest_text ≡ length text + (longest_text - taken) = omega (arith, e, le) in
-    ap (λ (k : ℕ). take k (text ++ piece)) m ∙ take-append-add text piece (longest_text - taken)
-    ∙ ap (λ (z : List ℕ). z ++ take (longest_text - taken) piece) (sym (whole_text text taken e le))
+    let m : MOST_INPUT_BYTES ≡ length text + (MOST_INPUT_BYTES - taken) = omega (arith, e, le) in
+    ap (λ (k : ℕ). take k (text ++ piece)) m ∙ take-append-add text piece (MOST_INPUT_BYTES - taken)
+    ∙ ap (λ (z : List ℕ). z ++ take (MOST_INPUT_BYTES - taken) piece) (sym (whole_text text taken e le))
 
 take_fewer : (a b : ℕ) (xs : List ℕ) → take a (take b xs) ≡ take (min b a) xs
 take_fewer zero b xs = let m : 0 ≡ min b 0 = omega arith in ap (λ (k : ℕ). take k xs) m
@@ -82,27 +134,68 @@ take_fewer (suc a) (suc b) (x ∷ xs) =
     let m : suc (min b a) ≡ min (suc b) (suc a) = omega arith in
     ap (λ (z : List ℕ). x ∷ z) (take_fewer a b xs) ∙ ap (λ (k : ℕ). take k (x ∷ xs)) m
 
-fed_piece : (text buffer : List ℕ) (n taken : ℕ) → length text ≡ taken → taken ≤ longest_text
-    → take longest_text (text ++ take n buffer) ≡ take longest_text text ++ take (min n (longest_text - taken)) buffer
-fed_piece text buffer n taken e le =
-    fed_text text (take n buffer) taken e le ∙ ap (λ (z : List ℕ). take longest_text text ++ z) (take_fewer (longest_text - taken) n buffer)
-
--- one more piece was read and fed
-pub served_more : (left mid now_left was then now : Option (List ℕ)) (taken n : ℕ) (buffer : List ℕ) (session after : View)
-    → Served left mid was then taken session → taken ≤ longest_text → n ≤ length buffer → Takes mid now_left (take n buffer)
-    → FeedsOn session.state (session.unfinished ++ take (min n (longest_text - taken)) buffer) then now after.unfinished after.state
-    → after.over ≡ false
-    → Served left now_left was now (taken + n) after
-served_more left mid now_left was then now taken n buffer session after s le fits t f still = record {
-  text = s.text ++ take n buffer;
-  long = omega (arith, length-append s.text (take n buffer), length-take n buffer, s.long, fits);
-  takes = takes_both left mid now_left s.text (take n buffer) s.takes t;
-  feeds = subst (λ (z : List ℕ). FeedsOn fresh z was now after.unfinished after.state) (sym (fed_piece s.text buffer n taken s.long le))
-      (feeds_more fresh session.state after.state (take longest_text s.text) (take (min n (longest_text - taken)) buffer) session.unfinished after.unfinished was then now s.feeds f);
-  going = still;
+-- a piece was read into the front of a buffer, and its first bytes were fed
+pub pumped : (session : View) (room n m : ℕ) (buffer : List ℕ) (before now : Streams) (later : View) (end : Option Status)
+    → m ≡ min n room → (n ≡ 0 → ⊥) → n ≤ length buffer → n ≤ PIECE → Consumes before.source.left now.source.left (take n buffer)
+    → now.source.faults ≡ before.source.faults → FeedsStatus session (take m buffer) before.sink now.sink later end
+    → PumpsPiece session room before later now end
+pumped session room n m buffer before now later end is some fits small takes calm f = record {
+  piece = take n buffer;
+  reads = record { takes = takes; some = omega (arith, length-take n buffer, some, fits); small = omega (arith, length-take n buffer, small, fits); calm = calm };
+  feeds = subst (λ (z : List ℕ). FeedsStatus session z before.sink now.sink later end) (ap (λ (k : ℕ). take k buffer) is ∙ sym (take_fewer room n buffer)) f;
 }
 
-all_left : (left mid : Option (List ℕ)) (text : List ℕ) → Takes left mid text → IsAtEnd mid → IsAll left text
+pub pumped_on : (session : View) (room n m : ℕ) (buffer : List ℕ) (before now : Streams) (later : View)
+    → m ≡ min n room → (n ≡ 0 → ⊥) → n ≤ length buffer → n ≤ PIECE → Consumes before.source.left now.source.left (take n buffer)
+    → now.source.faults ≡ before.source.faults → FeedsStatus session (take m buffer) before.sink now.sink later None
+    → Pumps session room before later now (Ok n)
+unfolding pumped
+pumped_on session room n m buffer before now later is some fits small takes calm f = (
+  pumped session room n m buffer before now later None is some fits small takes calm f,
+  omega (arith, length-take n buffer, fits),
+)
+
+-- what one more piece adds to the text
+in_time_more : (text piece : List ℕ) → length text ≤ MOST_INPUT_BYTES → (HasEnd text → ⊥) → length piece ≤ PIECE → StopsInTime (text ++ piece)
+in_time_more text piece le none small = record { front = text; piece = piece; whole = refl; small = small; within = le; unended = none }
+
+calm_more : (before mid now : Streams) → IsCalm before mid → now.source.faults ≡ mid.source.faults → now.sink.faults ≡ mid.sink.faults → IsCalm before now
+calm_more before mid now c read write = record { read = read ∙ c.read; write = write ∙ c.write }
+
+-- one more piece was read and fed
+pub served_more : (before mid now : Streams) (taken : ℕ) (session later : View) → Served before mid taken session → taken ≤ MOST_INPUT_BYTES
+    → (p : PumpsPiece session (MOST_INPUT_BYTES - taken) mid later now None) → Served before now (taken + length p.piece) later
+served_more before mid now taken session later s le p = record {
+  text = s.text ++ p.piece;
+  long = omega (arith, length-append s.text p.piece, s.long);
+  takes = consumes_both before.source.left mid.source.left now.source.left s.text p.piece s.takes p.reads.takes;
+  in_time = in_time_more s.text p.piece (omega (arith, s.long, le)) (served_unended before mid taken session s le) p.reads.small;
+  feeds = subst (λ (z : List ℕ). FeedsOn fresh z before.sink.written now.sink.written later.unfinished later.state) (sym (fed_text s.text p.piece taken s.long le))
+      (feeds_more fresh session.state later.state (first_bytes s.text) (take (MOST_INPUT_BYTES - taken) p.piece) session.unfinished later.unfinished before.sink.written mid.sink.written now.sink.written s.feeds p.feeds.1);
+  going = p.feeds.2;
+  calm = calm_more before mid now s.calm p.reads.calm p.feeds.0;
+}
+
+pub served_count : (before mid now : Streams) (taken count : ℕ) (session later : View) → Served before mid taken session → taken ≤ MOST_INPUT_BYTES
+    → Pumps session (MOST_INPUT_BYTES - taken) mid later now (Ok count) → Served before now (taken + count) later
+served_count before mid now taken count session later s le p =
+    subst (λ (n : ℕ). Served before now (taken + n) later) (sym p.1) (served_more before mid now taken session later s le p.0)
+
+pub served_over : (before now : Streams) (taken : ℕ) (session : View) → Served before now taken session → MOST_INPUT_BYTES < taken → Runs before now TooLong
+served_over before now taken session s over = (
+  s.calm,
+  record {
+    text = s.text;
+    rest = session.unfinished;
+    state = session.state;
+    takes = s.takes;
+    long = omega (arith, s.long, over);
+    in_time = s.in_time;
+    feeds = s.feeds;
+  },
+)
+
+all_left : (left mid : Option (List ℕ)) (text : List ℕ) → Consumes left mid text → IsAtEnd mid → IsAll left text
 all_left None mid text t e = tt
 all_left (Some l) None text t e = absurd t
 all_left (Some l) (Some n) text t e = t ∙ ap (λ (z : List ℕ). text ++ z) e ∙ append-nil text
@@ -135,16 +228,16 @@ keeps_on_last (b ∷ bs) = tt
 front_whole : (was now : Option (List ℕ)) (x : List ℕ) → Appended was now x → AppendedFront was now x
 front_whole was now x w = record { front = x; back = []; whole = sym (append-nil x); written = w }
 
-finish_done : (left mid now_left was then now : Option (List ℕ)) (taken : ℕ) (session : View) (t : SessionState)
-    → Served left mid was then taken session → taken ≤ longest_text → Takes mid now_left [] → IsAtEnd mid
-    → FinishesAll session.state session.unfinished then now t → RunsAll left now_left was now
-finish_done left mid now_left was then now taken session t s le e end f =
-    let fs = subst (λ (z : List ℕ). FeedsOn fresh z was then session.unfinished session.state) (whole_text s.text taken s.long le) s.feeds in
+finish_done : (before mid now : Streams) (taken : ℕ) (session : View) (t : SessionState) → Served before mid taken session → taken ≤ MOST_INPUT_BYTES
+    → ReadsEnd mid.source now.source → FinishesAll session.state session.unfinished mid.sink.written now.sink.written t → RunsAll before now
+finish_done before mid now taken session t s le e f =
+    let fs = whole_feeds before mid taken session s le in
     record {
       text = s.text;
       output = fs.replies ++ f.replies;
-      takes = takes_more_nothing left mid now_left s.text s.takes e;
-      reach = inl (omega (arith, s.long, le), all_left left mid s.text s.takes end);
+      takes = takes_more_nothing before.source.left mid.source.left now.source.left s.text s.takes e.takes;
+      in_time = in_time_whole s.text (omega (arith, s.long, le)) (served_unended before mid taken session s le);
+      reach = inl (omega (arith, s.long, le), all_left before.source.left mid.source.left s.text s.takes e.at_end);
       replies = record {
         lines = map without_return fs.lines ++ last_line session.unfinished;
         answered = map without_return fs.lines ++ last_line session.unfinished;
@@ -153,35 +246,38 @@ finish_done left mid now_left was then now taken session t s le e end f =
         are_answered = answered_lines (map without_return fs.lines) session.unfinished fs.goes_on f.last;
         run = run_append fresh session.state t (map without_return fs.lines) (last_line session.unfinished) fs.replies f.replies fs.answered.run f.run;
       };
-      written = appended_both was then now fs.replies f.replies fs.written f.written;
+      written = appended_both before.sink.written mid.sink.written now.sink.written fs.replies f.replies fs.written f.written;
     }
 
-finish_part : (left mid now_left was then now : Option (List ℕ)) (taken : ℕ) (session : View)
-    → Served left mid was then taken session → taken ≤ longest_text → Takes mid now_left []
-    → Appended then now [] ⊎ FinishesPart session.state session.unfinished then now → RunsPart left now_left was now
-finish_part left mid now_left was then now taken session s le e (inl none) =
-    let fs = subst (λ (z : List ℕ). FeedsOn fresh z was then session.unfinished session.state) (whole_text s.text taken s.long le) s.feeds in
+finish_part : (before mid now : Streams) (taken : ℕ) (session : View) → Served before mid taken session → taken ≤ MOST_INPUT_BYTES → ReadsEnd mid.source now.source
+    → Appended mid.sink.written now.sink.written [] ⊎ FinishesPart session.state session.unfinished mid.sink.written now.sink.written → RunsPart before now
+finish_part before mid now taken session s le e (inl none) =
+    let fs = whole_feeds before mid taken session s le in
     record {
       text = s.text;
       lines = map without_return fs.lines;
       others = last_line session.unfinished;
       replies = fs.replies;
       state = session.state;
-      takes = takes_more_nothing left mid now_left s.text s.takes e;
+      takes = takes_more_nothing before.source.left mid.source.left now.source.left s.text s.takes e.takes;
+      in_time = in_time_whole s.text (omega (arith, s.long, le)) (served_unended before mid taken session s le);
       are_lines = lines_of s.text fs.lines session.unfinished fs.answered.whole fs.answered.unbroken fs.unfinished;
       keeps_on = subst KeepsOn (append-nil (map without_return fs.lines)) (keeps_on_all (map without_return fs.lines) [] fs.goes_on tt);
       run = fs.answered.run;
-      written = front_whole was now fs.replies (subst (λ (z : List ℕ). Appended was now z) (append-nil fs.replies) (appended_both was then now fs.replies [] fs.written none));
+      written = front_whole before.sink.written now.sink.written fs.replies
+          (subst (λ (z : List ℕ). Appended before.sink.written now.sink.written z) (append-nil fs.replies)
+          (appended_both before.sink.written mid.sink.written now.sink.written fs.replies [] fs.written none));
     }
-finish_part left mid now_left was then now taken session s le e (inr f) =
-    let fs = subst (λ (z : List ℕ). FeedsOn fresh z was then session.unfinished session.state) (whole_text s.text taken s.long le) s.feeds in
+finish_part before mid now taken session s le e (inr f) =
+    let fs = whole_feeds before mid taken session s le in
     record {
       text = s.text;
       lines = map without_return fs.lines ++ last_line session.unfinished;
       others = [];
       replies = fs.replies ++ f.replies;
       state = f.after;
-      takes = takes_more_nothing left mid now_left s.text s.takes e;
+      takes = takes_more_nothing before.source.left mid.source.left now.source.left s.text s.takes e.takes;
+      in_time = in_time_whole s.text (omega (arith, s.long, le)) (served_unended before mid taken session s le);
       are_lines = subst (λ (ls : List (List ℕ)). AreLines s.text ls) (sym (append-nil (map without_return fs.lines ++ last_line session.unfinished)))
           (lines_of s.text fs.lines session.unfinished fs.answered.whole fs.answered.unbroken fs.unfinished);
       keeps_on = keeps_on_all (map without_return fs.lines) (last_line session.unfinished) fs.goes_on (keeps_on_last session.unfinished);
@@ -190,20 +286,22 @@ finish_part left mid now_left was then now taken session s le e (inr f) =
         front = fs.replies ++ f.written.front;
         back = f.written.back;
         whole = ap (λ (z : List ℕ). fs.replies ++ z) f.written.whole ∙ sym (append_assoc fs.replies f.written.front f.written.back);
-        written = appended_both was then now fs.replies f.written.front fs.written f.written.written;
+        written = appended_both before.sink.written mid.sink.written now.sink.written fs.replies f.written.front fs.written f.written.written;
       };
     }
 
+fails_more : (before mid now : Streams) → IsCalm before mid → now.source.faults ≡ mid.source.faults → Rose mid.sink.faults now.sink.faults → FailsToWrite before now
+fails_more before mid now c read rose = record { read = read ∙ c.read; write = rose_after before.sink.faults mid.sink.faults now.sink.faults c.write rose }
+
 -- the end of the source was reached
-pub finish_runs : (left mid now_left was then now : Option (List ℕ)) (f g h j k taken : ℕ) (session : View) (status : Status)
-    → Served left mid was then taken session → taken ≤ longest_text → Takes mid now_left [] → IsAtEnd mid → h ≤ j
-    → FinishesStatus session then now j k status → Runs left now_left was now f g h k status
-finish_runs left mid now_left was then now f g h j k taken session Done s le e end hj fin = finish_done left mid now_left was then now taken session fin.0 s le e end fin.1
-finish_runs left mid now_left was then now f g h j k taken session WriteFault s le e end hj fin = (omega (arith, hj, fin.0), finish_part left mid now_left was then now taken session s le e fin.1)
-finish_runs left mid now_left was then now f g h j k taken session NoMemory s le e end hj fin = finish_part left mid now_left was then now taken session s le e fin
-finish_runs left mid now_left was then now f g h j k taken session Usage s le e end hj fin = fin
-finish_runs left mid now_left was then now f g h j k taken session ReadFault s le e end hj fin = absurd fin
-finish_runs left mid now_left was then now f g h j k taken session TooLong s le e end hj fin = absurd fin
+last_runs : (before mid now : Streams) (taken : ℕ) (session : View) (status : Status) → Served before mid taken session → taken ≤ MOST_INPUT_BYTES
+    → ReadsEnd mid.source now.source → FinishesStatus session mid.sink now.sink status → Runs before now status
+last_runs before mid now taken session Done s le e f = (calm_more before mid now s.calm e.calm f.0, finish_done before mid now taken session f.1.0 s le e f.1.1)
+last_runs before mid now taken session WriteFault s le e f = (fails_more before mid now s.calm e.calm f.0, finish_part before mid now taken session s le e f.1)
+last_runs before mid now taken session NoMemory s le e f = (calm_more before mid now s.calm e.calm f.0, finish_part before mid now taken session s le e f.1)
+last_runs before mid now taken session Usage s le e f = f
+last_runs before mid now taken session ReadFault s le e f = absurd f
+last_runs before mid now taken session TooLong s le e f = absurd f
 
 -- a byte before the first line of a text
 cut_onto : (b : ℕ) (bytes : List ℕ) (lines : List (List ℕ)) (rest : List ℕ) → (b ≡ 10 → ⊥) → Cuts bytes lines rest → (ls : List (List ℕ)) × (r : List ℕ) × Cuts (b ∷ bytes) ls r
@@ -267,14 +365,16 @@ whole_end : (n : ℕ) (text rest : List ℕ) (lines : List (List ℕ)) → take 
 whole_end n text rest lines e =
     sym (take-append-drop n text) ∙ ap (λ (z : List ℕ). z ++ drop n text) e ∙ append_assoc (flat_map ended lines) rest (drop n text)
 
-end_runs : (left now_left was now : Option (List ℕ)) (text : List ℕ) (t : SessionState) → Takes left now_left text → FeedsEnd fresh (take longest_text text) was now t → RunsAll left now_left was now
-end_runs left now_left was now text t takes e =
-    let l = text_lines text (e.lines ++ e.last ∷ []) (e.rest ++ drop longest_text text) (whole_end longest_text text e.rest (e.lines ++ e.last ∷ []) e.answered.whole) e.answered.unbroken in
+end_runs : (before now : Streams) (text : List ℕ) (t : SessionState) → Consumes before.source.left now.source.left text → StopsInTime text
+    → FeedsEnd fresh (first_bytes text) before.sink.written now.sink.written t → RunsAll before now
+end_runs before now text t takes in_time e =
+    let l = text_lines text (e.lines ++ e.last ∷ []) (e.rest ++ drop MOST_INPUT_BYTES text) (whole_end MOST_INPUT_BYTES text e.rest (e.lines ++ e.last ∷ []) e.answered.whole) e.answered.unbroken in
     record {
       text = text;
       output = e.replies;
       takes = takes;
-      reach = inr (record { before = e.lines; last = e.last; rest = e.rest; whole = e.answered.whole; ends = e.ends });
+      in_time = in_time;
+      reach = inr (record { before = e.lines; last = e.last; rest = e.rest; whole = e.answered.whole; unbroken = e.answered.unbroken; ends = e.ends });
       replies = record {
         lines = map without_return (e.lines ++ e.last ∷ []) ++ l.0;
         answered = map without_return e.lines ++ without_return e.last ∷ [];
@@ -287,9 +387,10 @@ end_runs left now_left was now text t takes e =
       written = e.written;
     }
 
-part_runs : (left now_left was now : Option (List ℕ)) (text : List ℕ) → Takes left now_left text → FeedsPart fresh (take longest_text text) was now → RunsPart left now_left was now
-part_runs left now_left was now text takes p =
-    let l = text_lines text p.lines (p.rest ++ drop longest_text text) (whole_end longest_text text p.rest p.lines p.answered.whole) p.answered.unbroken in
+part_runs : (before now : Streams) (text : List ℕ) → Consumes before.source.left now.source.left text → StopsInTime text
+    → FeedsPart fresh (first_bytes text) before.sink.written now.sink.written → RunsPart before now
+part_runs before now text takes in_time p =
+    let l = text_lines text p.lines (p.rest ++ drop MOST_INPUT_BYTES text) (whole_end MOST_INPUT_BYTES text p.rest p.lines p.answered.whole) p.answered.unbroken in
     record {
       text = text;
       lines = map without_return p.lines;
@@ -297,43 +398,49 @@ part_runs left now_left was now text takes p =
       replies = p.replies;
       state = p.after;
       takes = takes;
+      in_time = in_time;
       are_lines = l.1;
       keeps_on = p.keeps_on;
       run = p.answered.run;
       written = p.written;
     }
 
--- feeding a piece ended the run
-pub feed_runs : (left mid now_left was then now : Option (List ℕ)) (f g h j k taken n : ℕ) (buffer : List ℕ) (session after : View) (status : Status)
-    → Served left mid was then taken session → taken ≤ longest_text → Takes mid now_left (take n buffer) → h ≤ j
-    → FeedsStatus session (take (min n (longest_text - taken)) buffer) then now after j k (Some status)
-    → Runs left now_left was now f g h k status
-feed_runs left mid now_left was then now f g h j k taken n buffer session after Done s le t hj e =
-    end_runs left now_left was now (s.text ++ take n buffer) after.state (takes_both left mid now_left s.text (take n buffer) s.takes t)
-    (subst (λ (z : List ℕ). FeedsEnd fresh z was now after.state) (sym (fed_piece s.text buffer n taken s.long le))
-    (feeds_more_end fresh session.state after.state (take longest_text s.text) (take (min n (longest_text - taken)) buffer) session.unfinished was then now s.feeds e))
-feed_runs left mid now_left was then now f g h j k taken n buffer session after WriteFault s le t hj e = (
-  omega (arith, hj, e.0),
-  part_runs left now_left was now (s.text ++ take n buffer) (takes_both left mid now_left s.text (take n buffer) s.takes t)
-      (subst (λ (z : List ℕ). FeedsPart fresh z was now) (sym (fed_piece s.text buffer n taken s.long le))
-      (feeds_more_part fresh session.state (take longest_text s.text) (take (min n (longest_text - taken)) buffer) session.unfinished was then now s.feeds e.1)),
-)
-feed_runs left mid now_left was then now f g h j k taken n buffer session after NoMemory s le t hj e =
-    part_runs left now_left was now (s.text ++ take n buffer) (takes_both left mid now_left s.text (take n buffer) s.takes t)
-    (subst (λ (z : List ℕ). FeedsPart fresh z was now) (sym (fed_piece s.text buffer n taken s.long le))
-    (feeds_more_part fresh session.state (take longest_text s.text) (take (min n (longest_text - taken)) buffer) session.unfinished was then now s.feeds e))
-feed_runs left mid now_left was then now f g h j k taken n buffer session after Usage s le t hj e = e
-feed_runs left mid now_left was then now f g h j k taken n buffer session after ReadFault s le t hj e = absurd e
-feed_runs left mid now_left was then now f g h j k taken n buffer session after TooLong s le t hj e = absurd e
+more_part : (before mid now : Streams) (taken : ℕ) (session : View) (piece : List ℕ) → Served before mid taken session → taken ≤ MOST_INPUT_BYTES
+    → ReadsPiece mid.source now.source piece
+    → FeedsPart session.state (session.unfinished ++ take (MOST_INPUT_BYTES - taken) piece) mid.sink.written now.sink.written → RunsPart before now
+more_part before mid now taken session piece s le r f =
+    part_runs before now (s.text ++ piece) (consumes_both before.source.left mid.source.left now.source.left s.text piece s.takes r.takes)
+    (in_time_more s.text piece (omega (arith, s.long, le)) (served_unended before mid taken session s le) r.small)
+    (subst (λ (z : List ℕ). FeedsPart fresh z before.sink.written now.sink.written) (sym (fed_text s.text piece taken s.long le))
+    (feeds_more_part fresh session.state (first_bytes s.text) (take (MOST_INPUT_BYTES - taken) piece) session.unfinished before.sink.written mid.sink.written now.sink.written s.feeds f))
 
-pub feed_runs_at : (left mid now_left was then now : Option (List ℕ)) (f g h j k taken n m : ℕ) (buffer : List ℕ) (session after : View) (status : Status)
-    → m ≡ min n (longest_text - taken)
-    → Served left mid was then taken session → taken ≤ longest_text → Takes mid now_left (take n buffer) → h ≤ j
-    → FeedsStatus session (take m buffer) then now after j k (Some status)
-    → Runs left now_left was now f g h k status
-feed_runs_at left mid now_left was then now f g h j k taken n m buffer session after status is s le t hj e =
-    feed_runs left mid now_left was then now f g h j k taken n buffer session after status s le t hj
-    (subst (λ (i : ℕ). FeedsStatus session (take i buffer) then now after j k (Some status)) is e)
+more_end : (before mid now : Streams) (taken : ℕ) (session later : View) (piece : List ℕ) → Served before mid taken session → taken ≤ MOST_INPUT_BYTES
+    → ReadsPiece mid.source now.source piece
+    → FeedsEnd session.state (session.unfinished ++ take (MOST_INPUT_BYTES - taken) piece) mid.sink.written now.sink.written later.state → RunsAll before now
+more_end before mid now taken session later piece s le r f =
+    end_runs before now (s.text ++ piece) later.state (consumes_both before.source.left mid.source.left now.source.left s.text piece s.takes r.takes)
+    (in_time_more s.text piece (omega (arith, s.long, le)) (served_unended before mid taken session s le) r.small)
+    (subst (λ (z : List ℕ). FeedsEnd fresh z before.sink.written now.sink.written later.state) (sym (fed_text s.text piece taken s.long le))
+    (feeds_more_end fresh session.state later.state (first_bytes s.text) (take (MOST_INPUT_BYTES - taken) piece) session.unfinished before.sink.written mid.sink.written now.sink.written s.feeds f))
+
+-- feeding a piece ended the run
+piece_runs : (before mid now : Streams) (taken : ℕ) (session later : View) (status : Status) (piece : List ℕ) → Served before mid taken session → taken ≤ MOST_INPUT_BYTES
+    → ReadsPiece mid.source now.source piece → FeedsStatus session (take (MOST_INPUT_BYTES - taken) piece) mid.sink now.sink later (Some status) → Runs before now status
+piece_runs before mid now taken session later Done piece s le r f = (calm_more before mid now s.calm r.calm f.0, more_end before mid now taken session later piece s le r f.1)
+piece_runs before mid now taken session later WriteFault piece s le r f = (fails_more before mid now s.calm r.calm f.0, more_part before mid now taken session piece s le r f.1)
+piece_runs before mid now taken session later NoMemory piece s le r f = (calm_more before mid now s.calm r.calm f.0, more_part before mid now taken session piece s le r f.1)
+piece_runs before mid now taken session later Usage piece s le r f = f
+piece_runs before mid now taken session later ReadFault piece s le r f = absurd f
+piece_runs before mid now taken session later TooLong piece s le r f = absurd f
+
+-- a read ended the run
+pub pump_runs : (before mid now : Streams) (taken : ℕ) (session later : View) (status : Status) → Served before mid taken session → taken ≤ MOST_INPUT_BYTES
+    → Pumps session (MOST_INPUT_BYTES - taken) mid later now (Err status) → Runs before now status
+pump_runs before mid now taken session later status s le (inl fault) =
+    subst (λ (x : Status). Runs before now x) (sym fault.fault)
+    (fault_runs before mid now taken session s le (subst (λ (x : Status). PumpsFault mid now x) fault.fault fault))
+pump_runs before mid now taken session later status s le (inr (inl last)) = last_runs before mid now taken session status s le last.reads last.finishes
+pump_runs before mid now taken session later status s le (inr (inr p)) = piece_runs before mid now taken session later status p.piece s le p.reads p.feeds
 
 -- the bytes of a list of one word
 pub one_word : (words : List (String Global)) (word : String Global) (bytes : List ℕ) → 1 ≤ length words → length words < 2 → word ≡ get_or words 0 word
@@ -343,17 +450,20 @@ one_word (w ∷ []) word bytes some few at same = ap (λ (z : List ℕ). z ∷ [
 one_word (w ∷ v ∷ ws) word bytes some few at same = absurd (omega (arith, few))
 
 -- without a fault and within the limit
-pub whole_status : (left now_left was now : Option (List ℕ)) (f g h i : ℕ) (status : Status) → Runs left now_left was now f g h i status
-    → (Rose f g → ⊥) → (Rose h i → ⊥) → ((text : List ℕ) → Takes left now_left text → length text ≤ longest_text) → IsWhole status
-whole_status left now_left was now f g h i Done r calm none short = tt
-whole_status left now_left was now f g h i Usage r calm none short = r
-whole_status left now_left was now f g h i ReadFault r calm none short = calm r.0
-whole_status left now_left was now f g h i WriteFault r calm none short = none r.0
-whole_status left now_left was now f g h i NoMemory r calm none short = tt
-whole_status left now_left was now f g h i TooLong r calm none short = absurd (omega (arith, short r.text r.takes, r.long))
+pub whole_status : (before after : Streams) (status : Status) → Runs before after status → HasNoFault before after → TakesAnswerable before after → IsWhole status
+whole_status before after Done r none within = tt
+whole_status before after Usage r none within = r
+whole_status before after ReadFault r none within = none.read r.0.read
+whole_status before after WriteFault r none within = none.write r.0.write
+whole_status before after NoMemory r none within = tt
+whole_status before after TooLong r none within =
+    elim (within r.1.text r.1.takes) [
+      | inl short ↦ absurd (omega (arith, short, r.1.long))
+      | inr end ↦ no_end fresh r.1.state (first_bytes r.1.text) r.1.rest before.sink.written after.sink.written r.1.feeds end
+    ]
 
 -- where the source tells its bytes, it is known which were taken
-taken_once : (left : List ℕ) (now_left : Option (List ℕ)) (a b : List ℕ) → Takes (Some left) now_left a → Takes (Some left) now_left b → a ≡ b
+taken_once : (left : List ℕ) (now_left : Option (List ℕ)) (a b : List ℕ) → Consumes (Some left) now_left a → Consumes (Some left) now_left b → a ≡ b
 taken_once left None a b t u = absurd t
 taken_once left (Some n) a b t u =
     let la : length left ≡ length a + length n = ap length t ∙ length-append a n in
@@ -361,25 +471,21 @@ taken_once left (Some n) a b t u =
     let same : length a ≡ length b = omega (arith, la, lb) in
     sym (take-append_seam a n) ∙ ap (λ (z : List ℕ). take (length a) z) (sym t ∙ u) ∙ ap (λ (k : ℕ). take k (b ++ n)) same ∙ take-append_seam b n
 
--- more bytes than a text may have
-pub cut_status : (left : List ℕ) (now_left was now : Option (List ℕ)) (f g h i : ℕ) (status : Status) (text : List ℕ) → Runs (Some left) now_left was now f g h i status
-    → Takes (Some left) now_left text → longest_text < length text → (HasEnd (take longest_text text) → ⊥) → (Rose h i → ⊥) → IsCut status
-cut_status left now_left was now f g h i Done text r t long open_end none =
-    let same : r.text ≡ text = taken_once left now_left r.text text r.takes t in
-    elim r.reach [
-      | inl short ↦ absurd (omega (arith, ap length same, short.0, long))
-      | inr end ↦ absurd (open_end (subst (λ (z : List ℕ). HasEnd (take longest_text z)) same end))
-    ]
-cut_status left now_left was now f g h i Usage text r t long open_end none = r
-cut_status left now_left was now f g h i ReadFault text r t long open_end none =
-    absurd (omega (arith, ap length (taken_once left now_left r.1.text text r.1.takes t), r.1.short, long))
-cut_status left now_left was now f g h i WriteFault text r t long open_end none = none r.0
-cut_status left now_left was now f g h i NoMemory text r t long open_end none = tt
-cut_status left now_left was now f g h i TooLong text r t long open_end none = tt
+told_once : (before after : Option (List ℕ)) (left a b : List ℕ) → before ≡ Some left → Consumes before after a → Consumes before after b → a ≡ b
+told_once before after left a b told t u =
+    taken_once left after a b (subst (λ (z : Option (List ℕ)). Consumes z after a) told t) (subst (λ (z : Option (List ℕ)). Consumes z after b) told u)
 
-pub cut_status_at : (left : List ℕ) (was_left now_left was now : Option (List ℕ)) (f g h i : ℕ) (status : Status) (text : List ℕ) → was_left ≡ Some left → Runs was_left now_left was now f g h i status
-    → Takes was_left now_left text → longest_text < length text → (HasEnd (take longest_text text) → ⊥) → (Rose h i → ⊥) → IsCut status
-cut_status_at left was_left now_left was now f g h i status text told r t long open_end none =
-    cut_status left now_left was now f g h i status text
-    (subst (λ (z : Option (List ℕ)). Runs z now_left was now f g h i status) told r)
-    (subst (λ (z : Option (List ℕ)). Takes z now_left text) told t) long open_end none
+-- more bytes than can be answered
+pub cut_status : (before after : Streams) (status : Status) → Runs before after status → TakesTooMuch before after → (Rose before.sink.faults after.sink.faults → ⊥) → IsCut status
+cut_status before after Done r much none =
+    let same : r.1.text ≡ much.text = told_once before.source.left after.source.left much.left r.1.text much.text much.told r.1.takes much.takes in
+    elim r.1.reach [
+      | inl short ↦ absurd (omega (arith, ap length same, short.0, much.long))
+      | inr end ↦ absurd (much.unended (subst (λ (z : List ℕ). HasEnd (first_bytes z)) same end))
+    ]
+cut_status before after Usage r much none = r
+cut_status before after ReadFault r much none =
+    absurd (omega (arith, ap length (told_once before.source.left after.source.left much.left r.1.text much.text much.told r.1.takes much.takes), r.1.short, much.long))
+cut_status before after WriteFault r much none = none r.0.write
+cut_status before after NoMemory r much none = tt
+cut_status before after TooLong r much none = tt

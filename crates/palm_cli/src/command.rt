@@ -1,12 +1,12 @@
 //! The one call that the program makes.
-ghost use Rattle.std.specs.Prelude.{◌≡◌, ℕ, List, ◌<◌, ◌≤◌, ◌↔◌, length, map, codes, take, string_bytes, true, false, Option, Some};
-ghost use Rattle.palm_base.specs.Streams.{Rose, Takes};
-ghost use Rattle.palm_cli.specs.Commands.{IsRun, IsCut, IsWhole, HasEnd, Refuses, Runs, longest_text};
+ghost use Rattle.std.specs.Prelude.{◌≡◌, map, codes, string_bytes};
+ghost use Rattle.palm_base.specs.Streams.{Rose};
+ghost use Rattle.palm_base.specs.Tells.{Tells};
+ghost use Rattle.palm_cli.specs.Commands.{IsRun, IsCut, IsWhole, HasNoFault, Refuses, Runs, TakesAnswerable, TakesTooMuch, WritesUsage, streams};
 
 use crate::serving::run;
 use crate::status::Status;
-use palm_base::{Sink, Source};
-use palm_session::write::write_all;
+use palm_base::{Failed, Sink, Source, write_all};
 use std::alloc::Global;
 
 /// Does what the words after the program's name say, and answers how that ended.
@@ -18,22 +18,19 @@ pub fn top<S: Source, K: Sink>(
 ) -> Status
     // `run` answers the lines of the source one by one; every other end has its cause.
     ensures runs { IsRun (map string_bytes words.now) →
-        Runs (S.left source.old) (S.left source.new) (K.written sink.old) (K.written sink.new)
-        (S.faults source.old) (S.faults source.new) (K.faults sink.old) (K.faults sink.new) result }
+        Runs (streams (S.state source.old) (K.state sink.old)) (streams (S.state source.new) (K.state sink.new)) result }
     // Other words are answered by the usage line.
     ensures refuses { (IsRun (map string_bytes words.now) → ⊥) →
-        Refuses (S.left source.old) (S.left source.new) (K.written sink.old) (K.written sink.new)
-        (K.faults sink.old) (K.faults sink.new) result }
-    // Without a fault, a text within the limit is answered whole, unless memory runs out.
-    ensures complete { IsRun (map string_bytes words.now) →
-        (Rose (S.faults source.old) (S.faults source.new) → ⊥) → (Rose (K.faults sink.old) (K.faults sink.new) → ⊥) →
-        ((text : List ℕ) → Takes (S.left source.old) (S.left source.new) text → length text ≤ longest_text) →
-        IsWhole result }
+        Refuses (streams (S.state source.old) (K.state sink.old)) (streams (S.state source.new) (K.state sink.new)) result }
+    // Without a fault, a text that can be answered whole is answered whole, unless memory runs out.
+    ensures complete { let before = streams (S.state source.old) (K.state sink.old) in
+        let after = streams (S.state source.new) (K.state sink.new) in
+        IsRun (map string_bytes words.now) → HasNoFault before after → TakesAnswerable before after → IsWhole result }
     // A longer text, whose first bytes have no line that ends the session, is told to be too long where no write failed.
-    ensures cut { IsRun (map string_bytes words.now) → (left text : List ℕ) → S.left source.old ≡ Some left →
-        Takes (S.left source.old) (S.left source.new) text → longest_text < length text →
-        (HasEnd (take longest_text text) → ⊥) → (Rose (K.faults sink.old) (K.faults sink.new) → ⊥) →
-        IsCut result }
+    ensures cut { let before = streams (S.state source.old) (K.state sink.old) in
+        let after = streams (S.state source.new) (K.state sink.new) in
+        IsRun (map string_bytes words.now) → TakesTooMuch before after →
+        (Rose (K.state sink.old).faults (K.state sink.new).faults → ⊥) → IsCut result }
 {
     if is_run(words) {
         run(alloc, source, sink)
@@ -44,8 +41,7 @@ pub fn top<S: Source, K: Sink>(
 
 /// Whether the words are those of the command `run`.
 fn is_run(words: &[String]) -> bool
-    ensures run { result ≡ true → IsRun (map string_bytes words.now) }
-    ensures other { result ≡ false → IsRun (map string_bytes words.now) → ⊥ }
+    ensures { Tells result (IsRun (map string_bytes words.now)) }
 {
     match words {
         [word] => is_word(word),
@@ -55,18 +51,17 @@ fn is_run(words: &[String]) -> bool
 
 /// Whether the word is `run`.
 fn is_word(word: &String) -> bool
-    ensures run { result ≡ true → string_bytes word.now ≡ codes "run" }
-    ensures other { result ≡ false → string_bytes word.now ≡ codes "run" → ⊥ }
+    ensures { Tells result (string_bytes word.now ≡ codes "run") }
 {
     word.as_bytes() == b"run".as_slice()
 }
 
 /// Writes the usage line.
 fn refuse<K: Sink>(sink: &mut K) -> Status
-    ensures { (left : Option (List ℕ)) → Refuses left left (K.written sink.old) (K.written sink.new) (K.faults sink.old) (K.faults sink.new) result }
+    ensures { WritesUsage (K.state sink.old) (K.state sink.new) result }
 {
     match write_all(sink, b"usage: palm run, palm check or palm gen N\n") {
         Ok(()) => Status::Usage,
-        Err(_) => Status::WriteFault,
+        Err(Failed) => Status::WriteFault,
     }
 }

@@ -1,26 +1,21 @@
 //! The command `run`.
-ghost use Rattle.std.specs.Prelude.{◌≡◌, ◌≤◌, ◌<◌, [], false, length};
+ghost use Rattle.std.specs.Prelude.{◌≡◌, ◌<◌, [], false, length};
 ghost use Rattle.palm_session.specs.State.{fresh};
-ghost use Rattle.palm_cli.specs.Commands.{FeedsStatus, FinishesStatus, Runs};
+ghost use Rattle.palm_cli.specs.Commands.{Runs, streams};
+ghost use Rattle.palm_cli.specs.Serving.{FeedsStatus, FinishesStatus, Pumps};
 
+use crate::limits::{MOST_INPUT_BYTES, PIECE};
 use crate::status::Status;
-use palm_base::{Sink, Source, Steps};
+use palm_base::{Failed, Sink, Source, Steps};
 use palm_session::{Going, Session, Stop};
 use std::alloc::Global;
 use std::marker::Brand;
 use std::sync::ledger::{Blank, Ledger};
 
-/// How many bytes a text may have.
-const LONGEST_TEXT: usize = 16_777_216;
-
-/// How many bytes are read at once.
-const PIECE: usize = 4_096;
-
 /// Reads the source in pieces, to its end or to a line that ends the session, and answers each line before the next
 /// read.
 pub fn run<S: Source, K: Sink>(alloc: Global, source: &mut S, sink: &mut K) -> Status
-    ensures { Runs (S.left source.old) (S.left source.new) (K.written sink.old) (K.written sink.new)
-        (S.faults source.old) (S.faults source.new) (K.faults sink.old) (K.faults sink.new) result }
+    ensures { Runs (streams (S.state source.old) (K.state sink.old)) (streams (S.state source.new) (K.state sink.new)) result }
 {
     run_counted::<S, K, Brand>(alloc, source, sink, Blank::new(1))
 }
@@ -35,8 +30,7 @@ fn run_counted<S: Source, K: Sink, L: Ledger>(
     requires named { blank.name ≡ L.name }
     requires parts { blank.parts ≡ L.parts }
     requires shared { 0 < L.parts }
-    ensures { Runs (S.left source.old) (S.left source.new) (K.written sink.old) (K.written sink.new)
-        (S.faults source.old) (S.faults source.new) (K.faults sink.old) (K.faults sink.new) result }
+    ensures { Runs (streams (S.state source.old) (K.state sink.old)) (streams (S.state source.new) (K.state sink.new)) result }
 {
     let mut steps = Steps::<L>::start(blank);
     let Ok(mut session) = Session::new(alloc) else {
@@ -45,11 +39,11 @@ fn run_counted<S: Source, K: Sink, L: Ledger>(
     let Ok(mut buffer) = vec![in alloc; 0u8; PIECE] else {
         return Status::NoMemory;
     };
-    pump(&mut session, source, &mut buffer, sink, &mut steps)
+    serve(&mut session, source, &mut buffer, sink, &mut steps)
 }
 
 /// Reads pieces and feeds them to a fresh session.
-fn pump<S: Source, K: Sink, L: Ledger>(
+fn serve<S: Source, K: Sink, L: Ledger>(
     session: &mut Session,
     source: &mut S,
     buffer: &mut [u8],
@@ -57,26 +51,51 @@ fn pump<S: Source, K: Sink, L: Ledger>(
     steps: &mut Steps<L>,
 ) -> Status
     requires fresh { session.old ≡ record { state = fresh; unfinished = []; over = false } }
-    requires room { 0 < length buffer.old }
-    ensures { Runs (S.left source.old) (S.left source.new) (K.written sink.old) (K.written sink.new)
-        (S.faults source.old) (S.faults source.new) (K.faults sink.old) (K.faults sink.new) result }
+    requires piece { length buffer.old ≡ PIECE }
+    ensures { Runs (streams (S.state source.old) (K.state sink.old)) (streams (S.state source.new) (K.state sink.new)) result }
 {
     let mut taken = 0;
-    while taken <= LONGEST_TEXT {
-        let count = match source.read(buffer) {
-            Ok(count) => count,
-            Err(_) => return Status::ReadFault,
-        };
-        if count == 0 {
-            return finish(session, sink, steps);
-        }
-        let fed = count.min(LONGEST_TEXT - taken);
-        match feed(session, &buffer[..fed], sink, steps) {
-            None => taken += count,
-            Some(status) => return status,
+    while taken <= MOST_INPUT_BYTES {
+        match pump(
+            session,
+            source,
+            buffer,
+            sink,
+            steps,
+            MOST_INPUT_BYTES - taken,
+        ) {
+            Ok(count) => taken += count,
+            Err(status) => return status,
         }
     }
     Status::TooLong
+}
+
+/// Reads once, and answers the lines that the first bytes of the piece complete, as many bytes as there is room for.
+/// It tells how many bytes were read, or how the run ends there.
+fn pump<S: Source, K: Sink, L: Ledger>(
+    session: &mut Session,
+    source: &mut S,
+    buffer: &mut [u8],
+    sink: &mut K,
+    steps: &mut Steps<L>,
+    room: usize,
+) -> Result<usize, Status>
+    requires going { session.old.over ≡ false }
+    requires piece { length buffer.old ≡ PIECE }
+    ensures { Pumps session.old room (streams (S.state source.old) (K.state sink.old)) session.new (streams (S.state source.new) (K.state sink.new)) result }
+{
+    let count = match source.read(buffer) {
+        Ok(count) => count,
+        Err(Failed) => return Err(Status::ReadFault),
+    };
+    if count == 0 {
+        return Err(finish(session, sink, steps));
+    }
+    match feed(session, &buffer[..count.min(room)], sink, steps) {
+        None => Ok(count),
+        Some(status) => Err(status),
+    }
 }
 
 /// Feeds a piece, and answers the status of a run that it ends.
@@ -87,8 +106,7 @@ fn feed<K: Sink, L: Ledger>(
     steps: &mut Steps<L>,
 ) -> Option<Status>
     requires { session.old.over ≡ false }
-    ensures counts { K.faults sink.old ≤ K.faults sink.new }
-    ensures feeds { FeedsStatus session.old piece.now (K.written sink.old) (K.written sink.new) session.new (K.faults sink.old) (K.faults sink.new) result }
+    ensures { FeedsStatus session.old piece.now (K.state sink.old) (K.state sink.new) session.new result }
 {
     match session.feed(piece, sink, steps) {
         Ok(Going::More) => None,
@@ -101,7 +119,7 @@ fn feed<K: Sink, L: Ledger>(
 /// Answers a last line, and the status of the run.
 fn finish<K: Sink, L: Ledger>(session: &mut Session, sink: &mut K, steps: &mut Steps<L>) -> Status
     requires { session.old.over ≡ false }
-    ensures { FinishesStatus session.old (K.written sink.old) (K.written sink.new) (K.faults sink.old) (K.faults sink.new) result }
+    ensures { FinishesStatus session.old (K.state sink.old) (K.state sink.new) result }
 {
     match session.finish(sink, steps) {
         Ok(()) => Status::Done,

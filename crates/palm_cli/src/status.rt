@@ -19,11 +19,11 @@ pub enum Status {
 
 impl Status {
     ghost use Rattle.std.specs.Prelude.{◌≡◌};
-    ghost use Rattle.palm_cli.specs.Numbers.{number_of};
+    ghost use Rattle.palm_cli.specs.Numbers.{status_number};
 
     /// The exit status of the process.
     pub fn number(self) -> u8
-        ensures { result ≡ number_of self }
+        ensures { result ≡ status_number self }
     {
         match self {
             Status::Done => 0,

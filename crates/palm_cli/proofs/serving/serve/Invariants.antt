@@ -1,0 +1,11 @@
+use Rattle.std.proofs.Common.{◌-◌}
+use Rattle.palm_cli.specs.Commands.{streams}
+use Rattle.palm_cli.proofs.RunLemmas.{Served}
+use Rattle.palm_cli.proofs.serving.serve.Given as goal
+
+abbrev pub invariant-loop-taken : goal.invariant-loop-taken
+invariant-loop-taken g l =
+    Served (streams (g.S.Source.state l.initial.source) (g.K.Sink.state l.initial.sink)) (streams (g.S.Source.state l.source) (g.K.Sink.state l.sink)) l.taken l.session
+
+abbrev pub decreases-loop-taken : goal.decreases-loop-taken
+decreases-loop-taken g l = 16777217 - l.taken

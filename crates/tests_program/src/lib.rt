@@ -1,0 +1,10 @@
+//! Tests of the program's one call, `top`, over sources and sinks in memory: worked sessions with the expected replies,
+//! streams that fail, other words, and the order of reads and writes.
+#![tactic(auto)]
+
+#[cfg(test)]
+mod sessions;
+#[cfg(test)]
+mod streams;
+#[cfg(test)]
+mod words;

@@ -1,0 +1,122 @@
+//! Worked sessions and their replies, read and written in pieces of 1 and of 7 bytes.
+ghost use Rattle.std.specs.Prelude.{◌<◌};
+
+use crate::words::words_of;
+use palm_base::{ByteList, CallList, MemorySink, MemorySource, NoMemory};
+use palm_cli::{Status, top};
+use std::alloc::Global;
+use std::test::Fail;
+
+/// How many bytes a sink may keep.
+const ROOM: usize = 4_096;
+
+/// Whether `run` answers the text by the replies, where both pass in pieces of at most this many bytes.
+fn answers(alloc: Global, text: &[u8], replies: &str, piece: usize) -> Result<bool, NoMemory>
+    requires { 0 < piece }
+{
+    let words = words_of(alloc, &["run"])?;
+    let bytes = ByteList::from_slice(alloc, text)?;
+    let mut source = MemorySource::new(bytes, piece, CallList::new(alloc));
+    let mut sink = MemorySink::new(alloc, piece, CallList::new(alloc));
+    sink.reserve(ROOM)?;
+    let status = top(alloc, &words, &mut source, &mut sink);
+    Ok(status == Status::Done && sink.bytes() == replies.as_bytes())
+}
+
+/// Whether `run` answers the text in pieces of 1 and of 7 bytes.
+fn answers_in_pieces(alloc: Global, text: &[u8], replies: &str) -> Result<bool, NoMemory> {
+    Ok(answers(alloc, text, replies, 1)? && answers(alloc, text, replies, 7)?)
+}
+
+#[test]
+fn lines_and_their_ends(rt: HostRuntime) -> Result<(), Fail> {
+    let sessions: [(&[u8], &str); 3] = [
+        (b"", ""),
+        (b"\nvar x 1..2\r\ndomains", "ok\nx: 1 2\nend\n"),
+        (
+            b"var x 1..3\nvar y {1,5,5}\nadd s : sum -2*x+1*y<=03\nadd m : x<y - 0\n\
+             list\ndomain y\nquit\nlist\n",
+            "ok\nok\nok\nok\nvar x 1..3\nvar y {1,5}\n1 active s : sum -2*x + y <= 3\n\
+             2 active m : x < y\nend\ny: 5\nbye\n",
+        ),
+    ];
+    for (text, replies) in sessions {
+        assert!(rt; answers_in_pieces(rt.alloc(), text, replies)?);
+    }
+    Ok(())
+}
+
+#[test]
+fn refusals_and_a_contradiction(rt: HostRuntime) -> Result<(), Fail> {
+    let sessions: [(&[u8], &str); 2] = [
+        (
+            b"var x 1..3\n# note\nvar x 1..2\nlist all\nadd a : x < q\nadd b : x > 3\ndomains\n",
+            "ok\nerror E3 name taken\nerror E2 no such form\nerror E4 unknown variable\n\
+             contradiction\ncontradiction\n",
+        ),
+        (
+            b"var x 1..3\ndomain q\nvar x 1..2\nvar w 3..1\nvar w 1..257\nvar w 0..2000000\n\
+             add p : differ x x q\nadd p : sum 0*x <= 1\nadd p : x + 1\nadd p : x != 2\n\
+             solve dbt budget 0\n\xc8\n",
+            "ok\nerror E4 unknown variable\nerror E3 name taken\nerror E9 empty or zero\n\
+             error E7 limit\nerror E6 number out of range\nerror E8 repeated variable\nerror E9 empty or zero\n\
+             error E2 no such form\nok\nerror E6 number out of range\nerror E1 bytes or length\n",
+        ),
+    ];
+    for (text, replies) in sessions {
+        assert!(rt; answers_in_pieces(rt.alloc(), text, replies)?);
+    }
+    Ok(())
+}
+
+#[test]
+fn each_kind_is_filtered(rt: HostRuntime) -> Result<(), Fail> {
+    let sessions: [(&[u8], &str); 7] = [
+        (
+            b"var x 1..3\nvar y 1..3\nadd a : x < y\ndomains\n",
+            "ok\nok\nok\nx: 1 2\ny: 2 3\nend\n",
+        ),
+        (
+            b"var x 999999..1000000\nvar y -1000000..-999999\n\
+             add g : sum 100000*x - 100000*y >= 200000000000\n\
+             var u 0..1\nvar v 1..1\nadd h : sum u + v != 1\ndomains\n",
+            "ok\nok\nok\nok\nok\nok\nx: 1000000\ny: -1000000\nu: 1\nv: 1\nend\n",
+        ),
+        (
+            b"var S 1..9\nvar E 0..9\nvar N 0..9\nvar D 0..9\nvar M 1..9\nvar O 0..9\nvar R 0..9\nvar Y 0..9\n\
+             add eq : sum 1000*S + 91*E - 90*N + D - 9000*M - 900*O + 10*R - Y = 0\n\
+             add df : differ S E N D M O R Y\ndomains\n",
+            "ok\nok\nok\nok\nok\nok\nok\nok\nok\nok\n\
+             S: 9\nE: 4 5 6 7\nN: 5 6 7 8\nD: 2 3 4 5 6 7 8\nM: 1\nO: 0\nR: 2 3 4 5 6 7 8\nY: 2 3 4 5 6 7 8\nend\n",
+        ),
+        (
+            b"var x 1..2\nvar y 1..2\nvar z 1..2\nadd d : differ x y z\ndomains\n",
+            "ok\nok\nok\nok\nx: 1 2\ny: 1 2\nz: 1 2\nend\n",
+        ),
+        (
+            b"var z {3,5,7}\nvar y 0..4\nadd e : element z y (5,3,5)\ndomains\nadd f : z != 5\ndomains\n",
+            "ok\nok\nok\nz: 3 5\ny: 1 2 3\nend\nok\nz: 3\ny: 2\nend\n",
+        ),
+        (
+            b"var a 1..2\nvar b 1..2\nvar c 1..2\nvar n 0..3\nadd p : a = 1\nadd q : c != 1\n\
+             add k : count 1 a b c = n\nadd r : n = 2\ndomains\n",
+            "ok\nok\nok\nok\nok\nok\nok\nok\na: 1\nb: 1\nc: 2\nn: 2\nend\n",
+        ),
+        (
+            b"var x 1..3\nvar y 1..3\nadd t : table x y : (1,2) (2,3) (3,9)\nadd f : x != 1\ndomains\n",
+            "ok\nok\nok\nok\nx: 2\ny: 3\nend\n",
+        ),
+    ];
+    for (text, replies) in sessions {
+        assert!(rt; answers_in_pieces(rt.alloc(), text, replies)?);
+    }
+    Ok(())
+}
+
+#[test]
+fn a_line_is_too_long(rt: HostRuntime) -> Result<(), Fail> {
+    let mut text = vec![in rt.alloc(); b'a'; 65_537]?;
+    text.extend_from_slice(b"\nvar x 1..1\n")?;
+    assert!(rt; answers(rt.alloc(), &text, "error E1 bytes or length\nok\n", 4_096)?);
+    Ok(())
+}
