@@ -2,26 +2,24 @@
 use Rattle.std.proofs.Common.{◌≡◌, ℕ, ℤ, ◌+ℤ◌, ◌-ℤ◌, pos, ◌≤ℤ◌, Bool, true, false, cond, ◌+◌, ◌<◌, List, [], ◌∷◌, ◌++◌, length, take, get_or, filter, Contains, eqb, eq-eqb, ne_eqb, ◌⊎◌, inl, inr, refl, sym, ap, ◌∙◌, subst, arith}
 use Rattle.std.proofs.lemmas.Int.{ints}
 use Rattle.std.proofs.lemmas.List.Elements.{All-contains}
-use Rattle.palm_base.proofs.Members.{member_nil, member_here, member_there, member_cases, member_single, member_same, filter_member, member_filter, filter_agree_members, nat_known}
+use Rattle.palm_base.proofs.Members.{member_here, member_there, member_cases, member_single, member_same, filter_agree_members, nat_known}
 use Rattle.palm_base.specs.declared.terms.Pair.{Pair}
 use Rattle.palm_domain.specs.Rows.{IsLeastOf, IsGreatestOf}
-use Rattle.palm_model.specs.Domains.{Domains, Has, values_of, without}
+use Rattle.palm_model.specs.Domains.{Domains, Has, values_of}
 use Rattle.palm_model.specs.Relation.{Stands, is_standing}
 use Rattle.palm_model.specs.Constraint.{scope, Distinct, IsWellFormed}
-use Rattle.palm_model.specs.Part.{scope_of}
 use Rattle.palm_model.specs.Support.{HasSupport, IsSupported, LacksSupport}
 use Rattle.palm_model.specs.Removed.{pairs_of}
-use Rattle.palm_model.specs.Comparison.{comparison_reason, IsComparison}
-use Rattle.palm_model.specs.Reason.{reason, IsReason, WantsReason}
+use Rattle.palm_model.specs.Comparison.{comparison_reason}
+use Rattle.palm_model.specs.Reason.{reason}
 use Rattle.palm_model.specs.declared.constraint.Con.{Con}
-use Rattle.palm_model.specs.declared.constraint.Con.TheVariants.{CompareVar, CompareConst, Linear, Table, Element, Count, Differ}
 use Rattle.palm_model.specs.declared.constraint.Op.{Op}
 use Rattle.palm_model.specs.declared.constraint.Op.TheVariants.{Eq, Ne, Lt, Le, Gt, Ge}
 use Rattle.palm_model.specs.declared.part.Part.{Part}
 use Rattle.palm_model.specs.declared.part.Part.TheVariants.{CompareVar as CompareVarPart, CompareConst as CompareConstPart}
-use Rattle.palm_model.proofs.Reasons.{pairs_member, member_pairs, pairs_more, pairs_same}
+use Rattle.palm_model.proofs.Reasons.{pairs_more, pairs_same}
 use Rattle.palm_model.proofs.Standing.{stands_from_test, test_from_stands}
-use Rattle.palm_model.proofs.Supports.{supported_by_part, lacking_by_part, part_unsupported, two, two_first, two_second, support_by_two, support_by_one, without_has}
+use Rattle.palm_model.proofs.Supports.{supported_by_part, lacking_by_part, two, two_first, two_second, support_by_two, support_by_one}
 use Rattle.palm_model.proofs.Trials.{put, put_same}
 use Rattle.filter_compare.specs.Comparison.{comparison_of, flipped_of, demand_of, IsMet, meeting_values}
 use Rattle.filter_compare.specs.declared.compare.Comparison.TheVariants.{Variables, Constant}

@@ -1,25 +1,21 @@
 -- Support by a difference, and its reason as it is written.
-use Rattle.std.proofs.Common.{◌≡◌, ℕ, ℤ, suc, ◌+◌, ◌<◌, ◌<ℤ◌, Bool, true, false, not, ◌&&◌, cond, List, [], ◌∷◌, length, map, take, drop, filter, get_or, All, Contains, eqb, ◌⊎◌, inl, inr, refl, sym, ap, ◌∙◌, subst, arith}
+use Rattle.std.proofs.Common.{◌≡◌, ℕ, ℤ, suc, ◌+◌, ◌<◌, Bool, true, false, not, ◌&&◌, cond, List, [], ◌∷◌, length, take, drop, filter, get_or, All, Contains, eqb, refl, sym, ap, ◌∙◌, subst, arith}
 use Rattle.std.proofs.Math.Seq.{drop-cons}
 use Rattle.std.proofs.lemmas.Int.{ints}
-use Rattle.std.proofs.lemmas.List.Elements.{All-contains, All-head, Contains-append_left, Contains-append_right, Contains-append_cases}
-use Rattle.palm_base.proofs.Members.{member_nil, member_here, member_there, member_cases, member_single, member_same, member_tail, member_map, member_unmap, member_take, filter_member, member_filter, int_known}
+use Rattle.std.proofs.lemmas.List.Elements.{All-contains}
+use Rattle.palm_base.proofs.Members.{member_here, member_take, filter_member}
 use Rattle.palm_base.specs.declared.terms.Pair.{Pair}
 use Rattle.palm_domain.specs.Rows.{IsLeastOf, IsGreatestOf}
 use Rattle.palm_model.specs.Constraint.{scope, Distinct, IsWellFormed}
-use Rattle.palm_model.specs.Domains.{Domains, Has, Ascends, AllAscend, values_of, without}
+use Rattle.palm_model.specs.Domains.{Domains, Has, values_of}
 use Rattle.palm_model.specs.Part.{scope_of}
-use Rattle.palm_model.specs.Differ.{differ_parts, differ_reason, IsDiffer}
+use Rattle.palm_model.specs.Differ.{differ_reason}
 use Rattle.palm_model.specs.Support.{HasSupport, IsSupported, LacksSupport}
-use Rattle.palm_model.specs.Removed.{is_alone, others, removed_values}
-use Rattle.palm_model.specs.Reason.{reason, AreFilled, IsReason, WantsReason}
+use Rattle.palm_model.specs.Removed.{is_alone, others}
+use Rattle.palm_model.specs.Reason.{reason}
 use Rattle.palm_model.specs.declared.constraint.Con.{Con}
-use Rattle.palm_model.specs.declared.constraint.Con.TheVariants.{CompareVar, CompareConst, Linear, Table, Element, Count, Differ}
-use Rattle.palm_model.specs.declared.part.Part.{Part}
-use Rattle.palm_model.specs.declared.part.Part.TheVariants.{Differ as DifferPart}
-use Rattle.palm_model.proofs.Ascending.{ascends_at}
-use Rattle.palm_model.proofs.Reasons.{alone_only, only_alone, removed_member, member_removed, all_pairs_member, member_all_pairs, others_member, member_others}
-use Rattle.palm_model.proofs.Supports.{support_by_two, two_first, two_second, without_has}
+use Rattle.palm_model.specs.declared.constraint.Con.TheVariants.{Differ}
+use Rattle.palm_model.proofs.Reasons.{others_member}
 use Rattle.palm_reason.proofs.DifferReason.{part_apart, partner, partner_member, room_lacks}
 use Rattle.filter_differ.specs.Differ.{HasOther, LeavesRoom, TakesRoom, is_lone, first_lone}
 

@@ -1,10 +1,8 @@
 -- The other variables of a difference, and what they leave for a value.
-use Rattle.std.specs.Prelude.{◌≡◌, ℕ, ℤ, List, take, filter, Contains, Bool, not, ◌&&◌, nat_eq, ⊤}
+use Rattle.std.specs.Prelude.{◌≡◌, ℕ, ℤ, List, take, filter, Bool, not, ◌&&◌, nat_eq}
 use Rattle.palm_model.specs.Domains.{Domains, values_of}
 use Rattle.palm_model.specs.Removed.{is_alone, others}
 pub use Rattle.palm_reason.specs.Differ.{HasOther, TakesRoom}
-use Rattle.palm_model.specs.declared.constraint.Con.{Con}
-use Rattle.palm_model.specs.declared.constraint.Con.TheVariants.{CompareVar, CompareConst, Linear, Table, Element, Count, Differ}
 
 -- y has another value than v, if it is not x itself
 pub record LeavesRoom (present : Domains) (x : ℕ) (v : ℤ) (y : ℕ) : Type 0 where

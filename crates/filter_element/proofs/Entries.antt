@@ -1,28 +1,22 @@
 -- Support by an element of a list, and its reasons as they are written.
-use Rattle.std.proofs.Common.{◌≡◌, ℕ, zero, suc, ℤ, pos, negsuc, ◌+◌, ◌<◌, ◌≤◌, ◌<ℤ◌, true, cond, List, [], ◌∷◌, ◌++◌, length, Contains, slice_get, Option, Some, eq-eqb, ne_eqb, ◌⊎◌, inl, inr, refl, sym, ap, ◌∙◌, subst, arith, get_or, append-nil}
-use Rattle.std.proofs.lemmas.Int.{ints}
-use Rattle.std.proofs.lemmas.Bool.{false≢true}
-use Rattle.std.proofs.lemmas.Bool.Decides.{Decides-int_eq}
+use Rattle.std.proofs.Common.{◌≡◌, ℕ, ℤ, pos, ◌+◌, ◌<◌, ◌≤◌, ◌<ℤ◌, List, [], ◌∷◌, ◌++◌, length, Contains, slice_get, Some, ◌⊎◌, inl, inr, refl, sym, ap, ◌∙◌, subst, arith, get_or, append-nil}
 use Rattle.std.specs.List.{AllWithin}
 use Rattle.std.proofs.lemmas.List.{get_or_default}
 use Rattle.std.proofs.lemmas.List.Elements.{All-nil, All-contains, AllWithin-more}
 use Rattle.std.proofs.lemmas.Option.{same_Some, slice_get_within}
-use Rattle.palm_base.proofs.Members.{member_nil, member_here, member_there, member_cases, member_single, member_same, filter_member, member_filter, nat_known}
+use Rattle.palm_base.proofs.Members.{member_nil, member_here, member_there, member_single, member_same, filter_member, member_filter}
 use Rattle.palm_base.specs.declared.terms.Pair.{Pair}
-use Rattle.palm_model.specs.Domains.{Domains, Has, Ascends, AllAscend, values_of, without}
+use Rattle.palm_model.specs.Domains.{Domains, Has, Ascends, AllAscend, values_of}
 use Rattle.palm_model.specs.Constraint.{scope, Distinct, IsWellFormed}
-use Rattle.palm_model.specs.Part.{scope_of}
 use Rattle.palm_model.specs.Support.{HasSupport, IsSupported, LacksSupport}
-use Rattle.palm_model.specs.Element.{entry_at, yields, is_entry, indices_of, outcomes_at, element_reason, IsElement}
+use Rattle.palm_model.specs.Element.{entry_at, is_entry, outcomes_at, element_reason}
 use Rattle.palm_model.specs.Removed.{pairs_of}
-use Rattle.palm_model.specs.Reason.{reason, IsReason, WantsReason}
+use Rattle.palm_model.specs.Reason.{reason}
 use Rattle.palm_model.specs.declared.constraint.Con.{Con}
-use Rattle.palm_model.specs.declared.constraint.Con.TheVariants.{CompareVar, CompareConst, Linear, Table, Element, Count, Differ}
 use Rattle.palm_model.specs.declared.part.Part.{Part}
 use Rattle.palm_model.specs.declared.part.Part.TheVariants.{Element as ElementPart}
 use Rattle.palm_model.proofs.Ascending.{ascends_at, ascends_filter, ascending_same}
-use Rattle.palm_model.proofs.Reasons.{pairs_member, member_pairs}
-use Rattle.palm_model.proofs.Supports.{supported_by_part, lacking_by_part, part_unsupported, two_first, two_second, support_by_two, without_has}
+use Rattle.palm_model.proofs.Supports.{supported_by_part, lacking_by_part, two_first, two_second, support_by_two}
 use Rattle.palm_reason.proofs.ElementReason.{place_of, entry_of, entry_test, test_entry}
 use Rattle.palm_reason.proofs.TwoVariables.{of_two, turned}
 use Rattle.filter_element.specs.Element.{element_of, IsEntryReached, IsOpen}

@@ -1,27 +1,16 @@
 -- Reasons of sums, as they are written: one term after another.
-use Rattle.std.proofs.Common.{◌≡◌, ℕ, ◌+◌, ◌<◌, ◌++◌, List, [], ◌∷◌, length, take, get_or, filter, flat_map, append_assoc, append-nil, Contains, All, ℤ, ◌*ℤ◌, ◌≤ℤ◌, ◌<ℤ◌, Bool, true, false, not, cond, eqb, eq-eqb, ◌⊎◌, inl, inr, refl, sym, ap, ◌∙◌, subst, int_lt, arith}
-use Rattle.std.proofs.lemmas.Bool.{not-true, both_ways, eqb-true}
+use Rattle.std.proofs.Common.{◌≡◌, ℕ, ◌+◌, ◌<◌, ◌++◌, List, [], ◌∷◌, length, take, get_or, filter, flat_map, append_assoc, append-nil, All, ℤ, Bool, true, false, cond, sym, ap, ◌∙◌}
 use Rattle.std.proofs.lemmas.Grind.{flat_map-append}
-use Rattle.std.proofs.lemmas.Int.{ints, by_lt_z}
 use Rattle.std.proofs.lemmas.List.Elements.{All-contains, filter_more}
-use Rattle.palm_base.proofs.Members.{member_same, member_map, member_unmap, filter_member, member_filter, flat_map_member, member_flat_map, member_known, all_members, nat_known, int_known}
+use Rattle.palm_base.proofs.Members.{member_map, all_members}
 use Rattle.palm_base.specs.declared.terms.Pair.{Pair}
-use Rattle.palm_model.specs.Domains.{Domains, Has, values_of, without}
-use Rattle.palm_model.specs.Constraint.{IsWellFormed, Distinct, scope}
-use Rattle.palm_model.specs.Linear.{term_vars, least_of, greatest_of, products, least_total, other_terms, values_below, values_above, at_most_reason, at_least_reason, linear_reason, IsLinear}
-use Rattle.palm_model.specs.Support.{HasSupport, LacksSupport}
-use Rattle.palm_model.specs.Removed.{pairs_of, others, removed_values, removed_pairs}
-use Rattle.palm_model.specs.Reason.{reason, AreFilled, IsReason, WantsReason}
+use Rattle.palm_model.specs.Domains.{Domains, values_of}
+use Rattle.palm_model.specs.Linear.{term_vars, linear_reason}
+use Rattle.palm_model.specs.Reason.{reason, AreFilled}
 use Rattle.palm_model.specs.declared.constraint.Con.{Con}
-use Rattle.palm_model.specs.declared.constraint.Con.TheVariants.{CompareVar, CompareConst, Linear, Table, Element, Count, Differ}
+use Rattle.palm_model.specs.declared.constraint.Con.TheVariants.{Linear}
 use Rattle.palm_model.specs.declared.constraint.Op.{Op}
-use Rattle.palm_model.specs.declared.constraint.Op.TheVariants.{Eq, Ne, Lt, Le, Gt, Ge}
 use Rattle.palm_model.specs.declared.constraint.Term.{Term}
-use Rattle.palm_model.specs.declared.part.Part.TheVariants.{Linear as LinearPart}
-use Rattle.palm_model.proofs.Formed.{part_scope}
-use Rattle.palm_model.proofs.Reasons.{removed_member, member_removed, pairs_member, member_pairs}
-use Rattle.palm_model.proofs.Standing.{test_from_stands}
-use Rattle.palm_model.proofs.Supports.{lacking_by_part, part_unsupported, not_true, without_has}
 use Rattle.filter_linear.specs.Linear.{IsFilledBeside}
 
 pub filled_beside : (d : Domains) (terms : List Term) (x : ℕ) → AreFilled d (term_vars terms) → All (IsFilledBeside d x) terms

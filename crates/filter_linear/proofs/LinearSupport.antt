@@ -1,12 +1,11 @@
 -- Support in a sum, by the least and the greatest that it can be.
-use Rattle.std.proofs.Common.{◌≡◌, ℕ, List, [], ◌∷◌, Contains, All, ℤ, ◌≤ℤ◌, ◌<ℤ◌, ◌⊎◌, inl, inr, refl, sym, ap, ◌∙◌, subst, arith}
+use Rattle.std.proofs.Common.{◌≡◌, ℕ, List, [], ◌∷◌, Contains, All, ℤ, ◌<ℤ◌, ◌⊎◌, inl, inr, refl, sym, ap, ◌∙◌, subst, arith}
 use Rattle.std.proofs.lemmas.Int.{ints, by_lt_z}
 use Rattle.std.proofs.lemmas.List.Elements.{All-contains}
 use Rattle.palm_base.proofs.Members.{member_here, member_there, member_cases, member_single, member_map, all_members, int_known}
 use Rattle.palm_model.specs.Domains.{Domains, Has}
-use Rattle.palm_model.specs.Relation.{Stands}
 use Rattle.palm_model.specs.Constraint.{Distinct}
-use Rattle.palm_model.specs.Linear.{term_vars, total, linear_parts, least_of, greatest_of, products, least_total, greatest_total}
+use Rattle.palm_model.specs.Linear.{term_vars, linear_parts, least_total, greatest_total}
 use Rattle.palm_model.specs.Support.{HasSupport, IsSupported, LacksSupport}
 use Rattle.palm_model.specs.declared.constraint.Con.{Con}
 use Rattle.palm_model.specs.declared.constraint.Con.TheVariants.{Linear}

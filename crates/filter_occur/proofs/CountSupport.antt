@@ -1,31 +1,19 @@
 -- Support in a count, and its reasons as they are written.
-use Rattle.std.proofs.Common.{◌≡◌, ℕ, ℤ, pos, ◌+◌, ◌-◌, ◌<◌, ◌≤◌, ◌<ℤ◌, Bool, true, false, ◌||◌, cond, List, [], ◌∷◌, ◌++◌, length, filter, flat_map, All, Contains, eq-eqb, ne_eqb, inl, inr, refl, sym, ap, ◌∙◌, subst, arith, int_eq, length-append}
-use Rattle.std.proofs.lemmas.Bool.{cases_Bool, both_ways}
-use Rattle.std.proofs.lemmas.Bool.Decides.{Decides-int_eq}
-use Rattle.std.proofs.lemmas.List.Elements.{All-nil, All-contains, Contains-append_left, Contains-append_right, Contains-append_cases}
-use Rattle.palm_base.proofs.Members.{member_nil, member_here, member_single, member_same, filter_member, member_filter, flat_map_member, member_flat_map, filter_agree_members, all_members, nat_known, int_known, member_known}
+use Rattle.std.proofs.Common.{◌≡◌, ℕ, ℤ, ◌-◌, ◌<◌, ◌≤◌, List, ◌++◌, length, filter, All, Contains, refl, sym, ap, ◌∙◌, subst, arith, length-append}
+use Rattle.std.proofs.lemmas.List.Elements.{All-contains, Contains-append_left, Contains-append_right}
+use Rattle.palm_base.proofs.Members.{filter_agree_members, all_members}
 use Rattle.palm_base.specs.declared.terms.Pair.{Pair}
-use Rattle.palm_model.specs.Domains.{Domains, Assignment, Has, Ascends, AllAscend, values_of, without}
-use Rattle.palm_model.specs.Relation.{Stands}
-use Rattle.palm_model.specs.Count.{target_scope, count_among, target_of, needs_low, needs_high, low_pairs, high_pairs, counted_pairs, least_count, greatest_count, own_count, is_within_counts, is_target_fit, target_pairs, count_reason, IsCount}
+use Rattle.palm_model.specs.Domains.{Domains, Has, AllAscend, values_of}
+use Rattle.palm_model.specs.Count.{target_scope, is_within_counts, is_target_fit, target_pairs, count_reason}
 use Rattle.palm_model.specs.Constraint.{scope, Distinct, IsWellFormed}
-use Rattle.palm_model.specs.Part.{scope_of}
-use Rattle.palm_model.specs.Support.{HasSupport, IsSupported, LacksSupport}
-use Rattle.palm_model.specs.Removed.{is_alone, is_listed, others, removed_values, pairs_of}
-use Rattle.palm_model.specs.Reason.{reason, AreFilled, IsReason, WantsReason}
+use Rattle.palm_model.specs.Support.{IsSupported, LacksSupport}
+use Rattle.palm_model.specs.Removed.{is_listed, pairs_of}
+use Rattle.palm_model.specs.Reason.{reason, AreFilled}
 use Rattle.palm_model.specs.declared.constraint.Con.{Con}
-use Rattle.palm_model.specs.declared.constraint.Con.TheVariants.{CompareVar, CompareConst, Linear, Table, Element, Count, Differ}
-use Rattle.palm_model.specs.declared.constraint.Op.{Op}
-use Rattle.palm_model.specs.declared.constraint.Target.{Target}
-use Rattle.palm_model.specs.declared.constraint.Target.TheVariants.{Const, Variable}
-use Rattle.palm_model.specs.declared.part.Part.{Part}
+use Rattle.palm_model.specs.declared.constraint.Target.TheVariants.{Variable}
 use Rattle.palm_model.specs.declared.part.Part.TheVariants.{Count as CountPart}
-use Rattle.palm_model.proofs.Ascending.{ascends_at}
-use Rattle.palm_model.proofs.Assignments.{occurrences_agree}
-use Rattle.palm_model.proofs.Reasons.{member_listed, removed_member, member_removed, pairs_member, member_pairs, others_member, member_others}
-use Rattle.palm_model.proofs.Supports.{supported_by_part, lacking_by_part, part_unsupported, without_has}
-use Rattle.palm_model.proofs.Trials.{put, put_same, put_other}
-use Rattle.filter_occur.specs.Count.{count_of, values_where, target_values, low_count, high_count, AreCounts, CanReach}
+use Rattle.palm_model.proofs.Supports.{supported_by_part, lacking_by_part}
+use Rattle.filter_occur.specs.Count.{count_of, values_where, low_count, high_count, AreCounts, CanReach}
 use Rattle.filter_occur.specs.declared.counts.Counts.{Counts}
 use Rattle.filter_occur.specs.declared.rule.CountRule.{CountRule}
 use Rattle.palm_reason.proofs.CountNumbers.{passed_few, low_high, distinct_front}

@@ -1,22 +1,10 @@
 -- What a walk over the variables has counted, and what is asked of one of them.
-use Rattle.std.proofs.Common.{◌≡◌, ℕ, zero, suc, ℤ, pos, ◌+◌, ◌-◌, ◌<◌, ◌≤◌, ◌<ℤ◌, Bool, true, false, not, cond, List, [], ◌∷◌, ◌++◌, length, filter, take, Contains, eq-eqb, ne_eqb, inl, inr, refl, sym, ap, ◌∙◌, subst, arith, int_eq}
-use Rattle.std.proofs.lemmas.Int.{ints}
-use Rattle.std.proofs.lemmas.Bool.{cases_Bool, cases_lt, or_cases, or_left, or_right, false≢true}
-use Rattle.std.proofs.lemmas.Bool.Decides.{Decides-int_eq}
-use Rattle.std.proofs.lemmas.List.Elements.{All-contains, Contains-append_left, Contains-append_right}
+use Rattle.std.proofs.Common.{◌≡◌, ℕ, ℤ, ◌<◌, ◌≤◌, Bool, true, false, cond, List, [], ◌∷◌, length, take, Contains, ne_eqb, inl, inr, refl, sym, ap, ◌∙◌, subst, arith}
+use Rattle.std.proofs.lemmas.Bool.{cases_Bool, false≢true}
 use Rattle.std.specs.List.{AllWithin}
-use Rattle.palm_base.proofs.Members.{member_nil, member_here, member_there, member_cases, member_single, member_same, filter_agree_members, nat_known}
-use Rattle.palm_model.specs.Domains.{Assignment, Domains, Has, Ascends, values_of}
-use Rattle.palm_model.specs.Relation.{Stands, is_standing}
-use Rattle.palm_model.specs.Constraint.{Distinct}
-use Rattle.palm_model.specs.Count.{count_among, needs_low, needs_high, is_within_counts}
-use Rattle.palm_model.specs.Removed.{is_alone, is_listed, others}
-use Rattle.palm_model.specs.declared.constraint.Op.{Op}
-use Rattle.palm_model.specs.declared.constraint.Op.TheVariants.{Eq, Ne, Lt, Le, Gt, Ge}
-use Rattle.palm_model.proofs.Assignments.{occurrences_agree}
-use Rattle.palm_model.proofs.Reasons.{alone_only, listed_member, member_listed}
-use Rattle.palm_model.proofs.Standing.{stands_from_test, test_from_stands}
-use Rattle.palm_model.proofs.Trials.{put, put_same, put_other}
+use Rattle.palm_model.specs.Domains.{Domains, Has, values_of}
+use Rattle.palm_model.specs.Removed.{is_alone, is_listed}
+use Rattle.palm_model.proofs.Reasons.{listed_member, member_listed}
 use Rattle.palm_reason.proofs.CountNumbers.{alone_listed}
 use Rattle.filter_occur.specs.Count.{values_where, low_count, high_count, IsChance}
 use Rattle.filter_occur.specs.declared.rule.Chance.{Chance}

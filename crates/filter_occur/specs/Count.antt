@@ -1,14 +1,12 @@
 -- The number of some variables that have a value: how low and how high it can be where one variable of the constraint
 -- has a value of its own, and whether it can stand in the relation to the target.
-use Rattle.std.specs.Prelude.{◌≡◌, ℕ, ℤ, pos, ◌<◌, ◌≤◌, List, [], ◌∷◌, length, filter, All, Contains, nat_eq, if◌then◌else◌, ⊤}
+use Rattle.std.specs.Prelude.{◌≡◌, ℕ, ℤ, pos, ◌<◌, ◌≤◌, List, length, All, Contains}
 use Rattle.palm_model.specs.Relation.{Stands}
-use Rattle.palm_model.specs.Domains.{Domains, values_of}
+use Rattle.palm_model.specs.Domains.{Domains}
 use Rattle.palm_model.specs.Removed.{is_alone, is_listed}
 use Rattle.palm_model.specs.declared.constraint.Con.{Con}
-use Rattle.palm_model.specs.declared.constraint.Con.TheVariants.{CompareVar, CompareConst, Linear, Table, Element, Count, Differ}
+use Rattle.palm_model.specs.declared.constraint.Con.TheVariants.{Count}
 use Rattle.palm_model.specs.declared.constraint.Op.{Op}
-use Rattle.palm_model.specs.declared.constraint.Target.{Target}
-use Rattle.palm_model.specs.declared.constraint.Target.TheVariants.{Const, Variable}
 pub use Rattle.palm_reason.specs.Count.{values_where, target_values, low_count, high_count}
 use Rattle.filter_occur.specs.declared.counts.Counts.{Counts}
 use Rattle.filter_occur.specs.declared.rule.Chance.{Chance}

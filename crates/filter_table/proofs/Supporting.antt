@@ -1,22 +1,19 @@
 -- Support by a table.
-use Rattle.std.proofs.Common.{◌≡◌, ℕ, ℤ, ◌<◌, Bool, true, false, ◌&&◌, List, [], ◌∷◌, length, map, All, Contains, inl, inr, refl, sym, ap, ◌∙◌, subst}
+use Rattle.std.proofs.Common.{◌≡◌, ℕ, ℤ, ◌<◌, Bool, true, false, List, length, map, All, Contains, refl, sym, ap, ◌∙◌, subst}
 use Rattle.std.specs.List.{list_any}
 use Rattle.std.proofs.lemmas.Bool.{and_parts, and_from, both_ways}
 use Rattle.std.proofs.lemmas.List.Elements.{All-contains}
-use Rattle.palm_base.proofs.Members.{member_here, member_single, member_same, filter_member, member_filter}
+use Rattle.palm_base.proofs.Members.{member_same}
 use Rattle.palm_base.specs.declared.terms.Pair.{Pair}
 use Rattle.palm_model.specs.Constraint.{scope, Distinct, IsWellFormed}
-use Rattle.palm_model.specs.Domains.{Domains, Has, is_among, without}
-use Rattle.palm_model.specs.Part.{scope_of}
+use Rattle.palm_model.specs.Domains.{Domains, is_among}
 use Rattle.palm_model.specs.Support.{HasSupport, IsSupported, LacksSupport}
-use Rattle.palm_model.specs.Table.{are_there, first_missing, is_blocked_at, blocking_values, row_pairs, table_reason, IsTable}
-use Rattle.palm_model.specs.Removed.{removed_values, others}
-use Rattle.palm_model.specs.Reason.{reason, IsReason, WantsReason}
+use Rattle.palm_model.specs.Table.{are_there, row_pairs, table_reason}
+use Rattle.palm_model.specs.Reason.{reason}
 use Rattle.palm_model.specs.declared.constraint.Con.{Con}
-use Rattle.palm_model.specs.declared.constraint.Con.TheVariants.{CompareVar, CompareConst, Linear, Table, Element, Count, Differ}
+use Rattle.palm_model.specs.declared.constraint.Con.TheVariants.{Table}
 use Rattle.palm_model.specs.declared.part.Part.TheVariants.{Table as TablePart}
-use Rattle.palm_model.proofs.Reasons.{removed_member, member_removed, all_pairs_member, member_all_pairs, others_member, member_others}
-use Rattle.palm_model.proofs.Supports.{any_member, member_any, member_among, supported_by_part, lacking_by_part, part_unsupported, without_has}
+use Rattle.palm_model.proofs.Supports.{any_member, member_any, supported_by_part, lacking_by_part}
 use Rattle.palm_reason.proofs.TableRows.{among_gives, gives_among, there_gives, gives_there}
 use Rattle.filter_table.specs.Table.{IsIndexed, gives, table_of}
 use Rattle.filter_table.specs.declared.indexed.IndexedTable.{IndexedTable}

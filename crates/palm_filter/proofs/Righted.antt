@@ -1,5 +1,5 @@
 -- The reason that a filter wrote is a right one, by the law of the reasons, for what a store ensures of its values.
-use Rattle.std.proofs.Common.{◌≡◌, ℕ, ℤ, List, length, All, Contains, sym, subst}
+use Rattle.std.proofs.Common.{◌≡◌, ℕ, ℤ, List, length, All, sym, subst}
 use Rattle.std.proofs.lemmas.List.{length-map}
 use Rattle.palm_base.specs.Ascending.{Ascends}
 use Rattle.palm_base.specs.declared.terms.Pair.{Pair}

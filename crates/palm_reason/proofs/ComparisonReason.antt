@@ -1,14 +1,13 @@
 -- The reason of a comparison: the declared values of the other variable that would fit, and none at all against a value.
-use Rattle.std.proofs.Common.{◌≡◌, ℕ, ℤ, ◌+ℤ◌, true, cond, List, [], ◌∷◌, Contains, refl, sym, ◌∙◌, subst}
+use Rattle.std.proofs.Common.{◌≡◌, ℕ, ℤ, ◌+ℤ◌, true, cond, [], ◌∷◌, Contains, refl, sym, ◌∙◌, subst}
 use Rattle.palm_base.proofs.Members.{member_nil, member_here, member_there, member_single, member_same}
-use Rattle.palm_base.specs.declared.terms.Pair.{Pair}
 use Rattle.palm_model.specs.Comparison.{comparison_reason, fitting_left, fitting_right}
 use Rattle.palm_model.specs.Constraint.{Distinct}
 use Rattle.palm_model.specs.Domains.{Domains, Has, without}
 use Rattle.palm_model.specs.Reason.{IsReason}
 use Rattle.palm_model.specs.Relation.{is_standing}
 use Rattle.palm_model.specs.Removed.{pairs_of}
-use Rattle.palm_model.specs.Support.{HasSupport, LacksSupport}
+use Rattle.palm_model.specs.Support.{LacksSupport}
 use Rattle.palm_model.specs.declared.constraint.Con.{Con}
 use Rattle.palm_model.specs.declared.constraint.Con.TheVariants.{CompareVar, CompareConst}
 use Rattle.palm_model.specs.declared.constraint.Op.{Op}

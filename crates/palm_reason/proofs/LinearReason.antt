@@ -1,5 +1,5 @@
 -- The reason of a sum: the removed values beyond the present ones, or all removed values.
-use Rattle.std.proofs.Common.{◌≡◌, ℕ, ◌<◌, ◌++◌, List, [], ◌∷◌, length, flat_map, Contains, ℤ, ◌*ℤ◌, ◌≤ℤ◌, ◌<ℤ◌, Bool, true, false, not, cond, eqb, eq-eqb, inl, inr, refl, sym, ap, ◌∙◌, subst, int_lt, arith}
+use Rattle.std.proofs.Common.{◌≡◌, ℕ, ◌<◌, ◌++◌, List, [], ◌∷◌, length, flat_map, Contains, ℤ, ◌*ℤ◌, ◌≤ℤ◌, Bool, true, false, not, cond, eqb, eq-eqb, inl, inr, refl, sym, ap, ◌∙◌, subst, int_lt, arith}
 use Rattle.std.proofs.lemmas.Bool.{not-true, both_ways, eqb-true}
 use Rattle.std.proofs.lemmas.Int.{ints, by_lt_z}
 use Rattle.std.proofs.lemmas.List.Elements.{All-contains}

@@ -1,13 +1,12 @@
 -- Reasons of a part over two variables: the declared values of the one that go with the value of the other.
 use Rattle.std.proofs.Common.{◌≡◌, ℕ, ℤ, Bool, true, false, List, [], ◌∷◌, filter, Contains, eqb, eq-eqb, ne_eqb, ◌⊎◌, inl, inr, sym, ap, ◌∙◌, subst}
 use Rattle.palm_base.proofs.Members.{member_cases, member_single, member_same, filter_member, member_filter, nat_known}
-use Rattle.palm_base.specs.declared.terms.Pair.{Pair}
 use Rattle.palm_model.specs.Constraint.{scope}
 use Rattle.palm_model.specs.Domains.{Domains, Assignment, Has, values_of, without}
 use Rattle.palm_model.specs.Part.{scope_of, Holds, parts}
 use Rattle.palm_model.specs.Reason.{IsReason}
 use Rattle.palm_model.specs.Removed.{pairs_of}
-use Rattle.palm_model.specs.Support.{HasSupport, LacksSupport}
+use Rattle.palm_model.specs.Support.{LacksSupport}
 use Rattle.palm_model.specs.declared.constraint.Con.{Con}
 use Rattle.palm_model.specs.declared.part.Part.{Part}
 use Rattle.palm_model.proofs.Formed.{part_scope}

@@ -1,5 +1,5 @@
 -- A value without support that is taken out of a store is in no domains that are closed by the constraint.
-use Rattle.std.proofs.Common.{◌≡◌, ℕ, ◌+◌, ◌<◌, true, List, length, slice_set, Contains, ℤ, sym, ap, ◌∙◌, subst, arith, length-set}
+use Rattle.std.proofs.Common.{◌≡◌, ℕ, ◌+◌, true, List, length, slice_set, ℤ, sym, ap, ◌∙◌, subst, arith, length-set}
 use Rattle.std.proofs.lemmas.List.Elements.{All-set}
 use Rattle.palm_base.specs.Ascending.{Ascends}
 use Rattle.palm_domain.specs.Rows.{Row, present_of, present_values, IsPresent, values_without, LosesPair}

@@ -1,4 +1,3 @@
-use Rattle.std.proofs.Common.{length}
 use Rattle.palm_domain.specs.Rows.{initial_of, present_of}
 use Rattle.palm_model.specs.Linear.{linear_reason}
 use Rattle.palm_model.specs.Reason.{IsReason}
