@@ -3,10 +3,8 @@
 
 mod compare;
 mod demand;
-mod laws;
 
 pub use compare::CompareFilter;
-pub use laws::reasons_of_comparisons_are_right;
 
 #[cfg(test)]
 mod tests;

@@ -1,5 +1,4 @@
 pub mod ManyTerms
 pub mod LinearReasons
 pub mod LinearSupport
-pub mod Totals
 pub mod Walks

@@ -2,11 +2,9 @@
 #![tactic(auto)]
 
 mod indexed;
-mod laws;
 mod row;
 mod table;
 
-pub use laws::reasons_of_tables_are_right;
 pub use table::TableFilter;
 
 #[cfg(test)]

@@ -2,7 +2,7 @@ use Rattle.std.proofs.Common.{◌≡◌, ◌<◌, ◌≤◌, ◌||◌, length, g
 use Rattle.palm_domain.specs.Rows.{present_of, declared_values, values_of}
 use Rattle.palm_kind.specs.Kind.{con_of}
 use Rattle.palm_model.proofs.Narrowing.{or_then, or_else}
-use Rattle.palm_session.proofs.Closing.{narrowed_value, narrowed_values}
+use Rattle.palm_model.proofs.Closing.{narrowed_value, narrowed_values}
 use Rattle.palm_session.proofs.filtering.filter_variable.Goals as goal
 use Rattle.palm_session.proofs.filtering.filter_variable.Goals.{then-lost, else-lost}
 

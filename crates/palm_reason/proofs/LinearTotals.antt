@@ -9,10 +9,9 @@ use borrow.Author.Differences.{up, down}
 use Rattle.palm_base.proofs.Members.{member_nil, member_here, member_there, member_cases, member_same, member_map, member_unmap, nat_known}
 use Rattle.palm_model.specs.Domains.{Domains, Assignment, Has, IsWithin, values_of}
 use Rattle.palm_model.specs.Constraint.{Distinct}
-use Rattle.palm_model.specs.Linear.{term_vars, total, least_of, greatest_of, products, least_total}
+use Rattle.palm_model.specs.Linear.{term_vars, total, least_of, greatest_of, products, least_total, greatest_total}
 use Rattle.palm_model.specs.declared.constraint.Term.{Term}
 use Rattle.palm_model.proofs.Trials.{put, put_same, put_other}
-use Rattle.filter_linear.specs.Linear.{greatest_total}
 
 -- ---- products with one factor
 
