@@ -11,3 +11,6 @@ loop-preserved c =
       c.sweep.ensures.variables ∙ before.0,
       narrows_then (IsClosed (Contains (map con_of c.args.kinds.now))) (present_of c.args.store.now) (present_of c.loop.store) (present_of c.sweep.new.store) before.1 c.sweep.ensures.narrowed.step,
     )
+
+pub returns-clause-closed : goal.returns-clause-closed
+returns-clause-closed c = c.sweep.ensures.narrowed.rest c.loop-test.false
