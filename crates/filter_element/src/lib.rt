@@ -2,8 +2,8 @@
 #![tactic(auto)]
 
 pub mod element;
-pub mod rule;
 pub mod laws;
+pub mod rule;
 
 pub use element::ElementFilter;
 pub use laws::reasons_of_elements_are_right;

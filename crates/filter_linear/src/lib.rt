@@ -4,8 +4,8 @@
 pub mod laws;
 pub mod linear;
 pub mod reasons;
-pub mod span;
 pub mod rule;
+pub mod span;
 
 pub use laws::linear_reasons_are_right;
 pub use linear::LinearFilter;

@@ -4,8 +4,8 @@ ghost use Rattle.palm_model.specs.Linear.{IsLinear, term_vars};
 ghost use Rattle.palm_model.specs.Constraint.{IsWellFormed};
 
 use crate::reasons::push_reason;
-use crate::span::Span;
 use crate::rule::LinearRule;
+use crate::span::Span;
 use palm_base::{NoMemory, Pair, VarList};
 use palm_domain::DomainStore;
 use palm_filter::{Filter, Reasons, whole_or_none};

@@ -8,8 +8,8 @@ ghost use Rattle.palm_model.specs.Domains.{values_of};
 ghost use Rattle.palm_model.specs.Reason.{AreFilled};
 ghost use Rattle.palm_model.specs.Removed.{others, pairs_of, removed_pairs};
 
-use crate::span::{Span, product_of};
 use crate::rule::LinearRule;
+use crate::span::{Span, product_of};
 use palm_base::{NoMemory, Pair, Value};
 use palm_domain::DomainStore;
 use palm_filter::{Reasons, push_removed};

@@ -88,12 +88,7 @@ fn push_compare_var(
     })
 }
 
-fn push_compare_const(
-    list: &mut PartList,
-    var: &Var,
-    op: Op,
-    value: &Value,
-) -> Result<(), NoMemory>
+fn push_compare_const(list: &mut PartList, var: &Var, op: Op, value: &Value) -> Result<(), NoMemory>
     ensures { OnOk result (list.new ≡ list.old ++ Part.CompareConst var.now op value.now ∷ []) }
 {
     list.push(Part::CompareConst {
