@@ -1,0 +1,51 @@
+-- How much a settling may ask.
+use Rattle.std.specs.Prelude.{◌≡◌, ℕ, ◌+◌, ◌*◌, ◌<◌, ◌≤◌, ◌⊎◌, ◌++◌, List, [], ◌∷◌, length, filter, sum_by}
+use Rattle.palm_base.specs.declared.terms.Pair.{Pair}
+use Rattle.palm_base.specs.declared.terms.Cid.{Cid}
+use Rattle.palm_model.specs.Domains.{Domains, values_of}
+use Rattle.palm_model.specs.Constraint.{scope}
+use Rattle.palm_model.specs.Trial.{value_count}
+use Rattle.palm_model.specs.Log.{Active, Removal, is_named, log_pairs}
+use Rattle.palm_model.specs.State.{EngineState, is_over, present}
+use Rattle.palm_model.specs.declared.constraint.Con.{Con}
+use Rattle.palm_engine.specs.Settling.{Revision}
+
+-- the sizes of the initial domains in the constraint's scope, added up: so many pairs it may be asked in a revision
+abbrev pub size_of : Domains → Con → ℕ
+size_of initial c = sum_by (λ x. length (values_of initial x)) (scope c)
+
+-- the sizes of the constraints, added up
+abbrev pub sizes_of : Domains → List Active → ℕ
+sizes_of initial active = sum_by (λ a. size_of initial a.con) active
+
+-- the sizes of the active constraints under these names
+abbrev pub named_sizes : EngineState → List Cid → ℕ
+named_sizes s names = sizes_of s.initial (filter (λ a. is_named names a.cid) s.active)
+
+-- the sizes of the active constraints over the variable
+abbrev pub sizes_over : EngineState → ℕ → ℕ
+sizes_over s x = sizes_of s.initial (filter (λ a. is_over a.con x) s.active)
+
+-- what a settling from s that takes out these pairs may ask at most: all pairs of each pending constraint, and for each
+-- pair that it takes out all pairs of each active constraint over the pair's variable
+abbrev pub most_questions : EngineState → List Pair → ℕ
+most_questions s pairs = named_sizes s s.pending + sum_by (λ p. sizes_over s p.var) pairs
+
+-- what these revisions may ask: all pairs of the revised constraint each time
+abbrev pub asked_by : EngineState → List Revision → ℕ
+asked_by s rs = sum_by (λ r. named_sizes s (r.cid ∷ [])) rs
+
+-- how far a settling can still go: values times constraints, and pending ones. It falls in each revision
+abbrev pub effort : EngineState → ℕ
+effort s = value_count (present s) * (length s.active + 1) + length s.pending
+
+-- a value was taken out, or the same values are left and fewer constraints are pending; either way the effort falls
+pub record Falls (s t : EngineState) : Type 0 where
+  pub falls : (value_count (present t) < value_count (present s)) ⊎ ((present t ≡ present s) × (length t.pending < length s.pending))
+  pub effort : effort t < effort s
+
+-- what was removed on the way from s to t, and the work that it makes
+pub record IsPaid (s : EngineState) (rs : List Revision) (t : EngineState) : Type 0 where
+  pub gained : List Removal
+  pub log : t.log ≡ s.log ++ gained
+  pub paid : asked_by s rs ≤ most_questions s (log_pairs gained)

@@ -1,0 +1,5 @@
+use Rattle.palm_events.proofs.Undone.{run_undone}
+use Rattle.palm_events.proofs.undoing.runs_give_back_the_log.Goals as goal
+
+pub returns : goal.returns
+returns c = λ right s t steps valid still run keeps alone. run_undone right s steps t valid still run keeps alone

@@ -1,0 +1,111 @@
+-- The state of an engine, and when it is valid.
+use Rattle.std.specs.Prelude.{◌≡◌, ℕ, ℤ, ⊤, ◌<◌, Bool, not, ◌||◌, List, [], ◌∷◌, length, filter, Contains, nat_eq}
+use Rattle.std.specs.List.{list_any}
+use Rattle.palm_base.specs.declared.terms.Cid.{Cid}
+use Rattle.palm_base.specs.declared.terms.Cid.TheVariants.{Decide, Not, User}
+use Rattle.palm_model.specs.Domains.{Domains, AllAscend, values_of, without}
+use Rattle.palm_model.specs.Constraint.{scope, IsWellFormed}
+use Rattle.palm_model.specs.Part.{parts}
+use Rattle.palm_model.specs.Closure.{IsClosedFor}
+use Rattle.palm_model.specs.Log.{Active, IsActive, Removal, IsWellFounded, Rises, cids_of, log_pairs, is_named}
+use Rattle.palm_model.specs.declared.constraint.Con.{Con}
+use Rattle.palm_model.specs.declared.constraint.Con.TheVariants.{CompareConst}
+use Rattle.palm_model.specs.declared.constraint.Op.TheVariants.{Eq, Ne}
+use Rattle.palm_model.specs.declared.part.Part.{Part}
+
+-- the declared values, the active constraints by rising name, the removals so far with the oldest first, and the
+-- names of those active constraints that may not be closed
+pub record EngineState : Type 0 where
+  pub initial : Domains
+  pub active : List Active
+  pub log : List Removal
+  pub pending : List Cid
+
+-- the present domains
+abbrev pub present : EngineState → Domains
+present s = without s.initial (log_pairs s.log)
+
+-- the state without constraints
+abbrev pub blank : Domains → EngineState
+blank initial = record { initial = initial; active = []; log = []; pending = [] }
+
+-- ---- empty domains
+
+-- the variable exists and has no value
+pub record IsEmptyAt (d : Domains) (x : ℕ) : Type 0 where
+  pub exists : x < length d
+  pub empty : values_of d x ≡ []
+
+-- some domain is empty
+abbrev pub HasEmpty : Domains → Type 0
+HasEmpty d = (x : ℕ) × IsEmptyAt d x
+
+-- no domain is empty
+abbrev pub AllFilled : Domains → Type 0
+AllFilled d = (x : ℕ) → x < length d → 0 < length (values_of d x)
+
+-- ---- pending constraints
+
+-- whether the constraint is over the variable
+abbrev pub is_over : Con → ℕ → Bool
+is_over c x = list_any (λ y. nat_eq y x) (scope c)
+
+-- the names of the active constraints that pass the test
+abbrev pub cids_where : (Active → Bool) → List Active → List Cid
+cids_where test active = cids_of (filter test active)
+
+-- whether the constraint was pending, or is over one of the variables
+abbrev pub is_awake : List Cid → List ℕ → Active → Bool
+is_awake pending vars a = is_named pending a.cid || list_any (λ x. is_over a.con x) vars
+
+-- the pending ones among the active constraints, and those over one of the variables
+abbrev pub woken : List Active → List Cid → List ℕ → List Cid
+woken active pending vars = cids_where (is_awake pending vars) active
+
+-- the names but one
+abbrev pub without_cid : Cid → List Cid → List Cid
+without_cid cid names = filter (λ c. not (is_named (cid ∷ []) c)) names
+
+-- ---- forms
+
+-- a decision or a user's constraint
+abbrev pub IsGround : Cid → Type 0
+IsGround (Decide x) = ⊤
+IsGround (Not p) = ⊥
+IsGround (User n) = ⊤
+
+-- active users' constraints and decisions
+abbrev pub AreGrounds : List Active → List Cid → Type 0
+AreGrounds active because = (c : Cid) → Contains because c → IsGround c × IsActive active c
+
+-- what a constraint under this name is: a decision says that its variable has a value, a negation that its pair does
+-- not hold, for grounds that are active; the constraint of a user is well formed. All are over declared variables
+abbrev pub IsOfForm : ℕ → List Active → Cid → Con → List Cid → Type 0
+IsOfForm variables active (Decide x) con because = (v : ℤ) × (con ≡ CompareConst x Eq v) × (x < variables) × (because ≡ [])
+IsOfForm variables active (Not p) con because = (con ≡ CompareConst p.var Ne p.value) × (p.var < variables) × AreGrounds active because
+IsOfForm variables active (User n) con because = IsWellFormed variables con × (because ≡ [])
+
+-- the active constraint is what its name says
+pub record IsFormed (variables : ℕ) (active : List Active) (a : Active) : Type 0 where
+  pub form : IsOfForm variables active a.cid a.con a.because
+
+-- ---- validity
+
+-- the domains are closed for every part of the constraint
+abbrev pub IsClosedBy : Con → Domains → Type 0
+IsClosedBy c d = (p : Part) → Contains (parts c) p → IsClosedFor p d
+
+-- the log is well founded with active constraints, and each active constraint that is not pending is closed in the
+-- present domains; the lists are in order
+pub record IsValid (s : EngineState) : Type 0 where
+  pub ascend : AllAscend s.initial
+  pub rising : Rises (cids_of s.active)
+  pub formed : (a : Active) → Contains s.active a → IsFormed (length s.initial) s.active a
+  pub founded : IsWellFounded s.initial s.active s.log
+  pub waiting : s.pending ≡ woken s.active s.pending []
+  pub closed : (a : Active) → Contains s.active a → (Contains s.pending a.cid → ⊥) → IsClosedBy a.con (present s)
+
+-- nothing is pending, and no domain is empty
+pub record IsSettled (s : EngineState) : Type 0 where
+  pub quiet : s.pending ≡ []
+  pub filled : AllFilled (present s)

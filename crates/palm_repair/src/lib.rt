@@ -1,0 +1,2 @@
+//! The run of decision-repair: nogoods, weights, and the negations that the nogoods force.
+#![tactic(auto)]

@@ -1,0 +1,4 @@
+pub mod Deciding
+pub mod Keeping
+pub mod Leaving
+pub mod Solving

@@ -1,0 +1,27 @@
+-- What a search keeps from turn to turn.
+use Rattle.std.specs.Prelude.{◌≡◌, ℕ, true, Contains}
+use Rattle.palm_base.specs.declared.terms.Pair.{Pair}
+use Rattle.palm_base.specs.declared.terms.Cid.TheVariants.{Decide}
+use Rattle.palm_model.specs.Constraint.{Distinct}
+use Rattle.palm_model.specs.Log.{Active}
+use Rattle.palm_model.specs.State.{EngineState, IsValid}
+use Rattle.palm_model.specs.Event.{vars_of}
+use Rattle.palm_model.specs.Conflict.{AreJustified}
+use Rattle.palm_search.specs.Search.{is_user}
+use Rattle.palm_search.specs.Turns.{SearchState, decision_of}
+
+-- only constraints of users are active
+abbrev pub HasOnlyUsers : EngineState → Type 0
+HasOnlyUsers s = (a : Active) → Contains s.active a → is_user a.cid ≡ true
+
+-- the active decisions are those of the search, one a variable
+pub record HasDecisions (s : SearchState) : Type 0 where
+  pub active : (p : Pair) → Contains s.decisions p → Contains s.engine.active (decision_of p)
+  pub taken : (a : Active) (x : ℕ) → Contains s.engine.active a → a.cid ≡ Decide x → (p : Pair) × Contains s.decisions p × (a ≡ decision_of p)
+  pub distinct : Distinct (vars_of s.decisions)
+
+-- the engine is valid, all its negations are justified, and its decisions are those of the search
+pub record IsSearching (s : SearchState) : Type 0 where
+  pub valid : IsValid s.engine
+  pub justified : AreJustified s.engine
+  pub decisions : HasDecisions s

@@ -1,0 +1,4 @@
+pub mod Kept
+pub mod Measure
+pub mod Search
+pub mod Turns

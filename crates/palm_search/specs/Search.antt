@@ -1,0 +1,79 @@
+-- The run of mac-dbt: a settling, turns, and the first end that holds after a settling.
+use Rattle.std.specs.Prelude.{◌≡◌, ℕ, ℤ, ◌≤◌, Bool, true, false, not, List, [], ◌∷◌, length, map, filter, Contains, None}
+use Rattle.palm_base.specs.declared.terms.Cid.{Cid}
+use Rattle.palm_base.specs.declared.terms.Cid.TheVariants.{Decide, Not, User}
+use Rattle.palm_model.specs.Domains.{Domains}
+use Rattle.palm_model.specs.Log.{Active, cids_of}
+use Rattle.palm_model.specs.State.{EngineState, AllFilled, present}
+use Rattle.palm_model.specs.Event.{WithdrawsAll}
+use Rattle.palm_engine.specs.Settling.{Revision, Settles, FitsOrder}
+use Rattle.palm_search.specs.declared.turn.Turn.{Turn}
+use Rattle.palm_search.specs.Turns.{SearchState, IsOpen, HasFlatConflict, SettlesAfter, Turns, decided_vars}
+
+-- ---- ends
+
+-- how a run ends
+pub data SearchEnd : Type 0 where
+  Found : (values : List ℤ) → SearchEnd
+  NoSolution : (users : List Cid) → SearchEnd
+  Spent : (turns : ℕ) → SearchEnd
+
+-- whether the name is a user's
+abbrev pub is_user : Cid → Bool
+is_user (Decide x) = false
+is_user (Not p) = false
+is_user (User n) = true
+
+-- a domain is empty and its flat conflict holds no decision; the users are those of the flat conflict
+pub record HasNoSolution (s : EngineState) (users : List Cid) : Type 0 where
+  pub conflict : List Cid
+  pub flat : HasFlatConflict s conflict
+  pub undecided : decided_vars conflict ≡ []
+  pub are : users ≡ filter is_user conflict
+
+-- every domain has exactly one value, and these are the values
+abbrev pub IsFound : Domains → List ℤ → Type 0
+IsFound d values = d ≡ map (λ v. v ∷ []) values
+
+-- the run could go on: a decision could be taken, or one of the flat conflict undone
+pub data GoesOn (s : EngineState) : Type 0 where
+  could_decide : (x : ℕ) → AllFilled (present s) → IsOpen (present s) x → GoesOn s
+  could_undo : (x : ℕ) (conflict : List Cid) → HasFlatConflict s conflict → Contains conflict (Decide x) → GoesOn s
+
+-- the run ends so after this settling, with so many turns taken
+abbrev pub EndsWith : ℕ → ℕ → EngineState → SearchEnd → Type 0
+EndsWith budget count s (NoSolution users) = HasNoSolution s users
+EndsWith budget count s (Found values) = IsFound (present s) values
+EndsWith budget count s (Spent turns) = (turns ≡ count) × (count ≡ budget) × GoesOn s
+
+-- ---- runs
+
+-- no decision was taken yet
+abbrev pub begun : EngineState → SearchState
+begun s = record { engine = s; decisions = [] }
+
+-- one settling, and turns within the budget, lead from s to t, where the run ends
+pub record SearchRun (guided ordered : Bool) (budget : ℕ) (s : EngineState) (turns : List Turn) (end : SearchEnd) (t : SearchState) : Type 0 where
+  pub start : SearchState
+  pub settles : SettlesAfter ordered (begun s) start
+  pub taken : Turns guided ordered start turns t
+  pub within : length turns ≤ budget
+  pub ends : EndsWith budget (length turns) t.engine end
+
+-- the names of all active decisions and negations
+abbrev pub search_cids : List Active → List Cid
+search_cids active = cids_of (filter (λ a. not (is_user a.cid)) active)
+
+-- after the end all decisions and negations are withdrawn, and the engine settles once more
+pub record Closes (ordered : Bool) (s t : EngineState) : Type 0 where
+  pub middle : EngineState
+  pub withdraws : WithdrawsAll s (search_cids s.active) middle
+  pub revisions : List Revision
+  pub fits : FitsOrder ordered revisions
+  pub settles : Settles None middle revisions t
+
+-- the whole search, from the state at the call to the state at the answer
+pub record Searches (guided ordered : Bool) (budget : ℕ) (s : EngineState) (turns : List Turn) (end : SearchEnd) (t : EngineState) : Type 0 where
+  pub last : SearchState
+  pub run : SearchRun guided ordered budget s turns end last
+  pub closes : Closes ordered last.engine t

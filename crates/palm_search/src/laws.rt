@@ -1,0 +1,59 @@
+//! Laws on searches. In each of them all active negations are justified (`IsSearching`).
+ghost use Rattle.std.specs.Prelude.{◌≡◌, ℕ, ℤ, Bool, List, Contains};
+ghost use Rattle.palm_base.specs.declared.terms.Cid.{Cid};
+ghost use Rattle.palm_model.specs.Domains.{Assignment};
+ghost use Rattle.palm_model.specs.Closure.{IsSolution};
+ghost use Rattle.palm_model.specs.Trial.{listed};
+ghost use Rattle.palm_model.specs.Log.{IsActive, Named, cons_of};
+ghost use Rattle.palm_model.specs.State.{EngineState, IsValid};
+ghost use Rattle.palm_events.specs.Along.{IsStill};
+ghost use Rattle.palm_events.specs.Reasons.{ReasonsAreRight};
+ghost use Rattle.palm_search.specs.declared.turn.Turn.{Turn};
+ghost use Rattle.palm_search.specs.Turns.{SearchState, Takes, SettlesAfter, Turns};
+ghost use Rattle.palm_search.specs.Search.{SearchEnd, Searches, begun};
+ghost use Rattle.palm_search.specs.Search.SearchEnd.{Found, NoSolution};
+ghost use Rattle.palm_search.specs.Kept.{HasOnlyUsers, IsSearching};
+
+/// A valid state in which no decision and no negation is active begins a search.
+pub fn searches_begin()
+    ensures { (s : EngineState) → IsValid s → HasOnlyUsers s → IsSearching (begun s) }
+{}
+
+/// A turn keeps the engine valid, all its negations justified, and its decisions those of the search.
+pub fn turns_keep_searching()
+    ensures { (guided : Bool) (s t : SearchState) (turn : Turn) → Takes guided s turn t → IsSearching s → IsSearching t }
+{}
+
+/// And so does a settling.
+pub fn settlings_keep_searching()
+    ensures { ReasonsAreRight → (ordered : Bool) (s t : SearchState) → SettlesAfter ordered s t → IsSearching s → IsSearching t }
+{}
+
+/// So all active negations are justified after any turns.
+pub fn turns_with_settlings_keep_searching()
+    ensures { ReasonsAreRight → (guided ordered : Bool) (s t : SearchState) (turns : List Turn)
+        → Turns guided ordered s turns t → IsSearching s → IsSearching t }
+{}
+
+/// Where a search has found values, they satisfy all constraints that were active before it.
+pub fn found_values_are_a_solution()
+    ensures { ReasonsAreRight → (guided ordered : Bool) (budget : ℕ) (s t : EngineState) (turns : List Turn) (values : List ℤ)
+        → HasOnlyUsers s → IsValid s → IsStill s → Searches guided ordered budget s turns (Found values) t
+        → IsSolution s.initial (Contains (cons_of s.active)) (listed values) }
+{}
+
+/// Where a search ends without a solution, the users that it tells were active before it, and have none in common.
+pub fn users_of_no_solution_have_none()
+    ensures unsolved { ReasonsAreRight → (guided ordered : Bool) (budget : ℕ) (s t : EngineState) (turns : List Turn) (users : List Cid)
+        → HasOnlyUsers s → IsValid s → IsStill s → Searches guided ordered budget s turns (NoSolution users) t
+        → (a : Assignment) → IsSolution s.initial (Named s.active (Contains users)) a → ⊥ }
+    ensures active { ReasonsAreRight → (guided ordered : Bool) (budget : ℕ) (s t : EngineState) (turns : List Turn) (users : List Cid)
+        → HasOnlyUsers s → IsValid s → IsStill s → Searches guided ordered budget s turns (NoSolution users) t
+        → (c : Cid) → Contains users c → IsActive s.active c }
+{}
+
+/// After a search the log is the log from before, whatever its end.
+pub fn searches_leave_the_log()
+    ensures { ReasonsAreRight → (guided ordered : Bool) (budget : ℕ) (s t : EngineState) (turns : List Turn) (end : SearchEnd)
+        → HasOnlyUsers s → IsValid s → IsStill s → Searches guided ordered budget s turns end t → t.log ≡ s.log }
+{}
