@@ -64,7 +64,7 @@ scope_names variables (DifferCon vars) = refl
 
 -- ---- where a constraint says what a shape says, each name of the shape names a variable
 
-has_name : (variables : List Entry) (x : ℕ) → x < length variables → Any (λ e. e.name ≡ name_of variables x) variables
+pub has_name : (variables : List Entry) (x : ℕ) → x < length variables → Any (λ e. e.name ≡ name_of variables x) variables
 has_name [] x within = absurd (omega arith)
 has_name (e ∷ es) zero within = any_here (λ (f : Entry). f.name ≡ e.name) e es refl
 has_name (e ∷ es) (suc x) within = any_there (λ (f : Entry). f.name ≡ name_of es x) e es (has_name es x (omega arith))

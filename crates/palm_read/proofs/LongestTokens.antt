@@ -1,10 +1,9 @@
 -- Each token is the longest text of the table that fits where it begins.
-use Rattle.std.proofs.Common.{◌≡◌, ℕ, zero, suc, ◌+◌, ◌-◌, ◌<◌, ◌≤◌, Bool, true, false, cond, ◌||◌, ◌&&◌, List, [], ◌∷◌, ◌++◌, length, take, drop, get_or, All, Contains, codes, nat_eq, ◌⊎◌, inl, inr, refl, sym, ap, ◌∙◌, subst, arith}
-use Rattle.std.specs.Bool.{⊤}
-use Rattle.std.specs.List.{prefix_len, list_any, AllByRecursion}
+use Rattle.std.proofs.Common.{◌≡◌, ℕ, zero, suc, ◌+◌, ◌≤◌, Bool, true, false, cond, ◌||◌, ◌&&◌, List, [], ◌∷◌, length, take, drop, get_or, All, Contains, codes, nat_eq, ◌⊎◌, inl, inr, refl, sym, ap, subst, arith}
+use Rattle.std.specs.List.{prefix_len, AllByRecursion}
 use Rattle.std.proofs.lemmas.Bool.Decides.{nat_tests}
 use Rattle.std.proofs.lemmas.List.Folds.{length-prefix_len}
-use Rattle.std.proofs.lemmas.List.Elements.{All-head, All-tail, All-nil, All-cons, All-weaker, All-contains, All-from_recursion}
+use Rattle.std.proofs.lemmas.List.Elements.{All-head, All-tail, All-cons, All-weaker, All-contains, All-from_recursion}
 use Rattle.std.proofs.lemmas.Map.Views.{Contains-from_any}
 use Rattle.palm_base.specs.Numbers.{AreDigits}
 use Rattle.palm_read.specs.Bytes.{is_digit, is_letter, is_word_byte}

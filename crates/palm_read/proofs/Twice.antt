@@ -1,5 +1,6 @@
 -- A text that stands twice in a list is lost where the list is sorted and freed of repeats.
 use Rattle.std.proofs.Common.{◌≡◌, ℕ, ◌+◌, ◌<◌, ◌≤◌, Bool, true, false, cond, List, [], ◌∷◌, length, map, Contains, Ordering, Less, Equal, refl, sym, ap, ◌∙◌, subst, arith, inl, inr, ◌⊎◌}
+use Rattle.palm_base.specs.Tells.{Tells}
 use Rattle.std.specs.Cmp.Lexicographic.{slice_cmp, on_texts, texts_ties}
 use Rattle.std.proofs.Math.Seq.{take-append_seam}
 use Rattle.std.specs.List.{refill, dedup, dedup_from, AllByRecursion, sum_by}
@@ -166,3 +167,8 @@ module _ {X : Type 0} (f : X → List ℕ) where
         λ h. repeats_moved (map f ws) (map f ts) (IsPermutation-sym (map f ts) (map f ws) texts) (shorter_repeats ws (omega (arith, h, ap length is, long))),
         λ r. omega (arith, repeats_shorter ws sorted (repeats_moved (map f ts) (map f ws) texts r), ap length is, long),
       )
+
+-- a test tells what holds exactly where it is true
+pub tells_from : (b : Bool) (P : Type 0) → (b ≡ true → P) → (P → b ≡ true) → Tells b P
+tells_from true P to from = to refl
+tells_from false P to from = λ p. let e = from p in cc

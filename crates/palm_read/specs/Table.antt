@@ -1,5 +1,5 @@
 -- A table on a line: `table x y : (1,2) (2,3)`.
-use Rattle.std.specs.Prelude.{◌≡◌, ℕ, ℤ, ◌<◌, List, [], ◌∷◌, ◌++◌, length, map, flat_map, All, codes}
+use Rattle.std.specs.Prelude.{◌≡◌, ℕ, ℤ, ◌<◌, List, ◌∷◌, ◌++◌, length, map, flat_map, All, codes}
 use Rattle.palm_model.specs.declared.limits.TheConstants.{MOST_ROWS}
 use Rattle.palm_read.specs.Bounds.{Bounded, a_value}
 use Rattle.palm_read.specs.Piece.{Piece, Keyword, Named, Mark, in_parentheses}

@@ -1,5 +1,6 @@
 //! How many values, variables, rows and entries a line has.
-ghost use Rattle.std.specs.Prelude.{◌↔◌, ◌<◌, IsTrue, length};
+ghost use Rattle.std.specs.Prelude.{◌<◌, length};
+ghost use Rattle.palm_base.specs.Tells.{Tells};
 ghost use Rattle.palm_read.specs.Domain.{IsLarge};
 ghost use Rattle.palm_read.specs.Limits.{IsBeyond, HasManyRows, names_of};
 
@@ -9,7 +10,7 @@ use palm_model::{MOST_ROWS, MOST_SCOPE};
 
 /// Whether the line breaks a limit on how many values, variables, rows or entries there may be.
 pub fn beyond(line: &Line) -> bool
-    ensures { IsTrue result ↔ IsBeyond line.now }
+    ensures { Tells result (IsBeyond line.now) }
 {
     match line {
         Line::Var { domain, .. } => is_large(domain),
@@ -20,7 +21,7 @@ pub fn beyond(line: &Line) -> bool
 
 /// Whether a domain has more values than a variable may have.
 fn is_large(domain: &DomainText) -> bool
-    ensures { IsTrue result ↔ IsLarge domain.now }
+    ensures { Tells result (IsLarge domain.now) }
 {
     match domain {
         DomainText::Range { low, high } => i64::from(high.0) - i64::from(low.0)
@@ -31,7 +32,7 @@ fn is_large(domain: &DomainText) -> bool
 
 /// Whether a constraint has more variables than it may have.
 fn has_many_variables(shape: &Shape) -> bool
-    ensures { IsTrue result ↔ (MOST_SCOPE < length (names_of shape.now)) }
+    ensures { Tells result (MOST_SCOPE < length (names_of shape.now)) }
 {
     match shape {
         Shape::CompareVar { .. } | Shape::CompareConst { .. } | Shape::Element { .. } => false,
@@ -46,7 +47,7 @@ fn has_many_variables(shape: &Shape) -> bool
 
 /// Whether a table has more rows, or a list more entries, than it may have.
 fn has_many_rows(shape: &Shape) -> bool
-    ensures { IsTrue result ↔ HasManyRows shape.now }
+    ensures { Tells result (HasManyRows shape.now) }
 {
     match shape {
         Shape::Table { rows, .. } => rows.len() > MOST_ROWS,

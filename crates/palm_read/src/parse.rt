@@ -1,5 +1,6 @@
 //! Reading a line.
-ghost use Rattle.std.specs.Prelude.{◌≡◌, ◌↔◌, ◌⊎◌, IfOk, IsTrue, All, true};
+ghost use Rattle.std.specs.Prelude.{◌≡◌, ◌⊎◌, IfOk, All, true};
+ghost use Rattle.palm_base.specs.Tells.{Tells};
 ghost use Rattle.palm_read.specs.declared.parse.LineError.TheVariants as LineError;
 ghost use Rattle.palm_read.specs.Bytes.{after_blanks, is_note, is_plain};
 ghost use Rattle.palm_read.specs.Reader.Checks.{IsKept};
@@ -94,7 +95,7 @@ fn is_note(bytes: &[u8]) -> bool
 
 /// Whether each byte may stand in a line that is no comment.
 fn are_plain(bytes: &[u8]) -> bool
-    ensures { IsTrue result ↔ All (λ b. is_plain b ≡ true) bytes.now }
+    ensures { Tells result (All (λ b. is_plain b ≡ true) bytes.now) }
 {
     bytes.iter().all(|b| is_plain(*b))
 }

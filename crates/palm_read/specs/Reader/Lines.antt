@@ -1,9 +1,9 @@
 -- Readers of the forms of a line. That these readers read just the forms of the grammar is proved of them.
-use Rattle.std.specs.Prelude.{ℕ, ℤ, Bool, ◌&&◌, Option, Some, None, List, codes}
+use Rattle.std.specs.Prelude.{ℕ, ℤ, ◌&&◌, Option, Some, None, List, codes}
 use Rattle.std.specs.Str.{bytes_eq}
 use Rattle.palm_read.specs.Form.{Form, DeclareForm, AddForm, RelaxForm, EnforceForm, RetractForm, DomainsForm, DomainOfForm, ListForm, LogForm, WhyForm, ConflictForm, MinimalConflictForm, MinimalForm, PauseForm, ResumeForm, StepForm, SolveDbtForm, SolveRepairForm, CertForm, CertConflictForm, GuideForm, GuideNoneForm, OrderForm, OrderNoneForm, DropGuideForm, DropOrderForm, QuitForm}
 use Rattle.palm_read.specs.Token.{Lexeme}
-use Rattle.palm_read.specs.Reader.Steps.{Reading, and_then, ◌>>=◌, when, choose, is_empty, keyword_at, mark_at, name_at, integer_at}
+use Rattle.palm_read.specs.Reader.Steps.{Reading, ◌>>=◌, when, choose, is_empty, keyword_at, mark_at, name_at, integer_at}
 use Rattle.palm_read.specs.Reader.Shapes.{domain_at, shape_at}
 
 unfoldable pub declare_at : List Lexeme → Reading Form

@@ -1,7 +1,7 @@
 -- Readers of names, values and rows, one after another.
 use Rattle.std.specs.Prelude.{ℕ, zero, suc, ℤ, ◌==◌, nat_le, Option, Some, None, List, [], ◌∷◌, length, codes}
 use Rattle.palm_read.specs.Token.{Lexeme}
-use Rattle.palm_read.specs.Reader.Steps.{Reading, and_then, ◌>>=◌, when, choose, mark_at, name_at, integer_at}
+use Rattle.palm_read.specs.Reader.Steps.{Reading, ◌>>=◌, when, choose, mark_at, name_at, integer_at}
 
 -- items one after another, as long as there is one more; the number bounds how many steps this takes
 unfoldable pub many : {A : Type 0} → (List Lexeme → Reading (Option A)) → ℕ → List Lexeme → Reading (List A)

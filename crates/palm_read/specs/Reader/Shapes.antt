@@ -1,5 +1,5 @@
 -- Readers of domains and of constraints, kind by kind.
-use Rattle.std.specs.Prelude.{ℕ, ℤ, Bool, true, false, Option, Some, None, List, [], ◌∷◌, length, codes}
+use Rattle.std.specs.Prelude.{Bool, true, false, Option, Some, None, List, ◌∷◌, length, codes}
 use Rattle.palm_model.specs.declared.constraint.Op.{Op}
 use Rattle.palm_model.specs.declared.constraint.Op.TheVariants.{Lt, Gt}
 use Rattle.palm_read.specs.declared.tokens.TokenKind.TheVariants.{Digits}
@@ -10,7 +10,7 @@ use Rattle.palm_read.specs.Form.{ShapeForm, CompareVarForm, CompareConstForm, Li
 use Rattle.palm_read.specs.Linear.{TermForm}
 use Rattle.palm_read.specs.Piece.{digits_number}
 use Rattle.palm_read.specs.Token.{Lexeme}
-use Rattle.palm_read.specs.Reader.Steps.{Reading, and_then, ◌>>=◌, when, choose, token_at, keyword_at, mark_at, name_at, natural_at, integer_at, op_at}
+use Rattle.palm_read.specs.Reader.Steps.{Reading, ◌>>=◌, when, choose, token_at, keyword_at, mark_at, name_at, natural_at, integer_at, op_at}
 use Rattle.palm_read.specs.Reader.Lists.{many_at, names_at, values_at, next_row}
 
 unfoldable pub interval_at : List Lexeme → Reading DomainForm

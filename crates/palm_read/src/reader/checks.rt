@@ -1,5 +1,6 @@
 //! Whether the numbers of a line are within their ranges, and whether nothing is missing in it.
-ghost use Rattle.std.specs.Prelude.{◌↔◌, ◌<◌, All, IsTrue};
+ghost use Rattle.std.specs.Prelude.{◌<◌, All};
+ghost use Rattle.palm_base.specs.Tells.{Tells};
 ghost use Rattle.palm_read.specs.Reader.Checks.{HasDomainInRange, HasTargetInRange, HasShapeInRange, HasLineInRange, LacksSomething};
 ghost use Rattle.palm_model.specs.Limits.{IsUpTo, IsValue};
 
@@ -9,7 +10,7 @@ use palm_model::{GREATEST_BOUND, GREATEST_FACTOR, GREATEST_OFFSET, GREATEST_VALU
 
 /// Whether each number of the line is within its range.
 pub fn is_in_range(line: &Line) -> bool
-    ensures { IsTrue result ↔ HasLineInRange line.now }
+    ensures { Tells result (HasLineInRange line.now) }
 {
     match line {
         Line::Var { domain, .. } => is_domain_in_range(domain),
@@ -28,7 +29,7 @@ pub fn is_in_range(line: &Line) -> bool
 }
 
 fn is_domain_in_range(domain: &DomainText) -> bool
-    ensures { IsTrue result ↔ HasDomainInRange domain.now }
+    ensures { Tells result (HasDomainInRange domain.now) }
 {
     match domain {
         DomainText::Range { low, high } => is_value(low) && is_value(high),
@@ -37,7 +38,7 @@ fn is_domain_in_range(domain: &DomainText) -> bool
 }
 
 fn is_shape_in_range(shape: &Shape) -> bool
-    ensures { IsTrue result ↔ HasShapeInRange shape.now }
+    ensures { Tells result (HasShapeInRange shape.now) }
 {
     match shape {
         Shape::CompareVar { offset, .. } => is_up_to(
@@ -55,7 +56,7 @@ fn is_shape_in_range(shape: &Shape) -> bool
 }
 
 fn is_target_in_range(target: &NameTarget) -> bool
-    ensures { IsTrue result ↔ HasTargetInRange target.now }
+    ensures { Tells result (HasTargetInRange target.now) }
 {
     match target {
         NameTarget::Const(value) => is_value(value),
@@ -64,33 +65,33 @@ fn is_target_in_range(target: &NameTarget) -> bool
 }
 
 fn are_values(values: &[Value]) -> bool
-    ensures { IsTrue result ↔ All IsValue values.now }
+    ensures { Tells result (All IsValue values.now) }
 {
     values.iter().all(is_value)
 }
 
 fn are_factors(terms: &[NameTerm]) -> bool
-    ensures { IsTrue result ↔ All (λ t. IsUpTo GREATEST_FACTOR t.factor) terms.now }
+    ensures { Tells result (All (λ t. IsUpTo GREATEST_FACTOR t.factor) terms.now) }
 {
     terms.iter().all(|t| is_up_to(u64::from(GREATEST_FACTOR), i64::from(t.factor)))
 }
 
 fn is_value(value: &Value) -> bool
-    ensures { IsTrue result ↔ IsValue value.now }
+    ensures { Tells result (IsValue value.now) }
 {
     is_up_to(u64::from(GREATEST_VALUE), i64::from(value.0))
 }
 
 /// Whether a number is at most so far from 0.
 fn is_up_to(most: u64, number: i64) -> bool
-    ensures { IsTrue result ↔ IsUpTo most number }
+    ensures { Tells result (IsUpTo most number) }
 {
     number.unsigned_abs() <= most
 }
 
 /// Whether nothing stands where something has to, or a coefficient is 0.
 pub fn lacks_something(line: &Line) -> bool
-    ensures { IsTrue result ↔ LacksSomething line.now }
+    ensures { Tells result (LacksSomething line.now) }
 {
     match line {
         Line::Var { domain, .. } => match domain {

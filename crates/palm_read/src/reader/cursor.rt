@@ -1,5 +1,6 @@
 //! The tokens of a line, one after another.
-ghost use Rattle.std.specs.Prelude.{◌≡◌, [], ◌↔◌, IsTrue, IfSome, drop, option_copied};
+ghost use Rattle.std.specs.Prelude.{◌≡◌, [], IfSome, drop, option_copied};
+ghost use Rattle.palm_base.specs.Tells.{Tells};
 ghost use Rattle.palm_read.specs.Token.{tokens_of};
 ghost use Rattle.palm_read.specs.Reader.Held.{Takes, TakesIf};
 ghost use Rattle.palm_read.specs.Reader.Steps.{token_at, behind, keyword_at, mark_at, front_text, name_at, is_name, is_reserved};
@@ -42,7 +43,7 @@ impl<'a> Cursor<'a> {
 
     /// Whether no token is left.
     pub fn is_at_end(&self) -> bool
-        ensures { IsTrue result ↔ (self.now ≡ []) }
+        ensures { Tells result (self.now ≡ []) }
     {
         self.next.is_none()
     }

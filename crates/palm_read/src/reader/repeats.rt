@@ -1,5 +1,6 @@
 //! Whether a variable stands twice in a constraint.
-ghost use Rattle.std.specs.Prelude.{◌≡◌, ◌↔◌, ◌<◌, IsTrue, IfOk, map};
+ghost use Rattle.std.specs.Prelude.{◌≡◌, ◌<◌, IfOk, map};
+ghost use Rattle.palm_base.specs.Tells.{Tells};
 ghost use Rattle.palm_read.specs.Reader.Checks.{RepeatsName};
 ghost use Rattle.palm_read.specs.Limits.{names_of, Repeats};
 
@@ -14,7 +15,7 @@ type Texts<'a> = SmallVec<&'a [u8], MOST_SCOPE>;
 
 /// Whether a variable stands twice in the constraint.
 pub fn repeats_name(alloc: Global, line: &Line) -> Result<bool, NoMemory>
-    ensures { IfOk result (λ found. IsTrue found ↔ RepeatsName line.now) }
+    ensures { IfOk result (λ found. Tells found (RepeatsName line.now)) }
 {
     match line {
         Line::Add { shape, .. } => repeats_variable(alloc, shape),
@@ -23,7 +24,7 @@ pub fn repeats_name(alloc: Global, line: &Line) -> Result<bool, NoMemory>
 }
 
 fn repeats_variable(alloc: Global, shape: &Shape) -> Result<bool, NoMemory>
-    ensures { IfOk result (λ found. IsTrue found ↔ Repeats (names_of shape.now)) }
+    ensures { IfOk result (λ found. Tells found (Repeats (names_of shape.now))) }
 {
     match shape {
         Shape::CompareConst { .. } => Ok(false),
@@ -66,7 +67,7 @@ fn term_names(alloc: Global, terms: &[NameTerm]) -> Result<Texts<'_>, NoMemory>
 
 /// Whether a text stands twice in the list.
 fn has_twice(mut texts: Texts<'_>) -> bool
-    ensures { IsTrue result ↔ Repeats (map (λ t. t.now) texts.entry.items) }
+    ensures { Tells result (Repeats (map (λ t. t.now) texts.entry.items)) }
 {
     let count = texts.len();
     texts.sort_unstable();
