@@ -20,7 +20,7 @@ use Rattle.palm_model.specs.declared.constraint.Target.TheVariants.{Const, Varia
 use Rattle.palm_model.specs.declared.part.Part.{Part}
 use Rattle.palm_model.specs.declared.part.Part.TheVariants.{Count as CountPart}
 use Rattle.palm_model.proofs.Ascending.{ascends_at}
-use Rattle.palm_model.proofs.Assignments.{occurrences_agree}
+use Rattle.palm_model.proofs.Assignments.{counts_agree}
 use Rattle.palm_model.proofs.Reasons.{member_listed, removed_member, member_removed, pairs_member, member_pairs, others_member, member_others}
 use Rattle.palm_model.proofs.Supports.{lacking_by_part, part_unsupported, without_has}
 use Rattle.palm_model.proofs.Trials.{put, put_same, put_other}
@@ -104,7 +104,7 @@ module _ (d : Domains) (value : ℤ) (vars : List ℕ) (op : Op) (x : ℕ) (v : 
         within = λ z n. where_has d x v has z (a z) (takes z n);
         gives = where_given d x v x (a x) refl (takes x over);
         holds =
-            subst (λ n. Stands op (pos n) (a y)) (sym (occurrences_agree a c.assignment value vars (λ z n. put_other c.assignment y w z (apart z n)) ∙ c.counted))
+            subst (λ n. Stands op (pos n) (a y)) (sym (counts_agree a c.assignment value vars (λ z n. put_other c.assignment y w z (apart z n)) ∙ c.counted))
             (subst (λ u. Stands op (pos k) u) (sym (put_same c.assignment y w)) h);
       }
 
