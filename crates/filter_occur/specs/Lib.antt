@@ -1,1 +1,1 @@
-pub mod CountRule
+pub mod Count
