@@ -1,4 +1,4 @@
-pub mod Singles
 pub mod Indexed
+pub mod Listed
+pub mod Singles
 pub mod Written
-pub mod Pairs
