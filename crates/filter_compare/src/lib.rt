@@ -7,6 +7,3 @@ mod laws;
 
 pub use compare::CompareFilter;
 pub use laws::reasons_of_comparisons_are_right;
-
-#[cfg(test)]
-mod tests;
