@@ -1,12 +1,13 @@
 -- The constraint of a sum: what it can be at least and at most where one variable has its value, and the removed values
 -- beyond the present ones.
-use Rattle.std.specs.Prelude.{◌≡◌, ℕ, ℤ, pos, ◌+ℤ◌, ◌*ℤ◌, ◌<◌, ◌<ℤ◌, ◌≤ℤ◌, Bool, List, [], ◌∷◌, All, length, nat_eq, int_lt, if◌then◌else◌, ⊤}
+use Rattle.std.specs.Prelude.{◌≡◌, ℕ, ℤ, pos, ◌+ℤ◌, ◌*ℤ◌, ◌<◌, ◌<ℤ◌, ◌≤ℤ◌, Bool, List, [], ◌∷◌, All, length, nat_eq, int_lt, if◌then◌else◌}
 use Rattle.palm_base.specs.declared.terms.Pair.{Pair}
 use Rattle.palm_model.specs.Limits.{IsUpTo}
 use Rattle.palm_model.specs.Domains.{Domains, values_of}
 use Rattle.palm_model.specs.Linear.{least_of, greatest_of, products, least_total, values_below, values_above, at_most_reason, at_least_reason}
+use Rattle.palm_model.specs.declared.limits.TheConstants.{GREATEST_PRODUCT}
 use Rattle.palm_model.specs.declared.constraint.Con.{Con}
-use Rattle.palm_model.specs.declared.constraint.Con.TheVariants.{CompareVar, CompareConst, Linear, Table, Element, Count, Differ}
+use Rattle.palm_model.specs.declared.constraint.Con.TheVariants.{Linear}
 use Rattle.palm_model.specs.declared.constraint.Op.{Op}
 use Rattle.palm_model.specs.declared.constraint.Op.TheVariants.{Eq, Ne, Lt, Le, Gt, Ge}
 use Rattle.palm_model.specs.declared.constraint.Term.{Term}
@@ -34,7 +35,7 @@ greatest_total d (t ∷ ts) x v = greatest_share d x v t +ℤ greatest_total d t
 
 -- a coefficient of the language times a value
 abbrev pub IsProduct : ℤ → Type 0
-IsProduct n = IsUpTo 214748364800000 n
+IsProduct n = IsUpTo GREATEST_PRODUCT n
 
 -- what the term can be, and its variable has some value
 pub record IsTermSpan (d : Domains) (t : Term) (s : Span) : Type 0 where

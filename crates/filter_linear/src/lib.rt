@@ -9,6 +9,3 @@ mod span;
 
 pub use laws::linear_reasons_are_right;
 pub use linear::LinearFilter;
-
-#[cfg(test)]
-mod tests;
