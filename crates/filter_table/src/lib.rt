@@ -8,6 +8,3 @@ mod table;
 
 pub use laws::reasons_of_tables_are_right;
 pub use table::TableFilter;
-
-#[cfg(test)]
-mod tests;

@@ -11,4 +11,4 @@ pub use alone::is_alone;
 pub use filter::{Filter, Reasons, ask};
 pub use index::ValueIndex;
 pub use laws::single_values_are_supported_where_they_satisfy;
-pub use reasons::{push_passing, push_removed, whole_or_none};
+pub use reasons::{is_missing, push_passing, push_removed, whole_or_none};

@@ -30,7 +30,7 @@ pub fn push_passing<F: Fn(&Value) -> bool>(
 }
 
 /// Whether the variable does not have the value.
-fn is_missing(store: &DomainStore, var: Var, value: &Value) -> bool
+pub fn is_missing(store: &DomainStore, var: Var, value: &Value) -> bool
     requires { var < length store.now }
     ensures { result ≡ not (is_listed (values_of (present_of store.now) var) value.now) }
 {
