@@ -1,4 +1,4 @@
-//! The filter of a difference: no two of the variables have one value.
+//! The filter of variables that differ: no two of the variables have one value.
 #![tactic(auto)]
 
 mod differ;
@@ -7,6 +7,3 @@ mod others;
 
 pub use differ::DifferFilter;
 pub use laws::reasons_of_differences_are_right;
-
-#[cfg(test)]
-mod tests;

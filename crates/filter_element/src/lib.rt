@@ -7,6 +7,3 @@ mod rule;
 
 pub use element::ElementFilter;
 pub use laws::reasons_of_elements_are_right;
-
-#[cfg(test)]
-mod tests;

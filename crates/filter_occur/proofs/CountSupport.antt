@@ -13,6 +13,7 @@ use Rattle.palm_model.specs.Part.{scope_of}
 use Rattle.palm_model.specs.Support.{HasSupport, IsSupported, LacksSupport}
 use Rattle.palm_model.specs.Removed.{is_alone, is_listed, others, removed_values, pairs_of}
 use Rattle.palm_model.specs.Reason.{reason, AreFilled, IsReason, WantsReason}
+use Rattle.palm_model.specs.declared.limits.TheConstants.{MOST_SCOPE}
 use Rattle.palm_model.specs.declared.constraint.Con.{Con}
 use Rattle.palm_model.specs.declared.constraint.Con.TheVariants.{CompareVar, CompareConst, Linear, Table, Element, Count, Differ}
 use Rattle.palm_model.specs.declared.constraint.Op.{Op}
@@ -21,7 +22,7 @@ use Rattle.palm_model.specs.declared.constraint.Target.TheVariants.{Const, Varia
 use Rattle.palm_model.specs.declared.part.Part.{Part}
 use Rattle.palm_model.specs.declared.part.Part.TheVariants.{Count as CountPart}
 use Rattle.palm_model.proofs.Ascending.{ascends_at}
-use Rattle.palm_model.proofs.Assignments.{occurrences_agree}
+use Rattle.palm_model.proofs.Assignments.{counts_agree}
 use Rattle.palm_model.proofs.Reasons.{member_listed, removed_member, member_removed, pairs_member, member_pairs, others_member, member_others}
 use Rattle.palm_model.proofs.Supports.{supported_by_part, lacking_by_part, part_unsupported, without_has}
 use Rattle.palm_model.proofs.Trials.{put, put_same, put_other}
@@ -106,7 +107,7 @@ module _ (d : Domains) (value : ℤ) (vars : List ℕ) (op : Op) (x : ℕ) (v : 
         within = λ z n. where_has d x v has z (a z) (takes z n);
         gives = where_given d x v x (a x) refl (takes x over);
         holds =
-            subst (λ n. Stands op (pos n) (a y)) (sym (occurrences_agree a c.assignment value vars (λ z n. put_other c.assignment y w z (apart z n)) ∙ c.counted))
+            subst (λ n. Stands op (pos n) (a y)) (sym (counts_agree a c.assignment value vars (λ z n. put_other c.assignment y w z (apart z n)) ∙ c.counted))
             (subst (λ u. Stands op (pos k) u) (sym (put_same c.assignment y w)) h);
       }
 
@@ -423,7 +424,7 @@ module _ (o : CountRule) (m : Con) (n : ℕ) (is : count_of o ≡ m) (formed : I
   own_over : (x : ℕ) → Contains (scope m) x → Contains (o.vars ++ target_scope o.target) x
   own_over x over = subst (λ k. Contains (scope k) x) (sym is) over
 
-  few_vars : length o.vars ≤ 16
+  few_vars : length o.vars ≤ MOST_SCOPE
   few_vars = omega (arith, length-append o.vars (target_scope o.target), own_formed.few)
 
   pub vars_declared : All (λ y. y < n) o.vars

@@ -14,7 +14,7 @@ use Rattle.palm_model.specs.Count.{count_among, needs_low, needs_high, is_within
 use Rattle.palm_model.specs.Removed.{is_alone, is_listed, others}
 use Rattle.palm_model.specs.declared.constraint.Op.{Op}
 use Rattle.palm_model.specs.declared.constraint.Op.TheVariants.{Eq, Ne, Lt, Le, Gt, Ge}
-use Rattle.palm_model.proofs.Assignments.{occurrences_agree}
+use Rattle.palm_model.proofs.Assignments.{counts_agree}
 use Rattle.palm_model.proofs.Reasons.{alone_only, listed_member, member_listed}
 use Rattle.palm_model.proofs.Standing.{stands_from_test, test_from_stands}
 use Rattle.palm_model.proofs.Trials.{put, put_same, put_other}
@@ -101,7 +101,7 @@ choice_more f value y ys w rest number new has e c =
     let a = put c.assignment y w in
     let apart : (z : ℕ) → Contains ys z → z ≡ y → ⊥ = λ z m s. new (member_same ys z y s m) in
     let first : int_eq (a y) value ≡ int_eq w value = ap (λ u. int_eq u value) (put_same c.assignment y w) in
-    let others : count_among a value ys ≡ rest = occurrences_agree a c.assignment value ys (λ z m. put_other c.assignment y w z (apart z m)) ∙ c.counted in
+    let others : count_among a value ys ≡ rest = counts_agree a c.assignment value ys (λ z m. put_other c.assignment y w z (apart z m)) ∙ c.counted in
     record {
       assignment = a;
       within = λ z m. elim (member_cases y ys z m) [

@@ -1,14 +1,15 @@
 -- The number of some variables that have a value: how low and how high it can be where one variable of the constraint
 -- has a value of its own, and whether it can stand in the relation to the target.
-use Rattle.std.specs.Prelude.{◌≡◌, ℕ, ℤ, pos, ◌<◌, ◌≤◌, List, [], ◌∷◌, length, filter, All, Contains, nat_eq, if◌then◌else◌, ⊤}
+use Rattle.std.specs.Prelude.{◌≡◌, ℕ, ℤ, pos, ◌<◌, ◌≤◌, List, [], ◌∷◌, length, filter, All, Contains, nat_eq, if◌then◌else◌}
 use Rattle.palm_model.specs.Relation.{Stands}
 use Rattle.palm_model.specs.Domains.{Domains, values_of}
 use Rattle.palm_model.specs.Removed.{is_alone, is_listed}
 use Rattle.palm_model.specs.declared.constraint.Con.{Con}
-use Rattle.palm_model.specs.declared.constraint.Con.TheVariants.{CompareVar, CompareConst, Linear, Table, Element, Count, Differ}
+use Rattle.palm_model.specs.declared.constraint.Con.TheVariants.{Count}
 use Rattle.palm_model.specs.declared.constraint.Op.{Op}
 use Rattle.palm_model.specs.declared.constraint.Target.{Target}
 use Rattle.palm_model.specs.declared.constraint.Target.TheVariants.{Const, Variable}
+use Rattle.palm_model.specs.declared.limits.TheConstants.{MOST_SCOPE}
 use Rattle.filter_occur.specs.declared.counts.Counts.{Counts}
 use Rattle.filter_occur.specs.declared.rule.Chance.{Chance}
 use Rattle.filter_occur.specs.declared.rule.CountRule.{CountRule}
@@ -44,7 +45,7 @@ pub record AreCounts (d : Domains) (x : ℕ) (v : ℤ) (o : CountRule) (counts :
   pub low : counts.low ≡ low_count (values_where d x v) o.value o.vars
   pub high : counts.high ≡ high_count (values_where d x v) o.value o.vars
   pub ordered : counts.low ≤ counts.high
-  pub small : counts.high ≤ 16
+  pub small : counts.high ≤ MOST_SCOPE
   pub filled : All (λ y. 0 < length (values_where d x v y)) o.vars
 
 -- one of the numbers stands in the relation to one of the values

@@ -8,6 +8,3 @@ mod rule;
 
 pub use count::OccurFilter;
 pub use laws::reasons_of_counts_are_right;
-
-#[cfg(test)]
-mod tests;

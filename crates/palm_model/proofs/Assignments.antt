@@ -27,8 +27,8 @@ total_agree a b (t ∷ ts) same =
     ap (λ v. (t.factor *ℤ v) +ℤ total a ts) (same t.var (member_here t.var (term_vars ts)))
     ∙ ap (λ s. (t.factor *ℤ b t.var) +ℤ s) (total_agree a b ts (λ y m. same y (member_there t.var (term_vars ts) y m)))
 
-pub occurrences_agree : (a b : Assignment) (value : ℤ) (vars : List ℕ) → Agree vars a b → count_among a value vars ≡ count_among b value vars
-occurrences_agree a b value vars same =
+pub counts_agree : (a b : Assignment) (value : ℤ) (vars : List ℕ) → Agree vars a b → count_among a value vars ≡ count_among b value vars
+counts_agree a b value vars same =
     ap length (filter_agree_members (λ x. int_eq (a x) value) (λ x. int_eq (b x) value) vars (λ x m. ap (λ v. int_eq v value) (same x m)))
 
 pub target_agree : (a b : Assignment) (target : Target) → Agree (target_scope target) a b → target_of a target ≡ target_of b target
@@ -53,7 +53,7 @@ holds_agree (ElementPart outcome index entries) a b same h =
     (h.0, sym at_index ∙ h.1, h.2 ∙ ap Some (same outcome (member_here outcome (index ∷ []))))
 holds_agree (CountPart value vars op target) a b same h =
     stands_agree op (pos (count_among a value vars)) (pos (count_among b value vars)) (target_of a target) (target_of b target)
-    (ap pos (occurrences_agree a b value vars (λ x m. same x (Contains-append_left vars (target_scope target) x m))))
+    (ap pos (counts_agree a b value vars (λ x m. same x (Contains-append_left vars (target_scope target) x m))))
     (target_agree a b target (λ x m. same x (Contains-append_right vars (target_scope target) x m))) h
 holds_agree (DifferPart first second) a b same h = λ e. h (same first (member_here first (second ∷ [])) ∙ e ∙ sym (same second (member_there first (second ∷ []) second (member_here second []))))
 

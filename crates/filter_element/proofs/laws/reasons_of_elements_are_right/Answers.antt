@@ -1,4 +1,4 @@
-use Rattle.filter_element.proofs.Entries.{elements_right}
+use Rattle.filter_element.proofs.Elements.{elements_right}
 use Rattle.filter_element.proofs.laws.reasons_of_elements_are_right.Goals as goal
 
 pub returns : goal.returns

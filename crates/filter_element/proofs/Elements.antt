@@ -7,9 +7,9 @@ use Rattle.std.specs.List.{AllWithin}
 use Rattle.std.proofs.lemmas.List.{get_or_default}
 use Rattle.std.proofs.lemmas.List.Elements.{All-nil, All-contains, AllWithin-more}
 use Rattle.std.proofs.lemmas.Option.{same_Some, slice_get_within}
-use Rattle.palm_base.proofs.Members.{member_nil, member_here, member_there, member_cases, member_single, member_same, filter_member, member_filter, nat_known}
+use Rattle.palm_base.proofs.Members.{member_here, member_there, member_cases, member_single, member_same, filter_member, member_filter, nat_known}
 use Rattle.palm_base.specs.declared.terms.Pair.{Pair}
-use Rattle.palm_model.specs.Domains.{Domains, Has, Ascends, AllAscend, values_of, without}
+use Rattle.palm_model.specs.Domains.{Domains, Has, Ascends, values_of, without}
 use Rattle.palm_model.specs.Constraint.{scope, Distinct, IsWellFormed}
 use Rattle.palm_model.specs.Part.{scope_of}
 use Rattle.palm_model.specs.Support.{HasSupport, IsSupported, LacksSupport}
@@ -18,12 +18,13 @@ use Rattle.palm_model.specs.Removed.{pairs_of}
 use Rattle.palm_model.specs.Reason.{reason, IsReason, WantsReason}
 use Rattle.palm_model.specs.declared.constraint.Con.{Con}
 use Rattle.palm_model.specs.declared.constraint.Con.TheVariants.{CompareVar, CompareConst, Linear, Table, Element, Count, Differ}
+use Rattle.palm_model.specs.declared.limits.TheConstants.{MOST_ROWS}
 use Rattle.palm_model.specs.declared.part.Part.{Part}
 use Rattle.palm_model.specs.declared.part.Part.TheVariants.{Element as ElementPart}
-use Rattle.palm_model.proofs.Ascending.{ascends_at, ascends_filter, ascending_same}
+use Rattle.palm_model.proofs.Ascending.{ascends_filter, ascending_same}
 use Rattle.palm_model.proofs.Reasons.{pairs_member, member_pairs}
 use Rattle.palm_model.proofs.Supports.{supported_by_part, lacking_by_part, part_unsupported, two_first, two_second, support_by_two, without_has}
-use Rattle.filter_element.specs.Element.{element_of, IsEntryReached, IsOpen}
+use Rattle.filter_element.specs.Element.{element_of, IsEntryReached, IsEntryOpen}
 use Rattle.filter_element.specs.declared.rule.ElementRule.{ElementRule}
 
 -- ---- entries by their indices
@@ -67,7 +68,7 @@ module _ (c : ElementRule) where
       support_by_two d part c.outcome w c.index k ne of_two has r.index
       (r.place, two_second c.outcome w c.index k ne, r.stands ∙ ap Some (sym (two_first c.outcome w c.index k)))
 
-  pub index_support : (d : Domains) (k : ℤ) → Distinct both → Has d c.index k → IsOpen d c k → HasSupport d part c.index k
+  pub index_support : (d : Domains) (k : ℤ) → Distinct both → Has d c.index k → IsEntryOpen d c k → HasSupport d part c.index k
   index_support d k distinct has r =
       let s = place_of c.entries k r.entry r.stands in
       support_by_two d part c.index k c.outcome r.entry (apart distinct) (λ z m. elim (of_two z m) [ inl e ↦ inr e | inr e ↦ inl e ]) has r.outcome
@@ -80,7 +81,7 @@ module _ (c : ElementRule) where
     index = subst (λ k. Has d c.index k) s.holds.1 (s.within c.index (member_there c.outcome (c.index ∷ []) c.index (member_here c.index [])));
   }
 
-  pub support_index : (d : Domains) (k : ℤ) → HasSupport d part c.index k → IsOpen d c k
+  pub support_index : (d : Domains) (k : ℤ) → HasSupport d part c.index k → IsEntryOpen d c k
   support_index d k s = record {
     entry = s.assignment c.outcome;
     stands = ap (entry_at c.entries) (sym s.gives ∙ s.holds.1) ∙ entry_of c.entries s.holds.0 (s.assignment c.outcome) s.holds.2;
@@ -170,26 +171,25 @@ elements_right initial present (Differ vars) x v is w = absurd is
 
 -- ---- the outcome of an index, among declared values
 
-module _ (initial : Domains) (up : AllAscend initial) (outcome : ℕ) (entries : List ℤ) (k : ℤ) where
+no_members : (ws : List ℤ) → ((w : ℤ) → Contains ws w → ⊥) → ws ≡ []
+no_members [] none = refl
+no_members (w ∷ ws) none = absurd (none w (member_here w ws))
+
+module _ (initial : Domains) (outcome : ℕ) (entries : List ℤ) (k : ℤ) where
   kept_member : (w : ℤ) → Contains (outcomes_at initial outcome entries k) w → Has initial outcome w × (entry_at entries k ≡ Some w)
   kept_member w m =
       let r = filter_member (λ u. is_entry entries k u) (values_of initial outcome) w m in
       (r.0, entry_test (entry_at entries k) w r.1)
 
-  kept_ascends : Ascends (outcomes_at initial outcome entries k)
-  kept_ascends = ascends_filter (λ u. is_entry entries k u) (values_of initial outcome) (ascends_at initial outcome up)
-
-  pub declared_outcomes : (u : ℤ) → entry_at entries k ≡ Some u → Has initial outcome u → outcomes_at initial outcome entries k ≡ u ∷ []
-  declared_outcomes u at has =
-      ascending_same (outcomes_at initial outcome entries k) (u ∷ []) kept_ascends (All-nil (λ w. u <ℤ w), tt)
+  pub declared_outcomes : Ascends (values_of initial outcome) → (u : ℤ) → entry_at entries k ≡ Some u → Has initial outcome u → outcomes_at initial outcome entries k ≡ u ∷ []
+  declared_outcomes up u at has =
+      ascending_same (outcomes_at initial outcome entries k) (u ∷ []) (ascends_filter (λ w. is_entry entries k w) (values_of initial outcome) up) (All-nil (λ w. u <ℤ w), tt)
       (λ w m. member_same (u ∷ []) u w (same_Some u w (sym at ∙ (kept_member w m).1)) (member_here u []))
       (λ w m. member_same (outcomes_at initial outcome entries k) u w (member_single u w m)
       (member_filter (λ z. is_entry entries k z) (values_of initial outcome) u has (test_entry (entry_at entries k) u at)))
 
   pub missing_outcomes : ((w : ℤ) → Has initial outcome w → entry_at entries k ≡ Some w → ⊥) → outcomes_at initial outcome entries k ≡ []
-  missing_outcomes none =
-      ascending_same (outcomes_at initial outcome entries k) [] kept_ascends tt
-      (λ w m. let r = kept_member w m in absurd (none w r.0 r.1)) (λ w m. absurd (member_nil w m))
+  missing_outcomes none = no_members (outcomes_at initial outcome entries k) (λ w m. let r = kept_member w m in none w r.0 r.1)
 
   pub undeclared_outcomes : (u : ℤ) → entry_at entries k ≡ Some u → (Has initial outcome u → ⊥) → outcomes_at initial outcome entries k ≡ []
   undeclared_outcomes u at missing = missing_outcomes (λ w has e. missing (member_same (values_of initial outcome) w u (sym (same_Some u w (sym at ∙ e))) has))
@@ -216,7 +216,7 @@ module _ (c : ElementRule) (m : Con) (n : ℕ) (is : element_of c ≡ m) (formed
   pub index_declared : c.index < n
   index_declared = All-contains (λ y. y < n) (c.outcome ∷ c.index ∷ []) c.index own_formed.declared (member_there c.outcome (c.index ∷ []) c.index (member_here c.index []))
 
-  pub few_entries : length c.entries ≤ 256
+  pub few_entries : length c.entries ≤ MOST_ROWS
   few_entries = own_formed.shaped.0.1
 
   module _ (d : Domains) (x : ℕ) (v : ℤ) where
@@ -231,14 +231,14 @@ module _ (c : ElementRule) (m : Con) (n : ℕ) (is : element_of c ≡ m) (formed
         subst (λ k. LacksSupport d k x v) is (subst (λ z. LacksSupport d (element_of c) z v) (sym e)
         (lacking_by_part d (element_of c) (ElementPart c.outcome c.index c.entries) c.outcome v refl (member_here c.outcome (c.index ∷ [])) (λ s. none (support_outcome c d v s))))
 
-    pub index_supported : Contains (scope m) x → (x ≡ c.outcome → ⊥) → Has d x v → IsOpen d c v → IsSupported d m x v
+    pub index_supported : Contains (scope m) x → (x ≡ c.outcome → ⊥) → Has d x v → IsEntryOpen d c v → IsSupported d m x v
     index_supported over ne has r =
         let e = index_is x over ne in
         subst (λ k. IsSupported d k x v) is (subst (λ z. IsSupported d (element_of c) z v) e
         (supported_by_part d (element_of c) (ElementPart c.outcome c.index c.entries) c.index v refl
         (index_support c d v own_formed.distinct (subst (λ z. Has d z v) (sym e) has) r)))
 
-    pub index_lacking : Contains (scope m) x → (x ≡ c.outcome → ⊥) → (IsOpen d c v → ⊥) → LacksSupport d m x v
+    pub index_lacking : Contains (scope m) x → (x ≡ c.outcome → ⊥) → (IsEntryOpen d c v → ⊥) → LacksSupport d m x v
     index_lacking over ne none =
         let e = index_is x over ne in
         subst (λ k. LacksSupport d k x v) is (subst (λ z. LacksSupport d (element_of c) z v) e
@@ -260,7 +260,7 @@ module _ (entries : List ℤ) (w : ℤ) (places : List ℕ) (stands : (k : ℕ) 
   place_at : (i : ℕ) → i < length places → slice_get entries (get_or places i 0) ≡ Some w
   place_at i lt = stands (get_or places i 0) (i, lt, get_or_default places i (get_or places i 0) 0 lt)
 
-  pub place_few : (i : ℕ) → i < length places → length entries ≤ 256 → get_or places i 0 < 256
+  pub place_few : (i : ℕ) → i < length places → length entries ≤ MOST_ROWS → get_or places i 0 < MOST_ROWS
   place_few i lt few = let g = slice_get_within entries (get_or places i 0) w (place_at i lt) in omega arith
 
 module _ (d : Domains) (c : ElementRule) (w : ℤ) (places : List ℕ) (i : ℕ) where
