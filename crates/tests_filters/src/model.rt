@@ -3,10 +3,10 @@ ghost use Rattle.std.specs.Prelude.{◌≡◌, [], ◌∷◌, length, IfOk};
 ghost use Rattle.palm_model.specs.Constraint.{IsWellFormed};
 ghost use Rattle.palm_model.specs.Domains.{AllAscend};
 
-use super::scratch;
-use crate::constraint::{Con, ConList, DomainList, Op, Target, Term, TermList};
-use crate::parts::parts_of;
 use palm_base::{NoMemory, Value, ValueList, Var, VarList};
+use palm_model::{
+    Con, ConList, DomainList, Op, Target, Term, TermList, parts_of, scratch,
+};
 use std::alloc::Global;
 use std::test::Fail;
 
