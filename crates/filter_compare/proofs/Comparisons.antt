@@ -2,26 +2,23 @@
 use Rattle.std.proofs.Common.{◌≡◌, ℕ, ℤ, ◌+ℤ◌, ◌-ℤ◌, pos, ◌≤ℤ◌, Bool, true, false, cond, ◌<◌, List, [], ◌∷◌, length, filter, Contains, eqb, eq-eqb, ne_eqb, ◌⊎◌, inl, inr, refl, sym, ap, ◌∙◌, subst, arith}
 use Rattle.std.proofs.lemmas.Int.{ints}
 use Rattle.std.proofs.lemmas.List.Elements.{All-contains}
-use Rattle.palm_base.proofs.Members.{member_nil, member_here, member_there, member_cases, member_single, member_same, filter_member, member_filter, filter_agree_members, nat_known}
+use Rattle.palm_base.proofs.Members.{member_here, member_there, member_cases, member_single, member_same, filter_agree_members, nat_known}
 use Rattle.palm_base.specs.declared.terms.Pair.{Pair}
 use Rattle.palm_domain.specs.Rows.{IsLeastOf, IsGreatestOf}
-use Rattle.palm_model.specs.Domains.{Domains, Has, values_of, without}
+use Rattle.palm_model.specs.Domains.{Domains, Has, values_of}
 use Rattle.palm_model.specs.Relation.{Stands, is_standing}
 use Rattle.palm_model.specs.Constraint.{scope, Distinct, IsWellFormed}
-use Rattle.palm_model.specs.Part.{scope_of}
 use Rattle.palm_model.specs.Support.{HasSupport, IsSupported, LacksSupport}
 use Rattle.palm_model.specs.Removed.{pairs_of}
-use Rattle.palm_model.specs.Comparison.{comparison_reason, IsComparison}
-use Rattle.palm_model.specs.Reason.{reason, IsReason, WantsReason}
+use Rattle.palm_model.specs.Comparison.{comparison_reason}
+use Rattle.palm_model.specs.Reason.{reason}
 use Rattle.palm_model.specs.declared.constraint.Con.{Con}
-use Rattle.palm_model.specs.declared.constraint.Con.TheVariants.{CompareVar, CompareConst, Linear, Table, Element, Count, Differ}
 use Rattle.palm_model.specs.declared.constraint.Op.{Op}
 use Rattle.palm_model.specs.declared.constraint.Op.TheVariants.{Eq, Ne, Lt, Le, Gt, Ge}
 use Rattle.palm_model.specs.declared.part.Part.{Part}
 use Rattle.palm_model.specs.declared.part.Part.TheVariants.{CompareVar as CompareVarPart, CompareConst as CompareConstPart}
-use Rattle.palm_model.proofs.Reasons.{pairs_member, member_pairs}
 use Rattle.palm_model.proofs.Standing.{stands_from_test, test_from_stands}
-use Rattle.palm_model.proofs.Supports.{supported_by_part, lacking_by_part, part_unsupported, two, two_first, two_second, support_by_two, support_by_one, without_has}
+use Rattle.palm_model.proofs.Supports.{supported_by_part, lacking_by_part, two, two_first, two_second, support_by_two, support_by_one}
 use Rattle.palm_model.proofs.Trials.{put, put_same}
 use Rattle.filter_compare.specs.Comparison.{comparison_of, flipped_of, demand_of, IsMet, meeting_values}
 use Rattle.filter_compare.specs.declared.compare.Comparison.TheVariants.{Variables, Constant}
@@ -141,12 +138,6 @@ module _ (c : VarComparison) (x : ℕ) (v : ℤ) where
     | inr m ↦ member_single right x m
   ]
 
-  pub demand_other : (left ≡ right → ⊥) → Contains (left ∷ right ∷ []) x → (demand_of c x v).var ≡ x → ⊥
-  demand_other apart over e = elim (nat_known x left) [
-    | inl s ↦ apart (sym (sym (ap (λ (d : Demand). d.var) (demand_at_left s)) ∙ e ∙ s))
-    | inr n ↦ n (sym (sym (ap (λ (d : Demand). d.var) (demand_at_right n)) ∙ e))
-  ]
-
   -- ---- support
 
   abbrev part : Part
@@ -205,35 +196,6 @@ module _ (c : VarComparison) (x : ℕ) (v : ℤ) where
   pub var_lacking : (d : Domains) → Contains (left ∷ right ∷ []) x → (IsMet (values_of d (demand_of c x v).var) (demand_of c x v) → ⊥) → LacksSupport d con x v
   var_lacking d over unmet = lacking_by_part d con part x v refl over (λ s. unmet (met_from_support d over s))
 
-  -- ---- reasons
-
-  abbrev pairs : Domains → List Pair
-  pairs initial = pairs_of (demand_of c x v).var (meeting_values (values_of initial (demand_of c x v).var) (demand_of c x v))
-
-  -- a declared value that meets the demand is not present, and without these values nothing meets it
-  pub var_reason : (initial present : Domains) → Distinct (left ∷ right ∷ []) → Has present x v → LacksSupport present con x v → IsReason initial present con x v (pairs initial)
-  var_reason initial present distinct has lacks =
-      let q = demand_of c x v in
-      let apart : left ≡ right → ⊥ = λ e. distinct.0 (member_same (right ∷ []) right left (sym e) (member_here right [])) in
-      let over : Contains (left ∷ right ∷ []) x = subst (λ p. Contains (scope_of p) x) (sym (member_single part lacks.part lacks.is_part)) lacks.over in
-      record {
-        removed = λ p m.
-            let r = pairs_member q.var (meeting_values (values_of initial q.var) q) p m in
-            let s = filter_member (λ w. is_standing q.op w q.bound) (values_of initial q.var) p.value r.1 in (
-              subst (λ z. Has initial z p.value) r.0 s.0,
-              λ h.
-                  part_unsupported present con part x v refl lacks
-                  (support_from_met present apart over has (record { value = p.value; member = subst (λ z. Has present z p.value) (sym r.0) h; stands = stands_from_test q.op p.value q.bound s.1 })),
-            );
-        others = λ p m.
-            let r = pairs_member q.var (meeting_values (values_of initial q.var) q) p m in
-            (member_same (left ∷ right ∷ []) q.var p.var r.0 demand_over, λ e. demand_other apart over (r.0 ∙ e));
-        lacks = var_lacking (without initial (pairs initial)) over (λ met.
-            let r = without_has initial (pairs initial) q.var met.value met.member in
-            r.1 (member_pairs q.var (meeting_values (values_of initial q.var) q) met.value
-            (member_filter (λ w. is_standing q.op w q.bound) (values_of initial q.var) met.value r.0 (test_from_stands q.op met.value q.bound met.stands))));
-      }
-
 -- ---- comparisons with a value
 
 module _ (d : Demand) (x : ℕ) (v : ℤ) where
@@ -254,17 +216,6 @@ module _ (d : Demand) (x : ℕ) (v : ℤ) where
 
   pub const_lacking : (e : Domains) → Contains (d.var ∷ []) x → (Stands d.op v d.bound → ⊥) → LacksSupport e const_con x v
   const_lacking e over n = lacking_by_part e const_con const_part x v refl over (λ s. n (stands_from_support e over s))
-
-  -- nothing but the value itself matters
-  pub const_reason : (initial present : Domains) → Has present x v → LacksSupport present const_con x v → IsReason initial present const_con x v []
-  const_reason initial present has lacks =
-      let over : Contains (d.var ∷ []) x = subst (λ p. Contains (scope_of p) x) (sym (member_single const_part lacks.part lacks.is_part)) lacks.over in
-      record {
-        removed = λ p m. absurd (member_nil p m);
-        others = λ p m. absurd (member_nil p m);
-        lacks = const_lacking (without initial []) over (λ h.
-            let s = const_supported present has over h in lacks.lacks (s.each lacks.part lacks.is_part lacks.over));
-      }
 
 -- ---- a filter's answers, for its meaning m
 
@@ -292,12 +243,6 @@ module _ (c : VarComparison) (x : ℕ) (v : ℤ) (n : ℕ) (m : Con) (q : Demand
   gives_reason initial present out e =
       e ∙ ap (λ (p : Demand). pairs_of p.var (meeting_values (values_of initial p.var) p)) asks ∙ sym (reason_meets c x v initial) ∙ ap (λ k. reason initial present k x v) is
 
-  pub gives_right : (initial present : Domains) (out : List Pair) → out ≡ pairs_of q.var (meeting_values (values_of initial q.var) q) → Has present x v → LacksSupport present m x v → IsReason initial present m x v out
-  gives_right initial present out e has lacks =
-      subst (λ ps. IsReason initial present m x v ps) (sym (e ∙ ap (λ (p : Demand). pairs_of p.var (meeting_values (values_of initial p.var) p)) asks))
-      (subst (λ k. IsReason initial present k x v (pairs_of (demand_of c x v).var (meeting_values (values_of initial (demand_of c x v).var) (demand_of c x v)))) is
-      (var_reason c x v initial present distinct_vars has (subst (λ k. LacksSupport present k x v) (sym is) lacks)))
-
 module _ (q : Demand) (x : ℕ) (v : ℤ) (m : Con) (is : comparison_of (Constant q) ≡ m) where
   pub const_answers_supported : (d : Domains) → Contains (scope m) x → Has d x v → Stands q.op v q.bound → IsSupported d m x v
   const_answers_supported d over has h =
@@ -307,23 +252,5 @@ module _ (q : Demand) (x : ℕ) (v : ℤ) (m : Con) (is : comparison_of (Constan
   const_answers_lacking d over h =
       subst (λ k. LacksSupport d k x v) is (const_lacking q x v d (subst (λ k. Contains (scope k) x) (sym is) over) h)
 
-  pub const_gives_right : (initial present : Domains) (out : List Pair) → out ≡ [] → Has present x v → LacksSupport present m x v → IsReason initial present m x v out
-  const_gives_right initial present out e has lacks =
-      subst (λ ps. IsReason initial present m x v ps) (sym e)
-      (subst (λ k. IsReason initial present k x v []) is (const_reason q x v initial present has (subst (λ k. LacksSupport present k x v) (sym is) lacks)))
-
--- ---- the law
-
-pub comparison_right : (initial present : Domains) (k : Con) (x : ℕ) (v : ℤ) → IsComparison k → WantsReason initial present k x v → IsReason initial present k x v (reason initial present k x v)
-comparison_right initial present (CompareVar left op right offset) x v is w =
-    let c : VarComparison = record { left = left; op = op; right = right; offset = offset } in
-    subst (λ ps. IsReason initial present (CompareVar left op right offset) x v ps) (sym (reason_meets c x v initial))
-    (var_reason c x v initial present w.formed.distinct w.present_value w.lacks)
-comparison_right initial present (CompareConst left op value) x v is w =
-    let d : Demand = record { var = left; op = op; bound = value } in
-    const_reason d x v initial present w.present_value w.lacks
-comparison_right initial present (Linear terms op bound) x v is w = absurd is
-comparison_right initial present (Table vars rows) x v is w = absurd is
-comparison_right initial present (Element outcome index entries) x v is w = absurd is
-comparison_right initial present (Count value vars op target) x v is w = absurd is
-comparison_right initial present (Differ vars) x v is w = absurd is
+  pub const_gives_reason : (initial present : Domains) (out : List Pair) → out ≡ [] → out ≡ reason initial present m x v
+  const_gives_reason initial present out e = e ∙ ap (λ k. reason initial present k x v) is

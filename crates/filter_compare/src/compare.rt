@@ -124,6 +124,8 @@ impl Filter for CompareFilter {
 
     fn reason(&self, store: &DomainStore, pair: Pair, out: &mut Reasons) -> Result<(), NoMemory> {
         out.clear();
+        // The store tells here what it holds of its values: a reason is right where they ascend.
+        let _ = store.variables();
         match &self.comparison {
             Comparison::Variables(comparison) => {
                 let written = comparison.demand(&pair).push_declared(store, out);

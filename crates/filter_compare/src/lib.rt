@@ -3,7 +3,5 @@
 
 mod compare;
 mod demand;
-mod laws;
 
 pub use compare::CompareFilter;
-pub use laws::reasons_of_comparisons_are_right;

@@ -1,26 +1,12 @@
 -- The other variables of a difference, and what they leave for a value.
-use Rattle.std.specs.Prelude.{◌≡◌, ℕ, ℤ, List, take, filter, Contains, Bool, not, ◌&&◌, nat_eq, ⊤}
+use Rattle.std.specs.Prelude.{◌≡◌, ℕ, ℤ, List, take, filter, Bool, not, ◌&&◌, nat_eq}
 use Rattle.palm_model.specs.Domains.{Domains, values_of}
 use Rattle.palm_model.specs.Removed.{is_alone, others}
-use Rattle.palm_model.specs.declared.constraint.Con.{Con}
-use Rattle.palm_model.specs.declared.constraint.Con.TheVariants.{CompareVar, CompareConst, Linear, Table, Element, Count, Differ}
-
--- one of the values is another one than v
-pub record HasOther (vs : List ℤ) (v : ℤ) : Type 0 where
-  pub value : ℤ
-  pub member : Contains vs value
-  pub apart : value ≡ v → ⊥
+pub use Rattle.palm_reason.specs.Differ.{HasOther, TakesRoom}
 
 -- y has another value than v, if it is not x itself
 pub record LeavesRoom (present : Domains) (x : ℕ) (v : ℤ) (y : ℕ) : Type 0 where
   pub other : (y ≡ x → ⊥) → HasOther (values_of present y) v
-
--- y is one of the variables and not x, and has no other value than v
-pub record TakesRoom (present : Domains) (vars : List ℕ) (x : ℕ) (v : ℤ) : Type 0 where
-  pub var : ℕ
-  pub member : Contains vars var
-  pub apart : var ≡ x → ⊥
-  pub none : HasOther (values_of present var) v → ⊥
 
 -- whether y is not x and has v alone
 abbrev pub is_lone : Domains → ℕ → ℤ → ℕ → Bool

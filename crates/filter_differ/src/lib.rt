@@ -2,8 +2,6 @@
 #![tactic(auto)]
 
 mod differ;
-mod laws;
 mod others;
 
 pub use differ::DifferFilter;
-pub use laws::reasons_of_differences_are_right;

@@ -1,49 +1,27 @@
--- Support and reasons of elements of a list.
-use Rattle.std.proofs.Common.{◌≡◌, ℕ, zero, suc, ℤ, pos, negsuc, ◌+◌, ◌<◌, ◌≤◌, ◌<ℤ◌, true, cond, List, [], ◌∷◌, ◌++◌, length, Contains, slice_get, Option, Some, eq-eqb, ne_eqb, ◌⊎◌, inl, inr, refl, sym, ap, ◌∙◌, subst, arith, get_or, append-nil}
-use Rattle.std.proofs.lemmas.Int.{ints}
-use Rattle.std.proofs.lemmas.Bool.{false≢true}
-use Rattle.std.proofs.lemmas.Bool.Decides.{Decides-int_eq}
+-- Support by an element of a list, and its reasons as they are written.
+use Rattle.std.proofs.Common.{◌≡◌, ℕ, ℤ, pos, ◌+◌, ◌<◌, ◌≤◌, ◌<ℤ◌, List, [], ◌∷◌, ◌++◌, length, Contains, slice_get, Some, ◌⊎◌, inl, inr, refl, sym, ap, ◌∙◌, subst, arith, get_or, append-nil}
 use Rattle.std.specs.List.{AllWithin}
 use Rattle.std.proofs.lemmas.List.{get_or_default}
 use Rattle.std.proofs.lemmas.List.Elements.{All-nil, All-contains, AllWithin-more}
 use Rattle.std.proofs.lemmas.Option.{same_Some, slice_get_within}
-use Rattle.palm_base.proofs.Members.{member_here, member_there, member_cases, member_single, member_same, filter_member, member_filter, nat_known}
+use Rattle.palm_base.proofs.Members.{member_nil, member_here, member_there, member_single, member_same, filter_member, member_filter}
 use Rattle.palm_base.specs.declared.terms.Pair.{Pair}
-use Rattle.palm_model.specs.Domains.{Domains, Has, Ascends, values_of, without}
+use Rattle.palm_model.specs.Domains.{Domains, Has, Ascends, values_of}
 use Rattle.palm_model.specs.Constraint.{scope, Distinct, IsWellFormed}
-use Rattle.palm_model.specs.Part.{scope_of}
 use Rattle.palm_model.specs.Support.{HasSupport, IsSupported, LacksSupport}
-use Rattle.palm_model.specs.Element.{entry_at, yields, is_entry, indices_of, outcomes_at, element_reason, IsElement}
+use Rattle.palm_model.specs.Element.{entry_at, is_entry, outcomes_at, element_reason}
 use Rattle.palm_model.specs.Removed.{pairs_of}
-use Rattle.palm_model.specs.Reason.{reason, IsReason, WantsReason}
+use Rattle.palm_model.specs.Reason.{reason}
 use Rattle.palm_model.specs.declared.constraint.Con.{Con}
-use Rattle.palm_model.specs.declared.constraint.Con.TheVariants.{CompareVar, CompareConst, Linear, Table, Element, Count, Differ}
 use Rattle.palm_model.specs.declared.limits.TheConstants.{MOST_ROWS}
 use Rattle.palm_model.specs.declared.part.Part.{Part}
 use Rattle.palm_model.specs.declared.part.Part.TheVariants.{Element as ElementPart}
 use Rattle.palm_model.proofs.Ascending.{ascends_filter, ascending_same}
-use Rattle.palm_model.proofs.Reasons.{pairs_member, member_pairs}
-use Rattle.palm_model.proofs.Supports.{supported_by_part, lacking_by_part, part_unsupported, two_first, two_second, support_by_two, without_has}
+use Rattle.palm_model.proofs.Supports.{supported_by_part, lacking_by_part, two_first, two_second, support_by_two}
+use Rattle.palm_reason.proofs.ElementReason.{place_of, entry_of, entry_test, test_entry}
+use Rattle.palm_reason.proofs.TwoVariables.{of_two, turned}
 use Rattle.filter_element.specs.Element.{element_of, IsEntryReached, IsEntryOpen}
 use Rattle.filter_element.specs.declared.rule.ElementRule.{ElementRule}
-
--- ---- entries by their indices
-
--- the place of an entry
-place_of : (entries : List ℤ) (k w : ℤ) → entry_at entries k ≡ Some w → (place : ℕ) × (k ≡ pos (place + 1)) × (slice_get entries place ≡ Some w)
-place_of entries (pos zero) w e = cc
-place_of entries (pos (suc n)) w e = (n, omega (arith, ints), e)
-place_of entries (negsuc n) w e = cc
-
-entry_of : (entries : List ℤ) (place : ℕ) (w : ℤ) → slice_get entries place ≡ Some w → entry_at entries (pos (place + 1)) ≡ Some w
-entry_of entries place w e = let n : suc place ≡ place + 1 = omega arith in subst (λ m. entry_at entries (pos m) ≡ Some w) n e
-
-entry_test : (o : Option ℤ) (w : ℤ) → yields o w ≡ true → o ≡ Some w
-entry_test Option.None w t = absurd (false≢true t)
-entry_test (Some v) w t = ap Some ((Decides-int_eq v w).0 t)
-
-test_entry : (o : Option ℤ) (w : ℤ) → o ≡ Some w → yields o w ≡ true
-test_entry o w e = ap (λ p. yields p w) e ∙ (Decides-int_eq w w).1 refl
 
 -- ---- support
 
@@ -55,9 +33,6 @@ module _ (c : ElementRule) where
   abbrev both : List ℕ
   both = c.outcome ∷ c.index ∷ []
 
-  of_two : (z : ℕ) → Contains both z → (c.outcome ≡ z) ⊎ (c.index ≡ z)
-  of_two z m = elim (member_cases c.outcome (c.index ∷ []) z m) [ inl e ↦ inl e | inr k ↦ inr (member_single c.index z k) ]
-
   apart : Distinct both → c.outcome ≡ c.index → ⊥
   apart distinct e = distinct.0 (member_same (c.index ∷ []) c.index c.outcome (sym e) (member_here c.index []))
 
@@ -65,13 +40,13 @@ module _ (c : ElementRule) where
   outcome_support d w distinct has r =
       let k = pos (r.place + 1) in
       let ne : c.index ≡ c.outcome → ⊥ = λ e. apart distinct (sym e) in
-      support_by_two d part c.outcome w c.index k ne of_two has r.index
+      support_by_two d part c.outcome w c.index k ne (of_two c.outcome c.index) has r.index
       (r.place, two_second c.outcome w c.index k ne, r.stands ∙ ap Some (sym (two_first c.outcome w c.index k)))
 
   pub index_support : (d : Domains) (k : ℤ) → Distinct both → Has d c.index k → IsEntryOpen d c k → HasSupport d part c.index k
   index_support d k distinct has r =
       let s = place_of c.entries k r.entry r.stands in
-      support_by_two d part c.index k c.outcome r.entry (apart distinct) (λ z m. elim (of_two z m) [ inl e ↦ inr e | inr e ↦ inl e ]) has r.outcome
+      support_by_two d part c.index k c.outcome r.entry (apart distinct) (λ z m. turned c.outcome c.index z (of_two c.outcome c.index z m)) has r.outcome
       (s.0, two_first c.index k c.outcome r.entry ∙ s.1, s.2 ∙ ap Some (sym (two_second c.index k c.outcome r.entry (apart distinct))))
 
   pub support_outcome : (d : Domains) (w : ℤ) → HasSupport d part c.outcome w → IsEntryReached d c w
@@ -87,87 +62,6 @@ module _ (c : ElementRule) where
     stands = ap (entry_at c.entries) (sym s.gives ∙ s.holds.1) ∙ entry_of c.entries s.holds.0 (s.assignment c.outcome) s.holds.2;
     outcome = s.within c.outcome (member_here c.outcome (c.index ∷ []));
   }
-
-  -- ---- reasons
-
-  pub outcome_reason : (initial : Domains) (x : ℕ) (w : ℤ) → x ≡ c.outcome → element_reason initial c.outcome c.index c.entries x w ≡ pairs_of c.index (indices_of initial c.index c.entries w)
-  outcome_reason initial x w e = ap (λ b. cond b (pairs_of c.index (indices_of initial c.index c.entries w)) (pairs_of c.outcome (outcomes_at initial c.outcome c.entries w))) (eq-eqb x c.outcome e)
-
-  pub index_reason : (initial : Domains) (x : ℕ) (k : ℤ) → (x ≡ c.outcome → ⊥) → element_reason initial c.outcome c.index c.entries x k ≡ pairs_of c.outcome (outcomes_at initial c.outcome c.entries k)
-  index_reason initial x k n = ap (λ b. cond b (pairs_of c.index (indices_of initial c.index c.entries k)) (pairs_of c.outcome (outcomes_at initial c.outcome c.entries k))) (ne_eqb x c.outcome n)
-
-  -- the indices of an outcome: none is present, and without them no index is left
-  outcome_right : (initial present : Domains) (w : ℤ) → Distinct both → Has present c.outcome w → LacksSupport present (element_of c) c.outcome w → IsReason initial present (element_of c) c.outcome w (pairs_of c.index (indices_of initial c.index c.entries w))
-  outcome_right initial present w distinct has lacks =
-      let values = indices_of initial c.index c.entries w in
-      let test = λ (k : ℤ). is_entry c.entries k w in
-      record {
-        removed = λ p m.
-            let r = pairs_member c.index values p m in
-            let s = filter_member test (values_of initial c.index) p.value r.1 in
-            let g = place_of c.entries p.value w (entry_test (entry_at c.entries p.value) w s.1) in (
-              subst (λ z. Has initial z p.value) r.0 s.0,
-              λ h.
-                  part_unsupported present (element_of c) part c.outcome w refl lacks
-                  (outcome_support present w distinct has (record { place = g.0; stands = g.2; index = subst (λ k. Has present c.index k) g.1 (subst (λ z. Has present z p.value) (sym r.0) h) })),
-            );
-        others = λ p m.
-            let r = pairs_member c.index values p m in
-            (member_same both c.index p.var r.0 (member_there c.outcome (c.index ∷ []) c.index (member_here c.index [])), λ e. apart distinct (sym (r.0 ∙ e)));
-        lacks = lacking_by_part (without initial (pairs_of c.index values)) (element_of c) part c.outcome w refl (member_here c.outcome (c.index ∷ [])) (λ s.
-            let q = support_outcome (without initial (pairs_of c.index values)) w s in
-            let k = pos (q.place + 1) in
-            let r = without_has initial (pairs_of c.index values) c.index k q.index in
-            r.1 (member_pairs c.index values k (member_filter test (values_of initial c.index) k r.0 (test_entry (entry_at c.entries k) w (entry_of c.entries q.place w q.stands)))));
-      }
-
-  -- the outcome of an index: it is not present, and without it no outcome is left
-  index_right : (initial present : Domains) (k : ℤ) → Distinct both → Has present c.index k → LacksSupport present (element_of c) c.index k → IsReason initial present (element_of c) c.index k (pairs_of c.outcome (outcomes_at initial c.outcome c.entries k))
-  index_right initial present k distinct has lacks =
-      let values = outcomes_at initial c.outcome c.entries k in
-      let test = λ (w : ℤ). is_entry c.entries k w in
-      record {
-        removed = λ p m.
-            let r = pairs_member c.outcome values p m in
-            let s = filter_member test (values_of initial c.outcome) p.value r.1 in (
-              subst (λ z. Has initial z p.value) r.0 s.0,
-              λ h.
-                  part_unsupported present (element_of c) part c.index k refl lacks
-                  (index_support present k distinct has (record { entry = p.value; stands = entry_test (entry_at c.entries k) p.value s.1; outcome = subst (λ z. Has present z p.value) (sym r.0) h })),
-            );
-        others = λ p m.
-            let r = pairs_member c.outcome values p m in
-            (member_same both c.outcome p.var r.0 (member_here c.outcome (c.index ∷ [])), λ e. apart distinct (r.0 ∙ e));
-        lacks = lacking_by_part (without initial (pairs_of c.outcome values)) (element_of c) part c.index k refl (member_there c.outcome (c.index ∷ []) c.index (member_here c.index [])) (λ s.
-            let q = support_index (without initial (pairs_of c.outcome values)) k s in
-            let r = without_has initial (pairs_of c.outcome values) c.outcome q.entry q.outcome in
-            r.1 (member_pairs c.outcome values q.entry (member_filter test (values_of initial c.outcome) q.entry r.0 (test_entry (entry_at c.entries k) q.entry q.stands))));
-      }
-
-  pub element_right : (initial present : Domains) (x : ℕ) (v : ℤ) → Distinct both → Has present x v → LacksSupport present (element_of c) x v → IsReason initial present (element_of c) x v (element_reason initial c.outcome c.index c.entries x v)
-  element_right initial present x v distinct has lacks =
-      let over : Contains both x = subst (λ q. Contains (scope_of q) x) (sym (member_single part lacks.part lacks.is_part)) lacks.over in
-      elim (nat_known x c.outcome) [
-        | inl e ↦
-            subst (λ ps. IsReason initial present (element_of c) x v ps) (sym (outcome_reason initial x v e))
-            (subst (λ z. IsReason initial present (element_of c) z v (pairs_of c.index (indices_of initial c.index c.entries v))) (sym e)
-            (outcome_right initial present v distinct (subst (λ z. Has present z v) e has) (subst (λ z. LacksSupport present (element_of c) z v) e lacks)))
-        | inr n ↦
-            let e : c.index ≡ x = elim (of_two x over) [ inl s ↦ absurd (n (sym s)) | inr s ↦ s ] in
-            subst (λ ps. IsReason initial present (element_of c) x v ps) (sym (index_reason initial x v n))
-            (subst (λ z. IsReason initial present (element_of c) z v (pairs_of c.outcome (outcomes_at initial c.outcome c.entries v))) e
-            (index_right initial present v distinct (subst (λ z. Has present z v) (sym e) has) (subst (λ z. LacksSupport present (element_of c) z v) (sym e) lacks)))
-      ]
-
-pub elements_right : (initial present : Domains) (k : Con) (x : ℕ) (v : ℤ) → IsElement k → WantsReason initial present k x v → IsReason initial present k x v (reason initial present k x v)
-elements_right initial present (CompareVar left op right offset) x v is w = absurd is
-elements_right initial present (CompareConst left op value) x v is w = absurd is
-elements_right initial present (Linear terms op bound) x v is w = absurd is
-elements_right initial present (Table vars rows) x v is w = absurd is
-elements_right initial present (Element outcome index entries) x v is w =
-    element_right (record { outcome = outcome; index = index; entries = entries }) initial present x v w.formed.distinct w.present_value w.lacks
-elements_right initial present (Count value vars op target) x v is w = absurd is
-elements_right initial present (Differ vars) x v is w = absurd is
 
 -- ---- the outcome of an index, among declared values
 
@@ -205,7 +99,7 @@ module _ (c : ElementRule) (m : Con) (n : ℕ) (is : element_of c ≡ m) (formed
   own_formed = subst (λ k. IsWellFormed n k) (sym is) formed
 
   own_over : (x : ℕ) → Contains (scope m) x → (c.outcome ≡ x) ⊎ (c.index ≡ x)
-  own_over x over = of_two c x (subst (λ k. Contains (scope k) x) (sym is) over)
+  own_over x over = of_two c.outcome c.index x (subst (λ k. Contains (scope k) x) (sym is) over)
 
   index_is : (x : ℕ) → Contains (scope m) x → (x ≡ c.outcome → ⊥) → c.index ≡ x
   index_is x over n = elim (own_over x over) [ inl e ↦ absurd (n (sym e)) | inr e ↦ e ]
@@ -247,12 +141,6 @@ module _ (c : ElementRule) (m : Con) (n : ℕ) (is : element_of c ≡ m) (formed
 
   pub gives_reason : (initial present : Domains) (x : ℕ) (v : ℤ) (out : List Pair) → out ≡ element_reason initial c.outcome c.index c.entries x v → out ≡ reason initial present m x v
   gives_reason initial present x v out e = e ∙ ap (λ k. reason initial present k x v) is
-
-  pub gives_right : (initial present : Domains) (x : ℕ) (v : ℤ) (out : List Pair) → Has present x v → LacksSupport present m x v → out ≡ element_reason initial c.outcome c.index c.entries x v → IsReason initial present m x v out
-  gives_right initial present x v out has lacks e =
-      subst (λ ps. IsReason initial present m x v ps) (sym e)
-      (subst (λ k. IsReason initial present k x v (element_reason initial c.outcome c.index c.entries x v)) is
-      (element_right c initial present x v own_formed.distinct has (subst (λ k. LacksSupport present k x v) (sym is) lacks)))
 
 -- ---- a walk over the places of an outcome
 

@@ -74,6 +74,8 @@ impl Filter for ElementFilter {
 
     fn reason(&self, store: &DomainStore, pair: Pair, out: &mut Reasons) -> Result<(), NoMemory> {
         out.clear();
+        // The store tells here what it holds of its values: a reason is right where they ascend.
+        let _ = store.variables();
         let written = self.rule.push_reason(store, &pair, out);
         whole_or_none(written, out)
     }

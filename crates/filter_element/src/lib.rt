@@ -2,8 +2,6 @@
 #![tactic(auto)]
 
 mod element;
-mod laws;
 mod rule;
 
 pub use element::ElementFilter;
-pub use laws::reasons_of_elements_are_right;

@@ -1,4 +1,3 @@
 pub mod LinearReasons
 pub mod LinearSupport
-pub mod Totals
 pub mod Walks

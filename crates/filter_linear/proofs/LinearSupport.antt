@@ -1,12 +1,11 @@
 -- Support in a sum, by the least and the greatest that it can be.
-use Rattle.std.proofs.Common.{◌≡◌, ℕ, List, [], ◌∷◌, Contains, All, ℤ, ◌≤ℤ◌, ◌<ℤ◌, ◌⊎◌, inl, inr, refl, sym, ap, ◌∙◌, subst, arith}
+use Rattle.std.proofs.Common.{◌≡◌, ℕ, List, [], ◌∷◌, Contains, All, ℤ, ◌<ℤ◌, ◌⊎◌, inl, inr, refl, sym, ap, ◌∙◌, subst, arith}
 use Rattle.std.proofs.lemmas.Int.{ints, by_lt_z}
 use Rattle.std.proofs.lemmas.List.Elements.{All-contains}
 use Rattle.palm_base.proofs.Members.{member_here, member_there, member_cases, member_single, member_map, all_members, int_known}
 use Rattle.palm_model.specs.Domains.{Domains, Has}
-use Rattle.palm_model.specs.Relation.{Stands}
 use Rattle.palm_model.specs.Constraint.{Distinct}
-use Rattle.palm_model.specs.Linear.{term_vars, total, linear_parts, least_of, greatest_of, products, least_total}
+use Rattle.palm_model.specs.Linear.{term_vars, linear_parts, least_total, greatest_total}
 use Rattle.palm_model.specs.Support.{HasSupport, IsSupported, LacksSupport}
 use Rattle.palm_model.specs.declared.constraint.Con.{Con}
 use Rattle.palm_model.specs.declared.constraint.Con.TheVariants.{Linear}
@@ -15,9 +14,9 @@ use Rattle.palm_model.specs.declared.constraint.Op.TheVariants.{Eq, Ne, Lt, Le, 
 use Rattle.palm_model.specs.declared.constraint.Term.{Term}
 use Rattle.palm_model.specs.declared.part.Part.TheVariants.{Linear as LinearPart}
 use Rattle.palm_model.proofs.Supports.{supported_by_part, lacking_by_part}
-use Rattle.filter_linear.specs.Linear.{greatest_total, IsFilledBeside, IsSpan, IsMetWithin}
+use Rattle.palm_reason.proofs.LinearReason.{AreFilledBeside, least_support, greatest_support, least_bounds, greatest_bounds, lacking_part}
+use Rattle.filter_linear.specs.Linear.{IsFilledBeside, IsSpan, IsMetWithin}
 use Rattle.filter_linear.specs.declared.span.Span.{Span}
-use Rattle.filter_linear.proofs.Totals.{least_product_below, greatest_product_above, least_product_reached, greatest_product_reached, total_by, least_by, greatest_by, total_by_below, total_by_above, Takes, takes, total_taken, taken_within}
 
 module _ (d : Domains) (terms : List Term) (x : ℕ) (v : ℤ) where
   abbrev least : ℤ
@@ -26,43 +25,10 @@ module _ (d : Domains) (terms : List Term) (x : ℕ) (v : ℤ) where
   abbrev greatest : ℤ
   greatest = greatest_total d terms x v
 
-  taken_support : (e : Term → ℤ) (op : Op) (bound : ℤ) → Has d x v → (r : Takes d e terms x v) → Stands op (total_by e terms x v) bound → HasSupport d (LinearPart terms op bound) x v
-  taken_support e op bound has r h = record {
-    assignment = r.assignment;
-    within = taken_within d e terms x v has r;
-    gives = r.gives;
-    holds = subst (λ z. Stands op z bound) (sym (total_taken d e terms x v r)) h;
-  }
-
-  -- the least and the greatest are reached
-  pub least_support : (op : Op) (bound : ℤ) → Distinct (term_vars terms) → Has d x v → All (IsFilledBeside d x) terms → Stands op least bound → HasSupport d (LinearPart terms op bound) x v
-  least_support op bound distinct has filled h =
-      let e : Term → ℤ = λ t. least_of (products d t) in
-      taken_support e op bound has
-      (takes d e terms x v distinct (λ t m n. least_product_reached d t (All-contains (IsFilledBeside d x) terms t filled m n)))
-      (subst (λ z. Stands op z bound) (least_by d terms x v) h)
-
-  pub greatest_support : (op : Op) (bound : ℤ) → Distinct (term_vars terms) → Has d x v → All (IsFilledBeside d x) terms → Stands op greatest bound → HasSupport d (LinearPart terms op bound) x v
-  greatest_support op bound distinct has filled h =
-      let e : Term → ℤ = λ t. greatest_of (products d t) in
-      taken_support e op bound has
-      (takes d e terms x v distinct (λ t m n. greatest_product_reached d t (All-contains (IsFilledBeside d x) terms t filled m n)))
-      (subst (λ z. Stands op z bound) (greatest_by d terms x v) h)
-
-  -- every sum of present values lies between them
-  pub least_bounds : (op : Op) (bound : ℤ) (s : HasSupport d (LinearPart terms op bound) x v) → least ≤ℤ total s.assignment terms
-  least_bounds op bound s =
-      subst (λ z. z ≤ℤ total s.assignment terms) (sym (least_by d terms x v))
-      (total_by_below (λ t. least_of (products d t)) terms x v s.assignment s.gives
-      (λ t m n. least_product_below d t (s.assignment t.var) (s.within t.var (member_map (λ (u : Term). u.var) terms t m))))
-
-  pub greatest_bounds : (op : Op) (bound : ℤ) (s : HasSupport d (LinearPart terms op bound) x v) → total s.assignment terms ≤ℤ greatest
-  greatest_bounds op bound s =
-      subst (λ z. total s.assignment terms ≤ℤ z) (sym (greatest_by d terms x v))
-      (total_by_above (λ t. greatest_of (products d t)) terms x v s.assignment s.gives
-      (λ t m n. greatest_product_above d t (s.assignment t.var) (s.within t.var (member_map (λ (u : Term). u.var) terms t m))))
-
   -- ---- the whole constraint
+
+  each_filled : All (IsFilledBeside d x) terms → AreFilledBeside d terms x
+  each_filled filled t m n = All-contains (IsFilledBeside d x) terms t filled m n
 
   abbrev pub whole : Span
   whole = record { least = least; greatest = greatest }
@@ -76,29 +42,26 @@ module _ (d : Domains) (terms : List Term) (x : ℕ) (v : ℤ) where
   pub met_supported : (op : Op) (bound : ℤ) → Distinct (term_vars terms) → Has d x v → All (IsFilledBeside d x) terms → IsMetWithin op bound whole → IsSupported d (Linear terms op bound) x v
   met_supported Eq bound distinct has filled met = record {
     each = λ p m over. elim (member_cases (LinearPart terms Le bound) (LinearPart terms Ge bound ∷ []) p m) [
-      | inl e ↦ subst (λ q. HasSupport d q x v) e (least_support Le bound distinct has filled met.0)
-      | inr k ↦ subst (λ q. HasSupport d q x v) (member_single (LinearPart terms Ge bound) p k) (greatest_support Ge bound distinct has filled met.1)
+      | inl e ↦ subst (λ q. HasSupport d q x v) e (least_support d terms x v Le bound distinct has (each_filled filled) met.0)
+      | inr k ↦ subst (λ q. HasSupport d q x v) (member_single (LinearPart terms Ge bound) p k) (greatest_support d terms x v Ge bound distinct has (each_filled filled) met.1)
     ];
   }
   met_supported Ne bound distinct has filled met =
       supported_by_part d (Linear terms Ne bound) (LinearPart terms Ne bound) x v refl (elim (int_known least bound) [
-        | inl e ↦ greatest_support Ne bound distinct has filled (met e)
-        | inr n ↦ least_support Ne bound distinct has filled n
+        | inl e ↦ greatest_support d terms x v Ne bound distinct has (each_filled filled) (met e)
+        | inr n ↦ least_support d terms x v Ne bound distinct has (each_filled filled) n
       ])
-  met_supported Lt bound distinct has filled met = supported_by_part d (Linear terms Lt bound) (LinearPart terms Lt bound) x v refl (least_support Lt bound distinct has filled met)
-  met_supported Le bound distinct has filled met = supported_by_part d (Linear terms Le bound) (LinearPart terms Le bound) x v refl (least_support Le bound distinct has filled met)
-  met_supported Gt bound distinct has filled met = supported_by_part d (Linear terms Gt bound) (LinearPart terms Gt bound) x v refl (greatest_support Gt bound distinct has filled met)
-  met_supported Ge bound distinct has filled met = supported_by_part d (Linear terms Ge bound) (LinearPart terms Ge bound) x v refl (greatest_support Ge bound distinct has filled met)
-
-  pub lacking_part : (op o : Op) (bound : ℤ) → Contains (linear_parts terms op bound) (LinearPart terms o bound) → Contains (term_vars terms) x → (HasSupport d (LinearPart terms o bound) x v → ⊥) → LacksSupport d (Linear terms op bound) x v
-  lacking_part op o bound m over n = record { part = LinearPart terms o bound; is_part = m; over = over; lacks = n }
+  met_supported Lt bound distinct has filled met = supported_by_part d (Linear terms Lt bound) (LinearPart terms Lt bound) x v refl (least_support d terms x v Lt bound distinct has (each_filled filled) met)
+  met_supported Le bound distinct has filled met = supported_by_part d (Linear terms Le bound) (LinearPart terms Le bound) x v refl (least_support d terms x v Le bound distinct has (each_filled filled) met)
+  met_supported Gt bound distinct has filled met = supported_by_part d (Linear terms Gt bound) (LinearPart terms Gt bound) x v refl (greatest_support d terms x v Gt bound distinct has (each_filled filled) met)
+  met_supported Ge bound distinct has filled met = supported_by_part d (Linear terms Ge bound) (LinearPart terms Ge bound) x v refl (greatest_support d terms x v Ge bound distinct has (each_filled filled) met)
 
   -- a sum that is to be at most or at least the bound, and is not
   pub too_high : (bound : ℤ) → bound <ℤ least → HasSupport d (LinearPart terms Le bound) x v → ⊥
-  too_high bound lt s = absurd (omega (arith, ints, lt, least_bounds Le bound s, s.holds))
+  too_high bound lt s = absurd (omega (arith, ints, lt, least_bounds d terms x v Le bound s, s.holds))
 
   pub too_low : (bound : ℤ) → greatest <ℤ bound → HasSupport d (LinearPart terms Ge bound) x v → ⊥
-  too_low bound lt s = absurd (omega (arith, ints, lt, greatest_bounds Ge bound s, s.holds))
+  too_low bound lt s = absurd (omega (arith, ints, lt, greatest_bounds d terms x v Ge bound s, s.holds))
 
   -- the parts that say at most and at least
   pub high_part : (op : Op) (bound : ℤ) → (op ≡ Eq) ⊎ (op ≡ Le) → Contains (linear_parts terms op bound) (LinearPart terms Le bound)
@@ -116,17 +79,17 @@ module _ (d : Domains) (terms : List Term) (x : ℕ) (v : ℤ) where
   unmet_lacking : (op : Op) (bound : ℤ) → Contains (term_vars terms) x → (IsMetWithin op bound whole → ⊥) → LacksSupport d (Linear terms op bound) x v
   unmet_lacking Eq bound over unmet =
       by_lt_z bound least
-      (λ lt. lacking_part Eq Le bound (high_part Eq bound (inl refl)) over (too_high bound lt))
+      (λ lt. lacking_part d terms x v Eq Le bound (high_part Eq bound (inl refl)) over (too_high bound lt))
       (λ le. by_lt_z greatest bound
-      (λ lt. lacking_part Eq Ge bound (low_part Eq bound (inl refl)) over (too_low bound lt))
+      (λ lt. lacking_part d terms x v Eq Ge bound (low_part Eq bound (inl refl)) over (too_low bound lt))
       (λ ge. absurd (unmet (le, ge))))
   unmet_lacking Ne bound over unmet =
       lacking_by_part d (Linear terms Ne bound) (LinearPart terms Ne bound) x v refl over
-      (λ s. unmet (λ e f. s.holds (omega (arith, ints, e, f, least_bounds Ne bound s, greatest_bounds Ne bound s))))
-  unmet_lacking Lt bound over unmet = lacking_by_part d (Linear terms Lt bound) (LinearPart terms Lt bound) x v refl over (λ s. unmet (omega (arith, ints, s.holds, least_bounds Lt bound s)))
-  unmet_lacking Le bound over unmet = lacking_by_part d (Linear terms Le bound) (LinearPart terms Le bound) x v refl over (λ s. unmet (omega (arith, ints, s.holds, least_bounds Le bound s)))
-  unmet_lacking Gt bound over unmet = lacking_by_part d (Linear terms Gt bound) (LinearPart terms Gt bound) x v refl over (λ s. unmet (omega (arith, ints, s.holds, greatest_bounds Gt bound s)))
-  unmet_lacking Ge bound over unmet = lacking_by_part d (Linear terms Ge bound) (LinearPart terms Ge bound) x v refl over (λ s. unmet (omega (arith, ints, s.holds, greatest_bounds Ge bound s)))
+      (λ s. unmet (λ e f. s.holds (omega (arith, ints, e, f, least_bounds d terms x v Ne bound s, greatest_bounds d terms x v Ne bound s))))
+  unmet_lacking Lt bound over unmet = lacking_by_part d (Linear terms Lt bound) (LinearPart terms Lt bound) x v refl over (λ s. unmet (omega (arith, ints, s.holds, least_bounds d terms x v Lt bound s)))
+  unmet_lacking Le bound over unmet = lacking_by_part d (Linear terms Le bound) (LinearPart terms Le bound) x v refl over (λ s. unmet (omega (arith, ints, s.holds, least_bounds d terms x v Le bound s)))
+  unmet_lacking Gt bound over unmet = lacking_by_part d (Linear terms Gt bound) (LinearPart terms Gt bound) x v refl over (λ s. unmet (omega (arith, ints, s.holds, greatest_bounds d terms x v Gt bound s)))
+  unmet_lacking Ge bound over unmet = lacking_by_part d (Linear terms Ge bound) (LinearPart terms Ge bound) x v refl over (λ s. unmet (omega (arith, ints, s.holds, greatest_bounds d terms x v Ge bound s)))
 
   -- a sum has some part
   some_part : (op : Op) (bound : ℤ) → (o : Op) × Contains (linear_parts terms op bound) (LinearPart terms o bound)

@@ -9,7 +9,7 @@ use Rattle.palm_base.proofs.Members.{member_same, member_map, member_unmap, memb
 use Rattle.palm_domain.specs.Rows.{IsLeastOf, IsGreatestOf}
 use Rattle.palm_model.specs.declared.limits.TheConstants.{GREATEST_FACTOR, GREATEST_PRODUCT, MOST_SCOPE}
 use Rattle.palm_model.specs.Domains.{Domains, Has, values_of}
-use Rattle.palm_model.specs.Linear.{IsFactor, term_vars, least_of, greatest_of, products, least_total}
+use Rattle.palm_model.specs.Linear.{IsFactor, term_vars, least_of, greatest_of, products, least_total, greatest_total}
 use Rattle.palm_model.specs.Limits.{IsUpTo}
 use Rattle.palm_model.specs.Reason.{AreFilled}
 use Rattle.palm_model.specs.Removed.{is_listed}
@@ -18,12 +18,12 @@ use Rattle.palm_model.proofs.Reasons.{member_not_listed}
 use Rattle.palm_model.proofs.Standing.{stands_from_test, test_from_stands}
 use Rattle.palm_model.specs.declared.constraint.Op.TheVariants.{Lt}
 use Rattle.palm_model.proofs.Sums.{round_up_to, up_to_more, round_factor, sum_up_to, sum_read}
-use Rattle.filter_linear.specs.Linear.{IsProduct, IsTermSpan, IsFilledBeside, IsShare, IsSpan, least_share, greatest_share, greatest_total, is_beyond, values_beyond, beyond_reason}
+use Rattle.filter_linear.specs.Linear.{IsProduct, IsTermSpan, IsFilledBeside, IsShare, IsSpan, least_share, greatest_share, is_beyond, values_beyond, beyond_reason}
 use Rattle.filter_linear.specs.declared.reasons.Side.{Side}
 use Rattle.filter_linear.specs.declared.reasons.Side.TheVariants.{Below, Above}
 use Rattle.filter_linear.specs.declared.span.Span.{Span}
-use Rattle.filter_linear.proofs.Totals.{product_rises, product_falls, least_is, greatest_is, total_by, least_by, greatest_by, least_product_below, greatest_product_above}
-use Rattle.filter_linear.proofs.LinearReasons.{pairs_by}
+use Rattle.palm_reason.proofs.LinearTotals.{product_rises, product_falls, least_is, greatest_is, total_by, least_by, greatest_by, least_product_below, greatest_product_above}
+use Rattle.palm_reason.proofs.LinearReason.{pairs_by}
 
 -- ---- numbers through their 64 bits
 

@@ -1,10 +1,10 @@
 -- The constraint of a sum: what it can be at least and at most where one variable has its value, and the removed values
 -- beyond the present ones.
-use Rattle.std.specs.Prelude.{◌≡◌, ℕ, ℤ, pos, ◌+ℤ◌, ◌*ℤ◌, ◌<◌, ◌<ℤ◌, ◌≤ℤ◌, Bool, List, [], ◌∷◌, All, length, nat_eq, int_lt, if◌then◌else◌}
+use Rattle.std.specs.Prelude.{◌≡◌, ℕ, ℤ, ◌*ℤ◌, ◌<◌, ◌<ℤ◌, ◌≤ℤ◌, Bool, List, All, length, nat_eq, int_lt, if◌then◌else◌}
 use Rattle.palm_base.specs.declared.terms.Pair.{Pair}
 use Rattle.palm_model.specs.Limits.{IsUpTo}
 use Rattle.palm_model.specs.Domains.{Domains, values_of}
-use Rattle.palm_model.specs.Linear.{least_of, greatest_of, products, least_total, values_below, values_above, at_most_reason, at_least_reason}
+use Rattle.palm_model.specs.Linear.{least_of, greatest_of, products, least_total, greatest_total, values_below, values_above, at_most_reason, at_least_reason}
 use Rattle.palm_model.specs.declared.limits.TheConstants.{GREATEST_PRODUCT}
 use Rattle.palm_model.specs.declared.constraint.Con.{Con}
 use Rattle.palm_model.specs.declared.constraint.Con.TheVariants.{Linear}
@@ -27,11 +27,6 @@ least_share d x v t = if nat_eq t.var x then t.factor *ℤ v else least_of (prod
 
 abbrev pub greatest_share : Domains → ℕ → ℤ → Term → ℤ
 greatest_share d x v t = if nat_eq t.var x then t.factor *ℤ v else greatest_of (products d t)
-
--- the greatest that the sum can be where x has the value v, as `least_total` is the least
-abbrev pub greatest_total : Domains → List Term → ℕ → ℤ → ℤ
-greatest_total d [] x v = pos 0
-greatest_total d (t ∷ ts) x v = greatest_share d x v t +ℤ greatest_total d ts x v
 
 -- a coefficient of the language times a value
 abbrev pub IsProduct : ℤ → Type 0

@@ -83,6 +83,8 @@ impl Filter for LinearFilter {
 
     fn reason(&self, store: &DomainStore, pair: Pair, out: &mut Reasons) -> Result<(), NoMemory> {
         out.clear();
+        // The store tells here what it holds of its values: a reason is right where they ascend.
+        let _ = store.variables();
         let written = push_reason(&self.rule, store, &pair, out);
         whole_or_none(written, out)
     }

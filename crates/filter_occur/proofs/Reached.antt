@@ -11,7 +11,7 @@ use Rattle.palm_model.specs.declared.constraint.Op.{Op}
 use Rattle.palm_model.specs.declared.constraint.Op.TheVariants.{Eq, Ne, Lt, Le, Gt, Ge}
 use Rattle.filter_occur.specs.Count.{IsCountReached}
 use Rattle.filter_occur.specs.declared.counts.Counts.{Counts}
-use Rattle.filter_occur.proofs.Counting.{within_test, test_within}
+use Rattle.palm_reason.proofs.CountNumbers.{within_test, test_within}
 
 module _ (counts : Counts) where
   -- ---- equal to one of the numbers

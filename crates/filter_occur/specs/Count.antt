@@ -1,14 +1,13 @@
 -- The number of some variables that have a value: how low and how high it can be where one variable of the constraint
 -- has a value of its own, and whether it can stand in the relation to the target.
-use Rattle.std.specs.Prelude.{◌≡◌, ℕ, ℤ, pos, ◌<◌, ◌≤◌, List, [], ◌∷◌, length, filter, All, Contains, nat_eq, if◌then◌else◌}
+use Rattle.std.specs.Prelude.{◌≡◌, ℕ, ℤ, pos, ◌<◌, ◌≤◌, List, length, All, Contains}
 use Rattle.palm_model.specs.Relation.{Stands}
-use Rattle.palm_model.specs.Domains.{Domains, values_of}
+use Rattle.palm_model.specs.Domains.{Domains}
 use Rattle.palm_model.specs.Removed.{is_alone, is_listed}
 use Rattle.palm_model.specs.declared.constraint.Con.{Con}
 use Rattle.palm_model.specs.declared.constraint.Con.TheVariants.{Count}
 use Rattle.palm_model.specs.declared.constraint.Op.{Op}
-use Rattle.palm_model.specs.declared.constraint.Target.{Target}
-use Rattle.palm_model.specs.declared.constraint.Target.TheVariants.{Const, Variable}
+pub use Rattle.palm_reason.specs.Count.{values_where, target_values, low_count, high_count}
 use Rattle.palm_model.specs.declared.limits.TheConstants.{MOST_SCOPE}
 use Rattle.filter_occur.specs.declared.counts.Counts.{Counts}
 use Rattle.filter_occur.specs.declared.rule.Chance.{Chance}
@@ -16,23 +15,6 @@ use Rattle.filter_occur.specs.declared.rule.CountRule.{CountRule}
 
 abbrev pub count_of : CountRule → Con
 count_of o = Count o.value o.vars o.op o.target
-
--- the values that y can have where x has the value v
-abbrev pub values_where : Domains → ℕ → ℤ → ℕ → List ℤ
-values_where d x v y = if nat_eq y x then v ∷ [] else values_of d y
-
--- the numbers that the target can be where x has the value v
-abbrev pub target_values : Domains → ℕ → ℤ → Target → List ℤ
-target_values d x v (Const w) = w ∷ []
-target_values d x v (Variable y) = values_where d x v y
-
--- how many of the variables have no other value
-abbrev pub low_count : (ℕ → List ℤ) → ℤ → List ℕ → ℕ
-low_count f value vars = length (filter (λ y. is_alone (f y) value) vars)
-
--- how many of the variables have the value
-abbrev pub high_count : (ℕ → List ℤ) → ℤ → List ℕ → ℕ
-high_count f value vars = length (filter (λ y. is_listed (f y) value) vars)
 
 -- whether the counted value is the only one of a variable, and whether it is one of them
 pub record IsChance (values : List ℤ) (value : ℤ) (chance : Chance) : Type 0 where

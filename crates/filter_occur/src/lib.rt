@@ -3,8 +3,6 @@
 
 mod count;
 mod counts;
-mod laws;
 mod rule;
 
 pub use count::OccurFilter;
-pub use laws::reasons_of_counts_are_right;

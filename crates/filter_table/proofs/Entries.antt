@@ -1,12 +1,12 @@
 -- The entries of a row, from the first to the last.
-use Rattle.std.proofs.Common.{◌≡◌, ℕ, zero, suc, ◌+◌, ◌<◌, ℤ, true, false, not, ◌&&◌, ◌||◌, cond, List, [], ◌∷◌, length, take, drop, filter, get_or, Contains, eqb, int_eq, ◌⊎◌, inl, inr, refl, sym, ap, ◌∙◌, arith}
-use Rattle.std.proofs.lemmas.Bool.{cases_Bool, both_ways}
-use Rattle.palm_base.proofs.Members.{member_here, member_there}
+use Rattle.std.proofs.Common.{◌≡◌, ℕ, zero, suc, ◌+◌, ◌<◌, ℤ, true, false, not, ◌&&◌, ◌||◌, cond, List, [], ◌∷◌, length, take, drop, filter, get_or, eqb, int_eq, inl, inr, sym, ap, ◌∙◌, arith}
+use Rattle.std.proofs.lemmas.Bool.{cases_Bool}
 use Rattle.palm_base.specs.declared.terms.Pair.{Pair}
 use Rattle.palm_model.specs.Domains.{Domains, Has, values_of, is_among}
 use Rattle.palm_model.specs.Removed.{is_listed}
 use Rattle.palm_model.specs.Table.{are_there, first_missing, row_pairs}
 use Rattle.palm_model.proofs.Reasons.{listed_member, member_listed}
+use Rattle.palm_reason.proofs.TableRows.{missing_cases}
 
 -- the entry at a place, before the entries after it
 entries_from : (vars : List ℕ) (row : List ℤ) (i : ℕ) (x : ℕ) (w : ℤ) → length row ≡ length vars → i < length vars → x ≡ get_or vars i x → w ≡ get_or row i w → row_pairs (drop i vars) (drop i row) ≡ record { var = x; value = w } ∷ row_pairs (drop (suc i) vars) (drop (suc i) row)
@@ -71,26 +71,6 @@ module _ (vars : List ℕ) (row : List ℤ) (long : length row ≡ length vars) 
         so_far ∙ missing_at d ∙ ap (λ b. take 1 (cond (not b) (here ∷ left) left)) (member_listed (values_of d y) w m)
 
 -- ---- the first entry that is not there
-
--- all entries are there, or one is the first that is not
-pub missing_cases : (d : Domains) (ps : List Pair) → (are_there d ps ≡ true) × (first_missing d ps ≡ []) ⊎ ((p : Pair) × (first_missing d ps ≡ p ∷ []) × Contains ps p × (Has d p.var p.value → ⊥) × (are_there d ps ≡ false))
-missing_cases d [] = inl (refl, refl)
-missing_cases d (p ∷ ps) = elim (cases_Bool (is_listed (values_of d p.var) p.value)) [
-  | inl t ↦ elim (missing_cases d ps) [
-    | inl r ↦ inl (ap (λ b. b && are_there d ps) t ∙ r.0, goes_on t ∙ r.1)
-    | inr r ↦ inr (r.0, goes_on t ∙ r.1, member_there p ps r.0 r.2, r.3, ap (λ b. b && are_there d ps) t ∙ r.4)
-  ]
-  | inr f ↦ inr (p, stops f, member_here p ps, (λ m. both_ways (is_listed (values_of d p.var) p.value) f (member_listed (values_of d p.var) p.value m)), ap (λ b. b && are_there d ps) f)
-]
-  where
-    left : List Pair
-    left = filter (λ (q : Pair). not (is_listed (values_of d q.var) q.value)) ps
-
-    goes_on : is_listed (values_of d p.var) p.value ≡ true → first_missing d (p ∷ ps) ≡ first_missing d ps
-    goes_on t = ap (λ b. take 1 (cond (not b) (p ∷ left) left)) t
-
-    stops : is_listed (values_of d p.var) p.value ≡ false → first_missing d (p ∷ ps) ≡ p ∷ []
-    stops f = ap (λ b. take 1 (cond (not b) (p ∷ left) left)) f
 
 pub there_none : (d : Domains) (ps : List Pair) → first_missing d ps ≡ [] → true ≡ are_there d ps
 there_none d ps e = elim (missing_cases d ps) [

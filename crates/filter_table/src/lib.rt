@@ -2,9 +2,7 @@
 #![tactic(auto)]
 
 mod indexed;
-mod laws;
 mod row;
 mod table;
 
-pub use laws::reasons_of_tables_are_right;
 pub use table::TableFilter;

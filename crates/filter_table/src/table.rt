@@ -59,6 +59,8 @@ impl Filter for TableFilter {
 
     fn reason(&self, store: &DomainStore, pair: Pair, out: &mut Reasons) -> Result<(), NoMemory> {
         out.clear();
+        // The store tells here what it holds of its values: a reason is right where they ascend.
+        let _ = store.variables();
         let written = self.table.push_reason(store, &pair, out);
         whole_or_none(written, out)
     }

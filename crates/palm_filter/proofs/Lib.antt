@@ -1,4 +1,5 @@
 pub mod Indexed
 pub mod Listed
+pub mod Righted
 pub mod Singles
 pub mod Written

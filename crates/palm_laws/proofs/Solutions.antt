@@ -7,7 +7,7 @@ use Rattle.palm_model.specs.Domains.{Domains, Assignment, Has, IsInside, values_
 use Rattle.palm_model.specs.Closure.{IsClosed, IsGreatest, Explains, IsConflict, IsSolution}
 use Rattle.palm_model.specs.declared.constraint.Con.{Con}
 use Rattle.palm_laws.specs.Declared.{AreDeclared}
-use Rattle.palm_model.proofs.Formed.{part_declared}
+use Rattle.palm_model.proofs.Formed.{part_declared, well_formed_formed}
 
 -- ---- explanations and the greatest closed domains
 
@@ -44,7 +44,7 @@ empty_conflict initial E d greatest x declared empty = (
 -- ---- solutions
 
 pub formed_declared : (n : ℕ) (cs : List Con) → All (IsWellFormed n) cs → AreDeclared n (Contains cs)
-formed_declared n cs formed c p x m k h = part_declared n c p x (All-contains (IsWellFormed n) cs c formed m) k h
+formed_declared n cs formed c p x m k h = part_declared n c p x (well_formed_formed n c (All-contains (IsWellFormed n) cs c formed m)) k h
 
 -- the domains of the first n variables with the assignment's values alone
 points : Assignment → ℕ → Domains

@@ -1,9 +1,9 @@
--- What is known of the parts of a well formed constraint.
+-- What is known of the parts of a formed constraint, and of a well formed one.
 use Rattle.std.proofs.Common.{◌≡◌, ℕ, ℤ, ◌<◌, ◌≤◌, List, [], ◌∷◌, length, map, flat_map, All, Contains, inl, inr, sym, subst}
 use Rattle.std.proofs.lemmas.List.{length-map}
 use Rattle.std.proofs.lemmas.List.Elements.{All-contains, Contains-append_cases}
 use Rattle.palm_base.proofs.Members.{member_nil, member_here, member_there, member_cases, member_single, member_same, member_unmap, flat_map_member, all_members}
-use Rattle.palm_model.specs.Constraint.{scope, IsShaped, IsWellFormed}
+use Rattle.palm_model.specs.Constraint.{scope, IsFormed, IsShaped, IsWellFormed}
 use Rattle.palm_model.specs.Part.{scope_of, parts}
 use Rattle.palm_model.specs.Linear.{linear_parts}
 use Rattle.palm_model.specs.Differ.{differ_parts}
@@ -75,12 +75,24 @@ part_small (Element outcome index entries) p few h m = single_small _ p m tt
 part_small (Count value vars op target) p few h m = single_small _ p m tt
 part_small (Differ vars) p few h m = let r = differ_part vars p m in subst IsSmall r.4 tt
 
-pub part_declared : (n : ℕ) (c : Con) (p : Part) (x : ℕ) → IsWellFormed n c → Contains (parts c) p → Contains (scope_of p) x → x < n
+-- ---- formed and well formed
+
+pub well_formed_formed : (n : ℕ) (c : Con) → IsWellFormed n c → IsFormed n c
+well_formed_formed n c w = record { declared = w.declared; distinct = w.distinct }
+
+-- a comparison of a declared variable with any value
+pub choice_formed : (n x : ℕ) (op : Op) (v : ℤ) → x < n → IsFormed n (CompareConst x op v)
+choice_formed n x op v lt = record {
+  declared = all_members (λ y. y < n) (x ∷ []) (λ y m. subst (λ z. z < n) (member_single x y m) lt);
+  distinct = (member_nil x, tt);
+}
+
+pub part_declared : (n : ℕ) (c : Con) (p : Part) (x : ℕ) → IsFormed n c → Contains (parts c) p → Contains (scope_of p) x → x < n
 part_declared n c p x formed m h = All-contains (λ y. y < n) (scope c) x formed.declared (part_scope c p x m h)
 
 pub part_triable : (n : ℕ) (c : Con) (p : Part) → IsWellFormed n c → Contains (parts c) p → IsTriable n p
 part_triable n c p formed m = record {
-  declared = all_members (λ x. x < n) (scope_of p) (λ x h. part_declared n c p x formed m h);
+  declared = all_members (λ x. x < n) (scope_of p) (λ x h. part_declared n c p x (well_formed_formed n c formed) m h);
   small = part_small c p formed.few formed.shaped m;
 }
 

@@ -1,5 +1,6 @@
 pub mod Ascending
 pub mod Assignments
+pub mod Closing
 pub mod Formed
 pub mod Narrowing
 pub mod Reasons

@@ -11,6 +11,10 @@ use Rattle.palm_model.specs.declared.part.Part.{Part}
 abbrev pub IsClosedFor : Part → Domains → Type 0
 IsClosedFor p d = (x : ℕ) (v : ℤ) → Contains (scope_of p) x → Has d x v → HasSupport d p x v
 
+-- closed for every part of the constraint
+abbrev pub IsClosedBy : Con → Domains → Type 0
+IsClosedBy c d = (p : Part) → Contains (parts c) p → IsClosedFor p d
+
 -- closed for every part of every constraint
 abbrev pub IsClosed : (Con → Type 0) → Domains → Type 0
 IsClosed E d = (c : Con) (p : Part) → E c → Contains (parts c) p → IsClosedFor p d

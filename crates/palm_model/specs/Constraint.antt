@@ -1,4 +1,4 @@
--- Which variables a constraint is over, and which constraints are well formed. The words of each kind stand in the file
+-- Which variables a constraint is over, which constraints are formed, and which of these are well formed. The words of each kind stand in the file
 -- of its name.
 use Rattle.std.specs.Prelude.{ℕ, ◌<◌, ◌≤◌, List, [], ◌∷◌, length, Contains, All, ⊤}
 use Rattle.palm_model.specs.Comparison.{IsOffset, comparison_scope}
@@ -36,6 +36,11 @@ IsShaped (Table vars rows) = IsTableShaped vars rows
 IsShaped (Element outcome index entries) = IsElementShaped entries
 IsShaped (Count value vars op target) = IsCountShaped value vars target
 IsShaped (Differ vars) = IsDifferShaped vars
+
+-- a constraint that means something over the first so many variables, whatever its numbers and however long its lists
+pub record IsFormed (variables : ℕ) (c : Con) : Type 0 where
+  pub declared : All (λ x. x < variables) (scope c)
+  pub distinct : Distinct (scope c)
 
 -- a constraint of the language over the first so many variables
 pub record IsWellFormed (variables : ℕ) (c : Con) : Type 0 where

@@ -77,6 +77,11 @@ abbrev pub least_total : Domains → List Term → ℕ → ℤ → ℤ
 least_total d [] x v = pos 0
 least_total d (t ∷ ts) x v = (if nat_eq t.var x then t.factor *ℤ v else least_of (products d t)) +ℤ least_total d ts x v
 
+-- the greatest that the sum can be where x has the value v
+abbrev pub greatest_total : Domains → List Term → ℕ → ℤ → ℤ
+greatest_total d [] x v = pos 0
+greatest_total d (t ∷ ts) x v = (if nat_eq t.var x then t.factor *ℤ v else greatest_of (products d t)) +ℤ greatest_total d ts x v
+
 -- the removed values of a term's variable whose products are below those of all present values
 abbrev pub values_below : Domains → Domains → Term → List ℤ
 values_below initial present t = filter (λ w. int_lt (t.factor *ℤ w) (least_of (products present t))) (removed_values initial present t.var)

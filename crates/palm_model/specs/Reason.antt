@@ -3,7 +3,7 @@
 use Rattle.std.specs.Prelude.{◌≡◌, ℕ, ℤ, ◌<◌, List, [], length, All, Contains}
 use Rattle.palm_base.specs.declared.terms.Pair.{Pair}
 use Rattle.palm_model.specs.Domains.{Domains, Has, IsInside, AllAscend, values_of, without}
-use Rattle.palm_model.specs.Constraint.{scope, IsWellFormed}
+use Rattle.palm_model.specs.Constraint.{scope, IsFormed}
 use Rattle.palm_model.specs.Comparison.{comparison_reason}
 use Rattle.palm_model.specs.Linear.{linear_reason}
 use Rattle.palm_model.specs.Table.{table_reason}
@@ -33,7 +33,7 @@ pub record WantsReason (initial present : Domains) (c : Con) (x : ℕ) (v : ℤ)
   pub initial_ascend : AllAscend initial
   pub present_ascend : AllAscend present
   pub inside : IsInside present initial
-  pub formed : IsWellFormed (length initial) c
+  pub formed : IsFormed (length initial) c
   pub present_value : Has present x v
   pub lacks : LacksSupport present c x v
   pub filled : AreFilled present (scope c)

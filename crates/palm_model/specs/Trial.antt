@@ -3,8 +3,9 @@ use Rattle.std.specs.Prelude.{◌≡◌, ℕ, ℤ, pos, ◌+◌, ◌<◌, ◌≤
 use Rattle.palm_model.specs.Domains.{Domains, Assignment, Has, IsInside, AllAscend, values_of}
 use Rattle.palm_model.specs.Linear.{IsFactor}
 use Rattle.palm_model.specs.Part.{scope_of, Holds}
-use Rattle.palm_model.specs.Support.{HasSupport}
+use Rattle.palm_model.specs.Support.{HasSupport, IsSupported}
 use Rattle.palm_model.specs.Closure.{IsClosedFor}
+use Rattle.palm_model.specs.declared.constraint.Con.{Con}
 use Rattle.palm_model.specs.declared.limits.TheConstants.{MOST_SCOPE}
 use Rattle.palm_model.specs.declared.part.Part.{Part}
 use Rattle.palm_model.specs.declared.part.Part.TheVariants.{CompareVar as CompareVarPart, CompareConst as CompareConstPart, Linear as LinearPart, Table as TablePart, Element as ElementPart, Count as CountPart, Differ as DifferPart}
@@ -65,6 +66,18 @@ FirstSupported p x n d = (k : ℕ) (e : ℤ) → k < n → HasSupport d p x (sli
 -- each value of these variables has support in the part
 abbrev pub EachSupported : Part → List ℕ → Domains → Type 0
 EachSupported p xs d = (x : ℕ) (v : ℤ) → Contains xs x → Has d x v → HasSupport d p x v
+
+-- the value has support in the constraint, where it is present
+abbrev pub IsKept : Con → ℕ → ℤ → Domains → Type 0
+IsKept c x v d = Has d x v → IsSupported d c x v
+
+-- each of these values has support in the constraint, where it is present
+abbrev pub AreKept : Con → ℕ → List ℤ → Domains → Type 0
+AreKept c x values d = (v : ℤ) → Contains values v → IsKept c x v d
+
+-- each present value of these variables has support in the constraint
+abbrev pub AreSupported : Con → List ℕ → Domains → Type 0
+AreSupported c xs d = (x : ℕ) (v : ℤ) → Contains xs x → IsKept c x v d
 
 -- values were taken out, and it is known whether any was; where none was, the rest holds
 pub record Narrowed (Closed Rest : Domains → Type 0) (old new : Domains) (lost : Bool) : Type 0 where

@@ -7,7 +7,7 @@ use Rattle.palm_domain.specs.Rows.{Row, present_of}
 use Rattle.palm_kind.specs.Kind.{con_of}
 use Rattle.palm_kind.specs.declared.kind.Kind.{Kind}
 use Rattle.palm_lang.specs.Book.{Entry}
-use Rattle.palm_model.specs.Closure.{IsGreatest}
+use Rattle.palm_model.specs.Closure.{IsClosed, IsGreatest}
 use Rattle.palm_model.specs.Constraint.{IsWellFormed}
 use Rattle.palm_model.specs.Domains.{Domains, Ascends, AllAscend}
 use Rattle.palm_model.specs.Removed.{is_listed}
@@ -15,8 +15,8 @@ use Rattle.palm_model.specs.Trial.{Narrows}
 use Rattle.palm_model.specs.declared.constraint.Con.{Con}
 use Rattle.palm_model.proofs.Ascending.{ascends_filter, ascending_same}
 use Rattle.palm_model.proofs.Reasons.{listed_member, member_listed}
-use Rattle.palm_session.specs.Filtering.{declared_row, AreSupportedWhole}
-use Rattle.palm_session.proofs.Closing.{greatest_by_supports}
+use Rattle.palm_model.proofs.Narrowing.{greatest_by_narrowing}
+use Rattle.palm_session.specs.Filtering.{declared_row}
 
 -- ---- the present ones of the declared values
 
@@ -62,9 +62,9 @@ kinds_formed store entries kinds cs rows is formed =
 
 -- ---- the greatest closed domains
 
-pub greatest_listed : (initial : Domains) (entries : List Entry) (before after : List Row) (kinds : List Kind) (cs : List Con) → before ≡ map declared_row entries → initial ≡ map (λ (e : Entry). e.values) entries → map con_of kinds ≡ cs → AllAscend initial → Narrows (AreSupportedWhole (map con_of kinds)) (present_of before) (present_of after) → AreSupportedWhole (map con_of kinds) (present_of after) → IsGreatest initial (Contains cs) (present_of after)
+pub greatest_listed : (initial : Domains) (entries : List Entry) (before after : List Row) (kinds : List Kind) (cs : List Con) → before ≡ map declared_row entries → initial ≡ map (λ (e : Entry). e.values) entries → map con_of kinds ≡ cs → AllAscend initial → Narrows (IsClosed (Contains (map con_of kinds))) (present_of before) (present_of after) → IsClosed (Contains (map con_of kinds)) (present_of after) → IsGreatest initial (Contains cs) (present_of after)
 greatest_listed initial entries before after kinds cs rows starts is ascend step whole =
     let from : present_of before ≡ initial = ap present_of rows ∙ declared_presents entries ∙ sym starts in
     subst (λ (bs : List Con). IsGreatest initial (Contains bs) (present_of after)) is
-    (greatest_by_supports initial (map con_of kinds) (present_of after) ascend
-    (subst (λ (d : Domains). Narrows (AreSupportedWhole (map con_of kinds)) d (present_of after)) from step) whole)
+    (greatest_by_narrowing initial (Contains (map con_of kinds)) (present_of after) ascend
+    (subst (λ (d : Domains). Narrows (IsClosed (Contains (map con_of kinds))) d (present_of after)) from step) whole)

@@ -2,10 +2,9 @@
 ghost use Rattle.std.specs.Prelude.{◌≡◌, ◌<◌, ◌∷◌, [], length, map, All, Contains};
 ghost use Rattle.palm_domain.specs.Rows.{initial_of, present_of};
 ghost use Rattle.palm_kind.specs.Kind.{con_of};
-ghost use Rattle.palm_model.specs.Closure.{IsClosed};
+ghost use Rattle.palm_model.specs.Closure.{IsClosed, IsClosedBy};
 ghost use Rattle.palm_model.specs.Constraint.{IsWellFormed, scope};
-ghost use Rattle.palm_model.specs.Trial.{Narrowed, Narrows};
-ghost use Rattle.palm_session.specs.Filtering.{AreSupported, AreSupportedWhole, IsKept, IsSupportedWhole};
+ghost use Rattle.palm_model.specs.Trial.{AreSupported, IsKept, Narrowed, Narrows};
 
 use palm_base::{Pair, Var};
 use palm_domain::DomainStore;
@@ -15,8 +14,8 @@ use palm_kind::Kind;
 /// Takes out every value that is in no closed domains of the constraints.
 pub fn close(kinds: &[Kind], store: &mut DomainStore)
     requires formed { All (λ k. IsWellFormed (length store.old) (con_of k)) kinds.now }
-    ensures step { Narrows (AreSupportedWhole (map con_of kinds.now)) (present_of store.old) (present_of store.new) }
-    ensures closed { AreSupportedWhole (map con_of kinds.now) (present_of store.new) }
+    ensures step { Narrows (IsClosed (Contains (map con_of kinds.now))) (present_of store.old) (present_of store.new) }
+    ensures closed { IsClosed (Contains (map con_of kinds.now)) (present_of store.new) }
 {
     while sweep(kinds, store) {}
 }
@@ -25,7 +24,7 @@ pub fn close(kinds: &[Kind], store: &mut DomainStore)
 fn sweep(kinds: &[Kind], store: &mut DomainStore) -> bool
     requires formed { All (λ k. IsWellFormed (length store.old) (con_of k)) kinds.now }
     ensures variables { length store.new ≡ length store.old }
-    ensures narrowed { let closed = AreSupportedWhole (map con_of kinds.now) in
+    ensures narrowed { let closed = IsClosed (Contains (map con_of kinds.now)) in
         Narrowed closed closed (present_of store.old) (present_of store.new) result }
 {
     let mut lost = false;
@@ -40,7 +39,7 @@ fn sweep(kinds: &[Kind], store: &mut DomainStore) -> bool
 fn revise(kind: &Kind, store: &mut DomainStore) -> bool
     requires formed { IsWellFormed (length store.old) (con_of kind.now) }
     ensures variables { length store.new ≡ length store.old }
-    ensures narrowed { let closed = IsSupportedWhole (con_of kind.now) in
+    ensures narrowed { let closed = IsClosedBy (con_of kind.now) in
         Narrowed closed closed (present_of store.old) (present_of store.new) result }
 {
     let mut lost = false;
@@ -56,7 +55,7 @@ fn filter_variable(kind: &Kind, var: Var, store: &mut DomainStore) -> bool
     requires formed { IsWellFormed (length store.old) (con_of kind.now) }
     requires over { Contains (scope (con_of kind.now)) var }
     ensures variables { length store.new ≡ length store.old }
-    ensures narrowed { Narrowed (IsSupportedWhole (con_of kind.now)) (AreSupported (con_of kind.now) (var ∷ []))
+    ensures narrowed { Narrowed (IsClosedBy (con_of kind.now)) (AreSupported (con_of kind.now) (var ∷ []))
         (present_of store.old) (present_of store.new) result }
 {
     let mut lost = false;
@@ -74,7 +73,7 @@ fn filter_value(kind: &Kind, pair: &Pair, store: &mut DomainStore) -> bool
     requires over { Contains (scope (con_of kind.now)) pair.now.var }
     ensures variables { length store.new ≡ length store.old }
     ensures initial { initial_of store.new ≡ initial_of store.old }
-    ensures narrowed { Narrowed (IsSupportedWhole (con_of kind.now)) (IsKept (con_of kind.now) pair.now.var pair.now.value)
+    ensures narrowed { Narrowed (IsClosedBy (con_of kind.now)) (IsKept (con_of kind.now) pair.now.var pair.now.value)
         (present_of store.old) (present_of store.new) result }
 {
     let Pair { var, value } = *pair;

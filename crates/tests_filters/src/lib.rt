@@ -21,5 +21,4 @@ mod model;
 mod store;
 #[cfg(test)]
 mod table;
-#[cfg(test)]
-mod testing;
+pub mod testing;

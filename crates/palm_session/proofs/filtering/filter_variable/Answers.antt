@@ -1,8 +1,8 @@
 use Rattle.std.proofs.Common.{◌≡◌, ◌<◌, ◌≤◌, ◌||◌, length, get_or, Contains, List, ℤ, ap, ◌∙◌, subst, arith}
-use Rattle.palm_domain.specs.Rows.{present_of, declared_values, values_at}
+use Rattle.palm_domain.specs.Rows.{present_of, declared_values, values_of}
 use Rattle.palm_kind.specs.Kind.{con_of}
 use Rattle.palm_model.proofs.Narrowing.{or_then, or_else}
-use Rattle.palm_session.proofs.Closing.{narrowed_value, narrowed_values}
+use Rattle.palm_model.proofs.Closing.{narrowed_value, narrowed_values}
 use Rattle.palm_session.proofs.filtering.filter_variable.Goals as goal
 use Rattle.palm_session.proofs.filtering.filter_variable.Goals.{then-lost, else-lost}
 
@@ -15,7 +15,7 @@ loop-index-preserved c =
       | then-lost w ↦ or_then c.if-lost.lost c.loop-index.lost now w.if-lost.true w.lost-is
       | else-lost w ↦ or_else c.if-lost.lost c.loop-index.lost now w.if-lost.false w.lost-is
     ] in
-    let same : c.initial_values.result.now ≡ values = c.initial_values.ensures.values ∙ ap (λ (d : List (List ℤ)). values_at d c.args.var) before.1 in
+    let same : c.initial_values.result.now ≡ values = c.initial_values.ensures.values ∙ ap (λ (d : List (List ℤ)). values_of d c.args.var) before.1 in
     let within : c.loop-index.index < length values = subst (λ (vs : List ℤ). c.loop-index.index < length vs) c.initial_values-index-end.ensures.values c.loop-index-test.true in (
       c.filter_value-now.ensures.variables ∙ before.0,
       c.filter_value-now.ensures.initial ∙ before.1,

@@ -2,7 +2,7 @@ use Rattle.std.proofs.Common.{◌≡◌, ◌||◌, ◌∙◌}
 use Rattle.palm_domain.specs.Rows.{present_of}
 use Rattle.palm_kind.specs.Kind.{con_of}
 use Rattle.palm_model.proofs.Narrowing.{or_then, or_else}
-use Rattle.palm_session.proofs.Closing.{narrowed_variable, narrowed_variables}
+use Rattle.palm_model.proofs.Closing.{narrowed_variable, narrowed_variables}
 use Rattle.palm_session.proofs.filtering.revise.Goals as goal
 use Rattle.palm_session.proofs.filtering.revise.Goals.{then-lost, else-lost}
 

@@ -3,7 +3,7 @@ use Rattle.std.proofs.lemmas.List.{length-map, get_or-map}
 use Rattle.palm_domain.specs.Rows.{present_of}
 use Rattle.palm_kind.specs.Kind.{con_of}
 use Rattle.palm_model.proofs.Narrowing.{or_then, or_else}
-use Rattle.palm_session.proofs.Closing.{narrowed_constraint, narrowed_constraints}
+use Rattle.palm_model.proofs.Closing.{narrowed_constraint, narrowed_constraints}
 use Rattle.palm_session.proofs.filtering.sweep.Goals as goal
 use Rattle.palm_session.proofs.filtering.sweep.Goals.{then-lost, else-lost}
 

@@ -1,9 +1,9 @@
-use Rattle.std.proofs.Common.{length}
 use Rattle.palm_domain.specs.Rows.{initial_of, present_of}
 use Rattle.palm_model.specs.Linear.{linear_reason}
 use Rattle.palm_model.specs.Reason.{IsReason}
 use Rattle.palm_filter.proofs.Written.{written_right}
-use Rattle.filter_linear.proofs.LinearReasons.{gives_right}
+use Rattle.palm_filter.proofs.Righted.{written_is_right}
+use Rattle.filter_linear.proofs.LinearReasons.{gives_reason}
 use Rattle.filter_linear.proofs.linear.LinearFilterFilter.reason.Goals as goal
 
 pub returns-clause-right : goal.returns-clause-right
@@ -14,5 +14,6 @@ returns-clause-right c =
     written_right (IsReason initial present c.args.self.now c.args.pair.var c.args.pair.value) c.push_reason-written.result c.whole_or_none.result
     c.clear.new.self.items c.push_reason-written.new.out.items c.whole_or_none.new.out.items (linear_reason initial present rule.terms rule.op rule.bound c.args.pair.var c.args.pair.value)
     c.clear.ensures.items c.whole_or_none.ensures.answer c.push_reason-written.ensures c.whole_or_none.ensures.ok
-    (λ e. gives_right initial present rule.terms rule.op rule.bound c.args.pair.var c.args.pair.value (length c.args.store.now) c.args.self.now c.whole_or_none.new.out.items
-    c.self.view_is c.requires.formed c.requires.present c.requires.filled c.requires.unsupported e)
+    (λ e. written_is_right c.args.store.now c.variables.ensures.initial_ascend c.variables.ensures.present_ascend c.variables.ensures.inside
+    c.args.self.now c.args.pair.var c.args.pair.value c.requires.formed c.requires.present c.requires.unsupported c.requires.filled c.whole_or_none.new.out.items
+    (gives_reason initial present rule.terms rule.op rule.bound c.args.pair.var c.args.pair.value c.args.self.now c.whole_or_none.new.out.items c.self.view_is e))

@@ -5,7 +5,8 @@ use Rattle.palm_model.specs.Removed.{pairs_of}
 use Rattle.palm_model.specs.declared.constraint.Term.{Term}
 use Rattle.palm_model.proofs.Sums.{term_declared}
 use Rattle.filter_linear.specs.Linear.{values_beyond}
-use Rattle.filter_linear.proofs.LinearReasons.{pairs_by, kept_more, kept_same}
+use Rattle.palm_reason.proofs.LinearReason.{pairs_by}
+use Rattle.filter_linear.proofs.LinearReasons.{kept_more, kept_same}
 use Rattle.filter_linear.proofs.Walks.{beyond_by, term_filled}
 use Rattle.filter_linear.proofs.reasons.Side.push_pairs.Goals as goal
 use Rattle.filter_linear.proofs.reasons.Side.push_pairs.Goals.{then-ne+in_ok-push_values, else-ne}
