@@ -1,5 +1,5 @@
 -- Support and reasons of comparisons, by what they ask of the other variable.
-use Rattle.std.proofs.Common.{◌≡◌, ℕ, ℤ, ◌+ℤ◌, ◌-ℤ◌, pos, ◌≤ℤ◌, Bool, true, false, cond, ◌+◌, ◌<◌, List, [], ◌∷◌, ◌++◌, length, take, get_or, filter, Contains, eqb, eq-eqb, ne_eqb, ◌⊎◌, inl, inr, refl, sym, ap, ◌∙◌, subst, arith}
+use Rattle.std.proofs.Common.{◌≡◌, ℕ, ℤ, ◌+ℤ◌, ◌-ℤ◌, pos, ◌≤ℤ◌, Bool, true, false, cond, ◌<◌, List, [], ◌∷◌, length, filter, Contains, eqb, eq-eqb, ne_eqb, ◌⊎◌, inl, inr, refl, sym, ap, ◌∙◌, subst, arith}
 use Rattle.std.proofs.lemmas.Int.{ints}
 use Rattle.std.proofs.lemmas.List.Elements.{All-contains}
 use Rattle.palm_base.proofs.Members.{member_here, member_there, member_cases, member_single, member_same, filter_agree_members, nat_known}
@@ -17,7 +17,6 @@ use Rattle.palm_model.specs.declared.constraint.Op.{Op}
 use Rattle.palm_model.specs.declared.constraint.Op.TheVariants.{Eq, Ne, Lt, Le, Gt, Ge}
 use Rattle.palm_model.specs.declared.part.Part.{Part}
 use Rattle.palm_model.specs.declared.part.Part.TheVariants.{CompareVar as CompareVarPart, CompareConst as CompareConstPart}
-use Rattle.palm_model.proofs.Reasons.{pairs_more, pairs_same}
 use Rattle.palm_model.proofs.Standing.{stands_from_test, test_from_stands}
 use Rattle.palm_model.proofs.Supports.{supported_by_part, lacking_by_part, two, two_first, two_second, support_by_two, support_by_one}
 use Rattle.palm_model.proofs.Trials.{put, put_same}
@@ -86,14 +85,6 @@ unmet_above vs d greatest is high n met = elim is [
   | inl e ↦ subst (λ o. (Stands o greatest d.bound → ⊥) → Stands o met.value d.bound → ⊥) (sym e) (λ n h. n (omega (arith, ints, h, high.greatest met.value met.member))) n met.stands
   | inr e ↦ subst (λ o. (Stands o greatest d.bound → ⊥) → Stands o met.value d.bound → ⊥) (sym e) (λ n h. n (omega (arith, ints, h, high.greatest met.value met.member))) n met.stands
 ]
-
--- ---- the pairs that meet a demand, one value after another
-
-pub meeting_more : (vs : List ℤ) (i : ℕ) (d : Demand) (v : ℤ) (before out now : List Pair) → i < length vs → v ≡ get_or vs i v → is_standing d.op v d.bound ≡ true → out ≡ before ++ pairs_of d.var (meeting_values (take i vs) d) → now ≡ out ++ record { var = d.var; value = v } ∷ [] → now ≡ before ++ pairs_of d.var (meeting_values (take (i + 1) vs) d)
-meeting_more vs i d v before out now lt at t e f = pairs_more (λ w. is_standing d.op w d.bound) d.var vs i v before out now lt at t e f
-
-pub meeting_same : (vs : List ℤ) (i : ℕ) (d : Demand) (v : ℤ) (before out now : List Pair) → i < length vs → v ≡ get_or vs i v → is_standing d.op v d.bound ≡ false → out ≡ before ++ pairs_of d.var (meeting_values (take i vs) d) → now ≡ out → now ≡ before ++ pairs_of d.var (meeting_values (take (i + 1) vs) d)
-meeting_same vs i d v before out now lt at t e f = pairs_same (λ w. is_standing d.op w d.bound) d.var vs i v before out now lt at t e f
 
 -- ---- what is asked of the other variable
 

@@ -7,7 +7,7 @@ ghost use Rattle.palm_model.specs.Constraint.{IsWellFormed};
 use crate::demand::{Demand, flipped};
 use palm_base::{NoMemory, Pair, Var, VarList};
 use palm_domain::DomainStore;
-use palm_filter::{Filter, Reasons};
+use palm_filter::{Filter, Reasons, whole_or_none};
 use palm_model::{Con, Op, number_of};
 use std::alloc::Global;
 use std::marker::Model;
@@ -127,7 +127,10 @@ impl Filter for CompareFilter {
         // The store tells here what it holds of its values: a reason is right where they ascend.
         let _ = store.variables();
         match &self.comparison {
-            Comparison::Variables(comparison) => comparison.demand(&pair).declared(store, out),
+            Comparison::Variables(comparison) => {
+                let written = comparison.demand(&pair).push_declared(store, out);
+                whole_or_none(written, out)
+            }
             Comparison::Constant(_) => Ok(()),
         }
     }

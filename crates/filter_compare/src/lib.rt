@@ -5,6 +5,3 @@ mod compare;
 mod demand;
 
 pub use compare::CompareFilter;
-
-#[cfg(test)]
-mod tests;

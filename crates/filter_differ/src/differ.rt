@@ -1,4 +1,4 @@
-//! The filter of a difference.
+//! The filter of variables that differ.
 ghost use Rattle.std.specs.Prelude.{◌≡◌, ◌++◌, ◌<◌, ℕ, length, All, IfOk, OnOk};
 ghost use Rattle.palm_model.specs.Differ.{IsDiffer, differ_reason};
 ghost use Rattle.palm_domain.specs.Rows.{initial_of, present_of};
@@ -12,7 +12,7 @@ use palm_model::Con;
 use std::alloc::Global;
 use std::marker::Model;
 
-/// Filters a difference. It asks for support in one pass over the other variables, by the ends of their domains.
+/// Filters variables that differ. It asks for support in one pass over the other variables, by the ends of their domains.
 #[derive(Debug, Drop)]
 pub struct DifferFilter {
     vars: VarList,
@@ -47,7 +47,7 @@ fn push_reason(
 }
 
 impl DifferFilter {
-    /// The filter of a difference.
+    /// The filter of variables that differ.
     pub fn new(alloc: Global, con: &Con) -> Result<DifferFilter, NoMemory>
         requires formed { (variables : ℕ) × IsWellFormed variables con.now }
         requires kind { IsDiffer con.now }

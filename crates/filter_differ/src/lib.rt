@@ -1,10 +1,7 @@
-//! The filter of a difference: no two of the variables have one value.
+//! The filter of variables that differ: no two of the variables have one value.
 #![tactic(auto)]
 
 mod differ;
 mod others;
 
 pub use differ::DifferFilter;
-
-#[cfg(test)]
-mod tests;

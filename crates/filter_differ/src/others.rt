@@ -1,6 +1,7 @@
 //! What the other variables leave for the value of a pair.
 ghost use Rattle.std.specs.Prelude.{◌≡◌, ◌<◌, [], ◌∷◌, length, true, false, All, MatchOption};
 ghost use Rattle.filter_differ.specs.Differ.{HasOther, LeavesRoom, TakesRoom, first_lone, is_lone};
+ghost use Rattle.palm_base.specs.Tells.{Tells};
 ghost use Rattle.palm_domain.specs.Rows.{present_of};
 ghost use Rattle.palm_model.specs.Domains.{values_of};
 
@@ -11,8 +12,7 @@ use palm_filter::is_alone;
 /// Whether the variable has another present value than this one.
 fn has_other(store: &DomainStore, var: &Var, value: &Value) -> bool
     requires { var.now < length store.now }
-    ensures other { result ≡ true → HasOther (values_of (present_of store.now) var.now) value.now }
-    ensures none { result ≡ false → HasOther (values_of (present_of store.now) var.now) value.now → ⊥ }
+    ensures { Tells result (HasOther (values_of (present_of store.now) var.now) value.now) }
 {
     store.count(*var) > 0 && (store.least(*var) != *value || store.greatest(*var) != *value)
 }

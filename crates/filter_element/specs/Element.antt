@@ -1,9 +1,9 @@
 -- The constraint of an element of a list, and when a value of one of its two variables goes with one of the other's.
-use Rattle.std.specs.Prelude.{◌≡◌, ℕ, ℤ, pos, ◌+◌, Some, slice_get, ⊤}
+use Rattle.std.specs.Prelude.{◌≡◌, ℕ, ℤ, pos, ◌+◌, Some, slice_get}
 use Rattle.palm_model.specs.Domains.{Domains, Has}
 use Rattle.palm_model.specs.Element.{entry_at}
 use Rattle.palm_model.specs.declared.constraint.Con.{Con}
-use Rattle.palm_model.specs.declared.constraint.Con.TheVariants.{CompareVar, CompareConst, Linear, Table, Element, Count, Differ}
+use Rattle.palm_model.specs.declared.constraint.Con.TheVariants.{Element}
 use Rattle.filter_element.specs.declared.rule.ElementRule.{ElementRule}
 
 abbrev pub element_of : ElementRule → Con
@@ -16,7 +16,7 @@ pub record IsEntryReached (d : Domains) (c : ElementRule) (w : ℤ) : Type 0 whe
   pub index : Has d c.index (pos (place + 1))
 
 -- there is an entry at index k, and the outcome variable has it
-pub record IsOpen (d : Domains) (c : ElementRule) (k : ℤ) : Type 0 where
+pub record IsEntryOpen (d : Domains) (c : ElementRule) (k : ℤ) : Type 0 where
   pub entry : ℤ
   pub stands : entry_at c.entries k ≡ Some entry
   pub outcome : Has d c.outcome entry

@@ -16,7 +16,7 @@ use std::marker::Model;
 #[derive(Debug, Drop)]
 pub struct ElementFilter {
     vars: VarList,
-    choice: ElementRule,
+    rule: ElementRule,
 }
 
 impl Model for ElementFilter {
@@ -27,9 +27,9 @@ impl Model for ElementFilter {
 
     ghost Value = { Con };
 
-    ghost view = { λ f. element_of f.choice };
+    ghost view = { λ f. element_of f.rule };
 
-    ghost invariant = { λ f. (f.vars ≡ scope (element_of f.choice)) × ((variables : ℕ) × IsWellFormed variables (element_of f.choice)) };
+    ghost invariant = { λ f. (f.vars ≡ scope (element_of f.rule)) × ((variables : ℕ) × IsWellFormed variables (element_of f.rule)) };
 }
 
 impl ElementFilter {
@@ -46,7 +46,7 @@ impl ElementFilter {
                 entries,
             } => Ok(ElementFilter {
                 vars: VarList::from_slice(alloc, &[*outcome, *index])?,
-                choice: ElementRule {
+                rule: ElementRule {
                     outcome: *outcome,
                     index: *index,
                     entries: ValueIndex::new(alloc, entries.as_slice())?,
@@ -65,10 +65,10 @@ impl Filter for ElementFilter {
     }
 
     fn supported(&self, store: &DomainStore, pair: Pair) -> bool {
-        if pair.var == self.choice.outcome {
-            self.choice.is_reached(store, &pair.value)
+        if pair.var == self.rule.outcome {
+            self.rule.is_entry_reached(store, &pair.value)
         } else {
-            self.choice.is_open(store, &pair.value)
+            self.rule.is_entry_open(store, &pair.value)
         }
     }
 
@@ -76,7 +76,7 @@ impl Filter for ElementFilter {
         out.clear();
         // The store tells here what it holds of its values: a reason is right where they ascend.
         let _ = store.variables();
-        let written = self.choice.push_reason(store, &pair, out);
+        let written = self.rule.push_reason(store, &pair, out);
         whole_or_none(written, out)
     }
 }

@@ -5,6 +5,3 @@ mod element;
 mod rule;
 
 pub use element::ElementFilter;
-
-#[cfg(test)]
-mod tests;

@@ -1,14 +1,15 @@
 //! The entry of a list that is chosen by an index, counted from 1.
-ghost use Rattle.std.specs.Prelude.{◌≡◌, ◌++◌, ◌+◌, ◌<◌, ◌≤◌, pos, length, true, false, OnOk};
-ghost use Rattle.filter_element.specs.Element.{IsOpen, IsEntryReached};
+ghost use Rattle.std.specs.Prelude.{◌≡◌, ◌++◌, ◌+◌, ◌<◌, ◌≤◌, pos, length, OnOk};
+ghost use Rattle.filter_element.specs.Element.{IsEntryOpen, IsEntryReached};
+ghost use Rattle.palm_base.specs.Tells.{Tells};
 ghost use Rattle.palm_domain.specs.Rows.{initial_of, present_of};
 ghost use Rattle.palm_model.specs.Element.{element_reason, entry_at, indices_of, is_entry, outcomes_at};
 ghost use Rattle.palm_model.specs.Removed.{pairs_of};
 
 use palm_base::{NoMemory, Pair, Value, Var};
 use palm_domain::DomainStore;
-use palm_filter::{Reasons, ValueIndex};
-use palm_model::number_of;
+use palm_filter::{Reasons, ValueIndex, push_passing};
+use palm_model::{MOST_ROWS, number_of};
 
 /// `outcome` is the entry at `index`, counted from 1.
 #[derive(Debug, Drop)]
@@ -20,7 +21,7 @@ pub struct ElementRule {
 
 /// The index of a place, which is counted from 0.
 fn index_of(place: usize) -> Value
-    requires { place < 256 }
+    requires { place < MOST_ROWS }
     ensures { result ≡ pos (place + 1) }
 {
     Value((place + 1) as i32)
@@ -28,11 +29,10 @@ fn index_of(place: usize) -> Value
 
 impl ElementRule {
     /// Whether the value is the entry at a present index.
-    pub(crate) fn is_reached(&self, store: &DomainStore, outcome: &Value) -> bool
+    pub(crate) fn is_entry_reached(&self, store: &DomainStore, outcome: &Value) -> bool
         requires index { self.now.index < length store.now }
-        requires few { length self.now.entries ≤ 256 }
-        ensures reached { result ≡ true → IsEntryReached (present_of store.now) self.now outcome.now }
-        ensures missed { result ≡ false → IsEntryReached (present_of store.now) self.now outcome.now → ⊥ }
+        requires few { length self.now.entries ≤ MOST_ROWS }
+        ensures { Tells result (IsEntryReached (present_of store.now) self.now outcome.now) }
     {
         for place in self.entries.places(outcome) {
             if store.contains(Pair {
@@ -46,10 +46,9 @@ impl ElementRule {
     }
 
     /// Whether there is an entry at the index, and it is a present outcome.
-    pub(crate) fn is_open(&self, store: &DomainStore, index: &Value) -> bool
+    pub(crate) fn is_entry_open(&self, store: &DomainStore, index: &Value) -> bool
         requires { self.now.outcome < length store.now }
-        ensures open { result ≡ true → IsOpen (present_of store.now) self.now index.now }
-        ensures closed { result ≡ false → IsOpen (present_of store.now) self.now index.now → ⊥ }
+        ensures { Tells result (IsEntryOpen (present_of store.now) self.now index.now) }
     {
         let Some(entry) = self.entry(index) else {
             return false;
@@ -109,15 +108,12 @@ impl ElementRule {
         requires { self.now.index < length store.now }
         ensures { OnOk result (out.new.items ≡ out.old.items ++ pairs_of self.now.index (indices_of (initial_of store.now) self.now.index self.now.entries outcome.now)) }
     {
-        for index in store.initial_values(self.index) {
-            if self.is_entry(index, outcome) {
-                out.push(Pair {
-                    var: self.index,
-                    value: *index,
-                })?;
-            }
-        }
-        Ok(())
+        push_passing(
+            store.initial_values(self.index),
+            self.index,
+            |index| self.is_entry(index, outcome),
+            out,
+        )
     }
 
     /// Appends the entry at the index, where there is one and it is declared.
@@ -130,8 +126,6 @@ impl ElementRule {
         requires { self.now.outcome < length store.now }
         ensures { OnOk result (out.new.items ≡ out.old.items ++ pairs_of self.now.outcome (outcomes_at (initial_of store.now) self.now.outcome self.now.entries index.now)) }
     {
-        // The declared values ascend, as `variables` tells.
-        prove!(store.variables() > 0);
         let Some(entry) = self.entry(index) else {
             return Ok(());
         };

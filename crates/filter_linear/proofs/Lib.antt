@@ -1,4 +1,3 @@
-pub mod ManyTerms
 pub mod LinearReasons
 pub mod LinearSupport
 pub mod Walks

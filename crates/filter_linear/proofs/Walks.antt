@@ -7,6 +7,7 @@ use Rattle.std.proofs.lemmas.List.{take_all}
 use Rattle.std.proofs.lemmas.List.Elements.{All-contains, AllWithin-more, AllWithin-none, All-from_all_within, Contains-get_or}
 use Rattle.palm_base.proofs.Members.{member_same, member_map, member_unmap, member_there, member_here}
 use Rattle.palm_domain.specs.Rows.{IsLeastOf, IsGreatestOf}
+use Rattle.palm_model.specs.declared.limits.TheConstants.{GREATEST_FACTOR, GREATEST_PRODUCT, MOST_SCOPE}
 use Rattle.palm_model.specs.Domains.{Domains, Has, values_of}
 use Rattle.palm_model.specs.Linear.{IsFactor, term_vars, least_of, greatest_of, products, least_total, greatest_total}
 use Rattle.palm_model.specs.Limits.{IsUpTo}
@@ -27,16 +28,16 @@ use Rattle.palm_reason.proofs.LinearReason.{pairs_by}
 -- ---- numbers through their 64 bits
 
 pub round_product : (z : ℤ) → IsProduct z → to_z w64 (of_z w64 z) ≡ z
-round_product z h = round_up_to z (up_to_more 214748364800000 4000000000000000 z (omega arith) h)
+round_product z h = round_up_to z (up_to_more GREATEST_PRODUCT 4000000000000000 z (omega arith) h)
 
-round_sum : (i : ℕ) (z : ℤ) → i ≤ 16 → IsUpTo (i * 214748364800000) z → to_z w64 (of_z w64 z) ≡ z
-round_sum i z few h = round_up_to z (up_to_more (i * 214748364800000) 4000000000000000 z (omega arith) h)
+round_sum : (i : ℕ) (z : ℤ) → i ≤ MOST_SCOPE → IsUpTo (i * GREATEST_PRODUCT) z → to_z w64 (of_z w64 z) ≡ z
+round_sum i z few h = round_up_to z (up_to_more (i * GREATEST_PRODUCT) 4000000000000000 z (omega arith) h)
 
 -- one more summand
-pub step_read : (i : ℕ) (m n : ℤ) → i ≤ 16 → IsUpTo (i * 214748364800000) m → IsProduct n → to_z w64 (of_z w64 (to_z w64 (of_z w64 m) +ℤ to_z w64 (of_z w64 n))) ≡ m +ℤ n
+pub step_read : (i : ℕ) (m n : ℤ) → i ≤ MOST_SCOPE → IsUpTo (i * GREATEST_PRODUCT) m → IsProduct n → to_z w64 (of_z w64 (to_z w64 (of_z w64 m) +ℤ to_z w64 (of_z w64 n))) ≡ m +ℤ n
 step_read i m n few h k = let e = round_sum i m few h in rw e (sum_read i m n few h k)
 
-pub step_fits : (i : ℕ) (m n : ℤ) → i ≤ 16 → IsUpTo (i * 214748364800000) m → IsProduct n → FitsSigned w64 (to_z w64 (of_z w64 m) +ℤ to_z w64 (of_z w64 n))
+pub step_fits : (i : ℕ) (m n : ℤ) → i ≤ MOST_SCOPE → IsUpTo (i * GREATEST_PRODUCT) m → IsProduct n → FitsSigned w64 (to_z w64 (of_z w64 m) +ℤ to_z w64 (of_z w64 n))
 step_fits i m n few h k =
     let e = round_sum i m few h in
     let f = round_product n k in
@@ -44,10 +45,10 @@ step_fits i m n few h k =
 
 -- ---- what one term can be
 
-rises : (f : ℤ) → IsUpTo 100000 f → int_lt (pos 0) (to_z w32 (of_z w32 f)) ≡ true → pos 0 <ℤ f
+rises : (f : ℤ) → IsUpTo GREATEST_FACTOR f → int_lt (pos 0) (to_z w32 (of_z w32 f)) ≡ true → pos 0 <ℤ f
 rises f k h = stands_from_test Lt (pos 0) f (subst (λ z. int_lt (pos 0) z ≡ true) (round_factor f k) h)
 
-falls : (f : ℤ) → IsUpTo 100000 f → int_lt (pos 0) (to_z w32 (of_z w32 f)) ≡ false → f ≤ℤ pos 0
+falls : (f : ℤ) → IsUpTo GREATEST_FACTOR f → int_lt (pos 0) (to_z w32 (of_z w32 f)) ≡ false → f ≤ℤ pos 0
 falls f k h =
     by_lt_z (pos 0) f
     (λ lt. absurd (both_ways (int_lt (pos 0) f) (subst (λ z. int_lt (pos 0) z ≡ false) (round_factor f k) h) (test_from_stands Lt (pos 0) f lt)))
@@ -111,8 +112,8 @@ pub record IsSpanTo (d : Domains) (terms : List Term) (x : ℕ) (v : ℤ) (i : �
   pub least : s.least ≡ least_total d (take i terms) x v
   pub greatest : s.greatest ≡ greatest_total d (take i terms) x v
   pub filled : AllWithin (IsFilledBeside d x) terms 0 i
-  pub least_small : IsUpTo (i * 214748364800000) s.least
-  pub greatest_small : IsUpTo (i * 214748364800000) s.greatest
+  pub least_small : IsUpTo (i * GREATEST_PRODUCT) s.least
+  pub greatest_small : IsUpTo (i * GREATEST_PRODUCT) s.greatest
 
 module _ (d : Domains) (terms : List Term) (x : ℕ) (v : ℤ) where
   pub span_none : IsSpanTo d terms x v 0 (record { least = pos 0; greatest = pos 0 })
@@ -134,20 +135,20 @@ module _ (d : Domains) (terms : List Term) (x : ℕ) (v : ℤ) where
       ap (λ z. z +ℤ n) (e ∙ greatest_by d (take i terms) x v) ∙ ap (λ z. total_by (λ u. greatest_of (products d u)) (take i terms) x v +ℤ z) f
       ∙ sym (greatest_by d (take (i + 1) terms) x v ∙ total_by_more (λ u. greatest_of (products d u)) terms i t x v lt at)
 
-  pub span_more : (i : ℕ) (t : Term) (s share : Span) → i < length terms → length terms ≤ 16 → t ≡ get_or terms i t → IsSpanTo d terms x v i s → IsShare d x v t share → IsSpanTo d terms x v (i + 1) (record {
+  pub span_more : (i : ℕ) (t : Term) (s share : Span) → i < length terms → length terms ≤ MOST_SCOPE → t ≡ get_or terms i t → IsSpanTo d terms x v i s → IsShare d x v t share → IsSpanTo d terms x v (i + 1) (record {
     least = to_z w64 (of_z w64 (to_z w64 (of_z w64 s.least) +ℤ to_z w64 (of_z w64 share.least)));
     greatest = to_z w64 (of_z w64 (to_z w64 (of_z w64 s.greatest) +ℤ to_z w64 (of_z w64 share.greatest)));
   })
   span_more i t s share lt few at so_far is =
-      let up_to : i ≤ 16 = omega arith in
+      let up_to : i ≤ MOST_SCOPE = omega arith in
       let low = step_read i s.least share.least up_to so_far.least_small is.least_small in
       let high = step_read i s.greatest share.greatest up_to so_far.greatest_small is.greatest_small in
       record {
         least = low ∙ least_more i t s.least share.least lt at so_far.least is.least;
         greatest = high ∙ greatest_more i t s.greatest share.greatest lt at so_far.greatest is.greatest;
         filled = AllWithin-more (IsFilledBeside d x) terms 0 i so_far.filled (λ u. subst (IsFilledBeside d x) (at_any terms i t u lt at) is.filled);
-        least_small = subst (λ z. IsUpTo ((i + 1) * 214748364800000) z) (sym low) (sum_up_to i s.least share.least so_far.least_small is.least_small);
-        greatest_small = subst (λ z. IsUpTo ((i + 1) * 214748364800000) z) (sym high) (sum_up_to i s.greatest share.greatest so_far.greatest_small is.greatest_small);
+        least_small = subst (λ z. IsUpTo ((i + 1) * GREATEST_PRODUCT) z) (sym low) (sum_up_to i s.least share.least so_far.least_small is.least_small);
+        greatest_small = subst (λ z. IsUpTo ((i + 1) * GREATEST_PRODUCT) z) (sym high) (sum_up_to i s.greatest share.greatest so_far.greatest_small is.greatest_small);
       }
 
   pub span_end : (i : ℕ) (s : Span) → length terms ≤ i → i ≤ length terms → IsSpanTo d terms x v i s → IsSpan d terms x v s

@@ -5,6 +5,7 @@ use Rattle.palm_base.specs.declared.terms.Pair.{Pair}
 use Rattle.palm_model.specs.Limits.{IsUpTo}
 use Rattle.palm_model.specs.Domains.{Domains, values_of}
 use Rattle.palm_model.specs.Linear.{least_of, greatest_of, products, least_total, greatest_total, values_below, values_above, at_most_reason, at_least_reason}
+use Rattle.palm_model.specs.declared.limits.TheConstants.{GREATEST_PRODUCT}
 use Rattle.palm_model.specs.declared.constraint.Con.{Con}
 use Rattle.palm_model.specs.declared.constraint.Con.TheVariants.{Linear}
 use Rattle.palm_model.specs.declared.constraint.Op.{Op}
@@ -29,7 +30,7 @@ greatest_share d x v t = if nat_eq t.var x then t.factor *ℤ v else greatest_of
 
 -- a coefficient of the language times a value
 abbrev pub IsProduct : ℤ → Type 0
-IsProduct n = IsUpTo 214748364800000 n
+IsProduct n = IsUpTo GREATEST_PRODUCT n
 
 -- what the term can be, and its variable has some value
 pub record IsTermSpan (d : Domains) (t : Term) (s : Span) : Type 0 where

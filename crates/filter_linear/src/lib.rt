@@ -7,6 +7,3 @@ mod rule;
 mod span;
 
 pub use linear::LinearFilter;
-
-#[cfg(test)]
-mod tests;

@@ -18,7 +18,7 @@ use std::marker::Model;
 #[derive(Debug, Drop)]
 pub struct LinearFilter {
     vars: VarList,
-    sum: LinearRule,
+    rule: LinearRule,
 }
 
 impl Model for LinearFilter {
@@ -30,9 +30,9 @@ impl Model for LinearFilter {
 
     ghost Value = { Con };
 
-    ghost view = { λ f. linear_of f.sum };
+    ghost view = { λ f. linear_of f.rule };
 
-    ghost invariant = { λ f. (f.vars ≡ term_vars f.sum.terms) × ((variables : ℕ) × IsWellFormed variables (linear_of f.sum)) };
+    ghost invariant = { λ f. (f.vars ≡ term_vars f.rule.terms) × ((variables : ℕ) × IsWellFormed variables (linear_of f.rule)) };
 }
 
 impl LinearFilter {
@@ -45,7 +45,7 @@ impl LinearFilter {
         match con {
             Con::Linear { terms, op, bound } => Ok(LinearFilter {
                 vars: variables_of(alloc, terms)?,
-                sum: LinearRule {
+                rule: LinearRule {
                     terms: terms.copy()?,
                     op: *op,
                     bound: *bound,
@@ -75,8 +75,8 @@ impl Filter for LinearFilter {
     }
 
     fn supported(&self, store: &DomainStore, pair: Pair) -> bool {
-        match Span::of_sum(self.sum.terms.as_slice(), store, &pair) {
-            Some(span) => self.sum.is_met_within(&span),
+        match Span::of_sum(self.rule.terms.as_slice(), store, &pair) {
+            Some(span) => self.rule.is_met_within(&span),
             None => false,
         }
     }
@@ -85,7 +85,7 @@ impl Filter for LinearFilter {
         out.clear();
         // The store tells here what it holds of its values: a reason is right where they ascend.
         let _ = store.variables();
-        let written = push_reason(&self.sum, store, &pair, out);
+        let written = push_reason(&self.rule, store, &pair, out);
         whole_or_none(written, out)
     }
 }

@@ -12,7 +12,7 @@ use crate::rule::LinearRule;
 use crate::span::{Span, product_of};
 use palm_base::{NoMemory, Pair, Value};
 use palm_domain::DomainStore;
-use palm_filter::{Reasons, push_removed};
+use palm_filter::{Reasons, push_passing, push_removed};
 use palm_model::{Op, Term};
 
 /// On which side of the present values others are missing.
@@ -53,30 +53,27 @@ impl Side {
             Some(span) => span,
             None => unreachable!(),
         };
-        for value in store.initial_values(term.var) {
-            if self.is_beyond(&span, term, value) {
-                out.push(Pair {
-                    var: term.var,
-                    value: *value,
-                })?;
-            }
-        }
-        Ok(())
+        push_passing(
+            store.initial_values(term.var),
+            term.var,
+            |value| self.is_beyond(&span, term, value),
+            out,
+        )
     }
 
     /// Appends these pairs of every variable of the sum but that of the pair.
     fn push_pairs(
         self,
-        sum: &LinearRule,
+        rule: &LinearRule,
         store: &DomainStore,
         pair: &Pair,
         out: &mut Reasons,
     ) -> Result<(), NoMemory>
-        requires formed { IsWellFormed (length store.now) (linear_of sum.now) }
-        requires filled { AreFilled (present_of store.now) (term_vars sum.now.terms) }
-        ensures { OnOk result (out.new.items ≡ out.old.items ++ beyond_reason self (initial_of store.now) (present_of store.now) sum.now.terms pair.now.var) }
+        requires formed { IsWellFormed (length store.now) (linear_of rule.now) }
+        requires filled { AreFilled (present_of store.now) (term_vars rule.now.terms) }
+        ensures { OnOk result (out.new.items ≡ out.old.items ++ beyond_reason self (initial_of store.now) (present_of store.now) rule.now.terms pair.now.var) }
     {
-        for term in sum.terms.as_slice() {
+        for term in rule.terms.as_slice() {
             if term.var != pair.var {
                 self.push_values(term, store, out)?;
             }
@@ -87,15 +84,15 @@ impl Side {
 
 /// Appends the removed pairs of every variable of the sum but that of the pair.
 fn push_others(
-    sum: &LinearRule,
+    rule: &LinearRule,
     store: &DomainStore,
     pair: &Pair,
     out: &mut Reasons,
 ) -> Result<(), NoMemory>
-    requires formed { IsWellFormed (length store.now) (linear_of sum.now) }
-    ensures { OnOk result (out.new.items ≡ out.old.items ++ removed_pairs (initial_of store.now) (present_of store.now) (others (term_vars sum.now.terms) pair.now.var)) }
+    requires formed { IsWellFormed (length store.now) (linear_of rule.now) }
+    ensures { OnOk result (out.new.items ≡ out.old.items ++ removed_pairs (initial_of store.now) (present_of store.now) (others (term_vars rule.now.terms) pair.now.var)) }
 {
-    for term in sum.terms.as_slice() {
+    for term in rule.terms.as_slice() {
         if term.var != pair.var {
             push_removed(store, term.var, out)?;
         }
@@ -105,21 +102,21 @@ fn push_others(
 
 /// Appends the removed pairs for which the sum does not stand in the relation where the variable has its value.
 pub(crate) fn push_reason(
-    sum: &LinearRule,
+    rule: &LinearRule,
     store: &DomainStore,
     pair: &Pair,
     out: &mut Reasons,
 ) -> Result<(), NoMemory>
-    requires formed { IsWellFormed (length store.now) (linear_of sum.now) }
-    requires filled { AreFilled (present_of store.now) (term_vars sum.now.terms) }
-    ensures { OnOk result (out.new.items ≡ out.old.items ++ linear_reason (initial_of store.now) (present_of store.now) sum.now.terms sum.now.op sum.now.bound pair.now.var pair.now.value) }
+    requires formed { IsWellFormed (length store.now) (linear_of rule.now) }
+    requires filled { AreFilled (present_of store.now) (term_vars rule.now.terms) }
+    ensures { OnOk result (out.new.items ≡ out.old.items ++ linear_reason (initial_of store.now) (present_of store.now) rule.now.terms rule.now.op rule.now.bound pair.now.var pair.now.value) }
 {
-    match sum.op {
-        Op::Eq => sum
+    match rule.op {
+        Op::Eq => rule
             .missing_side(store, pair)
-            .push_pairs(sum, store, pair, out),
-        Op::Ne => push_others(sum, store, pair, out),
-        Op::Lt | Op::Le => Side::Below.push_pairs(sum, store, pair, out),
-        Op::Gt | Op::Ge => Side::Above.push_pairs(sum, store, pair, out),
+            .push_pairs(rule, store, pair, out),
+        Op::Ne => push_others(rule, store, pair, out),
+        Op::Lt | Op::Le => Side::Below.push_pairs(rule, store, pair, out),
+        Op::Gt | Op::Ge => Side::Above.push_pairs(rule, store, pair, out),
     }
 }

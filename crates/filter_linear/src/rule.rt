@@ -1,7 +1,8 @@
 //! The sum that is filtered, and the side on which it fails.
-ghost use Rattle.std.specs.Prelude.{◌≡◌, length, true, false, int_lt, if◌then◌else◌};
+ghost use Rattle.std.specs.Prelude.{◌≡◌, length, int_lt, if◌then◌else◌};
 ghost use Rattle.filter_linear.specs.Linear.{IsMetWithin, linear_of};
 ghost use Rattle.filter_linear.specs.declared.reasons.Side.TheVariants.{Below, Above};
+ghost use Rattle.palm_base.specs.Tells.{Tells};
 ghost use Rattle.palm_domain.specs.Rows.{present_of};
 ghost use Rattle.palm_model.specs.Constraint.{IsWellFormed};
 ghost use Rattle.palm_model.specs.Linear.{term_vars, least_total};
@@ -24,8 +25,7 @@ pub struct LinearRule {
 impl LinearRule {
     /// Whether a sum within the span can stand in the relation to the bound.
     pub(crate) fn is_met_within(&self, span: &Span) -> bool
-        ensures met { result ≡ true → IsMetWithin self.now.op self.now.bound span.now }
-        ensures unmet { result ≡ false → IsMetWithin self.now.op self.now.bound span.now → ⊥ }
+        ensures { Tells result (IsMetWithin self.now.op self.now.bound span.now) }
     {
         match self.op {
             Op::Eq => span.least <= self.bound && self.bound <= span.greatest,

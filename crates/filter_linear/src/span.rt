@@ -7,7 +7,7 @@ ghost use Rattle.palm_model.specs.Domains.{values_of};
 
 use palm_base::{Pair, Value};
 use palm_domain::DomainStore;
-use palm_model::{Term, number_of};
+use palm_model::{MOST_SCOPE, Term, number_of};
 
 /// The least and the greatest number that a term or a sum can be.
 #[derive(Debug, Drop)]
@@ -30,7 +30,7 @@ impl Span {
     /// has no value.
     pub(crate) fn of_sum(terms: &[Term], store: &DomainStore, pair: &Pair) -> Option<Span>
         requires factors { All IsFactor terms.now }
-        requires few { length terms.now ≤ 16 }
+        requires few { length terms.now ≤ MOST_SCOPE }
         requires declared { All (λ x. x < length store.now) (term_vars terms.now) }
         ensures some { IfSome result (IsSpan (present_of store.now) terms.now pair.now.var pair.now.value) }
         ensures none { IfNone result (All (IsFilledBeside (present_of store.now) pair.now.var) terms.now → ⊥) }

@@ -9,6 +9,7 @@ use Rattle.palm_model.specs.Constraint.{scope, Distinct, IsWellFormed}
 use Rattle.palm_model.specs.Support.{IsSupported, LacksSupport}
 use Rattle.palm_model.specs.Removed.{is_listed, pairs_of}
 use Rattle.palm_model.specs.Reason.{reason, AreFilled}
+use Rattle.palm_model.specs.declared.limits.TheConstants.{MOST_SCOPE}
 use Rattle.palm_model.specs.declared.constraint.Con.{Con}
 use Rattle.palm_model.specs.declared.constraint.Target.TheVariants.{Variable}
 use Rattle.palm_model.specs.declared.part.Part.TheVariants.{Count as CountPart}
@@ -34,7 +35,7 @@ module _ (o : CountRule) (m : Con) (n : ℕ) (is : count_of o ≡ m) (formed : I
   own_over : (x : ℕ) → Contains (scope m) x → Contains (o.vars ++ target_scope o.target) x
   own_over x over = subst (λ k. Contains (scope k) x) (sym is) over
 
-  few_vars : length o.vars ≤ 16
+  few_vars : length o.vars ≤ MOST_SCOPE
   few_vars = omega (arith, length-append o.vars (target_scope o.target), own_formed.few)
 
   pub vars_declared : All (λ y. y < n) o.vars

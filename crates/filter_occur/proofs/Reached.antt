@@ -1,8 +1,9 @@
 -- Whether a number of several stands in a relation to one of some values, by the least, the greatest or the next of them.
-use Rattle.std.proofs.Common.{◌≡◌, ℤ, pos, negsuc, ◌-◌, ◌≤◌, ◌<ℤ◌, ◌≤ℤ◌, true, false, List, [], ◌∷◌, Contains, ◌⊎◌, inl, inr, refl, sym, subst, arith}
+use Rattle.std.proofs.Common.{◌≡◌, ℤ, pos, negsuc, ◌-◌, ◌≤◌, ◌<ℤ◌, ◌≤ℤ◌, Bool, true, false, List, [], ◌∷◌, Contains, ◌⊎◌, inl, inr, refl, sym, subst, arith}
 use Rattle.std.proofs.lemmas.Int.{ints}
 use Rattle.std.proofs.lemmas.Bool.{cases_Bool}
 use Rattle.palm_base.proofs.Members.{member_here, member_single}
+use Rattle.palm_base.specs.Tells.{Tells}
 use Rattle.palm_domain.specs.Rows.{IsLeastOf, IsGreatestOf, IsNextFrom}
 use Rattle.palm_model.specs.Relation.{Stands}
 use Rattle.palm_model.specs.Count.{is_within_counts}
@@ -99,3 +100,24 @@ module _ (counts : Counts) where
         absurd (n (record { number = r.number; from = r.from; to = omega (arith, r.to, le); target = w; member = member_here w []; stands = r.stands }))
     | inr t ↦ t
   ]
+
+  pub told_test : (op : Op) (w : ℤ) (told : Bool) → counts.low ≤ counts.high → Tells told (IsCountReached counts op (w ∷ [])) → told ≡ is_within_counts counts.low (counts.high - counts.low) op w
+  told_test op w true le r = sym (reached_test op w r)
+  told_test op w false le n = sym (missed_test op w le n)
+
+  -- one of the values is enough
+  pub wider : (op : Op) (vs : List ℤ) (w : ℤ) → Contains vs w → IsCountReached counts op (w ∷ []) → IsCountReached counts op vs
+  wider op vs w m r = record {
+    number = r.number;
+    from = r.from;
+    to = r.to;
+    target = w;
+    member = m;
+    stands = subst (λ z. Stands op (pos r.number) z) (sym (member_single w r.target r.member)) r.stands;
+  }
+
+  pub op_equal_missed : (op : Op) (w : ℤ) → op ≡ Eq → pos counts.high <ℤ w → IsCountReached counts op (w ∷ []) → ⊥
+  op_equal_missed op w is gt r =
+      let e : pos r.number ≡ r.target = subst (λ o. Stands o (pos r.number) r.target) is r.stands in
+      let f : w ≡ r.target = member_single w r.target r.member in
+      omega (arith, ints, gt, e, f, r.to)

@@ -3,13 +3,12 @@ use Rattle.std.proofs.Common.{◌≡◌, ℕ, ℤ, ◌+◌, ◌<◌, ◌<ℤ◌,
 use Rattle.std.proofs.lemmas.Bool.Decides.{Decides-int_eq}
 use Rattle.std.proofs.lemmas.Grind.{flat_map-append}
 use Rattle.std.proofs.lemmas.List.Elements.{All-nil, filter_more}
-use Rattle.palm_base.proofs.Members.{member_nil, member_here, member_single, member_same, filter_member, member_filter}
+use Rattle.palm_base.proofs.Members.{member_here, member_single, member_same, filter_member, member_filter}
 use Rattle.palm_base.specs.declared.terms.Pair.{Pair}
-use Rattle.palm_model.specs.Domains.{Domains, Has, Ascends, AllAscend, values_of}
+use Rattle.palm_model.specs.Domains.{Domains, Has, Ascends, values_of}
 use Rattle.palm_model.specs.Removed.{is_listed, others, pairs_of}
 use Rattle.palm_model.specs.Count.{high_pairs}
-use Rattle.palm_model.proofs.Ascending.{ascends_at, ascends_filter, ascending_same}
-use Rattle.filter_occur.proofs.Counting.{listed_is}
+use Rattle.palm_model.proofs.Ascending.{ascends_filter, ascending_same}
 
 -- ---- the pairs of one variable after another
 
@@ -37,13 +36,15 @@ same_kept vs v up m =
     (λ w k. let r = filter_member (λ u. int_eq u v) vs w k in member_same (v ∷ []) v w (sym ((Decides-int_eq w v).0 r.1)) (member_here v []))
     (λ w k. let e = member_single v w k in member_same (filter (λ u. int_eq u v) vs) v w e (member_filter (λ u. int_eq u v) vs v m ((Decides-int_eq v v).1 refl)))
 
-none_kept : (vs : List ℤ) (v : ℤ) → Ascends vs → (Contains vs v → ⊥) → filter (λ w. int_eq w v) vs ≡ []
-none_kept vs v up n =
-    ascending_same (filter (λ w. int_eq w v) vs) [] (ascends_filter (λ w. int_eq w v) vs up) tt
-    (λ w k. let r = filter_member (λ u. int_eq u v) vs w k in absurd (n (member_same vs w v ((Decides-int_eq w v).0 r.1) r.0)))
-    (λ w k. absurd (member_nil w k))
+no_members : (vs : List ℤ) → ((v : ℤ) → Contains vs v → ⊥) → vs ≡ []
+no_members [] none = refl
+no_members (v ∷ vs) none = absurd (none v (member_here v vs))
 
-module _ (initial present : Domains) (up : AllAscend initial) (value : ℤ) (y : ℕ) where
+none_kept : (vs : List ℤ) (v : ℤ) → (Contains vs v → ⊥) → filter (λ w. int_eq w v) vs ≡ []
+none_kept vs v n = no_members (filter (λ w. int_eq w v) vs)
+    (λ w k. let r = filter_member (λ u. int_eq u v) vs w k in n (member_same vs w v ((Decides-int_eq w v).0 r.1) r.0))
+
+module _ (initial present : Domains) (value : ℤ) (y : ℕ) where
   turned : {X : Type 0} (b : Bool) (xs : List X) → cond b [] xs ≡ cond (not b) xs []
   turned true xs = refl
   turned false xs = refl
@@ -52,12 +53,12 @@ module _ (initial present : Domains) (up : AllAscend initial) (value : ℤ) (y :
   neither true ps e = refl
   neither false ps e = e
 
-  pub declared_high : Has initial y value → (b : Bool) → (b ≡ true → Has present y value) → (b ≡ false → Has present y value → ⊥) → high_pairs initial present value y ≡ cond (not b) (record { var = y; value = value } ∷ []) []
-  declared_high has b to back =
-      ap (λ ws. cond (is_listed (values_of present y) value) [] (pairs_of y ws)) (same_kept (values_of initial y) value (ascends_at initial y up) has)
-      ∙ ap (λ c. cond c [] (record { var = y; value = value } ∷ [])) (sym (listed_is (values_of present y) value b to back))
-      ∙ turned b (record { var = y; value = value } ∷ [])
+  pub declared_high : Ascends (values_of initial y) → Has initial y value → (missing : Bool) → missing ≡ not (is_listed (values_of present y) value) → high_pairs initial present value y ≡ cond missing (record { var = y; value = value } ∷ []) []
+  declared_high up has missing e =
+      ap (λ ws. cond (is_listed (values_of present y) value) [] (pairs_of y ws)) (same_kept (values_of initial y) value up has)
+      ∙ turned (is_listed (values_of present y) value) (record { var = y; value = value } ∷ [])
+      ∙ ap (λ c. cond c (record { var = y; value = value } ∷ []) []) (sym e)
 
   pub undeclared_high : (Has initial y value → ⊥) → high_pairs initial present value y ≡ []
   undeclared_high n =
-      neither (is_listed (values_of present y) value) (pairs_of y (filter (λ w. int_eq w value) (values_of initial y))) (ap (pairs_of y) (none_kept (values_of initial y) value (ascends_at initial y up) n))
+      neither (is_listed (values_of present y) value) (pairs_of y (filter (λ w. int_eq w value) (values_of initial y))) (ap (pairs_of y) (none_kept (values_of initial y) value n))

@@ -8,6 +8,7 @@ use Rattle.palm_model.specs.declared.constraint.Con.{Con}
 use Rattle.palm_model.specs.declared.constraint.Con.TheVariants.{Count}
 use Rattle.palm_model.specs.declared.constraint.Op.{Op}
 pub use Rattle.palm_reason.specs.Count.{values_where, target_values, low_count, high_count}
+use Rattle.palm_model.specs.declared.limits.TheConstants.{MOST_SCOPE}
 use Rattle.filter_occur.specs.declared.counts.Counts.{Counts}
 use Rattle.filter_occur.specs.declared.rule.Chance.{Chance}
 use Rattle.filter_occur.specs.declared.rule.CountRule.{CountRule}
@@ -26,7 +27,7 @@ pub record AreCounts (d : Domains) (x : ℕ) (v : ℤ) (o : CountRule) (counts :
   pub low : counts.low ≡ low_count (values_where d x v) o.value o.vars
   pub high : counts.high ≡ high_count (values_where d x v) o.value o.vars
   pub ordered : counts.low ≤ counts.high
-  pub small : counts.high ≤ 16
+  pub small : counts.high ≤ MOST_SCOPE
   pub filled : All (λ y. 0 < length (values_where d x v y)) o.vars
 
 -- one of the numbers stands in the relation to one of the values

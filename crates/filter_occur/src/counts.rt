@@ -1,15 +1,16 @@
 //! How many of some variables have a value: at least so many, and at most so many.
-ghost use Rattle.std.specs.Prelude.{◌≡◌, ◌++◌, ◌-◌, ◌<◌, ◌≤◌, [], ◌∷◌, length, true, false, filter, OnOk};
+ghost use Rattle.std.specs.Prelude.{◌≡◌, ◌++◌, ◌-◌, ◌<◌, ◌≤◌, [], ◌∷◌, length, filter, OnOk};
 ghost use Rattle.filter_occur.specs.Count.{IsCountReached};
+ghost use Rattle.palm_base.specs.Tells.{Tells};
 ghost use Rattle.palm_domain.specs.Rows.{initial_of, present_of};
 ghost use Rattle.palm_model.specs.Domains.{values_of};
 ghost use Rattle.palm_model.specs.Count.{is_within_counts};
 ghost use Rattle.palm_model.specs.Removed.{pairs_of};
 
-use palm_base::{NoMemory, Pair, Value, Var};
+use palm_base::{NoMemory, Value, Var};
 use palm_domain::DomainStore;
-use palm_filter::Reasons;
-use palm_model::{Op, number_of, stands};
+use palm_filter::{Reasons, push_passing};
+use palm_model::{MOST_SCOPE, Op, number_of, stands};
 
 /// Every number from the lower to the higher one is the count in some assignment.
 #[derive(Debug, Drop)]
@@ -22,10 +23,9 @@ impl Counts {
     /// Whether one of the numbers stands in the relation to a present value of the variable.
     pub(crate) fn fits_some(&self, op: Op, store: &DomainStore, target: Var) -> bool
         requires ordered { self.now.low ≤ self.now.high }
-        requires small { self.now.high ≤ 16 }
+        requires small { self.now.high ≤ MOST_SCOPE }
         requires declared { target < length store.now }
-        ensures reached { result ≡ true → IsCountReached self.now op (values_of (present_of store.now) target) }
-        ensures missed { result ≡ false → IsCountReached self.now op (values_of (present_of store.now) target) → ⊥ }
+        ensures { Tells result (IsCountReached self.now op (values_of (present_of store.now) target)) }
     {
         if store.count(target) == 0 {
             return false;
@@ -43,8 +43,7 @@ impl Counts {
     /// Whether one of the numbers stands in the relation to the value.
     pub(crate) fn fits(&self, op: Op, value: &Value) -> bool
         requires { self.now.low ≤ self.now.high }
-        ensures reached { result ≡ true → IsCountReached self.now op (value.now ∷ []) }
-        ensures missed { result ≡ false → IsCountReached self.now op (value.now ∷ []) → ⊥ }
+        ensures { Tells result (IsCountReached self.now op (value.now ∷ [])) }
     {
         let low = i64::from(self.low);
         let high = i64::from(self.high);
@@ -60,10 +59,9 @@ impl Counts {
     /// Whether one of the numbers is a present value of the variable.
     fn meets(&self, store: &DomainStore, target: Var) -> bool
         requires ordered { self.now.low ≤ self.now.high }
-        requires small { self.now.high ≤ 16 }
+        requires small { self.now.high ≤ MOST_SCOPE }
         requires declared { target < length store.now }
-        ensures reached { result ≡ true → IsCountReached self.now Op.Eq (values_of (present_of store.now) target) }
-        ensures missed { result ≡ false → IsCountReached self.now Op.Eq (values_of (present_of store.now) target) → ⊥ }
+        ensures { Tells result (IsCountReached self.now Op.Eq (values_of (present_of store.now) target)) }
     {
         match store.next_from(target, Value(self.low as i32)) {
             Some(value) => number_of(&value) <= i64::from(self.high),
@@ -83,14 +81,11 @@ impl Counts {
         requires declared { target < length store.now }
         ensures { OnOk result (out.new.items ≡ out.old.items ++ pairs_of target (filter (is_within_counts self.now.low (self.now.high - self.now.low) op) (values_of (initial_of store.now) target))) }
     {
-        for value in store.initial_values(target) {
-            if self.fits(op, value) {
-                out.push(Pair {
-                    var: target,
-                    value: *value,
-                })?;
-            }
-        }
-        Ok(())
+        push_passing(
+            store.initial_values(target),
+            target,
+            |value| self.fits(op, value),
+            out,
+        )
     }
 }

@@ -6,6 +6,3 @@ mod counts;
 mod rule;
 
 pub use count::OccurFilter;
-
-#[cfg(test)]
-mod tests;

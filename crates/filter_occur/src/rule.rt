@@ -1,6 +1,7 @@
 //! The number of some variables that have a value, and the target that it is compared with.
-ghost use Rattle.std.specs.Prelude.{◌≡◌, ◌++◌, ◌<◌, ◌≤◌, [], ◌∷◌, length, true, false, flat_map, if◌then◌else◌, All, Contains, IfNone, IfSome, MatchOption, OnOk};
+ghost use Rattle.std.specs.Prelude.{◌≡◌, ◌++◌, ◌<◌, ◌≤◌, [], ◌∷◌, length, flat_map, if◌then◌else◌, All, Contains, IfNone, IfSome, MatchOption, OnOk};
 ghost use Rattle.filter_occur.specs.Count.{AreCounts, CanReach, IsChance, IsCountReached, target_values, values_where};
+ghost use Rattle.palm_base.specs.Tells.{Tells};
 ghost use Rattle.palm_domain.specs.Rows.{initial_of, present_of};
 ghost use Rattle.palm_model.specs.Constraint.{Distinct};
 ghost use Rattle.palm_model.specs.Count.{target_scope, count_reason, counted_pairs, high_pairs, low_pairs, needs_high, needs_low, target_pairs};
@@ -10,8 +11,8 @@ ghost use Rattle.palm_model.specs.Removed.{others};
 use crate::counts::Counts;
 use palm_base::{NoMemory, Pair, Value, Var, VarList};
 use palm_domain::DomainStore;
-use palm_filter::{Reasons, is_alone, push_removed};
-use palm_model::{Op, Target};
+use palm_filter::{Reasons, is_alone, is_missing, push_removed};
+use palm_model::{MOST_SCOPE, Op, Target};
 
 /// The number of the variables that have the value stands in the relation to the target.
 #[derive(Debug, Drop)]
@@ -48,23 +49,21 @@ impl CountRule {
     pub(crate) fn is_reachable(&self, store: &DomainStore, pair: &Pair) -> bool
         requires declared { All (λ y. y < length store.now) self.now.vars }
         requires target { All (λ y. y < length store.now) (target_scope self.now.target) }
-        requires few { length self.now.vars ≤ 16 }
-        ensures reached { result ≡ true → CanReach (present_of store.now) pair.now.var pair.now.value self.now }
-        ensures missed { result ≡ false → CanReach (present_of store.now) pair.now.var pair.now.value self.now → ⊥ }
+        requires few { length self.now.vars ≤ MOST_SCOPE }
+        ensures { Tells result (CanReach (present_of store.now) pair.now.var pair.now.value self.now) }
     {
         match self.counts(store, pair) {
-            Some(counts) => self.is_reached(&counts, store, pair),
+            Some(counts) => self.is_count_reached(&counts, store, pair),
             None => false,
         }
     }
 
     /// Whether one of the numbers stands in the relation to a value that the target may have.
-    fn is_reached(&self, counts: &Counts, store: &DomainStore, pair: &Pair) -> bool
+    fn is_count_reached(&self, counts: &Counts, store: &DomainStore, pair: &Pair) -> bool
         requires target { All (λ y. y < length store.now) (target_scope self.now.target) }
         requires ordered { counts.now.low ≤ counts.now.high }
-        requires small { counts.now.high ≤ 16 }
-        ensures reached { result ≡ true → IsCountReached counts.now self.now.op (target_values (present_of store.now) pair.now.var pair.now.value self.now.target) }
-        ensures missed { result ≡ false → IsCountReached counts.now self.now.op (target_values (present_of store.now) pair.now.var pair.now.value self.now.target) → ⊥ }
+        requires small { counts.now.high ≤ MOST_SCOPE }
+        ensures { Tells result (IsCountReached counts.now self.now.op (target_values (present_of store.now) pair.now.var pair.now.value self.now.target)) }
     {
         match &self.target {
             Target::Const(number) => counts.fits(self.op, number),
@@ -82,7 +81,7 @@ impl CountRule {
     /// where another variable has an empty domain.
     fn counts(&self, store: &DomainStore, pair: &Pair) -> Option<Counts>
         requires declared { All (λ y. y < length store.now) self.now.vars }
-        requires few { length self.now.vars ≤ 16 }
+        requires few { length self.now.vars ≤ MOST_SCOPE }
         ensures counts { IfSome result (AreCounts (present_of store.now) pair.now.var pair.now.value self.now) }
         ensures empty { IfNone result (All (λ y. 0 < length (values_where (present_of store.now) pair.now.var pair.now.value y)) self.now.vars → ⊥) }
     {
@@ -138,7 +137,7 @@ impl CountRule {
         requires declared { All (λ y. y < length store.now) self.now.vars }
         requires target { All (λ y. y < length store.now) (target_scope self.now.target) }
         requires distinct { Distinct (self.now.vars ++ target_scope self.now.target) }
-        requires few { length self.now.vars ≤ 16 }
+        requires few { length self.now.vars ≤ MOST_SCOPE }
         requires over { Contains (self.now.vars ++ target_scope self.now.target) pair.now.var }
         requires filled { AreFilled (present_of store.now) self.now.vars }
         ensures { OnOk result (out.new.items ≡ out.old.items ++ count_reason (initial_of store.now) (present_of store.now) self.now.value self.now.vars self.now.op self.now.target pair.now.var pair.now.value) }
@@ -206,7 +205,7 @@ impl CountRule {
         requires declared { All (λ y. y < length store.now) self.now.vars }
         requires target { All (λ y. y < length store.now) (target_scope self.now.target) }
         requires distinct { Distinct (self.now.vars ++ target_scope self.now.target) }
-        requires few { length self.now.vars ≤ 16 }
+        requires few { length self.now.vars ≤ MOST_SCOPE }
         requires over { Contains (self.now.vars ++ target_scope self.now.target) pair.now.var }
         requires filled { AreFilled (present_of store.now) self.now.vars }
         ensures { OnOk result (out.new.items ≡ out.old.items ++ target_pairs (initial_of store.now) (present_of store.now) self.now.value self.now.vars self.now.op self.now.target pair.now.var pair.now.value) }
@@ -231,13 +230,8 @@ fn is_removed(store: &DomainStore, pair: &Pair) -> bool
     requires { pair.now.var < length store.now }
     ensures { high_pairs (initial_of store.now) (present_of store.now) pair.now.value pair.now.var ≡ (if result then (pair.now ∷ []) else []) }
 {
-    // The declared values ascend, as `variables` tells.
-    prove!(store.variables() > 0);
     store.declared(Pair {
         var: pair.var,
         value: pair.value,
-    }) && !store.contains(Pair {
-        var: pair.var,
-        value: pair.value,
-    })
+    }) && is_missing(store, pair.var, &pair.value)
 }

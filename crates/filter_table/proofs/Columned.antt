@@ -12,7 +12,7 @@ use Rattle.palm_model.specs.Domains.{Domains, Has, is_among}
 use Rattle.palm_model.specs.Table.{are_there, first_missing, is_blocked_at, row_pairs}
 use Rattle.palm_model.proofs.Supports.{any_member, member_any, among_member, member_among}
 use Rattle.palm_reason.proofs.TableRows.{missing_cases, among_gives, gives_among}
-use Rattle.filter_table.specs.Table.{IsIndexed, column_values, gives, row_at}
+use Rattle.filter_table.specs.Table.{IsIndexed, column_values, is_support_row, row_at}
 use Rattle.filter_table.specs.declared.indexed.IndexedTable.{IndexedTable}
 
 -- ---- an assignment with the entries of a row
@@ -149,9 +149,9 @@ blocked_entry initial present vars x v y w row h =
 module _ (vars : List ℕ) (rows : List (List ℤ)) (places : List ℕ) (x : ℕ) (v : ℤ)
     (every : (k : ℕ) → k < length rows → is_among (row_pairs vars (row_at rows k)) x v ≡ true → Contains places k) where
   -- every row that is looked at has an entry that is not present
-  pub none_gives : (present : Domains) → ((j d : ℕ) → j < length places → are_there present (row_pairs vars (row_at rows (get_or places j d))) ≡ false) → false ≡ list_any (gives present vars x v) rows
+  pub none_gives : (present : Domains) → ((j d : ℕ) → j < length places → are_there present (row_pairs vars (row_at rows (get_or places j d))) ≡ false) → false ≡ list_any (is_support_row present vars x v) rows
   none_gives present missing =
-      no_row (gives present vars x v) rows places
+      no_row (is_support_row present vars x v) rows places
       (λ k lt h. every k lt (and_parts (is_among (row_pairs vars (row_at rows k)) x v) (are_there present (row_pairs vars (row_at rows k))) h).0)
       (λ j d lt h.
       let row = row_at rows (get_or places j d) in

@@ -15,16 +15,16 @@ use Rattle.palm_model.specs.declared.constraint.Con.TheVariants.{Table}
 use Rattle.palm_model.specs.declared.part.Part.TheVariants.{Table as TablePart}
 use Rattle.palm_model.proofs.Supports.{any_member, member_any, supported_by_part, lacking_by_part}
 use Rattle.palm_reason.proofs.TableRows.{among_gives, gives_among, there_gives, gives_there}
-use Rattle.filter_table.specs.Table.{IsIndexed, gives, table_of}
+use Rattle.filter_table.specs.Table.{IsIndexed, is_support_row, table_of}
 use Rattle.filter_table.specs.declared.indexed.IndexedTable.{IndexedTable}
 use Rattle.filter_table.proofs.Columned.{entry_of, row_is}
 
 -- ---- support
 
 module _ (vars : List ℕ) (rows : List (List ℤ)) (x : ℕ) (v : ℤ) where
-  pub given_supports : (d : Domains) → Distinct vars → All (λ row. length row ≡ length vars) rows → list_any (gives d vars x v) rows ≡ true → HasSupport d (TablePart vars rows) x v
+  pub given_supports : (d : Domains) → Distinct vars → All (λ row. length row ≡ length vars) rows → list_any (is_support_row d vars x v) rows ≡ true → HasSupport d (TablePart vars rows) x v
   given_supports d distinct long h =
-      let r = any_member (gives d vars x v) rows h in
+      let r = any_member (is_support_row d vars x v) rows h in
       let a = entry_of vars r.0 in
       let is = row_is vars r.0 distinct (All-contains (λ row. length row ≡ length vars) rows r.0 long r.1) in
       let t = and_parts (is_among (row_pairs vars r.0) x v) (are_there d (row_pairs vars r.0)) r.2 in
@@ -35,10 +35,10 @@ module _ (vars : List ℕ) (rows : List (List ℤ)) (x : ℕ) (v : ℤ) where
         holds = member_same rows r.0 (map a vars) is r.1;
       }
 
-  pub support_given : (d : Domains) → Contains vars x → HasSupport d (TablePart vars rows) x v → list_any (gives d vars x v) rows ≡ true
+  pub support_given : (d : Domains) → Contains vars x → HasSupport d (TablePart vars rows) x v → list_any (is_support_row d vars x v) rows ≡ true
   support_given d over s =
       let a = s.assignment in
-      member_any (gives d vars x v) rows (map a vars) s.holds
+      member_any (is_support_row d vars x v) rows (map a vars) s.holds
       (and_from (is_among (row_pairs vars (map a vars)) x v) (are_there d (row_pairs vars (map a vars))) (gives_among vars a x v over s.gives) (gives_there vars a d s.within))
 
 -- ---- what the filter answers
@@ -47,12 +47,12 @@ module _ (t : IndexedTable) (indexed : IsIndexed t) (m : Con) (is : table_of t �
   pub asks_declared : (n : ℕ) → IsWellFormed n m → All (λ y. y < n) t.vars
   asks_declared n formed = (subst (IsWellFormed n) (sym is) formed).declared
 
-  pub answers_supported : (d : Domains) (b : Bool) → b ≡ list_any (gives d t.vars x v) t.rows → b ≡ true → IsSupported d m x v
+  pub answers_supported : (d : Domains) (b : Bool) → b ≡ list_any (is_support_row d t.vars x v) t.rows → b ≡ true → IsSupported d m x v
   answers_supported d b e h =
       subst (λ k. IsSupported d k x v) is
       (supported_by_part d (Table t.vars t.rows) (TablePart t.vars t.rows) x v refl (given_supports t.vars t.rows x v d indexed.distinct indexed.long (sym e ∙ h)))
 
-  pub answers_lacking : (d : Domains) (b : Bool) → b ≡ list_any (gives d t.vars x v) t.rows → Contains (scope m) x → b ≡ false → LacksSupport d m x v
+  pub answers_lacking : (d : Domains) (b : Bool) → b ≡ list_any (is_support_row d t.vars x v) t.rows → Contains (scope m) x → b ≡ false → LacksSupport d m x v
   answers_lacking d b e over h =
       let over_t : Contains t.vars x = subst (λ k. Contains (scope k) x) (sym is) over in
       subst (λ k. LacksSupport d k x v) is

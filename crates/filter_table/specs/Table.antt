@@ -1,12 +1,12 @@
 -- A table, its columns, and the rows that give a value.
-use Rattle.std.specs.Prelude.{◌≡◌, ℕ, ℤ, pos, ◌<◌, List, [], length, map, All, Bool, not, ◌&&◌, slice_index_or, ⊤}
+use Rattle.std.specs.Prelude.{◌≡◌, ℕ, ℤ, pos, ◌<◌, List, [], length, map, All, Bool, not, ◌&&◌, slice_index_or}
 use Rattle.std.specs.List.{list_any}
 use Rattle.palm_model.specs.Constraint.{Distinct}
 use Rattle.palm_model.specs.Domains.{Domains, is_among, values_of}
 use Rattle.palm_model.specs.Table.{are_there, is_blocked_at, row_pairs}
 use Rattle.palm_model.specs.Removed.{is_listed}
 use Rattle.palm_model.specs.declared.constraint.Con.{Con}
-use Rattle.palm_model.specs.declared.constraint.Con.TheVariants.{CompareVar, CompareConst, Linear, Table, Element, Count, Differ}
+use Rattle.palm_model.specs.declared.constraint.Con.TheVariants.{Table}
 use Rattle.filter_table.specs.declared.indexed.IndexedTable.{IndexedTable}
 
 abbrev pub table_of : IndexedTable → Con
@@ -32,8 +32,8 @@ pub record IsIndexed (t : IndexedTable) : Type 0 where
   pub columns : AreColumns t.rows (length t.vars) t.columns.items
 
 -- whether the row has v in the column of x, and every entry of it is present
-abbrev pub gives : Domains → List ℕ → ℕ → ℤ → List ℤ → Bool
-gives present vars x v row = is_among (row_pairs vars row) x v && are_there present (row_pairs vars row)
+abbrev pub is_support_row : Domains → List ℕ → ℕ → ℤ → List ℤ → Bool
+is_support_row present vars x v row = is_among (row_pairs vars row) x v && are_there present (row_pairs vars row)
 
 -- whether w of y is not present, and the first such entry of some row with v in the column of x and all entries declared
 abbrev pub is_blocker : Domains → Domains → List ℕ → List (List ℤ) → ℕ → ℤ → ℕ → ℤ → Bool

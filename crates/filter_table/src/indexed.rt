@@ -1,7 +1,7 @@
 //! A table with an index of each of its columns.
 ghost use Rattle.std.specs.Prelude.{◌≡◌, ◌++◌, ℕ, ◌<◌, length, true, All, Contains, IfOk, OnOk, MatchOption, Some, slice_get};
 ghost use Rattle.std.specs.List.{list_any};
-ghost use Rattle.filter_table.specs.Table.{AreColumns, IsIndexed, column_values, gives, is_blocker, row_at, table_of};
+ghost use Rattle.filter_table.specs.Table.{AreColumns, IsIndexed, column_values, is_support_row, is_blocker, row_at, table_of};
 ghost use Rattle.palm_domain.specs.Rows.{initial_of, present_of};
 ghost use Rattle.palm_model.specs.Constraint.{Distinct};
 ghost use Rattle.palm_model.specs.declared.constraint.Con.{Con};
@@ -12,7 +12,7 @@ ghost use Rattle.palm_model.specs.Removed.{pairs_of};
 use crate::row::{are_present, is_blocked_at};
 use palm_base::{NoMemory, Pair, Value, ValueList, Var, VarList};
 use palm_domain::DomainStore;
-use palm_filter::{Reasons, ValueIndex};
+use palm_filter::{Reasons, ValueIndex, is_missing, push_passing};
 use palm_model::RowList;
 use std::alloc::Global;
 
@@ -92,7 +92,7 @@ impl IndexedTable {
     pub(crate) fn is_given(&self, store: &DomainStore, pair: &Pair) -> bool
         requires indexed { IsIndexed self.now }
         requires declared { All (λ x. x < length store.now) self.now.vars }
-        ensures { result ≡ list_any (gives (present_of store.now) self.now.vars pair.now.var pair.now.value) self.now.rows }
+        ensures { result ≡ list_any (is_support_row (present_of store.now) self.now.vars pair.now.var pair.now.value) self.now.rows }
     {
         for place in self.places(pair) {
             if are_present(store, self.vars.as_slice(), self.row(*place)) {
@@ -125,18 +125,19 @@ impl IndexedTable {
         false
     }
 
-    /// Whether the entry of `at` is removed, and the first such entry of some row that could have given the value of
-    /// `pair`.
-    fn blocks(&self, store: &DomainStore, pair: &Pair, at: &Pair) -> bool
+    /// Whether the value of the variable is removed, and the first such entry of some row that could have given the value
+    /// of `pair`.
+    fn blocks(&self, store: &DomainStore, pair: &Pair, var: &Var, value: &Value) -> bool
         requires indexed { IsIndexed self.now }
         requires declared { All (λ x. x < length store.now) self.now.vars }
-        requires known { at.now.var < length store.now }
-        ensures { result ≡ is_blocker (initial_of store.now) (present_of store.now) self.now.vars self.now.rows pair.now.var pair.now.value at.now.var at.now.value }
+        requires known { var.now < length store.now }
+        ensures { result ≡ is_blocker (initial_of store.now) (present_of store.now) self.now.vars self.now.rows pair.now.var pair.now.value var.now value.now }
     {
-        !store.contains(Pair {
-            var: at.var,
-            value: at.value,
-        }) && self.is_blocking(store, pair, at)
+        let at = Pair {
+            var: *var,
+            value: *value,
+        };
+        is_missing(store, *var, value) && self.is_blocking(store, pair, &at)
     }
 
     /// Appends every removed pair of the variable that blocks a row with the value of `pair`.
@@ -152,16 +153,12 @@ impl IndexedTable {
         requires known { var.now < length store.now }
         ensures { OnOk result (out.new.items ≡ out.old.items ++ pairs_of var.now (blocking_values (initial_of store.now) (present_of store.now) self.now.vars self.now.rows pair.now.var pair.now.value var.now)) }
     {
-        for value in store.initial_values(*var) {
-            let at = Pair {
-                var: *var,
-                value: *value,
-            };
-            if self.blocks(store, pair, &at) {
-                out.push(at)?;
-            }
-        }
-        Ok(())
+        push_passing(
+            store.initial_values(*var),
+            *var,
+            |value| self.blocks(store, pair, var, value),
+            out,
+        )
     }
 
     /// Appends the reason of the pair: for each row that could have given its value, the first removed entry.

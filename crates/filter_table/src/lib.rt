@@ -6,6 +6,3 @@ mod row;
 mod table;
 
 pub use table::TableFilter;
-
-#[cfg(test)]
-mod tests;

@@ -4,13 +4,14 @@ use Rattle.std.proofs.lemmas.Bool.{cases_lt, cases_eq}
 use Rattle.std.proofs.lemmas.List.{get_or-map, get_or_past, map-set, set-get_or, length-map, length_push, get_or_default}
 use Rattle.std.proofs.lemmas.List.Elements.{All-set, All-push, All-map, All-weaker}
 use Rattle.palm_base.proofs.Members.{member_nil, member_same}
+use Rattle.palm_domain.specs.declared.limits.TheConstants.{MOST_VALUES}
 use Rattle.palm_domain.specs.Rows.{Row, initial_of, present_of, values_of, present_values, values_with, values_without, IsFormed, AreFormed, LosesPair, GainsPair, Ascends}
 use Rattle.palm_domain.proofs.RowMarks.{row}
 use Rattle.palm_domain.proofs.Values.{without_member, member_without, Ascends-without, with_member, member_with, member_with_itself, Ascends-with, length-with, length-without}
 
 -- ---- one row
 
-pub formed_new : (vs : List ℤ) → Ascends vs → 0 < length vs → length vs ≤ 256 → IsFormed (row vs vs)
+pub formed_new : (vs : List ℤ) → Ascends vs → 0 < length vs → length vs ≤ MOST_VALUES → IsFormed (row vs vs)
 formed_new vs a some small = record { ascends = a; filled = some; small = small; present_ascends = a; inside = λ v h. h }
 
 pub formed_without : (r : Row) (v : ℤ) → IsFormed r → IsFormed (row r.initial (values_without v r.present))
@@ -174,8 +175,8 @@ module _ (rows : List Row) (formed : AreFormed rows) where
   pub initial_filled : All (λ vs. 0 < length vs) (initial_of rows)
   initial_filled = All-map (λ vs. 0 < length vs) (λ (r : Row). r.initial) rows (All-weaker IsFormed (λ r. 0 < length r.initial) (λ r f. f.filled) rows formed.each)
 
-  pub initial_small : All (λ vs. length vs ≤ 256) (initial_of rows)
-  initial_small = All-map (λ vs. length vs ≤ 256) (λ (r : Row). r.initial) rows (All-weaker IsFormed (λ r. length r.initial ≤ 256) (λ r f. f.small) rows formed.each)
+  pub initial_small : All (λ vs. length vs ≤ MOST_VALUES) (initial_of rows)
+  initial_small = All-map (λ vs. length vs ≤ MOST_VALUES) (λ (r : Row). r.initial) rows (All-weaker IsFormed (λ r. length r.initial ≤ MOST_VALUES) (λ r f. f.small) rows formed.each)
 
   pub present_ascend : All Ascends (present_of rows)
   present_ascend = All-map Ascends (λ (r : Row). r.present) rows (All-weaker IsFormed (λ r. Ascends r.present) (λ r f. f.present_ascends) rows formed.each)

@@ -3,6 +3,7 @@ use Rattle.std.specs.Prelude.{◌≡◌, ℕ, ◌^◌, ℤ, ◌<◌, ◌≤◌, 
 use Rattle.std.specs.Ordering.{int_eq}
 pub use Rattle.palm_base.specs.Ascending.{Ascends}
 pub use Rattle.palm_base.specs.Values.{values_of}
+use Rattle.palm_domain.specs.declared.limits.TheConstants.{MOST_VALUES}
 
 -- the values that a variable was declared with, and those of them that are left
 pub record Row : Type 0 where
@@ -66,7 +67,7 @@ pub record IsNextRemovedFrom (initial present : List ℤ) (low v : ℤ) : Type 0
 pub record IsFormed (r : Row) : Type 0 where
   pub ascends : Ascends r.initial
   pub filled : 0 < length r.initial
-  pub small : length r.initial ≤ 256
+  pub small : length r.initial ≤ MOST_VALUES
   pub present_ascends : Ascends r.present
   pub inside : (v : ℤ) → Contains r.present v → Contains r.initial v
 

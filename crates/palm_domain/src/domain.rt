@@ -1,8 +1,10 @@
 //! The values of one variable.
-ghost use Rattle.std.specs.Prelude.{◌≡◌, ℤ, pos, ◌+ℤ◌, ◌<◌, ◌≤◌, ◌<ℤ◌, ◌≤ℤ◌, true, false, length, Contains, IfOk, MatchOption};
+ghost use Rattle.std.specs.Prelude.{◌≡◌, ℤ, pos, ◌+ℤ◌, ◌<◌, ◌≤◌, ◌<ℤ◌, ◌≤ℤ◌, length, Contains, IfOk, MatchOption};
+ghost use Rattle.palm_base.specs.Tells.{Tells};
 ghost use Rattle.palm_domain.specs.Rows.{Ascends, IsFormed, IsGreatestOf, IsLeastOf, IsNextFrom, IsNextRemovedFrom, values_with, values_without};
 
-use crate::marks::{Marks, PLACES};
+use crate::limits::MOST_VALUES;
+use crate::marks::Marks;
 use crate::places::{place_after, place_from, place_of};
 use palm_base::{NoMemory, Value};
 use std::alloc::Global;
@@ -38,7 +40,7 @@ impl Domain {
     pub(crate) fn new(alloc: Global, values: &[Value]) -> Result<Domain, NoMemory>
         requires ascend { Ascends values.now }
         requires filled { 0 < length values.now }
-        requires small { length values.now ≤ 256 }
+        requires small { length values.now ≤ MOST_VALUES }
         ensures { IfOk result (λ d. d ≡ record { initial = values.now; present = values.now }) }
     {
         let count = values.len();
@@ -61,16 +63,15 @@ impl Domain {
 
     /// Whether the value was declared.
     pub(crate) fn declared(&self, value: Value) -> bool
-        ensures member { result ≡ true → Contains self.now.initial value }
-        ensures missing { result ≡ false → Contains self.now.initial value → ⊥ }
+        ensures tells { Tells result (Contains self.now.initial value) }
+        ensures formed { IsFormed self.now }
     {
         place_of(&self.initial, value).is_some()
     }
 
     /// Whether the value is present.
     pub(crate) fn contains(&self, value: Value) -> bool
-        ensures member { result ≡ true → Contains self.now.present value }
-        ensures missing { result ≡ false → Contains self.now.present value → ⊥ }
+        ensures { Tells result (Contains self.now.present value) }
     {
         match place_of(&self.initial, value) {
             Some(place) => self.marks.has(place),
@@ -115,7 +116,7 @@ impl Domain {
             (IsNextFrom self.now.present value) }
     {
         let place = self.marks.next_set(place_from(&self.initial, value));
-        if place < PLACES {
+        if place < MOST_VALUES {
             Some(self.initial[place])
         } else {
             None
@@ -129,7 +130,7 @@ impl Domain {
             (IsNextFrom self.now.present (value +ℤ pos 1)) }
     {
         let place = self.marks.next_set(place_after(&self.initial, value));
-        if place < PLACES {
+        if place < MOST_VALUES {
             Some(self.initial[place])
         } else {
             None

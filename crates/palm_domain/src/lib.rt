@@ -3,11 +3,10 @@
 
 mod bits;
 mod domain;
+mod limits;
 mod marks;
 mod places;
 mod store;
 
+pub use limits::MOST_VALUES;
 pub use store::DomainStore;
-
-#[cfg(test)]
-mod tests;

@@ -1,11 +1,9 @@
-//! Marks of 256 places.
+//! A mark for each value that a variable may be declared with.
 ghost use Rattle.std.specs.Prelude.{◌≡◌, ◌≢◌, ℕ, ◌-◌, ◌<◌, ◌≤◌, true, false, not, nat_lt};
 ghost use Rattle.palm_domain.specs.Marks.{is_marked};
 
 use crate::bits::{first_one, low_ones, ones_end};
-
-/// How many places there are.
-pub(crate) const PLACES: usize = 256;
+use crate::limits::MOST_VALUES;
 
 /// A mark for each place, 64 of them to a word.
 #[derive(Clone, Copy, Debug)]
@@ -16,7 +14,7 @@ pub(crate) struct Marks {
 impl Marks {
     /// Marks the first `count` places.
     pub(crate) fn of_first(count: usize) -> Marks
-        requires { count ≤ 256 }
+        requires { count ≤ MOST_VALUES }
         ensures { (k : ℕ) → is_marked result.words k ≡ nat_lt k count }
     {
         Marks {
@@ -31,7 +29,7 @@ impl Marks {
 
     /// Whether the place is marked.
     pub(crate) fn has(&self, place: usize) -> bool
-        requires { place < 256 }
+        requires { place < MOST_VALUES }
         ensures { result ≡ is_marked self.now.words place }
     {
         (self.words[place / 64] >> (place % 64)) & 1 == 1
@@ -39,7 +37,7 @@ impl Marks {
 
     /// Marks the place.
     pub(crate) fn set(&mut self, place: usize)
-        requires { place < 256 }
+        requires { place < MOST_VALUES }
         ensures here { is_marked self.new.words place ≡ true }
         ensures others { (k : ℕ) → k ≢ place →
             is_marked self.new.words k ≡ is_marked self.old.words k }
@@ -49,7 +47,7 @@ impl Marks {
 
     /// Takes the mark of the place away.
     pub(crate) fn clear(&mut self, place: usize)
-        requires { place < 256 }
+        requires { place < MOST_VALUES }
         ensures here { is_marked self.new.words place ≡ false }
         ensures others { (k : ℕ) → k ≢ place →
             is_marked self.new.words k ≡ is_marked self.old.words k }
@@ -57,29 +55,29 @@ impl Marks {
         self.words[place / 64] &= !(1 << (place % 64));
     }
 
-    /// The first marked place from `from` on, and 256 where there is none.
+    /// The first marked place from `from` on, and `MOST_VALUES` where there is none.
     pub(crate) fn next_set(&self, from: usize) -> usize
-        requires { from ≤ 256 }
+        requires { from ≤ MOST_VALUES }
         ensures from { from ≤ result }
-        ensures within { result ≤ 256 }
-        ensures marked { result < 256 → is_marked self.now.words result ≡ true }
+        ensures within { result ≤ MOST_VALUES }
+        ensures marked { result < MOST_VALUES → is_marked self.now.words result ≡ true }
         ensures between { (k : ℕ) →
             from ≤ k → k < result → is_marked self.now.words k ≡ false }
     {
         let mut at = from;
-        while at < PLACES {
+        while at < MOST_VALUES {
             let one = first_one(self.words[at / 64], at % 64);
             if one < 64 {
                 return at / 64 * 64 + one;
             }
             at = at / 64 * 64 + 64;
         }
-        PLACES
+        MOST_VALUES
     }
 
     /// One past the last marked place below `before`, and 0 where there is none.
     pub(crate) fn end_below(&self, before: usize) -> usize
-        requires { before ≤ 256 }
+        requires { before ≤ MOST_VALUES }
         ensures within { result ≤ before }
         ensures marked { 0 < result → is_marked self.now.words (result - 1) ≡ true }
         ensures between { (k : ℕ) →
@@ -99,7 +97,7 @@ impl Marks {
 
     /// The marks that these leave out.
     pub(crate) fn flipped(&self) -> Marks
-        ensures { (k : ℕ) → k < 256 →
+        ensures { (k : ℕ) → k < MOST_VALUES →
             is_marked result.words k ≡ not (is_marked self.now.words k) }
     {
         let [a, b, c, d] = self.words;

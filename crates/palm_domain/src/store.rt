@@ -1,8 +1,10 @@
 //! The domains of all variables.
-ghost use Rattle.std.specs.Prelude.{◌≡◌, ℕ, ℤ, pos, ◌+ℤ◌, ◌+◌, ◌-◌, ◌^◌, ◌<◌, ◌≤◌, ◌<ℤ◌, ◌≤ℤ◌, true, false, [], ◌∷◌, ◌++◌, length, All, Contains, IfOk, OnOk, OnErr, MatchOption, slice_set};
+ghost use Rattle.std.specs.Prelude.{◌≡◌, ℕ, ℤ, pos, ◌+ℤ◌, ◌+◌, ◌-◌, ◌^◌, ◌<◌, ◌≤◌, ◌<ℤ◌, ◌≤ℤ◌, [], ◌∷◌, ◌++◌, length, All, Contains, IfOk, OnOk, OnErr, MatchOption, slice_set};
+ghost use Rattle.palm_base.specs.Tells.{Tells};
 ghost use Rattle.palm_domain.specs.Rows.{Ascends, GainsPair, IsDeclared, IsGreatestOf, IsLeastOf, IsNextFrom, IsNextRemovedFrom, IsPresent, LosesPair, declared_values, initial_of, present_of, present_values, values_with, values_without};
 
 use crate::domain::Domain;
+use crate::limits::MOST_VALUES;
 use palm_base::{NoMemory, Pair, Value, Var};
 use std::alloc::Global;
 use std::marker::Model;
@@ -40,7 +42,7 @@ impl DomainStore {
     pub fn add_variable(&mut self, values: &[Value]) -> Result<Var, NoMemory>
         requires ascend { Ascends values.now }
         requires filled { 0 < length values.now }
-        requires small { length values.now ≤ 256 }
+        requires small { length values.now ≤ MOST_VALUES }
         requires few { length self.old < 2 ^ 32 - 1 }
         ensures ok { OnOk result
             (self.new ≡ self.old ++ record { initial = values.now; present = values.now } ∷ []) }
@@ -58,7 +60,7 @@ impl DomainStore {
         ensures count { result ≡ length self.now }
         ensures initial_ascend { All Ascends (initial_of self.now) }
         ensures initial_filled { All (λ values. 0 < length values) (initial_of self.now) }
-        ensures initial_small { All (λ values. length values ≤ 256) (initial_of self.now) }
+        ensures initial_small { All (λ values. length values ≤ MOST_VALUES) (initial_of self.now) }
         ensures present_ascend { All Ascends (present_of self.now) }
         ensures inside { (x : ℕ) (v : ℤ) → IsPresent self.now x v → IsDeclared self.now x v }
     {
@@ -71,7 +73,7 @@ impl DomainStore {
         ensures values { result.now ≡ declared_values self.now var }
         ensures ascend { Ascends result.now }
         ensures filled { 0 < length result.now }
-        ensures small { length result.now ≤ 256 }
+        ensures small { length result.now ≤ MOST_VALUES }
         ensures inside { (v : ℤ) → IsPresent self.now var v → Contains result.now v }
     {
         self.domain(var).initial()
@@ -80,8 +82,8 @@ impl DomainStore {
     /// Whether the pair was declared.
     pub fn declared(&self, pair: Pair) -> bool
         requires { pair.var < length self.now }
-        ensures member { result ≡ true → IsDeclared self.now pair.var pair.value }
-        ensures missing { result ≡ false → IsDeclared self.now pair.var pair.value → ⊥ }
+        ensures tells { Tells result (IsDeclared self.now pair.var pair.value) }
+        ensures ascend { Ascends (declared_values self.now pair.var) }
     {
         self.domain(pair.var).declared(pair.value)
     }
@@ -89,8 +91,7 @@ impl DomainStore {
     /// Whether the pair is present.
     pub fn contains(&self, pair: Pair) -> bool
         requires { pair.var < length self.now }
-        ensures member { result ≡ true → IsPresent self.now pair.var pair.value }
-        ensures missing { result ≡ false → IsPresent self.now pair.var pair.value → ⊥ }
+        ensures { Tells result (IsPresent self.now pair.var pair.value) }
     {
         self.domain(pair.var).contains(pair.value)
     }

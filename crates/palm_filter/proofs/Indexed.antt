@@ -1,5 +1,5 @@
 -- The places of a value stand together where places are sorted by their values.
-use Rattle.std.proofs.Common.{◌≡◌, ℕ, ℤ, pos, ◌+◌, ◌-◌, ◌<◌, ◌≤◌, ◌<ℤ◌, ◌≤ℤ◌, Bool, true, false, List, [], ◌∷◌, ◌++◌, length, take, drop, get_or, Contains, slice_get, Some, int_cmp, is_lt, is_le, inl, inr, refl, sym, ap, ◌∙◌, subst, arith}
+use Rattle.std.proofs.Common.{◌≡◌, ℕ, zero, suc, ℤ, pos, eqb, eq-eqb, ◌+◌, ◌-◌, ◌<◌, ◌≤◌, ◌<ℤ◌, ◌≤ℤ◌, Bool, true, false, List, [], ◌∷◌, ◌++◌, length, take, drop, get_or, Contains, slice_get, Some, int_cmp, is_lt, is_le, inl, inr, refl, sym, ap, ◌∙◌, subst, arith}
 use Rattle.std.specs.List.Sorted.{IsPermutation, IsSortedByKey, IsPartitionedBy, IsPartitionPoint}
 use Rattle.std.proofs.lemmas.Cmp.{int_cmp_total}
 use Rattle.std.proofs.lemmas.Int.{ints}
@@ -8,8 +8,12 @@ use Rattle.std.proofs.lemmas.List.{get_or-take, get_or-drop, length-take, length
 use Rattle.std.proofs.lemmas.List.Elements.{Contains-get_or, Contains-push_cases, Contains-append_left, Contains-append_right}
 use Rattle.std.proofs.lemmas.List.Sorted.{ranks_by, sorted_far, Contains-permutation, IsPermutation-sym}
 use Rattle.std.proofs.lemmas.Option.{slice_get_within, get_or_from_slice_get, slice_get-get_or}
-use Rattle.palm_base.proofs.Members.{member_here}
+use Rattle.std.specs.List.{AllByRecursion, IsDistinct}
+use Rattle.std.proofs.lemmas.Bool.{both_ways, eqb-true}
+use Rattle.std.proofs.lemmas.Map.Keys.{IsDistinct-IsPermutation}
+use Rattle.palm_base.proofs.Members.{member_cases, member_here, member_nil, member_there}
 use Rattle.palm_domain.proofs.Comparisons.{lt_from_is_lt, ge_from_is_lt, le_from_is_le, gt_from_is_le}
+use Rattle.palm_model.specs.Constraint.{Distinct}
 use Rattle.palm_filter.specs.Index.{IsIndex, value_at}
 
 -- ---- the places of a list, one after another
@@ -26,12 +30,85 @@ places_every places now n every is k lt = subst (λ ks. Contains ks k) (sym is) 
   | inr ge ↦ let e : n ≡ k = omega arith in Contains-append_right places (n ∷ []) k (subst (λ z. Contains (n ∷ []) z) e (member_here n []))
 ])
 
+-- ---- no place stands twice
+
+pub distinct_more : (places : List ℕ) (n : ℕ) → ((k : ℕ) → Contains places k → k < n) → Distinct places → Distinct (places ++ n ∷ [])
+distinct_more [] n within once = (member_nil n, tt)
+distinct_more (p ∷ ps) n within once = (
+  λ m. elim (Contains-push_cases ps n p m) [
+    | inl h ↦ once.0 h
+    | inr e ↦ let l = within p (member_here p ps) in absurd (omega (arith, e, l))
+  ],
+  distinct_more ps n (λ k m. within k (member_there p ps k m)) once.1,
+)
+
+pub distinct_now : (places now : List ℕ) (n : ℕ) → ((k : ℕ) → Contains places k → k < n) → Distinct places → now ≡ places ++ n ∷ [] → Distinct now
+distinct_now places now n within once is = subst Distinct (sym is) (distinct_more places n within once)
+
+apart : (xs : List ℕ) (x : ℕ) → (Contains xs x → ⊥) → AllByRecursion (λ y. eqb x y ≡ false) xs
+apart [] x n = tt
+apart (y ∷ ys) x n = (not_true (eqb x y) (λ t. n (subst (λ z. Contains (z ∷ ys) x) (eqb-true x y t) (member_here x ys))), apart ys x (λ m. n (member_there y ys x m)))
+  where
+    not_true : (b : Bool) → (b ≡ true → ⊥) → b ≡ false
+    not_true true h = absurd (h refl)
+    not_true false h = refl
+
+not_apart : (xs : List ℕ) (x : ℕ) → AllByRecursion (λ y. eqb x y ≡ false) xs → Contains xs x → ⊥
+not_apart [] x h m = member_nil x m
+not_apart (y ∷ ys) x h m = elim (member_cases y ys x m) [
+  | inl e ↦ both_ways (eqb x y) h.0 (eq-eqb x y (sym e))
+  | inr k ↦ not_apart ys x h.1 k
+]
+
+keys_apart : (xs : List ℕ) → Distinct xs → IsDistinct eqb xs
+unfolding IsDistinct
+keys_apart [] once = tt
+keys_apart (x ∷ xs) once = (apart xs x once.0, keys_apart xs once.1)
+
+members_apart : (xs : List ℕ) → IsDistinct eqb xs → Distinct xs
+unfolding IsDistinct
+members_apart [] once = tt
+members_apart (x ∷ xs) once = (not_apart xs x once.0, members_apart xs once.1)
+
+eqb_flips : (x y : ℕ) → eqb x y ≡ eqb y x
+eqb_flips x y = same (eqb x y) (eqb y x) (λ t. eq-eqb y x (sym (eqb-true x y t))) (λ t. eq-eqb x y (sym (eqb-true y x t)))
+  where
+    same : (a b : Bool) → (a ≡ true → b ≡ true) → (b ≡ true → a ≡ true) → a ≡ b
+    same true b f g = sym (f refl)
+    same false true f g = g refl
+    same false false f g = refl
+
+pub distinct_moved : (places moved : List ℕ) → IsPermutation places moved → Distinct places → Distinct moved
+distinct_moved places moved is once = members_apart moved (IsDistinct-IsPermutation eqb eqb_flips places moved is (keys_apart places once))
+
+distinct_drop : (n : ℕ) (xs : List ℕ) → Distinct xs → Distinct (drop n xs)
+distinct_drop zero xs once = once
+distinct_drop (suc n) [] once = tt
+distinct_drop (suc n) (x ∷ xs) once = distinct_drop n xs once.1
+
+taken_member : (n : ℕ) (xs : List ℕ) (k : ℕ) → Contains (take n xs) k → Contains xs k
+taken_member zero xs k m = absurd (member_nil k m)
+taken_member (suc n) [] k m = m
+taken_member (suc n) (x ∷ xs) k m = elim (member_cases x (take n xs) k m) [
+  | inl e ↦ subst (λ z. Contains (z ∷ xs) k) (sym e) (member_here k xs)
+  | inr h ↦ member_there x xs k (taken_member n xs k h)
+]
+
+distinct_take : (n : ℕ) (xs : List ℕ) → Distinct xs → Distinct (take n xs)
+distinct_take zero xs once = tt
+distinct_take (suc n) [] once = tt
+distinct_take (suc n) (x ∷ xs) once = (λ m. once.0 (taken_member n xs x m), distinct_take n xs once.1)
+
+pub part_once : (places : List ℕ) (from end : ℕ) → Distinct places → Distinct (take (end - from) (drop from places))
+part_once places from end once = distinct_take (end - from) (drop from places) (distinct_drop from places once)
+
 -- ---- sorted by their values
 
-pub index_from_sort : (values : List ℤ) (places sorted : List ℕ) (n : ℕ) → n ≡ length values → ((k : ℕ) → Contains places k → k < n) → ((k : ℕ) → k < n → Contains places k) → IsPermutation places sorted → IsSortedByKey (value_at values) int_cmp sorted → IsIndex values sorted
-index_from_sort values places sorted n e within every moved up = record {
+pub index_from_sort : (values : List ℤ) (places sorted : List ℕ) (n : ℕ) → n ≡ length values → ((k : ℕ) → Contains places k → k < n) → ((k : ℕ) → k < n → Contains places k) → Distinct places → IsPermutation places sorted → IsSortedByKey (value_at values) int_cmp sorted → IsIndex values sorted
+index_from_sort values places sorted n e within every once moved up = record {
   within = λ k m. let l = within k (Contains-permutation sorted places k (IsPermutation-sym places sorted moved) m) in omega arith;
   every = λ k lt. Contains-permutation places sorted k moved (every k (omega arith));
+  once = distinct_moved places sorted moved once;
   rise = λ i j d le lt. ge_from_is_lt (value_at values (get_or sorted j d)) (value_at values (get_or sorted i d)) (sym (sorted_far (λ a b. is_lt (int_cmp (value_at values a) (value_at values b))) (ranks_by int_cmp_total (value_at values)) sorted up i j d le lt));
 }
 

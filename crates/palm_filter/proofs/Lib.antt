@@ -1,5 +1,5 @@
-pub mod Singles
 pub mod Indexed
-pub mod Written
+pub mod Listed
 pub mod Righted
-pub mod Pairs
+pub mod Singles
+pub mod Written

@@ -1,6 +1,7 @@
 //! The places of each value of a list.
 ghost use Rattle.std.specs.Prelude.{◌≡◌, ℕ, Contains, Some, IfOk, slice_get};
 ghost use Rattle.palm_filter.specs.Index.{IsIndex, value_at};
+ghost use Rattle.palm_model.specs.Constraint.{Distinct};
 
 use palm_base::{NoMemory, Value};
 use std::alloc::Global;
@@ -43,11 +44,12 @@ fn value_at(values: &[Value], place: usize) -> Value
     values.get(place).copied().unwrap_or_default()
 }
 
-/// Every place where the value stands, of places in the order of their values.
+/// Every place where the value stands, once, of places in the order of their values.
 fn places_of<'a>(values: &[Value], places: &'a [usize], value: &Value) -> &'a [usize]
     requires { IsIndex values.now places.now }
     ensures stands { (k : ℕ) → Contains result.now k → slice_get values.now k ≡ Some value.now }
     ensures every { (k : ℕ) → slice_get values.now k ≡ Some value.now → Contains result.now k }
+    ensures once { Distinct result.now }
 {
     let from = places.partition_point(|place| value_at(values, *place) < *value);
     let end = places.partition_point(|place| value_at(values, *place) <= *value);
@@ -72,10 +74,11 @@ impl ValueIndex {
         self.values.as_slice()
     }
 
-    /// Every place where the value stands.
+    /// Every place where the value stands, once.
     pub fn places(&self, value: &Value) -> &[usize]
         ensures stands { (k : ℕ) → Contains result.now k → slice_get self.now k ≡ Some value.now }
         ensures every { (k : ℕ) → slice_get self.now k ≡ Some value.now → Contains result.now k }
+        ensures once { Distinct result.now }
     {
         places_of(&self.values, &self.places, value)
     }

@@ -27,7 +27,7 @@ pub enum Kind {
     /// An entry of a list at a variable index.
     Element(ElementFilter),
     /// How many of some variables have a value.
-    Occur(OccurFilter),
+    Count(OccurFilter),
     /// Variables that are pairwise different.
     Differ(DifferFilter),
 }
@@ -45,7 +45,7 @@ impl Kind {
             Con::Linear { .. } => Kind::Linear(LinearFilter::new(alloc, con)?),
             Con::Table { .. } => Kind::Table(TableFilter::new(alloc, con)?),
             Con::Element { .. } => Kind::Element(ElementFilter::new(alloc, con)?),
-            Con::Count { .. } => Kind::Occur(OccurFilter::new(alloc, con)?),
+            Con::Count { .. } => Kind::Count(OccurFilter::new(alloc, con)?),
             Con::Differ { .. } => Kind::Differ(DifferFilter::new(alloc, con)?),
         })
     }
@@ -60,7 +60,7 @@ impl Filter for Kind {
             Kind::Linear(filter) => filter.scope(),
             Kind::Table(filter) => filter.scope(),
             Kind::Element(filter) => filter.scope(),
-            Kind::Occur(filter) => filter.scope(),
+            Kind::Count(filter) => filter.scope(),
             Kind::Differ(filter) => filter.scope(),
         }
     }
@@ -71,7 +71,7 @@ impl Filter for Kind {
             Kind::Linear(filter) => filter.supported(store, pair),
             Kind::Table(filter) => filter.supported(store, pair),
             Kind::Element(filter) => filter.supported(store, pair),
-            Kind::Occur(filter) => filter.supported(store, pair),
+            Kind::Count(filter) => filter.supported(store, pair),
             Kind::Differ(filter) => filter.supported(store, pair),
         }
     }
@@ -82,7 +82,7 @@ impl Filter for Kind {
             Kind::Linear(filter) => filter.reason(store, pair, out),
             Kind::Table(filter) => filter.reason(store, pair, out),
             Kind::Element(filter) => filter.reason(store, pair, out),
-            Kind::Occur(filter) => filter.reason(store, pair, out),
+            Kind::Count(filter) => filter.reason(store, pair, out),
             Kind::Differ(filter) => filter.reason(store, pair, out),
         }
     }

@@ -4,6 +4,3 @@
 mod kind;
 
 pub use kind::Kind;
-
-#[cfg(test)]
-mod tests;

@@ -151,6 +151,3 @@ fn without_value(alloc: Global, values: &[Value], index: usize) -> Result<ValueL
     }
     Ok(list)
 }
-
-#[cfg(test)]
-mod tests;

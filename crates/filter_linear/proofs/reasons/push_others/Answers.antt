@@ -11,7 +11,7 @@ use Rattle.filter_linear.proofs.reasons.push_others.Goals.{then-ne+in_ok-push_re
 
 pub push_removed-requires : goal.push_removed-requires
 push_removed-requires c =
-    let terms = c.args.sum.now.terms in
+    let terms = c.args.rule.now.terms in
     let e = c.as_slice-term-items.ensures in
     let lt : c.loop-term.term-index < length terms = rw e at c.loop-term-test.true in
     term_declared (length c.args.store.now) terms c.loop-term.term-index c.term-item.result c.requires.formed.declared lt
@@ -34,4 +34,4 @@ returns c =
     c.loop-term.invariant
     ∙ ap (λ ps. c.args.out.now.items ++ ps)
     (ap (λ (ts : List Term). pairs_by (λ t. removed_values (initial_of c.args.store.now) (present_of c.args.store.now) t.var) ts c.args.pair.now.var) (take_all c.loop-term.term-index c.as_slice-term-items.result.now c.loop-term-test.false ∙ c.as_slice-term-items.ensures)
-    ∙ sym (others_by (λ y. removed_values (initial_of c.args.store.now) (present_of c.args.store.now) y) c.args.sum.now.terms c.args.pair.now.var))
+    ∙ sym (others_by (λ y. removed_values (initial_of c.args.store.now) (present_of c.args.store.now) y) c.args.rule.now.terms c.args.pair.now.var))

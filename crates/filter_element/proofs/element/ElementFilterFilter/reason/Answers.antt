@@ -4,12 +4,12 @@ use Rattle.palm_model.specs.Reason.{IsReason}
 use Rattle.palm_model.specs.Element.{element_reason}
 use Rattle.palm_filter.proofs.Written.{written_right}
 use Rattle.palm_filter.proofs.Righted.{written_is_right}
-use Rattle.filter_element.proofs.Entries.{gives_reason}
+use Rattle.filter_element.proofs.Elements.{gives_reason}
 use Rattle.filter_element.proofs.element.ElementFilterFilter.reason.Goals as goal
 
 pub returns-clause-right : goal.returns-clause-right
 returns-clause-right c =
-    let e = c.self.inside.choice in
+    let e = c.self.inside.rule in
     let initial = initial_of c.args.store.now in
     let present = present_of c.args.store.now in
     written_right (IsReason initial present c.args.self.now c.args.pair.var c.args.pair.value) c.push_reason-written.result c.whole_or_none.result

@@ -8,12 +8,12 @@ use Rattle.filter_linear.proofs.linear.LinearFilterFilter.reason.Goals as goal
 
 pub returns-clause-right : goal.returns-clause-right
 returns-clause-right c =
-    let sum = c.self.inside.sum in
+    let rule = c.self.inside.rule in
     let initial = initial_of c.args.store.now in
     let present = present_of c.args.store.now in
     written_right (IsReason initial present c.args.self.now c.args.pair.var c.args.pair.value) c.push_reason-written.result c.whole_or_none.result
-    c.clear.new.self.items c.push_reason-written.new.out.items c.whole_or_none.new.out.items (linear_reason initial present sum.terms sum.op sum.bound c.args.pair.var c.args.pair.value)
+    c.clear.new.self.items c.push_reason-written.new.out.items c.whole_or_none.new.out.items (linear_reason initial present rule.terms rule.op rule.bound c.args.pair.var c.args.pair.value)
     c.clear.ensures.items c.whole_or_none.ensures.answer c.push_reason-written.ensures c.whole_or_none.ensures.ok
     (λ e. written_is_right c.args.store.now c.variables.ensures.initial_ascend c.variables.ensures.present_ascend c.variables.ensures.inside
     c.args.self.now c.args.pair.var c.args.pair.value c.requires.formed c.requires.present c.requires.unsupported c.requires.filled c.whole_or_none.new.out.items
-    (gives_reason initial present sum.terms sum.op sum.bound c.args.pair.var c.args.pair.value c.args.self.now c.whole_or_none.new.out.items c.self.view_is e))
+    (gives_reason initial present rule.terms rule.op rule.bound c.args.pair.var c.args.pair.value c.args.self.now c.whole_or_none.new.out.items c.self.view_is e))

@@ -13,7 +13,7 @@ use Rattle.filter_linear.proofs.reasons.Side.push_pairs.Goals.{then-ne+in_ok-pus
 
 pub push_values-requires-clause-declared : goal.push_values-requires-clause-declared
 push_values-requires-clause-declared c =
-    let terms = c.args.sum.now.terms in
+    let terms = c.args.rule.now.terms in
     let e = c.as_slice-term-items.ensures in
     let lt : c.loop-term.term-index < length terms = rw e at c.loop-term-test.true in
     term_declared (length c.args.store.now) terms c.loop-term.term-index c.term-item.result c.requires.formed.declared lt
@@ -21,7 +21,7 @@ push_values-requires-clause-declared c =
 
 pub push_values-requires-clause-filled : goal.push_values-requires-clause-filled
 push_values-requires-clause-filled c =
-    let terms = c.args.sum.now.terms in
+    let terms = c.args.rule.now.terms in
     let e = c.as_slice-term-items.ensures in
     let lt : c.loop-term.term-index < length terms = rw e at c.loop-term-test.true in
     term_filled (present_of c.args.store.now) terms c.loop-term.term-index c.term-item.result c.requires.filled lt
@@ -44,4 +44,4 @@ returns c =
     c.loop-term.invariant
     ∙ ap (λ ps. c.args.out.now.items ++ ps)
     (ap (λ (ts : List Term). pairs_by (λ t. values_beyond c.args.self (initial_of c.args.store.now) (present_of c.args.store.now) t) ts c.args.pair.now.var) (take_all c.loop-term.term-index c.as_slice-term-items.result.now c.loop-term-test.false ∙ c.as_slice-term-items.ensures)
-    ∙ beyond_by c.args.self (initial_of c.args.store.now) (present_of c.args.store.now) c.args.sum.now.terms c.args.pair.now.var)
+    ∙ beyond_by c.args.self (initial_of c.args.store.now) (present_of c.args.store.now) c.args.rule.now.terms c.args.pair.now.var)

@@ -1,5 +1,6 @@
 use Rattle.std.proofs.Common.{◌≤◌, length, arith}
 use Rattle.palm_domain.specs.Rows.{present_of}
+use Rattle.palm_model.specs.declared.limits.TheConstants.{MOST_SCOPE}
 use Rattle.palm_model.proofs.Sums.{term_declared}
 use Rattle.filter_linear.proofs.Walks.{step_fits, span_none, span_more, span_end}
 use Rattle.filter_linear.proofs.span.Span.of_sum.Goals as goal
@@ -12,12 +13,12 @@ of_share-requires-clause-declared c = term_declared (length c.args.store.now) c.
 
 pub overflow_add-span : goal.overflow_add-span
 overflow_add-span c =
-    let few : c.loop-term.term-index ≤ 16 = omega (arith, c.requires.few, c.loop-term-test.true) in
+    let few : c.loop-term.term-index ≤ MOST_SCOPE = omega (arith, c.requires.few, c.loop-term-test.true) in
     step_fits c.loop-term.term-index c.loop-term.span.least c.in_ok-share.share.least few c.loop-term.invariant.least_small c.in_ok-share.ensures.some.least_small
 
 pub overflow_add-span-in-loop-term : goal.overflow_add-span-in-loop-term
 overflow_add-span-in-loop-term c =
-    let few : c.loop-term.term-index ≤ 16 = omega (arith, c.requires.few, c.loop-term-test.true) in
+    let few : c.loop-term.term-index ≤ MOST_SCOPE = omega (arith, c.requires.few, c.loop-term-test.true) in
     step_fits c.loop-term.term-index c.loop-term.span.greatest c.in_ok-share.share.greatest few c.loop-term.invariant.greatest_small c.in_ok-share.ensures.some.greatest_small
 
 pub loop-term-preserved : goal.loop-term-preserved

@@ -1,8 +1,17 @@
+use Rattle.std.proofs.Common.{◌≡◌, ◌++◌, filter, ap, subst, ◌∙◌, rules, of_calls}
+use Rattle.std.specs.Prelude.{OnOk}
 use Rattle.palm_domain.specs.Rows.{initial_of, present_of}
-use Rattle.filter_table.proofs.Blocking.{blocking_is}
+use Rattle.palm_model.specs.Removed.{pairs_of}
+use Rattle.filter_table.specs.Table.{is_blocker}
+use Rattle.filter_table.proofs.Blocking.{blockers}
 use Rattle.filter_table.proofs.indexed.IndexedTable.push_blocking.Goals as goal
 
 pub returns : goal.returns
 returns c =
-    blocking_is (initial_of c.args.store.now) (present_of c.args.store.now) c.args.self.now.vars c.args.self.now.rows c.args.pair.now.var c.args.pair.now.value c.args.var.now
-    c.initial_values-value-items.result.now c.loop-value.value-index c.args.out.now.items c.loop-value.out.items c.initial_values-value-items.ensures.values c.loop-value.auto.value-index-end c.loop-value-test.false c.loop-value.invariant
+    let initial = initial_of c.args.store.now in
+    let present = present_of c.args.store.now in
+    let t = c.args.self.now in
+    let p = c.args.pair.now in
+    subst (λ vs. OnOk c.push_passing.result (c.push_passing.new.out.items ≡ c.args.out.now.items ++ pairs_of c.args.var.now vs))
+    (ap (λ vs. filter (is_blocker initial present t.vars t.rows p.var p.value c.args.var.now) vs) c.initial_values.ensures.values ∙ blockers initial present t.vars t.rows p.var p.value c.args.var.now)
+    (c.push_passing.ensures (is_blocker initial present t.vars t.rows p.var p.value c.args.var.now) (λ v b k. search (rules, of_calls)))

@@ -1,0 +1,2 @@
+pub mod ManyTerms
+pub mod Pairs

@@ -1,0 +1,126 @@
+//! What the tests of the filters share: domains without some pairs, and questions that ask for no promise.
+ghost use Rattle.std.specs.Prelude.{◌≡◌, ℕ, ℤ, ◌<◌, length, All, Contains, IfNone, IfOk, IfSome, false, true};
+ghost use Rattle.palm_base.specs.Tells.{Tells};
+ghost use Rattle.palm_domain.specs.Rows.{initial_of, present_of, IsPresent};
+ghost use Rattle.palm_model.specs.Constraint.{IsWellFormed, scope};
+ghost use Rattle.palm_model.specs.Domains.{Has};
+ghost use Rattle.palm_model.specs.Reason.{AreFilled, reason};
+ghost use Rattle.palm_model.specs.Support.{IsSupported, LacksSupport};
+
+use palm_base::{NoMemory, Pair, Value, Var};
+use palm_domain::DomainStore;
+use palm_filter::{Filter, Reasons};
+use std::alloc::Global;
+
+/// The pair of a variable and a value.
+pub fn pair(var: u32, value: i32) -> Pair
+    ensures { result ≡ record { var = var; value = value } }
+{
+    Pair {
+        var: Var(var),
+        value: Value(value),
+    }
+}
+
+/// Takes out those of the pairs that are present.
+pub fn take_out_all(store: &mut DomainStore, pairs: &[Pair])
+    ensures variables { length store.new ≡ length store.old }
+    ensures gone { All (λ p. IsPresent store.new p.var p.value → ⊥) pairs.now }
+{
+    for pair in pairs {
+        take_out_if_present(store, pair);
+    }
+}
+
+fn take_out_if_present(store: &mut DomainStore, pair: &Pair)
+    ensures variables { length store.new ≡ length store.old }
+    ensures gone { IsPresent store.new pair.now.var pair.now.value → ⊥ }
+    ensures fewer { (x : ℕ) (v : ℤ) → IsPresent store.new x v → IsPresent store.old x v }
+{
+    let Pair { var, value } = *pair;
+    if var.0 < store.variables() && store.contains(Pair { var, value }) {
+        store.take_out(Pair { var, value });
+    }
+}
+
+/// Whether none of the variables has an empty domain.
+fn are_filled(store: &DomainStore, vars: &[Var]) -> bool
+    requires { All (λ x. x < length store.now) vars.now }
+    ensures { Tells result (AreFilled (present_of store.now) vars.now) }
+{
+    for var in vars {
+        if store.count(*var) == 0 {
+            return false;
+        }
+    }
+    true
+}
+
+/// The reason of a pair, where there is one: the value is present and has no support, and no domain of the scope is
+/// empty.
+pub fn reason_of<F: Filter>(
+    alloc: Global,
+    filter: &F,
+    store: &DomainStore,
+    pair: &Pair,
+) -> Result<Option<Reasons>, NoMemory>
+    requires formed { IsWellFormed (length store.now) (F.meaning filter.now) }
+    requires over { Contains (scope (F.meaning filter.now)) pair.now.var }
+    ensures exact { IfOk result (λ answer. IfSome answer (λ out. out.items ≡ reason (initial_of store.now) (present_of store.now) (F.meaning filter.now) pair.now.var pair.now.value)) }
+    ensures none { IfOk result (λ answer. IfNone answer
+        (Has (present_of store.now) pair.now.var pair.now.value
+        → LacksSupport (present_of store.now) (F.meaning filter.now) pair.now.var pair.now.value
+        → AreFilled (present_of store.now) (scope (F.meaning filter.now)) → ⊥)) }
+{
+    let Pair { var, value } = *pair;
+    if !store.contains(Pair { var, value })
+        || !are_filled(store, filter.scope().as_slice())
+        || filter.supported(store, Pair { var, value })
+    {
+        return Ok(None);
+    }
+    let mut out = Reasons::new(alloc);
+    filter.reason(store, Pair { var, value }, &mut out)?;
+    Ok(Some(out))
+}
+
+/// Whether the pair is one of the constraint's variables, present and supported.
+pub fn is_supported<F: Filter>(filter: &F, store: &DomainStore, asked: &Pair) -> bool
+    requires { IsWellFormed (length store.now) (F.meaning filter.now) }
+    ensures supported { result ≡ true → IsSupported (present_of store.now) (F.meaning filter.now) asked.now.var asked.now.value }
+    ensures lacking { result ≡ false → Contains (scope (F.meaning filter.now)) asked.now.var
+        → Has (present_of store.now) asked.now.var asked.now.value
+        → LacksSupport (present_of store.now) (F.meaning filter.now) asked.now.var asked.now.value }
+{
+    let Pair { var, value } = *asked;
+    filter.scope().as_slice().contains(&var)
+        && var.0 < store.variables()
+        && store.contains(Pair { var, value })
+        && filter.supported(store, Pair { var, value })
+}
+
+/// Whether there is a reason why the constraint takes the pair out, and it is this list.
+pub fn is_reason<F: Filter>(
+    alloc: Global,
+    filter: &F,
+    store: &DomainStore,
+    asked: &Pair,
+    expected: &[Pair],
+) -> Result<bool, NoMemory>
+    requires { IsWellFormed (length store.now) (F.meaning filter.now) }
+    ensures same { IfOk result (λ same. same ≡ true
+        → reason (initial_of store.now) (present_of store.now) (F.meaning filter.now) asked.now.var asked.now.value ≡ expected.now) }
+    ensures other { IfOk result (λ same. same ≡ false → Contains (scope (F.meaning filter.now)) asked.now.var
+        → Has (present_of store.now) asked.now.var asked.now.value
+        → LacksSupport (present_of store.now) (F.meaning filter.now) asked.now.var asked.now.value
+        → AreFilled (present_of store.now) (scope (F.meaning filter.now))
+        → reason (initial_of store.now) (present_of store.now) (F.meaning filter.now) asked.now.var asked.now.value ≡ expected.now → ⊥) }
+{
+    if !filter.scope().as_slice().contains(&asked.var) {
+        return Ok(false);
+    }
+    Ok(match reason_of(alloc, filter, store, asked)? {
+        Some(reason) => reason.as_slice() == expected,
+        None => false,
+    })
+}
