@@ -9,7 +9,8 @@ use Rattle.palm_model.specs.Constraint.{scope}
 use Rattle.palm_model.specs.Part.{scope_of, parts}
 use Rattle.palm_model.specs.Support.{HasSupport, IsSupported, LacksSupport}
 use Rattle.palm_model.specs.Log.{Active, log_pairs}
-use Rattle.palm_model.specs.State.{EngineState, HasEmpty, AllFilled, IsClosedBy, present}
+use Rattle.palm_model.specs.Closure.{IsClosedBy}
+use Rattle.palm_model.specs.State.{EngineState, HasEmpty, AllFilled, present}
 use Rattle.palm_model.specs.Event.{Removes, Calms, Step, Runs, removed, calmed}
 use Rattle.palm_model.specs.Event.Event.{Remove}
 use Rattle.palm_model.specs.Event.Step.{Happens, Calm}

@@ -4,7 +4,6 @@ ghost use Rattle.palm_model.specs.Log.{Active};
 ghost use Rattle.palm_model.specs.State.{EngineState, IsValid, IsSettled, present};
 ghost use Rattle.palm_model.specs.Event.{Posts, Withdraws};
 ghost use Rattle.palm_events.specs.Along.{IsStill};
-ghost use Rattle.palm_events.specs.Reasons.{ReasonsAreRight};
 ghost use Rattle.palm_engine.specs.Settling.{Revision, Revises, Revisions, Settles, SettlesSome, SettlesPlainly, IsSameSettling, IsAnswered, FitsOrder, Filters};
 ghost use Rattle.palm_engine.specs.Work.{Falls, effort};
 
@@ -20,7 +19,7 @@ pub fn settlings_filter()
 
 /// So it keeps a state valid.
 pub fn settlings_keep_validity()
-    ensures { ReasonsAreRight → (limit : Option ℕ) (s t : EngineState) (rs : List Revision)
+    ensures { (limit : Option ℕ) (s t : EngineState) (rs : List Revision)
         → Settles limit s rs t → IsValid s → IsValid t }
 {}
 
@@ -65,13 +64,13 @@ pub fn settlings_without_order_are_unique()
 
 /// Where filtering can reach a settled state, every settling without a limit ends in its domains, whatever the order.
 pub fn settled_domains_do_not_depend_on_the_order()
-    ensures { ReasonsAreRight → (s t u : EngineState) (rs : List Revision)
+    ensures { (s t u : EngineState) (rs : List Revision)
         → IsValid s → Filters s t → IsSettled t → Settles None s rs u → present u ≡ present t }
 {}
 
 /// Posting a constraint, any settling, and withdrawing that constraint give back the log, each removal with the same
 /// reasons.
 pub fn settling_and_withdrawing_gives_back_the_log()
-    ensures { ReasonsAreRight → (limit : Option ℕ) (s m n t : EngineState) (a : Active) (rs : List Revision)
+    ensures { (limit : Option ℕ) (s m n t : EngineState) (a : Active) (rs : List Revision)
         → IsValid s → IsStill s → Posts s a m → Settles limit m rs n → Withdraws n a.cid t → t.log ≡ s.log }
 {}

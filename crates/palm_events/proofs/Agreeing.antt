@@ -8,7 +8,7 @@ use Rattle.palm_model.specs.Domains.{Domains, Has, values_of, is_among, without}
 use Rattle.palm_model.specs.Constraint.{scope}
 use Rattle.palm_model.specs.Part.{scope_of}
 use Rattle.palm_model.specs.Support.{HasSupport, LacksSupport}
-use Rattle.palm_model.specs.State.{IsClosedBy}
+use Rattle.palm_model.specs.Closure.{IsClosedBy}
 use Rattle.palm_model.specs.declared.constraint.Con.{Con}
 use Rattle.palm_model.specs.declared.part.Part.{Part}
 use Rattle.palm_model.proofs.Formed.{part_scope}

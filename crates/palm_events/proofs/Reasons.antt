@@ -1,5 +1,7 @@
 -- The reason of a removal by an active constraint is right, over any declared value.
 use Rattle.std.proofs.Common.{◌≡◌, ℕ, ◌<◌, List, [], length, Contains, ℤ, refl, sym, ◌∙◌, subst}
+use Rattle.palm_model.proofs.Formed.{well_formed_formed}
+use Rattle.palm_reason.proofs.Reasons.{reason_right}
 use Rattle.palm_base.specs.declared.terms.Pair.{Pair}
 use Rattle.palm_base.specs.declared.terms.Cid.{Cid}
 use Rattle.palm_base.specs.declared.terms.Cid.TheVariants.{Decide, Not, User}
@@ -10,7 +12,7 @@ use Rattle.palm_model.specs.Part.{scope_of}
 use Rattle.palm_model.specs.Support.{LacksSupport}
 use Rattle.palm_model.specs.Reason.{reason, AreFilled, IsReason}
 use Rattle.palm_model.specs.Log.{Active, IsRight, log_pairs}
-use Rattle.palm_model.specs.State.{EngineState, IsOfForm, IsFormed, AllFilled}
+use Rattle.palm_model.specs.State.{EngineState, IsOfForm, FitsName, AllFilled}
 use Rattle.palm_model.specs.Event.{Removes, removal_of}
 use Rattle.palm_model.specs.declared.constraint.Con.{Con}
 use Rattle.palm_model.specs.declared.constraint.Con.TheVariants.{CompareConst}
@@ -71,14 +73,14 @@ reason_of_form right initial pairs active (User n) con because x v ascend form f
       initial_ascend = ascend;
       present_ascend = ascend_without initial pairs ascend;
       inside = without_inside initial pairs;
-      formed = form.0;
+      formed = well_formed_formed (length initial) con form.0;
       present_value = has;
       lacks = lacks;
       filled = filled_scope (without initial pairs) (scope con) (length initial) (length_without initial pairs) filled (form_declared (length initial) active (User n) con because form);
     })
 
 -- a removal is right after the log
-pub removal_right : ReasonsAreRight → (s t : EngineState) (a : Active) (p : Pair) → AllAscend s.initial → IsFormed (length s.initial) s.active a → Removes s a p t → IsRight s.initial s.active s.log (removal_of s a p)
+pub removal_right : ReasonsAreRight → (s t : EngineState) (a : Active) (p : Pair) → AllAscend s.initial → FitsName (length s.initial) s.active a → Removes s a p t → IsRight s.initial s.active s.log (removal_of s a p)
 removal_right right s t a p ascend formed removes =
     let pairs = log_pairs s.log in
     let ok = reason_of_form right s.initial pairs s.active a.cid a.con a.because p.var p.value ascend formed.form removes.filled removes.has removes.lacks in
@@ -91,3 +93,7 @@ removal_right right s t a p ascend formed removes =
       reasons = λ q m. let r = ok.removed q m in gone_member s.initial pairs q.var q.value r.0 r.1;
       lacks = ok.lacks;
     }
+
+-- the law of the reasons of all kinds
+pub reasons_right : ReasonsAreRight
+reasons_right initial now c x v wants = reason_right initial now c x v wants

@@ -6,7 +6,8 @@ use Rattle.palm_base.proofs.Members.{member_nil, member_map, member_unmap}
 use Rattle.palm_model.specs.Domains.{Domains, AllAscend, Has, IsInside}
 use Rattle.palm_model.specs.Closure.{IsClosed, IsGreatest}
 use Rattle.palm_model.specs.Log.{Active, Named, Names, cons_of, log_pairs}
-use Rattle.palm_model.specs.State.{EngineState, IsValid, IsClosedBy, present, blank}
+use Rattle.palm_model.specs.Closure.{IsClosedBy}
+use Rattle.palm_model.specs.State.{EngineState, IsValid, present, blank}
 use Rattle.palm_model.specs.Event.{Step, Steps, Runs}
 use Rattle.palm_model.specs.Event.Event.{Post, Withdraw, Remove}
 use Rattle.palm_model.specs.Event.Step.{Happens, Calm, Declare}

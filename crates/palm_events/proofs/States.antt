@@ -9,7 +9,7 @@ use Rattle.palm_base.specs.declared.terms.Cid.TheVariants.{Decide, Not, User}
 use Rattle.palm_base.proofs.Members.{member_nil, member_here, member_there, member_cases, member_single, member_same, member_map, member_unmap, member_filter, filter_member, all_members}
 use Rattle.palm_model.specs.Constraint.{scope, IsWellFormed}
 use Rattle.palm_model.specs.Log.{Active, IsActive, Rises, cid_before, is_named, cids_of}
-use Rattle.palm_model.specs.State.{IsGround, AreGrounds, IsOfForm, IsFormed, is_over, is_awake, woken, without_cid}
+use Rattle.palm_model.specs.State.{IsGround, AreGrounds, IsOfForm, FitsName, is_over, is_awake, woken, without_cid}
 use Rattle.palm_model.specs.Event.{with_posted, without_names, gone_with}
 use Rattle.palm_model.specs.declared.constraint.Con.{Con}
 use Rattle.palm_model.proofs.Supports.{any_member, member_any}
@@ -201,11 +201,11 @@ form_declared n active (Not p) con because form x m =
 form_declared n active (User k) con because form x m = All-contains (λ z. z < n) (scope con) x form.0.declared m
 
 -- a ground is no negation whose justification holds something
-pub held_not_ground : (n : ℕ) (active : List Active) (a : Active) (c : Cid) → IsFormed n active a → Contains a.because c → IsGround a.cid → ⊥
+pub held_not_ground : (n : ℕ) (active : List Active) (a : Active) (c : Cid) → FitsName n active a → Contains a.because c → IsGround a.cid → ⊥
 held_not_ground n active a c formed m ground = form_negation n active a.cid a.con a.because c formed.form m ground
 
 -- the grounds of those that stay do not go with a name
-pub gone_grounds : (n : ℕ) (active : List Active) (cid : Cid) → ((a : Active) → Contains active a → IsFormed n active a)
+pub gone_grounds : (n : ℕ) (active : List Active) (cid : Cid) → ((a : Active) → Contains active a → FitsName n active a)
     → (a : Active) → Contains active a → (Contains (gone_with active cid) a.cid → ⊥) → (c : Cid) → Contains a.because c → IsGround c → Contains (gone_with active cid) c → ⊥
 gone_grounds n active cid formed a m stays c held ground gone = elim (member_cases cid (cids_of (filter (λ b. is_named b.because cid) active)) c gone) [
   | inl e ↦ stays (member_there cid (cids_of (filter (λ b. is_named b.because cid) active)) a.cid

@@ -8,7 +8,8 @@ use Rattle.palm_base.proofs.Members.{member_nil, member_here, member_there, memb
 use Rattle.palm_model.specs.Domains.{Domains, Ascends, AllAscend, Has, is_among, without}
 use Rattle.palm_model.specs.Constraint.{scope}
 use Rattle.palm_model.specs.Log.{Active, IsActive, Removal, IsRight, AreRight, Rises, Loses, cids_of, log_pairs}
-use Rattle.palm_model.specs.State.{EngineState, IsFormed, IsClosedBy, IsValid, present, blank, without_cid}
+use Rattle.palm_model.specs.Closure.{IsClosedBy}
+use Rattle.palm_model.specs.State.{EngineState, FitsName, IsValid, present, blank, without_cid}
 use Rattle.palm_model.specs.Event.{Posts, WithdrawsAll, Withdraws, Removes, Calms, Declares, posted, withdrawn, removed, calmed, with_posted, without_names, gone_with, lost_pairs, vars_of, removal_of}
 use Rattle.palm_model.proofs.Narrowing.{has_declared}
 use Rattle.palm_model.proofs.Supports.{not_true}
@@ -51,12 +52,12 @@ blank_valid initial ascend = record {
 still_active : (a : Active) (active : List Active) (c : Cid) → (IsActive active a.cid → ⊥) → IsActive active c → IsActive (with_posted a active) c
 still_active a active c inactive is = record { owner = is.owner; posted = member_with_posted a active is.owner inactive is.posted; named = is.named }
 
-formed_with : (n : ℕ) (a : Active) (active : List Active) (b : Active) → (IsActive active a.cid → ⊥) → IsFormed n active b → IsFormed n (with_posted a active) b
+formed_with : (n : ℕ) (a : Active) (active : List Active) (b : Active) → (IsActive active a.cid → ⊥) → FitsName n active b → FitsName n (with_posted a active) b
 formed_with n a active b inactive formed = record {
   form = form_more n n active (with_posted a active) b.cid b.con b.because (omega arith) (λ c m g is. still_active a active c inactive is) formed.form;
 }
 
-posted_valid : (s : EngineState) (a : Active) → (IsActive s.active a.cid → ⊥) → IsFormed (length s.initial) s.active a → IsValid s → IsValid (posted s a)
+posted_valid : (s : EngineState) (a : Active) → (IsActive s.active a.cid → ⊥) → FitsName (length s.initial) s.active a → IsValid s → IsValid (posted s a)
 posted_valid s a inactive formed valid =
     let active = with_posted a s.active in
     let rising : Rises (cids_of active) = with_posted_rises a s.active valid.rising in
@@ -64,7 +65,7 @@ posted_valid s a inactive formed valid =
       ascend = valid.ascend;
       rising = rising;
       formed = λ b m. formed_with (length s.initial) a s.active b inactive (elim (with_posted_cases a s.active b m) [
-        | inl e ↦ subst (λ c. IsFormed (length s.initial) s.active c) e formed
+        | inl e ↦ subst (λ c. FitsName (length s.initial) s.active c) e formed
         | inr k ↦ valid.formed b k
       ]);
       founded = right_more s.initial s.active active (λ b m. member_with_posted a s.active b inactive m) [] s.log valid.founded;
@@ -195,7 +196,7 @@ length_more d vs = omega (arith, length-append d (vs ∷ []))
 has_in_more : (d : Domains) (x : ℕ) (v : ℤ) → x < length d → (vs : List ℤ) → Has d x v → Has (d ++ vs ∷ []) x v
 has_in_more d x v lt vs has = subst (λ ws. Contains ws v) (sym (values_of_more d vs x lt)) has
 
-right_declared : (initial : Domains) (vs : List ℤ) (active : List Active) → ((a : Active) → Contains active a → IsFormed (length initial) active a)
+right_declared : (initial : Domains) (vs : List ℤ) (active : List Active) → ((a : Active) → Contains active a → FitsName (length initial) active a)
     → (earlier rest : List Removal) → AreRight initial active earlier rest → AreRight (initial ++ vs ∷ []) active earlier rest
 right_declared initial vs active formed earlier [] right = tt
 right_declared initial vs active formed earlier (r ∷ rest) right =

@@ -5,7 +5,6 @@ ghost use Rattle.palm_model.specs.Closure.{IsClosed, IsGreatest};
 ghost use Rattle.palm_model.specs.Log.{cons_of};
 ghost use Rattle.palm_model.specs.State.{EngineState, IsValid, present, blank};
 ghost use Rattle.palm_model.specs.Event.{Step, Runs};
-ghost use Rattle.palm_events.specs.Reasons.{ReasonsAreRight};
 
 /// The present domains of a valid state include all that are closed for the active constraints.
 pub fn present_domains_include_closed_ones()
@@ -22,12 +21,10 @@ pub fn quiet_states_have_the_greatest_domains()
 /// Every run from the state without constraints leads to domains that include the greatest closed ones of the
 /// constraints that are active then, and that are exactly these where nothing is pending.
 pub fn runs_reach_the_greatest_domains()
-    ensures included { ReasonsAreRight
-        → (initial : Domains) (steps : List Step) (t : EngineState) (d : Domains)
+    ensures included { (initial : Domains) (steps : List Step) (t : EngineState) (d : Domains)
         → AllAscend initial → Runs (blank initial) steps t
         → IsGreatest t.initial (Contains (cons_of t.active)) d → IsInside d (present t) }
-    ensures equal { ReasonsAreRight
-        → (initial : Domains) (steps : List Step) (t : EngineState) (d : Domains)
+    ensures equal { (initial : Domains) (steps : List Step) (t : EngineState) (d : Domains)
         → AllAscend initial → Runs (blank initial) steps t
         → IsGreatest t.initial (Contains (cons_of t.active)) d → t.pending ≡ [] → present t ≡ d }
 {}

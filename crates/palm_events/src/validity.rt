@@ -8,7 +8,6 @@ ghost use Rattle.palm_model.specs.Domains.{Domains, AllAscend};
 ghost use Rattle.palm_model.specs.State.{EngineState, IsValid, blank};
 ghost use Rattle.palm_model.specs.Event.{Step, Steps, Runs, WithdrawsAll, lost_pairs};
 ghost use Rattle.palm_events.specs.Along.{KeepsGrounds};
-ghost use Rattle.palm_events.specs.Reasons.{ReasonsAreRight};
 
 /// The state without constraints is valid.
 pub fn states_without_constraints_are_valid()
@@ -17,7 +16,7 @@ pub fn states_without_constraints_are_valid()
 
 /// Postings, withdrawals and removals keep a state valid, and so do the silent steps between them.
 pub fn steps_keep_validity()
-    ensures { ReasonsAreRight → (s t : EngineState) (step : Step) → Steps s step t → IsValid s → IsValid t }
+    ensures { (s t : EngineState) (step : Step) → Steps s step t → IsValid s → IsValid t }
 {}
 
 /// Several constraints may go at once, where they are no grounds of negations that stay.
@@ -28,7 +27,7 @@ pub fn withdrawals_keep_validity()
 
 /// Every run from the state without constraints leads to a valid state.
 pub fn runs_are_valid()
-    ensures { ReasonsAreRight → (initial : Domains) (steps : List Step) (t : EngineState)
+    ensures { (initial : Domains) (steps : List Step) (t : EngineState)
         → AllAscend initial → Runs (blank initial) steps t → IsValid t }
 {}
 

@@ -6,7 +6,8 @@ use Rattle.palm_model.specs.Domains.{Ascends, Has, is_among}
 use Rattle.palm_model.specs.Support.{LacksSupport}
 use Rattle.palm_model.specs.Reason.{reason}
 use Rattle.palm_model.specs.Log.{Active, IsActive, Removal, Loses, cids_of, log_pairs, is_named, cid_before}
-use Rattle.palm_model.specs.State.{EngineState, IsFormed, AllFilled, IsClosedBy, present, woken, without_cid}
+use Rattle.palm_model.specs.Closure.{IsClosedBy}
+use Rattle.palm_model.specs.State.{EngineState, FitsName, AllFilled, present, woken, without_cid}
 
 -- ---- posting
 
@@ -22,7 +23,7 @@ posted s a = let active = with_posted a s.active in
 -- a constraint that is not active and is what its name says becomes active and pending
 pub record Posts (s : EngineState) (a : Active) (t : EngineState) : Type 0 where
   pub inactive : IsActive s.active a.cid → ⊥
-  pub formed : IsFormed (length s.initial) s.active a
+  pub formed : FitsName (length s.initial) s.active a
   pub after : t ≡ posted s a
 
 -- ---- withdrawing

@@ -5,13 +5,11 @@ use Rattle.palm_base.specs.declared.terms.Cid.{Cid}
 use Rattle.palm_base.specs.declared.terms.Cid.TheVariants.{Decide, Not, User}
 use Rattle.palm_model.specs.Domains.{Domains, AllAscend, values_of, without}
 use Rattle.palm_model.specs.Constraint.{scope, IsWellFormed}
-use Rattle.palm_model.specs.Part.{parts}
-use Rattle.palm_model.specs.Closure.{IsClosedFor}
+use Rattle.palm_model.specs.Closure.{IsClosedBy}
 use Rattle.palm_model.specs.Log.{Active, IsActive, Removal, IsWellFounded, Rises, cids_of, log_pairs, is_named}
 use Rattle.palm_model.specs.declared.constraint.Con.{Con}
 use Rattle.palm_model.specs.declared.constraint.Con.TheVariants.{CompareConst}
 use Rattle.palm_model.specs.declared.constraint.Op.TheVariants.{Eq, Ne}
-use Rattle.palm_model.specs.declared.part.Part.{Part}
 
 -- the declared values, the active constraints by rising name, the removals so far with the oldest first, and the
 -- names of those active constraints that may not be closed
@@ -86,21 +84,17 @@ IsOfForm variables active (Not p) con because = (con ≡ CompareConst p.var Ne p
 IsOfForm variables active (User n) con because = IsWellFormed variables con × (because ≡ [])
 
 -- the active constraint is what its name says
-pub record IsFormed (variables : ℕ) (active : List Active) (a : Active) : Type 0 where
+pub record FitsName (variables : ℕ) (active : List Active) (a : Active) : Type 0 where
   pub form : IsOfForm variables active a.cid a.con a.because
 
 -- ---- validity
-
--- the domains are closed for every part of the constraint
-abbrev pub IsClosedBy : Con → Domains → Type 0
-IsClosedBy c d = (p : Part) → Contains (parts c) p → IsClosedFor p d
 
 -- the log is well founded with active constraints, and each active constraint that is not pending is closed in the
 -- present domains; the lists are in order
 pub record IsValid (s : EngineState) : Type 0 where
   pub ascend : AllAscend s.initial
   pub rising : Rises (cids_of s.active)
-  pub formed : (a : Active) → Contains s.active a → IsFormed (length s.initial) s.active a
+  pub formed : (a : Active) → Contains s.active a → FitsName (length s.initial) s.active a
   pub founded : IsWellFounded s.initial s.active s.log
   pub waiting : s.pending ≡ woken s.active s.pending []
   pub closed : (a : Active) → Contains s.active a → (Contains s.pending a.cid → ⊥) → IsClosedBy a.con (present s)

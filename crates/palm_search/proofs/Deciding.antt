@@ -8,7 +8,7 @@ use Rattle.palm_base.specs.declared.terms.Cid.TheVariants.{Decide, Not}
 use Rattle.palm_base.proofs.Members.{member_nil, member_here, member_there, member_cases, member_same, member_map, member_unmap, filter_member}
 use Rattle.palm_model.specs.Constraint.{Distinct}
 use Rattle.palm_model.specs.Log.{Active, IsActive, cids_of, is_named}
-use Rattle.palm_model.specs.State.{EngineState, IsValid, IsGround, IsFormed}
+use Rattle.palm_model.specs.State.{EngineState, IsValid, IsGround, FitsName}
 use Rattle.palm_search.specs.declared.turn.Pick.{Pick}
 use Rattle.palm_model.specs.Event.{with_posted, without_names, gone_with, vars_of}
 use Rattle.palm_events.proofs.Names.{named_member}
@@ -79,7 +79,7 @@ decided_has s p engine e inactive has = record {
 -- ---- undoing
 
 -- what goes with a ground is no other ground
-pub ground_stays : (n : ℕ) (active : List Active) (cid : Cid) → ((a : Active) → Contains active a → IsFormed n active a) → (c : Cid) → IsGround c → (c ≡ cid → ⊥) → Contains (gone_with active cid) c → ⊥
+pub ground_stays : (n : ℕ) (active : List Active) (cid : Cid) → ((a : Active) → Contains active a → FitsName n active a) → (c : Cid) → IsGround c → (c ≡ cid → ⊥) → Contains (gone_with active cid) c → ⊥
 ground_stays n active cid formed c ground ne m = elim (member_cases cid (cids_of (filter (λ b. is_named b.because cid) active)) c m) [
   | inl e ↦ ne (sym e)
   | inr k ↦

@@ -7,7 +7,6 @@ ghost use Rattle.palm_model.specs.Trial.{listed};
 ghost use Rattle.palm_model.specs.Log.{IsActive, Named, cons_of};
 ghost use Rattle.palm_model.specs.State.{EngineState, IsValid};
 ghost use Rattle.palm_events.specs.Along.{IsStill};
-ghost use Rattle.palm_events.specs.Reasons.{ReasonsAreRight};
 ghost use Rattle.palm_search.specs.declared.turn.Turn.{Turn};
 ghost use Rattle.palm_search.specs.Turns.{SearchState, Takes, SettlesAfter, Turns};
 ghost use Rattle.palm_search.specs.Search.{SearchEnd, Searches, begun};
@@ -26,34 +25,34 @@ pub fn turns_keep_searching()
 
 /// And so does a settling.
 pub fn settlings_keep_searching()
-    ensures { ReasonsAreRight → (ordered : Bool) (s t : SearchState) → SettlesAfter ordered s t → IsSearching s → IsSearching t }
+    ensures { (ordered : Bool) (s t : SearchState) → SettlesAfter ordered s t → IsSearching s → IsSearching t }
 {}
 
 /// So all active negations are justified after any turns.
 pub fn turns_with_settlings_keep_searching()
-    ensures { ReasonsAreRight → (guided ordered : Bool) (s t : SearchState) (turns : List Turn)
+    ensures { (guided ordered : Bool) (s t : SearchState) (turns : List Turn)
         → Turns guided ordered s turns t → IsSearching s → IsSearching t }
 {}
 
 /// Where a search has found values, they satisfy all constraints that were active before it.
 pub fn found_values_are_a_solution()
-    ensures { ReasonsAreRight → (guided ordered : Bool) (budget : ℕ) (s t : EngineState) (turns : List Turn) (values : List ℤ)
+    ensures { (guided ordered : Bool) (budget : ℕ) (s t : EngineState) (turns : List Turn) (values : List ℤ)
         → HasOnlyUsers s → IsValid s → IsStill s → Searches guided ordered budget s turns (Found values) t
         → IsSolution s.initial (Contains (cons_of s.active)) (listed values) }
 {}
 
 /// Where a search ends without a solution, the users that it tells were active before it, and have none in common.
 pub fn users_of_no_solution_have_none()
-    ensures unsolved { ReasonsAreRight → (guided ordered : Bool) (budget : ℕ) (s t : EngineState) (turns : List Turn) (users : List Cid)
+    ensures unsolved { (guided ordered : Bool) (budget : ℕ) (s t : EngineState) (turns : List Turn) (users : List Cid)
         → HasOnlyUsers s → IsValid s → IsStill s → Searches guided ordered budget s turns (NoSolution users) t
         → (a : Assignment) → IsSolution s.initial (Named s.active (Contains users)) a → ⊥ }
-    ensures active { ReasonsAreRight → (guided ordered : Bool) (budget : ℕ) (s t : EngineState) (turns : List Turn) (users : List Cid)
+    ensures active { (guided ordered : Bool) (budget : ℕ) (s t : EngineState) (turns : List Turn) (users : List Cid)
         → HasOnlyUsers s → IsValid s → IsStill s → Searches guided ordered budget s turns (NoSolution users) t
         → (c : Cid) → Contains users c → IsActive s.active c }
 {}
 
 /// After a search the log is the log from before, whatever its end.
 pub fn searches_leave_the_log()
-    ensures { ReasonsAreRight → (guided ordered : Bool) (budget : ℕ) (s t : EngineState) (turns : List Turn) (end : SearchEnd)
+    ensures { (guided ordered : Bool) (budget : ℕ) (s t : EngineState) (turns : List Turn) (end : SearchEnd)
         → HasOnlyUsers s → IsValid s → IsStill s → Searches guided ordered budget s turns end t → t.log ≡ s.log }
 {}

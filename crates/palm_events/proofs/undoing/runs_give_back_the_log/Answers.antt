@@ -1,5 +1,6 @@
+use Rattle.palm_events.proofs.Reasons.{reasons_right}
 use Rattle.palm_events.proofs.Undone.{run_undone}
 use Rattle.palm_events.proofs.undoing.runs_give_back_the_log.Goals as goal
 
 pub returns : goal.returns
-returns c = λ right s t steps valid still run keeps alone. run_undone right s steps t valid still run keeps alone
+returns c = λ s t steps valid still run keeps alone. run_undone reasons_right s steps t valid still run keeps alone

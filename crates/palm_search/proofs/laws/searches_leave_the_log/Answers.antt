@@ -1,5 +1,6 @@
+use Rattle.palm_events.proofs.Reasons.{reasons_right}
 use Rattle.palm_search.proofs.Leaving.{search_leaves}
 use Rattle.palm_search.proofs.laws.searches_leave_the_log.Goals as goal
 
 pub returns : goal.returns
-returns c = λ right guided ordered budget s t turns end users valid still searches. search_leaves right guided ordered budget s turns end t users valid still searches
+returns c = λ guided ordered budget s t turns end users valid still searches. search_leaves reasons_right guided ordered budget s turns end t users valid still searches

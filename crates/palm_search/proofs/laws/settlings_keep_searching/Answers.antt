@@ -1,5 +1,6 @@
+use Rattle.palm_events.proofs.Reasons.{reasons_right}
 use Rattle.palm_search.proofs.Keeping.{settles_keep}
 use Rattle.palm_search.proofs.laws.settlings_keep_searching.Goals as goal
 
 pub returns : goal.returns
-returns c = λ right ordered s t settles searching. settles_keep right ordered s t settles searching
+returns c = λ ordered s t settles searching. settles_keep reasons_right ordered s t settles searching
