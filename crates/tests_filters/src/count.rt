@@ -2,10 +2,10 @@
 ghost use Rattle.std.specs.Prelude.{◌≡◌, length, IfOk};
 ghost use Rattle.palm_model.specs.Constraint.{IsWellFormed};
 
+use crate::testing::{is_reason, is_supported, pair, take_out_all};
 use filter_occur::OccurFilter;
 use palm_base::{NoMemory, Pair, Value, Var, VarList};
 use palm_domain::DomainStore;
-use crate::testing::{is_reason, is_supported, pair, take_out_all};
 use palm_model::{Con, Op, Target};
 use std::alloc::Global;
 use std::test::Fail;
