@@ -39,7 +39,7 @@ in_time_whole : (text : List ℕ) → length text ≤ MOST_INPUT_BYTES → (HasE
 in_time_whole text le none = record { front = text; piece = []; whole = sym (append-nil text); small = omega arith; within = le; unended = none }
 
 no_end_nothing : HasEnd [] → ⊥
-no_end_nothing e = no_end (fresh [] []) fresh [] [] None None (feeds_none (fresh [] []) None) e
+no_end_nothing e = no_end (fresh [] []) (fresh [] []) [] [] None None (feeds_none (fresh [] []) None) e
 
 in_time_nothing : StopsInTime []
 in_time_nothing = in_time_whole [] (omega arith) no_end_nothing
