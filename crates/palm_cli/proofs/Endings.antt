@@ -6,6 +6,7 @@ use Rattle.palm_session.specs.State.{SessionState}
 use Rattle.palm_session.specs.Lines.{HasNoFeed, without_return}
 use Rattle.palm_session.specs.Replies.{GoesOn, Ends}
 use Rattle.palm_session.specs.Feeding.{FeedsOn}
+use Rattle.palm_session.proofs.Keeping.{line_apart}
 use Rattle.palm_cli.specs.Commands.{HasEnd}
 
 head_of : (a b : ℕ) (xs ys : List ℕ) → a ∷ xs ≡ b ∷ ys → a ≡ b
@@ -30,10 +31,6 @@ first_line (x ∷ xs) (y ∷ ys) t u na nb e =
     let r = first_line xs ys t u (All-tail (λ z. z ≡ 10 → ⊥) x xs na) (All-tail (λ z. z ≡ 10 → ⊥) y ys nb) (tail_of x y (xs ++ (10 ∷ t)) (ys ++ (10 ∷ u)) e) in
     let h : x ≡ y = head_of x y (xs ++ (10 ∷ t)) (ys ++ (10 ∷ u)) e in
     (ap (λ z. z ∷ xs) h ∙ ap (λ (zs : List ℕ). y ∷ zs) r.0, r.1)
-
-line_apart : (x : List ℕ) (xs : List (List ℕ)) (rest : List ℕ) → flat_map ended (x ∷ xs) ++ rest ≡ x ++ (10 ∷ (flat_map ended xs ++ rest))
-line_apart x xs rest =
-    ap (λ (z : List ℕ). z ++ rest) (append_assoc x (10 ∷ []) (flat_map ended xs)) ∙ append_assoc x (10 ∷ flat_map ended xs) rest
 
 unended : (before : List (List ℕ)) (last back : List ℕ) (lines : List (List ℕ)) (rest : List ℕ)
     → All HasNoFeed (before ++ last ∷ []) → All HasNoFeed lines → HasNoFeed rest → All GoesOn (map without_return lines)

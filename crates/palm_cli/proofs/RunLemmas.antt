@@ -12,6 +12,8 @@ use Rattle.palm_session.specs.Lines.{HasNoFeed, Cuts, AreLines, last_line, witho
 use Rattle.palm_session.specs.Replies.{Run, AreAnswered, GoesOn, Ends, KeepsOn, all, until}
 use Rattle.palm_session.specs.Feeding.{View, FeedsOn, FeedsEnd, FeedsPart, FinishesAll, FinishesPart}
 use Rattle.palm_session.proofs.FeedLemmas.{feeds_more, feeds_more_end, feeds_more_part, feeds_none, run_append, map_more, map_append}
+use Rattle.palm_session.proofs.Keeping.{feeds_long, feeds_long_end, feeds_long_part, finishes_long, finishes_long_part}
+use Rattle.palm_session.specs.declared.limits.TheConstants.{MOST_KEPT_BYTES}
 use Rattle.std.proofs.lemmas.Grind.{flat_map-append}
 use Rattle.palm_cli.specs.Commands.{Streams, IsCalm, FailsToWrite, RunsAll, RunsPart, HasEnd, StopsInTime, IsAll, IsWhole, IsCut, Runs, HasNoFault, TakesAnswerable, TakesTooMuch, first_bytes}
 use Rattle.palm_cli.specs.Serving.{FinishesStatus, FeedsStatus, ReadsPiece, ReadsEnd, PumpsFault, PumpsPiece, Pumps}
@@ -23,10 +25,12 @@ use Rattle.palm_cli.specs.declared.status.Status.TheVariants.{Done, Usage, ReadF
 -- the text: what was taken without a fault, of which the session was fed what can be answered
 pub record Served (before now : Streams) (taken : ℕ) (session : View) : Type 0 where
   pub text : List ℕ
+  pub rest : List ℕ
   pub long : length text ≡ taken
   pub takes : Consumes before.source.left now.source.left text
   pub in_time : StopsInTime text
-  pub feeds : FeedsOn fresh (first_bytes text) before.sink.written now.sink.written session.unfinished session.state
+  pub feeds : FeedsOn (fresh [] []) (first_bytes text) before.sink.written now.sink.written rest session.state
+  pub kept : session.unfinished ≡ take MOST_KEPT_BYTES rest
   pub going : session.over ≡ false
   pub calm : IsCalm before now
 
@@ -35,7 +39,7 @@ in_time_whole : (text : List ℕ) → length text ≤ MOST_INPUT_BYTES → (HasE
 in_time_whole text le none = record { front = text; piece = []; whole = sym (append-nil text); small = omega arith; within = le; unended = none }
 
 no_end_nothing : HasEnd [] → ⊥
-no_end_nothing e = no_end fresh fresh [] [] None None (feeds_none fresh None) e
+no_end_nothing e = no_end (fresh [] []) (fresh [] []) [] [] None None (feeds_none (fresh [] []) None) e
 
 in_time_nothing : StopsInTime []
 in_time_nothing = in_time_whole [] (omega arith) no_end_nothing
@@ -43,15 +47,17 @@ in_time_nothing = in_time_whole [] (omega arith) no_end_nothing
 calm_still : (before : Streams) → IsCalm before before
 calm_still before = record { read = refl; write = refl }
 
-pub served_start : (before : Streams) (session : View) → session ≡ record { state = fresh; unfinished = []; over = false } → Served before before 0 session
+pub served_start : (before : Streams) (session : View) → session ≡ record { state = (fresh [] []); unfinished = []; over = false } → Served before before 0 session
 served_start before session e =
     subst (λ (v : View). Served before before 0 v) (sym e)
     (record {
       text = [];
+      rest = [];
       long = refl;
       takes = consumes_nothing before.source.left;
       in_time = in_time_nothing;
-      feeds = feeds_none fresh before.sink.written;
+      feeds = feeds_none (fresh [] []) before.sink.written;
+      kept = refl;
       going = refl;
       calm = calm_still before;
     })
@@ -66,7 +72,7 @@ part_nothing before = record {
   lines = [];
   others = [];
   replies = [];
-  state = fresh;
+  state = (fresh [] []);
   takes = consumes_nothing before.source.left;
   in_time = in_time_nothing;
   are_lines = no_lines;
@@ -87,16 +93,16 @@ takes_more_nothing a b c x p q = subst (λ (z : List ℕ). Consumes a c z) (appe
 
 -- what was fed is all that was taken
 whole_feeds : (before now : Streams) (taken : ℕ) (session : View) (s : Served before now taken session) → taken ≤ MOST_INPUT_BYTES
-    → FeedsOn fresh s.text before.sink.written now.sink.written session.unfinished session.state
+    → FeedsOn (fresh [] []) s.text before.sink.written now.sink.written s.rest session.state
 whole_feeds before now taken session s le =
-    subst (λ (z : List ℕ). FeedsOn fresh z before.sink.written now.sink.written session.unfinished session.state) (whole_text s.text taken s.long le) s.feeds
+    subst (λ (z : List ℕ). FeedsOn (fresh [] []) z before.sink.written now.sink.written s.rest session.state) (whole_text s.text taken s.long le) s.feeds
 
 served_unended : (before now : Streams) (taken : ℕ) (session : View) (s : Served before now taken session) → taken ≤ MOST_INPUT_BYTES → HasEnd s.text → ⊥
 served_unended before now taken session s le =
-    no_end fresh session.state s.text session.unfinished before.sink.written now.sink.written (whole_feeds before now taken session s le)
+    no_end (fresh [] []) session.state s.text s.rest before.sink.written now.sink.written (whole_feeds before now taken session s le)
 
-same_written : (a b : SinkState) (was : Option (List ℕ)) (text rest : List ℕ) (t : SessionState) → a ≡ b → FeedsOn fresh text was b.written rest t → FeedsOn fresh text was a.written rest t
-same_written a b was text rest t e f = subst (λ (k : SinkState). FeedsOn fresh text was k.written rest t) (sym e) f
+same_written : (a b : SinkState) (was : Option (List ℕ)) (text rest : List ℕ) (t : SessionState) → a ≡ b → FeedsOn (fresh [] []) text was b.written rest t → FeedsOn (fresh [] []) text was a.written rest t
+same_written a b was text rest t e f = subst (λ (k : SinkState). FeedsOn (fresh [] []) text was k.written rest t) (sym e) f
 
 rose_after : (a b c : ℕ) → b ≡ a → Rose b c → Rose a c
 rose_after a b c e r = subst (λ (n : ℕ). Rose n c) e r
@@ -110,11 +116,11 @@ fault_runs before mid now taken session s le f = (
   },
   record {
     text = s.text;
-    rest = session.unfinished;
+    rest = s.rest;
     state = session.state;
     takes = takes_more_nothing before.source.left mid.source.left now.source.left s.text s.takes f.takes;
     short = omega (arith, s.long, le);
-    feeds = same_written now.sink mid.sink before.sink.written s.text session.unfinished session.state f.sink (whole_feeds before mid taken session s le);
+    feeds = same_written now.sink mid.sink before.sink.written s.text s.rest session.state f.sink (whole_feeds before mid taken session s le);
   },
 )
 
@@ -165,16 +171,21 @@ calm_more before mid now c read write = record { read = read ∙ c.read; write =
 -- one more piece was read and fed
 pub served_more : (before mid now : Streams) (taken : ℕ) (session later : View) → Served before mid taken session → taken ≤ MOST_INPUT_BYTES
     → (p : PumpsPiece session (MOST_INPUT_BYTES - taken) mid later now None) → Served before now (taken + length p.piece) later
-served_more before mid now taken session later s le p = record {
-  text = s.text ++ p.piece;
-  long = omega (arith, length-append s.text p.piece, s.long);
-  takes = consumes_both before.source.left mid.source.left now.source.left s.text p.piece s.takes p.reads.takes;
-  in_time = in_time_more s.text p.piece (omega (arith, s.long, le)) (served_unended before mid taken session s le) p.reads.small;
-  feeds = subst (λ (z : List ℕ). FeedsOn fresh z before.sink.written now.sink.written later.unfinished later.state) (sym (fed_text s.text p.piece taken s.long le))
-      (feeds_more fresh session.state later.state (first_bytes s.text) (take (MOST_INPUT_BYTES - taken) p.piece) session.unfinished later.unfinished before.sink.written mid.sink.written now.sink.written s.feeds p.feeds.1);
-  going = p.feeds.2;
-  calm = calm_more before mid now s.calm p.reads.calm p.feeds.0;
-}
+served_more before mid now taken session later s le p =
+    let fed : List ℕ = take (MOST_INPUT_BYTES - taken) p.piece in
+    let left = feeds_long session.state session.unfinished s.rest fed mid.sink.written now.sink.written s.kept s.feeds.unfinished later.state p.feeds.1.rest p.feeds.1.feeds in
+    record {
+      text = s.text ++ p.piece;
+      rest = left.0;
+      long = omega (arith, length-append s.text p.piece, s.long);
+      takes = consumes_both before.source.left mid.source.left now.source.left s.text p.piece s.takes p.reads.takes;
+      in_time = in_time_more s.text p.piece (omega (arith, s.long, le)) (served_unended before mid taken session s le) p.reads.small;
+      feeds = subst (λ (z : List ℕ). FeedsOn (fresh [] []) z before.sink.written now.sink.written left.0 later.state) (sym (fed_text s.text p.piece taken s.long le))
+          (feeds_more (fresh [] []) session.state later.state (first_bytes s.text) fed s.rest left.0 before.sink.written mid.sink.written now.sink.written s.feeds left.2);
+      kept = p.feeds.1.kept ∙ left.1;
+      going = p.feeds.2;
+      calm = calm_more before mid now s.calm p.reads.calm p.feeds.0;
+    }
 
 pub served_count : (before mid now : Streams) (taken count : ℕ) (session later : View) → Served before mid taken session → taken ≤ MOST_INPUT_BYTES
     → Pumps session (MOST_INPUT_BYTES - taken) mid later now (Ok count) → Served before now (taken + count) later
@@ -186,7 +197,7 @@ served_over before now taken session s over = (
   s.calm,
   record {
     text = s.text;
-    rest = session.unfinished;
+    rest = s.rest;
     state = session.state;
     takes = s.takes;
     long = omega (arith, s.long, over);
@@ -230,8 +241,9 @@ front_whole was now x w = record { front = x; back = []; whole = sym (append-nil
 
 finish_done : (before mid now : Streams) (taken : ℕ) (session : View) (t : SessionState) → Served before mid taken session → taken ≤ MOST_INPUT_BYTES
     → ReadsEnd mid.source now.source → FinishesAll session.state session.unfinished mid.sink.written now.sink.written t → RunsAll before now
-finish_done before mid now taken session t s le e f =
+finish_done before mid now taken session t s le e short =
     let fs = whole_feeds before mid taken session s le in
+    let f = finishes_long session.state session.unfinished s.rest mid.sink.written now.sink.written s.kept t short in
     record {
       text = s.text;
       output = fs.replies ++ f.replies;
@@ -239,49 +251,33 @@ finish_done before mid now taken session t s le e f =
       in_time = in_time_whole s.text (omega (arith, s.long, le)) (served_unended before mid taken session s le);
       reach = inl (omega (arith, s.long, le), all_left before.source.left mid.source.left s.text s.takes e.at_end);
       replies = record {
-        lines = map without_return fs.lines ++ last_line session.unfinished;
-        answered = map without_return fs.lines ++ last_line session.unfinished;
+        lines = map without_return fs.lines ++ last_line s.rest;
+        answered = map without_return fs.lines ++ last_line s.rest;
         state = t;
-        are_lines = lines_of s.text fs.lines session.unfinished fs.answered.whole fs.answered.unbroken fs.unfinished;
-        are_answered = answered_lines (map without_return fs.lines) session.unfinished fs.goes_on f.last;
-        run = run_append fresh session.state t (map without_return fs.lines) (last_line session.unfinished) fs.replies f.replies fs.answered.run f.run;
+        are_lines = lines_of s.text fs.lines s.rest fs.answered.whole fs.answered.unbroken fs.unfinished;
+        are_answered = answered_lines (map without_return fs.lines) s.rest fs.goes_on f.last;
+        run = run_append (fresh [] []) session.state t (map without_return fs.lines) (last_line s.rest) fs.replies f.replies fs.answered.run f.run;
       };
       written = appended_both before.sink.written mid.sink.written now.sink.written fs.replies f.replies fs.written f.written;
     }
 
 finish_part : (before mid now : Streams) (taken : ℕ) (session : View) → Served before mid taken session → taken ≤ MOST_INPUT_BYTES → ReadsEnd mid.source now.source
-    → Appended mid.sink.written now.sink.written [] ⊎ FinishesPart session.state session.unfinished mid.sink.written now.sink.written → RunsPart before now
-finish_part before mid now taken session s le e (inl none) =
+    → FinishesPart session.state session.unfinished mid.sink.written now.sink.written → RunsPart before now
+finish_part before mid now taken session s le e short =
     let fs = whole_feeds before mid taken session s le in
+    let f = finishes_long_part session.state session.unfinished s.rest mid.sink.written now.sink.written s.kept short in
     record {
       text = s.text;
-      lines = map without_return fs.lines;
-      others = last_line session.unfinished;
-      replies = fs.replies;
-      state = session.state;
-      takes = takes_more_nothing before.source.left mid.source.left now.source.left s.text s.takes e.takes;
-      in_time = in_time_whole s.text (omega (arith, s.long, le)) (served_unended before mid taken session s le);
-      are_lines = lines_of s.text fs.lines session.unfinished fs.answered.whole fs.answered.unbroken fs.unfinished;
-      keeps_on = subst KeepsOn (append-nil (map without_return fs.lines)) (keeps_on_all (map without_return fs.lines) [] fs.goes_on tt);
-      run = fs.answered.run;
-      written = front_whole before.sink.written now.sink.written fs.replies
-          (subst (λ (z : List ℕ). Appended before.sink.written now.sink.written z) (append-nil fs.replies)
-          (appended_both before.sink.written mid.sink.written now.sink.written fs.replies [] fs.written none));
-    }
-finish_part before mid now taken session s le e (inr f) =
-    let fs = whole_feeds before mid taken session s le in
-    record {
-      text = s.text;
-      lines = map without_return fs.lines ++ last_line session.unfinished;
+      lines = map without_return fs.lines ++ last_line s.rest;
       others = [];
       replies = fs.replies ++ f.replies;
       state = f.after;
       takes = takes_more_nothing before.source.left mid.source.left now.source.left s.text s.takes e.takes;
       in_time = in_time_whole s.text (omega (arith, s.long, le)) (served_unended before mid taken session s le);
-      are_lines = subst (λ (ls : List (List ℕ)). AreLines s.text ls) (sym (append-nil (map without_return fs.lines ++ last_line session.unfinished)))
-          (lines_of s.text fs.lines session.unfinished fs.answered.whole fs.answered.unbroken fs.unfinished);
-      keeps_on = keeps_on_all (map without_return fs.lines) (last_line session.unfinished) fs.goes_on (keeps_on_last session.unfinished);
-      run = run_append fresh session.state f.after (map without_return fs.lines) (last_line session.unfinished) fs.replies f.replies fs.answered.run f.run;
+      are_lines = subst (λ (ls : List (List ℕ)). AreLines s.text ls) (sym (append-nil (map without_return fs.lines ++ last_line s.rest)))
+          (lines_of s.text fs.lines s.rest fs.answered.whole fs.answered.unbroken fs.unfinished);
+      keeps_on = keeps_on_all (map without_return fs.lines) (last_line s.rest) fs.goes_on (keeps_on_last s.rest);
+      run = run_append (fresh [] []) session.state f.after (map without_return fs.lines) (last_line s.rest) fs.replies f.replies fs.answered.run f.run;
       written = record {
         front = fs.replies ++ f.written.front;
         back = f.written.back;
@@ -366,7 +362,7 @@ whole_end n text rest lines e =
     sym (take-append-drop n text) ∙ ap (λ (z : List ℕ). z ++ drop n text) e ∙ append_assoc (flat_map ended lines) rest (drop n text)
 
 end_runs : (before now : Streams) (text : List ℕ) (t : SessionState) → Consumes before.source.left now.source.left text → StopsInTime text
-    → FeedsEnd fresh (first_bytes text) before.sink.written now.sink.written t → RunsAll before now
+    → FeedsEnd (fresh [] []) (first_bytes text) before.sink.written now.sink.written t → RunsAll before now
 end_runs before now text t takes in_time e =
     let l = text_lines text (e.lines ++ e.last ∷ []) (e.rest ++ drop MOST_INPUT_BYTES text) (whole_end MOST_INPUT_BYTES text e.rest (e.lines ++ e.last ∷ []) e.answered.whole) e.answered.unbroken in
     record {
@@ -382,13 +378,13 @@ end_runs before now text t takes in_time e =
         are_lines = l.1;
         are_answered = until (map without_return e.lines) l.0 (without_return e.last) e.goes_on e.ends
             (ap (λ (z : List (List ℕ)). z ++ l.0) (map_more e.lines e.last) ∙ append_assoc (map without_return e.lines) (without_return e.last ∷ []) l.0);
-        run = subst (λ (ls : List (List ℕ)). Run fresh ls e.replies t) (map_more e.lines e.last) e.answered.run;
+        run = subst (λ (ls : List (List ℕ)). Run (fresh [] []) ls e.replies t) (map_more e.lines e.last) e.answered.run;
       };
       written = e.written;
     }
 
 part_runs : (before now : Streams) (text : List ℕ) → Consumes before.source.left now.source.left text → StopsInTime text
-    → FeedsPart fresh (first_bytes text) before.sink.written now.sink.written → RunsPart before now
+    → FeedsPart (fresh [] []) (first_bytes text) before.sink.written now.sink.written → RunsPart before now
 part_runs before now text takes in_time p =
     let l = text_lines text p.lines (p.rest ++ drop MOST_INPUT_BYTES text) (whole_end MOST_INPUT_BYTES text p.rest p.lines p.answered.whole) p.answered.unbroken in
     record {
@@ -411,8 +407,9 @@ more_part : (before mid now : Streams) (taken : ℕ) (session : View) (piece : L
 more_part before mid now taken session piece s le r f =
     part_runs before now (s.text ++ piece) (consumes_both before.source.left mid.source.left now.source.left s.text piece s.takes r.takes)
     (in_time_more s.text piece (omega (arith, s.long, le)) (served_unended before mid taken session s le) r.small)
-    (subst (λ (z : List ℕ). FeedsPart fresh z before.sink.written now.sink.written) (sym (fed_text s.text piece taken s.long le))
-    (feeds_more_part fresh session.state (first_bytes s.text) (take (MOST_INPUT_BYTES - taken) piece) session.unfinished before.sink.written mid.sink.written now.sink.written s.feeds f))
+    (subst (λ (z : List ℕ). FeedsPart (fresh [] []) z before.sink.written now.sink.written) (sym (fed_text s.text piece taken s.long le))
+    (feeds_more_part (fresh [] []) session.state (first_bytes s.text) (take (MOST_INPUT_BYTES - taken) piece) s.rest before.sink.written mid.sink.written now.sink.written s.feeds
+    (feeds_long_part session.state session.unfinished s.rest (take (MOST_INPUT_BYTES - taken) piece) mid.sink.written now.sink.written s.kept s.feeds.unfinished f)))
 
 more_end : (before mid now : Streams) (taken : ℕ) (session later : View) (piece : List ℕ) → Served before mid taken session → taken ≤ MOST_INPUT_BYTES
     → ReadsPiece mid.source now.source piece
@@ -420,8 +417,9 @@ more_end : (before mid now : Streams) (taken : ℕ) (session later : View) (piec
 more_end before mid now taken session later piece s le r f =
     end_runs before now (s.text ++ piece) later.state (consumes_both before.source.left mid.source.left now.source.left s.text piece s.takes r.takes)
     (in_time_more s.text piece (omega (arith, s.long, le)) (served_unended before mid taken session s le) r.small)
-    (subst (λ (z : List ℕ). FeedsEnd fresh z before.sink.written now.sink.written later.state) (sym (fed_text s.text piece taken s.long le))
-    (feeds_more_end fresh session.state later.state (first_bytes s.text) (take (MOST_INPUT_BYTES - taken) piece) session.unfinished before.sink.written mid.sink.written now.sink.written s.feeds f))
+    (subst (λ (z : List ℕ). FeedsEnd (fresh [] []) z before.sink.written now.sink.written later.state) (sym (fed_text s.text piece taken s.long le))
+    (feeds_more_end (fresh [] []) session.state later.state (first_bytes s.text) (take (MOST_INPUT_BYTES - taken) piece) s.rest before.sink.written mid.sink.written now.sink.written s.feeds
+    (feeds_long_end session.state session.unfinished s.rest (take (MOST_INPUT_BYTES - taken) piece) mid.sink.written now.sink.written s.kept s.feeds.unfinished later.state f)))
 
 -- feeding a piece ended the run
 piece_runs : (before mid now : Streams) (taken : ℕ) (session later : View) (status : Status) (piece : List ℕ) → Served before mid taken session → taken ≤ MOST_INPUT_BYTES
@@ -459,7 +457,7 @@ whole_status before after NoMemory r none within = tt
 whole_status before after TooLong r none within =
     elim (within r.1.text r.1.takes) [
       | inl short ↦ absurd (omega (arith, short, r.1.long))
-      | inr end ↦ no_end fresh r.1.state (first_bytes r.1.text) r.1.rest before.sink.written after.sink.written r.1.feeds end
+      | inr end ↦ no_end (fresh [] []) r.1.state (first_bytes r.1.text) r.1.rest before.sink.written after.sink.written r.1.feeds end
     ]
 
 -- where the source tells its bytes, it is known which were taken

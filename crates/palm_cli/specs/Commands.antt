@@ -74,7 +74,7 @@ pub record RunsAll (before after : Streams) : Type 0 where
   pub takes : Consumes before.source.left after.source.left text
   pub in_time : StopsInTime text
   pub reach : ((length text ≤ MOST_INPUT_BYTES) × IsAll before.source.left text) ⊎ HasEnd (first_bytes text)
-  pub replies : Replies text output
+  pub replies : Replies [] [] text output
   pub written : Appended before.sink.written after.sink.written output
 
 -- so many bytes were taken, and the replies to the lines that they complete were written
@@ -84,7 +84,7 @@ pub record RunsLines (before after : Streams) : Type 0 where
   pub state : SessionState
   pub takes : Consumes before.source.left after.source.left text
   pub short : length text ≤ MOST_INPUT_BYTES
-  pub feeds : FeedsOn fresh text before.sink.written after.sink.written rest state
+  pub feeds : FeedsOn (fresh [] []) text before.sink.written after.sink.written rest state
 
 -- more bytes were taken than can be answered, and the replies to the lines that the first of them complete were written
 pub record RunsOver (before after : Streams) : Type 0 where
@@ -94,7 +94,7 @@ pub record RunsOver (before after : Streams) : Type 0 where
   pub takes : Consumes before.source.left after.source.left text
   pub long : MOST_INPUT_BYTES < length text
   pub in_time : StopsInTime text
-  pub feeds : FeedsOn fresh (first_bytes text) before.sink.written after.sink.written rest state
+  pub feeds : FeedsOn (fresh [] []) (first_bytes text) before.sink.written after.sink.written rest state
 
 -- a front of the replies to the first lines of what was taken was written
 pub record RunsPart (before after : Streams) : Type 0 where
@@ -107,7 +107,7 @@ pub record RunsPart (before after : Streams) : Type 0 where
   pub in_time : StopsInTime text
   pub are_lines : AreLines text (lines ++ others)
   pub keeps_on : KeepsOn lines
-  pub run : Run fresh lines replies state
+  pub run : Run (fresh [] []) lines replies state
   pub written : AppendedFront before.sink.written after.sink.written replies
 
 -- what `run` does, by the status that it ends with

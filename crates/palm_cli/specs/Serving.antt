@@ -1,8 +1,8 @@
 -- What the steps of `run` do: one read, and the lines that it completes.
 use Rattle.std.specs.Prelude.{◌≡◌, ℕ, ◌<◌, ◌≤◌, ◌⊎◌, List, [], ◌++◌, length, take, Option, Some, None, Result, Ok, Err, false}
-use Rattle.palm_base.specs.Streams.{SourceState, SinkState, Consumes, IsAtEnd, Appended, Rose}
+use Rattle.palm_base.specs.Streams.{SourceState, SinkState, Consumes, IsAtEnd, Rose}
 use Rattle.palm_session.specs.State.{SessionState}
-use Rattle.palm_session.specs.Feeding.{View, FeedsOn, FeedsEnd, FeedsPart, FinishesAll, FinishesPart}
+use Rattle.palm_session.specs.Feeding.{View, KeepsRest, FeedsEnd, FeedsPart, FinishesAll, FinishesPart}
 use Rattle.palm_cli.specs.Commands.{Streams}
 use Rattle.palm_cli.specs.declared.limits.TheConstants.{PIECE}
 use Rattle.palm_cli.specs.declared.status.Status.{Status}
@@ -11,7 +11,7 @@ use Rattle.palm_cli.specs.declared.status.Status.TheVariants.{Done, ReadFault, W
 -- what feeding a piece does, by the status of the run if it ends there
 abbrev pub FeedsStatus : View → List ℕ → SinkState → SinkState → View → Option Status → Type 0
 FeedsStatus session piece before after later None =
-    (after.faults ≡ before.faults) × FeedsOn session.state (session.unfinished ++ piece) before.written after.written later.unfinished later.state
+    (after.faults ≡ before.faults) × KeepsRest session.state (session.unfinished ++ piece) before.written after.written later.unfinished later.state
     × (later.over ≡ false)
 FeedsStatus session piece before after later (Some Done) =
     (after.faults ≡ before.faults) × FeedsEnd session.state (session.unfinished ++ piece) before.written after.written later.state
@@ -26,9 +26,9 @@ abbrev pub FinishesStatus : View → SinkState → SinkState → Status → Type
 FinishesStatus session before after Done =
     (after.faults ≡ before.faults) × ((state : SessionState) × FinishesAll session.state session.unfinished before.written after.written state)
 FinishesStatus session before after WriteFault =
-    Rose before.faults after.faults × (Appended before.written after.written [] ⊎ FinishesPart session.state session.unfinished before.written after.written)
+    Rose before.faults after.faults × FinishesPart session.state session.unfinished before.written after.written
 FinishesStatus session before after NoMemory =
-    (after.faults ≡ before.faults) × (Appended before.written after.written [] ⊎ FinishesPart session.state session.unfinished before.written after.written)
+    (after.faults ≡ before.faults) × FinishesPart session.state session.unfinished before.written after.written
 FinishesStatus session before after _ = ⊥
 
 -- a read gave this piece

@@ -10,7 +10,7 @@ use Rattle.palm_session.specs.State.{SessionState}
 use Rattle.palm_session.specs.Answers.{Answers}
 use Rattle.palm_session.specs.Lines.{HasNoFeed, IsNextFeed, without_return}
 use Rattle.palm_session.specs.Replies.{Run, Answered, GoesOn, Ends, KeepsOn}
-use Rattle.palm_session.specs.Feeding.{AnswersLine, AnswersPart, FeedsOn, FeedsEnd, FeedsPart, FinishesAll, FinishesPart}
+use Rattle.palm_session.specs.Feeding.{AnswersLine, AnswersFront, FeedsOn, FeedsEnd, FeedsPart, FinishesAll, FinishesPart}
 use Rattle.palm_session.specs.declared.going.Going.{Going}
 use Rattle.palm_session.specs.declared.going.Going.TheVariants.{More, Quit}
 
@@ -110,19 +110,9 @@ front_all was now x w = record { front = x; back = []; whole = sym (append-nil x
 
 pub feeds_part : (s m : SessionState) (text : List ℕ) (from end : ℕ) (was mid now : Option (List ℕ))
     → SoFar s text was mid (drop from text) m → IsNextFeed text from end
-    → AnswersPart m (without_return (slice_range text from end)) mid now
+    → AnswersFront m (without_return (slice_range text from end)) mid now
     → FeedsPart s text was now
-feeds_part s m text from end was mid now a f (inl nothing) = record {
-  lines = a.lines;
-  rest = drop from text;
-  replies = a.replies;
-  after = m;
-  answered = a.answered;
-  keeps_on = keeps_on (map without_return a.lines) a.goes_on;
-  written = front_all was now a.replies
-      (subst (λ (z : List ℕ). Appended was now z) (append-nil a.replies) (appended_both was mid now a.replies [] a.written nothing));
-}
-feeds_part s m text from end was mid now a f (inr one) = record {
+feeds_part s m text from end was mid now a f one = record {
   lines = a.lines ++ slice_range text from end ∷ [];
   rest = drop (end + 1) text;
   replies = a.replies ++ one.reply;
@@ -250,12 +240,35 @@ finishes_one s t (b ∷ bs) was now going some one = finishes_line s t b bs was 
 
 -- the last line was answered in part
 pub finishes_part : (s : SessionState) (line : List ℕ) (was now : Option (List ℕ))
-    → (length line ≡ 0 → ⊥) → AnswersPart s (without_return line) was now → Appended was now [] ⊎ FinishesPart s line was now
+    → (length line ≡ 0 → ⊥) → AnswersFront s (without_return line) was now → FinishesPart s line was now
 finishes_part s [] was now some one = absurd (some refl)
-finishes_part s (b ∷ bs) was now some (inl none) = inl none
-finishes_part s (b ∷ bs) was now some (inr one) = inr (record {
+finishes_part s (b ∷ bs) was now some one = record {
   replies = one.reply;
   after = one.after;
   run = (one.reply, [], one.after, one.answers, sym (append-nil one.reply), (refl, refl));
   written = one.written;
-})
+}
+
+-- at a stop before any line of the text
+pub part_nothing : (s : SessionState) (text : List ℕ) (w : Option (List ℕ)) → FeedsPart s text w w
+part_nothing s text w = record {
+  lines = [];
+  rest = text;
+  replies = [];
+  after = s;
+  answered = record { whole = refl; unbroken = All-nil HasNoFeed; run = (refl, refl) };
+  keeps_on = tt;
+  written = front_all w w [] (appended_nothing w);
+}
+
+-- at a stop behind all lines of the text
+pub part_all : (s t : SessionState) (text rest : List ℕ) (was now : Option (List ℕ)) → FeedsOn s text was now rest t → FeedsPart s text was now
+part_all s t text rest was now a = record {
+  lines = a.lines;
+  rest = rest;
+  replies = a.replies;
+  after = t;
+  answered = a.answered;
+  keeps_on = keeps_on (map without_return a.lines) a.goes_on;
+  written = front_all was now a.replies a.written;
+}

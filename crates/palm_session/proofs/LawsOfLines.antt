@@ -85,10 +85,10 @@ long_unread bytes line long r = let e : Bytes ≡ NoMemory = read_not_refused by
 
 -- ---- the parts of a list that all its members share
 
-all_left : {X : Type 0} (P : X → Type 0) (xs ys : List X) → All P (xs ++ ys) → All P xs
+pub all_left : {X : Type 0} (P : X → Type 0) (xs ys : List X) → All P (xs ++ ys) → All P xs
 all_left P xs ys h = all_members P xs (λ x m. All-contains P (xs ++ ys) x h (Contains-append_left xs ys x m))
 
-all_right : {X : Type 0} (P : X → Type 0) (xs ys : List X) → All P (xs ++ ys) → All P ys
+pub all_right : {X : Type 0} (P : X → Type 0) (xs ys : List X) → All P (xs ++ ys) → All P ys
 all_right P xs ys h = all_members P ys (λ x m. All-contains P (xs ++ ys) x h (Contains-append_right xs ys x m))
 
 -- ---- variables by name

@@ -5,6 +5,7 @@ pub mod Deciding
 pub mod Delivering
 pub mod FeedLemmas
 pub mod Intervals
+pub mod Keeping
 pub mod LawsOfAnswers
 pub mod LawsOfLines
 pub mod LawsOfStates

@@ -1,15 +1,16 @@
 -- What feeding bytes to a session does.
-use Rattle.std.specs.Prelude.{◌≡◌, ℕ, Bool, true, false, List, [], ◌∷◌, ◌++◌, ◌⊎◌, All, map, ◌≤◌, drop, length, Option, Result, Ok, Err}
+use Rattle.std.specs.Prelude.{◌≡◌, ℕ, Bool, true, false, List, [], ◌∷◌, ◌++◌, ◌⊎◌, All, map, ◌≤◌, take, drop, length, Option, Result, Ok, Err}
 use Rattle.palm_base.specs.Streams.{Appended, AppendedFront}
 use Rattle.palm_session.specs.State.{SessionState}
 use Rattle.palm_session.specs.Answers.{Answers}
 use Rattle.palm_session.specs.Lines.{HasNoFeed, without_return, last_line}
 use Rattle.palm_session.specs.Replies.{Run, Answered, GoesOn, Ends, KeepsOn}
+use Rattle.palm_session.specs.declared.limits.TheConstants.{MOST_KEPT_BYTES}
 use Rattle.palm_session.specs.declared.going.Going.{Going}
 use Rattle.palm_session.specs.declared.going.Going.TheVariants.{More, Quit}
 use Rattle.palm_session.specs.declared.stop.Stop.{Stop}
 
--- what is seen of a session: what it holds, its unfinished line, and whether it is over
+-- what is seen of a session: what it holds, the bytes that it keeps of an unfinished line, and whether it is over
 pub record View : Type 0 where
   pub state : SessionState
   pub unfinished : List ℕ
@@ -27,22 +28,18 @@ pub record AnswersLine (before : SessionState) (line : List ℕ) (was now : Opti
   pub written : Appended was now reply
   pub decides : Decides going line
 
--- the line was answered, and a front of its reply was written
+-- at a stop a front of the line's reply was written, and maybe nothing
 pub record AnswersFront (before : SessionState) (line : List ℕ) (was now : Option (List ℕ)) : Type 0 where
   pub reply : List ℕ
   pub after : SessionState
   pub answers : Answers before line reply after
   pub written : AppendedFront was now reply
 
--- at a stop in the middle of a line nothing of its reply or a front of it was written
-abbrev pub AnswersPart : SessionState → List ℕ → Option (List ℕ) → Option (List ℕ) → Type 0
-AnswersPart before line was now = Appended was now [] ⊎ AnswersFront before line was now
-
 abbrev pub AnswersTo : SessionState → List ℕ → Option (List ℕ) → Option (List ℕ) → SessionState → Result Going Stop → Type 0
 AnswersTo before line was now after (Ok going) = AnswersLine before line was now going after
-AnswersTo before line was now after (Err stop) = AnswersPart before line was now
+AnswersTo before line was now after (Err stop) = AnswersFront before line was now
 
--- each line that the text completes was answered, and the rest is kept
+-- each line that the text completes was answered, and the rest is left
 pub record FeedsOn (before : SessionState) (text : List ℕ) (was now : Option (List ℕ)) (rest : List ℕ) (after : SessionState) : Type 0 where
   pub lines : List (List ℕ)
   pub replies : List ℕ
@@ -78,16 +75,22 @@ AnswersLines before text was now after (Ok (More, used)) = (used ≤ length text
 AnswersLines before text was now after (Ok (Quit, used)) = (used ≤ length text) × FeedsEnd before text was now after
 AnswersLines before text was now after (Err stop) = FeedsPart before text was now
 
+-- each line that the text completes was answered, and the first bytes of the rest are kept
+pub record KeepsRest (before : SessionState) (text : List ℕ) (was now : Option (List ℕ)) (unfinished : List ℕ) (after : SessionState) : Type 0 where
+  pub rest : List ℕ
+  pub feeds : FeedsOn before text was now rest after
+  pub kept : unfinished ≡ take MOST_KEPT_BYTES rest
+
 -- what feeding answers, before it is noted whether the session is over
-abbrev pub FeedsText : View → List ℕ → Option (List ℕ) → Option (List ℕ) → View → Result Going Stop → Type 0
-FeedsText before piece was now after (Ok More) = FeedsOn before.state (before.unfinished ++ piece) was now after.unfinished after.state
-FeedsText before piece was now after (Ok Quit) = FeedsEnd before.state (before.unfinished ++ piece) was now after.state
-FeedsText before piece was now after (Err stop) = FeedsPart before.state (before.unfinished ++ piece) was now
+abbrev pub FeedsText : SessionState → List ℕ → Option (List ℕ) → Option (List ℕ) → View → Result Going Stop → Type 0
+FeedsText before text was now after (Ok More) = KeepsRest before text was now after.unfinished after.state
+FeedsText before text was now after (Ok Quit) = FeedsEnd before text was now after.state
+FeedsText before text was now after (Err stop) = FeedsPart before text was now
 
 -- what feeding answers
 abbrev pub Feeds : View → List ℕ → Option (List ℕ) → Option (List ℕ) → View → Result Going Stop → Type 0
 Feeds before piece was now after (Ok More) =
-    FeedsOn before.state (before.unfinished ++ piece) was now after.unfinished after.state × (after.over ≡ false)
+    KeepsRest before.state (before.unfinished ++ piece) was now after.unfinished after.state × (after.over ≡ false)
 Feeds before piece was now after (Ok Quit) = FeedsEnd before.state (before.unfinished ++ piece) was now after.state × (after.over ≡ true)
 Feeds before piece was now after (Err stop) = FeedsPart before.state (before.unfinished ++ piece) was now × (after.over ≡ true)
 
@@ -108,7 +111,7 @@ pub record FinishesPart (before : SessionState) (line : List ℕ) (was now : Opt
 -- what answering a last line answers
 abbrev pub FinishesTo : {T : Type 0} → SessionState → List ℕ → Option (List ℕ) → Option (List ℕ) → SessionState → Result T Stop → Type 0
 FinishesTo before line was now after (Ok _) = FinishesAll before line was now after
-FinishesTo before line was now after (Err stop) = Appended was now [] ⊎ FinishesPart before line was now
+FinishesTo before line was now after (Err stop) = FinishesPart before line was now
 
 -- what finishing answers
 abbrev pub Finishes : {T : Type 0} → View → Option (List ℕ) → Option (List ℕ) → View → Result T Stop → Type 0

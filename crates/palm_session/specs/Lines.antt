@@ -1,10 +1,16 @@
 -- The cutting of a text into lines.
 use Rattle.std.specs.Prelude.{◌≡◌, ◌≢◌, ℕ, ◌==◌, ◌<◌, ◌≤◌, ◌+◌, ◌-◌, length, take, drop, slice_range, List, [], ◌∷◌, ◌++◌, map, flat_map, All, slice_index, if◌then◌else◌}
 use Rattle.palm_lang.specs.Reply.{ended}
+use Rattle.palm_session.specs.declared.limits.TheConstants.{MOST_KEPT_BYTES}
 
 -- no byte is a line feed
 abbrev pub HasNoFeed : List ℕ → Type 0
 HasNoFeed bytes = All (λ b. b ≢ 10) bytes
+
+-- bytes of an unfinished line, as many as are kept of one
+pub record IsUnfinished (bytes : List ℕ) : Type 0 where
+  pub few : length bytes ≤ MOST_KEPT_BYTES
+  pub unbroken : HasNoFeed bytes
 
 -- the text is these lines, each with its line feed, and then a rest without one
 pub record Cuts (text : List ℕ) (lines : List (List ℕ)) (rest : List ℕ) : Type 0 where

@@ -25,6 +25,8 @@ impl Desk {
         ensures counted { IsCounted (K.state out.old).faults (K.state out.new).faults result }
         ensures answers { AnswersTo self.old line.now (K.state out.old).written (K.state out.new).written self.new result }
     {
+        // In what the desk holds every line has an answer.
+        let _ = &self.alloc;
         match self.decide(line) {
             Ok((reply, going)) => match deliver(self, &reply, out, buffer) {
                 Ok(()) => Ok(going),

@@ -1,20 +1,20 @@
 //! A session: bytes in, lines cut out of them, each line answered, and its reply written.
 #![tactic(auto)]
 
-pub mod answer;
-pub mod deliver;
-pub mod desk;
-pub mod domains;
-pub mod filtering;
-pub mod going;
+mod answer;
+mod deliver;
+mod desk;
+mod domains;
+mod filtering;
+mod going;
 mod laws;
 mod limits;
-pub mod lines;
-pub mod refuse;
-pub mod reply;
-pub mod serve;
-pub mod session;
-pub mod stop;
+mod lines;
+mod refuse;
+mod reply;
+mod serve;
+mod session;
+mod stop;
 
 pub use going::Going;
 pub use laws::{

@@ -1,10 +1,12 @@
 //! Sessions: bytes in, in any pieces; lines cut out of them; replies out.
-ghost use Rattle.std.specs.Prelude.{◌≡◌, ◌≤◌, false, IfOk, drop, vec_len};
+ghost use Rattle.std.specs.Prelude.{◌≡◌, ◌++◌, [], false, IfOk, OnOk, take};
 ghost use Rattle.palm_session.specs.Writing.{IsCounted};
 ghost use Rattle.palm_session.specs.Feeding.{AnswersLines, Feeds, FeedsText, Finishes, FinishesTo};
+ghost use Rattle.palm_session.specs.Lines.{HasNoFeed, IsUnfinished};
 
 use crate::desk::Desk;
 use crate::going::Going;
+use crate::limits::MOST_KEPT_BYTES;
 use crate::lines::{next_feed, without_return};
 use crate::stop::Stop;
 use palm_base::{NoMemory, Sink, Steps};
@@ -24,10 +26,13 @@ pub struct Session {
 
 impl Model for Session {
     ghost use Rattle.palm_session.specs.Feeding.{View};
+    ghost use Rattle.palm_session.specs.Lines.{IsUnfinished};
 
     ghost Value = { View };
 
     ghost view = { λ s. record { state = s.desk; unfinished = s.unfinished.items; over = s.over } };
+
+    ghost invariant = { λ s. IsUnfinished s.unfinished.items };
 }
 
 impl Session {
@@ -61,7 +66,8 @@ impl Session {
     }
 
     /// Takes the next bytes, answers each line that they complete, and writes each reply before the next line is
-    /// looked at. The bytes behind a `quit` line are not looked at.
+    /// looked at. The bytes behind a `quit` line are not looked at. Of a line that is not complete yet the first
+    /// [`MOST_KEPT_BYTES`] bytes are kept.
     pub fn feed<K: Sink, L: Ledger>(
         &mut self,
         piece: &[u8],
@@ -93,19 +99,43 @@ impl Session {
         answer_last(&mut self.desk, &self.unfinished, out, &mut self.buffer)
     }
 
-    /// Answers the lines that the piece completes, and keeps the rest.
+    /// Answers the lines that the piece completes, the first of them by the kept bytes and the piece's first part, and
+    /// keeps the first bytes of the rest.
     fn feed_lines<K: Sink>(&mut self, piece: &[u8], out: &mut K) -> Result<Going, Stop>
         ensures counted { IsCounted (K.state out.old).faults (K.state out.new).faults result }
-        ensures feeds { FeedsText self.old piece.now (K.state out.old).written (K.state out.new).written self.new result }
+        ensures feeds { FeedsText self.old.state (self.old.unfinished ++ piece.now) (K.state out.old).written (K.state out.new).written self.new result }
     {
-        if self.unfinished.extend_from_slice(piece).is_err() {
-            return Err(Stop::NoMemory);
+        if self.unfinished.is_empty() {
+            return self.feed_text(piece, out);
         }
-        match answer_lines(&mut self.desk, &self.unfinished, out, &mut self.buffer) {
-            Ok((going, used)) => {
-                keep_from(&mut self.unfinished, used);
-                Ok(going)
+        let Some(end) = next_feed(piece, 0) else {
+            keep(&mut self.unfinished, piece)?;
+            return Ok(Going::More);
+        };
+        keep(&mut self.unfinished, &piece[..end])?;
+        let line = without_return(&self.unfinished);
+        match self.desk.answer(line, out, &mut self.buffer) {
+            Ok(Going::More) => {
+                self.unfinished.clear();
+                self.feed_text(&piece[end + 1..], out)
             }
+            Ok(Going::Quit) => Ok(Going::Quit),
+            Err(stop) => Err(stop),
+        }
+    }
+
+    /// Answers the lines of a text, and keeps the first bytes of the rest; nothing is kept before it.
+    fn feed_text<K: Sink>(&mut self, text: &[u8], out: &mut K) -> Result<Going, Stop>
+        requires { self.old.unfinished ≡ [] }
+        ensures counted { IsCounted (K.state out.old).faults (K.state out.new).faults result }
+        ensures feeds { FeedsText self.old.state text.now (K.state out.old).written (K.state out.new).written self.new result }
+    {
+        match answer_lines(&mut self.desk, text, out, &mut self.buffer) {
+            Ok((Going::More, used)) => {
+                keep(&mut self.unfinished, &text[used..])?;
+                Ok(Going::More)
+            }
+            Ok((Going::Quit, _)) => Ok(Going::Quit),
             Err(stop) => Err(stop),
         }
     }
@@ -135,14 +165,16 @@ fn answer_lines<K: Sink>(
     Ok((Going::More, start))
 }
 
-/// Keeps the bytes from a place on.
-fn keep_from(bytes: &mut Vec<u8>, used: usize)
-    requires { used ≤ vec_len bytes.old }
-    ensures { bytes.new.items ≡ drop used bytes.old.items }
+/// Keeps more bytes of an unfinished line, as many as there is room for.
+fn keep(bytes: &mut Vec<u8>, more: &[u8]) -> Result<(), NoMemory>
+    requires kept { IsUnfinished bytes.old.items }
+    requires unbroken { HasNoFeed more.now }
+    ensures ok { OnOk result (bytes.new.items ≡ take MOST_KEPT_BYTES (bytes.old.items ++ more.now)) }
+    ensures kept { IsUnfinished bytes.new.items }
 {
-    let left = bytes.len() - used;
-    bytes.copy_within(used.., 0);
-    bytes.truncate(left);
+    let room = MOST_KEPT_BYTES - bytes.len();
+    bytes.extend_from_slice(&more[..more.len().min(room)])?;
+    Ok(())
 }
 
 /// Answers a last line without its line feed, if it has a byte.

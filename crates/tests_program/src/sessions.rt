@@ -113,10 +113,29 @@ fn each_kind_is_filtered(rt: HostRuntime) -> Result<(), Fail> {
     Ok(())
 }
 
+/// A line of this many letters.
+fn long_line(alloc: Global, letters: usize) -> Result<Vec<u8>, NoMemory> {
+    let mut text = vec![in alloc; b'a'; letters]?;
+    text.push(b'\n')?;
+    Ok(text)
+}
+
 #[test]
-fn a_line_is_too_long(rt: HostRuntime) -> Result<(), Fail> {
-    let mut text = vec![in rt.alloc(); b'a'; 65_537]?;
-    text.extend_from_slice(b"\nvar x 1..1\n")?;
-    assert!(rt; answers(rt.alloc(), &text, "error E1 bytes or length\nok\n", 4_096)?);
+fn lines_are_too_long(rt: HostRuntime) -> Result<(), Fail> {
+    let mut text = long_line(rt.alloc(), 65_537)?;
+    text.extend_from_slice(b"var x 1..1\n")?;
+    text.extend_from_slice(&long_line(rt.alloc(), 70_000)?)?;
+    text.extend_from_slice(b"domain x\n")?;
+    let replies = "error E1 bytes or length\nok\nerror E1 bytes or length\nx: 1\n";
+    assert!(rt; answers(rt.alloc(), &text, replies, 1_000)?);
+    assert!(rt; answers(rt.alloc(), &text, replies, 4_096)?);
+    Ok(())
+}
+
+#[test]
+fn the_longest_line_is_read(rt: HostRuntime) -> Result<(), Fail> {
+    let mut text = vec![in rt.alloc(); b'#'; 65_536]?;
+    text.extend_from_slice(b"\r\nvar x 1..1\n")?;
+    assert!(rt; answers(rt.alloc(), &text, "ok\n", 1_000)?);
     Ok(())
 }

@@ -1,0 +1,13 @@
+use Rattle.std.proofs.lemmas.Result.{err_from_is_err_and}
+use Rattle.std.proofs.Common.{subst}
+use Rattle.palm_session.specs.Feeding.{View, FeedsPart}
+use Rattle.palm_session.proofs.FeedLemmas.{part_all}
+use Rattle.palm_session.proofs.session.Session.feed_text.Goals as goal
+
+pub returns-in_err-keep-in-Ok-More-default-clause-feeds :
+    goal.returns-in_err-keep-in-Ok-More-default-clause-feeds
+returns-in_err-keep-in-Ok-More-default-clause-feeds g c =
+    let p = err_from_is_err_and c.from_residual.result c.from_residual.ensures.1 in
+    let fed = rw c.in-Ok-More-default.field-0-0-is at c.in-Ok-More-default.ensures.answers in
+    rw p.1 (subst (λ (v : View). FeedsPart v.state c.args.text.now (g.K.Sink.state c.args.out.now).written (g.K.Sink.state c.answer_lines.new.out).written) c.self.view_is
+    (part_all c.self.inside.desk c.answer_lines.new.desk c.args.text.now _ _ _ fed.1))

@@ -1,0 +1,172 @@
+//! The slow way beside the filters.
+ghost use Rattle.std.specs.Prelude.{◌≡◌, ◌<◌, IfOk, All, length};
+ghost use Rattle.palm_book.specs.Book.{active_of, initial_of};
+ghost use Rattle.palm_model.specs.Constraint.{IsWellFormed};
+ghost use Rattle.palm_model.specs.Domains.{AllAscend};
+
+use palm_base::{NoMemory, SteadySink, Steps, ValueList, Var};
+use palm_lang::{Book, Fixed, print_domain, print_fixed};
+use palm_model::{ConList, DomainList, copy_of, scratch};
+use palm_session::{Going, Session, Stop};
+use std::alloc::Global;
+use std::marker::Brand;
+use std::sync::ledger::{Blank, Ledger};
+use std::test::Fail;
+
+/// How many bytes a sink may keep.
+const ROOM: usize = 4_096;
+
+/// The initial values of each variable.
+fn initial_domains(alloc: Global, book: &Book) -> Result<DomainList, NoMemory>
+    ensures initial { IfOk result (λ list. list ≡ initial_of book.now) }
+    ensures ascend { IfOk result AllAscend }
+{
+    let mut list = DomainList::new(alloc);
+    for index in 0..book.variables() {
+        list.push(ValueList::from_slice(
+            alloc,
+            book.initial(Var(index)).as_slice(),
+        )?)?;
+    }
+    Ok(list)
+}
+
+/// The active constraints.
+fn active_constraints(alloc: Global, book: &Book) -> Result<ConList, NoMemory>
+    ensures active { IfOk result (λ list. list ≡ active_of book.now) }
+    ensures formed { IfOk result (All (IsWellFormed (length book.now.variables))) }
+{
+    let mut list = ConList::new(alloc);
+    for place in 0..book.constraints() {
+        let entry = book.constraint(place);
+        if entry.active {
+            list.push(copy_of(alloc, &entry.con)?)?;
+        }
+    }
+    Ok(list)
+}
+
+/// The greatest closed domains of a book, computed the slow way.
+fn slow_domains(alloc: Global, book: &Book) -> Result<DomainList, NoMemory> {
+    let initial = initial_domains(alloc, book)?;
+    let constraints = active_constraints(alloc, book)?;
+    scratch(alloc, &initial, &constraints)
+}
+
+/// The replies, and then what `domains` is to reply after them.
+fn expected_text(alloc: Global, replies: &str, book: &Book) -> Result<Vec<u8>, NoMemory> {
+    let domains = slow_domains(alloc, book)?;
+    let mut text = Vec::new(alloc);
+    text.extend_from_slice(replies.as_bytes())?;
+    if domains
+        .as_slice()
+        .iter()
+        .any(|values| values.as_slice().is_empty())
+    {
+        print_fixed(Fixed::Contradiction, &mut text)?;
+        return Ok(text);
+    }
+    for index in 0..book.variables() {
+        if let Some(values) = domains.as_slice().get(index as usize) {
+            print_domain(
+                book.variable_name(Var(index)),
+                values.as_slice(),
+                &mut text,
+            )?;
+        }
+    }
+    print_fixed(Fixed::End, &mut text)?;
+    Ok(text)
+}
+
+/// Whether the text has these replies, and `domains` after it replies what the slow way computes.
+fn agree_counted<L: Ledger>(
+    alloc: Global,
+    text: &str,
+    replies: &str,
+    blank: Blank,
+) -> Result<bool, Stop>
+    requires named { blank.name ≡ L.name }
+    requires parts { blank.parts ≡ L.parts }
+    requires shared { 0 < L.parts }
+{
+    let mut steps = Steps::<L>::start(blank);
+    let mut session = Session::new(alloc)?;
+    let mut sink = SteadySink::new(alloc);
+    sink.reserve(ROOM)?;
+    if session.feed(text.as_bytes(), &mut sink, &mut steps)? == Going::Quit {
+        return Ok(false);
+    }
+    let expected = expected_text(alloc, replies, session.book())?;
+    session.feed(b"domains\n", &mut sink, &mut steps)?;
+    Ok(sink.bytes() == expected.as_slice())
+}
+
+/// The same, with a counter of its own.
+fn agree(alloc: Global, text: &str, replies: &str) -> Result<bool, Stop> {
+    agree_counted::<Brand>(alloc, text, replies, Blank::new(1))
+}
+
+#[test]
+fn filters_and_the_slow_way_agree_on_comparisons(rt: HostRuntime) -> Result<(), Fail> {
+    let sessions = [
+        ("var x 1..3\nvar y 1..3\nadd a : x < y\n", "ok\nok\nok\n"),
+        (
+            "var x 1..3\nvar y 1..3\nvar z 1..3\nadd a : x < y\nadd b : y < z\nadd c : z < x\n",
+            "ok\nok\nok\nok\nok\ncontradiction\n",
+        ),
+        (
+            "var x 1..3\nvar y {1,5}\nadd s : sum -2*x + y <= 3\nadd m : x < y\n",
+            "ok\nok\nok\nok\n",
+        ),
+    ];
+    for (text, replies) in sessions {
+        assert!(rt; agree(rt.alloc(), text, replies)?);
+    }
+    Ok(())
+}
+
+#[test]
+fn filters_and_the_slow_way_agree_on_sums(rt: HostRuntime) -> Result<(), Fail> {
+    let sessions = [
+        (
+            "var u 0..1\nvar v 1..1\nadd h : sum u + v != 1\n",
+            "ok\nok\nok\n",
+        ),
+        (
+            "var x 0..5\nvar y 0..5\nadd s : sum 3*x - 2*y = 1\n",
+            "ok\nok\nok\n",
+        ),
+    ];
+    for (text, replies) in sessions {
+        assert!(rt; agree(rt.alloc(), text, replies)?);
+    }
+    Ok(())
+}
+
+#[test]
+fn filters_and_the_slow_way_agree_on_the_other_kinds(rt: HostRuntime) -> Result<(), Fail> {
+    let sessions = [
+        (
+            "var x 1..3\nvar y 1..3\nadd t : table x y : (1,2) (2,3) (3,9)\nadd f : x != 1\n",
+            "ok\nok\nok\nok\n",
+        ),
+        (
+            "var z {3,5,7}\nvar y 0..4\nadd e : element z y (5,3,5)\nadd f : z != 5\n",
+            "ok\nok\nok\nok\n",
+        ),
+        (
+            "var a 1..2\nvar b 1..2\nvar c 1..2\nvar n 0..3\nadd p : a = 1\nadd q : c != 1\n\
+             add k : count 1 a b c = n\nadd r : n = 2\n",
+            "ok\nok\nok\nok\nok\nok\nok\nok\n",
+        ),
+        (
+            "var x 1..3\nvar y 1..3\nvar z 1..3\nadd d : differ x y z\nadd e : x = 1\n",
+            "ok\nok\nok\nok\nok\n",
+        ),
+    ];
+    for (text, replies) in sessions {
+        assert!(rt; agree(rt.alloc(), text, replies)?);
+    }
+    Ok(())
+}
