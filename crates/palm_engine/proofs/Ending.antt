@@ -15,9 +15,9 @@ use Rattle.palm_model.specs.Event.{Removes, removal_of, calmed}
 use Rattle.palm_events.proofs.Names.{member_named}
 use Rattle.palm_events.proofs.States.{woken_active, without_cid_member}
 use Rattle.palm_events.proofs.Valid.{removed_pairs_are, pending_active}
-use Rattle.palm_engine.specs.Settling.{Walks, Revision, Revises, Revisions, SettlesSome, IsWithin, IsOver, walk_order, rested, index_within}
+use Rattle.palm_engine.specs.Settling.{Walks, Revision, Revises, Revisions, SettlesSome, IsInLimit, IsEnded, walk_order, rested, index_within}
 use Rattle.palm_engine.specs.Settling.Walks.{walked_all, walked_empty, walked_past, walked_out}
-use Rattle.palm_engine.specs.Settling.IsOver.{over_empty, over_quiet, over_limit}
+use Rattle.palm_engine.specs.Settling.IsEnded.{ended_empty, ended_quiet, ended_limit}
 use Rattle.palm_engine.specs.Work.{effort, Falls}
 use Rattle.palm_engine.proofs.Counting.{fewer_values}
 use Rattle.palm_engine.proofs.Walking.{took_none, walk_filters, chosen_pending, walk_exists, empty_or_filled}
@@ -182,23 +182,23 @@ revision_waits s r t revises waits =
 
 -- ---- a settling for any answers
 
-settles_at_once : (limit : Option ℕ) (f : ℕ → ℕ) (s : EngineState) → IsWithin limit 0 → IsOver limit 0 s → SettlesSome limit f s
+settles_at_once : (limit : Option ℕ) (f : ℕ → ℕ) (s : EngineState) → IsInLimit limit 0 → IsEnded limit 0 s → SettlesSome limit f s
 settles_at_once limit f s within over = record {
   revisions = [];
   state = s;
-  settles = record { revisions = refl; within = within; over = over };
+  settles = record { revisions = refl; within = within; ended = over };
   answered = tt;
 }
 
-over_more : (limit : ℕ) (count : ℕ) (s : EngineState) → IsOver (Some limit) count s → IsOver (Some (suc limit)) (suc count) s
-over_more limit count s (over_empty empty) = over_empty empty
-over_more limit count s (over_quiet quiet) = over_quiet quiet
-over_more limit count s (over_limit reached) = over_limit (ap suc reached)
+over_more : (limit : ℕ) (count : ℕ) (s : EngineState) → IsEnded (Some limit) count s → IsEnded (Some (suc limit)) (suc count) s
+over_more limit count s (ended_empty empty) = ended_empty empty
+over_more limit count s (ended_quiet quiet) = ended_quiet quiet
+over_more limit count s (ended_limit reached) = ended_limit (ap suc reached)
 
-over_still : (count : ℕ) (s : EngineState) → IsOver None count s → IsOver None (suc count) s
-over_still count s (over_empty empty) = over_empty empty
-over_still count s (over_quiet quiet) = over_quiet quiet
-over_still count s (over_limit reached) = absurd reached
+over_still : (count : ℕ) (s : EngineState) → IsEnded None count s → IsEnded None (suc count) s
+over_still count s (ended_empty empty) = ended_empty empty
+over_still count s (ended_quiet quiet) = ended_quiet quiet
+over_still count s (ended_limit reached) = absurd reached
 
 limited_more : (limit : ℕ) (f : ℕ → ℕ) (s : EngineState) (first : RevisesSome (f 0) s) → SettlesSome (Some limit) (λ k. f (suc k)) first.state → SettlesSome (Some (suc limit)) f s
 limited_more limit f s first rest = record {
@@ -207,7 +207,7 @@ limited_more limit f s first rest = record {
   settles = record {
     revisions = (first.state, first.revises, rest.settles.revisions);
     within = let k = rest.settles.within in omega (arith, k);
-    over = over_more limit (length rest.revisions) rest.state rest.settles.over;
+    ended = over_more limit (length rest.revisions) rest.state rest.settles.ended;
   };
   answered = (first.answered, rest.answered);
 }
@@ -219,7 +219,7 @@ free_more f s first rest = record {
   settles = record {
     revisions = (first.state, first.revises, rest.settles.revisions);
     within = tt;
-    over = over_still (length rest.revisions) rest.state rest.settles.over;
+    ended = over_still (length rest.revisions) rest.state rest.settles.ended;
   };
   answered = (first.answered, rest.answered);
 }
@@ -241,10 +241,10 @@ may_revise_known s = elim (empty_or_filled (present s)) [
     quiet_or_not (c ∷ cs) = inr (omega arith)
 
 limited_exists : (limit : ℕ) (f : ℕ → ℕ) (s : EngineState) → Waits s → SettlesSome (Some limit) f s
-limited_exists zero f s waits = settles_at_once (Some zero) f s (omega arith) (over_limit refl)
+limited_exists zero f s waits = settles_at_once (Some zero) f s (omega arith) (ended_limit refl)
 limited_exists (suc limit) f s waits = elim (may_revise_known s) [
-  | is_empty empty ↦ settles_at_once (Some (suc limit)) f s (omega arith) (over_empty empty)
-  | is_quiet quiet ↦ settles_at_once (Some (suc limit)) f s (omega arith) (over_quiet quiet)
+  | is_empty empty ↦ settles_at_once (Some (suc limit)) f s (omega arith) (ended_empty empty)
+  | is_quiet quiet ↦ settles_at_once (Some (suc limit)) f s (omega arith) (ended_quiet quiet)
   | may_revise filled lt ↦
       let first = revision_exists s (f 0) waits filled lt in
       limited_more limit f s first (limited_exists limit (λ k. f (suc k)) first.state (revision_waits s first.revision first.state first.revises waits))
@@ -253,8 +253,8 @@ limited_exists (suc limit) f s waits = elim (may_revise_known s) [
 free_exists : (fuel : ℕ) (f : ℕ → ℕ) (s : EngineState) → effort s < fuel → Waits s → SettlesSome None f s
 free_exists zero f s le waits = absurd (omega arith)
 free_exists (suc fuel) f s le waits = elim (may_revise_known s) [
-  | is_empty empty ↦ settles_at_once None f s tt (over_empty empty)
-  | is_quiet quiet ↦ settles_at_once None f s tt (over_quiet quiet)
+  | is_empty empty ↦ settles_at_once None f s tt (ended_empty empty)
+  | is_quiet quiet ↦ settles_at_once None f s tt (ended_quiet quiet)
   | may_revise filled lt ↦
       let first = revision_exists s (f 0) waits filled lt in
       let falls = (revision_falls s first.revision first.state first.revises).effort in

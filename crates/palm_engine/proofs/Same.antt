@@ -9,9 +9,9 @@ use Rattle.palm_model.specs.Log.{Active, Rises, cids_of}
 use Rattle.palm_model.specs.State.{EngineState, HasEmpty, present}
 use Rattle.palm_model.specs.Event.{Removes}
 use Rattle.palm_events.proofs.Names.{single}
-use Rattle.palm_engine.specs.Settling.{IsSameSettling, Walks, Revision, Revises, Revisions, Settles, IsWithin, IsOver, IsAnswered, walk_order, rested, index_within}
+use Rattle.palm_engine.specs.Settling.{IsSameSettling, Walks, Revision, Revises, Revisions, Settles, IsInLimit, IsEnded, IsAnswered, walk_order, rested, index_within}
 use Rattle.palm_engine.specs.Settling.Walks.{walked_all, walked_empty, walked_past, walked_out}
-use Rattle.palm_engine.specs.Settling.IsOver.{over_empty, over_quiet, over_limit}
+use Rattle.palm_engine.specs.Settling.IsEnded.{ended_empty, ended_quiet, ended_limit}
 use Rattle.palm_engine.proofs.Walking.{not_empty, chosen_pending, revision_filters}
 
 -- ---- walks
@@ -94,23 +94,23 @@ revision_same s q t r u rises answer one other =
 -- ---- settlings
 
 -- where it is over, no revision runs
-over_stops : (limit : Option ℕ) (count more : ℕ) (s : EngineState) (r : Revision) (t : EngineState) → IsOver limit count s → IsWithin limit (count + suc more) → Revises s r t → ⊥
-over_stops limit count more s r t (over_empty empty) within revises = not_empty (present s) revises.filled empty
-over_stops limit count more s r t (over_quiet quiet) within revises = member_nil r.cid (subst (λ cs. Contains cs r.cid) quiet (chosen_pending s r t revises))
-over_stops None count more s r t (over_limit reached) within revises = reached
-over_stops (Some limit) count more s r t (over_limit reached) within revises = omega arith
+over_stops : (limit : Option ℕ) (count more : ℕ) (s : EngineState) (r : Revision) (t : EngineState) → IsEnded limit count s → IsInLimit limit (count + suc more) → Revises s r t → ⊥
+over_stops limit count more s r t (ended_empty empty) within revises = not_empty (present s) revises.filled empty
+over_stops limit count more s r t (ended_quiet quiet) within revises = member_nil r.cid (subst (λ cs. Contains cs r.cid) quiet (chosen_pending s r t revises))
+over_stops None count more s r t (ended_limit reached) within revises = reached
+over_stops (Some limit) count more s r t (ended_limit reached) within revises = omega arith
 
 revisions_same : (limit : Option ℕ) (f : ℕ → ℕ) (n : ℕ) (s : EngineState) (qs : List Revision) (t : EngineState) (rs : List Revision) (u : EngineState) → Rises (cids_of s.active)
     → IsAnswered f qs → IsAnswered f rs → Revisions s qs t → Revisions s rs u
-    → IsWithin limit (n + length qs) → IsWithin limit (n + length rs) → IsOver limit (n + length qs) t → IsOver limit (n + length rs) u → IsSameSettling qs t rs u
+    → IsInLimit limit (n + length qs) → IsInLimit limit (n + length rs) → IsEnded limit (n + length qs) t → IsEnded limit (n + length rs) u → IsSameSettling qs t rs u
 revisions_same limit f n s [] t [] u rises aq ar one other wq wr oq or = record { revisions = refl; state = one ∙ sym other }
 revisions_same limit f n s [] t (r ∷ rs) u rises aq ar one other wq wr oq or =
-    absurd (over_stops limit (n + 0) (length rs) s r other.0 (subst (λ z. IsOver limit (n + 0) z) one oq) (subst (λ k. IsWithin limit k) (assoc n (length rs)) wr) other.1)
+    absurd (over_stops limit (n + 0) (length rs) s r other.0 (subst (λ z. IsEnded limit (n + 0) z) one oq) (subst (λ k. IsInLimit limit k) (assoc n (length rs)) wr) other.1)
   where
     assoc : (n m : ℕ) → n + suc m ≡ (n + 0) + suc m
     assoc n m = omega arith
 revisions_same limit f n s (q ∷ qs) t [] u rises aq ar one other wq wr oq or =
-    absurd (over_stops limit (n + 0) (length qs) s q one.0 (subst (λ z. IsOver limit (n + 0) z) other or) (subst (λ k. IsWithin limit k) (assoc n (length qs)) wq) one.1)
+    absurd (over_stops limit (n + 0) (length qs) s q one.0 (subst (λ z. IsEnded limit (n + 0) z) other or) (subst (λ k. IsInLimit limit k) (assoc n (length qs)) wq) one.1)
   where
     assoc : (n m : ℕ) → n + suc m ≡ (n + 0) + suc m
     assoc n m = omega arith
@@ -118,8 +118,8 @@ revisions_same limit f n s (q ∷ qs) t (r ∷ rs) u rises aq ar one other wq wr
     let first = revision_same s q one.0 r other.0 rises (aq.0 ∙ sym ar.0) one.1 other.1 in
     let rises' : Rises (cids_of one.0.active) = subst (λ l. Rises (cids_of l)) (sym (revision_filters s q one.0 one.1).active) rises in
     let rest = revisions_same limit (λ k. f (suc k)) (n + 1) one.0 qs t rs u rises' aq.1 ar.1 one.2 (subst (λ z. Revisions z rs u) (sym first.state) other.2)
-    (subst (λ k. IsWithin limit k) (next n (length qs)) wq) (subst (λ k. IsWithin limit k) (next n (length rs)) wr)
-    (subst (λ k. IsOver limit k t) (next n (length qs)) oq) (subst (λ k. IsOver limit k u) (next n (length rs)) or) in
+    (subst (λ k. IsInLimit limit k) (next n (length qs)) wq) (subst (λ k. IsInLimit limit k) (next n (length rs)) wr)
+    (subst (λ k. IsEnded limit k t) (next n (length qs)) oq) (subst (λ k. IsEnded limit k u) (next n (length rs)) or) in
     record { revisions = λ i. first.revision i ∷ rest.revisions i; state = rest.state }
   where
     next : (n m : ℕ) → n + suc m ≡ (n + 1) + m
@@ -132,8 +132,8 @@ pub settling_same : (limit : Option ℕ) (f : ℕ → ℕ) (s : EngineState) (qs
     → IsAnswered f qs → IsAnswered f rs → Settles limit s qs t → Settles limit s rs u → IsSameSettling qs t rs u
 settling_same limit f s qs t rs u rises aq ar one other =
     revisions_same limit f 0 s qs t rs u rises aq ar one.revisions other.revisions
-    (subst (λ k. IsWithin limit k) (zero_plus (length qs)) one.within) (subst (λ k. IsWithin limit k) (zero_plus (length rs)) other.within)
-    (subst (λ k. IsOver limit k t) (zero_plus (length qs)) one.over) (subst (λ k. IsOver limit k u) (zero_plus (length rs)) other.over)
+    (subst (λ k. IsInLimit limit k) (zero_plus (length qs)) one.within) (subst (λ k. IsInLimit limit k) (zero_plus (length rs)) other.within)
+    (subst (λ k. IsEnded limit k t) (zero_plus (length qs)) one.ended) (subst (λ k. IsEnded limit k u) (zero_plus (length rs)) other.ended)
 
 -- without an order object all answers are 0
 pub answered_none : (rs : List Revision) → All (λ r. r.answer ≡ 0) rs → IsAnswered (λ k. 0) rs

@@ -13,7 +13,7 @@ use Rattle.palm_events.specs.Reasons.{ReasonsAreRight}
 use Rattle.palm_events.proofs.Runs.{run_valid, quiet_greatest, present_includes}
 use Rattle.palm_events.proofs.Undone.{posting_undone}
 use Rattle.palm_engine.specs.Settling.{Revision, Settles, FitsOrder, SettlesPlainly, IsSameSettling, Filters}
-use Rattle.palm_engine.specs.Settling.IsOver.{over_empty, over_quiet, over_limit}
+use Rattle.palm_engine.specs.Settling.IsEnded.{ended_empty, ended_quiet, ended_limit}
 use Rattle.palm_engine.proofs.Ending.{settling_exists}
 use Rattle.palm_engine.proofs.Same.{settling_same, answered_none, none_answered}
 use Rattle.palm_engine.proofs.Walking.{revisions_filter}
@@ -58,10 +58,10 @@ pub settled_same : ReasonsAreRight → (s t : EngineState) (rs : List Revision) 
 settled_same right s t rs u valid filters settled settles =
     let other = settling_filters None s rs u settles in
     let greatest = after_greatest right s t filters valid settled.quiet in
-    elim settles.over [
-      | over_empty empty ↦ absurd (filled_inside (present t) (present u) (same_length s t u filters other) (after_includes right s u other valid (present t) greatest) settled.filled empty)
-      | over_quiet quiet ↦ greatest_unique s.initial (Contains (cons_of s.active)) (present u) (present t) (after_greatest right s u other valid quiet) greatest
-      | over_limit reached ↦ absurd reached
+    elim settles.ended [
+      | ended_empty empty ↦ absurd (filled_inside (present t) (present u) (same_length s t u filters other) (after_includes right s u other valid (present t) greatest) settled.filled empty)
+      | ended_quiet quiet ↦ greatest_unique s.initial (Contains (cons_of s.active)) (present u) (present t) (after_greatest right s u other valid quiet) greatest
+      | ended_limit reached ↦ absurd reached
     ]
 
 -- ---- without an order object
@@ -85,8 +85,8 @@ settling_undone right limit s m n t a rs valid still posts settles withdraws =
 -- ---- without a limit
 
 pub settling_still : (s : EngineState) (rs : List Revision) (t : EngineState) → Settles None s rs t → IsStill t
-settling_still s rs t settles = elim settles.over [
-  | over_empty empty ↦ inr empty
-  | over_quiet quiet ↦ inl quiet
-  | over_limit reached ↦ absurd reached
+settling_still s rs t settles = elim settles.ended [
+  | ended_empty empty ↦ inr empty
+  | ended_quiet quiet ↦ inl quiet
+  | ended_limit reached ↦ absurd reached
 ]

@@ -21,7 +21,7 @@ use Rattle.palm_events.proofs.Names.{named_member, member_named, single}
 use Rattle.palm_events.proofs.States.{member_over, woken_active, without_cid_member}
 use Rattle.palm_engine.specs.Settling.{Walks, Revision, Revises, Revisions, Settles, walk_order, rested}
 use Rattle.palm_engine.specs.Settling.Walks.{walked_all, walked_empty, walked_past, walked_out}
-use Rattle.palm_engine.specs.Work.{size_of, sizes_of, named_sizes, sizes_over, asked_by, IsPaid}
+use Rattle.palm_engine.specs.Work.{size_of, sizes_of, named_sizes, sizes_over, most_asked, IsPaid}
 use Rattle.palm_engine.proofs.Walking.{took_none, chosen_pending}
 
 -- ---- a walk looks at each pair once
@@ -247,7 +247,7 @@ same_over s m x a i = λ j. sizes_of (i j) (filter (λ b. is_over b.con x) (a j)
 same_named : (s m : EngineState) (names : List Cid) → m.active ≡ s.active → m.initial ≡ s.initial → named_sizes m names ≡ named_sizes s names
 same_named s m names a i = λ j. sizes_of (i j) (filter (λ b. is_named names b.cid) (a j))
 
-same_asked : (s m : EngineState) (rs : List Revision) → m.active ≡ s.active → m.initial ≡ s.initial → asked_by m rs ≡ asked_by s rs
+same_asked : (s m : EngineState) (rs : List Revision) → m.active ≡ s.active → m.initial ≡ s.initial → most_asked m rs ≡ most_asked s rs
 same_asked s m rs a i = ap (λ (f : Cid → ℕ). sum_by (λ (r : Revision). f r.cid) rs) (λ j c. same_named s m (c ∷ []) a i j)
 
 same_gained : (s m : EngineState) (pairs : List Pair) → m.active ≡ s.active → m.initial ≡ s.initial → sum_by (λ (p : Pair). sizes_over m p.var) pairs ≡ sum_by (λ (p : Pair). sizes_over s p.var) pairs
@@ -272,7 +272,7 @@ pays_then s m t spent more first rest =
     joined : (t m s spent more one other there all : ℕ) → m + spent ≤ s + one → t + more ≤ m + other → other ≡ there → all ≡ one + there → t + (spent + more) ≤ s + all
     joined t m s spent more one other there all a b e f = omega arith
 
-pub revisions_pay : (s : EngineState) (rs : List Revision) (t : EngineState) → Rises (cids_of s.active) → Revisions s rs t → Pays s (asked_by s rs) t
+pub revisions_pay : (s : EngineState) (rs : List Revision) (t : EngineState) → Rises (cids_of s.active) → Revisions s rs t → Pays s (most_asked s rs) t
 revisions_pay s [] t rises run = subst (λ z. Pays s 0 z) (sym run) (pays_none s)
 revisions_pay s (r ∷ rs) t rises run =
     let first = revision_pays s r run.0 rises run.1 in
@@ -280,7 +280,7 @@ revisions_pay s (r ∷ rs) t rises run =
     let rest = revisions_pay run.0 rs t rises' run.2 in
     let e = same_asked s run.0 rs first.active first.initial in
     subst (λ k. Pays s k t) (sym (sum_by-cons (λ (q : Revision). named_sizes s (q.cid ∷ [])) r rs))
-    (pays_then s run.0 t (named_sizes s (r.cid ∷ [])) (asked_by s rs) first (subst (λ k. Pays run.0 k t) e rest))
+    (pays_then s run.0 t (named_sizes s (r.cid ∷ [])) (most_asked s rs) first (subst (λ k. Pays run.0 k t) e rest))
 
 pub settling_paid : (limit : Option ℕ) (s : EngineState) (rs : List Revision) (t : EngineState) → Rises (cids_of s.active) → Settles limit s rs t → IsPaid s rs t
 settling_paid limit s rs t rises settles =

@@ -63,9 +63,9 @@ Revisions s [] t = t ≡ s
 Revisions s (r ∷ rs) t = (m : EngineState) × Revises s r m × Revisions m rs t
 
 -- so many revisions are within the limit, if there is one
-abbrev pub IsWithin : Option ℕ → ℕ → Type 0
-IsWithin None count = ⊤
-IsWithin (Some limit) count = count ≤ limit
+abbrev pub IsInLimit : Option ℕ → ℕ → Type 0
+IsInLimit None count = ⊤
+IsInLimit (Some limit) count = count ≤ limit
 
 -- as many revisions ran as the limit says
 abbrev pub HasReached : Option ℕ → ℕ → Type 0
@@ -73,17 +73,17 @@ HasReached None count = ⊥
 HasReached (Some limit) count = count ≡ limit
 
 -- a domain is empty, nothing is pending, or the limit is reached
-pub data IsOver (limit : Option ℕ) (count : ℕ) (s : EngineState) : Type 0 where
-  over_empty : HasEmpty (present s) → IsOver limit count s
-  over_quiet : s.pending ≡ [] → IsOver limit count s
-  over_limit : HasReached limit count → IsOver limit count s
+pub data IsEnded (limit : Option ℕ) (count : ℕ) (s : EngineState) : Type 0 where
+  ended_empty : HasEmpty (present s) → IsEnded limit count s
+  ended_quiet : s.pending ≡ [] → IsEnded limit count s
+  ended_limit : HasReached limit count → IsEnded limit count s
 
--- the revisions lead from s to t, where it is over; before, it is not: each revision is within the limit, takes a
+-- the revisions lead from s to t, where it ends; before, it goes on: each revision is within the limit, takes a
 -- pending constraint, and runs while no domain is empty
 pub record Settles (limit : Option ℕ) (s : EngineState) (rs : List Revision) (t : EngineState) : Type 0 where
   pub revisions : Revisions s rs t
-  pub within : IsWithin limit (length rs)
-  pub over : IsOver limit (length rs) t
+  pub within : IsInLimit limit (length rs)
+  pub ended : IsEnded limit (length rs) t
 
 -- without an order object each revision takes the least pending constraint; an object may answer anything
 abbrev pub FitsOrder : Bool → List Revision → Type 0

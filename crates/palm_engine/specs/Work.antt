@@ -32,8 +32,8 @@ abbrev pub most_questions : EngineState → List Pair → ℕ
 most_questions s pairs = named_sizes s s.pending + sum_by (λ p. sizes_over s p.var) pairs
 
 -- what these revisions may ask: all pairs of the revised constraint each time
-abbrev pub asked_by : EngineState → List Revision → ℕ
-asked_by s rs = sum_by (λ r. named_sizes s (r.cid ∷ [])) rs
+abbrev pub most_asked : EngineState → List Revision → ℕ
+most_asked s rs = sum_by (λ r. named_sizes s (r.cid ∷ [])) rs
 
 -- how far a settling can still go: values times constraints, and pending ones. It falls in each revision
 abbrev pub effort : EngineState → ℕ
@@ -48,4 +48,4 @@ pub record Falls (s t : EngineState) : Type 0 where
 pub record IsPaid (s : EngineState) (rs : List Revision) (t : EngineState) : Type 0 where
   pub gained : List Removal
   pub log : t.log ≡ s.log ++ gained
-  pub paid : asked_by s rs ≤ most_questions s (log_pairs gained)
+  pub paid : most_asked s rs ≤ most_questions s (log_pairs gained)

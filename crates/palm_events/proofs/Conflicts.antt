@@ -11,7 +11,7 @@ use Rattle.palm_model.specs.Closure.{IsConflict, IsSolution}
 use Rattle.palm_model.specs.Log.{Active, IsActive, Named, Removal, AreRight, IsWellFounded, Names, log_pairs}
 use Rattle.palm_model.specs.Log.Names.{by_itself, by_reason}
 use Rattle.palm_model.specs.State.{EngineState, IsValid, IsEmptyAt, IsGround, present}
-use Rattle.palm_model.specs.Event.{WithdrawsAll, posted, withdrawn, with_posted, without_names, gone_with, Step, Steps}
+use Rattle.palm_model.specs.Event.{WithdrawsAll, posted, withdrawn, with_posted, without_names, gone_with, Step, StepLeads}
 use Rattle.palm_model.specs.Event.Event.{Post, Withdraw, Remove}
 use Rattle.palm_model.specs.Event.Step.{Happens, Calm, Declare}
 use Rattle.palm_model.specs.Conflict.{InConflict, InFlat, InFlatConflict, IsJustified, AreJustified}
@@ -146,7 +146,7 @@ declared_justified s values justified b p m e c solution = justified b p m e c (
     lt_more : (d : Domains) (vs : List ℤ) (x : ℕ) → x < length d → x < length (d ++ vs ∷ [])
     lt_more d vs x lt = omega (arith, length-append d (vs ∷ []))
 
-pub step_justified : (s : EngineState) (step : Step) (t : EngineState) → Steps s step t → IsValid s → IsJustifiedPosting s step → AreJustified s → AreJustified t
+pub step_justified : (s : EngineState) (step : Step) (t : EngineState) → StepLeads s step t → IsValid s → IsJustifiedPosting s step → AreJustified s → AreJustified t
 step_justified s (Happens (Post a)) t h valid new justified = subst AreJustified (sym h.after) (posted_justified s a h.inactive new justified)
 step_justified s (Happens (Withdraw cid)) t h valid new justified = withdraws_justified s t (gone_with s.active cid) valid (gone_grounds (length s.initial) s.active cid valid.formed) h justified
 step_justified s (Happens (Remove a p)) t h valid new justified = subst AreJustified (sym h.after) justified

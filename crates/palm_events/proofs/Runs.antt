@@ -8,7 +8,7 @@ use Rattle.palm_model.specs.Closure.{IsClosed, IsGreatest}
 use Rattle.palm_model.specs.Log.{Active, Named, Names, cons_of, log_pairs}
 use Rattle.palm_model.specs.Closure.{IsClosedBy}
 use Rattle.palm_model.specs.State.{EngineState, IsValid, present, blank}
-use Rattle.palm_model.specs.Event.{Step, Steps, Runs}
+use Rattle.palm_model.specs.Event.{Step, StepLeads, Runs}
 use Rattle.palm_model.specs.Event.Event.{Post, Withdraw, Remove}
 use Rattle.palm_model.specs.Event.Step.{Happens, Calm, Declare}
 use Rattle.palm_model.specs.declared.constraint.Con.{Con}
@@ -20,7 +20,7 @@ use Rattle.palm_events.proofs.Valid.{blank_valid, posts_valid, withdraws_valid, 
 
 -- ---- steps and runs
 
-pub step_valid : ReasonsAreRight → (s : EngineState) (step : Step) (t : EngineState) → Steps s step t → IsValid s → IsValid t
+pub step_valid : ReasonsAreRight → (s : EngineState) (step : Step) (t : EngineState) → StepLeads s step t → IsValid s → IsValid t
 step_valid right s (Happens (Post a)) t h valid = posts_valid s t a h valid
 step_valid right s (Happens (Withdraw cid)) t h valid = withdraws_valid s t cid h valid
 step_valid right s (Happens (Remove a p)) t h valid = removes_valid right s t a p h valid

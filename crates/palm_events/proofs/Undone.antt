@@ -14,13 +14,13 @@ use Rattle.palm_model.specs.Log.{Active, IsActive, Removal, IsRight, AreRight, I
 use Rattle.palm_model.specs.Log.Names.{by_itself, by_reason}
 use Rattle.palm_model.specs.Log.Loses.{is_lost, is_kept}
 use Rattle.palm_model.specs.State.{EngineState, HasEmpty, AllFilled, IsValid, present}
-use Rattle.palm_model.specs.Event.{Posts, WithdrawsAll, Withdraws, Removes, Calms, Declares, with_posted, without_names, gone_with, removal_of, Step, Steps, Runs}
+use Rattle.palm_model.specs.Event.{Posts, WithdrawsAll, Withdraws, Removes, Calms, Declares, with_posted, without_names, gone_with, removal_of, Step, StepLeads, Runs}
 use Rattle.palm_model.specs.Event.Event.{Post, Withdraw, Remove}
 use Rattle.palm_model.specs.Event.Step.{Happens, Calm, Declare}
 use Rattle.palm_model.proofs.Formed.{part_scope}
 use Rattle.palm_model.proofs.Narrowing.{has_declared}
 use Rattle.palm_model.proofs.Without.{pair_of, length_without, without_has, has_without}
-use Rattle.palm_events.specs.Along.{IsStill, IsLater, AreLater, KeepsAll, IsFiltering}
+use Rattle.palm_events.specs.Along.{IsStill, IsNew, AreNew, KeepsAll, IsFiltering}
 use Rattle.palm_events.specs.Reasons.{ReasonsAreRight}
 use Rattle.palm_events.proofs.Names.{named_member, single, cid_known, before_then, not_before_itself}
 use Rattle.palm_events.proofs.Logs.{logged, pair_logged, left_member, left_keeps, kept_member, some_by_reason}
@@ -109,7 +109,7 @@ pub record Carries (s m : EngineState) : Type 0 where
   pub declared : (x : ℕ) (v : ℤ) → Has s.initial x v → Has m.initial x v
   pub old : (x : ℕ) (v : ℤ) → x < length s.initial → Has m.initial x v → Has s.initial x v
   pub longer : (x : ℕ) → x < length s.initial → x < length m.initial
-  pub later : (r : Removal) → Contains more r → (c : Cid) × IsLater s c × Names m.log c r
+  pub later : (r : Removal) → Contains more r → (c : Cid) × IsNew s c × Names m.log c r
 
 pub carries_none : (s : EngineState) → Carries s s
 carries_none s = record {
@@ -218,7 +218,7 @@ own_lacks m a p valid posted right =
 
 -- what a removal names after it was made
 abbrev NamesLater : EngineState → EngineState → Active → Pair → Type 0
-NamesLater s m a p = (c : Cid) × IsLater s c × Names (m.log ++ removal_of m a p ∷ []) c (removal_of m a p)
+NamesLater s m a p = (c : Cid) × IsNew s c × Names (m.log ++ removal_of m a p ∷ []) c (removal_of m a p)
 
 more_pair : (s m : EngineState) (carries : Carries s m) (q : Pair) → Contains (log_pairs m.log) q → (Contains (log_pairs s.log) q → ⊥) → (r : Removal) × Contains carries.more r × (r.pair ≡ q)
 more_pair s m carries q k n =
@@ -266,7 +266,7 @@ carries_removed right s m a p t removes valid still valid_m carries =
       longer = carries.longer;
       later = λ r k. elim (Contains-push_cases carries.more made r k) [
         | inl j ↦ let l = carries.later r j in (l.0, l.1, names_append m.log (made ∷ []) l.0 r l.2)
-        | inr e ↦ subst (λ z. (c : Cid) × IsLater s c × Names (m.log ++ made ∷ []) c z) e (names_later s m carries valid valid_m still a p t removes is_right)
+        | inr e ↦ subst (λ z. (c : Cid) × IsNew s c × Names (m.log ++ made ∷ []) c z) e (names_later s m carries valid valid_m still a p t removes is_right)
       ];
     })
 
@@ -281,7 +281,7 @@ old_names s m carries valid valid_m cid _ k (by_reason r q in_m reason names) =
     let same : old.0 ≡ q = logged_once m.initial m.active m.log valid_m.founded old.0 q in_log in_m old.2 in
     old_names s m carries valid valid_m cid q (member_same s.log old.0 q same old.1) names
 
-pub carries_withdrawn : (s m : EngineState) (gone : List Cid) (t : EngineState) → WithdrawsAll m gone t → AreLater s gone → IsValid s → IsValid m → Carries s m → Carries s t
+pub carries_withdrawn : (s m : EngineState) (gone : List Cid) (t : EngineState) → WithdrawsAll m gone t → AreNew s gone → IsValid s → IsValid m → Carries s m → Carries s t
 carries_withdrawn s m gone t withdraws later valid valid_m carries =
     let loses : Loses m.log gone (s.log ++ carries.more) withdraws.left = subst (λ l. Loses m.log gone l withdraws.left) carries.log withdraws.loses in
     let parts = loses_front m.log gone s.log carries.more withdraws.left loses (λ r k some. later some.cid some.among (old_names s m carries valid valid_m some.cid r k some.names)) in
@@ -298,7 +298,7 @@ carries_withdrawn s m gone t withdraws later valid valid_m carries =
     })
 
 -- what goes with a later constraint is later
-pub gone_later : (s m : EngineState) (cid : Cid) → Carries s m → IsValid s → IsValid m → IsLater s cid → AreLater s (gone_with m.active cid)
+pub gone_later : (s m : EngineState) (cid : Cid) → Carries s m → IsValid s → IsValid m → IsNew s cid → AreNew s (gone_with m.active cid)
 gone_later s m cid carries valid valid_m later c k is = elim (member_cases cid (cids_of (filter (λ b. is_named b.because cid) m.active)) c k) [
   | inl e ↦ later (subst (λ d. IsActive s.active d) (sym e) is)
   | inr j ↦
@@ -312,7 +312,7 @@ gone_later s m cid carries valid valid_m later c k is = elim (member_cases cid (
 
 -- ---- whole runs
 
-step_carries : ReasonsAreRight → (s m : EngineState) (step : Step) (t : EngineState) → Steps m step t → IsValid s → IsStill s → IsValid m → ((cid : Cid) → step ≡ Happens (Withdraw cid) → IsLater s cid) → Carries s m → Carries s t
+step_carries : ReasonsAreRight → (s m : EngineState) (step : Step) (t : EngineState) → StepLeads m step t → IsValid s → IsStill s → IsValid m → ((cid : Cid) → step ≡ Happens (Withdraw cid) → IsNew s cid) → Carries s m → Carries s t
 step_carries right s m (Happens (Post a)) t h valid still valid_m later carries = carries_posted s m a t h carries
 step_carries right s m (Happens (Withdraw cid)) t h valid still valid_m later carries =
     carries_withdrawn s m (gone_with m.active cid) t h (gone_later s m cid carries valid valid_m (later cid refl)) valid valid_m carries
@@ -349,7 +349,7 @@ run_undone right s steps t valid still run keeps alone =
 
 -- ---- posting, filtering and withdrawing
 
-filtering_keeps : (s m : EngineState) (step : Step) (t : EngineState) → IsFiltering step → Steps m step t → ReasonsAreRight → IsValid s → IsStill s → IsValid m → Carries s m → Carries s t × (t.active ≡ m.active)
+filtering_keeps : (s m : EngineState) (step : Step) (t : EngineState) → IsFiltering step → StepLeads m step t → ReasonsAreRight → IsValid s → IsStill s → IsValid m → Carries s m → Carries s t × (t.active ≡ m.active)
 filtering_keeps s m (Happens (Post a)) t filtering h right valid still valid_m carries = absurd filtering
 filtering_keeps s m (Happens (Withdraw cid)) t filtering h right valid still valid_m carries = absurd filtering
 filtering_keeps s m (Happens (Remove a p)) t filtering h right valid still valid_m carries =
@@ -395,7 +395,7 @@ posting_undone right s m n t a steps valid still posts run filtering withdraws =
     (λ b k. left_alone s n a same b (subst (λ (z : EngineState). Contains z.active b) withdraws.after k))
 
 -- the active constraints are those from before
-active_same : (xs ys : List Active) → Rises (cids_of xs) → Rises (cids_of ys) → ((a : Active) → Contains xs a → Contains ys a) → ((a : Active) → Contains ys a → Contains xs a) → xs ≡ ys
+pub active_same : (xs ys : List Active) → Rises (cids_of xs) → Rises (cids_of ys) → ((a : Active) → Contains xs a → Contains ys a) → ((a : Active) → Contains ys a → Contains xs a) → xs ≡ ys
 active_same [] [] rx ry sub sup = refl
 active_same [] (y ∷ ys) rx ry sub sup = absurd (member_nil y (sup y (member_here y ys)))
 active_same (x ∷ xs) [] rx ry sub sup = absurd (member_nil x (sub x (member_here x xs)))

@@ -19,16 +19,16 @@ abbrev pub IsStill : EngineState → Type 0
 IsStill s = (s.pending ≡ []) ⊎ HasEmpty (present s)
 
 -- no constraint of s has the name
-abbrev pub IsLater : EngineState → Cid → Type 0
-IsLater s cid = IsActive s.active cid → ⊥
+abbrev pub IsNew : EngineState → Cid → Type 0
+IsNew s cid = IsActive s.active cid → ⊥
 
 -- all of these names are none of those of s
-abbrev pub AreLater : EngineState → List Cid → Type 0
-AreLater s gone = (c : Cid) → Contains gone c → IsLater s c
+abbrev pub AreNew : EngineState → List Cid → Type 0
+AreNew s gone = (c : Cid) → Contains gone c → IsNew s c
 
 -- no step withdraws one of the constraints of s
 abbrev pub KeepsAll : EngineState → List Step → Type 0
-KeepsAll s steps = (cid : Cid) → Contains steps (Happens (Withdraw cid)) → IsLater s cid
+KeepsAll s steps = (cid : Cid) → Contains steps (Happens (Withdraw cid)) → IsNew s cid
 
 -- a removal, or a closed constraint that stops being pending: what filtering is made of
 abbrev pub IsFiltering : Step → Type 0

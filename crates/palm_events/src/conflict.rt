@@ -5,7 +5,7 @@ ghost use Rattle.palm_model.specs.Domains.{Assignment};
 ghost use Rattle.palm_model.specs.Closure.{IsConflict, IsSolution};
 ghost use Rattle.palm_model.specs.Log.{IsActive, Named};
 ghost use Rattle.palm_model.specs.State.{EngineState, IsValid, IsEmptyAt, IsGround, present};
-ghost use Rattle.palm_model.specs.Event.{Step, Steps};
+ghost use Rattle.palm_model.specs.Event.{Step, StepLeads};
 ghost use Rattle.palm_model.specs.Conflict.{InConflict, InFlatConflict, IsKeptConflict, IsFlatConflict, AreJustified};
 ghost use Rattle.palm_events.specs.Along.{IsJustifiedPosting};
 
@@ -36,7 +36,7 @@ pub fn flat_conflicts_have_no_solution()
 /// All active negations stay justified in every step that posts no other negation than a justified one.
 pub fn steps_keep_negations_justified()
     ensures { (s t : EngineState) (step : Step)
-        → Steps s step t → IsValid s → IsJustifiedPosting s step → AreJustified s → AreJustified t }
+        → StepLeads s step t → IsValid s → IsJustifiedPosting s step → AreJustified s → AreJustified t }
 {}
 
 /// The kept and the flat conflict are lists of names.

@@ -6,7 +6,7 @@ ghost use Rattle.palm_model.specs.Constraint.{scope};
 ghost use Rattle.palm_model.specs.Log.{Active};
 ghost use Rattle.palm_model.specs.Domains.{Domains, AllAscend};
 ghost use Rattle.palm_model.specs.State.{EngineState, IsValid, blank};
-ghost use Rattle.palm_model.specs.Event.{Step, Steps, Runs, WithdrawsAll, lost_pairs};
+ghost use Rattle.palm_model.specs.Event.{Step, StepLeads, Runs, WithdrawsAll, lost_pairs};
 ghost use Rattle.palm_events.specs.Along.{KeepsGrounds};
 
 /// The state without constraints is valid.
@@ -16,7 +16,7 @@ pub fn states_without_constraints_are_valid()
 
 /// Postings, withdrawals and removals keep a state valid, and so do the silent steps between them.
 pub fn steps_keep_validity()
-    ensures { (s t : EngineState) (step : Step) → Steps s step t → IsValid s → IsValid t }
+    ensures { (s t : EngineState) (step : Step) → StepLeads s step t → IsValid s → IsValid t }
 {}
 
 /// Several constraints may go at once, where they are no grounds of negations that stay.

@@ -116,15 +116,15 @@ Leads s (Withdraw cid) t = Withdraws s cid t
 Leads s (Remove a p) t = Removes s a p t
 
 -- the step is allowed and leads from s to t
-abbrev pub Steps : EngineState → Step → EngineState → Type 0
-Steps s (Happens event) t = Leads s event t
-Steps s (Calm a) t = Calms s a t
-Steps s (Declare values) t = Declares s values t
+abbrev pub StepLeads : EngineState → Step → EngineState → Type 0
+StepLeads s (Happens event) t = Leads s event t
+StepLeads s (Calm a) t = Calms s a t
+StepLeads s (Declare values) t = Declares s values t
 
 -- the steps, one after another, lead from s to t
 abbrev pub Runs : EngineState → List Step → EngineState → Type 0
 Runs s [] t = t ≡ s
-Runs s (step ∷ steps) t = (m : EngineState) × Steps s step m × Runs m steps t
+Runs s (step ∷ steps) t = (m : EngineState) × StepLeads s step m × Runs m steps t
 
 -- the events among the steps
 abbrev pub events_of : List Step → List Event

@@ -1,5 +1,5 @@
 -- The state of an engine, and when it is valid.
-use Rattle.std.specs.Prelude.{◌≡◌, ℕ, ℤ, ⊤, ◌<◌, Bool, not, ◌||◌, List, [], ◌∷◌, length, filter, Contains, nat_eq}
+use Rattle.std.specs.Prelude.{◌≡◌, ℕ, ℤ, ⊤, ◌<◌, Bool, true, false, not, ◌||◌, List, [], ◌∷◌, length, filter, Contains, nat_eq}
 use Rattle.std.specs.List.{list_any}
 use Rattle.palm_base.specs.declared.terms.Cid.{Cid}
 use Rattle.palm_base.specs.declared.terms.Cid.TheVariants.{Decide, Not, User}
@@ -71,6 +71,12 @@ abbrev pub IsGround : Cid → Type 0
 IsGround (Decide x) = ⊤
 IsGround (Not p) = ⊥
 IsGround (User n) = ⊤
+
+-- whether the name is a user's
+abbrev pub is_user : Cid → Bool
+is_user (Decide x) = false
+is_user (Not p) = false
+is_user (User n) = true
 
 -- active users' constraints and decisions
 abbrev pub AreGrounds : List Active → List Cid → Type 0

@@ -1,12 +1,12 @@
 -- Nogoods, and the negations that are posted for them.
 use Rattle.std.specs.Prelude.{◌≡◌, ℕ, ◌+◌, ◌⊎◌, Bool, not, List, [], ◌∷◌, ◌++◌, map, flat_map, filter, nat_eq}
 use Rattle.std.specs.List.{list_any}
+use Rattle.palm_model.specs.State.{is_user}
 use Rattle.palm_base.specs.declared.terms.Pair.{Pair}
 use Rattle.palm_base.specs.declared.terms.Cid.{Cid}
 use Rattle.palm_base.specs.declared.terms.Cid.TheVariants.{Decide, Not, User}
-use Rattle.palm_model.specs.Log.{IsActive, same_pair}
+use Rattle.palm_model.specs.Log.{Active, IsActive, same_pair, is_named, cids_of}
 use Rattle.palm_model.specs.Event.{Posts}
-use Rattle.palm_search.specs.Search.{is_user}
 use Rattle.palm_search.specs.Turns.{SearchState, negation_of}
 
 -- ---- nogoods
@@ -35,12 +35,12 @@ pub record Origin : Type 0 where
   pub nogood : ℕ
 
 -- what a repair holds beside the search: the listed nogoods with the oldest first, where the active negations come
--- from, a weight for each variable, and how many nogoods were dropped, which is the number of the oldest listed one
+-- from, one weight for each variable, and how many nogoods were dropped, which is the number of the oldest listed one
 pub record RepairState : Type 0 where
   pub search : SearchState
   pub nogoods : List Nogood
   pub origins : List Origin
-  pub weights : ℕ → ℕ
+  pub weights : List ℕ
   pub dropped : ℕ
 
 -- ---- posting
@@ -56,6 +56,10 @@ undecided decisions nogood = filter (λ p. not (is_decided decisions p)) nogood.
 -- why the pair cannot hold: the decisions of the other pairs, and the users
 abbrev pub justification : Nogood → Pair → List Cid
 justification nogood p = map (λ q. Decide q.var) (filter (λ q. not (same_pair q p)) nogood.pairs) ++ nogood.users
+
+-- the origins of the negations that are still active
+abbrev pub active_origins : List Active → List Origin → List Origin
+active_origins active origins = filter (λ o. is_named (cids_of active) (Not o.pair)) origins
 
 -- the negation of the pair comes from this nogood from now on
 abbrev pub with_origin : Pair → ℕ → List Origin → List Origin

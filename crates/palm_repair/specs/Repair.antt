@@ -1,5 +1,5 @@
 -- The turns and the run of decision-repair.
-use Rattle.std.specs.Prelude.{◌≡◌, ℕ, ◌+◌, ◌<◌, ◌≤◌, ◌⊎◌, Bool, if◌then◌else◌, List, [], ◌∷◌, ◌++◌, length, map, filter, Contains, nat_eq}
+use Rattle.std.specs.Prelude.{◌≡◌, ℕ, ◌+◌, ◌<◌, ◌≤◌, ◌⊎◌, Bool, if◌then◌else◌, List, [], ◌∷◌, ◌++◌, length, map, filter, Contains, nat_eq, slice_index_or}
 use Rattle.std.specs.List.{list_any}
 use Rattle.palm_base.specs.declared.terms.Pair.{Pair}
 use Rattle.palm_base.specs.declared.terms.Cid.{Cid}
@@ -12,7 +12,7 @@ use Rattle.palm_search.specs.declared.turn.Turn.{Turn}
 use Rattle.palm_search.specs.declared.turn.Turn.TheVariants.{Decide as TurnDecide, Undo as TurnUndo}
 use Rattle.palm_search.specs.Turns.{SearchState, HasFlatConflict, Decides, SettlesAfter, decided_vars}
 use Rattle.palm_search.specs.Search.{SearchEnd, EndsWith, Closes, begun}
-use Rattle.palm_repair.specs.Posting.{Nogood, Origin, RepairState, PostsAll, nogood_of}
+use Rattle.palm_repair.specs.Posting.{Nogood, Origin, RepairState, PostsAll, nogood_of, active_origins}
 
 -- ---- decisions
 
@@ -24,19 +24,28 @@ pub record RepairDecides (guided : Bool) (s : RepairState) (p : Pair) (pick : Pi
 
 -- ---- undoing
 
--- the weights after a conflict over these variables
-abbrev pub raised : (ℕ → ℕ) → List ℕ → ℕ → ℕ
-raised weights vars x = if list_any (λ y. nat_eq y x) vars then weights x + 1 else weights x
+-- the weights of the variables from number x on after a conflict over these variables: theirs rise by one
+abbrev pub raised_from : ℕ → List ℕ → List ℕ → List ℕ
+raised_from x [] vars = []
+raised_from x (w ∷ weights) vars = (if list_any (λ y. nat_eq y x) vars then w + 1 else w) ∷ raised_from (x + 1) weights vars
+
+-- the weights of all variables after the conflict
+abbrev pub raised : List ℕ → List ℕ → List ℕ
+raised weights vars = raised_from 0 weights vars
+
+-- the weight of a variable
+abbrev pub weight_of : List ℕ → ℕ → ℕ
+weight_of weights x = slice_index_or weights x 0
 
 -- the pair is the one of the greatest weight among the decisions that the names hold, the latest one of several, and
 -- these decisions are left without it, in order
-pub record IsHeaviest (weights : ℕ → ℕ) (decisions : List Pair) (names : List Cid) (gone : Pair) (left : List Pair) : Type 0 where
+pub record IsHeaviest (weights : List ℕ) (decisions : List Pair) (names : List Cid) (gone : Pair) (left : List Pair) : Type 0 where
   pub earlier : List Pair
   pub later : List Pair
   pub are : decisions ≡ earlier ++ gone ∷ later
   pub held : Contains names (Decide gone.var)
-  pub heaviest : (p : Pair) → Contains earlier p → Contains names (Decide p.var) → weights p.var ≤ weights gone.var
-  pub latest : (p : Pair) → Contains later p → Contains names (Decide p.var) → weights p.var < weights gone.var
+  pub heaviest : (p : Pair) → Contains earlier p → Contains names (Decide p.var) → weight_of weights p.var ≤ weight_of weights gone.var
+  pub latest : (p : Pair) → Contains later p → Contains names (Decide p.var) → weight_of weights p.var < weight_of weights gone.var
   pub others : left ≡ earlier ++ later
 
 -- the origins that are the nogood of this number
@@ -57,6 +66,7 @@ pub record Drops (s : RepairState) (t : RepairState) : Type 0 where
   pub after : t ≡ record s {
     search = record { engine = engine; decisions = s.search.decisions };
     nogoods = rest;
+    origins = active_origins engine.active s.origins;
     dropped = s.dropped + 1;
   }
 
@@ -68,14 +78,16 @@ MakesRoom tabu s t = ((length s.nogoods ≡ tabu) × Drops s t) ⊎ ((length s.n
 -- appended; and negations are posted
 pub record RepairUndoes (tabu : ℕ) (s : RepairState) (gone : Pair) (conflict : List Cid) (t : RepairState) : Type 0 where
   pub flat : HasFlatConflict s.search.engine conflict
-  pub weights : ℕ → ℕ
-  pub rise : weights ≡ raised s.weights (decided_vars conflict)
   pub left : List Pair
-  pub heaviest : IsHeaviest weights s.search.decisions conflict gone left
+  pub heaviest : IsHeaviest (raised s.weights (decided_vars conflict)) s.search.decisions conflict gone left
   pub engine : EngineState
   pub withdraws : Withdraws s.search.engine (Decide gone.var) engine
   pub roomy : RepairState
-  pub makes_room : MakesRoom tabu (record s { search = record { engine = engine; decisions = left }; weights = weights }) roomy
+  pub makes_room : MakesRoom tabu (record s {
+    search = record { engine = engine; decisions = left };
+    origins = active_origins engine.active s.origins;
+    weights = raised s.weights (decided_vars conflict);
+  }) roomy
   pub posts : PostsAll (record roomy { nogoods = roomy.nogoods ++ nogood_of s.search.decisions conflict ∷ [] }) t
 
 -- ---- turns
@@ -106,7 +118,7 @@ RepairTurns guided ordered tabu s (turn ∷ turns) t =
 
 -- nothing is listed, no weight has risen, and nothing was dropped
 abbrev pub repair_begun : EngineState → RepairState
-repair_begun s = record { search = begun s; nogoods = []; origins = []; weights = λ x. 0; dropped = 0 }
+repair_begun s = record { search = begun s; nogoods = []; origins = []; weights = map (λ vs. 0) s.initial; dropped = 0 }
 
 -- one settling, and turns within the budget, lead from s to t, where the run ends
 pub record RepairRun (guided ordered : Bool) (tabu budget : ℕ) (s : EngineState) (turns : List Turn) (end : SearchEnd) (dropped : ℕ) (t : RepairState) : Type 0 where

@@ -6,15 +6,18 @@ use Rattle.palm_base.specs.declared.terms.Pair.{Pair}
 use Rattle.palm_base.specs.declared.terms.Cid.{Cid}
 use Rattle.palm_base.specs.declared.terms.Cid.TheVariants.{Decide, Not}
 use Rattle.palm_base.proofs.Members.{member_nil, member_here, member_there, member_cases, member_same, member_map, member_unmap, filter_member}
+use Rattle.palm_model.specs.Domains.{Domains, Has}
 use Rattle.palm_model.specs.Constraint.{Distinct}
-use Rattle.palm_model.specs.Log.{Active, IsActive, cids_of, is_named}
-use Rattle.palm_model.specs.State.{EngineState, IsValid, IsGround, FitsName}
+use Rattle.palm_model.proofs.Without.{without_has}
+use Rattle.palm_model.specs.Log.{Active, IsActive, cids_of, is_named, log_pairs}
+use Rattle.palm_model.specs.State.{EngineState, IsValid, IsGround, FitsName, present}
 use Rattle.palm_search.specs.declared.turn.Pick.{Pick}
 use Rattle.palm_model.specs.Event.{with_posted, without_names, gone_with, vars_of}
 use Rattle.palm_events.proofs.Names.{named_member}
 use Rattle.palm_events.proofs.States.{with_posted_cases, with_posted_here, member_with_posted, without_names_member, member_without_names, held_not_ground}
-use Rattle.palm_search.specs.Turns.{SearchState, Decides, Undoes, decision_of, negation_of}
-use Rattle.palm_search.specs.Kept.{HasDecisions}
+use Rattle.palm_search.specs.Turns.{SearchState, IsDecided, Decides, Undoes, decision_of, negation_of}
+use Rattle.palm_search.specs.declared.turn.Pick.TheVariants.{NoGuide, Nothing, Asked}
+use Rattle.palm_search.specs.Kept.{HasDecisions, HasDeclared}
 
 -- ---- distinct lists
 
@@ -92,12 +95,12 @@ pub gone_itself : (active : List Active) (cid : Cid) → Contains (gone_with act
 gone_itself active cid = member_here cid (cids_of (filter (λ b. is_named b.because cid) active))
 
 -- the decisions but one
-latest_vars : (s : SearchState) (earlier later : List Pair) (gone : Pair) → s.decisions ≡ earlier ++ gone ∷ later → Distinct (vars_of s.decisions) → IsWithoutOne (vars_of earlier) (vars_of later) gone.var
+pub latest_vars : (s : SearchState) (earlier later : List Pair) (gone : Pair) → s.decisions ≡ earlier ++ gone ∷ later → Distinct (vars_of s.decisions) → IsWithoutOne (vars_of earlier) (vars_of later) gone.var
 latest_vars s earlier later gone e d =
     distinct_without (vars_of earlier) (vars_of later) gone.var
     (subst Distinct (ap vars_of e ∙ map-append (λ (q : Pair). q.var) earlier (gone ∷ later)) d)
 
-others_taken : (earlier later : List Pair) (gone p : Pair) → Contains (earlier ++ later) p → Contains (earlier ++ gone ∷ later) p
+pub others_taken : (earlier later : List Pair) (gone p : Pair) → Contains (earlier ++ later) p → Contains (earlier ++ gone ∷ later) p
 others_taken earlier later gone p m = elim (Contains-append_cases earlier later p m) [
   | inl k ↦ Contains-append_left earlier (gone ∷ later) p k
   | inr k ↦ Contains-append_right earlier (gone ∷ later) p (member_there gone later p k)
@@ -160,4 +163,54 @@ settles_has s t e f has = record {
   active = λ p m. subst (λ l. Contains l (decision_of p)) (sym e) (has.active p (subst (λ l. Contains l p) f m));
   taken = λ a x m named. let r = has.taken a x (subst (λ l. Contains l a) e m) named in (r.0, subst (λ l. Contains l r.0) (sym f) r.1, r.2);
   distinct = subst (λ l. Distinct (vars_of l)) (sym f) has.distinct;
+}
+
+-- ---- declared pairs
+
+not_negation : (x : ℕ) (p : Pair) → Decide x ≡ Not p → ⊥
+not_negation x p e = cc
+
+negation_same : (q p : Pair) → Not q ≡ Not p → q ≡ p
+negation_same q p e = cc
+
+decided_present : (d : Domains) (pick : Pick) (p : Pair) → IsDecided d pick p → Has d p.var p.value
+decided_present d NoGuide p decided = decided.has
+decided_present d Nothing p decided = decided.has
+decided_present d (Asked q) p decided = elim decided [
+  | inl r ↦ subst (λ (z : Pair). Has d z.var z.value) (sym r.1) r.0.has
+  | inr r ↦ r.1.has
+]
+
+pub decides_declared : (guided : Bool) (s : SearchState) (p : Pair) (pick : Pick) (t : SearchState) → Decides guided s p pick t → HasDeclared s → HasDeclared t
+decides_declared guided s p pick t turn declared =
+    let ei : t.engine.initial ≡ s.engine.initial = ap (λ (z : EngineState). z.initial) turn.posts.after in
+    record {
+      decided = λ q m. subst (λ d. Has d q.var q.value) (sym ei) (elim (Contains-push_cases s.decisions p q (subst (λ l. Contains l q) turn.decisions m)) [
+        | inl k ↦ declared.decided q k
+        | inr e ↦ subst (λ (z : Pair). Has s.engine.initial z.var z.value) e (without_has s.engine.initial (log_pairs s.engine.log) p.var p.value (decided_present (present s.engine) pick p turn.decided)).0
+      ]);
+      negated = λ a q m named. subst (λ d. Has d q.var q.value) (sym ei) (elim (with_posted_cases (decision_of p) s.engine.active a (subst (λ (z : EngineState). Contains z.active a) turn.posts.after m)) [
+        | inl e ↦ absurd (not_negation p.var q (ap (λ (b : Active). b.cid) e ∙ named))
+        | inr k ↦ declared.negated a q k named
+      ]);
+    }
+
+pub undoes_declared : (s : SearchState) (gone : Pair) (conflict : List Cid) (t : SearchState) → Undoes s gone conflict t → HasDeclared s → HasDeclared t
+undoes_declared s gone conflict t turn declared =
+    let latest = turn.latest in
+    let ei : t.engine.initial ≡ s.engine.initial = ap (λ (z : EngineState). z.initial) turn.posts.after ∙ ap (λ (z : EngineState). z.initial) turn.withdraws.after in
+    record {
+      decided = λ q m. subst (λ d. Has d q.var q.value) (sym ei)
+          (declared.decided q (subst (λ l. Contains l q) (sym latest.are) (others_taken latest.earlier latest.later gone q (subst (λ l. Contains l q) latest.others m))));
+      negated = λ a q m named. subst (λ d. Has d q.var q.value) (sym ei) (elim (with_posted_cases (negation_of gone _) turn.middle.active a (subst (λ (z : EngineState). Contains z.active a) turn.posts.after m)) [
+        | inl e ↦ subst (λ (z : Pair). Has s.engine.initial z.var z.value) (negation_same gone q (ap (λ (b : Active). b.cid) e ∙ named))
+            (declared.decided gone (subst (λ l. Contains l gone) (sym latest.are) (Contains-append_right latest.earlier (gone ∷ latest.later) gone (member_here gone latest.later))))
+        | inr k ↦ declared.negated a q (without_names_member (gone_with s.engine.active (Decide gone.var)) s.engine.active a (subst (λ (z : EngineState). Contains z.active a) turn.withdraws.after k)).0 named
+      ]);
+    }
+
+pub settles_declared : (s t : SearchState) → t.engine.active ≡ s.engine.active → t.engine.initial ≡ s.engine.initial → t.decisions ≡ s.decisions → HasDeclared s → HasDeclared t
+settles_declared s t e ei f declared = record {
+  decided = λ p m. subst (λ d. Has d p.var p.value) (sym ei) (declared.decided p (subst (λ l. Contains l p) f m));
+  negated = λ a p m named. subst (λ d. Has d p.var p.value) (sym ei) (declared.negated a p (subst (λ l. Contains l a) e m) named);
 }

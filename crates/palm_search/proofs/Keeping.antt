@@ -8,7 +8,7 @@ use Rattle.palm_model.specs.Domains.{Assignment, Has}
 use Rattle.palm_model.specs.Part.{Holds, Satisfies}
 use Rattle.palm_model.specs.Closure.{IsSolution}
 use Rattle.palm_model.specs.Log.{Active, Named}
-use Rattle.palm_model.specs.State.{EngineState, IsValid, without_cid}
+use Rattle.palm_model.specs.State.{EngineState, IsValid, without_cid, is_user}
 use Rattle.palm_model.specs.Event.{Step, Runs, without_names, gone_with}
 use Rattle.palm_model.specs.Event.Event.{Post, Withdraw, Remove}
 use Rattle.palm_model.specs.Event.Step.{Happens, Calm, Declare}
@@ -31,9 +31,9 @@ use Rattle.palm_search.specs.declared.turn.Pick.{Pick}
 use Rattle.palm_search.specs.declared.turn.Turn.{Turn}
 use Rattle.palm_search.specs.declared.turn.Turn.TheVariants.{Decide as TurnDecide, Undo as TurnUndo}
 use Rattle.palm_search.specs.Turns.{SearchState, Decides, Undoes, Takes, SettlesAfter, Follows, Turns, decision_of, negation_of}
-use Rattle.palm_search.specs.Search.{begun, is_user}
+use Rattle.palm_search.specs.Search.{begun}
 use Rattle.palm_search.specs.Kept.{HasOnlyUsers, IsSearching}
-use Rattle.palm_search.proofs.Deciding.{decides_has, undoes_has, settles_has, ground_stays}
+use Rattle.palm_search.proofs.Deciding.{decides_has, undoes_has, settles_has, decides_declared, undoes_declared, settles_declared, ground_stays}
 
 -- ---- filtering
 
@@ -57,7 +57,12 @@ pub settles_keep : ReasonsAreRight → (ordered : Bool) (s t : SearchState) → 
 settles_keep right ordered s t settles searching =
     let filters = settling_filters None s.engine settles.revisions t.engine settles.settles in
     let kept = filters_keep right s.engine t.engine filters searching.valid searching.justified in
-    record { valid = kept.0; justified = kept.1; decisions = settles_has s t filters.active settles.decisions searching.decisions }
+    record {
+      valid = kept.0;
+      justified = kept.1;
+      decisions = settles_has s t filters.active settles.decisions searching.decisions;
+      declared = settles_declared s t filters.active filters.initial settles.decisions searching.declared;
+    }
 
 -- ---- deciding
 
@@ -69,6 +74,7 @@ decides_keep guided s p pick t turn searching = record {
   valid = posts_valid s.engine t.engine (decision_of p) turn.posts searching.valid;
   justified = step_justified s.engine (Happens (Post (decision_of p))) t.engine turn.posts searching.valid (λ q e. absurd (not_negation p.var q e)) searching.justified;
   decisions = decides_has guided s p pick t turn searching.decisions;
+  declared = decides_declared guided s p pick t turn searching.declared;
 }
 
 -- ---- undoing
@@ -119,6 +125,7 @@ undoes_keep s gone conflict t turn searching =
       valid = posts_valid turn.middle t.engine (negation_of gone (without_cid (Decide gone.var) conflict)) turn.posts valid;
       justified = step_justified turn.middle (Happens (Post (negation_of gone (without_cid (Decide gone.var) conflict)))) t.engine turn.posts valid (λ p e. gone_justified s gone conflict t turn searching) justified;
       decisions = undoes_has s gone conflict t turn searching.valid searching.decisions;
+      declared = undoes_declared s gone conflict t turn searching.declared;
     }
 
 -- ---- turns
@@ -150,5 +157,9 @@ begins s valid users = record {
     active = λ p m. absurd (member_nil p m);
     taken = λ a x m e. absurd (user_not_decision a.cid x (users a m) e);
     distinct = tt;
+  };
+  declared = record {
+    decided = λ p m. absurd (member_nil p m);
+    negated = λ a p m e. absurd (user_not a.cid p (users a m) e);
   };
 }

@@ -10,23 +10,24 @@ use Rattle.palm_model.specs.Closure.{IsSolution}
 use Rattle.palm_model.specs.Trial.{listed}
 use Rattle.palm_model.specs.Log.{Active, IsActive, Named, cons_of}
 use Rattle.palm_events.proofs.Names.{single}
-use Rattle.palm_model.specs.State.{EngineState, IsValid, IsGround, present}
+use Rattle.palm_model.specs.State.{EngineState, IsValid, IsGround, FitsName, present, is_user}
 use Rattle.palm_model.specs.Event.{Posts, WithdrawsAll, Step, gone_with}
 use Rattle.palm_model.specs.Event.Event.{Withdraw}
 use Rattle.palm_model.specs.Event.Step.{Happens}
-use Rattle.palm_events.specs.Along.{IsStill, IsLater, AreLater, KeepsGrounds, KeepsAll, IsFiltering}
+use Rattle.palm_events.specs.Along.{IsStill, IsNew, AreNew, KeepsGrounds, KeepsAll, IsFiltering}
 use Rattle.palm_events.specs.Reasons.{ReasonsAreRight}
-use Rattle.palm_events.proofs.States.{with_posted_cases, without_names_member, held_not_ground, gone_grounds}
+use Rattle.palm_events.proofs.States.{with_posted_cases, member_with_posted, without_names_member, member_without_names, held_not_ground, gone_grounds}
 use Rattle.palm_events.proofs.Valid.{posts_valid, withdraws_all_valid}
-use Rattle.palm_events.proofs.Undone.{Carries, carries_none, carries_posted, carries_withdrawn, gone_later, run_carries, carried_log}
+use Rattle.palm_events.proofs.Undone.{active_same, Carries, carries_none, carries_posted, carries_withdrawn, gone_later, run_carries, carried_log}
 use Rattle.palm_engine.specs.Settling.{Filters}
 use Rattle.palm_engine.proofs.Settled.{settling_filters, filters_valid, settling_still}
 use Rattle.palm_search.specs.declared.turn.Turn.{Turn}
 use Rattle.palm_search.specs.declared.turn.Turn.TheVariants.{Decide as TurnDecide, Undo as TurnUndo}
 use Rattle.palm_search.specs.Turns.{SearchState, Takes, SettlesAfter, Turns, decision_of, negation_of}
-use Rattle.palm_search.specs.Search.{SearchEnd, SearchRun, Closes, Searches, HasNoSolution, IsFound, begun, is_user, search_cids}
-use Rattle.palm_search.specs.Kept.{HasOnlyUsers, IsSearching}
-use Rattle.palm_search.proofs.Keeping.{begins, settles_keep, turns_keep}
+use Rattle.palm_search.specs.Search.{SearchEnd, SearchRun, Closes, Searches, HasNoSolution, IsFound, begun, search_cids}
+use Rattle.palm_search.specs.Kept.{HasOnlyUsers, IsSearching, Rests}
+use Rattle.palm_search.proofs.Deciding.{ground_stays}
+use Rattle.palm_search.proofs.Keeping.{begins, settles_keep, follows_keep, turns_keep}
 use Rattle.palm_search.proofs.Solving.{found_solves, users_unsolved, users_active}
 
 -- what a search has gained on the state s before it: the engine is valid, and all that came later is no user's
@@ -37,7 +38,7 @@ pub record Searched (s m : EngineState) : Type 0 where
   pub later : (a : Active) → Contains m.active a → IsActive s.active a.cid ⊎ (is_user a.cid ≡ false)
 
 -- what is no user's is later than a state with users alone
-searcher_later : (s : EngineState) → HasOnlyUsers s → (c : Cid) → is_user c ≡ false → IsLater s c
+searcher_later : (s : EngineState) → HasOnlyUsers s → (c : Cid) → is_user c ≡ false → IsNew s c
 searcher_later s users c f is = false≢true (sym f ∙ subst (λ d. is_user d ≡ true) is.named (users is.owner is.posted))
 
 pub searched_none : (s : EngineState) → IsValid s → Searched s s
@@ -54,7 +55,7 @@ searched_posted s m a t f posts searched = record {
   ];
 }
 
-searched_withdrawn : (s m : EngineState) (gone : List Cid) (t : EngineState) → KeepsGrounds m.active gone → AreLater s gone → WithdrawsAll m gone t → IsValid s → Searched s m → Searched s t
+searched_withdrawn : (s m : EngineState) (gone : List Cid) (t : EngineState) → KeepsGrounds m.active gone → AreNew s gone → WithdrawsAll m gone t → IsValid s → Searched s m → Searched s t
 searched_withdrawn s m gone t keeps later withdraws valid searched = record {
   valid = withdraws_all_valid m t gone keeps withdraws searched.valid;
   carries = carries_withdrawn s m gone t withdraws later valid searched.valid searched.carries;
@@ -115,7 +116,7 @@ user_ground (Decide x) t = tt
 user_ground (Not p) t = false≢true t
 user_ground (User n) t = tt
 
-closing_keeps : (m : EngineState) → IsValid m → KeepsGrounds m.active (search_cids m.active)
+pub closing_keeps : (m : EngineState) → IsValid m → KeepsGrounds m.active (search_cids m.active)
 closing_keeps m valid a k stays c held ground gone =
     held_not_ground (length m.initial) m.active a c (valid.formed a k) held (user_ground a.cid (stays_user m.active a k stays))
 
@@ -145,50 +146,108 @@ search_leaves right guided ordered budget s turns end t users valid still search
 
 -- ---- whole searches
 
-settles_still : (ordered : Bool) (m t : SearchState) → SettlesAfter ordered m t → IsStill t.engine
+pub settles_still : (ordered : Bool) (m t : SearchState) → SettlesAfter ordered m t → IsStill t.engine
 settles_still ordered m t settles = settling_still m.engine settles.revisions t.engine settles.settles
 
 turns_still : (guided ordered : Bool) (m : SearchState) (turns : List Turn) (t : SearchState) → IsStill m.engine → Turns guided ordered m turns t → IsStill t.engine
 turns_still guided ordered m [] t still run = subst (λ (z : SearchState). IsStill z.engine) (sym run) still
 turns_still guided ordered m (turn ∷ turns) t still run = turns_still guided ordered run.0 turns t (settles_still ordered run.1.middle run.0 run.1.settles) run.2
 
+-- what a search keeps of the state s before it, whatever was pending
+pub record Remembers (s m : EngineState) : Type 0 where
+  pub initial : m.initial ≡ s.initial
+  pub active : (a : Active) → Contains s.active a → Contains m.active a
+  pub users : (a : Active) → Contains m.active a → is_user a.cid ≡ true → IsActive s.active a.cid
+
+remembers_posted : (s m : EngineState) (a : Active) (t : EngineState) → is_user a.cid ≡ false → Posts m a t → Remembers s m → Remembers s t
+remembers_posted s m a t f posts old = record {
+  initial = ap (λ (z : EngineState). z.initial) posts.after ∙ old.initial;
+  active = λ b k. subst (λ (z : EngineState). Contains z.active b) (sym posts.after) (member_with_posted a m.active b posts.inactive (old.active b k));
+  users = λ b k user. elim (with_posted_cases a m.active b (subst (λ (z : EngineState). Contains z.active b) posts.after k)) [
+    | inl e ↦ absurd (false≢true (sym f ∙ subst (λ (c : Active). is_user c.cid ≡ true) (sym e) user))
+    | inr j ↦ old.users b j user
+  ];
+}
+
+remembers_withdrawn : (s m : EngineState) (gone : List Cid) (t : EngineState) → AreNew s gone → WithdrawsAll m gone t → Remembers s m → Remembers s t
+remembers_withdrawn s m gone t later withdraws old = record {
+  initial = ap (λ (z : EngineState). z.initial) withdraws.after ∙ old.initial;
+  active = λ b k. subst (λ (z : EngineState). Contains z.active b) (sym withdraws.after)
+      (member_without_names gone m.active b (old.active b k) (λ j. later b.cid j (record { owner = b; posted = k; named = refl })));
+  users = λ b k user. old.users b (without_names_member gone m.active b (subst (λ (z : EngineState). Contains z.active b) withdraws.after k)).0 user;
+}
+
+remembers_filtered : (s m t : EngineState) → Filters m t → Remembers s m → Remembers s t
+remembers_filtered s m t filters old = record {
+  initial = filters.initial ∙ old.initial;
+  active = λ b k. subst (λ l. Contains l b) (sym filters.active) (old.active b k);
+  users = λ b k user. old.users b (subst (λ l. Contains l b) filters.active k) user;
+}
+
+-- what goes with a decision is no user
+gone_no_user : (n : ℕ) (active : List Active) (x : ℕ) → ((a : Active) → Contains active a → FitsName n active a) → (c : Cid) → Contains (gone_with active (Decide x)) c → is_user c ≡ true → ⊥
+gone_no_user n active x formed c m user = ground_stays n active (Decide x) formed c (user_ground c user) (not_decision c x user) m
+  where
+    not_decision : (c : Cid) (x : ℕ) → is_user c ≡ true → c ≡ Decide x → ⊥
+    not_decision c x user e = false≢true (subst (λ d. is_user d ≡ true) e user)
+
+users_later : (s : EngineState) → HasOnlyUsers s → (gone : List Cid) → ((c : Cid) → Contains gone c → is_user c ≡ true → ⊥) → AreNew s gone
+users_later s users gone none c m is = none c m (subst (λ d. is_user d ≡ true) is.named (users is.owner is.posted))
+
+remembers_takes : (guided : Bool) (s : EngineState) (m : SearchState) (turn : Turn) (t : SearchState) → HasOnlyUsers s → IsValid m.engine → Takes guided m turn t → Remembers s m.engine → Remembers s t.engine
+remembers_takes guided s m (TurnDecide pair pick) t users valid takes old = remembers_posted s m.engine (decision_of pair) t.engine refl takes.posts old
+remembers_takes guided s m (TurnUndo gone conflict) t users valid takes old =
+    let names = gone_with m.engine.active (Decide gone.var) in
+    let later = users_later s users names (gone_no_user (length m.engine.initial) m.engine.active gone.var valid.formed) in
+    remembers_posted s takes.middle (negation_of gone _) t.engine refl takes.posts (remembers_withdrawn s m.engine names takes.middle later takes.withdraws old)
+
+remembers_settles : (ordered : Bool) (s : EngineState) (m t : SearchState) → SettlesAfter ordered m t → Remembers s m.engine → Remembers s t.engine
+remembers_settles ordered s m t settles old = remembers_filtered s m.engine t.engine (settling_filters None m.engine settles.revisions t.engine settles.settles) old
+
+remembers_turns : ReasonsAreRight → (guided ordered : Bool) (s : EngineState) (m : SearchState) (turns : List Turn) (t : SearchState) → HasOnlyUsers s → IsSearching m → Turns guided ordered m turns t → Remembers s m.engine → Remembers s t.engine
+remembers_turns right guided ordered s m [] t users searching run old = subst (λ (z : SearchState). Remembers s z.engine) (sym run) old
+remembers_turns right guided ordered s m (turn ∷ turns) t users searching run old =
+    let follows = run.1 in
+    let taken = remembers_takes guided s m turn follows.middle users searching.valid follows.takes old in
+    remembers_turns right guided ordered s run.0 turns t users (follows_keep right guided ordered m turn run.0 follows searching) run.2 (remembers_settles ordered s follows.middle run.0 follows.settles taken)
+
 -- what is known of the last state of a run
 pub record Ended (s : EngineState) (t : SearchState) : Type 0 where
   pub searching : IsSearching t
   pub still : IsStill t.engine
-  pub searched : Searched s t.engine
+  pub remembers : Remembers s t.engine
 
-pub run_ended : ReasonsAreRight → (guided ordered : Bool) (budget : ℕ) (s : EngineState) (turns : List Turn) (end : SearchEnd) (t : SearchState) → HasOnlyUsers s → IsValid s → IsStill s → SearchRun guided ordered budget s turns end t → Ended s t
-run_ended right guided ordered budget s turns end t users valid still run =
+pub run_ended : ReasonsAreRight → (guided ordered : Bool) (budget : ℕ) (s : EngineState) (turns : List Turn) (end : SearchEnd) (t : SearchState) → HasOnlyUsers s → IsValid s → SearchRun guided ordered budget s turns end t → Ended s t
+run_ended right guided ordered budget s turns end t users valid run =
     let start = settles_keep right ordered (begun s) run.start run.settles (begins s valid users) in
-    let first = searched_settles right ordered s (begun s) run.start run.settles valid still (searched_none s valid) in
+    let none : Remembers s s = record { initial = refl; active = λ a m. m; users = λ a m user. record { owner = a; posted = m; named = refl } } in
+    let first = remembers_settles ordered s (begun s) run.start run.settles none in
     record {
       searching = turns_keep right guided ordered run.start turns t run.taken start;
       still = turns_still guided ordered run.start turns t (settles_still ordered (begun s) run.start run.settles) run.taken;
-      searched = searched_turns right guided ordered s run.start turns t users valid still run.taken first;
+      remembers = remembers_turns right guided ordered s run.start turns t users start run.taken first;
     }
 
 -- a user's constraint of the last state is one of the first
 user_before : (s : EngineState) (t : SearchState) → Ended s t → (a : Active) → Contains t.engine.active a → is_user a.cid ≡ true → Contains s.active a
-user_before s t ended a m user = elim (ended.searched.later a m) [
-  | inr f ↦ absurd (false≢true (sym f ∙ user))
-  | inl is ↦ subst (λ b. Contains s.active b)
-      (single t.engine.active ended.searching.valid.rising is.owner a (ended.searched.carries.active is.owner is.posted) m is.named) is.posted
-]
+user_before s t ended a m user =
+    let is = ended.remembers.users a m user in
+    subst (λ b. Contains s.active b)
+    (single t.engine.active ended.searching.valid.rising is.owner a (ended.remembers.active is.owner is.posted) m is.named) is.posted
 
 pub run_found : (s : EngineState) (t : SearchState) (values : List ℤ) → Ended s t → IsFound (present t.engine) values → IsSolution s.initial (Contains (cons_of s.active)) (listed values)
 run_found s t values ended found =
     let solution = found_solves t.engine values ended.searching.valid ended.still found in
     record {
-      within = subst (λ d. (x : ℕ) → x < length d → Has d x (listed values x)) ended.searched.initial solution.within;
+      within = subst (λ d. (x : ℕ) → x < length d → Has d x (listed values x)) ended.remembers.initial solution.within;
       satisfies = λ c m.
           let r = member_unmap (λ (a : Active). a.con) s.active c m in
-          solution.satisfies c (subst (λ d. Contains (cons_of t.engine.active) d) r.2 (member_map (λ (a : Active). a.con) t.engine.active r.0 (ended.searched.carries.active r.0 r.1)));
+          solution.satisfies c (subst (λ d. Contains (cons_of t.engine.active) d) r.2 (member_map (λ (a : Active). a.con) t.engine.active r.0 (ended.remembers.active r.0 r.1)));
     }
 
 pub run_unsolved : (s : EngineState) (t : SearchState) (users : List Cid) → Ended s t → HasNoSolution t.engine users → (b : Assignment) → IsSolution s.initial (Named s.active (Contains users)) b → ⊥
 run_unsolved s t users ended none b solution = users_unsolved t ended.searching users none b (record {
-  within = subst (λ d. (x : ℕ) → x < length d → Has d x (b x)) (sym ended.searched.initial) solution.within;
+  within = subst (λ d. (x : ℕ) → x < length d → Has d x (b x)) (sym ended.remembers.initial) solution.within;
   satisfies = λ c named. solution.satisfies c (record {
     owner = named.owner;
     posted = user_before s t ended named.owner named.posted (users_active t ended.searching users none named.owner.cid named.named).1;
@@ -204,4 +263,28 @@ run_users s t users ended none c m =
       owner = r.0.owner;
       posted = user_before s t ended r.0.owner r.0.posted (subst (λ d. is_user d ≡ true) (sym r.0.named) r.1);
       named = r.0.named;
+    }
+
+-- ---- what is left after a search
+
+-- the constraints and the declared values are those from before, and nothing is pending or a domain is empty
+pub search_rests : ReasonsAreRight → (guided ordered : Bool) (budget : ℕ) (s : EngineState) (turns : List Turn) (end : SearchEnd) (t : EngineState) → HasOnlyUsers s → IsValid s → Searches guided ordered budget s turns end t → Rests s t
+search_rests right guided ordered budget s turns end t users valid searches =
+    let ended = run_ended right guided ordered budget s turns end searches.last users valid searches.run in
+    let m = searches.last.engine in
+    let closes = searches.closes in
+    let later = users_later s users (search_cids m.active) (λ c k user. false≢true (sym (search_member m.active c k) ∙ user)) in
+    let closed = remembers_withdrawn s m (search_cids m.active) closes.middle later closes.withdraws ended.remembers in
+    let filters = settling_filters None closes.middle closes.revisions t closes.settles in
+    let last = remembers_filtered s closes.middle t filters closed in
+    let valid' = withdraws_all_valid m closes.middle (search_cids m.active) (closing_keeps m ended.searching.valid) closes.withdraws ended.searching.valid in
+    let valid_t = filters_valid right closes.middle t filters valid' in
+    let back : (a : Active) → Contains t.active a → Contains s.active a = λ a k.
+    let r = without_names_member (search_cids m.active) m.active a (subst (λ (z : EngineState). Contains z.active a) closes.withdraws.after (subst (λ l. Contains l a) filters.active k)) in
+    user_before s searches.last ended a r.0 (stays_user m.active a r.0 r.1) in
+    record {
+      valid = valid_t;
+      active = active_same t.active s.active valid_t.rising valid.rising back last.active;
+      initial = last.initial;
+      still = settling_still closes.middle closes.revisions t closes.settles;
     }

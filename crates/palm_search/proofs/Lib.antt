@@ -1,4 +1,10 @@
+pub mod Alone
 pub mod Deciding
+pub mod Going
+pub mod Joining
 pub mod Keeping
 pub mod Leaving
+pub mod Measuring
 pub mod Solving
+pub mod Weighing
+pub mod Whole

@@ -13,7 +13,7 @@ use Rattle.palm_model.specs.Part.{scope_of, parts, Holds}
 use Rattle.palm_model.specs.Closure.{IsSolution}
 use Rattle.palm_model.specs.Trial.{listed}
 use Rattle.palm_model.specs.Log.{Active, IsActive, Named, cons_of, log_pairs}
-use Rattle.palm_model.specs.State.{EngineState, IsValid, HasEmpty, IsGround, IsOfForm, present}
+use Rattle.palm_model.specs.State.{EngineState, IsValid, HasEmpty, IsGround, IsOfForm, present, is_user}
 use Rattle.palm_model.specs.declared.constraint.Con.{Con}
 use Rattle.palm_model.specs.declared.constraint.Con.TheVariants.{CompareVar, CompareConst, Linear, Table, Element, Count, Differ}
 use Rattle.palm_model.specs.declared.part.Part.{Part}
@@ -25,12 +25,12 @@ use Rattle.palm_events.proofs.Valid.{active_declared}
 use Rattle.palm_events.proofs.Runs.{quiet_closed}
 use Rattle.palm_events.proofs.Conflicts.{flat_unsolved, flat_grounds}
 use Rattle.palm_search.specs.Turns.{SearchState, decided_vars}
-use Rattle.palm_search.specs.Search.{HasNoSolution, IsFound, is_user}
+use Rattle.palm_search.specs.Search.{HasNoSolution, IsFound}
 use Rattle.palm_search.specs.Kept.{IsSearching}
 
 -- ---- no solution
 
-decided_member : (names : List Cid) (x : ℕ) → Contains names (Decide x) → Contains (decided_vars names) x
+pub decided_member : (names : List Cid) (x : ℕ) → Contains names (Decide x) → Contains (decided_vars names) x
 decided_member [] x m = absurd (member_nil (Decide x) m)
 decided_member (Decide y ∷ names) x m = elim (member_cases (Decide y) names (Decide x) m) [
   | inl e ↦ member_same (y ∷ decided_vars names) y x (same y x e) (member_here y (decided_vars names))
@@ -94,7 +94,7 @@ has_found [] x lt = absurd (omega arith)
 has_found (w ∷ values) zero lt = member_here w []
 has_found (w ∷ values) (suc x) lt = has_found values x (omega arith)
 
-found_filled : (values : List ℤ) → HasEmpty (map (λ w. w ∷ []) values) → ⊥
+pub found_filled : (values : List ℤ) → HasEmpty (map (λ w. w ∷ []) values) → ⊥
 found_filled values empty =
     let d = map (λ w. w ∷ []) values in
     let lt = subst (λ n. empty.0 < n) (length-map values (λ w. w ∷ [])) empty.1.exists in
@@ -105,7 +105,7 @@ first_member [] lt = absurd (omega arith)
 first_member (x ∷ xs) lt = (x, member_here x xs)
 
 -- a part of a constraint over some variable is over some variable
-part_some : (c : Con) (p : Part) → 0 < length (scope c) → Contains (parts c) p → (x : ℕ) × Contains (scope_of p) x
+pub part_some : (c : Con) (p : Part) → 0 < length (scope c) → Contains (parts c) p → (x : ℕ) × Contains (scope_of p) x
 part_some (CompareVar left op right offset) p lt m = (left, subst (λ q. Contains (scope_of q) left) (member_single _ p m) (member_here left (right ∷ [])))
 part_some (CompareConst left op value) p lt m = (left, subst (λ q. Contains (scope_of q) left) (member_single _ p m) (member_here left []))
 part_some (Linear terms op bound) p lt m = let r = sum_part terms op bound p m in let f = first_member (term_vars terms) lt in (f.0, subst (λ q. Contains (scope_of q) f.0) r.1 f.1)

@@ -1,12 +1,12 @@
 -- The measure that rises with each undoing and bounds the turns of mac-dbt.
 use Rattle.std.specs.Prelude.{ℕ, zero, suc, ◌+◌, ◌-◌, ◌*◌, ◌^◌, Bool, true, false, ◌&&◌, ◌||◌, List, length, map, filter, take}
 use Rattle.std.specs.List.{list_all}
+use Rattle.palm_model.specs.State.{is_user}
 use Rattle.palm_base.specs.declared.terms.Pair.{Pair}
 use Rattle.palm_base.specs.declared.terms.Cid.{Cid}
 use Rattle.palm_base.specs.declared.terms.Cid.TheVariants.{Decide, Not, User}
 use Rattle.palm_model.specs.Trial.{value_count}
 use Rattle.palm_model.specs.Log.{is_named}
-use Rattle.palm_search.specs.Search.{is_user}
 use Rattle.palm_search.specs.Turns.{SearchState}
 
 -- whether the name is a negation's
@@ -32,6 +32,6 @@ weighed s base n (suc k) = weighed s base n k + negations_within s (suc k) * bas
 abbrev pub measure : SearchState → ℕ
 measure s = weighed s (value_count s.engine.initial + 1) (length s.engine.initial) (length s.engine.initial)
 
--- as many turns as a run of mac-dbt may have at most
+-- a run of mac-dbt has fewer turns
 abbrev pub most_turns : ℕ → ℕ → ℕ
 most_turns variables values = (variables + 1) * (values + 1) ^ (variables + 1)

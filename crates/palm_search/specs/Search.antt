@@ -1,13 +1,15 @@
 -- The run of mac-dbt: a settling, turns, and the first end that holds after a settling.
-use Rattle.std.specs.Prelude.{◌≡◌, ℕ, ℤ, ◌≤◌, Bool, true, false, not, List, [], ◌∷◌, length, map, filter, Contains, None}
+use Rattle.std.specs.Prelude.{◌≡◌, ℕ, suc, ℤ, ◌≤◌, ⊤, Bool, not, List, [], ◌∷◌, length, map, filter, Contains, None}
 use Rattle.palm_base.specs.declared.terms.Cid.{Cid}
-use Rattle.palm_base.specs.declared.terms.Cid.TheVariants.{Decide, Not, User}
+use Rattle.palm_base.specs.declared.terms.Cid.TheVariants.{Decide}
 use Rattle.palm_model.specs.Domains.{Domains}
 use Rattle.palm_model.specs.Log.{Active, cids_of}
-use Rattle.palm_model.specs.State.{EngineState, AllFilled, present}
+use Rattle.palm_model.specs.State.{EngineState, AllFilled, present, is_user}
 use Rattle.palm_model.specs.Event.{WithdrawsAll}
 use Rattle.palm_engine.specs.Settling.{Revision, Settles, FitsOrder}
+use Rattle.palm_search.specs.declared.turn.Pick.{Pick}
 use Rattle.palm_search.specs.declared.turn.Turn.{Turn}
+use Rattle.palm_search.specs.declared.turn.Turn.TheVariants.{Decide as TurnDecide, Undo as TurnUndo}
 use Rattle.palm_search.specs.Turns.{SearchState, IsOpen, HasFlatConflict, SettlesAfter, Turns, decided_vars}
 
 -- ---- ends
@@ -17,12 +19,6 @@ pub data SearchEnd : Type 0 where
   Found : (values : List ℤ) → SearchEnd
   NoSolution : (users : List Cid) → SearchEnd
   Spent : (turns : ℕ) → SearchEnd
-
--- whether the name is a user's
-abbrev pub is_user : Cid → Bool
-is_user (Decide x) = false
-is_user (Not p) = false
-is_user (User n) = true
 
 -- a domain is empty and its flat conflict holds no decision; the users are those of the flat conflict
 pub record HasNoSolution (s : EngineState) (users : List Cid) : Type 0 where
@@ -77,3 +73,23 @@ pub record Searches (guided ordered : Bool) (budget : ℕ) (s : EngineState) (tu
   pub last : SearchState
   pub run : SearchRun guided ordered budget s turns end last
   pub closes : Closes ordered last.engine t
+
+-- the k-th decision, counted from 0, was taken after the pick f k
+abbrev pub IsPicked : (ℕ → Pick) → List Turn → Type 0
+IsPicked f [] = ⊤
+IsPicked f (TurnDecide pair pick ∷ turns) = (pick ≡ f 0) × IsPicked (λ k. f (suc k)) turns
+IsPicked f (TurnUndo gone conflict ∷ turns) = IsPicked f turns
+
+-- a search from s with these picks, and how it ends
+pub record SearchesTo (guided ordered : Bool) (f : ℕ → Pick) (budget : ℕ) (s : EngineState) : Type 0 where
+  pub turns : List Turn
+  pub end : SearchEnd
+  pub state : EngineState
+  pub searches : Searches guided ordered budget s turns end state
+  pub picked : IsPicked f turns
+
+-- two searches are one
+pub record IsSameSearch (turns : List Turn) (end : SearchEnd) (t : EngineState) (others : List Turn) (other : SearchEnd) (u : EngineState) : Type 0 where
+  pub turns_same : turns ≡ others
+  pub end_same : end ≡ other
+  pub state_same : t ≡ u

@@ -40,6 +40,12 @@ pub record IsLawful (d : Domains) (p : Pair) : Type 0 where
   pub is_open : IsOpen d p.var
   pub has : Has d p.var p.value
 
+-- why a pick may not be taken: there is no such variable, it has fewer than two values, or it lacks the value
+pub data IsUnlawful (d : Domains) (p : Pair) : Type 0 where
+  no_variable : length d ≤ p.var → IsUnlawful d p
+  few_values : length (values_of d p.var) < 2 → IsUnlawful d p
+  no_value : (Has d p.var p.value → ⊥) → IsUnlawful d p
+
 -- the lowest variable with at least two values, and its least value
 pub record IsDefault (d : Domains) (p : Pair) : Type 0 where
   pub is_open : IsOpen d p.var
@@ -51,7 +57,7 @@ pub record IsDefault (d : Domains) (p : Pair) : Type 0 where
 abbrev pub IsDecided : Domains → Pick → Pair → Type 0
 IsDecided d NoGuide p = IsDefault d p
 IsDecided d Nothing p = IsDefault d p
-IsDecided d (Asked q) p = (IsLawful d q × (p ≡ q)) ⊎ ((IsLawful d q → ⊥) × IsDefault d p)
+IsDecided d (Asked q) p = (IsLawful d q × (p ≡ q)) ⊎ (IsUnlawful d q × IsDefault d p)
 
 -- a pick is recorded as none exactly where no guide is chosen
 abbrev pub FitsGuide : Bool → Pick → Type 0
@@ -72,10 +78,11 @@ pub record Decides (guided : Bool) (s : SearchState) (p : Pair) (pick : Pick) (t
 
 -- ---- undoing
 
--- some domain is empty, and these are the names of its flat conflict
+-- a domain is empty, the lowest one where there are several, and these are the names of its flat conflict
 pub record HasFlatConflict (s : EngineState) (conflict : List Cid) : Type 0 where
   pub var : ℕ
   pub empty : IsEmptyAt (present s) var
+  pub lowest : (y : ℕ) → IsEmptyAt (present s) y → var ≤ y
   pub is : IsFlatConflict s var conflict
 
 -- the pair is the latest of the decisions that the names hold, and these decisions are left without it, in order

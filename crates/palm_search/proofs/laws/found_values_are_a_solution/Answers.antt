@@ -3,5 +3,5 @@ use Rattle.palm_search.proofs.Leaving.{run_ended, run_found}
 use Rattle.palm_search.proofs.laws.found_values_are_a_solution.Goals as goal
 
 pub returns : goal.returns
-returns c = λ guided ordered budget s t turns values users valid still searches.
-    run_found s searches.last values (run_ended reasons_right guided ordered budget s turns _ searches.last users valid still searches.run) searches.run.ends
+returns c = λ guided ordered budget s t turns values users valid searches.
+    run_found s searches.last values (run_ended reasons_right guided ordered budget s turns _ searches.last users valid searches.run) searches.run.ends

@@ -4,8 +4,8 @@ use Rattle.palm_search.proofs.laws.users_of_no_solution_have_none.Goals as goal
 
 pub returns : goal.returns
 returns c = record {
-  unsolved = λ guided ordered budget s t turns users only valid still searches a solution.
-      run_unsolved s searches.last users (run_ended reasons_right guided ordered budget s turns _ searches.last only valid still searches.run) searches.run.ends a solution;
-  active = λ guided ordered budget s t turns users only valid still searches name m.
-      run_users s searches.last users (run_ended reasons_right guided ordered budget s turns _ searches.last only valid still searches.run) searches.run.ends name m;
+  unsolved = λ guided ordered budget s t turns users only valid searches a solution.
+      run_unsolved s searches.last users (run_ended reasons_right guided ordered budget s turns _ searches.last only valid searches.run) searches.run.ends a solution;
+  active = λ guided ordered budget s t turns users only valid searches name m.
+      run_users s searches.last users (run_ended reasons_right guided ordered budget s turns _ searches.last only valid searches.run) searches.run.ends name m;
 }

@@ -1,0 +1,77 @@
+-- A user's constraint that is posted between two turns keeps what a search keeps, and does not lower the measure.
+use Rattle.std.proofs.Common.{◌≡◌, ℕ, ◌+◌, ◌≤◌, true, length, filter, take, Contains, inl, inr, sym, ap, ◌∙◌, subst, arith}
+use Rattle.std.proofs.lemmas.Bool.{false≢true}
+use Rattle.palm_base.specs.declared.terms.Pair.{Pair}
+use Rattle.palm_base.specs.declared.terms.Cid.{Cid}
+use Rattle.palm_base.specs.declared.terms.Cid.TheVariants.{Decide, Not}
+use Rattle.palm_model.specs.Domains.{Domains, Has}
+use Rattle.palm_model.specs.Constraint.{Distinct}
+use Rattle.palm_model.specs.Trial.{value_count}
+use Rattle.palm_model.specs.Log.{Active}
+use Rattle.palm_model.specs.State.{EngineState, is_user}
+use Rattle.palm_model.specs.Event.{Posts, with_posted, vars_of}
+use Rattle.palm_model.specs.Event.Event.{Post}
+use Rattle.palm_model.specs.Event.Step.{Happens}
+use Rattle.palm_events.proofs.States.{with_posted_cases, member_with_posted}
+use Rattle.palm_events.proofs.Valid.{posts_valid}
+use Rattle.palm_events.proofs.Conflicts.{step_justified}
+use Rattle.palm_search.specs.Turns.{SearchState, decision_of}
+use Rattle.palm_search.specs.Kept.{HasDecisions, HasDeclared, IsSearching}
+use Rattle.palm_search.specs.Measure.{negations_within, weighed, measure}
+use Rattle.palm_search.proofs.Measuring.{held, count_posted, weighed_is}
+use Rattle.palm_search.proofs.Weighing.{weighed_more}
+
+user_no_decision : (c : Cid) (x : ℕ) → is_user c ≡ true → c ≡ Decide x → ⊥
+user_no_decision c x t e = false≢true (subst (λ d. is_user d ≡ true) e t)
+
+user_no_negation : (c : Cid) (p : Pair) → is_user c ≡ true → c ≡ Not p → ⊥
+user_no_negation c p t e = false≢true (subst (λ d. is_user d ≡ true) e t)
+
+joined_decisions : (s : SearchState) (a : Active) (t : SearchState) → is_user a.cid ≡ true → Posts s.engine a t.engine → t.decisions ≡ s.decisions → HasDecisions s → HasDecisions t
+joined_decisions s a t user posts same has = record {
+  active = λ p m. subst (λ (z : EngineState). Contains z.active (decision_of p)) (sym posts.after)
+      (member_with_posted a s.engine.active (decision_of p) posts.inactive (has.active p (subst (λ l. Contains l p) same m)));
+  taken = λ b x m named. elim (with_posted_cases a s.engine.active b (subst (λ (z : EngineState). Contains z.active b) posts.after m)) [
+    | inl e ↦ absurd (user_no_decision a.cid x user (ap (λ (c : Active). c.cid) e ∙ named))
+    | inr k ↦ let r = has.taken b x k named in (r.0, subst (λ l. Contains l r.0) (sym same) r.1, r.2)
+  ];
+  distinct = subst (λ l. Distinct (vars_of l)) (sym same) has.distinct;
+}
+
+joined_declared : (s : SearchState) (a : Active) (t : SearchState) → is_user a.cid ≡ true → Posts s.engine a t.engine → t.decisions ≡ s.decisions → HasDeclared s → HasDeclared t
+joined_declared s a t user posts same declared =
+    let ei : t.engine.initial ≡ s.engine.initial = ap (λ (z : EngineState). z.initial) posts.after in
+    record {
+      decided = λ p m. subst (λ d. Has d p.var p.value) (sym ei) (declared.decided p (subst (λ l. Contains l p) same m));
+      negated = λ b p m named. subst (λ d. Has d p.var p.value) (sym ei) (elim (with_posted_cases a s.engine.active b (subst (λ (z : EngineState). Contains z.active b) posts.after m)) [
+        | inl e ↦ absurd (user_no_negation a.cid p user (ap (λ (c : Active). c.cid) e ∙ named))
+        | inr k ↦ declared.negated b p k named
+      ]);
+    }
+
+pub joined_searching : (s : SearchState) (a : Active) (t : SearchState) → is_user a.cid ≡ true → Posts s.engine a t.engine → t.decisions ≡ s.decisions → IsSearching s → IsSearching t
+joined_searching s a t user posts same searching = record {
+  valid = posts_valid s.engine t.engine a posts searching.valid;
+  justified = step_justified s.engine (Happens (Post a)) t.engine posts searching.valid (λ p e. absurd (user_no_negation a.cid p user e)) searching.justified;
+  decisions = joined_decisions s a t user posts same searching.decisions;
+  declared = joined_declared s a t user posts same searching.declared;
+}
+
+joined_counts : (s : SearchState) (a : Active) (t : SearchState) → Posts s.engine a t.engine → t.decisions ≡ s.decisions → (i : ℕ) → negations_within s i ≤ negations_within t i
+joined_counts s a t posts same i =
+    let test = held (take i s.decisions) in
+    let more = count_posted test a s.engine.active posts.inactive in
+    let ea : t.engine.active ≡ with_posted a s.engine.active = ap (λ (z : EngineState). z.active) posts.after in
+    let l : negations_within t i ≡ length (filter test (with_posted a s.engine.active)) = λ j. length (filter (held (take i (same j))) (ea j)) in
+    omega (arith, more, l)
+
+pub joined_measure : (s : SearchState) (a : Active) (t : SearchState) → Posts s.engine a t.engine → t.decisions ≡ s.decisions → measure s ≤ measure t
+joined_measure s a t posts same =
+    let n = length s.engine.initial in
+    let base = value_count s.engine.initial + 1 in
+    let more = weighed_more (negations_within s) (negations_within t) base n n (λ i le. joined_counts s a t posts same i) in
+    let ei : t.engine.initial ≡ s.engine.initial = ap (λ (z : EngineState). z.initial) posts.after in
+    let es = weighed_is s base n n in
+    let et = weighed_is t base n n in
+    let em : measure t ≡ weighed t base n n = ap (λ (d : Domains). weighed t (value_count d + 1) (length d) (length d)) ei in
+    omega (arith, more, es, et, em)

@@ -1,0 +1,6 @@
+use Rattle.palm_events.proofs.Reasons.{reasons_right}
+use Rattle.palm_search.proofs.Whole.{search_exists}
+use Rattle.palm_search.proofs.laws.searches_exist.Goals as goal
+
+pub returns : goal.returns
+returns c = λ guided ordered f fits budget s valid users. search_exists reasons_right guided ordered f fits budget s valid users

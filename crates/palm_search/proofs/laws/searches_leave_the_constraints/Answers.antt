@@ -1,0 +1,6 @@
+use Rattle.palm_events.proofs.Reasons.{reasons_right}
+use Rattle.palm_search.proofs.Leaving.{search_rests}
+use Rattle.palm_search.proofs.laws.searches_leave_the_constraints.Goals as goal
+
+pub returns : goal.returns
+returns c = λ guided ordered budget s t turns end users valid searches. search_rests reasons_right guided ordered budget s turns end t users valid searches
