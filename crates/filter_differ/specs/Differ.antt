@@ -1,4 +1,4 @@
--- The other variables of a difference, and what they leave for a value.
+-- The other variables that are to differ, and what they leave for a value.
 use Rattle.std.specs.Prelude.{◌≡◌, ℕ, ℤ, List, take, filter, Bool, not, ◌&&◌, nat_eq}
 use Rattle.palm_model.specs.Domains.{Domains, values_of}
 use Rattle.palm_model.specs.Removed.{is_alone, others}

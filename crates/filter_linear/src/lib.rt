@@ -1,4 +1,4 @@
-//! The filter of sums of variables with coefficients.
+//! The filter of linear constraints: sums of variables with coefficients.
 #![tactic(auto)]
 
 mod linear;

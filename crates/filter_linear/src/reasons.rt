@@ -1,4 +1,4 @@
-//! Reasons of sums: removed values beyond the present ones, or all removed values.
+//! Reasons of linear constraints: removed values beyond the present ones, or all removed values.
 ghost use Rattle.std.specs.Prelude.{◌≡◌, ◌*ℤ◌, ◌++◌, ◌<◌, length, OnOk};
 ghost use Rattle.filter_linear.specs.Linear.{beyond_reason, is_beyond, linear_of, values_beyond};
 ghost use Rattle.palm_domain.specs.Rows.{initial_of, present_of};

@@ -1,4 +1,4 @@
--- What another variable of a difference leaves for a value.
+-- What another variable that is to differ leaves for a value.
 use Rattle.std.specs.Prelude.{◌≡◌, ℕ, ℤ, List, Contains}
 use Rattle.palm_model.specs.Domains.{Domains, values_of}
 

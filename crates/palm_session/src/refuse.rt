@@ -1,5 +1,5 @@
 //! Refusals of lines that were read, in the order in which they are looked for.
-ghost use Rattle.std.specs.Prelude.{◌≡◌, ◌⊎◌, true, false, IfNone, IfSome};
+ghost use Rattle.std.specs.Prelude.{◌≡◌, ◌⊎◌, IfNone, IfSome};
 ghost use Rattle.palm_base.specs.Tells.{Tells};
 ghost use Rattle.palm_read.specs.Limits.{IsBeyond};
 ghost use Rattle.palm_session.specs.Refusals.{IsBuilt, TakesName, HasNoRoom, Meets, IsFirst, in_order, refusal_of};
@@ -26,8 +26,7 @@ pub fn refusal_of(error: LineError) -> Option<Refusal>
 
 /// Whether the line's form is served.
 fn is_built(line: &Line) -> bool
-    ensures yes_if { result ≡ true → IsBuilt line.now }
-    ensures no_if { result ≡ false → IsBuilt line.now → ⊥ }
+    ensures { Tells result (IsBuilt line.now) }
 {
     match line {
         Line::Comment
@@ -58,8 +57,7 @@ impl Desk {
 
     /// Whether a variable has the name.
     fn has_variable(&self, name: &Name) -> bool
-        ensures found { result ≡ true → HasVariable self.now name.now }
-        ensures none { result ≡ false → HasVariable self.now name.now → ⊥ }
+        ensures { Tells result (HasVariable self.now name.now) }
     {
         match self.book.variable_named(name) {
             Some(_) => true,
@@ -69,8 +67,7 @@ impl Desk {
 
     /// Whether a constraint has the name.
     fn has_constraint(&self, name: &Name) -> bool
-        ensures found { result ≡ true → HasConstraint self.now name.now }
-        ensures none { result ≡ false → HasConstraint self.now name.now → ⊥ }
+        ensures { Tells result (HasConstraint self.now name.now) }
     {
         match self.book.constraint_named(name) {
             Some(_) => true,
@@ -80,8 +77,7 @@ impl Desk {
 
     /// Whether the line declares or adds a name that stands for something already.
     fn takes_name(&self, line: &Line) -> bool
-        ensures taken { result ≡ true → TakesName self.now line.now }
-        ensures free { result ≡ false → TakesName self.now line.now → ⊥ }
+        ensures { Tells result (TakesName self.now line.now) }
     {
         match line {
             Line::Var { name, domain: _ } => self.has_variable(name),
@@ -99,8 +95,7 @@ impl Desk {
 
     /// Whether the session is full.
     fn has_no_room(&self, line: &Line) -> bool
-        ensures full { result ≡ true → HasNoRoom self.now line.now }
-        ensures room { result ≡ false → HasNoRoom self.now line.now → ⊥ }
+        ensures { Tells result (HasNoRoom self.now line.now) }
     {
         match line {
             Line::Var { .. } => self.book.variables() >= MOST_VARIABLES as u32,

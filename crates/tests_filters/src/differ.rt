@@ -1,4 +1,4 @@
-//! Support and reasons of differences of three variables.
+//! Support and reasons where three variables differ.
 ghost use Rattle.std.specs.Prelude.{◌≡◌, ◌∷◌, [], length, IfOk};
 ghost use Rattle.palm_model.specs.declared.constraint.Con.{Con};
 

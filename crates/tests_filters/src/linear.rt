@@ -1,4 +1,4 @@
-//! Reasons and support of sums.
+//! Reasons and support of linear constraints.
 ghost use Rattle.std.specs.Prelude.{◌≡◌, ◌∷◌, [], ◌<◌, pos, length, All, Contains, IfOk};
 ghost use Rattle.palm_model.specs.Constraint.{IsWellFormed, scope};
 ghost use Rattle.palm_model.specs.Linear.{term_vars};

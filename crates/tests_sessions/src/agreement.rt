@@ -23,10 +23,7 @@ fn initial_domains(alloc: Global, book: &Book) -> Result<DomainList, NoMemory>
 {
     let mut list = DomainList::new(alloc);
     for index in 0..book.variables() {
-        list.push(ValueList::from_slice(
-            alloc,
-            book.initial(Var(index)).as_slice(),
-        )?)?;
+        list.push(ValueList::from_slice(alloc, book.initial(Var(index)).as_slice())?)?;
     }
     Ok(list)
 }
@@ -68,11 +65,7 @@ fn expected_text(alloc: Global, replies: &str, book: &Book) -> Result<Vec<u8>, N
     }
     for index in 0..book.variables() {
         if let Some(values) = domains.as_slice().get(index as usize) {
-            print_domain(
-                book.variable_name(Var(index)),
-                values.as_slice(),
-                &mut text,
-            )?;
+            print_domain(book.variable_name(Var(index)), values.as_slice(), &mut text)?;
         }
     }
     print_fixed(Fixed::End, &mut text)?;
