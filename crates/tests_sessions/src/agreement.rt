@@ -51,10 +51,10 @@ fn slow_domains(alloc: Global, book: &Book) -> Result<DomainList, NoMemory> {
 }
 
 /// The replies, and then what `domains` is to reply after them.
-fn expected_text(alloc: Global, replies: &str, book: &Book) -> Result<Vec<u8>, NoMemory> {
+fn expected_text(alloc: Global, replies: &[u8], book: &Book) -> Result<Vec<u8>, NoMemory> {
     let domains = slow_domains(alloc, book)?;
     let mut text = Vec::new(alloc);
-    text.extend_from_slice(replies.as_bytes())?;
+    text.extend_from_slice(replies)?;
     if domains
         .as_slice()
         .iter()
@@ -75,8 +75,8 @@ fn expected_text(alloc: Global, replies: &str, book: &Book) -> Result<Vec<u8>, N
 /// Whether the text has these replies, and `domains` after it replies what the slow way computes.
 fn agree_counted<L: Ledger>(
     alloc: Global,
-    text: &str,
-    replies: &str,
+    text: &[u8],
+    replies: &[u8],
     blank: Blank,
 ) -> Result<bool, Stop>
     requires named { blank.name ≡ L.name }
@@ -87,7 +87,7 @@ fn agree_counted<L: Ledger>(
     let mut session = Session::new(alloc)?;
     let mut sink = SteadySink::new(alloc);
     sink.reserve(ROOM)?;
-    if session.feed(text.as_bytes(), &mut sink, &mut steps)? == Going::Quit {
+    if session.feed(text, &mut sink, &mut steps)? == Going::Quit {
         return Ok(false);
     }
     let expected = expected_text(alloc, replies, session.book())?;
@@ -97,7 +97,7 @@ fn agree_counted<L: Ledger>(
 
 /// The same, with a counter of its own.
 fn agree(alloc: Global, text: &str, replies: &str) -> Result<bool, Stop> {
-    agree_counted::<Brand>(alloc, text, replies, Blank::new(1))
+    agree_counted::<Brand>(alloc, text.as_bytes(), replies.as_bytes(), Blank::new(1))
 }
 
 #[test]
