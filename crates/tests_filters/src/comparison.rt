@@ -4,10 +4,10 @@ ghost use Rattle.palm_domain.specs.Rows.{present_of};
 ghost use Rattle.palm_model.specs.Constraint.{IsWellFormed, scope};
 ghost use Rattle.palm_model.specs.Domains.{Has};
 
+use crate::testing::{is_reason, is_supported, pair, take_out_all};
 use filter_compare::CompareFilter;
 use palm_base::{NoMemory, Pair, Steps, Value, Var};
 use palm_domain::DomainStore;
-use crate::testing::{is_reason, is_supported, pair, take_out_all};
 use palm_filter::{Filter, ask};
 use palm_model::{Con, Op};
 use std::alloc::Global;

@@ -2,10 +2,10 @@
 ghost use Rattle.std.specs.Prelude.{◌≡◌, length, IfOk};
 ghost use Rattle.palm_model.specs.Constraint.{IsWellFormed};
 
+use crate::testing::{is_reason, is_supported, pair, take_out_all};
 use filter_occur::OccurFilter;
 use palm_base::{NoMemory, Pair, Value, Var, VarList};
 use palm_domain::DomainStore;
-use crate::testing::{is_reason, is_supported, pair, take_out_all};
 use palm_model::{Con, Op, Target};
 use std::alloc::Global;
 use std::test::Fail;
@@ -49,7 +49,7 @@ fn store_without(alloc: Global, removed: &[Pair]) -> Result<DomainStore, NoMemor
 }
 
 #[test]
-fn a_number_of_occurrences_reaches_a_number(rt: HostRuntime) -> Result<(), Fail> {
+fn a_count_reaches_a_number(rt: HostRuntime) -> Result<(), Fail> {
     let alloc = rt.alloc();
     let (low, high) = (pair(1, 2), pair(1, 1));
     for (op, number, removed, asked) in [
@@ -69,7 +69,7 @@ fn a_number_of_occurrences_reaches_a_number(rt: HostRuntime) -> Result<(), Fail>
 }
 
 #[test]
-fn a_number_of_occurrences_reaches_a_variable(rt: HostRuntime) -> Result<(), Fail> {
+fn a_count_reaches_a_variable(rt: HostRuntime) -> Result<(), Fail> {
     let alloc = rt.alloc();
     let low = [pair(1, 2), pair(2, 2)];
     let high = [pair(1, 1), pair(2, 0)];

@@ -2,11 +2,11 @@
 ghost use Rattle.std.specs.Prelude.{◌≡◌, ◌∷◌, [], length, IfOk};
 ghost use Rattle.palm_model.specs.declared.constraint.Con.{Con};
 
+use crate::testing::{is_reason, is_supported, pair, take_out_all};
 use filter_differ::DifferFilter;
 use palm_base::{NoMemory, Value, Var, VarList};
 use palm_domain::DomainStore;
 use palm_filter::Filter;
-use crate::testing::{is_reason, is_supported, pair, take_out_all};
 use palm_model::Con;
 use std::alloc::Global;
 use std::test::Fail;

@@ -2,10 +2,10 @@
 ghost use Rattle.std.specs.Prelude.{◌≡◌, length, IfOk};
 ghost use Rattle.palm_model.specs.Constraint.{IsWellFormed};
 
+use crate::testing::{is_reason, is_supported, pair, take_out_all};
 use filter_element::ElementFilter;
 use palm_base::{NoMemory, Pair, Value, ValueList, Var};
 use palm_domain::DomainStore;
-use crate::testing::{is_reason, is_supported, pair, take_out_all};
 use palm_model::Con;
 use std::alloc::Global;
 use std::test::Fail;

@@ -1,7 +1,7 @@
 //! The removed pairs of a variable, the places of a value, and the relations of numbers.
-use palm_filter::{Reasons, ValueIndex, push_removed};
 use palm_base::{Pair, Value, Var};
 use palm_domain::DomainStore;
+use palm_filter::{Reasons, ValueIndex, push_removed};
 use palm_model::{Op, number_of, stands};
 use std::test::Fail;
 

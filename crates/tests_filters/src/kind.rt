@@ -3,11 +3,11 @@ ghost use Rattle.std.specs.Prelude.{◌≡◌, ◌∷◌, [], length, IfOk};
 ghost use Rattle.palm_model.specs.Constraint.{IsWellFormed};
 ghost use Rattle.palm_model.specs.declared.constraint.Con.TheVariants.{Differ};
 
-use palm_kind::Kind;
+use crate::testing::{is_reason, is_supported, pair, take_out_all};
 use palm_base::{NoMemory, Pair, Value, Var, VarList};
 use palm_domain::DomainStore;
 use palm_filter::Filter;
-use crate::testing::{is_reason, is_supported, pair, take_out_all};
+use palm_kind::Kind;
 use palm_model::{Con, Op};
 use std::alloc::Global;
 use std::test::Fail;

@@ -5,11 +5,10 @@ ghost use Rattle.palm_model.specs.Linear.{term_vars};
 ghost use Rattle.palm_model.specs.declared.constraint.Con.TheVariants.{Linear};
 ghost use Rattle.palm_model.specs.declared.constraint.Op.TheVariants.{Le};
 
+use crate::testing::{is_reason, is_supported, pair, reason_of, take_out_all};
 use filter_linear::LinearFilter;
 use palm_base::{NoMemory, Pair, Value, Var};
 use palm_domain::DomainStore;
-use crate::testing::reason_of;
-use crate::testing::{is_reason, is_supported, pair, take_out_all};
 use palm_model::{Con, Op, Term, TermList};
 use std::alloc::Global;
 use std::test::Fail;

@@ -4,9 +4,7 @@ ghost use Rattle.palm_model.specs.Constraint.{IsWellFormed};
 ghost use Rattle.palm_model.specs.Domains.{AllAscend};
 
 use palm_base::{NoMemory, Value, ValueList, Var, VarList};
-use palm_model::{
-    Con, ConList, DomainList, Op, Target, Term, TermList, parts_of, scratch,
-};
+use palm_model::{Con, ConList, DomainList, Op, Target, Term, TermList, parts_of, scratch};
 use std::alloc::Global;
 use std::test::Fail;
 

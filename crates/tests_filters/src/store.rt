@@ -1,8 +1,8 @@
 //! A variable of three values: what is answered of it, and how one of them goes and comes back.
 ghost use Rattle.std.specs.Prelude.{◌≡◌};
 
-use palm_domain::DomainStore;
 use palm_base::{Pair, Value, Var};
+use palm_domain::DomainStore;
 use std::test::Fail;
 
 fn pair(var: Var, value: Value) -> Pair
