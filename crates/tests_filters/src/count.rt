@@ -49,7 +49,7 @@ fn store_without(alloc: Global, removed: &[Pair]) -> Result<DomainStore, NoMemor
 }
 
 #[test]
-fn a_number_of_occurrences_reaches_a_number(rt: HostRuntime) -> Result<(), Fail> {
+fn a_count_reaches_a_number(rt: HostRuntime) -> Result<(), Fail> {
     let alloc = rt.alloc();
     let (low, high) = (pair(1, 2), pair(1, 1));
     for (op, number, removed, asked) in [
@@ -69,7 +69,7 @@ fn a_number_of_occurrences_reaches_a_number(rt: HostRuntime) -> Result<(), Fail>
 }
 
 #[test]
-fn a_number_of_occurrences_reaches_a_variable(rt: HostRuntime) -> Result<(), Fail> {
+fn a_count_reaches_a_variable(rt: HostRuntime) -> Result<(), Fail> {
     let alloc = rt.alloc();
     let low = [pair(1, 2), pair(2, 2)];
     let high = [pair(1, 1), pair(2, 0)];
