@@ -1,5 +1,7 @@
 -- Every line has an answer in each state that a session can hold, and no line has two.
 use Rattle.std.proofs.Common.{◌≡◌, ℕ, zero, suc, ◌++◌, ◌+◌, ◌-◌, ◌<◌, ◌≤◌, ◌==◌, Bool, true, false, cond, List, [], ◌∷◌, length, take, All, Any, Some, ◌⊎◌, inl, inr, refl, sym, ap, ◌∙◌, subst, arith, length-take, take_all}
+use Rattle.palm_book.specs.declared.limits.TheConstants.{MOST_VARIABLES, MOST_CONSTRAINTS, MOST_ADDED}
+use Rattle.palm_read.specs.declared.limits.TheConstants.{MOST_LINE_BYTES}
 use Rattle.std.specs.Prelude.{slice_index, ◌↔◌}
 use Rattle.std.proofs.lemmas.Bool.{cases_lt}
 use Rattle.std.proofs.lemmas.Option.{same_Some, none-some}
@@ -54,8 +56,8 @@ names_known s (Domain name) = known_not (variable_known s name)
 names_known s _ = inr (λ h. h)
 
 room_known : (s : SessionState) (line : Line) → Known (HasNoRoom s line)
-room_known s (Var name domain) = most_known 64 (length s.book.variables)
-room_known s (Add name shape) = known_either (most_known 256 (length s.book.constraints)) (most_known 65535 s.accepted)
+room_known s (Var name domain) = most_known MOST_VARIABLES (length s.book.variables)
+room_known s (Add name shape) = known_either (most_known MOST_CONSTRAINTS (length s.book.constraints)) (most_known MOST_ADDED s.accepted)
 room_known s _ = inr (λ h. h)
 
 meets_known : (s : SessionState) (line : Line) (refusal : Refusal) → Known (Meets s line refusal)
@@ -300,19 +302,19 @@ pub return_length : (line : List ℕ) → length line ≤ length (without_return
 return_length line = returned line (slice_index line (length line - 1) == 13)
 
 -- a line that is too long has one answer in every state, the refusal of its length
-long_answer : (s : SessionState) (bytes reply : List ℕ) (t : SessionState) → 65536 < length bytes → Answers s bytes reply t → (reply ≡ refusal_text E1) × (t ≡ s)
+long_answer : (s : SessionState) (bytes reply : List ℕ) (t : SessionState) → MOST_LINE_BYTES < length bytes → Answers s bytes reply t → (reply ≡ refusal_text E1) × (t ≡ s)
 long_answer s bytes reply t long (misread error refusal q some) = (ap refusal_text (misread_once bytes error Bytes refusal E1 q (long_bytes bytes long) some refl), refl)
 long_answer s bytes reply t long (refused line refusal read first) = absurd (long_unread bytes line long read)
 long_answer s bytes reply t long (accepted line read none h) = absurd (long_unread bytes line long read)
 
 -- and every line that is too long has it
-long_same : (s : SessionState) (bytes others reply : List ℕ) (t : SessionState) → 65536 < length bytes → 65536 < length others → Answers s bytes reply t → Answers s others reply t
+long_same : (s : SessionState) (bytes others reply : List ℕ) (t : SessionState) → MOST_LINE_BYTES < length bytes → MOST_LINE_BYTES < length others → Answers s bytes reply t → Answers s others reply t
 long_same s bytes others reply t long too a =
     let is = long_answer s bytes reply t long a in
     let here : Answers s others (refusal_text E1) s = misread Bytes E1 (long_bytes others too) refl in
     subst (λ (z : SessionState). Answers s others reply z) (sym is.1) (subst (λ (z : List ℕ). Answers s others z s) (sym is.0) here)
 
-kept_long : (line : List ℕ) → MOST_KEPT_BYTES < length line → (65536 < length (without_return line)) × (65536 < length (without_return (take MOST_KEPT_BYTES line)))
+kept_long : (line : List ℕ) → MOST_KEPT_BYTES < length line → (MOST_LINE_BYTES < length (without_return line)) × (MOST_LINE_BYTES < length (without_return (take MOST_KEPT_BYTES line)))
 kept_long line long = (
   omega (arith, return_length line),
   omega (arith, return_length (take MOST_KEPT_BYTES line), length-take MOST_KEPT_BYTES line),

@@ -1,5 +1,6 @@
 -- What is known of a line, and of constraints by name and by variable.
 use Rattle.std.proofs.Common.{◌≡◌, ◌≢◌, ℕ, ◌<◌, ◌≤◌, ℤ, pos, ◌-ℤ◌, List, [], ◌∷◌, ◌++◌, length, map, All, Any, AllPairs, ◌⊎◌, inl, inr, refl, sym, ap, ◌∙◌, subst, arith}
+use Rattle.palm_read.specs.declared.limits.TheConstants.{MOST_LINE_BYTES}
 use Rattle.std.proofs.lemmas.Bool.{cases_lt}
 use Rattle.std.proofs.lemmas.Int.{ints, by_lt_z}
 use Rattle.std.proofs.lemmas.List.{get_or_default}
@@ -9,7 +10,7 @@ use Rattle.palm_model.specs.Constraint.{scope}
 use Rattle.palm_model.specs.Count.{target_scope}
 use Rattle.palm_model.specs.Linear.{term_vars}
 use Rattle.palm_model.specs.declared.constraint.Con.{Con}
-use Rattle.palm_model.specs.declared.constraint.Con.TheVariants.{CompareVar as VarCompare, CompareConst as ConstCompare, Linear as SumCon, Table as TableCon, Element as ElementCon, Count as CountCon, Differ as DifferCon}
+use Rattle.palm_model.specs.declared.constraint.Con.TheVariants.{CompareVar as VarCompare, CompareConst as ConstCompare, Linear as LinearCon, Table as TableCon, Element as ElementCon, Count as CountCon, Differ as DifferCon}
 use Rattle.palm_model.specs.declared.constraint.Target.{Target}
 use Rattle.palm_model.specs.declared.constraint.Target.TheVariants.{Const, Variable}
 use Rattle.palm_model.specs.declared.constraint.Term.{Term}
@@ -77,10 +78,10 @@ quit_known bytes = elim (each_answered bytes) [
 ]
 
 -- a line that is too long is refused, and says nothing
-pub long_bytes : (bytes : List ℕ) → 65536 < length bytes → IsRefusedBy bytes Bytes
+pub long_bytes : (bytes : List ℕ) → MOST_LINE_BYTES < length bytes → IsRefusedBy bytes Bytes
 long_bytes bytes long = long_refused bytes long
 
-pub long_unread : (bytes : List ℕ) (line : Line) → 65536 < length bytes → IsRead bytes line → ⊥
+pub long_unread : (bytes : List ℕ) (line : Line) → MOST_LINE_BYTES < length bytes → IsRead bytes line → ⊥
 long_unread bytes line long r = let e : Bytes ≡ NoMemory = read_not_refused bytes line Bytes r (long_bytes bytes long) in cc
 
 -- ---- the parts of a list that all its members share
@@ -151,7 +152,7 @@ module _ (variables : List Entry) where
   constraint_with (Linear terms op bound) h =
       let r = terms_with terms h in
       let e : map (named_term variables) r.0 ≡ terms = r.2 in
-      (SumCon r.0 op bound, r.1, cc)
+      (LinearCon r.0 op bound, r.1, cc)
   constraint_with (Table vars rows) h =
       let r = vars_with vars h in
       let e : map (name_of variables) r.0 ≡ vars = r.2 in
@@ -235,7 +236,7 @@ module _ (variables : List Entry) where
         let hv : v ≡ w = cc in
         let a : l ≡ m = variable_once l m (All-head IsDeclared l [] dc) (All-head IsDeclared m [] dd) hl in
         cc
-    constraint_once (SumCon ts o b) (SumCon us p a) dc dd e =
+    constraint_once (LinearCon ts o b) (LinearCon us p a) dc dd e =
         let ht : map (named_term variables) ts ≡ map (named_term variables) us = cc in
         let ho : o ≡ p = cc in
         let hb : b ≡ a = cc in

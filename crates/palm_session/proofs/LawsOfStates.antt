@@ -1,5 +1,7 @@
 -- What an accepted line leaves is a state that a session can hold, and nothing else.
 use Rattle.std.proofs.Common.{◌≡◌, ◌≢◌, ℕ, ◌+◌, ◌<◌, ◌≤◌, ℤ, pos, negsuc, ◌+ℤ◌, ◌-ℤ◌, ◌≤ℤ◌, Bool, true, false, List, [], ◌∷◌, ◌++◌, length, All, Any, Contains, inl, inr, refl, sym, ap, ◌∙◌, subst, arith}
+use Rattle.palm_model.specs.declared.limits.TheConstants.{MOST_SCOPE}
+use Rattle.palm_book.specs.declared.limits.TheConstants.{MOST_VARIABLES, MOST_CONSTRAINTS, MOST_ADDED}
 use Rattle.std.proofs.lemmas.Int.{ints}
 use Rattle.std.proofs.lemmas.List.Elements.{All-push, All-weaker}
 use Rattle.palm_base.proofs.Members.{Known, all_members}
@@ -75,7 +77,7 @@ none_named f xs name none = all_members (λ x. f x ≢ name) xs (λ x m e. none 
 keeps_variable : (s : SessionState) (name : List ℕ) (domain : DomainText) → IsState s → IsSound (Var name domain) → IsNone (Meets s (Var name domain)) in_order → IsState (with_variable s name (values_in domain))
 keeps_variable s name domain is sound none =
     let e : Entry = record { name = name; values = values_in domain } in
-    let room : length s.book.variables < 64 = let r : 64 ≤ length s.book.variables → ⊥ = λ h. none.1.1.1.1.0 (inr h) in omega (arith, r) in
+    let room : length s.book.variables < 64 = let r : MOST_VARIABLES ≤ length s.book.variables → ⊥ = λ h. none.1.1.1.1.0 (inr h) in omega (arith, r) in
     record {
       book = IsBook-with_variable s.book s.book refl is.book e (s.book.variables ++ e ∷ []) sound.0
           (none_named (λ (f : Entry). f.name) s.book.variables name none.1.0)
@@ -91,9 +93,9 @@ keeps_variable s name domain is sound none =
 keeps_constraint : (s : SessionState) (name : List ℕ) (shape : Shape) (con : Con) → IsState s → IsSound (Add name shape) → IsNone (Meets s (Add name shape)) in_order → Resolves s.book.variables shape con → IsState (with_constraint s name con)
 keeps_constraint s name shape con is sound none says =
     let c : BookCon = record { number = s.accepted + 1; name = name; active = true; con = con } in
-    let few : 256 ≤ length s.book.constraints → ⊥ = λ h. none.1.1.1.1.0 (inr (inl h)) in
-    let counts : 65535 ≤ s.accepted → ⊥ = λ h. none.1.1.1.1.0 (inr (inr h)) in
-    let narrow_scope : 16 < length (names_of shape) → ⊥ = λ h. none.1.1.1.1.0 (inl (inl h)) in
+    let few : MOST_CONSTRAINTS ≤ length s.book.constraints → ⊥ = λ h. none.1.1.1.1.0 (inr (inl h)) in
+    let counts : MOST_ADDED ≤ s.accepted → ⊥ = λ h. none.1.1.1.1.0 (inr (inr h)) in
+    let narrow_scope : MOST_SCOPE < length (names_of shape) → ⊥ = λ h. none.1.1.1.1.0 (inl (inl h)) in
     let few_rows : HasManyRows shape → ⊥ = λ h. none.1.1.1.1.0 (inl (inr h)) in
     record {
       book = IsBook-with_constraint s.book s.book refl is.book c (s.book.constraints ++ c ∷ []) sound.0

@@ -1,5 +1,6 @@
 -- What a session holds after one more variable or constraint.
 use Rattle.std.proofs.Common.{◌≡◌, ◌≢◌, ℕ, ℤ, ◌+◌, ◌<◌, ◌≤◌, List, [], ◌∷◌, ◌++◌, true, length, get_or, All, Any, refl, sym, ap, ◌∙◌, subst, arith}
+use Rattle.palm_book.specs.declared.limits.TheConstants.{MOST_VARIABLES, MOST_CONSTRAINTS, MOST_ADDED}
 use Rattle.std.proofs.Math.Nat.{lt_of_not-le}
 use Rattle.std.proofs.lemmas.List.Elements.{All-push, Contains-get_or}
 use Rattle.palm_book.specs.Book.{AreValues, Contents, Entry, IsBook}
@@ -17,7 +18,7 @@ pub none_all : {X : Type 0} (P : X → Type 0) (xs : List X) → (Any P xs → �
 none_all P xs none = λ k d lt h. none (any_member P xs (get_or xs k d) (Contains-get_or xs k d lt) h)
 
 pub state_with_variable : (fields s : SessionState) (book : Contents) (name : List ℕ) (values : List ℤ) → fields ≡ s → IsState fields
-    → IsNameText name → (HasVariable s name → ⊥) → AreValues values → (64 ≤ length s.book.variables → ⊥)
+    → IsNameText name → (HasVariable s name → ⊥) → AreValues values → (MOST_VARIABLES ≤ length s.book.variables → ⊥)
     → book ≡ (with_variable fields name values).book → IsState (record fields { book = book })
 state_with_variable fields s book name values seen is text new are room added =
     let seen_book : fields.book ≡ s.book = ap (λ (z : SessionState). z.book) seen in
@@ -27,7 +28,7 @@ state_with_variable fields s book name values seen is text new are room added =
     record { book = subst IsBook (sym added) more; accepted = is.accepted; numbered = subst (λ (b : Contents). All (λ c. c.number ≤ fields.accepted) b.constraints) (sym added) is.numbered; guide = is.guide; order = is.order }
 
 pub state_with_constraint : (fields s : SessionState) (book : Contents) (name : List ℕ) (con : Con) → fields ≡ s → IsState fields
-    → IsNameText name → (HasConstraint s name → ⊥) → IsWellFormed (length s.book.variables) con → (256 ≤ length s.book.constraints → ⊥) → (65535 ≤ s.accepted → ⊥)
+    → IsNameText name → (HasConstraint s name → ⊥) → IsWellFormed (length s.book.variables) con → (MOST_CONSTRAINTS ≤ length s.book.constraints → ⊥) → (MOST_ADDED ≤ s.accepted → ⊥)
     → book ≡ (with_constraint fields name con).book → IsState (record fields { book = book; accepted = fields.accepted + 1 })
 state_with_constraint fields s book name con seen is text new formed room numbers added =
     let seen_book : fields.book ≡ s.book = ap (λ (z : SessionState). z.book) seen in
@@ -36,7 +37,7 @@ state_with_constraint fields s book name con seen is text new formed room number
     let below : All (λ (c : BookCon). c.number < fields.accepted + 1) fields.book.constraints = λ k d lt. omega (arith, is.numbered k d lt) in
     let more : IsBook (with_constraint fields name con).book =
     IsBook-with_constraint fields.book s.book seen_book is.book entry _ text others (subst (λ (b : Contents). All (λ (c : BookCon). c.number < fields.accepted + 1) b.constraints) seen_book below) formed (lt_of_not-le room) refl in
-    let few : fields.accepted < 65535 = subst (λ (z : SessionState). z.accepted < 65535) (sym seen) (lt_of_not-le numbers) in
+    let few : fields.accepted < MOST_ADDED = subst (λ (z : SessionState). z.accepted < MOST_ADDED) (sym seen) (lt_of_not-le numbers) in
     let all : All (λ (c : BookCon). c.number ≤ fields.accepted + 1) (fields.book.constraints ++ entry ∷ []) =
     All-push (λ (c : BookCon). c.number ≤ fields.accepted + 1) fields.book.constraints entry (λ k d lt. omega (arith, is.numbered k d lt)) (omega arith) in
     record {
