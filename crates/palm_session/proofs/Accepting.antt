@@ -1,13 +1,11 @@
 -- Accepted lines, and what is told of domains.
-use Rattle.std.proofs.Common.{◌≡◌, ℕ, List, Contains, Bool, true, false, inl, inr, refl, sym, subst}
+use Rattle.std.proofs.Common.{◌≡◌, ℕ, List, Contains, true, false, inl, inr, sym, subst}
 use Rattle.palm_book.specs.Book.{initial_of, active_of}
 use Rattle.palm_read.specs.declared.line.Line.{Line}
 use Rattle.palm_laws.proofs.Uniqueness.{greatest_unique}
 use Rattle.palm_model.specs.Domains.{Domains}
-use Rattle.palm_session.specs.Answers.{Accepts, Contradicts, Says, WaitsFor, contradicts, says, IsContradictable}
+use Rattle.palm_session.specs.Answers.{Accepts, Says, WaitsFor, contradicts, says, IsContradictable}
 use Rattle.palm_session.specs.Effects.{Effect, Does}
-use Rattle.palm_lang.specs.Reply.{fixed_text}
-use Rattle.palm_lang.specs.declared.reply.Fixed.TheVariants.{Contradiction}
 use Rattle.palm_session.specs.ReplyText.{TellsDomains}
 use Rattle.palm_session.specs.State.{SessionState, AreDomains, IsContradiction, has_empty}
 

@@ -17,7 +17,7 @@ use Rattle.palm_session.specs.declared.going.Going.{Going}
 use Rattle.palm_session.specs.declared.going.Going.TheVariants.{More, Quit}
 use Rattle.palm_session.specs.declared.stop.Stop.{Stop}
 use Rattle.palm_session.proofs.FeedLemmas.{feeds_on, feeds_more, feeds_more_end, feeds_more_part, so_far_none}
-use Rattle.palm_session.proofs.LawsOfLines.{all_left, all_right}
+use Rattle.palm_session.proofs.LawsOfLines.{all_right}
 use Rattle.palm_session.proofs.LawsOfAnswers.{has_answer, first_bytes_decide, first_bytes_read, same_first_bytes, same_first_bytes_read, kept_more}
 use Rattle.palm_base.proofs.StreamLemmas.{appended_nothing}
 

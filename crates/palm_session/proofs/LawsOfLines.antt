@@ -86,7 +86,7 @@ long_unread bytes line long r = let e : Bytes ≡ NoMemory = read_not_refused by
 
 -- ---- the parts of a list that all its members share
 
-pub all_left : {X : Type 0} (P : X → Type 0) (xs ys : List X) → All P (xs ++ ys) → All P xs
+all_left : {X : Type 0} (P : X → Type 0) (xs ys : List X) → All P (xs ++ ys) → All P xs
 all_left P xs ys h = all_members P xs (λ x m. All-contains P (xs ++ ys) x h (Contains-append_left xs ys x m))
 
 pub all_right : {X : Type 0} (P : X → Type 0) (xs ys : List X) → All P (xs ++ ys) → All P ys

@@ -1,15 +1,13 @@
 -- A sound constraint within the limits is well formed.
-use Rattle.std.proofs.Common.{◌≡◌, ℕ, ◌<◌, List, [], ◌∷◌, ◌++◌, map, All, length, inl, inr, refl, sym, ap, ◌∙◌, subst, arith, length-append}
+use Rattle.std.proofs.Common.{◌≡◌, ℕ, ◌<◌, List, [], ◌∷◌, map, All, length, inl, inr, sym, ap, ◌∙◌, subst, arith, length-append}
 use Rattle.std.proofs.lemmas.List.{length-map}
 use Rattle.std.proofs.lemmas.List.Elements.{All-nil, All-cons, All-head, All-tail}
 use Rattle.palm_base.proofs.Members.{member_map}
 use Rattle.palm_model.specs.Constraint.{scope, Distinct, IsShaped, IsWellFormed}
-use Rattle.palm_model.specs.Linear.{IsFactor, term_vars}
+use Rattle.palm_model.specs.Linear.{IsFactor}
 use Rattle.palm_model.specs.Table.{IsRow}
-use Rattle.palm_model.specs.Count.{target_scope}
 use Rattle.palm_model.specs.declared.constraint.Con.{Con}
 use Rattle.palm_model.specs.declared.constraint.Con.TheVariants.{CompareVar as CompareVarCon, CompareConst as CompareConstCon, Linear as LinearCon, Table as TableCon, Element as ElementCon, Count as CountCon, Differ as DifferCon}
-use Rattle.palm_model.specs.declared.constraint.Target.{Target}
 use Rattle.palm_model.specs.declared.constraint.Target.TheVariants.{Const, Variable}
 use Rattle.palm_model.specs.declared.constraint.Term.{Term}
 use Rattle.palm_book.specs.Book.{Entry, name_of}

@@ -1,4 +1,4 @@
-use Rattle.std.proofs.Common.{List, [], ◌∷◌, ◌++◌, ℤ, filter, refl, ap, ◌∙◌, take_all}
+use Rattle.std.proofs.Common.{List, [], ◌∷◌, ◌++◌, ℤ, filter, ap, ◌∙◌, take_all}
 use Rattle.palm_domain.specs.Rows.{present_of}
 use Rattle.palm_model.specs.Domains.{values_of}
 use Rattle.palm_model.specs.Removed.{is_listed}
