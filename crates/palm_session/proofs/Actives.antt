@@ -1,5 +1,5 @@
 -- The initial domains and the active constraints of a book.
-use Rattle.std.proofs.Common.{◌≡◌, ℕ, ◌+◌, Bool, true, false, cond, List, [], ◌∷◌, ◌++◌, map, filter, take, get_or, All, length, slice_get, Some, refl, sym, ap, ◌∙◌, subst, append-nil}
+use Rattle.std.proofs.Common.{◌≡◌, ℕ, ◌+◌, Bool, true, false, cond, List, [], ◌∷◌, ◌++◌, map, filter, take, get_or, All, AllPairs, ◌<◌, suc, arith, length, slice_get, Some, refl, sym, ap, ◌∙◌, subst, append-nil}
 use Rattle.std.proofs.lemmas.List.Elements.{All-map, All-weaker, All-filter, filter_more}
 use Rattle.std.proofs.lemmas.Option.{slice_get_within, get_or_from_slice_get}
 use Rattle.palm_model.specs.Constraint.{IsWellFormed}
@@ -7,6 +7,12 @@ use Rattle.palm_model.specs.Domains.{Ascends, AllAscend}
 use Rattle.palm_model.specs.declared.constraint.Con.{Con}
 use Rattle.palm_book.specs.Book.{Entry, Contents, IsBook, AreValues, initial_of, active_of}
 use Rattle.palm_book.specs.declared.book.BookCon.{BookCon}
+use Rattle.std.proofs.lemmas.List.Kept.{AllPairs-filter}
+use Rattle.std.proofs.lemmas.Bool.{lt-ltb}
+use Rattle.palm_base.specs.declared.terms.Cid.{Cid}
+use Rattle.palm_base.specs.declared.terms.Cid.TheVariants.{User}
+use Rattle.palm_model.specs.Log.{Active, Rises, cid_before, cids_of, cons_of}
+use Rattle.palm_session.specs.Actives.{active_at, actives_of}
 
 pub initial_ascend : (book : Contents) → IsBook book → AllAscend (initial_of book)
 initial_ascend book b =
@@ -49,3 +55,22 @@ pub active_same : (cs : List BookCon) (i : ℕ) (e : BookCon) → slice_get cs i
 active_same cs i e at off =
     sym (active_step cs i e at ∙ ap (λ (b : Bool). map (λ (c : BookCon). c.con) (filter (λ (c : BookCon). c.active) (take i cs)) ++ cond b (e.con ∷ []) []) off
     ∙ append-nil (map (λ (c : BookCon). c.con) (filter (λ (c : BookCon). c.active) (take i cs))))
+
+-- ---- under their names
+
+names_rise : (cs : List BookCon) → AllPairs (λ (c d : BookCon). c.number < d.number) cs → Rises (cids_of (map active_at cs))
+names_rise [] p = tt
+names_rise (c ∷ cs) p =
+    let later : All (λ (d : BookCon). cid_before (User c.number) (User d.number) ≡ true) cs
+    = λ k d lt. lt-ltb c.number (get_or cs k d).number (p 0 (suc k) d (omega arith) (omega (arith, lt))) in (
+      All-map (λ (n : Cid). cid_before (User c.number) n ≡ true) (λ (a : Active). a.cid) (map active_at cs)
+          (All-map (λ (a : Active). cid_before (User c.number) a.cid ≡ true) active_at cs later),
+      names_rise cs (λ i j d before within. p (suc i) (suc j) d (omega (arith, before)) (omega (arith, within))),
+    )
+
+pub actives_rise : (book : Contents) → IsBook book → Rises (cids_of (actives_of book))
+actives_rise book b = names_rise (filter (λ (c : BookCon). c.active) book.constraints) (AllPairs-filter (λ (c d : BookCon). c.number < d.number) (λ (c : BookCon). c.active) book.constraints b.rising)
+
+pub same_cons : (cs : List BookCon) → cons_of (map active_at cs) ≡ map (λ (c : BookCon). c.con) cs
+same_cons [] = refl
+same_cons (c ∷ cs) = ap (λ (z : List Con). c.con ∷ z) (same_cons cs)

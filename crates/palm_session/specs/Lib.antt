@@ -1,3 +1,4 @@
+pub mod Actives
 pub mod Answers
 pub mod Effects
 pub mod Feeding

@@ -1,5 +1,8 @@
 //! Laws of sessions: in every state that a session can hold, every line has one answer, and a text has one output.
 ghost use Rattle.std.specs.Prelude.{◌≡◌, ◌↔◌, ℕ, List, take};
+ghost use Rattle.palm_model.specs.Log.{Rises, cids_of, cons_of};
+ghost use Rattle.palm_book.specs.Book.{Contents, IsBook, active_of};
+ghost use Rattle.palm_session.specs.Actives.{actives_of};
 ghost use Rattle.palm_session.specs.State.{SessionState, IsState, fresh};
 ghost use Rattle.palm_session.specs.Answers.{Answers};
 ghost use Rattle.palm_session.specs.Lines.{without_return};
@@ -50,4 +53,10 @@ pub fn the_first_bytes_decide()
 /// And so does whether it ends the session.
 pub fn the_first_bytes_end()
     ensures { (line : List ℕ) → (Ends (without_return line) ↔ Ends (without_return (take MOST_KEPT_BYTES line))) }
+{}
+
+/// The active constraints of a book stand under rising names, and are those whose domains are printed.
+pub fn active_constraints_rise()
+    ensures rise { (book : Contents) → IsBook book → Rises (cids_of (actives_of book)) }
+    ensures same { (book : Contents) → cons_of (actives_of book) ≡ active_of book }
 {}
