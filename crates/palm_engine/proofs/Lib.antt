@@ -4,3 +4,7 @@ pub mod Same
 pub mod Settled
 pub mod Walking
 pub mod Working
+pub mod Joined
+pub mod Bounds
+pub mod Staying
+pub mod Waking
