@@ -39,16 +39,16 @@ left_from None vs = 0
 
 -- ---- members
 
-below_member : (low : ℤ) (vs : List ℤ) (v : ℤ) → Contains (values_below low vs) v → Contains vs v × (v <ℤ low)
-below_member low vs v m = let r = filter_member (λ w. int_lt w low) vs v m in (r.0, lt_from_int_lt v low r.1)
+pub below_of : (low : ℤ) (vs : List ℤ) (v : ℤ) → Contains (values_below low vs) v → Contains vs v × (v <ℤ low)
+below_of low vs v m = let r = filter_member (λ w. int_lt w low) vs v m in (r.0, lt_from_int_lt v low r.1)
 
 pub member_below : (low : ℤ) (vs : List ℤ) (v : ℤ) → Contains vs v → v <ℤ low → Contains (values_below low vs) v
 member_below low vs v m lt = member_filter (λ w. int_lt w low) vs v m (int_lt_from_lt v low lt)
 
-from_member : (low : ℤ) (vs : List ℤ) (v : ℤ) → Contains (values_from low vs) v → Contains vs v × (low ≤ℤ v)
-from_member low vs v m = let r = filter_member (λ w. not (int_lt w low)) vs v m in (r.0, ge_from_int_lt v low (not-true (int_lt v low) r.1))
+pub from_of : (low : ℤ) (vs : List ℤ) (v : ℤ) → Contains (values_from low vs) v → Contains vs v × (low ≤ℤ v)
+from_of low vs v m = let r = filter_member (λ w. not (int_lt w low)) vs v m in (r.0, ge_from_int_lt v low (not-true (int_lt v low) r.1))
 
-member_from : (low : ℤ) (vs : List ℤ) (v : ℤ) → Contains vs v → low ≤ℤ v → Contains (values_from low vs) v
+pub member_from : (low : ℤ) (vs : List ℤ) (v : ℤ) → Contains vs v → low ≤ℤ v → Contains (values_from low vs) v
 member_from low vs v m le = member_filter (λ w. not (int_lt w low)) vs v m (ap not (int_lt_from_ge v low le))
 
 -- ---- lists
@@ -73,15 +73,15 @@ below_between low high vs a le =
     same_ascending (first ++ second) (values_below high vs)
     (ascends_both first second (ascends_filter (λ v. int_lt v low) vs a) (ascends_filter (λ v. int_lt v high) (values_from low vs) (ascends_filter (λ v. not (int_lt v low)) vs a))
     (λ x y m n.
-    let lt = (below_member low vs x m).1 in
-    let ge = (from_member low vs y (below_member high (values_from low vs) y n).0).1 in
+    let lt = (below_of low vs x m).1 in
+    let ge = (from_of low vs y (below_of high (values_from low vs) y n).0).1 in
     omega (arith, ints, lt, ge)))
     (ascends_filter (λ v. int_lt v high) vs a)
     (λ v m. elim (Contains-append_cases first second v m) [
-      | inl n ↦ let r = below_member low vs v n in let lt = r.1 in member_below high vs v r.0 (omega (arith, ints, lt, le))
-      | inr n ↦ let r = below_member high (values_from low vs) v n in member_below high vs v (from_member low vs v r.0).0 r.1
+      | inl n ↦ let r = below_of low vs v n in let lt = r.1 in member_below high vs v r.0 (omega (arith, ints, lt, le))
+      | inr n ↦ let r = below_of high (values_from low vs) v n in member_below high vs v (from_of low vs v r.0).0 r.1
     ])
-    (λ v m. let r = below_member high vs v m in elim (cases_Bool (int_lt v low)) [
+    (λ v m. let r = below_of high vs v m in elim (cases_Bool (int_lt v low)) [
       | inl t ↦ Contains-append_left first second v (member_filter (λ w. int_lt w low) vs v r.0 t)
       | inr f ↦ Contains-append_right first second v (member_below high (values_from low vs) v (member_from low vs v r.0 (ge_from_int_lt v low f)) r.1)
     ])
@@ -94,13 +94,13 @@ below_from low vs a =
     same_ascending (first ++ second) vs
     (ascends_both first second (ascends_filter (λ v. int_lt v low) vs a) (ascends_filter (λ v. not (int_lt v low)) vs a)
     (λ x y m n.
-    let lt = (below_member low vs x m).1 in
-    let ge = (from_member low vs y n).1 in
+    let lt = (below_of low vs x m).1 in
+    let ge = (from_of low vs y n).1 in
     omega (arith, ints, lt, ge)))
     a
     (λ v m. elim (Contains-append_cases first second v m) [
-      | inl n ↦ (below_member low vs v n).0
-      | inr n ↦ (from_member low vs v n).0
+      | inl n ↦ (below_of low vs v n).0
+      | inr n ↦ (from_of low vs v n).0
     ])
     (λ v m. elim (cases_Bool (int_lt v low)) [
       | inl t ↦ Contains-append_left first second v (member_filter (λ w. int_lt w low) vs v m t)
@@ -115,9 +115,9 @@ between_one v vs a has =
     (ascends_filter (λ w. int_lt w high) (values_from v vs) (ascends_filter (λ w. not (int_lt w v)) vs a))
     (Ascends-cons v [] (λ w m. absurd (member_nil w m)) tt)
     (λ w m.
-    let r = below_member high (values_from v vs) w m in
+    let r = below_of high (values_from v vs) w m in
     let lt = r.1 in
-    let ge = (from_member v vs w r.0).1 in
+    let ge = (from_of v vs w r.0).1 in
     let e : v ≡ w = omega (arith, ints, lt, ge) in
     member_same (v ∷ []) v w e (member_here v []))
     (λ w m.
@@ -126,7 +126,7 @@ between_one v vs a has =
 
 -- ---- walks over the values of one variable
 
-pairs_both : (x : ℕ) (vs ws : List ℤ) → pairs_of x (vs ++ ws) ≡ pairs_of x vs ++ pairs_of x ws
+pub pairs_both : (x : ℕ) (vs ws : List ℤ) → pairs_of x (vs ++ ws) ≡ pairs_of x vs ++ pairs_of x ws
 pairs_both x vs ws = map-append (λ v. pair_of x v) vs ws
 
 -- values that are not present are passed
@@ -144,16 +144,16 @@ pub walk_next : (a : Active) (x : ℕ) (s : EngineState) (n : ℕ) (t : EngineSt
     → Walks a (pairs_of x (values_below low vs)) s n t → IsNextAt next (values_of (present t) x) low → Walks a (pairs_of x (values_before next vs)) s n t
 walk_next a x s n t vs low (Some v) ascends walk next =
     let rest = absent_past a x (values_between low v vs) t (λ w m has.
-    let r = below_member v (values_from low vs) w m in
+    let r = below_of v (values_from low vs) w m in
     let lt = r.1 in
-    let ge = next.least w has (from_member low vs w r.0).1 in
+    let ge = next.least w has (from_of low vs w r.0).1 in
     absurd (omega (arith, ints, lt, ge))) in
     let both = walk_then_none a (pairs_of x (values_below low vs)) s n t (pairs_of x (values_between low v vs)) walk rest in
     subst (λ ps. Walks a ps s n t) (sym (pairs_both x (values_below low vs) (values_between low v vs)) ∙ ap (pairs_of x) (below_between low v vs ascends next.from)) both
 walk_next a x s n t vs low None ascends walk none =
     let rest = absent_past a x (values_from low vs) t (λ w m has.
     let lt = none w has in
-    let ge = (from_member low vs w m).1 in
+    let ge = (from_of low vs w m).1 in
     absurd (omega (arith, ints, lt, ge))) in
     let both = walk_then_none a (pairs_of x (values_below low vs)) s n t (pairs_of x (values_from low vs)) walk rest in
     subst (λ ps. Walks a ps s n t) (sym (pairs_both x (values_below low vs) (values_from low vs)) ∙ ap (pairs_of x) (below_from low vs ascends)) both
@@ -161,7 +161,7 @@ walk_next a x s n t vs low None ascends walk none =
 -- at the least present value nothing was walked over but values that are not present
 pub walk_least : (a : Active) (x : ℕ) (s : EngineState) (vs : List ℤ) (v : ℤ) → IsLeastOf (values_of (present s) x) v → Walks a (pairs_of x (values_below v vs)) s 0 s
 walk_least a x s vs v least = absent_past a x (values_below v vs) s (λ w m has.
-    let lt = (below_member v vs w m).1 in
+    let lt = (below_of v vs w m).1 in
     let ge = least.least w has in
     absurd (omega (arith, ints, lt, ge)))
 

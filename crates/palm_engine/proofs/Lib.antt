@@ -8,3 +8,7 @@ pub mod Joined
 pub mod Bounds
 pub mod Staying
 pub mod Waking
+pub mod Marking
+pub mod Revised
+pub mod Progress
+pub mod Scopes

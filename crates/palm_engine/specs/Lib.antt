@@ -2,5 +2,6 @@ pub mod Changed
 pub mod Engine
 pub mod Kept
 pub mod Posted
+pub mod Revising
 pub mod Settling
 pub mod Work
