@@ -12,3 +12,4 @@ pub mod Marking
 pub mod Revised
 pub mod Progress
 pub mod Scopes
+pub mod Spending

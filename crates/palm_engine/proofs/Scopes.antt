@@ -1,10 +1,11 @@
 -- How far a revision has come over the places of a scope.
-use Rattle.std.proofs.Common.{◌≡◌, ℕ, zero, suc, ◌+◌, ◌<◌, ◌≤◌, Bool, true, false, cond, List, [], ◌∷◌, ◌++◌, length, map, flat_map, sum_by, take, drop, All, Contains, ℤ, Option, Some, None, slice_get, slice_set, inl, inr, refl, sym, ap, ◌∙◌, subst, arith, zero-add}
-use Rattle.std.proofs.lemmas.Bool.{cases_Bool}
+use Rattle.std.proofs.Common.{◌≡◌, ℕ, zero, suc, ◌+◌, ◌<◌, ◌≤◌, Bool, true, false, cond, List, [], ◌∷◌, ◌++◌, length, map, flat_map, sum_by, take, drop, All, Contains, ℤ, Option, Some, None, slice_get, slice_set, get_or, inl, inr, refl, sym, ap, ◌∙◌, subst, arith, zero-add}
+use Rattle.std.specs.Option.{is_some}
+use Rattle.std.proofs.lemmas.Bool.{cases_Bool, false≢true}
 use Rattle.std.proofs.lemmas.List.{append_assoc, take_more}
 use Rattle.std.proofs.lemmas.List.Elements.{All-contains}
 use Rattle.std.proofs.lemmas.List.Sums.{sum_by-cons, sum_by-append}
-use Rattle.std.proofs.lemmas.Option.{slice_get_within, get_or_from_slice_get}
+use Rattle.std.proofs.lemmas.Option.{slice_get_within, get_or_from_slice_get, slice_get-get_or}
 use Rattle.palm_base.specs.declared.terms.Pair.{Pair}
 use Rattle.palm_base.specs.declared.terms.Cid.{Cid}
 use Rattle.palm_base.specs.Tells.{Tells}
@@ -286,3 +287,25 @@ places_part_counted active owner place x before now after s t u at w counted =
     let le = rest_sizes initial (scope owner.con) (place + 1) in
     counted_more (sizes_at initial (take place (scope owner.con)) + length (values_of initial x)) (sizes_at initial (scope owner.con)) before after s u (omega (arith, e, le))
     (counted_then (sizes_at initial (take place (scope owner.con))) (length (values_of initial x)) before now after s t u w.counted (subst (λ (d : Domains). HasCounted (length (values_of d x)) now after t u) i counted))
+
+-- the mark of the place is taken away in the agenda
+pub unmarked_clears : (g : Filtering) (a : Waiting) (cid n : Cid) (place : ℕ) → n ≡ cid → a.connected ≡ map (unmark n place) g.agenda.connected → a.pending ≡ g.agenda.pending → Clears cid place g (record g { agenda = a })
+unmarked_clears g a cid n place named connected pending = record {
+  store = refl;
+  log = refl;
+  connected = connected ∙ ap (λ c. map (unmark c place) g.agenda.connected) named;
+  pending = pending;
+  empty = refl;
+  checks = refl;
+}
+
+-- where the empty variable is known, a domain is empty
+pub kept_empty : (d : Domains) (o : Option ℕ) → is_some o ≡ true → IsEmptyKept d o → HasEmpty d
+kept_empty d (Some x) t kept = (x, kept.0)
+kept_empty d None t kept = absurd (false≢true t)
+
+-- the variable at a place of a list that is the scope
+pub place_at : (xs ys zs : List ℕ) (k x : ℕ) → xs ≡ ys → zs ≡ ys → k < length zs → x ≡ get_or xs k x → slice_get ys k ≡ Some x
+place_at xs ys zs k x same other lt at =
+    let within : k < length xs = subst (λ l. k < length l) (other ∙ sym same) lt in
+    ap (λ l. slice_get l k) (sym same) ∙ slice_get-get_or xs k x within ∙ ap Some (sym at)
