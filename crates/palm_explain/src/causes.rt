@@ -1,11 +1,11 @@
 //! Why each pair was removed.
-ghost use Rattle.std.specs.Prelude.{◌≡◌, ◌+◌, ◌≤◌, [], ◌∷◌, length, map, Contains, IfOk};
-ghost use Rattle.indexmap.specs.IndexSet.{spare};
+ghost use Rattle.std.specs.Prelude.{◌≡◌, ◌+◌, ◌<◌, ◌≤◌, length, nat_eq, Contains, IfOk};
+ghost use Rattle.indexmap.specs.IndexSet.{insert_all, insert_key, spare};
 ghost use Rattle.palm_base.specs.Tells.{Tells};
-ghost use Rattle.palm_domain.specs.Rows.{Row};
-ghost use Rattle.palm_model.specs.Constraint.{Distinct};
+ghost use Rattle.palm_domain.specs.Rows.{IsDeclared, IsPresent};
+ghost use Rattle.palm_model.specs.Event.{vars_of};
 ghost use Rattle.palm_model.specs.Log.{Rises, IsListOf, log_pairs};
-ghost use Rattle.palm_explain.specs.Causes.{AreExplained, AreVarsOf, HasBack, kept_of, log_of, lost_of};
+ghost use Rattle.palm_explain.specs.Causes.{AreExplained, HasBack, kept_of, log_of, lost_at, lost_of};
 ghost use Rattle.palm_explain.specs.Explanations.{IsLinked, LacksExactly, NamesOfNext};
 
 use crate::names::{add_name, add_names, has_name};
@@ -66,12 +66,12 @@ pub(crate) fn put_back(
     requires linked { IsLinked (log_of causes.now.entries) }
     requires explained { AreExplained causes.now.entries }
     requires lacks { LacksExactly store.old (log_pairs (log_of causes.now.entries)) }
-    requires none { restored.old.keys ≡ [] }
     requires room { length causes.now.entries ≤ spare restored.old }
     ensures back { HasBack store.old store.new (lost_of cid.now causes.now.entries) }
-    ensures once { Distinct restored.new.keys }
-    ensures vars { AreVarsOf (lost_of cid.now causes.now.entries) restored.new.keys }
-    ensures room { length causes.now.entries ≤ spare restored.new + length restored.new.keys }
+    ensures noted { restored.new.keys
+        ≡ insert_all nat_eq restored.old.keys (vars_of (lost_of cid.now causes.now.entries)) }
+    ensures room { length causes.now.entries
+        ≤ spare restored.new + length (lost_of cid.now causes.now.entries) }
 {
     for place in 0..causes.len() {
         put_back_at(causes, place, cid, store, restored);
@@ -88,13 +88,29 @@ fn put_back_at(
 )
     requires explained { AreExplained causes.now.entries }
     requires within { place < length causes.now.entries }
+    requires out { (p : Pair) → Contains (lost_at cid.now causes.now.entries place) p →
+        IsDeclared store.old p.var p.value × (IsPresent store.old p.var p.value → ⊥) }
+    requires room { 0 < spare restored.old }
+    ensures back { HasBack store.old store.new (lost_at cid.now causes.now.entries place) }
+    ensures noted { restored.new.keys
+        ≡ insert_all nat_eq restored.old.keys (vars_of (lost_at cid.now causes.now.entries place)) }
+    ensures room { spare restored.old
+        ≤ spare restored.new + length (lost_at cid.now causes.now.entries place) }
 {
-    let cause = &causes[place];
-    if cause.names(cid) {
-        let pair = causes.keys().as_slice()[place];
-        store.put_back(pair);
-        let _ = restored.insert(pair.var);
+    let pairs = causes.keys().as_slice();
+    if causes[place].names(cid) {
+        store.put_back(pairs[place]);
+        note(restored, pairs[place].var);
     }
+}
+
+/// Notes a variable for which there is room, unless it is noted.
+fn note(restored: &mut IndexSet<Var>, var: Var)
+    requires { 0 < spare restored.old }
+    ensures noted { restored.new.keys ≡ insert_key nat_eq restored.old.keys var }
+    ensures room { spare restored.old ≤ spare restored.new + 1 }
+{
+    restored.insert(var).unwrap();
 }
 
 /// Takes each removal out that rests on the constraint; the others keep their order.
@@ -102,5 +118,10 @@ pub(crate) fn take_out(causes: &mut Causes, cid: &Cid)
     requires { AreExplained causes.old.entries }
     ensures { causes.new.entries ≡ kept_of cid.now causes.old.entries }
 {
-    causes.retain(|_pair: &Pair, cause: &mut Cause| -> bool { !cause.names(cid) });
+    causes.retain(
+        |_pair: &Pair, cause: &mut Cause| -> bool
+            requires { Rises cause.old.explanation }
+            ensures { Tells result (Contains cause.old.explanation cid.now → ⊥) × (cause.new ≡ cause.old) }
+        { !cause.names(cid) },
+    );
 }

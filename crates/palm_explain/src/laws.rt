@@ -16,9 +16,9 @@ pub fn well_founded_logs_are_linked()
 /// What is left when some names go and then more is what is left when all of them go at once, and the pairs that
 /// the two steps lose are the pairs that are lost at once.
 pub fn withdrawals_add_up()
-    ensures left { (log middle left : List Removal) (first then : List Cid) → IsLinked log
+    ensures left { (log middle left : List Removal) (first then : List Cid)
         → Loses log first log middle → Loses middle then middle left → Loses log (first ++ then) log left }
-    ensures lost { (log middle left : List Removal) (first then : List Cid) → IsLinked log
+    ensures lost { (log middle left : List Removal) (first then : List Cid)
         → Loses log first log middle → Loses middle then middle left → (p : Pair)
         → Contains (lost_pairs log left) p ↔ (Contains (lost_pairs log middle) p ⊎ Contains (lost_pairs middle left) p) }
 {}

@@ -25,7 +25,7 @@ pub struct ExplainStore {
 }
 
 impl Model for ExplainStore {
-    ghost use Rattle.std.specs.Prelude.{◌+◌, ◌≤◌, length};
+    ghost use Rattle.std.specs.Prelude.{◌≤◌, length};
     ghost use Rattle.indexmap.specs.IndexSet.{spare};
     ghost use Rattle.palm_explain.specs.Causes.{AreExplained, log_of};
     ghost use Rattle.palm_explain.specs.Explanations.{Explanations, IsLinked};
@@ -34,7 +34,7 @@ impl Model for ExplainStore {
 
     ghost view = { λ s. record { log = log_of s.causes.entries; restored = s.restored.keys } };
 
-    ghost invariant = { λ s. IsLinked (log_of s.causes.entries) × AreExplained s.causes.entries × (length s.causes.entries ≤ spare s.restored + length s.restored.keys) };
+    ghost invariant = { λ s. IsLinked (log_of s.causes.entries) × AreExplained s.causes.entries × (length s.causes.entries ≤ spare s.restored) };
 }
 
 impl ExplainStore {
