@@ -121,7 +121,7 @@ pub(crate) fn take_out(causes: &mut Causes, cid: &Cid)
     causes.retain(
         |_pair: &Pair, cause: &mut Cause| -> bool
             requires { Rises cause.old.explanation }
-            ensures { Tells result (Contains cause.old.explanation cid.now → ⊥) × (cause.new ≡ cause.old) }
+            ensures { Tells result (Contains cause.old.explanation cid.entry.now → ⊥) × (cause.new ≡ cause.old) }
         { !cause.names(cid) },
     );
 }
