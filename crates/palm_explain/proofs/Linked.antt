@@ -30,6 +30,12 @@ linked_push_from earlier (s ∷ rest) r linked last =
 pub linked_push : (log : List Removal) (r : Removal) → IsLinked log → IsLink log r → IsLinked (log ++ r ∷ [])
 linked_push log r linked last = linked_push_from [] log r linked last
 
+-- the later ones of the removals
+pub linked_later : (earlier some rest : List Removal) → AreLinked earlier (some ++ rest) → AreLinked (earlier ++ some) rest
+linked_later earlier [] rest linked = subst (λ l. AreLinked l rest) (sym (append_nil earlier)) linked
+linked_later earlier (s ∷ some) rest linked =
+    subst (λ l. AreLinked l rest) (append_assoc earlier (s ∷ []) some) (linked_later (earlier ++ s ∷ []) some rest linked.1)
+
 -- ---- pairs
 
 -- the pairs of more removals
@@ -37,7 +43,8 @@ pub pairs_more : (log more : List Removal) → ((r : Removal) → Contains log r
 pairs_more log more sub p m =
     let r = logged log p m in member_same (log_pairs more) r.0.pair p r.2 (pair_logged more r.0 (sub r.0 r.1))
 
-later_fresh : (earlier rest : List Removal) → AreLinked earlier rest → (r : Removal) → Contains rest r → Contains (log_pairs earlier) r.pair → ⊥
+-- the later removals have other pairs than the earlier ones
+pub later_fresh : (earlier rest : List Removal) → AreLinked earlier rest → (r : Removal) → Contains rest r → Contains (log_pairs earlier) r.pair → ⊥
 later_fresh earlier [] linked r m k = member_nil r m
 later_fresh earlier (s ∷ rest) linked r m k = elim (member_cases s rest r m) [
   | inl e ↦ linked.0.fresh (subst (λ (q : Removal). Contains (log_pairs earlier) q.pair) (sym e) k)
