@@ -9,7 +9,7 @@ use Rattle.palm_base.specs.Tells.{Tells}
 use Rattle.palm_base.specs.declared.terms.Pair.{Pair}
 use Rattle.palm_base.specs.declared.terms.Cid.{Cid}
 use Rattle.palm_base.specs.contracts.terms.PairPartialEq.TheImpl.{eq-value}
-use Rattle.palm_base.proofs.Members.{member_nil, member_here, member_there, member_cases, member_same, member_map, member_unmap, member_take_more, all_members}
+use Rattle.palm_base.proofs.Members.{member_nil, member_here, member_there, member_cases, member_same, member_map, member_unmap, member_get, member_take_more, all_members}
 use Rattle.palm_model.specs.Log.{Removal, Names, NamesOfPair, Rises, IsListOf, log_pairs}
 use Rattle.palm_events.proofs.Names.{pair_same, same_pair_itself}
 use Rattle.palm_explain.specs.declared.causes.Cause.{Cause}
@@ -179,3 +179,9 @@ entered_explained es k v linked link explained list =
       | inr f ↦ subst (λ z. IsListOf (λ c. Names (log ++ r ∷ []) c (removal_of z)) z.1.explanation) f
           (listed_like (NamesOfNext log v.by v.reasons.items) (λ c. Names (log ++ r ∷ []) c r) v.explanation (next_named log r) (named_next log r linked link) list)
     ]))
+
+-- the explanation of a cause rises
+pub cause_rises : (es : List (Pair × Cause)) → AreExplained es → (i : ℕ) (v : Cause) → slice_get (causes_in es) i ≡ Some v → Rises v.explanation
+cause_rises es explained i v at =
+    let e = member_unmap (λ (z : Pair × Cause). z.1) es v (member_get (causes_in es) i v at) in
+    subst (λ (z : Cause). Rises z.explanation) e.2 (explained_rises es explained e.0 e.1)

@@ -4,3 +4,4 @@ mod Withdrawn
 mod Rising
 mod Entries
 mod PuttingBack
+mod Keeping

@@ -7,7 +7,7 @@ ghost use Rattle.palm_model.specs.Event.{lost_pairs, vars_of};
 ghost use Rattle.palm_model.specs.Log.{IsListOf, Loses, NamesOfPair, log_pairs};
 ghost use Rattle.palm_explain.specs.Explanations.{IsLinked, LacksExactly, log_bys, reasons_of};
 
-use crate::causes::{Cause, Causes, explanation_of, put_back, take_out};
+use crate::causes::{Cause, Causes, explanation_of, push_cause, put_back, take_out};
 use indexmap::IndexSet;
 use palm_base::{Cid, CidList, NoMemory, Pair, Var};
 use palm_domain::DomainStore;
@@ -62,8 +62,7 @@ impl ExplainStore {
             by,
         };
         self.restored.reserve(self.causes.len() + 1)?;
-        self.causes.insert(pair, cause)?;
-        Ok(())
+        push_cause(&mut self.causes, pair, cause)
     }
 
     /// How many removals there are. That the log is linked holds of every store.
