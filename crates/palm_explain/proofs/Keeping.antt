@@ -1,5 +1,5 @@
 -- What stays when a name goes: of the causes, of the log, and of the pairs that a store lacks.
-use Rattle.std.proofs.Common.{◌≡◌, ℕ, ℤ, ◌<◌, Bool, true, false, not, cond, List, [], ◌∷◌, ◌++◌, length, map, filter, get_or, Contains, All, inl, inr, refl, sym, ap, ◌∙◌, subst, arith, nat_eq}
+use Rattle.std.proofs.Common.{◌≡◌, ℕ, ℤ, ◌+◌, ◌<◌, ◌≤◌, Bool, true, false, not, cond, List, [], ◌∷◌, ◌++◌, length, map, filter, get_or, Contains, All, inl, inr, refl, sym, ap, ◌∙◌, subst, arith, nat_eq}
 use Rattle.std.specs.Map.Calls.{RetainsPairs}
 use Rattle.indexmap.specs.IndexSet.{insert_all}
 use Rattle.std.proofs.lemmas.List.{same_lists, get_or_default, length-map}
@@ -24,7 +24,7 @@ use Rattle.palm_explain.proofs.Linked.{left_linked, pairs_more}
 use Rattle.palm_explain.proofs.Naming.{listed_like, names_left, left_names}
 use Rattle.palm_explain.proofs.Withdrawn.{lost_logged, lost_or_left, lost_names, names_lost}
 use Rattle.palm_explain.proofs.Entries.{entry_logged}
-use Rattle.palm_explain.proofs.PuttingBack.{lost_entry, entry_lost, noted_member, member_noted}
+use Rattle.palm_explain.proofs.PuttingBack.{lost_entry, entry_lost, kept_and_lost, noted_member, member_noted}
 
 -- what a map's `retain` leaves, where the closure tells the test of each entry and leaves the values as they were
 module _ {K X F : Type 0} (T : F → K → X → Bool → X → F → Type 0) (test : K × X → Bool) (f : F) (Meets : K × X → Type 0)
@@ -78,6 +78,14 @@ kept_explained cid es explained =
     (λ c n. names_left (log_of es) (cid ∷ []) (log_of kept) loses c (removal_of e) (entry_logged kept e m) n)
     (λ c n. left_names (log_of es) (cid ∷ []) (log_of kept) loses c (removal_of e) n)
     (list_at es explained e (filter_member (λ z. not (rests_on cid z)) es e m).0))
+
+-- the causes that stay are as they should be, and there is room for them
+pub kept_whole : (cid : Cid) (es left : List (Pair × Cause)) (spare : ℕ) → left ≡ kept_of cid es → IsLinked (log_of es) → AreExplained es → length es ≤ spare + length (lost_of cid es)
+    → IsLinked (log_of left) × AreExplained left × (length left ≤ spare)
+kept_whole cid es left spare is linked explained room =
+    let all = kept_and_lost cid es in
+    let same = ap length is in
+    (subst (λ l. IsLinked (log_of l)) (sym is) (kept_linked cid es linked explained), subst AreExplained (sym is) (kept_explained cid es explained), omega (arith, all, same, room))
 
 -- ---- the lost pairs
 

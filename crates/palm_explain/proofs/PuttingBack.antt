@@ -1,5 +1,5 @@
 -- Pairs that come back, one place after another, and the variables that are noted.
-use Rattle.std.proofs.Common.{◌≡◌, ℕ, zero, suc, ◌+◌, ◌<◌, ◌≤◌, ℤ, Bool, true, false, not, cond, List, [], ◌∷◌, ◌++◌, length, map, filter, take, drop, fold, slice_get, Contains, Some, ◌⊎◌, inl, inr, refl, sym, ap, ◌∙◌, subst, arith, nat_eq, eqb-true, eq-eqb}
+use Rattle.std.proofs.Common.{◌≡◌, ℕ, zero, suc, ◌+◌, ◌<◌, ◌≤◌, ℤ, Bool, true, false, not, cond, List, [], ◌∷◌, ◌++◌, length, map, filter, get_or, take, drop, fold, slice_get, Contains, Some, ◌⊎◌, inl, inr, refl, sym, ap, ◌∙◌, subst, arith, nat_eq, eqb-true, eq-eqb}
 use Rattle.std.specs.List.{list_any}
 use Rattle.indexmap.specs.IndexSet.{insert_all, insert_key}
 use Rattle.std.proofs.lemmas.Bool.{cases_Bool, false≢true, not-true}
@@ -23,20 +23,22 @@ use Rattle.palm_explain.specs.declared.causes.Cause.{Cause}
 use Rattle.palm_explain.specs.Causes.{HasBack, rests_on, kept_of, log_of, lost_at, lost_of, removal_of}
 use Rattle.palm_explain.specs.Explanations.{AreLinked, IsLinked, LacksExactly}
 use Rattle.palm_explain.proofs.Linked.{later_fresh, linked_later}
-use Rattle.palm_explain.proofs.Entries.{entry_logged}
+use Rattle.palm_explain.proofs.Entries.{pairs_in, causes_in, entry_logged, entry_place, cause_entry}
 
 -- ---- lost pairs
 
 pub lost_append : (cid : Cid) (xs ys : List (Pair × Cause)) → lost_of cid (xs ++ ys) ≡ lost_of cid xs ++ lost_of cid ys
 lost_append cid xs ys = ap (λ l. map (λ (e : Pair × Cause). e.0) l) (filter-append (rests_on cid) xs ys) ∙ map-append (λ (e : Pair × Cause). e.0) (filter (rests_on cid) xs) (filter (rests_on cid) ys)
 
-take_next : {X : Type 0} (i : ℕ) (xs : List X) → take (i + 1) xs ≡ take i xs ++ take 1 (drop i xs)
+take_next : {X : Type 0} (i : ℕ) (xs : List X) → take (suc i) xs ≡ take i xs ++ take 1 (drop i xs)
 take_next zero xs = refl
-take_next (suc i) [] = take_all (suc i + 1) [] (omega arith)
+take_next (suc i) [] = refl
 take_next (suc i) (x ∷ xs) = ap (λ l. x ∷ l) (take_next i xs)
 
 lost_next : (cid : Cid) (es : List (Pair × Cause)) (i : ℕ) → lost_of cid (take (i + 1) es) ≡ lost_of cid (take i es) ++ lost_at cid es i
-lost_next cid es i = ap (lost_of cid) (take_next i es) ∙ lost_append cid (take i es) (take 1 (drop i es))
+lost_next cid es i =
+    let e : i + 1 ≡ suc i = omega arith in
+    ap (λ n. lost_of cid (take n es)) e ∙ ap (lost_of cid) (take_next i es) ∙ lost_append cid (take i es) (take 1 (drop i es))
 
 -- a lost pair is that of an entry whose explanation holds the name
 pub lost_entry : (cid : Cid) (es : List (Pair × Cause)) (p : Pair) → Contains (lost_of cid es) p → (e : Pair × Cause) × Contains es e × (e.0 ≡ p) × Contains e.1.explanation cid
@@ -75,6 +77,15 @@ none_lost_here cid es i e at free =
   where
     not_named : (names : List Cid) (c : Cid) → (Contains names c → ⊥) → is_named names c ≡ false
     not_named names c n = elim (cases_Bool (is_named names c)) [ inl t ↦ absurd (n (named_member names c t)) | inr f ↦ f ]
+
+-- the same where the pair and the cause are read apart
+pub lost_there : (cid : Cid) (es : List (Pair × Cause)) (i : ℕ) (k : Pair) (v : Cause) (pairs : List Pair) → pairs ≡ pairs_in es → k ≡ get_or pairs i k → slice_get (causes_in es) i ≡ Some v
+    → Contains v.explanation cid → lost_at cid es i ≡ k ∷ []
+lost_there cid es i k v pairs all is at named =
+    lost_here cid es i (k, v) (entry_place es i k v at (is ∙ ap (λ l. get_or l i k) all)) named
+
+pub none_lost_there : (cid : Cid) (es : List (Pair × Cause)) (i : ℕ) (v : Cause) → slice_get (causes_in es) i ≡ Some v → (Contains v.explanation cid → ⊥) → lost_at cid es i ≡ []
+none_lost_there cid es i v at free = let e = cause_entry es i v at in none_lost_here cid es i (e.0, v) e.1 free
 
 -- ---- pairs that are back
 
@@ -134,6 +145,10 @@ back_below_next cid es before middle now old keys later room spare place below b
           let more = length-append some here in
           let all = ap length next in omega (arith, below.room, fits, more, all);
     }
+
+-- past the last place all lost pairs are back
+pub back_below_all : (cid : Cid) (es : List (Pair × Cause)) (before now : List Row) (old keys : List ℕ) (room place : ℕ) → IsBackBelow cid es before now old keys room place → length es ≤ place → HasBack before now (lost_of cid es)
+back_below_all cid es before now old keys room place below le = subst (λ l. HasBack before now (lost_of cid l)) (take_all place es le) below.back
 
 -- there is room for one more
 pub back_below_room : (cid : Cid) (es : List (Pair × Cause)) (before now : List Row) (old keys : List ℕ) (room place : ℕ) → IsBackBelow cid es before now old keys room place → place < length es → 0 < room

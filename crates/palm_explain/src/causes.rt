@@ -1,10 +1,10 @@
 //! Why each pair was removed.
-ghost use Rattle.std.specs.Prelude.{◌≡◌, ◌+◌, ◌<◌, ◌≤◌, [], ◌∷◌, ◌++◌, length, nat_eq, Contains, IfOk, OnOk, OnErr};
+ghost use Rattle.std.specs.Prelude.{◌≡◌, ◌+◌, ◌<◌, ◌≤◌, [], ◌∷◌, ◌++◌, not, length, nat_eq, Contains, IfOk, OnOk, OnErr};
 ghost use Rattle.indexmap.specs.IndexSet.{insert_all, insert_key, spare};
 ghost use Rattle.palm_base.specs.Tells.{Tells};
 ghost use Rattle.palm_domain.specs.Rows.{IsDeclared, IsPresent, initial_of};
 ghost use Rattle.palm_model.specs.Event.{vars_of};
-ghost use Rattle.palm_model.specs.Log.{Rises, IsListOf, log_pairs};
+ghost use Rattle.palm_model.specs.Log.{Rises, IsListOf, is_named, log_pairs};
 ghost use Rattle.palm_explain.specs.Causes.{AreExplained, HasBack, kept_of, log_of, lost_at, lost_of};
 ghost use Rattle.palm_explain.specs.Explanations.{IsLinked, LacksExactly, NamesOfNext};
 
@@ -134,7 +134,7 @@ pub(crate) fn take_out(causes: &mut Causes, cid: &Cid)
     causes.retain(
         |_pair: &Pair, cause: &mut Cause| -> bool
             requires { Rises cause.old.explanation }
-            ensures { Tells result (Contains cause.old.explanation cid.entry.now → ⊥) × (cause.new ≡ cause.old) }
+            ensures { (result ≡ not (is_named cause.old.explanation cid.entry.now)) × (cause.new ≡ cause.old) }
         { !cause.names(cid) },
     );
 }

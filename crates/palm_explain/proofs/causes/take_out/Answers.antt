@@ -17,4 +17,4 @@ retain-requires c = record {
 
 pub returns : goal.returns
 returns c =
-    retained _ (λ e. not (rests_on c.args.cid.now e)) _ (λ e. Rises e.1.explanation) (λ k v b w g rises call. ?) _ _ (explained_rises _ c.requires) c.retain.ensures.filtered
+    retained _ (λ e. not (rests_on c.args.cid.now e)) _ (λ e. Rises e.1.explanation) (λ k v b w g rises call. search rules) _ _ (explained_rises _ c.requires) c.retain.ensures.filtered
