@@ -19,7 +19,6 @@ use std::marker::Model;
 /// explanations of its reasons: a set of constraints that together imply that the variable does not take the value.
 #[derive(Debug, Drop)]
 pub struct ExplainStore {
-    alloc: Global,
     causes: Causes,
     restored: IndexSet<Var>,
 }
@@ -43,7 +42,6 @@ impl ExplainStore {
         ensures { result ≡ record { log = []; restored = [] } }
     {
         ExplainStore {
-            alloc,
             causes: Causes::new(alloc),
             restored: IndexSet::new(alloc),
         }
@@ -56,9 +54,10 @@ impl ExplainStore {
         ensures ok { OnOk result (self.new ≡ record self.old { log = self.old.log ++ record { pair = pair; by = by; reasons = reasons.now } ∷ [] }) }
         ensures err { OnErr result (self.new ≡ self.old) }
     {
+        let alloc = *self.causes.allocator();
         let cause = Cause {
-            explanation: explanation_of(self.alloc, &self.causes, &by, reasons)?,
-            reasons: Vec::from_slice(self.alloc, reasons)?,
+            explanation: explanation_of(alloc, &self.causes, &by, reasons)?,
+            reasons: Vec::from_slice(alloc, reasons)?,
             by,
         };
         self.restored.reserve(self.causes.len() + 1)?;
