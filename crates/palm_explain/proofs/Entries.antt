@@ -2,7 +2,6 @@
 use Rattle.std.proofs.Common.{◌≡◌, ℕ, zero, suc, ◌+◌, ◌<◌, ◌≤◌, Bool, true, false, cond, List, [], ◌∷◌, ◌++◌, length, map, get_or, take, drop, slice_get, position, Contains, All, Option, Some, None, Result, Ok, Err, OnOk, OnErr, not, MatchOption, is_some, ◌⊎◌, inl, inr, refl, sym, ap, ◌∙◌, subst, arith, true≢false}
 use Rattle.std.specs.Map.{lookup}
 use Rattle.std.proofs.lemmas.List.{take_more, map-append, length-append}
-use Rattle.std.proofs.lemmas.Bool.{not-true}
 use Rattle.std.proofs.lemmas.List.Elements.{All-contains, Contains-append_left, Contains-push, Contains-push_cases}
 use Rattle.std.proofs.lemmas.List.Quantifiers.{position-Some}
 use Rattle.std.proofs.lemmas.Option.{slice_get-get_or}
@@ -192,10 +191,10 @@ cause_rises es explained i v at =
     let e = member_unmap (λ (z : Pair × Cause). z.1) es v (member_get (causes_in es) i v at) in
     subst (λ (z : Cause). Rises z.explanation) e.2 (explained_rises es explained e.0 e.1)
 
--- what is told by the test
-pub told_named : (b : Bool) (names : List Cid) (c : Cid) → Tells b (Contains names c) → b ≡ is_named names c
-told_named true names c m = sym (member_named names c m)
-told_named false names c n = sym (not-true (is_named names c) (member_not_named names c n))
+-- what the opposite of the test is
+pub told_not_named : (b : Bool) (names : List Cid) (c : Cid) → Tells b (Contains names c) → not b ≡ not (is_named names c)
+told_not_named true names c m = ap not (sym (member_named names c m))
+told_not_named false names c n = sym (member_not_named names c n)
 
 -- ---- entering
 

@@ -128,7 +128,7 @@ noted_vars cid es keys linked explained noted x =
 -- ---- the store
 
 -- ascending domains with the same values are the same
-same_domains : (d e : Domains) → length d ≡ length e → All Ascends d → All Ascends e → ((x : ℕ) (v : ℤ) → Has d x v → Has e x v) → ((x : ℕ) (v : ℤ) → Has e x v → Has d x v) → d ≡ e
+pub same_domains : (d e : Domains) → length d ≡ length e → All Ascends d → All Ascends e → ((x : ℕ) (v : ℤ) → Has d x v → Has e x v) → ((x : ℕ) (v : ℤ) → Has e x v → Has d x v) → d ≡ e
 same_domains d e long a b to back =
     same_lists d e long (λ k vs lt.
     let lt' : k < length e = omega (arith, long, lt) in

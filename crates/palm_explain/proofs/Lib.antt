@@ -5,3 +5,4 @@ mod Rising
 mod Entries
 mod PuttingBack
 mod Keeping
+mod Taking

@@ -127,6 +127,7 @@ fn note(restored: &mut IndexSet<Var>, var: Var)
 }
 
 /// Takes each removal out that rests on the constraint; the others keep their order.
+#[tactic(auto, using(crate::proofs::Entries::told_not_named))]
 pub(crate) fn take_out(causes: &mut Causes, cid: &Cid)
     requires { AreExplained causes.old.entries }
     ensures { causes.new.entries ≡ kept_of cid.now causes.old.entries }
