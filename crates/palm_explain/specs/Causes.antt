@@ -1,10 +1,9 @@
 -- The causes of removed pairs, each with its explanation, and the log that they are.
-use Rattle.std.specs.Prelude.{◌≡◌, ℕ, ℤ, Bool, not, ◌⊎◌, List, [], ◌∷◌, map, filter, Contains, All}
+use Rattle.std.specs.Prelude.{◌≡◌, ℕ, ℤ, Bool, not, ◌⊎◌, List, map, filter, take, drop, Contains, All}
 use Rattle.palm_base.specs.declared.terms.Pair.{Pair}
 use Rattle.palm_base.specs.declared.terms.Cid.{Cid}
 use Rattle.palm_domain.specs.Rows.{Row, IsPresent, initial_of}
 use Rattle.palm_model.specs.Log.{Removal, Names, Rises, IsListOf, is_named}
-use Rattle.palm_model.specs.Event.{vars_of}
 use Rattle.palm_explain.specs.declared.causes.Cause.{Cause}
 
 -- the removal of a pair for its cause
@@ -30,17 +29,21 @@ pub record IsMerged (names more merged : List Cid) : Type 0 where
 
 -- ---- withdrawing
 
--- whether the explanation holds the name
-abbrev pub is_lost : Cid → Pair × Cause → Bool
-is_lost cid e = is_named e.1.explanation cid
+-- whether the removal rests on the constraint: its explanation holds the name
+abbrev pub rests_on : Cid → Pair × Cause → Bool
+rests_on cid e = is_named e.1.explanation cid
 
 -- the pairs whose explanations hold the name
 abbrev pub lost_of : Cid → List (Pair × Cause) → List Pair
-lost_of cid entries = map (λ e. e.0) (filter (is_lost cid) entries)
+lost_of cid entries = map (λ e. e.0) (filter (rests_on cid) entries)
+
+-- the pair at the place, where its explanation holds the name
+abbrev pub lost_at : Cid → List (Pair × Cause) → ℕ → List Pair
+lost_at cid entries place = lost_of cid (take 1 (drop place entries))
 
 -- what stays when the name goes
 abbrev pub kept_of : Cid → List (Pair × Cause) → List (Pair × Cause)
-kept_of cid entries = filter (λ e. not (is_lost cid e)) entries
+kept_of cid entries = filter (λ e. not (rests_on cid e)) entries
 
 -- exactly these pairs have come back
 pub record HasBack (before after : List Row) (pairs : List Pair) : Type 0 where
@@ -48,8 +51,3 @@ pub record HasBack (before after : List Row) (pairs : List Pair) : Type 0 where
   pub sound : (x : ℕ) (v : ℤ) → IsPresent after x v → IsPresent before x v ⊎ Contains pairs (record { var = x; value = v })
   pub others : (x : ℕ) (v : ℤ) → IsPresent before x v → IsPresent after x v
   pub back : (p : Pair) → Contains pairs p → IsPresent after p.var p.value
-
--- exactly the variables of the pairs
-pub record AreVarsOf (pairs : List Pair) (vars : List ℕ) : Type 0 where
-  pub sound : (x : ℕ) → Contains vars x → Contains (vars_of pairs) x
-  pub whole : (x : ℕ) → Contains (vars_of pairs) x → Contains vars x
