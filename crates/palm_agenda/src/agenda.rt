@@ -1,5 +1,5 @@
 //! The connected constraints, and those of them that wait to be revised.
-ghost use Rattle.std.specs.Prelude.{◌≡◌, ℕ, ◌<◌, ◌≤◌, ◌↔◌, ◌⊎◌, ◌++◌, [], length, map, reverse, Contains, MatchOption, IfSome, IfNone, IsSomeAnd, Some, OnOk, OnErr, is_some, if◌then◌else◌, vec_capacity};
+ghost use Rattle.std.specs.Prelude.{◌≡◌, ℕ, ◌<◌, ◌≤◌, ◌↔◌, ◌⊎◌, ◌∷◌, [], length, map, reverse, Contains, MatchOption, IfSome, IfNone, IsSomeAnd, Some, OnOk, OnErr, is_some, if◌then◌else◌, vec_capacity};
 ghost use Rattle.palm_base.specs.Tells.{Tells};
 ghost use Rattle.palm_base.specs.declared.terms.Cid.{Cid as CidTerm};
 ghost use Rattle.palm_model.specs.Log.{Rises, cid_before, is_named};
@@ -49,7 +49,6 @@ fn place_of(connections: &[Connection], cid: &Cid) -> usize
 /// Marks these places of the constraint, as seen from the variable.
 fn mark_named(connections: &mut Vec<Connection>, cid: &Cid, places: Places, var: &Var)
     requires rising { Rises (names_of connections.old.items) }
-    requires connected { IsConnected connections.old.items cid.now }
     requires over { IsOver connections.old.items var.now cid.now }
     ensures { connections.new.items ≡ map (λ d. if is_named (cid.now ∷ []) d.cid then mark_places places var.now d else d) connections.old.items }
 {
@@ -71,7 +70,8 @@ fn mark_each(connections: &mut Vec<Connection>, names: &[Cid], places: Places, v
 
 /// Makes each of the names pending.
 fn insert_each(pending: &mut Names, names: &[Cid])
-    requires { FitsBoth pending.old.room pending.old.names names.now }
+    requires rising { Rises pending.old.names }
+    requires room { FitsBoth pending.old.room pending.old.names names.now }
     ensures names { (c : CidTerm) → Contains pending.new.names c ↔ (Contains pending.old.names c ⊎ Contains names.now c) }
     ensures room { pending.new.room ≡ pending.old.room }
 {
