@@ -97,9 +97,17 @@ mark_others x d = if is_over x d then marked_where (λ y. not (nat_eq y x)) d el
 abbrev pub mark_own : ℕ → Connected → Connected
 mark_own x d = marked_where (λ y. nat_eq y x) d
 
--- the mark at a place of the constraint under this name is taken away
-abbrev pub unmark : Cid → ℕ → Connected → Connected
-unmark cid place d = if same_cid d.cid cid then record d { marks = slice_set d.marks place false } else d
+-- the change, at the constraint under this name alone
+abbrev pub changed_at : Cid → (Connected → Connected) → Connected → Connected
+changed_at cid change d = if same_cid cid d.cid then change d else d
+
+-- the change, at the constraints under these names
+abbrev pub changed_among : List Cid → (Connected → Connected) → Connected → Connected
+changed_among names change d = if is_named names d.cid then change d else d
+
+-- the constraint without the mark at a place
+abbrev pub unmarked : ℕ → Connected → Connected
+unmarked place d = record d { marks = slice_set d.marks place false }
 
 -- ---- the next constraint
 

@@ -1,9 +1,9 @@
 //! The connected constraints, and those of them that wait to be revised.
-ghost use Rattle.std.specs.Prelude.{◌≡◌, ℕ, ◌<◌, ◌≤◌, ◌↔◌, ◌⊎◌, ◌∷◌, [], length, map, reverse, Contains, MatchOption, IfSome, IfNone, IsSomeAnd, Some, OnOk, OnErr, is_some, if◌then◌else◌, vec_capacity};
+ghost use Rattle.std.specs.Prelude.{◌≡◌, ℕ, ◌<◌, ◌≤◌, ◌↔◌, ◌⊎◌, [], length, map, reverse, Contains, MatchOption, IfSome, IfNone, IsSomeAnd, Some, OnOk, OnErr, is_some, vec_capacity};
 ghost use Rattle.palm_base.specs.Tells.{Tells};
 ghost use Rattle.palm_base.specs.declared.terms.Cid.{Cid as CidTerm};
-ghost use Rattle.palm_model.specs.Log.{Rises, cid_before, is_named};
-ghost use Rattle.palm_agenda.specs.Agenda.{Connected, HasPlace, IsConnected, IsFormed, IsMarked, IsOver, Takes, marked_whole, mark_others, mark_own, names_of, unmark, with_connected, without_connected};
+ghost use Rattle.palm_model.specs.Log.{Rises, cid_before};
+ghost use Rattle.palm_agenda.specs.Agenda.{Connected, HasPlace, IsConnected, IsFormed, IsMarked, IsOver, Takes, changed_among, changed_at, marked_whole, mark_others, mark_own, names_of, unmarked, with_connected, without_connected};
 ghost use Rattle.palm_agenda.specs.Names.{FitsBoth, IsPartedAt};
 ghost use Rattle.palm_agenda.specs.Places.{mark_places};
 ghost use Rattle.palm_model.specs.State.{without_cid};
@@ -50,7 +50,7 @@ fn place_of(connections: &[Connection], cid: &Cid) -> usize
 fn mark_named(connections: &mut Vec<Connection>, cid: &Cid, places: Places, var: &Var)
     requires rising { Rises (names_of connections.old.items) }
     requires over { IsOver connections.old.items var.now cid.now }
-    ensures { connections.new.items ≡ map (λ d. if is_named (cid.now ∷ []) d.cid then mark_places places var.now d else d) connections.old.items }
+    ensures { connections.new.items ≡ map (changed_at cid.now (mark_places places var.now)) connections.old.items }
 {
     let place = place_of(connections, cid);
     let connection = &mut connections[place];
@@ -61,7 +61,7 @@ fn mark_named(connections: &mut Vec<Connection>, cid: &Cid, places: Places, var:
 fn mark_each(connections: &mut Vec<Connection>, names: &[Cid], places: Places, var: &Var)
     requires rising { Rises (names_of connections.old.items) }
     requires over { (c : CidTerm) → Contains names.now c → IsOver connections.old.items var.now c }
-    ensures { connections.new.items ≡ map (λ d. if is_named names.now d.cid then mark_places places var.now d else d) connections.old.items }
+    ensures { connections.new.items ≡ map (changed_among names.now (mark_places places var.now)) connections.old.items }
 {
     for cid in names {
         mark_named(connections, cid, places, var);
@@ -116,7 +116,7 @@ impl Agenda {
         let count = self.connections.len() + 1;
         let connection = Connection::new(alloc, copy_of(&cid), scope)?;
         make_room(&mut self.over, scope)?;
-        self.pending.reserve(count)?;
+        self.pending.reserve(count - self.pending.len())?;
         self.shown.clear();
         self.shown.reserve(count)?;
         let place = place_of(&self.connections, &cid);
@@ -189,7 +189,7 @@ impl Agenda {
     /// Takes the mark of a place away.
     pub fn unmark(&mut self, cid: Cid, place: usize)
         requires { HasPlace self.old.connected cid place }
-        ensures connected { self.new.connected ≡ map (unmark cid place) self.old.connected }
+        ensures connected { self.new.connected ≡ map (changed_at cid (unmarked place)) self.old.connected }
         ensures pending { self.new.pending ≡ self.old.pending }
     {
         unmark_named(&mut self.connections, &cid, place);
@@ -237,7 +237,7 @@ impl Agenda {
 fn unmark_named(connections: &mut Vec<Connection>, cid: &Cid, place: usize)
     requires rising { Rises (names_of connections.old.items) }
     requires connected { HasPlace connections.old.items cid.now place }
-    ensures { connections.new.items ≡ map (unmark cid.now place) connections.old.items }
+    ensures { connections.new.items ≡ map (changed_at cid.now (unmarked place)) connections.old.items }
 {
     let at = place_of(connections, cid);
     let connection = &mut connections[at];

@@ -69,13 +69,12 @@ impl Names {
         self.falling.as_slice()
     }
 
-    /// Makes room for so many names in all.
-    pub(crate) fn reserve(&mut self, count: usize) -> Result<(), NoMemory>
+    /// Makes room for so many more names.
+    pub(crate) fn reserve(&mut self, more: usize) -> Result<(), NoMemory>
         ensures names { self.new.names ≡ self.old.names }
         ensures grows { self.old.room ≤ self.new.room }
-        ensures ok { OnOk result (count ≤ self.new.room) }
+        ensures ok { OnOk result (length self.new.names + more ≤ self.new.room) }
     {
-        let more = count.saturating_sub(self.falling.len());
         self.falling.reserve(more)?;
         Ok(())
     }

@@ -21,8 +21,7 @@ pub(crate) fn names_over<'a>(over: &'a [Names], var: &Var) -> &'a [Cid]
 
 /// Makes a list for each of the first variables, so many of them.
 fn reach(over: &mut Vec<Names>, variables: usize) -> Result<(), NoMemory>
-    ensures same { (x : ℕ) → x < length over.old.items → row_at over.new.items x ≡ row_at over.old.items x }
-    ensures names { (x : ℕ) → names_at over.new.items x ≡ names_at over.old.items x }
+    ensures rows { (x : ℕ) → row_at over.new.items x ≡ row_at over.old.items x }
     ensures longer { length over.old.items ≤ length over.new.items }
     ensures ok { OnOk result (variables ≤ length over.new.items) }
 {
@@ -43,7 +42,7 @@ fn make_room_at(over: &mut Vec<Names>, var: &Var) -> Result<(), NoMemory>
     let place = var.0 as usize;
     reach(over, place + 1)?;
     let names = &mut over[place];
-    names.reserve(names.len() + 1)
+    names.reserve(1)
 }
 
 /// Makes room for one more name in the list of each variable of a scope.
