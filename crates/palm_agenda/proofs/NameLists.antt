@@ -209,7 +209,7 @@ rises_different (c ∷ names) rises = (
   rises_different names rises.1,
 )
 
-filter_short : {X : Type 0} (test : X → Bool) (xs : List X) → length (filter test xs) ≤ length xs
+pub filter_short : {X : Type 0} (test : X → Bool) (xs : List X) → length (filter test xs) ≤ length xs
 filter_short test [] = omega arith
 filter_short test (x ∷ xs) = elim (cases_Bool (test x)) [
   | inl t ↦ omega (arith, ap length (filter_passes test x xs t), filter_short test xs)

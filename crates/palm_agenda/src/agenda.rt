@@ -73,6 +73,7 @@ fn insert_each(pending: &mut Names, names: &[Cid])
     requires rising { Rises pending.old.names }
     requires room { FitsBoth pending.old.room pending.old.names names.now }
     ensures names { (c : CidTerm) → Contains pending.new.names c ↔ (Contains pending.old.names c ⊎ Contains names.now c) }
+    ensures rising { Rises pending.new.names }
     ensures room { pending.new.room ≡ pending.old.room }
 {
     for cid in names {
@@ -172,7 +173,8 @@ impl Agenda {
     /// A mark for each place of the constraint's scope: whether values of the place's variable may lack support.
     pub fn marks(&self, cid: Cid) -> &[bool]
         requires { IsConnected self.now.connected cid }
-        ensures { (d : Connected) → Contains self.now.connected d → d.cid ≡ cid → result.now ≡ d.marks }
+        ensures marks { (d : Connected) → Contains self.now.connected d → d.cid ≡ cid → result.now ≡ d.marks }
+        ensures whole { (d : Connected) → Contains self.now.connected d → d.cid ≡ cid → length result.now ≡ length d.scope }
     {
         let place = place_of(&self.connections, &cid);
         self.connections[place].marks()
