@@ -1,6 +1,7 @@
 -- What an agenda keeps, after each of its calls.
-use Rattle.std.proofs.Common.{◌≡◌, ℕ, ◌+◌, ◌<◌, ◌≤◌, Bool, true, false, not, ◌||◌, cond, if◌then◌else◌, List, [], ◌∷◌, ◌++◌, map, reverse, length, get_or, set, take, slice_get, insert, remove, filter, Contains, All, Some, ◌⊎◌, ◌↔◌, inl, inr, refl, sym, ap, ◌∙◌, subst, arith, nat_eq, eq-eqb, eqb-true, length-set}
+use Rattle.std.proofs.Common.{◌≡◌, ℕ, ◌+◌, ◌<◌, ◌≤◌, Bool, true, false, not, ◌||◌, cond, if◌then◌else◌, List, [], ◌∷◌, ◌++◌, map, reverse, length, get_or, set, take, slice_get, insert, remove, filter, Contains, All, Option, None, Some, ◌⊎◌, ◌↔◌, inl, inr, refl, sym, ap, ◌∙◌, subst, arith, nat_eq, eq-eqb, eqb-true, length-set}
 use Rattle.std.specs.List.{list_any}
+use Rattle.std.specs.Option.{MatchOption}
 use Rattle.std.proofs.lemmas.Bool.{cases_Bool, false≢true, not-true}
 use Rattle.std.proofs.lemmas.List.{length-map, length-replicate, take_all}
 use Rattle.std.proofs.lemmas.List.Edits.{length-insert}
@@ -111,6 +112,12 @@ pub taken_after : (connected : List Connected) (over : List Roomy) (pending now 
 taken_after connected over pending now shown room cid kept is same grows =
     pending_after connected over pending now shown room kept (subst Rises (sym is) (without_cid_rises cid pending.names kept.formed.pending_rising))
     (λ c m. kept.formed.pending_connected c (without_cid_member cid pending.names c (subst (λ names. Contains names c) is m)).0) same grows
+
+-- the first name is taken out, where there is one
+pub first_after : (connected : List Connected) (over : List Roomy) (pending now : Roomy) (shown : ℕ) (taken : Option Cid) → IsKept connected over pending shown
+    → MatchOption taken ((pending.names ≡ []) × (now ≡ pending)) (λ c. (slice_get pending.names 0 ≡ Some c) × (now.names ≡ without_cid c pending.names) × (now.room ≡ pending.room)) → IsKept connected over now shown
+first_after connected over pending now shown None kept is = subst (λ (p : Roomy). IsKept connected over p shown) (sym is.1) kept
+first_after connected over pending now shown (Some c) kept is = taken_after connected over pending now shown shown c kept is.1 is.2 (omega arith)
 
 -- the pending names are no more than the connected ones
 pub pending_few : (connected : List Connected) (over : List Roomy) (pending : Roomy) (shown : ℕ) → IsKept connected over pending shown → length pending.names ≤ length connected
@@ -306,7 +313,7 @@ grown_after connected over later pending now shown room kept names same wider lo
 
 module _ (connected : List Connected) (over later : List Roomy) (pending now : Roomy) (shown room : ℕ) (cid : Cid) (scope : List ℕ) (place : ℕ) (kept : IsKept connected over pending shown)
     (at : IsPartedAt (λ d. cid_before d.cid cid) connected place) (absent : IsConnected connected cid → ⊥) where
-  pub inserted_is : insert connected place (marked_whole cid scope) ≡ with_connected (marked_whole cid scope) connected
+  inserted_is : insert connected place (marked_whole cid scope) ≡ with_connected (marked_whole cid scope) connected
   inserted_is = connected_at connected kept.formed.rising cid place at absent (marked_whole cid scope) refl
 
   pub connected_after : (after : List Connected) → after ≡ insert connected place (marked_whole cid scope)
@@ -338,10 +345,6 @@ module _ (connected : List Connected) (over later : List Roomy) (pending now : R
         pending_room = omega (arith, many, wide);
         shown_room = omega (arith, many, long);
       }
-
-  -- there is room for the new one among the pending ones
-  pub room_new : length connected + 1 ≤ pending.room → HasRoomFor cid pending
-  room_new wide = let few = pending_few connected over pending shown kept in inr (omega arith)
 
 module _ (connected : List Connected) (over : List Roomy) (pending : Roomy) (shown : ℕ) (cid : Cid) (place : ℕ) (d : Connected) (kept : IsKept connected over pending shown)
     (at : IsPartedAt (λ e. cid_before e.cid cid) connected place) (there : IsConnected connected cid) (item : d ≡ get_or connected place d) where
