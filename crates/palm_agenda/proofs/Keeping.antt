@@ -230,10 +230,10 @@ module _ (connected : List Connected) (rises : Rises (names_of connected)) (cid 
   changed_here f is d now e becomes =
       map_sets (changed_at cid f) connected place now (place_within is)
       (λ x.
-          let here = get_or_from_slice_get connected place is.owner x (stands connected rises cid place at is.owner is.listed is.named) in
-          ap (changed_at cid f) here
-          ∙ if_true (same_cid cid is.owner.cid) (f is.owner) is.owner (subst (λ c. same_cid cid c ≡ true) (sym is.named) (same_cid_itself cid))
-          ∙ ap f (sym (owner_is is d e)) ∙ sym becomes)
+      let here = get_or_from_slice_get connected place is.owner x (stands connected rises cid place at is.owner is.listed is.named) in
+      ap (changed_at cid f) here
+      ∙ if_true (same_cid cid is.owner.cid) (f is.owner) is.owner (subst (λ c. same_cid cid c ≡ true) (sym is.named) (same_cid_itself cid))
+      ∙ ap f (sym (owner_is is d e)) ∙ sym becomes)
       (λ k x lt ne. if_false (same_cid cid (get_or connected k x).cid) (f (get_or connected k x)) (get_or connected k x) (other k x lt ne))
     where
       other : (k : ℕ) (x : Connected) → k < length connected → (k ≡ place → ⊥) → same_cid cid (get_or connected k x).cid ≡ false
@@ -241,7 +241,7 @@ module _ (connected : List Connected) (rises : Rises (names_of connected)) (cid 
         | inl t ↦
             let here = get_or_from_slice_get connected place is.owner x (stands connected rises cid place at is.owner is.listed is.named) in
             absurd (apart cid_of cid_before rising connected (sorted_connected connected rises) k place x lt (place_within is) ne
-              (sym (cid_same cid (get_or connected k x).cid t) ∙ sym is.named ∙ ap cid_of (sym here)))
+            (sym (cid_same cid (get_or connected k x).cid t) ∙ sym is.named ∙ ap cid_of (sym here)))
         | inr f ↦ f
       ]
 
@@ -275,7 +275,7 @@ module _ (f : Connected → Connected) (keeps : KeepsScopes f) (twice : (d : Con
       map_twice (changed_at cid f) (changed_among (take i names) f) first
       ∙ map_agree (λ d. changed_at cid f (changed_among (take i names) f d)) (changed_among (take (i + 1) names) f) first
       (λ d m. change_more cid d (is_named (take i names) d.cid) (same_cid cid d.cid) (is_named (take (i + 1) names) d.cid) refl
-        (list_any_more (λ c. same_cid c d.cid) names i cid lt ∙ ap (λ c. is_named (take i names) d.cid || same_cid c d.cid) (sym item)))
+      (list_any_more (λ c. same_cid c d.cid) names i cid lt ∙ ap (λ c. is_named (take i names) d.cid || same_cid c d.cid) (sym item)))
 
 pub marked_more : (places : Places) (x : ℕ) (names : List Cid) (i : ℕ) (cid : Cid) (first : List Connected) → i < length names → cid ≡ get_or names i cid
     → map (changed_at cid (mark_places places x)) (map (changed_among (take i names) (mark_places places x)) first) ≡ map (changed_among (take (i + 1) names) (mark_places places x)) first

@@ -138,17 +138,16 @@ rises_names test (c ∷ names) rises = elim (cases_Bool (test c)) [
 
 pub with_name_rises : (cid : Cid) (names : List Cid) → Rises names → Rises (with_name cid names)
 with_name_rises cid names rises =
-    rises_append (filter (λ d. cid_before d cid) names) (cid ∷ filter (λ d. cid_before cid d) names) (rises_names (λ d. cid_before d cid) names rises)
-    (
+    rises_append (filter (λ d. cid_before d cid) names) (cid ∷ filter (λ d. cid_before cid d) names) (rises_names (λ d. cid_before d cid) names rises) (
       all_members (λ d. cid_before cid d ≡ true) (filter (λ d. cid_before cid d) names) (λ d m. (filter_member (λ e. cid_before cid e) names d m).1),
       rises_names (λ d. cid_before cid d) names rises,
     )
     (λ x y m n.
-        let low = (filter_member (λ d. cid_before d cid) names x m).1 in
-        elim (member_cases cid (filter (λ d. cid_before cid d) names) y n) [
-          | inl e ↦ subst (λ z. cid_before x z ≡ true) e low
-          | inr k ↦ before_then x cid y low (filter_member (λ d. cid_before cid d) names y k).1
-        ])
+    let low = (filter_member (λ d. cid_before d cid) names x m).1 in
+    elim (member_cases cid (filter (λ d. cid_before cid d) names) y n) [
+      | inl e ↦ subst (λ z. cid_before x z ≡ true) e low
+      | inr k ↦ before_then x cid y low (filter_member (λ d. cid_before cid d) names y k).1
+    ])
 
 -- a name that is there stays where it is
 pub with_name_same : (cid : Cid) (names : List Cid) → Rises names → Contains names cid → names ≡ with_name cid names
@@ -241,7 +240,7 @@ room_among cid list all rises within there room = elim (member_known cid_known l
   | inl m ↦ inl m
   | inr n ↦
       let less = length_within (cid ∷ list.names) all (n, rises_different list.names rises)
-        (λ c m. elim (member_cases cid list.names c m) [ inl e ↦ member_same all cid c e there | inr k ↦ within c k ]) in
+      (λ c m. elim (member_cases cid list.names c m) [ inl e ↦ member_same all cid c e there | inr k ↦ within c k ]) in
       inr (omega arith)
 ]
 
@@ -250,7 +249,7 @@ room_of_both cid list names more fits rises within there = elim (member_known ci
   | inl m ↦ inl m
   | inr n ↦
       let less = fits.fits (cid ∷ list.names) (n, rises_different list.names rises)
-        (λ c m. elim (member_cases cid list.names c m) [ inl e ↦ inr (member_same more cid c e there) | inr k ↦ within c k ]) in
+      (λ c m. elim (member_cases cid list.names c m) [ inl e ↦ inr (member_same more cid c e there) | inr k ↦ within c k ]) in
       inr (omega arith)
 ]
 
@@ -285,13 +284,12 @@ put_room names cid list capacity is room absent =
 -- the last one of a falling list is taken
 pub taken_last : (old new : List Cid) (room capacity : ℕ) (taken : Option Cid) → Rises (reverse old) → old ≡ new ++ option_to_list taken → (taken ≡ None → length old ≡ 0) → capacity ≡ room
     → MatchOption taken ((reverse old ≡ []) × (roomy (reverse new) capacity ≡ roomy (reverse old) room))
-      (λ c. (slice_get (reverse old) 0 ≡ Some c) × (reverse new ≡ without_cid c (reverse old)) × (capacity ≡ room))
+    (λ c. (slice_get (reverse old) 0 ≡ Some c) × (reverse new ≡ without_cid c (reverse old)) × (capacity ≡ room))
 taken_last old new room capacity None rises is none same =
     let e : old ≡ new = is ∙ append-nil new in
     (ap reverse (nil_from_length old (none refl)), ap (λ xs. roomy (reverse xs) capacity) (sym e) ∙ ap (roomy (reverse old)) same)
 taken_last old new room capacity (Some c) rises is none same =
-    let e : reverse old ≡ c ∷ reverse new = ap reverse is ∙ reverse-append new (c ∷ []) in
-    (
+    let e : reverse old ≡ c ∷ reverse new = ap reverse is ∙ reverse-append new (c ∷ []) in (
       ap (λ names. slice_get names 0) e,
       sym (ap (without_cid c) e ∙ first_cut c (reverse new) (subst Rises e rises)),
       same,

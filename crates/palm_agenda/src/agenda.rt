@@ -68,6 +68,17 @@ fn mark_each(connections: &mut Vec<Connection>, names: &[Cid], places: Places, v
     }
 }
 
+/// Takes a mark of the constraint away.
+fn unmark_named(connections: &mut Vec<Connection>, cid: &Cid, place: usize)
+    requires rising { Rises (names_of connections.old.items) }
+    requires connected { HasPlace connections.old.items cid.now place }
+    ensures { connections.new.items ≡ map (changed_at cid.now (unmarked place)) connections.old.items }
+{
+    let at = place_of(connections, cid);
+    let connection = &mut connections[at];
+    connection.unmark(place);
+}
+
 /// Makes each of the names pending.
 fn insert_each(pending: &mut Names, names: &[Cid])
     requires rising { Rises pending.old.names }
@@ -111,6 +122,7 @@ impl Agenda {
         requires { IsConnected self.old.connected cid → ⊥ }
         ensures connected { OnOk result (self.new.connected ≡ with_connected (marked_whole cid scope.now) self.old.connected) }
         ensures pending { OnOk result ((c : CidTerm) → Contains self.new.pending c ↔ (Contains self.old.pending c ⊎ (c ≡ cid))) }
+        ensures formed { IsFormed self.new }
         ensures err { OnErr result (self.new ≡ self.old) }
     {
         let alloc = *self.connections.allocator();
@@ -144,6 +156,7 @@ impl Agenda {
     pub fn wake(&mut self, var: Var)
         ensures connected { self.new.connected ≡ map (mark_others var) self.old.connected }
         ensures pending { (c : CidTerm) → Contains self.new.pending c ↔ (Contains self.old.pending c ⊎ IsOver self.old.connected var c) }
+        ensures formed { IsFormed self.new }
     {
         let names = names_over(&self.over, &var);
         mark_each(&mut self.connections, names, Places::Others, &var);
@@ -155,6 +168,7 @@ impl Agenda {
     pub fn wake_restored(&mut self, var: Var)
         ensures connected { self.new.connected ≡ map (mark_own var) self.old.connected }
         ensures pending { (c : CidTerm) → Contains self.new.pending c ↔ (Contains self.old.pending c ⊎ IsOver self.old.connected var c) }
+        ensures formed { IsFormed self.new }
     {
         let names = names_over(&self.over, &var);
         mark_each(&mut self.connections, names, Places::Own, &var);
@@ -166,6 +180,7 @@ impl Agenda {
         requires { IsConnected self.old.connected cid }
         ensures connected { self.new.connected ≡ self.old.connected }
         ensures pending { (c : CidTerm) → Contains self.new.pending c ↔ (Contains self.old.pending c ⊎ (c ≡ cid)) }
+        ensures formed { IsFormed self.new }
     {
         self.pending.insert(&cid);
     }
@@ -233,15 +248,4 @@ impl Agenda {
         let place = if answer < count { answer } else { 0 };
         Some(self.pending.take_at(place))
     }
-}
-
-/// Takes a mark of the constraint away.
-fn unmark_named(connections: &mut Vec<Connection>, cid: &Cid, place: usize)
-    requires rising { Rises (names_of connections.old.items) }
-    requires connected { HasPlace connections.old.items cid.now place }
-    ensures { connections.new.items ≡ map (changed_at cid.now (unmarked place)) connections.old.items }
-{
-    let at = place_of(connections, cid);
-    let connection = &mut connections[at];
-    connection.unmark(place);
 }

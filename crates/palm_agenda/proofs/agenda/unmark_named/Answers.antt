@@ -8,8 +8,8 @@ pub unmark-requires : goal.unmark-requires
 unmark-requires c =
     subst (λ (d : Connected). c.args.place < length d.scope)
     (sym (owner_is c.args.connections.now.items c.requires.rising c.args.cid.now c.place_of-at.result
-      (parted_in c.deref.result.now c.args.connections.now.items c.args.cid.now c.place_of-at.result c.deref.ensures.value c.place_of-at.ensures)
-      (place_connected c.args.connections.now.items c.args.cid.now c.args.place c.requires.connected) c.index_mut-connection.result.now c.index_mut-connection.ensures.value))
+    (parted_in c.deref.result.now c.args.connections.now.items c.args.cid.now c.place_of-at.result c.deref.ensures.value c.place_of-at.ensures)
+    (place_connected c.args.connections.now.items c.args.cid.now c.args.place c.requires.connected) c.index_mut-connection.result.now c.index_mut-connection.ensures.value))
     c.requires.connected.within
 
 pub returns : goal.returns

@@ -18,7 +18,7 @@ loop-var-preserved c =
     let within = c.loop-var.invariant.within c.var-item.result (c.loop-var.var-index, c.loop-var-test.true, sym c.var-item.is) in
     record {
       names = put_more c.loop-var.over.items c.insert_at.new.over.items c.var-item.result c.args.cid.now within c.insert_at.ensures
-        c.args.over.now.items c.args.scope.now c.loop-var.var-index c.loop-var-test.true c.var-item.is c.loop-var.invariant.names;
+          c.args.over.now.items c.args.scope.now c.loop-var.var-index c.loop-var-test.true c.var-item.is c.loop-var.invariant.names;
       within = λ x m.
           let many = same_many c.loop-var.over.items c.insert_at.new.over.items c.var-item.result (row_put c.loop-var.over.items c.var-item.result c.args.cid.now) within c.insert_at.ensures in
           let old = c.loop-var.invariant.within x m in

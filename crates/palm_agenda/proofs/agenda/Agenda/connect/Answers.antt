@@ -60,8 +60,11 @@ returns-clause-connected c =
     rw (← c.self.view_is)
     (is_inserted c
     ∙ connected_at c.self.inside.connections.items c.self.invariant.formed.rising c.args.cid c.place_of-place.result
-      (parted_in c.deref.result.now c.self.inside.connections.items c.args.cid c.place_of-place.result c.deref.ensures.value c.place_of-place.ensures) (is_absent c) (marked_whole c.args.cid c.args.scope.now) refl)
+    (parted_in c.deref.result.now c.self.inside.connections.items c.args.cid c.place_of-place.result c.deref.ensures.value c.place_of-place.ensures) (is_absent c) (marked_whole c.args.cid c.args.scope.now) refl)
 
 pub returns-clause-pending : goal.returns-clause-pending
 returns-clause-pending c =
     rw (← c.self.view_is) (pending_set c.args.cid c.self.inside.pending.names c.insert-2.new.self.names (c.insert-2.ensures.names ∙ ap (with_name c.args.cid) c.reserve.ensures.names))
+
+pub returns-clause-formed : goal.returns-clause-formed
+returns-clause-formed c = (invariant_of-self-2 c).formed

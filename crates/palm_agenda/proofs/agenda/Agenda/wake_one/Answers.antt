@@ -13,3 +13,6 @@ invariant_of-self c =
 
 pub returns-clause-pending : goal.returns-clause-pending
 returns-clause-pending c = rw (← c.self.view_is) (pending_set c.args.cid c.self.inside.pending.names c.insert.new.self.names c.insert.ensures.names)
+
+pub returns-clause-formed : goal.returns-clause-formed
+returns-clause-formed c = (invariant_of-self c).formed

@@ -27,3 +27,6 @@ returns-clause-pending c =
     rw (← c.self.view_is)
     (woken_pending c.args.var c.names_over-names.result.now c.self.inside.connections.items c.self.inside.over.items c.self.inside.pending c.insert_each.new.pending _ c.self.invariant
     (c.names_over-names.ensures ∙ ap (λ rows. reverse (names_at rows c.args.var)) c.deref.ensures.value) c.insert_each.ensures.names)
+
+pub returns-clause-formed : goal.returns-clause-formed
+returns-clause-formed c = (invariant_of-self c).formed
