@@ -1,27 +1,26 @@
 -- What an agenda keeps, after each of its calls.
-use Rattle.std.proofs.Common.{◌≡◌, ℕ, ◌+◌, ◌<◌, ◌≤◌, Bool, true, false, not, ◌||◌, cond, if◌then◌else◌, List, [], ◌∷◌, ◌++◌, map, reverse, length, get_or, set, take, slice_get, insert, remove, filter, Contains, All, Option, None, Some, ◌⊎◌, ◌↔◌, inl, inr, refl, sym, ap, ◌∙◌, subst, arith, nat_eq, eq-eqb, eqb-true, length-set}
-use Rattle.std.specs.List.{list_any}
+use Rattle.std.proofs.Common.{◌≡◌, ℕ, ◌+◌, ◌<◌, ◌≤◌, Bool, true, false, not, ◌||◌, if◌then◌else◌, List, [], ◌∷◌, map, reverse, length, get_or, set, take, slice_get, insert, remove, Contains, All, Option, None, Some, ◌⊎◌, ◌↔◌, inl, inr, refl, sym, ap, ◌∙◌, subst, arith, nat_eq, eq-eqb, eqb-true, length-set}
 use Rattle.std.specs.Option.{MatchOption}
-use Rattle.std.proofs.lemmas.Bool.{cases_Bool, false≢true, not-true}
+use Rattle.std.proofs.lemmas.Bool.{cases_Bool, false≢true}
 use Rattle.std.proofs.lemmas.List.{length-map, length-replicate, take_all}
 use Rattle.std.proofs.lemmas.List.Edits.{length-insert}
 use Rattle.std.proofs.lemmas.List.Folds.{list_any_more}
 use Rattle.std.proofs.lemmas.Option.{slice_get_within, slice_get-get_or, get_or_from_slice_get}
 use Rattle.palm_base.specs.declared.terms.Cid.{Cid}
-use Rattle.palm_base.proofs.Members.{member_nil, member_same, member_map, member_unmap, all_members, map_agree, member_take, member_take_more}
+use Rattle.palm_base.proofs.Members.{member_same, member_map, member_unmap, all_members, map_agree, member_take, member_take_more}
 use Rattle.palm_base.specs.Tells.{Tells}
 use Rattle.palm_model.proofs.Supports.{any_member, member_any}
 use Rattle.palm_model.specs.Log.{Rises, cid_before, is_named, same_cid}
 use Rattle.palm_model.specs.State.{without_cid}
-use Rattle.palm_events.proofs.Names.{cid_same, same_cid_itself, named_member, member_named}
+use Rattle.palm_events.proofs.Names.{cid_same, same_cid_itself, member_named}
 use Rattle.palm_events.proofs.States.{without_cid_member, without_cid_rises}
 use Rattle.palm_agenda.specs.Names.{Roomy, HasRoomFor, FitsBoth, IsPartedAt, names_at, with_name}
-use Rattle.palm_agenda.specs.Agenda.{Connected, Waiting, HasMarks, IsConnected, IsFormed, IsMarked, IsOver, HasPlace, names_of, marked_whole, marked_where, marks_where, changed_at, changed_among, mark_others, mark_own, is_over, unmarked, with_connected, without_connected}
+use Rattle.palm_agenda.specs.Agenda.{Connected, HasMarks, IsConnected, IsMarked, IsOver, HasPlace, names_of, marked_whole, marked_where, changed_at, changed_among, mark_others, is_over, unmarked, with_connected, without_connected}
 use Rattle.palm_agenda.specs.Kept.{IsKept}
 use Rattle.palm_agenda.specs.Places.{is_place, mark_places}
 use Rattle.palm_agenda.specs.declared.connection.Places.{Places}
 use Rattle.palm_agenda.specs.declared.connection.Places.TheVariants.{Own, Others}
-use Rattle.palm_agenda.proofs.Connecting.{cid_of, connected_name, name_connected, names_with, names_without, over_connected, over_with, over_without, stands, connected_at, disconnected_at, with_connected_cases, with_connected_here, member_with_connected, without_connected_member, member_without_connected, sorted_connected}
+use Rattle.palm_agenda.proofs.Connecting.{cid_of, connected_name, names_with, names_without, over_connected, over_with, over_without, stands, connected_at, disconnected_at, with_connected_cases, with_connected_here, member_with_connected, without_connected_member, member_without_connected, sorted_connected}
 use Rattle.palm_agenda.proofs.Marking.{marks_length, marks_none, marks_twice}
 use Rattle.palm_agenda.proofs.NameLists.{fits_among, filter_short, length_within, member_reverse, reverse_member, rises_different, room_among, room_of_both, with_name_cases, with_name_rises, with_name_set, rising}
 use Rattle.palm_agenda.proofs.Rows.{front_last, front_more, row_within}

@@ -1,18 +1,17 @@
 -- Lists of names: in rising and falling order, with a name and without it, and how long they are.
-use Rattle.std.proofs.Common.{◌≡◌, ℕ, zero, suc, ◌+◌, ◌-◌, ◌<◌, ◌≤◌, Bool, true, false, not, cond, List, [], ◌∷◌, ◌++◌, map, reverse, length, get_or, set, take, drop, slice_get, insert, remove, filter, Contains, Option, None, Some, ◌⊎◌, ◌↔◌, inl, inr, refl, sym, ap, ◌∙◌, subst, arith}
-use Rattle.std.specs.List.{AllWithin}
+use Rattle.std.proofs.Common.{◌≡◌, ℕ, zero, suc, ◌-◌, ◌<◌, ◌≤◌, Bool, true, false, not, List, [], ◌∷◌, ◌++◌, reverse, length, get_or, slice_get, insert, remove, filter, Contains, Option, None, Some, ◌⊎◌, ◌↔◌, inl, inr, refl, sym, ap, ◌∙◌, subst, arith}
 use Rattle.std.specs.Option.{MatchOption, option_to_list}
-use Rattle.std.proofs.lemmas.Bool.{cases_lt, cases_Bool, false≢true}
+use Rattle.std.proofs.lemmas.Bool.{cases_Bool}
 use Rattle.std.proofs.lemmas.Grind.{reverse_onto}
 use Rattle.std.proofs.lemmas.List.{append_assoc, append-nil, nil_from_length, get_or-reverse, length-reverse, reverse-append, reverse-reverse}
-use Rattle.std.proofs.lemmas.List.Elements.{Contains-get_or, Contains-append_left, Contains-append_right, Contains-append_cases, filter-append}
+use Rattle.std.proofs.lemmas.List.Elements.{Contains-append_left, Contains-append_right, Contains-append_cases, filter-append}
 use Rattle.std.proofs.lemmas.Option.{slice_get_read, slice_get-get_or, slice_get_within, get_or_from_slice_get}
 use Rattle.palm_base.specs.declared.terms.Cid.{Cid}
-use Rattle.palm_base.proofs.Members.{Known, member_nil, member_here, member_there, member_cases, member_same, member_filter, filter_member, member_known, member_single, member_get, all_members}
+use Rattle.palm_base.proofs.Members.{member_nil, member_here, member_there, member_cases, member_same, member_filter, filter_member, member_known, member_single, member_get, all_members}
 use Rattle.palm_base.specs.Tells.{Tells}
 use Rattle.palm_model.specs.Log.{Rises, cid_before, is_named}
 use Rattle.palm_model.specs.State.{without_cid}
-use Rattle.palm_events.proofs.Names.{before_then, cid_known, cid_order, not_before_itself, rises_append, rising_same, named_member, member_named, member_not_named, not_named_member}
+use Rattle.palm_events.proofs.Names.{before_then, cid_known, cid_order, not_before_itself, rises_append, rising_same, member_named, member_not_named}
 use Rattle.palm_events.proofs.States.{without_cid_member, member_without_cid, without_cid_rises}
 use Rattle.palm_agenda.specs.Names.{IsPartedAt, Roomy, AreDifferent, HasRoomFor, FitsBoth, with_name}
 use Rattle.palm_agenda.proofs.Sorted.{IsStrict, IsSortedKeys, filter_removes, filter_fails, filter_passes, inserted, listed_at, apart}

@@ -1,5 +1,5 @@
 -- What an agenda holds: the connected constraints with their marks, and the names of those that wait to be revised.
-use Rattle.std.specs.Prelude.{◌≡◌, ℕ, ◌<◌, if◌then◌else◌, Bool, true, false, not, ◌||◌, Option, Some, List, [], ◌∷◌, ◌++◌, length, map, filter, All, Contains, nat_eq, nat_lt, slice_get, slice_set, replicate}
+use Rattle.std.specs.Prelude.{◌≡◌, ℕ, ◌<◌, if◌then◌else◌, Bool, true, false, not, ◌||◌, Some, List, [], ◌∷◌, ◌++◌, length, map, filter, All, Contains, nat_eq, nat_lt, slice_get, slice_set, replicate}
 use Rattle.std.specs.List.{list_any}
 use Rattle.palm_base.specs.declared.terms.Cid.{Cid}
 use Rattle.palm_model.specs.Log.{Rises, cid_before, same_cid, is_named}

@@ -1,5 +1,5 @@
 use Rattle.std.proofs.Common.{◌<◌, length, subst, sym}
-use Rattle.palm_agenda.specs.Agenda.{Connected, IsConnected, unmarked}
+use Rattle.palm_agenda.specs.Agenda.{Connected, unmarked}
 use Rattle.palm_agenda.proofs.Connecting.{parted_in, place_connected}
 use Rattle.palm_agenda.proofs.Keeping.{changed_here, owner_is}
 use Rattle.palm_agenda.proofs.agenda.unmark_named.Goals as goal

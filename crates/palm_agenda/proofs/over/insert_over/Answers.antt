@@ -1,4 +1,4 @@
-use Rattle.std.proofs.Common.{inr, sym, subst, arith, ◌<◌, length}
+use Rattle.std.proofs.Common.{inr, sym, arith}
 use Rattle.palm_agenda.proofs.Rows.{put_none, put_more, put_all, put_room_stays, row_put, same_many}
 use Rattle.palm_agenda.specs.Names.{names_at}
 use Rattle.palm_agenda.proofs.over.insert_over.Goals as goal

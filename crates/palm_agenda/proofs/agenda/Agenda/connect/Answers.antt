@@ -1,4 +1,4 @@
-use Rattle.std.proofs.Common.{◌≡◌, ◌∙◌, ap, refl, subst, sym, arith, ◌+◌, ◌≤◌, inr, length, insert, vec_capacity}
+use Rattle.std.proofs.Common.{◌≡◌, ◌∙◌, ap, refl, subst, arith, ◌+◌, ◌≤◌, inr, length, insert, vec_capacity}
 use Rattle.palm_agenda.specs.Agenda.{Waiting, IsConnected, marked_whole}
 use Rattle.palm_agenda.specs.Names.{with_name}
 use Rattle.palm_agenda.proofs.Connecting.{connected_at, parted_in}

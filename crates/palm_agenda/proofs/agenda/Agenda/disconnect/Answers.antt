@@ -1,5 +1,5 @@
-use Rattle.std.proofs.Common.{◌∙◌, ap, refl, subst, sym}
-use Rattle.palm_agenda.specs.Agenda.{Connected, Waiting, IsConnected}
+use Rattle.std.proofs.Common.{subst, sym}
+use Rattle.palm_agenda.specs.Agenda.{Waiting, IsConnected}
 use Rattle.palm_agenda.proofs.Connecting.{parted_in}
 use Rattle.palm_agenda.proofs.Keeping.{disconnected_after, removed_is, scope_within}
 use Rattle.palm_agenda.proofs.agenda.Agenda.disconnect.Goals as goal

@@ -1,6 +1,4 @@
-use Rattle.std.proofs.Common.{sym, subst}
 use Rattle.palm_agenda.specs.Agenda.{changed_at, unmarked}
-use Rattle.palm_agenda.specs.Kept.{IsKept}
 use Rattle.palm_agenda.proofs.Keeping.{keeps_at, keeps_unmarked, kept_after}
 use Rattle.palm_agenda.proofs.agenda.Agenda.unmark.Goals as goal
 

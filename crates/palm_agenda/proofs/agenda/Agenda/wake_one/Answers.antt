@@ -1,4 +1,4 @@
-use Rattle.std.proofs.Common.{refl, subst, sym, arith, ◌≤◌}
+use Rattle.std.proofs.Common.{subst, sym}
 use Rattle.palm_agenda.specs.Agenda.{Waiting, IsConnected}
 use Rattle.palm_agenda.proofs.Keeping.{room_connected, put_after, pending_set}
 use Rattle.palm_agenda.proofs.agenda.Agenda.wake_one.Goals as goal

@@ -1,4 +1,4 @@
-use Rattle.std.proofs.Common.{◌≡◌, ◌∙◌, ap, reverse}
+use Rattle.std.proofs.Common.{◌∙◌, ap, reverse}
 use Rattle.palm_agenda.specs.Names.{names_at}
 use Rattle.palm_agenda.specs.declared.connection.Places.TheVariants.{Own}
 use Rattle.palm_agenda.proofs.Keeping.{fits_over, woken_after, woken_connected, woken_pending}
