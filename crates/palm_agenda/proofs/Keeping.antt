@@ -60,6 +60,14 @@ module _ (f : Connected → Connected) (keeps : KeepsScopes f) where
   pub connected_kept : (connected : List Connected) (c : Cid) → IsConnected connected c → IsConnected (map f connected) c
   connected_kept connected c is = record { owner = f is.owner; listed = member_map f connected is.owner is.listed; named = keeps.cid is.owner ∙ is.named }
 
+  pub place_kept : (connected : List Connected) (c : Cid) (place : ℕ) → HasPlace connected c place → HasPlace (map f connected) c place
+  place_kept connected c place is = record {
+    owner = f is.owner;
+    listed = member_map f connected is.owner is.listed;
+    named = keeps.cid is.owner ∙ is.named;
+    within = subst (λ (xs : List ℕ). place < length xs) (sym (keeps.scope is.owner)) is.within;
+  }
+
   marks_kept : (connected : List Connected) → All HasMarks connected → All HasMarks (map f connected)
   marks_kept connected all = all_members HasMarks (map f connected) (λ d m.
       let r = member_unmap f connected d m in

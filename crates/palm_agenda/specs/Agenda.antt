@@ -115,8 +115,7 @@ unmarked place d = record d { marks = slice_set d.marks place false }
 abbrev pub index_within : ℕ → ℕ → ℕ
 index_within index count = if nat_lt index count then index else 0
 
--- the pending constraint at the answered index is pending no longer
-pub record Takes (before after : Waiting) (answer : ℕ) (cid : Cid) : Type 0 where
-  pub chosen : slice_get before.pending (index_within answer (length before.pending)) ≡ Some cid
-  pub pending : after.pending ≡ without_cid cid before.pending
-  pub connected : after.connected ≡ before.connected
+-- the name at the answered index is pending no longer
+pub record Takes (before after : List Cid) (answer : ℕ) (cid : Cid) : Type 0 where
+  pub chosen : slice_get before (index_within answer (length before)) ≡ Some cid
+  pub pending : after ≡ without_cid cid before

@@ -224,8 +224,9 @@ impl Agenda {
     /// the one that it answers when it is asked once. It is not asked where none is pending.
     pub fn take(&mut self, order: &mut Option<Box<dyn Order>>) -> Option<Cid>
         ensures none { IfNone result ((self.old.pending ≡ []) × (self.new ≡ self.old) × (order.new ≡ order.old)) }
-        ensures some { IfSome result (λ c. (answer : ℕ) × Takes self.old self.new answer c
+        ensures some { IfSome result (λ c. (answer : ℕ) × Takes self.old.pending self.new.pending answer c
             × MatchOption order.old (answer ≡ 0) (λ before. IsSomeAnd order.new (λ after. answers before self.old.pending answer (state after)))) }
+        ensures connected { self.new.connected ≡ self.old.connected }
         ensures stays { is_some order.new ≡ is_some order.old }
     {
         match order {
@@ -237,7 +238,8 @@ impl Agenda {
     /// The pending constraint that the order answers.
     fn take_answered(&mut self, order: &mut Box<dyn Order>) -> Option<Cid>
         ensures none { IfNone result ((self.old.pending ≡ []) × (self.new ≡ self.old) × (order.new ≡ order.old)) }
-        ensures some { IfSome result (λ c. (answer : ℕ) × Takes self.old self.new answer c × answers order.old self.old.pending answer (state order.new)) }
+        ensures some { IfSome result (λ c. (answer : ℕ) × Takes self.old.pending self.new.pending answer c × answers order.old self.old.pending answer (state order.new)) }
+        ensures connected { self.new.connected ≡ self.old.connected }
     {
         let count = self.pending.len();
         if count == 0 {
