@@ -1,5 +1,5 @@
 -- What an agenda holds: the connected constraints with their marks, and the names of those that wait to be revised.
-use Rattle.std.specs.Prelude.{◌≡◌, ℕ, ◌<◌, if◌then◌else◌, Bool, true, false, not, ◌||◌, Option, Some, List, [], ◌∷◌, ◌++◌, length, map, filter, All, Contains, nat_eq, nat_lt, slice_get, slice_set, replicate}
+use Rattle.std.specs.Prelude.{◌≡◌, ℕ, ◌<◌, if◌then◌else◌, Bool, true, false, not, ◌||◌, Some, List, [], ◌∷◌, ◌++◌, length, map, filter, All, Contains, nat_eq, nat_lt, slice_get, slice_set, replicate}
 use Rattle.std.specs.List.{list_any}
 use Rattle.palm_base.specs.declared.terms.Cid.{Cid}
 use Rattle.palm_model.specs.Log.{Rises, cid_before, same_cid, is_named}
@@ -97,9 +97,17 @@ mark_others x d = if is_over x d then marked_where (λ y. not (nat_eq y x)) d el
 abbrev pub mark_own : ℕ → Connected → Connected
 mark_own x d = marked_where (λ y. nat_eq y x) d
 
--- the mark at a place of the constraint under this name is taken away
-abbrev pub unmark : Cid → ℕ → Connected → Connected
-unmark cid place d = if same_cid d.cid cid then record d { marks = slice_set d.marks place false } else d
+-- the change, at the constraint under this name alone
+abbrev pub changed_at : Cid → (Connected → Connected) → Connected → Connected
+changed_at cid change d = if same_cid cid d.cid then change d else d
+
+-- the change, at the constraints under these names
+abbrev pub changed_among : List Cid → (Connected → Connected) → Connected → Connected
+changed_among names change d = if is_named names d.cid then change d else d
+
+-- the constraint without the mark at a place
+abbrev pub unmarked : ℕ → Connected → Connected
+unmarked place d = record d { marks = slice_set d.marks place false }
 
 -- ---- the next constraint
 
@@ -107,8 +115,7 @@ unmark cid place d = if same_cid d.cid cid then record d { marks = slice_set d.m
 abbrev pub index_within : ℕ → ℕ → ℕ
 index_within index count = if nat_lt index count then index else 0
 
--- the pending constraint at the answered index is pending no longer
-pub record Takes (before after : Waiting) (answer : ℕ) (cid : Cid) : Type 0 where
-  pub chosen : slice_get before.pending (index_within answer (length before.pending)) ≡ Some cid
-  pub pending : after.pending ≡ without_cid cid before.pending
-  pub connected : after.connected ≡ before.connected
+-- the name at the answered index is pending no longer
+pub record Takes (before after : List Cid) (answer : ℕ) (cid : Cid) : Type 0 where
+  pub chosen : slice_get before (index_within answer (length before)) ≡ Some cid
+  pub pending : after ≡ without_cid cid before

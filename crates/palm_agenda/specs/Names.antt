@@ -1,8 +1,8 @@
 -- Lists of names that keep room for more.
-use Rattle.std.specs.Prelude.{◌≡◌, ℕ, ◌<◌, ◌⊎◌, List, [], ◌∷◌, ◌++◌, filter, Contains, slice_index_or, length, ◌≤◌, Bool, true, false}
+use Rattle.std.specs.Prelude.{◌≡◌, ⊤, ℕ, ◌<◌, ◌⊎◌, List, [], ◌∷◌, ◌++◌, filter, Contains, slice_index_or, slice_set, length, ◌≤◌, Bool, true, false}
 use Rattle.std.specs.List.{AllWithin}
 use Rattle.palm_base.specs.declared.terms.Cid.{Cid}
-use Rattle.palm_model.specs.Log.{Rises, cid_before}
+use Rattle.palm_model.specs.Log.{cid_before}
 
 -- names by rising name, and how many find room without more memory
 pub record Roomy : Type 0 where
@@ -27,6 +27,10 @@ row_at rows x = slice_index_or rows x (record { names = []; room = 0 })
 abbrev pub names_at : List Roomy → ℕ → List Cid
 names_at rows x = (row_at rows x).names
 
+-- the lists, with these names in the list of the variable
+abbrev pub with_names : List Roomy → ℕ → List Cid → List Roomy
+with_names rows x names = slice_set rows x (record { names = names; room = (row_at rows x).room })
+
 -- ---- places
 
 -- those before the place pass the test, and the others fail it
@@ -40,6 +44,11 @@ pub record HasSpace (rows : List Roomy) (x : ℕ) : Type 0 where
   pub within : x < length rows
   pub room : length (names_at rows x) < (row_at rows x).room
 
--- as many names fit as there are in the one list or in the other
+-- no name stands twice
+abbrev pub AreDifferent : List Cid → Type 0
+AreDifferent [] = ⊤
+AreDifferent (c ∷ cs) = (Contains cs c → ⊥) × AreDifferent cs
+
+-- the names of the one list and of the other fit together
 pub record FitsBoth (room : ℕ) (names more : List Cid) : Type 0 where
-  pub fits : (all : List Cid) → Rises all → ((c : Cid) → Contains all c → Contains names c ⊎ Contains more c) → length all ≤ room
+  pub fits : (all : List Cid) → AreDifferent all → ((c : Cid) → Contains all c → Contains names c ⊎ Contains more c) → length all ≤ room

@@ -1,9 +1,9 @@
 //! The connected constraints, and those of them that wait to be revised.
-ghost use Rattle.std.specs.Prelude.{◌≡◌, ℕ, ◌<◌, ◌≤◌, ◌↔◌, ◌⊎◌, ◌++◌, [], length, map, reverse, Contains, MatchOption, IfSome, IfNone, IsSomeAnd, Some, OnOk, OnErr, is_some, if◌then◌else◌, vec_capacity};
+ghost use Rattle.std.specs.Prelude.{◌≡◌, ℕ, ◌<◌, ◌≤◌, ◌↔◌, ◌⊎◌, [], length, map, reverse, Contains, MatchOption, IfSome, IfNone, IsSomeAnd, Some, OnOk, OnErr, is_some, vec_capacity};
 ghost use Rattle.palm_base.specs.Tells.{Tells};
 ghost use Rattle.palm_base.specs.declared.terms.Cid.{Cid as CidTerm};
-ghost use Rattle.palm_model.specs.Log.{Rises, cid_before, is_named};
-ghost use Rattle.palm_agenda.specs.Agenda.{Connected, HasPlace, IsConnected, IsFormed, IsMarked, IsOver, Takes, marked_whole, mark_others, mark_own, names_of, unmark, with_connected, without_connected};
+ghost use Rattle.palm_model.specs.Log.{Rises, cid_before};
+ghost use Rattle.palm_agenda.specs.Agenda.{Connected, HasPlace, IsConnected, IsFormed, IsMarked, IsOver, Takes, changed_among, changed_at, marked_whole, mark_others, mark_own, names_of, unmarked, with_connected, without_connected};
 ghost use Rattle.palm_agenda.specs.Names.{FitsBoth, IsPartedAt};
 ghost use Rattle.palm_agenda.specs.Places.{mark_places};
 ghost use Rattle.palm_model.specs.State.{without_cid};
@@ -49,9 +49,8 @@ fn place_of(connections: &[Connection], cid: &Cid) -> usize
 /// Marks these places of the constraint, as seen from the variable.
 fn mark_named(connections: &mut Vec<Connection>, cid: &Cid, places: Places, var: &Var)
     requires rising { Rises (names_of connections.old.items) }
-    requires connected { IsConnected connections.old.items cid.now }
     requires over { IsOver connections.old.items var.now cid.now }
-    ensures { connections.new.items ≡ map (λ d. if is_named (cid.now ∷ []) d.cid then mark_places places var.now d else d) connections.old.items }
+    ensures { connections.new.items ≡ map (changed_at cid.now (mark_places places var.now)) connections.old.items }
 {
     let place = place_of(connections, cid);
     let connection = &mut connections[place];
@@ -62,17 +61,30 @@ fn mark_named(connections: &mut Vec<Connection>, cid: &Cid, places: Places, var:
 fn mark_each(connections: &mut Vec<Connection>, names: &[Cid], places: Places, var: &Var)
     requires rising { Rises (names_of connections.old.items) }
     requires over { (c : CidTerm) → Contains names.now c → IsOver connections.old.items var.now c }
-    ensures { connections.new.items ≡ map (λ d. if is_named names.now d.cid then mark_places places var.now d else d) connections.old.items }
+    ensures { connections.new.items ≡ map (changed_among names.now (mark_places places var.now)) connections.old.items }
 {
     for cid in names {
         mark_named(connections, cid, places, var);
     }
 }
 
+/// Takes a mark of the constraint away.
+fn unmark_named(connections: &mut Vec<Connection>, cid: &Cid, place: usize)
+    requires rising { Rises (names_of connections.old.items) }
+    requires connected { HasPlace connections.old.items cid.now place }
+    ensures { connections.new.items ≡ map (changed_at cid.now (unmarked place)) connections.old.items }
+{
+    let at = place_of(connections, cid);
+    let connection = &mut connections[at];
+    connection.unmark(place);
+}
+
 /// Makes each of the names pending.
 fn insert_each(pending: &mut Names, names: &[Cid])
-    requires { FitsBoth pending.old.room pending.old.names names.now }
+    requires rising { Rises pending.old.names }
+    requires room { FitsBoth pending.old.room pending.old.names names.now }
     ensures names { (c : CidTerm) → Contains pending.new.names c ↔ (Contains pending.old.names c ⊎ Contains names.now c) }
+    ensures rising { Rises pending.new.names }
     ensures room { pending.new.room ≡ pending.old.room }
 {
     for cid in names {
@@ -110,13 +122,14 @@ impl Agenda {
         requires { IsConnected self.old.connected cid → ⊥ }
         ensures connected { OnOk result (self.new.connected ≡ with_connected (marked_whole cid scope.now) self.old.connected) }
         ensures pending { OnOk result ((c : CidTerm) → Contains self.new.pending c ↔ (Contains self.old.pending c ⊎ (c ≡ cid))) }
+        ensures formed { IsFormed self.new }
         ensures err { OnErr result (self.new ≡ self.old) }
     {
         let alloc = *self.connections.allocator();
         let count = self.connections.len() + 1;
         let connection = Connection::new(alloc, copy_of(&cid), scope)?;
         make_room(&mut self.over, scope)?;
-        self.pending.reserve(count)?;
+        self.pending.reserve(count - self.pending.len())?;
         self.shown.clear();
         self.shown.reserve(count)?;
         let place = place_of(&self.connections, &cid);
@@ -143,6 +156,7 @@ impl Agenda {
     pub fn wake(&mut self, var: Var)
         ensures connected { self.new.connected ≡ map (mark_others var) self.old.connected }
         ensures pending { (c : CidTerm) → Contains self.new.pending c ↔ (Contains self.old.pending c ⊎ IsOver self.old.connected var c) }
+        ensures formed { IsFormed self.new }
     {
         let names = names_over(&self.over, &var);
         mark_each(&mut self.connections, names, Places::Others, &var);
@@ -154,6 +168,7 @@ impl Agenda {
     pub fn wake_restored(&mut self, var: Var)
         ensures connected { self.new.connected ≡ map (mark_own var) self.old.connected }
         ensures pending { (c : CidTerm) → Contains self.new.pending c ↔ (Contains self.old.pending c ⊎ IsOver self.old.connected var c) }
+        ensures formed { IsFormed self.new }
     {
         let names = names_over(&self.over, &var);
         mark_each(&mut self.connections, names, Places::Own, &var);
@@ -165,6 +180,7 @@ impl Agenda {
         requires { IsConnected self.old.connected cid }
         ensures connected { self.new.connected ≡ self.old.connected }
         ensures pending { (c : CidTerm) → Contains self.new.pending c ↔ (Contains self.old.pending c ⊎ (c ≡ cid)) }
+        ensures formed { IsFormed self.new }
     {
         self.pending.insert(&cid);
     }
@@ -172,7 +188,8 @@ impl Agenda {
     /// A mark for each place of the constraint's scope: whether values of the place's variable may lack support.
     pub fn marks(&self, cid: Cid) -> &[bool]
         requires { IsConnected self.now.connected cid }
-        ensures { (d : Connected) → Contains self.now.connected d → d.cid ≡ cid → result.now ≡ d.marks }
+        ensures marks { (d : Connected) → Contains self.now.connected d → d.cid ≡ cid → result.now ≡ d.marks }
+        ensures whole { (d : Connected) → Contains self.now.connected d → d.cid ≡ cid → length result.now ≡ length d.scope }
     {
         let place = place_of(&self.connections, &cid);
         self.connections[place].marks()
@@ -189,7 +206,7 @@ impl Agenda {
     /// Takes the mark of a place away.
     pub fn unmark(&mut self, cid: Cid, place: usize)
         requires { HasPlace self.old.connected cid place }
-        ensures connected { self.new.connected ≡ map (unmark cid place) self.old.connected }
+        ensures connected { self.new.connected ≡ map (changed_at cid (unmarked place)) self.old.connected }
         ensures pending { self.new.pending ≡ self.old.pending }
     {
         unmark_named(&mut self.connections, &cid, place);
@@ -207,8 +224,9 @@ impl Agenda {
     /// the one that it answers when it is asked once. It is not asked where none is pending.
     pub fn take(&mut self, order: &mut Option<Box<dyn Order>>) -> Option<Cid>
         ensures none { IfNone result ((self.old.pending ≡ []) × (self.new ≡ self.old) × (order.new ≡ order.old)) }
-        ensures some { IfSome result (λ c. (answer : ℕ) × Takes self.old self.new answer c
+        ensures some { IfSome result (λ c. (answer : ℕ) × Takes self.old.pending self.new.pending answer c
             × MatchOption order.old (answer ≡ 0) (λ before. IsSomeAnd order.new (λ after. answers before self.old.pending answer (state after)))) }
+        ensures connected { self.new.connected ≡ self.old.connected }
         ensures stays { is_some order.new ≡ is_some order.old }
     {
         match order {
@@ -220,7 +238,8 @@ impl Agenda {
     /// The pending constraint that the order answers.
     fn take_answered(&mut self, order: &mut Box<dyn Order>) -> Option<Cid>
         ensures none { IfNone result ((self.old.pending ≡ []) × (self.new ≡ self.old) × (order.new ≡ order.old)) }
-        ensures some { IfSome result (λ c. (answer : ℕ) × Takes self.old self.new answer c × answers order.old self.old.pending answer (state order.new)) }
+        ensures some { IfSome result (λ c. (answer : ℕ) × Takes self.old.pending self.new.pending answer c × answers order.old self.old.pending answer (state order.new)) }
+        ensures connected { self.new.connected ≡ self.old.connected }
     {
         let count = self.pending.len();
         if count == 0 {
@@ -231,15 +250,4 @@ impl Agenda {
         let place = if answer < count { answer } else { 0 };
         Some(self.pending.take_at(place))
     }
-}
-
-/// Takes a mark of the constraint away.
-fn unmark_named(connections: &mut Vec<Connection>, cid: &Cid, place: usize)
-    requires rising { Rises (names_of connections.old.items) }
-    requires connected { HasPlace connections.old.items cid.now place }
-    ensures { connections.new.items ≡ map (unmark cid.now place) connections.old.items }
-{
-    let at = place_of(connections, cid);
-    let connection = &mut connections[at];
-    connection.unmark(place);
 }

@@ -1,6 +1,6 @@
 //! One constraint of an agenda.
-ghost use Rattle.std.specs.Prelude.{◌≡◌, ◌<◌, false, length, IfOk, slice_set};
-ghost use Rattle.palm_agenda.specs.Agenda.{HasMarks, marked_where, marked_whole};
+ghost use Rattle.std.specs.Prelude.{◌≡◌, ◌<◌, length, IfOk, slice_set};
+ghost use Rattle.palm_agenda.specs.Agenda.{HasMarks, marked_where, marked_whole, unmarked};
 ghost use Rattle.palm_agenda.specs.Places.{is_place};
 
 use palm_base::{Cid, NoMemory, Var, VarList};
@@ -103,7 +103,7 @@ impl Connection {
     /// Takes the mark of a place away.
     pub(crate) fn unmark(&mut self, place: usize)
         requires { place < length self.old.scope }
-        ensures { self.new ≡ record self.old { marks = slice_set self.old.marks place false } }
+        ensures { self.new ≡ unmarked place self.old }
     {
         set_mark(&mut self.marks, place, false);
     }

@@ -1,7 +1,9 @@
 //! Names of constraints in their order.
-ghost use Rattle.std.specs.Prelude.{◌≡◌, ℕ, ◌+◌, ◌<◌, ◌≤◌, [], ◌∷◌, length, reverse, Contains, MatchOption, None, Some, OnOk, slice_get};
+ghost use Rattle.std.specs.Prelude.{◌≡◌, ℕ, ◌+◌, ◌<◌, ◌≤◌, [], ◌∷◌, length, reverse, Contains, MatchOption, None, Some, OnOk, slice_get, vec_capacity};
+ghost use Rattle.std.specs.List.{insert};
+ghost use Rattle.palm_base.specs.Tells.{Tells};
 ghost use Rattle.palm_base.specs.declared.terms.Cid.{Cid as CidTerm};
-ghost use Rattle.palm_model.specs.Log.{Rises, cid_before};
+ghost use Rattle.palm_model.specs.Log.{Rises, cid_before, same_cid};
 ghost use Rattle.palm_model.specs.State.{without_cid};
 ghost use Rattle.palm_agenda.specs.Names.{HasRoomFor, IsPartedAt, with_name};
 
@@ -14,6 +16,13 @@ pub(crate) fn is_before(first: &Cid, second: &Cid) -> bool
     ensures { result ≡ cid_before first.now second.now }
 {
     first < second
+}
+
+/// Whether the two names are one.
+fn is_same(first: &Cid, second: &Cid) -> bool
+    ensures { result ≡ same_cid first.now second.now }
+{
+    first == second
 }
 
 /// Different names, with room for more. They are kept in falling order, so that the first one is taken from the end.
@@ -60,13 +69,12 @@ impl Names {
         self.falling.as_slice()
     }
 
-    /// Makes room for so many names in all.
-    pub(crate) fn reserve(&mut self, count: usize) -> Result<(), NoMemory>
+    /// Makes room for so many more names.
+    pub(crate) fn reserve(&mut self, more: usize) -> Result<(), NoMemory>
         ensures names { self.new.names ≡ self.old.names }
         ensures grows { self.old.room ≤ self.new.room }
-        ensures ok { OnOk result (count ≤ self.new.room) }
+        ensures ok { OnOk result (length self.new.names + more ≤ self.new.room) }
     {
-        let more = count.saturating_sub(self.falling.len());
         self.falling.reserve(more)?;
         Ok(())
     }
@@ -78,9 +86,8 @@ impl Names {
         ensures room { self.new.room ≡ self.old.room }
     {
         let place = place_of(&self.falling, cid);
-        if self.falling.get(place) != Some(cid) {
-            let inserted = self.falling.insert(place, copy_of(cid));
-            prove!(inserted.is_ok());
+        if !stands_at(&self.falling, place, cid) {
+            put_at(&mut self.falling, place, cid);
         }
     }
 
@@ -90,7 +97,7 @@ impl Names {
         ensures room { self.new.room ≡ self.old.room }
     {
         let place = place_of(&self.falling, cid);
-        if self.falling.get(place) == Some(cid) {
+        if stands_at(&self.falling, place, cid) {
             self.falling.remove(place);
         }
     }
@@ -124,6 +131,24 @@ fn place_of(falling: &[Cid], cid: &Cid) -> usize
     ensures { IsPartedAt (λ c. cid_before cid.now c) falling.now result }
 {
     falling.partition_point(|name| is_before(cid, name))
+}
+
+/// Whether the name stands at the place.
+fn stands_at(names: &[Cid], place: usize, cid: &Cid) -> bool
+    ensures { Tells result (slice_get names.now place ≡ Some cid.now) }
+{
+    place < names.len() && is_same(&names[place], cid)
+}
+
+/// Puts the name at the place, where there is room.
+fn put_at(names: &mut Vec<Cid>, place: usize, cid: &Cid)
+    requires within { place ≤ length names.old.items }
+    requires room { length names.old.items < vec_capacity names.old }
+    ensures items { names.new.items ≡ insert names.old.items place cid.now }
+    ensures room { vec_capacity names.new ≡ vec_capacity names.old }
+{
+    let inserted = names.insert(place, copy_of(cid));
+    prove!(inserted.is_ok());
 }
 
 /// The name again.

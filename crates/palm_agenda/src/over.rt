@@ -1,8 +1,7 @@
 //! For each variable the names of the constraints over it.
-ghost use Rattle.std.specs.Prelude.{◌≡◌, ℕ, ◌<◌, ◌≤◌, ◌↔◌, ◌⊎◌, length, reverse, Contains, OnOk, slice_set};
+ghost use Rattle.std.specs.Prelude.{◌≡◌, ℕ, ◌<◌, ◌≤◌, ◌↔◌, ◌⊎◌, length, reverse, Contains, OnOk};
 ghost use Rattle.palm_base.specs.declared.terms.Cid.{Cid as CidTerm};
-ghost use Rattle.palm_agenda.specs.Names.{HasRoomFor, HasSpace, names_at, row_at, with_name};
-
+ghost use Rattle.palm_agenda.specs.Names.{HasRoomFor, HasSpace, names_at, row_at, with_name, with_names};
 ghost use Rattle.palm_model.specs.State.{without_cid};
 
 use crate::names::Names;
@@ -21,8 +20,7 @@ pub(crate) fn names_over<'a>(over: &'a [Names], var: &Var) -> &'a [Cid]
 
 /// Makes a list for each of the first variables, so many of them.
 fn reach(over: &mut Vec<Names>, variables: usize) -> Result<(), NoMemory>
-    ensures same { (x : ℕ) → x < length over.old.items → row_at over.new.items x ≡ row_at over.old.items x }
-    ensures names { (x : ℕ) → names_at over.new.items x ≡ names_at over.old.items x }
+    ensures rows { (x : ℕ) → row_at over.new.items x ≡ row_at over.old.items x }
     ensures longer { length over.old.items ≤ length over.new.items }
     ensures ok { OnOk result (variables ≤ length over.new.items) }
 {
@@ -43,7 +41,7 @@ fn make_room_at(over: &mut Vec<Names>, var: &Var) -> Result<(), NoMemory>
     let place = var.0 as usize;
     reach(over, place + 1)?;
     let names = &mut over[place];
-    names.reserve(names.len() + 1)
+    names.reserve(1)
 }
 
 /// Makes room for one more name in the list of each variable of a scope.
@@ -61,7 +59,7 @@ pub(crate) fn make_room(over: &mut Vec<Names>, scope: &[Var]) -> Result<(), NoMe
 fn insert_at(over: &mut Vec<Names>, var: &Var, cid: &Cid)
     requires within { var.now < length over.old.items }
     requires room { HasRoomFor cid.now (row_at over.old.items var.now) }
-    ensures { over.new.items ≡ slice_set over.old.items var.now (record row_at over.old.items var.now { names = with_name cid.now (names_at over.old.items var.now) }) }
+    ensures { over.new.items ≡ with_names over.old.items var.now (with_name cid.now (names_at over.old.items var.now)) }
 {
     let names = &mut over[var.0 as usize];
     names.insert(cid);
@@ -81,7 +79,7 @@ pub(crate) fn insert_over(over: &mut Vec<Names>, scope: &[Var], cid: &Cid)
 /// Takes the name out of the list of the variable.
 fn remove_at(over: &mut Vec<Names>, var: &Var, cid: &Cid)
     requires { var.now < length over.old.items }
-    ensures { over.new.items ≡ slice_set over.old.items var.now (record row_at over.old.items var.now { names = without_cid cid.now (names_at over.old.items var.now) }) }
+    ensures { over.new.items ≡ with_names over.old.items var.now (without_cid cid.now (names_at over.old.items var.now)) }
 {
     let names = &mut over[var.0 as usize];
     names.remove(cid);
