@@ -1,6 +1,14 @@
+pub mod Comparing
 pub mod Counting
 pub mod Ending
+pub mod Keeping
+pub mod Marking
+pub mod Placing
+pub mod Restoring
 pub mod Same
+pub mod Scopes
 pub mod Settled
+pub mod Taking
 pub mod Walking
+pub mod Withdrawing
 pub mod Working
