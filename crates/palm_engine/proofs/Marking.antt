@@ -1,160 +1,164 @@
--- Marks: they stay right after a removal, and after a place was walked over.
-use Rattle.std.proofs.Common.{◌≡◌, ℕ, zero, suc, ◌||◌, ◌⊎◌, Bool, true, false, not, cond, List, [], ◌∷◌, map, Contains, ℤ, Some, slice_get, slice_set, nat_eq, eq-eqb, eqb-true, inl, inr, refl, sym, ap, ◌∙◌, subst}
-use Rattle.std.proofs.lemmas.Bool.{cases_Bool, false≢true}
+-- Places without a mark: which they are after marks were made, and that their values have support.
+use Rattle.std.proofs.Common.{◌≡◌, ℕ, zero, suc, Bool, true, false, not, if◌then◌else◌, ◌||◌, nat_eq, List, [], ◌∷◌, ◌++◌, map, filter, length, slice_get, replicate, Contains, Option, None, Some, ◌⊎◌, inl, inr, refl, sym, ap, ◌∙◌, subst, eq-eqb, eqb-true, ℤ}
+use Rattle.std.specs.List.{list_any}
+use Rattle.std.proofs.lemmas.Bool.{cases_Bool, false≢true, not-true, or_left, or_right}
+use Rattle.std.proofs.lemmas.List.Elements.{Contains-append_cases}
+use Rattle.std.proofs.lemmas.Option.{slice_get_within, get_or_from_slice_get}
 use Rattle.palm_base.specs.declared.terms.Pair.{Pair}
 use Rattle.palm_base.specs.declared.terms.Cid.{Cid}
-use Rattle.palm_base.proofs.Members.{member_map, member_unmap, member_same, nat_known}
-use Rattle.palm_model.specs.Domains.{Domains, Has, IsInside}
+use Rattle.palm_base.proofs.Members.{member_cases, member_map, member_unmap, member_same, filter_member, nat_known}
 use Rattle.palm_model.specs.Constraint.{scope}
-use Rattle.palm_model.specs.Support.{IsSupported}
-use Rattle.palm_model.specs.Log.{Active, Rises, cids_of, same_cid}
-use Rattle.palm_model.proofs.Supports.{member_any}
-use Rattle.palm_model.proofs.Without.{pair_of}
-use Rattle.palm_events.proofs.Names.{single, cid_same}
-use Rattle.palm_agenda.specs.Agenda.{Connected, marks_where, marked_where, is_over, mark_others, unmark}
-use Rattle.palm_engine.specs.Kept.{AreConnected, AreMarked, Scoped}
-use Rattle.palm_engine.proofs.Staying.{KeepsOthers, support_stays}
+use Rattle.palm_model.specs.Domains.{Domains, Has, IsInside}
+use Rattle.palm_model.specs.Part.{scope_of}
+use Rattle.palm_model.specs.Support.{HasSupport, IsSupported}
+use Rattle.palm_model.specs.Log.{Active, IsActive, Rises, cid_before, cids_of, is_named}
+use Rattle.palm_model.specs.Event.{with_posted, without_names}
+use Rattle.palm_model.specs.declared.constraint.Con.{Con}
+use Rattle.palm_model.proofs.Formed.{part_scope}
+use Rattle.palm_model.proofs.Supports.{any_member, member_any}
+use Rattle.palm_events.proofs.States.{with_posted_cases, without_names_member}
+use Rattle.palm_agenda.specs.Agenda.{Connected, is_over, marked_whole, marked_where, marks_where, mark_others, with_connected, without_connected}
+use Rattle.palm_engine.specs.Kept.{Scoped, AreConnected, AreMarked}
+use Rattle.palm_engine.specs.Changed.{is_one_of}
+use Rattle.palm_engine.proofs.Scopes.{connected_known, scope_of_owner, scoped_others}
 
--- ---- the agenda's constraints are the active ones
+-- ---- a place without a mark
 
-abbrev scoped : Connected → Scoped
-scoped d = record { cid = d.cid; scope = d.scope }
+-- the place has this variable, and no mark
+pub record IsPlain (d : Connected) (k x : ℕ) : Type 0 where
+  pub var : slice_get d.scope k ≡ Some x
+  pub plain : slice_get d.marks k ≡ Some false
 
-abbrev scoped_active : Active → Scoped
-scoped_active a = record { cid = a.cid; scope = scope a.con }
+or_false : (a b : Bool) → (a || b) ≡ false → (a ≡ false) × (b ≡ false)
+or_false true b e = absurd (false≢true (sym e))
+or_false false b e = (refl, e)
 
--- a connected constraint is active
-pub connected_active : (active : List Active) (connected : List Connected) → AreConnected active connected → (c : Connected) → Contains connected c → (a : Active) × Contains active a × (a.cid ≡ c.cid) × (scope a.con ≡ c.scope)
-connected_active active connected same c m =
-    let there = subst (λ l. Contains l (scoped c)) same (member_map scoped connected c m) in
-    let r = member_unmap scoped_active active (scoped c) there in
-    (r.0, r.1, ap (λ (q : Scoped). q.cid) r.2, ap (λ (q : Scoped). q.scope) r.2)
+some_same : {X : Type 0} (x y : X) → Some x ≡ Some y → x ≡ y
+some_same x y e = cc
 
--- and an active one is connected
-pub active_connected : (active : List Active) (connected : List Connected) → AreConnected active connected → (a : Active) → Contains active a → (c : Connected) × Contains connected c × (c.cid ≡ a.cid) × (c.scope ≡ scope a.con)
-active_connected active connected same a m =
-    let there = subst (λ l. Contains l (scoped_active a)) (sym same) (member_map scoped_active active a m) in
-    let r = member_unmap scoped connected (scoped_active a) there in
-    (r.0, r.1, ap (λ (q : Scoped). q.cid) r.2, ap (λ (q : Scoped). q.scope) r.2)
+plain_where : (test : ℕ → Bool) (scope : List ℕ) (marks : List Bool) (k x : ℕ) → slice_get scope k ≡ Some x → slice_get (marks_where test scope marks) k ≡ Some false
+    → (slice_get marks k ≡ Some false) × (test x ≡ false)
+plain_where test [] marks k x e f = cc
+plain_where test (y ∷ scope) [] k x e f = cc
+plain_where test (y ∷ scope) (mark ∷ marks) zero x e f =
+    let r = or_false mark (test y) (some_same (mark || test y) false f) in
+    (ap Some r.0, subst (λ z. test z ≡ false) (some_same y x e) r.1)
+plain_where test (y ∷ scope) (mark ∷ marks) (suc k) x e f = plain_where test scope marks k x e f
 
-pub connected_scope : (active : List Active) (connected : List Connected) → Rises (cids_of active) → AreConnected active connected → (a : Active) (c : Connected) → Contains active a → Contains connected c → c.cid ≡ a.cid → scope a.con ≡ c.scope
-connected_scope active connected rises same a c m n named =
-    let r = connected_active active connected same c n in
-    let e : r.0 ≡ a = single active rises r.0 a r.1 m (r.2 ∙ named) in
-    ap (λ (b : Active). scope b.con) (sym e) ∙ r.3
-
--- names and scopes stay where each constraint keeps them
-pub connected_stays : (active : List Active) (connected : List Connected) (f : Connected → Connected) → ((c : Connected) → (f c).cid ≡ c.cid) → ((c : Connected) → (f c).scope ≡ c.scope) → AreConnected active connected → AreConnected active (map f connected)
-connected_stays active connected f cid vars same = kept f cid vars connected ∙ same
-  where
-    kept : (f : Connected → Connected) → ((c : Connected) → (f c).cid ≡ c.cid) → ((c : Connected) → (f c).scope ≡ c.scope) → (cs : List Connected) → map scoped (map f cs) ≡ map scoped cs
-    kept f cid vars [] = refl
-    kept f cid vars (c ∷ cs) =
-        let one : scoped (f c) ≡ scoped c = λ i. record { cid = cid c i; scope = vars c i } in
-        λ i. one i ∷ kept f cid vars cs i
-
--- ---- a removal marks the other places
-
--- a place that has no mark afterwards had none, and its variable does not pass the test
-where_unmarked : (test : ℕ → Bool) (vars : List ℕ) (marks : List Bool) (k x : ℕ) → slice_get vars k ≡ Some x → slice_get (marks_where test vars marks) k ≡ Some false → (slice_get marks k ≡ Some false) × (test x ≡ false)
-where_unmarked test [] marks k x at un = cc
-where_unmarked test (y ∷ vars) [] k x at un = cc
-where_unmarked test (y ∷ vars) (mark ∷ marks) zero x at un =
-    let e : y ≡ x = cc in
-    let f : (mark || test y) ≡ false = cc in
-    let r = neither mark (test y) f in
-    (ap Some r.0, ap test (sym e) ∙ r.1)
-  where
-    neither : (b c : Bool) → (b || c) ≡ false → (b ≡ false) × (c ≡ false)
-    neither true c h = absurd (false≢true (sym h))
-    neither false c h = (refl, h)
-where_unmarked test (y ∷ vars) (mark ∷ marks) (suc k) x at un = where_unmarked test vars marks k x at un
-
--- what a constraint without a mark at the place was before a removal at x
-pub record WasUnmarked (x : ℕ) (d : Connected) (k y : ℕ) : Type 0 where
-  pub unmarked : slice_get d.marks k ≡ Some false
-  pub own : Contains d.scope x → y ≡ x
-
-others_cid : (x : ℕ) (d : Connected) → (mark_others x d).cid ≡ d.cid
-others_cid x d = elim (cases_Bool (is_over x d)) [ inl t ↦ rw t refl | inr f ↦ rw f refl ]
-
-others_scope : (x : ℕ) (d : Connected) → (mark_others x d).scope ≡ d.scope
-others_scope x d = elim (cases_Bool (is_over x d)) [ inl t ↦ rw t refl | inr f ↦ rw f refl ]
+-- it had no mark before, and its variable does not pass the test
+pub plain_marked : (test : ℕ → Bool) (d : Connected) (k x : ℕ) → IsPlain (marked_where test d) k x → IsPlain d k x × (test x ≡ false)
+plain_marked test d k x is =
+    let r = plain_where test d.scope d.marks k x is.var is.plain in (record { var = is.var; plain = r.0 }, r.1)
 
 not_false : (b : Bool) → not b ≡ false → b ≡ true
-not_false true h = refl
-not_false false h = absurd (false≢true (sym h))
+not_false true e = refl
+not_false false e = absurd (false≢true (sym e))
 
-others_unmarked : (x : ℕ) (d : Connected) (k y : ℕ) → slice_get d.scope k ≡ Some y → slice_get (mark_others x d).marks k ≡ Some false → WasUnmarked x d k y
-others_unmarked x d k y at = elim (cases_Bool (is_over x d)) [
-  | inl t ↦ rw t (λ un.
-      let r = where_unmarked (λ z. not (nat_eq z x)) d.scope d.marks k y at un in
-      record { unmarked = r.0; own = λ m. eqb-true y x (not_false (nat_eq y x) r.1) })
-  | inr f ↦ rw f (λ un. record {
-      unmarked = un;
-      own = λ m. absurd (false≢true (sym f ∙ member_any (λ z. nat_eq z x) d.scope x m (eq-eqb x x refl)));
-    })
-]
+-- a constraint over x without a mark at a place of y: y is x
+pub plain_others : (x : ℕ) (d : Connected) (k y : ℕ) → IsPlain (mark_others x d) k y → IsPlain d k y × (Contains d.scope x → y ≡ x)
+plain_others x d k y is = by_test (is_over x d) refl is
+  where
+    by_test : (b : Bool) → is_over x d ≡ b → IsPlain (if b then marked_where (λ z. not (nat_eq z x)) d else d) k y → IsPlain d k y × (Contains d.scope x → y ≡ x)
+    by_test true e is = let r = plain_marked (λ z. not (nat_eq z x)) d k y is in (r.0, λ over. eqb-true y x (not_false (nat_eq y x) r.1))
+    by_test false e is = (is, λ over. absurd (false≢true (sym e ∙ member_any (λ z. nat_eq z x) d.scope x over (eq-eqb x x refl))))
 
-pub marked_removed : (d e : Domains) (active : List Active) (connected : List Connected) (x : ℕ) (v : ℤ) → Rises (cids_of active) → AreConnected active connected → KeepsOthers d e x v → IsInside e d → (Has e x v → ⊥)
+pub not_plain : (n k x : ℕ) (d : Connected) → d.marks ≡ replicate n true → IsPlain d k x → ⊥
+not_plain n k x d e is = no_false n k (subst (λ ms. slice_get ms k ≡ Some false) e is.plain)
+  where
+    no_false : (n k : ℕ) → slice_get (replicate n true) k ≡ Some false → ⊥
+    no_false zero k e = cc
+    no_false (suc n) zero e = false≢true (sym (some_same true false e))
+    no_false (suc n) (suc k) e = no_false n k e
+
+-- a variable that is none of these
+pub none_of : (vars : List ℕ) (x : ℕ) → is_one_of vars x ≡ false → Contains vars x → ⊥
+none_of vars x e m = false≢true (sym e ∙ member_any (λ z. nat_eq x z) vars x m (eq-eqb x x refl))
+
+pub one_of : (vars : List ℕ) (x : ℕ) → is_one_of vars x ≡ true → Contains vars x
+one_of vars x e = let r = any_member (λ z. nat_eq x z) vars e in member_same vars r.0 x (sym (eqb-true x r.0 r.2)) r.1
+
+-- the variable of a place is in the scope
+pub place_over : (scope : List ℕ) (k x : ℕ) → slice_get scope k ≡ Some x → Contains scope x
+place_over scope k x e = (k, slice_get_within scope k x e, get_or_from_slice_get scope k x x e)
+
+-- ---- support
+
+-- support of a value of y stays where the other variables of the scope keep their values
+pub supported_still : (d e : Domains) (c : Con) (y : ℕ) (w : ℤ) → Has e y w → ((z : ℕ) (u : ℤ) → Contains (scope c) z → (z ≡ y → ⊥) → Has d z u → Has e z u) → IsSupported d c y w → IsSupported e c y w
+supported_still d e c y w has others supported = record {
+  each = λ p m over.
+      let s = supported.each p m over in
+      record {
+        assignment = s.assignment;
+        within = λ z n. elim (nat_known z y) [
+          | inl at ↦ subst (λ q. Has e q (s.assignment q)) (sym at) (subst (λ u. Has e y u) (sym s.gives) has)
+          | inr ne ↦ others z (s.assignment z) (part_scope c p z m n) ne (s.within z n)
+        ];
+        gives = s.gives;
+        holds = s.holds;
+      };
+}
+
+-- ---- after a value of x was taken out
+
+pub taken_marked : (active : List Active) (connected : List Connected) (d e : Domains) (x : ℕ) → Rises (cids_of active) → AreConnected active connected
+    → IsInside e d → ((z : ℕ) (u : ℤ) → (z ≡ x → ⊥) → Has d z u → Has e z u)
     → AreMarked d active connected → AreMarked e active (map (mark_others x) connected)
-marked_removed d e active connected x v rises same keeps inside gone marked a c k y w m n named at un has =
-    let r = member_unmap (mark_others x) connected c n in
-    let name : r.0.cid ≡ a.cid = sym (others_cid x r.0) ∙ ap (λ (b : Connected). b.cid) r.2 ∙ named in
-    let at' : slice_get r.0.scope k ≡ Some y = ap (λ l. slice_get l k) (sym (others_scope x r.0)) ∙ ap (λ (b : Connected). slice_get b.scope k) r.2 ∙ at in
-    let was = others_unmarked x r.0 k y at' (ap (λ (b : Connected). slice_get b.marks k) r.2 ∙ un) in
-    let vars = connected_scope active connected rises same a r.0 m r.1 name in
-    let supported = marked a r.0 k y w m r.1 name at' was.unmarked (inside y w has) in
-    support_stays d e a.con x v y w keeps
-    (λ z over is. is ∙ sym (was.own (member_same r.0.scope z x is (subst (λ l. Contains l z) vars over))))
-    (λ is. gone (subst (λ (p : Pair). Has e p.var p.value) (sym is) has)) supported
+taken_marked active connected d e x rises are inside others marked a c k y w am cm named var plain has =
+    let r = member_unmap (mark_others x) connected c cm in
+    let was : r.0.cid ≡ a.cid = ap (λ (s : Scoped). s.cid) (sym (scoped_others x r.0)) ∙ ap (λ (d : Connected). d.cid) r.2 ∙ named in
+    let is : IsPlain (mark_others x r.0) k y = subst (λ z. IsPlain z k y) (sym r.2) (record { var = var; plain = plain }) in
+    let o = plain_others x r.0 k y is in
+    let scoped = scope_of_owner active connected rises are a r.0 am r.1 was in
+    supported_still d e a.con y w has
+    (λ z u over ne had. others z u (λ at. ne (at ∙ sym (o.1 (subst (λ s. Contains s x) (sym scoped) (subst (λ q. Contains (scope a.con) q) at over))))) had)
+    (marked a r.0 k y w am r.1 was o.0.var o.0.plain (inside y w has))
 
-pub connected_removed : (active : List Active) (connected : List Connected) (x : ℕ) → AreConnected active connected → AreConnected active (map (mark_others x) connected)
-connected_removed active connected x same = connected_stays active connected (mark_others x) (others_cid x) (others_scope x) same
+-- ---- after a constraint went and values of these variables were put back
 
--- ---- a place was walked over
+pub restored_marked : (active : List Active) (connected : List Connected) (d e : Domains) (cid : Cid) (vars : List ℕ)
+    → IsInside d e → ((z : ℕ) (u : ℤ) → (Contains vars z → ⊥) → Has e z u → Has d z u)
+    → AreMarked d active connected → AreMarked e (without_names (cid ∷ []) active) (map (marked_where (is_one_of vars)) (without_connected cid connected))
+restored_marked active connected d e cid vars grows only marked a c k y w am cm named var plain has =
+    let r = member_unmap (marked_where (is_one_of vars)) (without_connected cid connected) c cm in
+    let listed = (filter_member (λ (d : Connected). not (is_named (cid ∷ []) d.cid)) connected r.0 r.1).0 in
+    let was : r.0.cid ≡ a.cid = ap (λ (d : Connected). d.cid) r.2 ∙ named in
+    let is : IsPlain (marked_where (is_one_of vars) r.0) k y = subst (λ z. IsPlain z k y) (sym r.2) (record { var = var; plain = plain }) in
+    let o = plain_marked (is_one_of vars) r.0 k y is in
+    supported_still d e a.con y w has (λ z u over ne had. grows z u had)
+    (marked a r.0 k y w (without_names_member (cid ∷ []) active a am).0 listed was o.0.var o.0.plain (only y w (none_of vars y o.1) has))
 
-pub unmark_cid : (cid : Cid) (place : ℕ) (d : Connected) → (unmark cid place d).cid ≡ d.cid
-unmark_cid cid place d = elim (cases_Bool (same_cid d.cid cid)) [ inl t ↦ rw t refl | inr f ↦ rw f refl ]
+-- ---- with one more constraint, marked whole
 
-unmark_scope : (cid : Cid) (place : ℕ) (d : Connected) → (unmark cid place d).scope ≡ d.scope
-unmark_scope cid place d = elim (cases_Bool (same_cid d.cid cid)) [ inl t ↦ rw t refl | inr f ↦ rw f refl ]
-
-set_other : (marks : List Bool) (place k : ℕ) (b c : Bool) → (k ≡ place → ⊥) → slice_get (slice_set marks place b) k ≡ Some c → slice_get marks k ≡ Some c
-set_other [] place k b c n h = h
-set_other (m ∷ marks) zero zero b c n h = absurd (n refl)
-set_other (m ∷ marks) zero (suc k) b c n h = h
-set_other (m ∷ marks) (suc place) zero b c n h = h
-set_other (m ∷ marks) (suc place) (suc k) b c n h = set_other marks place k b c (λ e. n (ap suc e)) h
-
--- a place without a mark had none, or is the one that was walked over
-unmarked_cases : (cid : Cid) (place : ℕ) (d : Connected) (k : ℕ) → slice_get (unmark cid place d).marks k ≡ Some false → (slice_get d.marks k ≡ Some false) ⊎ ((d.cid ≡ cid) × (k ≡ place))
-unmarked_cases cid place d k = elim (cases_Bool (same_cid d.cid cid)) [
-  | inl t ↦ rw t (λ un. elim (nat_known k place) [
-    | inl e ↦ inr (cid_same d.cid cid t, e)
-    | inr n ↦ inl (set_other d.marks place k false false n un)
-  ])
-  | inr f ↦ rw f (λ un. inl un)
-]
-
-pub marked_walked : (d : Domains) (active : List Active) (connected : List Connected) (owner : Active) (place x : ℕ) → Rises (cids_of active) → AreConnected active connected → Contains active owner
-    → slice_get (scope owner.con) place ≡ Some x → ((v : ℤ) → Has d x v → IsSupported d owner.con x v)
-    → AreMarked d active connected → AreMarked d active (map (unmark owner.cid place) connected)
-marked_walked d active connected owner place x rises same posted here supported marked a c k y w m n named at un has =
-    let r = member_unmap (unmark owner.cid place) connected c n in
-    let name : r.0.cid ≡ a.cid = sym (unmark_cid owner.cid place r.0) ∙ ap (λ (b : Connected). b.cid) r.2 ∙ named in
-    let at' : slice_get r.0.scope k ≡ Some y = ap (λ l. slice_get l k) (sym (unmark_scope owner.cid place r.0)) ∙ ap (λ (b : Connected). slice_get b.scope k) r.2 ∙ at in
-    elim (unmarked_cases owner.cid place r.0 k (ap (λ (b : Connected). slice_get b.marks k) r.2 ∙ un)) [
-      | inl was ↦ marked a r.0 k y w m r.1 name at' was has
-      | inr it ↦
-          let e : owner ≡ a = single active rises owner a posted m (sym it.0 ∙ name) in
-          let vars = connected_scope active connected rises same a r.0 m r.1 name in
-          let at_a : slice_get (scope a.con) place ≡ Some x = ap (λ (b : Active). slice_get (scope b.con) place) (sym e) ∙ here in
-          let both : Some x ≡ Some y = sym at_a ∙ ap (λ l. slice_get l place) vars ∙ ap (λ i. slice_get r.0.scope i) (sym it.1) ∙ at' in
-          let var : x ≡ y = cc in
-          let has_x : Has d x w = subst (λ z. Has d z w) (sym var) has in
-          subst (λ z. IsSupported d a.con z w) var (subst (λ (b : Active). IsSupported d b.con x w) e (supported w has_x))
+pub posted_marked : (active : List Active) (connected : List Connected) (d : Domains) (a : Active) → AreConnected active connected → (IsActive active a.cid → ⊥)
+    → AreMarked d active connected → AreMarked d (with_posted a active) (with_connected (marked_whole a.cid (scope a.con)) connected)
+posted_marked active connected d a are inactive marked b c k y w bm cm named var plain has =
+    elim (with_connected_cases (marked_whole a.cid (scope a.con)) connected c cm) [
+      | inl e ↦ absurd (not_plain (length (scope a.con)) k y c (ap (λ (f : Connected). f.marks) (sym e)) (record { var = var; plain = plain }))
+      | inr m ↦ elim (with_posted_cases a active b bm) [
+        | inr n ↦ marked b c k y w n m named var plain has
+        | inl e ↦
+            let o = connected_known active connected are c m in
+            absurd (inactive (record { owner = o.owner; posted = o.posted; named = o.named ∙ named ∙ ap (λ (f : Active). f.cid) (sym e) }))
+      ]
     ]
+  where
+    with_connected_cases : (n : Connected) (connected : List Connected) (c : Connected) → Contains (with_connected n connected) c → (n ≡ c) ⊎ Contains connected c
+    with_connected_cases n connected c m =
+        elim (Contains-append_cases (filter (λ (e : Connected). cid_before e.cid n.cid) connected) (n ∷ filter (λ (e : Connected). cid_before n.cid e.cid) connected) c m) [
+          | inl k ↦ inr (filter_member (λ (e : Connected). cid_before e.cid n.cid) connected c k).0
+          | inr k ↦ elim (member_cases n (filter (λ (e : Connected). cid_before n.cid e.cid) connected) c k) [
+            | inl e ↦ inl e
+            | inr l ↦ inr (filter_member (λ (e : Connected). cid_before n.cid e.cid) connected c l).0
+          ]
+        ]
 
-pub connected_walked : (active : List Active) (connected : List Connected) (cid : Cid) (place : ℕ) → AreConnected active connected → AreConnected active (map (unmark cid place) connected)
-connected_walked active connected cid place same = connected_stays active connected (unmark cid place) (unmark_cid cid place) (unmark_scope cid place) same
+-- ---- domains that agree on every scope
+
+pub agreeing_marked : (active : List Active) (connected : List Connected) (d e : Domains) → Rises (cids_of active) → AreConnected active connected
+    → ((a : Active) (z : ℕ) (u : ℤ) → Contains active a → Contains (scope a.con) z → Has d z u → Has e z u)
+    → ((a : Active) (z : ℕ) (u : ℤ) → Contains active a → Contains (scope a.con) z → Has e z u → Has d z u)
+    → AreMarked d active connected → AreMarked e active connected
+agreeing_marked active connected d e rises are there back marked a c k y w am cm named var plain has =
+    let over : Contains (scope a.con) y = subst (λ s. Contains s y) (scope_of_owner active connected rises are a c am cm named) (place_over c.scope k y var) in
+    supported_still d e a.con y w has (λ z u o ne had. there a z u am o had) (marked a c k y w am cm named var plain (back a y w am over has))

@@ -26,7 +26,7 @@ use Rattle.palm_engine.specs.Changed.{TakesOut, NotesLoss}
 use Rattle.palm_engine.specs.Posted.{IsInForm}
 use Rattle.palm_engine.specs.Revising.{IsRevising, IsAgain, Walked, HasCounted}
 use Rattle.palm_engine.proofs.Joined.{walk_then, walk_one_past, walk_one_out}
-use Rattle.palm_engine.proofs.Marking.{active_connected, connected_active, connected_removed, marked_removed}
+use Rattle.palm_engine.proofs.Unmarking.{active_connected, connected_active, connected_removed, marked_removed}
 use Rattle.palm_engine.proofs.Staying.{KeepsOthers, support_stays}
 use Rattle.palm_engine.proofs.Waking.{IsOver, woken_beside}
 

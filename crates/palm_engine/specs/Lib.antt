@@ -1,5 +1,6 @@
 pub mod Changed
 pub mod Engine
+pub mod Gathered
 pub mod Kept
 pub mod Posted
 pub mod Revising

@@ -99,11 +99,12 @@ impl<F: Filter> Posted<F> {
         ensures once { steps.new ≤ steps.old + 1 }
         ensures checks { checks.new ≡ min (checks.old + (steps.new - steps.old)) LAST_COUNT }
     {
+        let counted = checks.saturating_add(1);
         match self {
             Posted::Decision(decided) => decided.value == pair.value,
             Posted::Negation { pair: negated, .. } => negated.value != pair.value,
             Posted::User { filter, .. } => {
-                *checks = checks.saturating_add(1);
+                *checks = counted;
                 ask(filter, store, pair, steps)
             }
         }

@@ -4,7 +4,7 @@ use Rattle.palm_model.specs.Constraint.{scope}
 use Rattle.palm_model.specs.Log.{Active}
 use Rattle.palm_engine.specs.Posted.{active_of}
 use Rattle.palm_engine.proofs.Progress.{on_err_of}
-use Rattle.palm_engine.proofs.Scopes.{places_start, places_more, places_done, places_emptied, places_stopped, places_counted, places_part_counted, kept_empty, place_at}
+use Rattle.palm_engine.proofs.Places.{places_start, places_more, places_done, places_emptied, places_stopped, places_counted, places_part_counted, kept_empty, place_at}
 use Rattle.palm_engine.proofs.revise.revise.Goals as goal
 
 pub loop-place-init : goal.loop-place-init

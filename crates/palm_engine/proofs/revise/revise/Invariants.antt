@@ -2,7 +2,7 @@ use Rattle.std.proofs.Common.{List}
 use Rattle.palm_model.specs.Log.{Active}
 use Rattle.palm_engine.specs.Posted.{active_of}
 use Rattle.palm_engine.specs.Revising.{IsRevising}
-use Rattle.palm_engine.proofs.Scopes.{WalkedPlaces}
+use Rattle.palm_engine.proofs.Places.{WalkedPlaces}
 use Rattle.palm_engine.proofs.revise.revise.Given as goal
 
 abbrev pub invariant-loop-place : goal.invariant-loop-place

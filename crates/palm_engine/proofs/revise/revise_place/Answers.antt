@@ -8,7 +8,7 @@ use Rattle.palm_model.specs.Log.{Active}
 use Rattle.palm_agenda.specs.Agenda.{HasPlace, IsMarked}
 use Rattle.palm_engine.specs.Posted.{active_of}
 use Rattle.palm_engine.proofs.Progress.{on_err_of}
-use Rattle.palm_engine.proofs.Scopes.{owner_place, place_over, place_past, unmarked_supported, unmarked_clears, cleared_revising, cleared_walked}
+use Rattle.palm_engine.proofs.Places.{owner_place, place_over, place_past, unmarked_supported, unmarked_clears, cleared_revising, cleared_walked}
 use Rattle.palm_engine.proofs.revise.revise_place.Goals as goal
 
 pub is_marked-requires : goal.is_marked-requires

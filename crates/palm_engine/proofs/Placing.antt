@@ -1,0 +1,191 @@
+-- Where constraints stand among those that rise, and which are left without one of them.
+use Rattle.std.proofs.Common.{◌≡◌, ℕ, zero, suc, ◌<◌, ◌≤◌, Bool, true, false, not, List, [], ◌∷◌, ◌++◌, map, filter, length, get_or, slice_get, insert, remove, Contains, Option, Some, inl, inr, refl, sym, ap, ◌∙◌, subst, arith}
+use Rattle.std.specs.Option.{option_map}
+use Rattle.std.specs.List.Sorted.{IsPartitionedBy}
+use Rattle.std.proofs.lemmas.Bool.{cases_lt, false≢true}
+use Rattle.std.proofs.lemmas.List.{map-append}
+use Rattle.std.proofs.lemmas.List.Elements.{All-contains, Contains-get_or}
+use Rattle.std.proofs.lemmas.Option.{slice_get-map, slice_get-get_or, slice_get_within, get_or_from_slice_get}
+use Rattle.palm_base.specs.declared.terms.Pair.{Pair}
+use Rattle.palm_base.specs.declared.terms.Cid.{Cid}
+use Rattle.palm_base.specs.declared.terms.Cid.TheVariants.{Decide, Not, User}
+use Rattle.palm_base.proofs.Members.{member_here, member_map, member_unmap, member_single, member_get}
+use Rattle.palm_model.specs.Log.{Active, IsActive, Rises, cid_before, cids_of, is_named, pair_before}
+use Rattle.palm_model.specs.Event.{with_posted, without_names}
+use Rattle.palm_model.specs.declared.constraint.Con.{Con}
+use Rattle.palm_events.proofs.Names.{before_then, not_before_itself, member_named, member_not_named}
+use Rattle.palm_agenda.specs.Names.{IsPartedAt}
+use Rattle.palm_agenda.proofs.NameLists.{rising}
+use Rattle.palm_agenda.proofs.Sorted.{IsSortedKeys, parted, listed_at, apart, filter_removes, inserted}
+use Rattle.palm_engine.specs.declared.posted.Posted.{Posted}
+use Rattle.palm_engine.specs.declared.posted.Posted.TheVariants.{Decision, Negation, User as UserPosted}
+use Rattle.palm_engine.specs.Posted.{active_of, actives_of, is_decision}
+use Rattle.palm_engine.proofs.Scopes.{map_filter}
+
+-- ---- constraints that rise
+
+pub actives_at : (active : List Active) → Rises (cids_of active) → (i j : ℕ) (d : Active) → i < j → j < length active → cid_before (get_or active i d).cid (get_or active j d).cid ≡ true
+actives_at [] rises i j d lt within = absurd (omega arith)
+actives_at (a ∷ active) rises zero zero d lt within = absurd (omega arith)
+actives_at (a ∷ active) rises zero (suc j) d lt within =
+    All-contains (λ e. cid_before a.cid e ≡ true) (cids_of active) (get_or active j d).cid rises.0
+    (member_map (λ (b : Active). b.cid) active (get_or active j d) (Contains-get_or active j d (omega arith)))
+actives_at (a ∷ active) rises (suc i) zero d lt within = absurd (omega arith)
+actives_at (a ∷ active) rises (suc i) (suc j) d lt within = actives_at active rises.1 i j d (omega arith) (omega arith)
+
+pub sorted_actives : (active : List Active) → Rises (cids_of active) → IsSortedKeys (λ (a : Active). a.cid) cid_before active
+sorted_actives active rises = record { at = actives_at active rises }
+
+pub sorted_at : {X : Type 0} (active : X → Active) (xs : List X) → Rises (cids_of (map active xs)) → (i j : ℕ) (d : X) → i < j → j < length xs → cid_before (active (get_or xs i d)).cid (active (get_or xs j d)).cid ≡ true
+sorted_at active [] rises i j d lt within = absurd (omega arith)
+sorted_at active (x ∷ xs) rises zero zero d lt within = absurd (omega arith)
+sorted_at active (x ∷ xs) rises zero (suc j) d lt within =
+    All-contains (λ e. cid_before (active x).cid e ≡ true) (cids_of (map active xs)) (active (get_or xs j d)).cid rises.0
+    (member_map (λ (b : Active). b.cid) (map active xs) (active (get_or xs j d)) (member_map active xs (get_or xs j d) (Contains-get_or xs j d (omega arith))))
+sorted_at active (x ∷ xs) rises (suc i) zero d lt within = absurd (omega arith)
+sorted_at active (x ∷ xs) rises (suc i) (suc j) d lt within = sorted_at active xs rises.1 i j d (omega arith) (omega arith)
+
+pub sorted : {X : Type 0} (active : X → Active) (xs : List X) → Rises (cids_of (map active xs)) → IsSortedKeys (λ x. (active x).cid) cid_before xs
+sorted active xs rises = record { at = sorted_at active xs rises }
+
+pub parted_names : {X : Type 0} (active : X → Active) (xs : List X) (cid : Cid) → Rises (cids_of (map active xs)) → IsPartitionedBy (λ x. cid_before (active x).cid cid) xs
+parted_names active xs cid rises = parted (λ x. (active x).cid) cid_before rising xs (sorted active xs rises) cid
+
+-- the constraint under the name stands behind those that come before
+pub owner_placed : {X : Type 0} (active : X → Active) (xs : List X) (cid : Cid) (place : ℕ) → Rises (cids_of (map active xs)) → IsPartedAt (λ x. cid_before (active x).cid cid) xs place
+    → (a : Active) → Contains (map active xs) a → a.cid ≡ cid → slice_get (map active xs) place ≡ Some a
+owner_placed active xs cid place rises at a m named =
+    let r = member_unmap active xs a m in
+    let e = listed_at (λ x. (active x).cid) cid_before rising xs (sorted active xs rises) cid place at r.0 r.1 (ap (λ (b : Active). b.cid) r.2 ∙ named) in
+    slice_get-map active xs place ∙ ap (option_map active) e ∙ ap Some r.2
+
+-- the constraint at a place
+pub at_place : {X : Type 0} (active : X → Active) (xs : List X) (place : ℕ) (x : X) → place < length xs → x ≡ get_or xs place x → slice_get (map active xs) place ≡ Some (active x)
+at_place active xs place x lt e = slice_get-map active xs place ∙ ap (option_map active) (slice_get-get_or xs place x lt ∙ ap Some (sym e))
+
+-- ---- one constraint more
+
+pub inserted_names : {X : Type 0} (active : X → Active) (xs : List X) (y : X) (place : ℕ) → Rises (cids_of (map active xs)) → IsPartedAt (λ x. cid_before (active x).cid (active y).cid) xs place
+    → (IsActive (map active xs) (active y).cid → ⊥) → map active (insert xs place y) ≡ with_posted (active y) (map active xs)
+inserted_names active xs y place rises at inactive =
+    let cid = (active y).cid in
+    let low = filter (λ x. cid_before (active x).cid cid) xs in
+    let high = filter (λ x. cid_before cid (active x).cid) xs in
+    ap (map active) (inserted (λ x. (active x).cid) cid_before rising xs (sorted active xs rises) cid place at
+    (λ x m e. inactive (record { owner = active x; posted = member_map active xs x m; named = e })) y)
+    ∙ map-append active low (y ∷ high)
+    ∙ ap (λ ls. ls ++ active y ∷ map active high) (map_filter active (λ (b : Active). cid_before b.cid cid) xs)
+    ∙ ap (λ ls. filter (λ (b : Active). cid_before b.cid cid) (map active xs) ++ active y ∷ ls) (map_filter active (λ (b : Active). cid_before cid b.cid) xs)
+
+-- ---- one constraint less
+
+map_remove : {X Y : Type 0} (f : X → Y) (xs : List X) (k : ℕ) → map f (remove xs k) ≡ remove (map f xs) k
+map_remove f [] zero = refl
+map_remove f [] (suc k) = refl
+map_remove f (x ∷ xs) zero = refl
+map_remove f (x ∷ xs) (suc k) = ap (λ ys. f x ∷ ys) (map_remove f xs k)
+
+removed_from : (active : List Active) (place : ℕ) (a : Active) → Rises (cids_of active) → slice_get active place ≡ Some a → remove active place ≡ without_names (a.cid ∷ []) active
+removed_from active place a rises e =
+    filter_removes (λ (b : Active). not (is_named (a.cid ∷ []) b.cid)) active place (slice_get_within active place a e)
+    (λ d. ap (λ (b : Active). not (is_named (a.cid ∷ []) b.cid)) (get_or_from_slice_get active place a d e) ∙ ap not (member_named (a.cid ∷ []) a.cid (member_here a.cid [])))
+    (λ k d lt ne. member_not_named (a.cid ∷ []) (get_or active k d).cid (λ m.
+    apart (λ (b : Active). b.cid) cid_before rising active (sorted_actives active rises) k place d lt (slice_get_within active place a e) ne
+    (sym (member_single a.cid (get_or active k d).cid m) ∙ ap (λ (b : Active). b.cid) (sym (get_or_from_slice_get active place a d e)))))
+
+pub removed_names : {X : Type 0} (active : X → Active) (xs : List X) (place : ℕ) (a : Active) → Rises (cids_of (map active xs)) → slice_get (map active xs) place ≡ Some a
+    → map active (remove xs place) ≡ without_names (a.cid ∷ []) (map active xs)
+removed_names active xs place a rises e = map_remove active xs place ∙ removed_from (map active xs) place a rises e
+
+-- ---- decisions, then negations, then users
+
+decision_first : {F : Type 0} (meaning : F → Con) (p q : Posted F) → cid_before (active_of meaning p).cid (active_of meaning q).cid ≡ true → is_decision q ≡ true → is_decision p ≡ true
+decision_first meaning (Decision x) q h t = refl
+decision_first meaning (Negation x because) (Decision y) h t = absurd (false≢true h)
+decision_first meaning (Negation x because) (Negation y more) h t = absurd (false≢true t)
+decision_first meaning (Negation x because) (UserPosted n f) h t = absurd (false≢true t)
+decision_first meaning (UserPosted m e) (Decision y) h t = absurd (false≢true h)
+decision_first meaning (UserPosted m e) (Negation y more) h t = absurd (false≢true t)
+decision_first meaning (UserPosted m e) (UserPosted n f) h t = absurd (false≢true t)
+
+pub parted_decisions : {F : Type 0} (meaning : F → Con) (xs : List (Posted F)) → Rises (cids_of (actives_of meaning xs)) → IsPartitionedBy is_decision xs
+parted_decisions meaning xs rises i j d le lt h = elim (cases_lt i j) [
+  | inl l ↦ decision_first meaning (get_or xs i d) (get_or xs j d) (sorted_at (active_of meaning) xs rises i j d l lt) h
+  | inr ge ↦ let e : j ≡ i = omega arith in subst (λ k. is_decision (get_or xs k d) ≡ true) e h
+]
+
+not_decision : {F : Type 0} (meaning : F → Con) (p : Posted F) (q : Pair) → (active_of meaning p).cid ≡ Not q → is_decision p ≡ false
+not_decision meaning (Decision x) q e = cc
+not_decision meaning (Negation x because) q e = refl
+not_decision meaning (UserPosted n f) q e = refl
+
+-- an active negation, at its place
+record StandsAt {F : Type 0} (meaning : F → Con) (xs : List (Posted F)) (q : Pair) : Type 0 where
+  place : ℕ
+  within : place < length xs
+  named : (d : Posted F) → (active_of meaning (get_or xs place d)).cid ≡ Not q
+
+stands : {F : Type 0} (meaning : F → Con) (xs : List (Posted F)) (q : Pair) → IsActive (actives_of meaning xs) (Not q) → StandsAt meaning xs q
+stands meaning xs q is =
+    let r = member_unmap (active_of meaning) xs is.owner is.posted in
+    record {
+      place = r.1.0;
+      within = r.1.1;
+      named = λ d. ap (λ p. (active_of meaning p).cid) (get_or_from_slice_get xs r.1.0 r.0 d (slice_get-get_or xs r.1.0 r.0 r.1.1 ∙ ap Some r.1.2)) ∙ ap (λ (a : Active). a.cid) r.2 ∙ is.named;
+    }
+
+pair_in : {F : Type 0} (x y : Posted F) (p : Pair) (because : List Cid) (q : Pair) (more : List Cid) → x ≡ Negation p because → y ≡ Negation q more → x ≡ y → p ≡ q
+pair_in x y p because q more e f g = cc
+
+-- it stands behind the decisions
+behind : {F : Type 0} (meaning : F → Con) (xs : List (Posted F)) (place : ℕ) → IsPartedAt is_decision xs place → (q : Pair) (at : StandsAt meaning xs q) → Posted F → place ≤ at.place
+behind meaning xs place front q at d = elim (cases_lt at.place place) [
+  | inr ge ↦ ge
+  | inl l ↦ absurd (false≢true (sym (not_decision meaning (get_or xs at.place d) q (at.named d)) ∙ front.before at.place d (omega arith) l))
+]
+
+-- what the first constraint behind the decisions says of an active negation
+first_is : {F : Type 0} (meaning : F → Con) (xs : List (Posted F)) (place : ℕ) → Rises (cids_of (actives_of meaning xs)) → IsPartedAt is_decision xs place
+    → (q : Pair) → StandsAt meaning xs q → (x : Posted F) → slice_get xs place ≡ Some x → (p : Pair) × (because : List Cid) × (x ≡ Negation p because) × (pair_before q p ≡ true → ⊥)
+first_is meaning xs place rises front q at x e = elim (cases_lt place at.place) [
+  | inl l ↦ later x (subst (λ y. cid_before (active_of meaning y).cid (Not q) ≡ true) (get_or_from_slice_get xs place x x e) (subst (λ c. cid_before (active_of meaning (get_or xs place x)).cid c ≡ true) (at.named x) (sorted_at (active_of meaning) xs rises place at.place x l at.within)))
+      (subst (λ y. is_decision y ≡ false) (get_or_from_slice_get xs place x x e) (front.after place x (omega arith) (slice_get_within xs place x e)))
+  | inr ge ↦
+      let same : at.place ≡ place = omega (arith, behind meaning xs place front q at x) in
+      here x (subst (λ y. (active_of meaning y).cid ≡ Not q) (ap (λ k. get_or xs k x) same ∙ get_or_from_slice_get xs place x x e) (at.named x))
+]
+  where
+    later : (y : Posted _) → cid_before (active_of meaning y).cid (Not q) ≡ true → is_decision y ≡ false → (p : Pair) × (because : List Cid) × (y ≡ Negation p because) × (pair_before q p ≡ true → ⊥)
+    later (Decision p) h f = absurd (false≢true (sym f))
+    later (Negation p because) h f = (p, because, refl, λ k. not_before_itself (Not q) (before_then (Not q) (Not p) (Not q) k h))
+    later (UserPosted n g) h f = absurd (false≢true h)
+
+    here : (y : Posted _) → (active_of meaning y).cid ≡ Not q → (p : Pair) × (because : List Cid) × (y ≡ Negation p because) × (pair_before q p ≡ true → ⊥)
+    here (Decision p) f = cc
+    here (Negation p because) f = (p, because, refl, λ k. not_before_itself (Not q) (subst (λ c. cid_before (Not q) c ≡ true) f k))
+    here (UserPosted n g) f = cc
+
+-- where no negation stands behind the decisions, none is active
+pub no_negation : {F : Type 0} (meaning : F → Con) (xs : List (Posted F)) (place : ℕ) → Rises (cids_of (actives_of meaning xs)) → IsPartedAt is_decision xs place
+    → ((p : Pair) (because : List Cid) → slice_get xs place ≡ Some (Negation p because) → ⊥) → (q : Pair) → IsActive (actives_of meaning xs) (Not q) → ⊥
+no_negation meaning xs place rises front none q is =
+    let at = stands meaning xs q is in
+    let x = (member_unmap (active_of meaning) xs is.owner is.posted).0 in
+    let within : place < length xs = omega (arith, behind meaning xs place front q at x, at.within) in
+    let e = slice_get-get_or xs place x within in
+    let r = first_is meaning xs place rises front q at (get_or xs place x) e in
+    none r.0 r.1 (e ∙ ap Some r.2)
+
+-- the negation that stands there is the least
+pub least_negation : {F : Type 0} (meaning : F → Con) (xs : List (Posted F)) (place : ℕ) (p : Pair) (because : List Cid) → Rises (cids_of (actives_of meaning xs)) → IsPartedAt is_decision xs place
+    → slice_get xs place ≡ Some (Negation p because) → IsActive (actives_of meaning xs) (Not p) × ((q : Pair) → IsActive (actives_of meaning xs) (Not q) → pair_before q p ≡ true → ⊥)
+least_negation meaning xs place p because rises front e = (
+  record {
+    owner = active_of meaning (Negation p because);
+    posted = member_map (active_of meaning) xs (Negation p because) (place, slice_get_within xs place (Negation p because) e, get_or_from_slice_get xs place (Negation p because) (Negation p because) e);
+    named = refl;
+  },
+  λ q is k.
+      let r = first_is meaning xs place rises front q (stands meaning xs q is) (Negation p because) e in
+      r.3 (subst (λ z. pair_before q z ≡ true) (pair_in (Negation p because) (Negation r.0 r.1) p because r.0 r.1 refl refl r.2) k),
+)
