@@ -19,21 +19,21 @@ use Rattle.palm_model.specs.Log.{Active, Rises, same_cid, log_pairs}
 use Rattle.palm_explain.specs.Explanations.{Explanations, LacksExactly}
 use Rattle.palm_model.specs.State.{EngineState, HasEmpty, IsValid, present, woken}
 use Rattle.palm_model.proofs.Without.{pair_of}
-use Rattle.palm_agenda.specs.Agenda.{Connected, Waiting, HasMarks, HasPlace, IsConnected, IsFormed, IsMarked, names_of, unmark}
+use Rattle.palm_agenda.specs.Agenda.{Connected, Waiting, HasMarks, HasPlace, IsConnected, IsFormed, IsMarked, names_of}
 use Rattle.palm_engine.specs.declared.filtering.Filtering.{Filtering}
 use Rattle.palm_engine.specs.Settling.{Walks, walk_order}
 use Rattle.palm_engine.specs.Settling.Walks.{walked_empty}
 use Rattle.palm_engine.specs.Kept.{IsKept, IsEmptyKept, AreConnected, AreMarked, state_in_revision}
 use Rattle.palm_engine.specs.Revising.{IsRevising, IsAgain, Walked, WalkedPart, AreSupportedAt, HasCounted}
 use Rattle.palm_engine.proofs.Joined.{walk_past}
-use Rattle.palm_engine.proofs.Unmarking.{active_connected, connected_walked, marked_walked, unmark_cid}
+use Rattle.palm_engine.proofs.Unmarking.{active_connected, connected_walked, marked_walked, unmark, unmark_cid}
 use Rattle.palm_engine.proofs.Progress.{walked_none, walked_then, walked_initial, counted_none, counted_then, counted_more}
 use Rattle.palm_engine.proofs.Revised.{present_is}
 
 -- ---- the agenda stays formed
 
 unmark_marks : (cid : Cid) (place : ℕ) (d : Connected) → HasMarks d → HasMarks (unmark cid place d)
-unmark_marks cid place d h = elim (cases_Bool (same_cid d.cid cid)) [
+unmark_marks cid place d h = elim (cases_Bool (same_cid cid d.cid)) [
   | inl t ↦ rw t (set_length d.marks place ∙ h)
   | inr f ↦ rw f h
 ]

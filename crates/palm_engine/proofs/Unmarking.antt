@@ -11,7 +11,7 @@ use Rattle.palm_model.specs.Log.{Active, Rises, cids_of, same_cid}
 use Rattle.palm_model.proofs.Supports.{member_any}
 use Rattle.palm_model.proofs.Without.{pair_of}
 use Rattle.palm_events.proofs.Names.{single, cid_same}
-use Rattle.palm_agenda.specs.Agenda.{Connected, marks_where, marked_where, is_over, mark_others, unmark}
+use Rattle.palm_agenda.specs.Agenda.{Connected, marks_where, marked_where, is_over, mark_others, changed_at, unmarked}
 use Rattle.palm_engine.specs.Kept.{AreConnected, AreMarked, Scoped}
 use Rattle.palm_engine.proofs.Staying.{KeepsOthers, support_stays}
 
@@ -114,11 +114,15 @@ connected_removed active connected x same = connected_stays active connected (ma
 
 -- ---- a place was walked over
 
+-- the constraint under the name without the mark at the place
+abbrev pub unmark : Cid → ℕ → Connected → Connected
+unmark cid place d = changed_at cid (unmarked place) d
+
 pub unmark_cid : (cid : Cid) (place : ℕ) (d : Connected) → (unmark cid place d).cid ≡ d.cid
-unmark_cid cid place d = elim (cases_Bool (same_cid d.cid cid)) [ inl t ↦ rw t refl | inr f ↦ rw f refl ]
+unmark_cid cid place d = elim (cases_Bool (same_cid cid d.cid)) [ inl t ↦ rw t refl | inr f ↦ rw f refl ]
 
 unmark_scope : (cid : Cid) (place : ℕ) (d : Connected) → (unmark cid place d).scope ≡ d.scope
-unmark_scope cid place d = elim (cases_Bool (same_cid d.cid cid)) [ inl t ↦ rw t refl | inr f ↦ rw f refl ]
+unmark_scope cid place d = elim (cases_Bool (same_cid cid d.cid)) [ inl t ↦ rw t refl | inr f ↦ rw f refl ]
 
 set_other : (marks : List Bool) (place k : ℕ) (b c : Bool) → (k ≡ place → ⊥) → slice_get (slice_set marks place b) k ≡ Some c → slice_get marks k ≡ Some c
 set_other [] place k b c n h = h
@@ -129,9 +133,9 @@ set_other (m ∷ marks) (suc place) (suc k) b c n h = set_other marks place k b 
 
 -- a place without a mark had none, or is the one that was walked over
 unmarked_cases : (cid : Cid) (place : ℕ) (d : Connected) (k : ℕ) → slice_get (unmark cid place d).marks k ≡ Some false → (slice_get d.marks k ≡ Some false) ⊎ ((d.cid ≡ cid) × (k ≡ place))
-unmarked_cases cid place d k = elim (cases_Bool (same_cid d.cid cid)) [
+unmarked_cases cid place d k = elim (cases_Bool (same_cid cid d.cid)) [
   | inl t ↦ rw t (λ un. elim (nat_known k place) [
-    | inl e ↦ inr (cid_same d.cid cid t, e)
+    | inl e ↦ inr (sym (cid_same cid d.cid t), e)
     | inr n ↦ inl (set_other d.marks place k false false n un)
   ])
   | inr f ↦ rw f (λ un. inl un)
