@@ -21,3 +21,5 @@ pub mod Progress
 pub mod Spending
 pub mod Unmarking
 pub mod Places
+pub mod Settles
+pub mod Running
