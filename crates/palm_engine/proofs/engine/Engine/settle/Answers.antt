@@ -106,7 +106,7 @@ returns-in_err-removed-clause-checks g c =
     let after = c.run_revision.new.filtering in
     let kept = subst (λ ys. IsKept after (actives_of g.F.Filter.meaning ys)) c.deref.ensures.value c.run_revision.ensures.kept in
     let counted = subst (λ ys. HasCounted (named_sizes (state_in_revision taken (actives_of g.F.Filter.meaning ys) cid) (cid ∷ [])) taken after c.loop-cid.steps c.run_revision.new.steps) c.deref.ensures.value c.run_revision.ensures.counted in
-    let le : before.checks ≤ LAST_COUNT = ? in
+    let le : before.checks ≤ LAST_COUNT = omega arith in
     let is = ap (λ (v : View). v.checks) c.self.view_is in
     stopped_checks c.args.limit ordered active before now taken after count c.args.steps.now c.loop-cid.steps c.run_revision.new.steps cid run takes counted le
     ∙ ap (λ (k : ℕ). min (k + (c.run_revision.new.steps - c.args.steps.now)) LAST_COUNT) is
@@ -211,6 +211,6 @@ returns-clause-checks g c =
     let ordered = is_some c.args.order.now in
     let run = c.loop-cid.invariant.run in
     let run' = subst (λ (z : Filtering). HasRun c.args.limit ordered active before z count c.args.steps.now c.loop-cid.steps) (sym c.in_default.ensures.none.0) run in
-    let le : before.checks ≤ LAST_COUNT = ? in
+    let le : before.checks ≤ LAST_COUNT = omega arith in
     let is = ap (λ (v : View). v.checks) c.self.view_is in
     run'.asked.checks le ∙ ap (λ (k : ℕ). min (k + (c.loop-cid.steps - c.args.steps.now)) LAST_COUNT) is
