@@ -1,6 +1,5 @@
 -- Waking the constraints over restored variables, one variable after another.
 use Rattle.std.proofs.Common.{◌≡◌, ℕ, ◌+◌, ◌<◌, ◌≤◌, Bool, true, false, ◌||◌, nat_eq, List, [], ◌∷◌, ◌++◌, map, length, get_or, take, Contains, Option, ◌⊎◌, ◌↔◌, inl, inr, refl, sym, ap, ◌∙◌, subst}
-use Rattle.std.proofs.lemmas.Bool.{or-false, or_assoc}
 use Rattle.std.proofs.lemmas.List.{take_more, take_all}
 use Rattle.std.proofs.lemmas.List.Folds.{list_any_more}
 use Rattle.std.proofs.lemmas.List.Elements.{Contains-append_left, Contains-push, Contains-push_cases}
@@ -17,10 +16,18 @@ use Rattle.palm_engine.specs.Changed.{NotesGain, PutsBack, is_one_of}
 
 -- ---- marks
 
+or_false : (b : Bool) → (b || false) ≡ b
+or_false true = refl
+or_false false = refl
+
+or_assoc : (a b c : Bool) → (a || (b || c)) ≡ ((a || b) || c)
+or_assoc true b c = refl
+or_assoc false b c = refl
+
 marks_none : (scope : List ℕ) (marks : List Bool) → marks_where (is_one_of []) scope marks ≡ marks
 marks_none [] marks = refl
 marks_none (x ∷ scope) [] = refl
-marks_none (x ∷ scope) (mark ∷ marks) = ap (λ m. m ∷ marks_where (is_one_of []) scope marks) (or-false mark) ∙ ap (λ ms. mark ∷ ms) (marks_none scope marks)
+marks_none (x ∷ scope) (mark ∷ marks) = ap (λ m. m ∷ marks_where (is_one_of []) scope marks) (or_false mark) ∙ ap (λ ms. mark ∷ ms) (marks_none scope marks)
 
 marks_then : (s t u : ℕ → Bool) → ((x : ℕ) → u x ≡ (s x || t x)) → (scope : List ℕ) (marks : List Bool) → marks_where t scope (marks_where s scope marks) ≡ marks_where u scope marks
 marks_then s t u each [] marks = refl
@@ -52,7 +59,7 @@ woken_more vars i x before middle after lt at was own =
     (λ y. list_any_more (λ z. nat_eq y z) vars i x lt ∙ ap (λ z. is_one_of (take i vars) y || nat_eq y z) (sym at)) before
 
 pub woken_all : (vars : List ℕ) (i : ℕ) (before after : List Connected) → length vars ≤ i → after ≡ map (marked_where (is_one_of (take i vars))) before → after ≡ map (marked_where (is_one_of vars)) before
-woken_all vars i before after le e = e ∙ ap (λ vs. map (marked_where (is_one_of vs)) before) (take_all vars i le)
+woken_all vars i before after le e = e ∙ ap (λ vs. map (marked_where (is_one_of vs)) before) (take_all i vars le)
 
 -- ---- pending names
 
@@ -107,7 +114,7 @@ waits_more vars i x before middle old then new lt at was first last c =
     )
 
 pub waits_all : (vars : List ℕ) (i : ℕ) (before : List Connected) (old new : List Cid) → length vars ≤ i → AreWoken before (take i vars) old new → AreWoken before vars old new
-waits_all vars i before old new le are c = subst (λ vs. Contains new c ↔ (Contains old c ⊎ IsOverSome before vs c)) (take_all vars i le) (are c)
+waits_all vars i before old new le are c = subst (λ vs. Contains new c ↔ (Contains old c ⊎ IsOverSome before vs c)) (take_all i vars le) (are c)
 
 -- ---- the whole withdrawal
 
