@@ -1,5 +1,5 @@
 -- Conflicts and flat conflicts, gathered from one value or one name after another.
-use Rattle.std.proofs.Common.{◌≡◌, ℕ, ◌+◌, ◌<◌, ◌≤◌, List, [], ◌∷◌, ◌++◌, length, get_or, take, Contains, ℤ, ◌⊎◌, inl, inr, refl, sym, ap, ◌∙◌, subst}
+use Rattle.std.proofs.Common.{◌≡◌, ℕ, ◌+◌, ◌<◌, ◌≤◌, List, [], ◌∷◌, ◌++◌, length, get_or, take, Contains, Option, Some, ℤ, ◌⊎◌, inl, inr, refl, sym, ap, ◌∙◌, subst}
 use Rattle.std.proofs.lemmas.List.{take_more, take_all}
 use Rattle.std.proofs.lemmas.List.Elements.{Contains-append_left, Contains-push, Contains-push_cases}
 use Rattle.palm_base.specs.declared.terms.Pair.{Pair}
@@ -11,15 +11,15 @@ use Rattle.palm_model.specs.Conflict.{InConflict, InFlat, IsKeptConflict}
 use Rattle.palm_model.specs.Conflict.InFlat.{as_it_is, in_place}
 use Rattle.palm_model.specs.Domains.{Has, without}
 use Rattle.palm_model.specs.Log.{Active, IsActive, IsListOf, NamesOfPair, Removal, Rises, cids_of, log_pairs}
-use Rattle.palm_model.specs.State.{IsEmptyAt, IsGround}
+use Rattle.palm_model.specs.State.{IsEmptyAt, IsGround, present}
 use Rattle.palm_model.proofs.Without.{pair_of}
 use Rattle.palm_events.proofs.Agreeing.{gone_member}
 use Rattle.palm_events.proofs.Names.{single}
 use Rattle.palm_explain.specs.Explanations.{LacksExactly}
-use Rattle.palm_explain.specs.Merged.{IsMerged}
+use Rattle.palm_explain.specs.Causes.{IsMerged}
 use Rattle.palm_engine.specs.declared.filtering.Filtering.{Filtering}
 use Rattle.palm_engine.specs.Gathered.{Gathers}
-use Rattle.palm_engine.specs.Kept.{state_of}
+use Rattle.palm_engine.specs.Kept.{IsEmptyKept, IsKept, state_of}
 
 -- the empty list, where nothing has the property
 pub nothing_listed : (P : Cid → Type 0) (names : List Cid) → names ≡ [] → ((c : Cid) → P c → ⊥) → IsListOf P names
@@ -82,6 +82,13 @@ empty_logged f x values i v lacks empty declared lt at =
     gone_member (initial_of f.store) (log_pairs f.log.log) x v
     (subst (λ vs. Contains vs v) declared (i, lt, sym at))
     (λ has. member_nil v (subst (λ vs. Contains vs v) empty.empty (subst (λ d. Has d x v) (sym lacks.present) has)))
+
+-- the empty variable is the one that is kept
+pub kept_conflict : (f : Filtering) (active : List Active) (var x : ℕ) (names : List Cid) → IsKept f active → f.empty ≡ Some var → IsEmptyAt (present (state_of f active)) x
+    → IsKeptConflict (state_of f active) var names → IsKeptConflict (state_of f active) x names
+kept_conflict f active var x names kept known is conflict =
+    let empty = subst (IsEmptyKept (present_of f.store)) known kept.empty in
+    subst (λ y. IsKeptConflict (state_of f active) y names) (sym (empty.1 x (subst (λ d. IsEmptyAt d x) (sym kept.removed.present) is))) conflict
 
 -- ---- flat conflicts
 

@@ -6,6 +6,7 @@ pub mod Keeping
 pub mod Marking
 pub mod Placing
 pub mod Restoring
+pub mod Results
 pub mod Same
 pub mod Scopes
 pub mod Settled

@@ -3,7 +3,7 @@ use Rattle.std.proofs.Common.{◌≡◌, ℕ, zero, suc, ◌<◌, ◌≤◌, Boo
 use Rattle.std.specs.Option.{option_map}
 use Rattle.std.specs.List.Sorted.{IsPartitionedBy}
 use Rattle.std.proofs.lemmas.Bool.{cases_lt, false≢true}
-use Rattle.std.proofs.lemmas.List.{map-append}
+use Rattle.std.proofs.lemmas.List.{length-map, map-append}
 use Rattle.std.proofs.lemmas.List.Elements.{All-contains, Contains-get_or}
 use Rattle.std.proofs.lemmas.Option.{slice_get-map, slice_get-get_or, slice_get_within, get_or_from_slice_get}
 use Rattle.palm_base.specs.declared.terms.Pair.{Pair}
@@ -62,6 +62,17 @@ owner_placed active xs cid place rises at a m named =
 -- the constraint at a place
 pub at_place : {X : Type 0} (active : X → Active) (xs : List X) (place : ℕ) (x : X) → place < length xs → x ≡ get_or xs place x → slice_get (map active xs) place ≡ Some (active x)
 at_place active xs place x lt e = slice_get-map active xs place ∙ ap (option_map active) (slice_get-get_or xs place x lt ∙ ap Some (sym e))
+
+some_active : (a b : Active) → Some a ≡ Some b → a ≡ b
+some_active a b e = cc
+
+pub placed_same : {X : Type 0} (active : X → Active) (xs : List X) (place : ℕ) (x : X) (a : Active) → x ≡ get_or xs place x → slice_get (map active xs) place ≡ Some a → active x ≡ a
+placed_same active xs place x a at e =
+    let within : place < length xs = subst (λ n. place < n) (length-map xs active) (slice_get_within (map active xs) place a e) in
+    some_active (active x) a (sym (at_place active xs place x within at) ∙ e)
+
+pub placed_within : {X : Type 0} (active : X → Active) (xs : List X) (place : ℕ) (a : Active) → slice_get (map active xs) place ≡ Some a → place < length xs
+placed_within active xs place a e = subst (λ n. place < n) (length-map xs active) (slice_get_within (map active xs) place a e)
 
 -- ---- one constraint more
 

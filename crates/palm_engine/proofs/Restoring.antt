@@ -1,16 +1,18 @@
 -- Waking the constraints over restored variables, one variable after another.
-use Rattle.std.proofs.Common.{◌≡◌, ℕ, ◌+◌, ◌<◌, ◌≤◌, Bool, true, false, ◌||◌, nat_eq, List, [], ◌∷◌, ◌++◌, map, length, get_or, take, Contains, Option, ◌⊎◌, ◌↔◌, inl, inr, refl, sym, ap, ◌∙◌, subst}
+use Rattle.std.proofs.Common.{◌≡◌, ℕ, ◌+◌, ◌<◌, ◌≤◌, Bool, true, false, not, ◌||◌, nat_eq, All, List, [], ◌∷◌, ◌++◌, map, length, get_or, take, Contains, Option, ◌⊎◌, ◌↔◌, inl, inr, refl, sym, ap, ◌∙◌, subst}
 use Rattle.std.proofs.lemmas.List.{take_more, take_all}
 use Rattle.std.proofs.lemmas.List.Folds.{list_any_more}
-use Rattle.std.proofs.lemmas.List.Elements.{Contains-append_left, Contains-push, Contains-push_cases}
+use Rattle.std.proofs.lemmas.List.Elements.{All-filter, Contains-append_left, Contains-push, Contains-push_cases}
 use Rattle.palm_base.specs.declared.terms.Cid.{Cid}
 use Rattle.palm_base.proofs.Members.{member_nil, member_same, member_map, member_unmap}
 use Rattle.palm_domain.specs.Rows.{Row, initial_of, present_of}
-use Rattle.palm_model.specs.Log.{Loses, log_pairs}
+use Rattle.palm_model.specs.Log.{Loses, Rises, is_named, log_pairs}
 use Rattle.palm_model.specs.State.{without_cid}
 use Rattle.palm_model.specs.Event.{lost_pairs, vars_of}
 use Rattle.palm_explain.specs.Explanations.{Explanations, LacksExactly}
-use Rattle.palm_agenda.specs.Agenda.{Connected, Waiting, IsFormed, IsOver, mark_own, marked_where, marks_where, without_connected}
+use Rattle.palm_events.proofs.States.{without_cid_member, without_cid_rises}
+use Rattle.palm_agenda.proofs.Connecting.{member_without_connected, names_without}
+use Rattle.palm_agenda.specs.Agenda.{Connected, Waiting, HasMarks, IsConnected, IsFormed, IsOver, names_of, mark_own, marked_where, marks_where, without_connected}
 use Rattle.palm_engine.specs.declared.filtering.Filtering.{Filtering}
 use Rattle.palm_engine.specs.Changed.{NotesGain, PutsBack, is_one_of}
 
@@ -117,6 +119,19 @@ pub waits_all : (vars : List ℕ) (i : ℕ) (before : List Connected) (old new :
 waits_all vars i before old new le are c = subst (λ vs. Contains new c ↔ (Contains old c ⊎ IsOverSome before vs c)) (take_all i vars le) (are c)
 
 -- ---- the whole withdrawal
+
+-- an agenda without one constraint
+pub away_formed : (before away : Waiting) (cid : Cid) → away.connected ≡ without_connected cid before.connected → away.pending ≡ without_cid cid before.pending → IsFormed before → IsFormed away
+away_formed before away cid connected pending formed = record {
+  rising = subst (λ ds. Rises (names_of ds)) (sym connected) (subst Rises (sym (names_without cid before.connected)) (without_cid_rises cid (names_of before.connected) formed.rising));
+  pending_rising = subst Rises (sym pending) (without_cid_rises cid before.pending formed.pending_rising);
+  pending_connected = λ c m.
+      let k = without_cid_member cid before.pending c (subst (λ ns. Contains ns c) pending m) in
+      let is = formed.pending_connected c k.0 in
+      subst (λ ds. IsConnected ds c) (sym connected)
+      (record { owner = is.owner; listed = member_without_connected cid before.connected is.owner is.listed (λ e. k.1 (sym is.named ∙ e)); named = is.named });
+  marks = subst (All HasMarks) (sym connected) (All-filter (λ (d : Connected). not (is_named (cid ∷ []) d.cid)) HasMarks before.connected formed.marks);
+}
 
 pub put_back : (f : Filtering) (cid : Cid) (store : List Row) (log : Explanations) (away agenda : Waiting) (vars : List ℕ) (empty : Option ℕ)
     → away.connected ≡ without_connected cid f.agenda.connected → away.pending ≡ without_cid cid f.agenda.pending

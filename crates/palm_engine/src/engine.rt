@@ -17,7 +17,7 @@ ghost use Rattle.palm_engine.specs.Posted.{active_of, decision, negation, user};
 
 use crate::conflicts::{conflict_of, flat_of};
 use crate::filtering::Filtering;
-use crate::posted::{Posted, decisions_of, place_of};
+use crate::posted::{Posted, decisions_of, is_same, place_of};
 use crate::posting::{insert, take_out, take_out_resting};
 use crate::settle::{Settle, run_settling};
 use palm_agenda::Order;
@@ -223,7 +223,7 @@ impl<F: Filter> Engine<F> {
         ensures { Tells result (IsActive self.now.state.active cid) }
     {
         match self.posted.get(place_of(&self.posted, &cid)) {
-            Some(constraint) => constraint.cid() == cid,
+            Some(constraint) => is_same(&constraint.cid(), &cid),
             None => false,
         }
     }

@@ -106,6 +106,7 @@ impl Filtering {
     /// Takes the constraint out with all removals that rest on it. It takes no memory.
     pub(crate) fn withdraw(&mut self, cid: &Cid)
         requires removed { LacksExactly self.old.store (log_pairs self.old.log.log) }
+        requires formed { IsFormed self.old.agenda }
         requires connected { IsConnected self.old.agenda.connected cid.now }
         requires empty { (x : ℕ) → self.old.empty ≡ Some x → x < length self.old.store }
         ensures { PutsBack self.old cid.now self.new }

@@ -4,7 +4,7 @@ ghost use Rattle.palm_base.specs.declared.limits.TheConstants.{LAST_COUNT};
 ghost use Rattle.palm_domain.specs.Rows.{initial_of, present_of};
 ghost use Rattle.palm_model.specs.Constraint.{scope, IsWellFormed};
 ghost use Rattle.palm_model.specs.Domains.{Has};
-ghost use Rattle.palm_model.specs.Log.{Active, Rises, cid_before, cids_of, is_named};
+ghost use Rattle.palm_model.specs.Log.{Active, Rises, cid_before, cids_of, same_cid};
 ghost use Rattle.palm_model.specs.Reason.{AreFilled, reason};
 ghost use Rattle.palm_model.specs.Support.{IsSupported, LacksSupport};
 ghost use Rattle.palm_agenda.specs.Names.{IsPartedAt};
@@ -38,6 +38,13 @@ fn is_before(first: &Cid, second: &Cid) -> bool
     ensures { result ≡ cid_before first.now second.now }
 {
     first < second
+}
+
+/// Whether the two names are one.
+pub(crate) fn is_same(first: &Cid, second: &Cid) -> bool
+    ensures { result ≡ same_cid first.now second.now }
+{
+    first == second
 }
 
 impl<F: Filter> Posted<F> {
