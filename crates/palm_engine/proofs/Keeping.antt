@@ -297,7 +297,7 @@ declared_state f store values active ascends e = record {
 
 -- the last variable has its values
 last_values : (d : Domains) (vs : List ℤ) → values_of (d ++ vs ∷ []) (length d) ≡ vs
-last_values d vs = get_or_push d vs []
+last_values d vs = get_or_push d vs [] (length d) refl
 
 pub declared_present : (d : Domains) (pairs : List Pair) (vs : List ℤ) → AllAscend d → Ascends vs → ((p : Pair) → Contains pairs p → Has d p.var p.value)
     → without d pairs ++ vs ∷ [] ≡ without (d ++ vs ∷ []) pairs

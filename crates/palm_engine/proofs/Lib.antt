@@ -1,6 +1,7 @@
 pub mod Comparing
 pub mod Counting
 pub mod Ending
+pub mod Fitting
 pub mod Gathering
 pub mod Keeping
 pub mod Marking

@@ -1,9 +1,9 @@
 -- Where constraints stand among those that rise, and which are left without one of them.
-use Rattle.std.proofs.Common.{◌≡◌, ℕ, zero, suc, ◌<◌, ◌≤◌, Bool, true, false, not, List, [], ◌∷◌, ◌++◌, map, filter, length, get_or, slice_get, insert, remove, Contains, Option, Some, inl, inr, refl, sym, ap, ◌∙◌, subst, arith}
-use Rattle.std.specs.Option.{option_map}
+use Rattle.std.proofs.Common.{◌≡◌, ℕ, zero, suc, ◌<◌, ◌≤◌, Bool, true, false, not, List, [], ◌∷◌, ◌++◌, map, filter, length, get_or, slice_get, insert, remove, take, drop, ◌+◌, Contains, Option, Some, inl, inr, refl, sym, ap, ◌∙◌, subst, arith, add-zero}
+use Rattle.std.specs.Option.{IfSome, MatchOption, option_map}
 use Rattle.std.specs.List.Sorted.{IsPartitionedBy}
 use Rattle.std.proofs.lemmas.Bool.{cases_lt, false≢true}
-use Rattle.std.proofs.lemmas.List.{length-map, map-append}
+use Rattle.std.proofs.lemmas.List.{get_or_default, get_or-drop, get_or-take, length-drop, length-map, length-take, map-append}
 use Rattle.std.proofs.lemmas.List.Elements.{All-contains, Contains-get_or}
 use Rattle.std.proofs.lemmas.Option.{slice_get-map, slice_get-get_or, slice_get_within, get_or_from_slice_get}
 use Rattle.palm_base.specs.declared.terms.Pair.{Pair}
@@ -19,7 +19,7 @@ use Rattle.palm_agenda.proofs.NameLists.{rising}
 use Rattle.palm_agenda.proofs.Sorted.{IsSortedKeys, parted, listed_at, apart, filter_removes, inserted}
 use Rattle.palm_engine.specs.declared.posted.Posted.{Posted}
 use Rattle.palm_engine.specs.declared.posted.Posted.TheVariants.{Decision, Negation, User as UserPosted}
-use Rattle.palm_engine.specs.Posted.{active_of, actives_of, is_decision}
+use Rattle.palm_engine.specs.Posted.{active_of, actives_of, is_decision, is_negation, negated}
 use Rattle.palm_engine.proofs.Scopes.{map_filter}
 
 -- ---- constraints that rise
@@ -200,3 +200,96 @@ least_negation meaning xs place p because rises front e = (
       let r = first_is meaning xs place rises front q (stands meaning xs q is) (Negation p because) e in
       r.3 (subst (λ z. pair_before q z ≡ true) (pair_in (Negation p because) (Negation r.0 r.1) p because r.0 r.1 refl refl r.2) k),
 )
+
+-- what the first constraint behind the decisions says
+pub negation_first : {F : Type 0} (meaning : F → Con) (xs : List (Posted F)) (place : ℕ) (x : Posted F) → Rises (cids_of (actives_of meaning xs)) → IsPartedAt is_decision xs place → slice_get xs place ≡ Some x
+    → MatchOption (negated x) ((p : Pair) → IsActive (actives_of meaning xs) (Not p) → ⊥)
+    (λ p. IsActive (actives_of meaning xs) (Not p) × ((q : Pair) → IsActive (actives_of meaning xs) (Not q) → pair_before q p ≡ true → ⊥))
+negation_first meaning xs place (Decision y) rises front e = no_negation meaning xs place rises front (λ p because f. cc)
+negation_first meaning xs place (Negation y because) rises front e = least_negation meaning xs place y because rises front e
+negation_first meaning xs place (UserPosted n f) rises front e = no_negation meaning xs place rises front (λ p because g. cc)
+
+pub negation_past : {F : Type 0} (meaning : F → Con) (xs : List (Posted F)) (place : ℕ) → Rises (cids_of (actives_of meaning xs)) → IsPartedAt is_decision xs place → length xs ≤ place
+    → (p : Pair) → IsActive (actives_of meaning xs) (Not p) → ⊥
+negation_past meaning xs place rises front le = no_negation meaning xs place rises front (λ p because e. absurd (omega (arith, slice_get_within xs place (Negation p because) e)))
+
+-- ---- the walk over the negations
+
+-- decisions rest on nothing, and so do users' constraints
+because_none : {F : Type 0} (meaning : F → Con) (x : Posted F) → is_negation x ≡ false → (active_of meaning x).because ≡ []
+because_none meaning (Decision p) e = refl
+because_none meaning (Negation p because) e = absurd (false≢true (sym e))
+because_none meaning (UserPosted n f) e = refl
+
+decision_not_negation : {F : Type 0} (x : Posted F) → is_decision x ≡ true → is_negation x ≡ false
+decision_not_negation (Decision p) e = refl
+decision_not_negation (Negation p because) e = absurd (false≢true e)
+decision_not_negation (UserPosted n f) e = absurd (false≢true e)
+
+-- behind one that is neither a decision nor a negation there are users alone
+user_then : {F : Type 0} (meaning : F → Con) (x y : Posted F) → is_negation x ≡ false → ((v : ℕ) → (active_of meaning x).cid ≡ Decide v → ⊥) → cid_before (active_of meaning x).cid (active_of meaning y).cid ≡ true → is_negation y ≡ false
+user_then meaning (Decision p) y e n h = absurd (n p.var refl)
+user_then meaning (Negation p because) y e n h = absurd (false≢true (sym e))
+user_then meaning (UserPosted m f) (Decision q) e n h = refl
+user_then meaning (UserPosted m f) (Negation q because) e n h = absurd (false≢true h)
+user_then meaning (UserPosted m f) (UserPosted k g) e n h = refl
+
+map_take : {X Y : Type 0} (f : X → Y) (n : ℕ) (xs : List X) → take n (map f xs) ≡ map f (take n xs)
+map_take f zero [] = refl
+map_take f zero (x ∷ xs) = refl
+map_take f (suc n) [] = refl
+map_take f (suc n) (x ∷ xs) = ap (λ ys. f x ∷ ys) (map_take f n xs)
+
+map_drop : {X Y : Type 0} (f : X → Y) (n : ℕ) (xs : List X) → drop n (map f xs) ≡ map f (drop n xs)
+map_drop f zero [] = refl
+map_drop f zero (x ∷ xs) = refl
+map_drop f (suc n) [] = refl
+map_drop f (suc n) (x ∷ xs) = map_drop f n xs
+
+-- where a member of the first ones, or of those behind them, stands
+taken_at : {X : Type 0} (place : ℕ) (xs : List X) (x : X) → Contains (take place xs) x → (k : ℕ) × (k < place) × (k < length xs) × (get_or xs k x ≡ x)
+taken_at place xs x m =
+    let both = length-take place xs in
+    let lt : m.0 < place = omega (arith, both, m.1) in
+    (m.0, lt, omega (arith, both, m.1), sym (get_or-take place xs m.0 x lt) ∙ m.2)
+
+dropped_at : {X : Type 0} (place : ℕ) (xs : List X) (x : X) → Contains (drop place xs) x → (k : ℕ) × (place ≤ k) × (k < length xs) × (get_or xs k x ≡ x)
+dropped_at place xs x m = (place + m.0, omega arith, omega (arith, length-drop place xs, m.1), sym (get_or-drop place xs m.0 x) ∙ m.2)
+
+-- the decisions rest on nothing
+pub front_stands : {F : Type 0} (meaning : F → Con) (xs : List (Posted F)) (place : ℕ) → IsPartedAt is_decision xs place → (a : Active) → Contains (take place (actives_of meaning xs)) a → a.because ≡ []
+front_stands meaning xs place front a m =
+    let r = member_unmap (active_of meaning) (take place xs) a (subst (λ l. Contains l a) (map_take (active_of meaning) place xs) m) in
+    let at = taken_at place xs r.0 r.1 in
+    let decides = subst (λ x. is_decision x ≡ true) at.3 (front.before at.0 r.0 (omega arith) at.1) in
+    ap (λ (b : Active). b.because) (sym r.2) ∙ because_none meaning r.0 (decision_not_negation r.0 decides)
+
+decides_is : {F : Type 0} (meaning : F → Con) (x : Posted F) (v : ℕ) → (active_of meaning x).cid ≡ Decide v → is_decision x ≡ true
+decides_is meaning (Decision p) v e = refl
+decides_is meaning (Negation p because) v e = cc
+decides_is meaning (UserPosted n f) v e = cc
+
+pub behind_decisions : {F : Type 0} (meaning : F → Con) (xs : List (Posted F)) (place : ℕ) → IsPartedAt is_decision xs place → (a : Active) (v : ℕ) → Contains (drop place (actives_of meaning xs)) a → a.cid ≡ Decide v → ⊥
+behind_decisions meaning xs place front a v m e =
+    let r = member_unmap (active_of meaning) (drop place xs) a (subst (λ l. Contains l a) (map_drop (active_of meaning) place xs) m) in
+    let at = dropped_at place xs r.0 r.1 in
+    let other = subst (λ x. is_decision x ≡ false) at.3 (front.after at.0 r.0 at.1 at.2) in
+    false≢true (sym other ∙ decides_is meaning r.0 v (ap (λ (b : Active). b.cid) r.2 ∙ e))
+
+-- where neither a decision nor a negation stands, those from there on rest on nothing
+pub rest_stands : {F : Type 0} (meaning : F → Con) (xs : List (Posted F)) (place : ℕ) → Rises (cids_of (actives_of meaning xs)) → IfSome (slice_get xs place) (λ p. is_negation p ≡ false)
+    → ((a : Active) (v : ℕ) → Contains (drop place (actives_of meaning xs)) a → a.cid ≡ Decide v → ⊥) → (a : Active) → Contains (drop place (actives_of meaning xs)) a → a.because ≡ []
+rest_stands {F = F} meaning xs place rises other behind a m =
+    let r = member_unmap (active_of meaning) (drop place xs) a (subst (λ l. Contains l a) (map_drop (active_of meaning) place xs) m) in
+    let at = dropped_at place xs r.0 r.1 in
+    let lt : place < length xs = omega (arith, at.1, at.2) in
+    let x = get_or xs place r.0 in
+    let first : is_negation x ≡ false = subst (λ (o : Option (Posted F)). IfSome o (λ p. is_negation p ≡ false)) (slice_get-get_or xs place r.0 lt) other in
+    let here : Contains (drop place xs) x = (0, omega (arith, length-drop place xs), get_or-drop place xs 0 x ∙ ap (λ k. get_or xs k x) (add-zero place) ∙ get_or_default xs place x r.0 lt) in
+    let free : (v : ℕ) → (active_of meaning x).cid ≡ Decide v → ⊥ = λ v e.
+      behind (active_of meaning x) v (subst (λ l. Contains l (active_of meaning x)) (sym (map_drop (active_of meaning) place xs)) (member_map (active_of meaning) (drop place xs) x here)) e in
+    let stands : is_negation r.0 ≡ false = elim (cases_lt place at.0) [
+      | inl l ↦ user_then meaning x r.0 first free (subst (λ y. cid_before (active_of meaning x).cid (active_of meaning y).cid ≡ true) at.3 (sorted_at (active_of meaning) xs rises place at.0 r.0 l at.2))
+      | inr ge ↦ let e : place ≡ at.0 = omega (arith, at.1) in subst (λ y. is_negation y ≡ false) (ap (λ k. get_or xs k r.0) e ∙ at.3) first
+    ] in
+    ap (λ (b : Active). b.because) (sym r.2) ∙ because_none meaning r.0 stands

@@ -1,8 +1,8 @@
 -- Withdrawals one after another, and the negations that rest on a name.
-use Rattle.std.proofs.Common.{◌≡◌, ℕ, zero, suc, ◌+◌, ◌<◌, Bool, true, false, not, ◌&&◌, cond, List, [], ◌∷◌, ◌++◌, map, filter, length, get_or, slice_get, drop, remove, Contains, Some, ◌⊎◌, inl, inr, refl, sym, ap, ◌∙◌, subst, arith}
+use Rattle.std.proofs.Common.{◌≡◌, ℕ, zero, suc, ◌+◌, ◌<◌, Bool, true, false, not, ◌&&◌, cond, List, [], ◌∷◌, ◌++◌, map, filter, length, get_or, slice_get, take, drop, remove, Contains, Some, ◌⊎◌, inl, inr, refl, sym, ap, ◌∙◌, subst, arith}
 use Rattle.std.specs.List.{list_any}
 use Rattle.std.proofs.lemmas.Bool.{cases_Bool, or_cases, false≢true, and_from, and_parts, not-true}
-use Rattle.std.proofs.lemmas.List.{map-append, append_assoc, append-nil}
+use Rattle.std.proofs.lemmas.List.{map-append, append_assoc, append-nil, take-append-drop}
 use Rattle.std.proofs.lemmas.List.Elements.{Contains-append_left, Contains-append_right, Contains-append_cases, filter-append}
 use Rattle.std.proofs.lemmas.Option.{slice_get_within, get_or_from_slice_get}
 use Rattle.palm_base.specs.declared.terms.Pair.{Pair}
@@ -16,11 +16,12 @@ use Rattle.palm_model.specs.Event.{Withdraws, WithdrawsAll, gone_with, lost_pair
 use Rattle.palm_model.proofs.Supports.{any_member, member_any, not_true}
 use Rattle.palm_events.proofs.Names.{named_member, member_named, member_not_named, not_named_member, rising_same, single}
 use Rattle.palm_events.proofs.States.{awake_named, awake_over, member_woken, over_member, woken_active, woken_rises, without_names_member, without_names_rises, form_grounds, held_not_ground}
+use Rattle.palm_events.proofs.Valid.{withdraws_valid}
 use Rattle.palm_explain.proofs.Withdrawn.{adds_up, lost_in_two, two_lost, lost_logged}
 use Rattle.palm_agenda.specs.Agenda.{IsFormed}
 use Rattle.palm_engine.specs.declared.filtering.Filtering.{Filtering}
 use Rattle.palm_engine.specs.Changed.{PutsBack}
-use Rattle.palm_engine.specs.Kept.{IsKept, state_of}
+use Rattle.palm_engine.specs.Kept.{IsEngine, IsKept, state_of}
 use Rattle.palm_engine.specs.Posted.{resting_on}
 use Rattle.palm_engine.proofs.Keeping.{put_back_kept, put_back_withdraws}
 use Rattle.palm_engine.proofs.Scopes.{connected_is_active}
@@ -277,3 +278,31 @@ walked_out f g h before middle after cid place a rises e rests left rising kept 
           (withdraws_then (state_of f before) (state_of g middle) (state_of h after) (resting_on walked.front cid) (a.cid ∷ []) rises walked.withdraws withdraws);
       checks = checks ∙ walked.checks;
     }
+
+-- behind the decisions the walk begins
+pub walk_starts : (f : Filtering) (active : List Active) (cid : Cid) (place : ℕ) → Rises (cids_of active) → IsKept f active → ((a : Active) → Contains (take place active) a → a.because ≡ [])
+    → ((a : Active) (x : ℕ) → Contains (drop place active) a → a.cid ≡ Decide x → ⊥) → IsWalked f active cid f active place
+walk_starts f active cid place rises kept stands behind = record {
+  kept = kept;
+  rising = rises;
+  front = take place active;
+  parts = sym (take-append-drop place active);
+  behind = behind;
+  withdraws = subst (λ names. WithdrawsAll (state_of f active) names (state_of f active)) (sym (resting_none (take place active) cid stands)) (withdraws_none f active rises kept);
+  checks = refl;
+}
+
+-- where the others rest on nothing it is over
+pub walk_ends : (f g : Filtering) (before after : List Active) (cid : Cid) (place : ℕ) → IsWalked f before cid g after place → ((a : Active) → Contains (drop place after) a → a.because ≡ [])
+    → WithdrawsAll (state_of f before) (resting_on before cid) (state_of g after)
+walk_ends f g before after cid place walked stands =
+    subst (λ names. WithdrawsAll (state_of f before) names (state_of g after))
+    (sym (ap (λ l. resting_on l cid) walked.parts ∙ resting_append walked.front (drop place after) cid (resting_none (drop place after) cid stands))) walked.withdraws
+
+-- and the whole withdrawal
+pub withdrawn_engine : (f m g : Filtering) (active middle after : List Active) (cid : Cid) → IsEngine f active → middle ≡ without_names (cid ∷ []) active
+    → WithdrawsAll (state_of f active) (cid ∷ []) (state_of m middle) → WithdrawsAll (state_of m middle) (resting_on middle cid) (state_of g after) → IsKept g after
+    → IsEngine g after × Withdraws (state_of f active) cid (state_of g after)
+withdrawn_engine f m g active middle after cid engine left one two kept =
+    let withdraws = withdraws_both (state_of f active) (state_of m middle) (state_of g after) cid engine.valid left one two in
+    (record { kept = kept; valid = withdraws_valid (state_of f active) (state_of g after) cid withdraws engine.valid }, withdraws)

@@ -234,10 +234,8 @@ impl<F: Filter> Engine<F> {
             ((p : PairTerm) → IsActive self.now.state.active (Cid.Not p) → ⊥)
             (λ p. IsActive self.now.state.active (Cid.Not p) × ((q : PairTerm) → IsActive self.now.state.active (Cid.Not q) → pair_before q p ≡ true → ⊥)) }
     {
-        match self.posted.get(decisions_of(&self.posted)) {
-            Some(Posted::Negation { pair, .. }) => Some(*pair),
-            _ => None,
-        }
+        let constraint = self.posted.get(decisions_of(&self.posted))?;
+        constraint.negated()
     }
 
     /// Makes a constraint active and pending. Without memory nothing changes.
