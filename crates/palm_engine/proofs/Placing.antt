@@ -10,10 +10,12 @@ use Rattle.palm_base.specs.declared.terms.Pair.{Pair}
 use Rattle.palm_base.specs.declared.terms.Cid.{Cid}
 use Rattle.palm_base.specs.declared.terms.Cid.TheVariants.{Decide, Not, User}
 use Rattle.palm_base.proofs.Members.{member_here, member_map, member_unmap, member_single, member_get}
-use Rattle.palm_model.specs.Log.{Active, IsActive, Rises, cid_before, cids_of, is_named, pair_before}
+use Rattle.palm_model.specs.Log.{Active, IsActive, Rises, cid_before, cids_of, is_named, pair_before, same_cid}
 use Rattle.palm_model.specs.Event.{with_posted, without_names}
 use Rattle.palm_model.specs.declared.constraint.Con.{Con}
-use Rattle.palm_events.proofs.Names.{before_then, not_before_itself, member_named, member_not_named}
+use Rattle.palm_base.specs.Tells.{Tells}
+use Rattle.palm_base.proofs.Telling.{tells_both}
+use Rattle.palm_events.proofs.Names.{before_then, cid_same, not_before_itself, member_named, member_not_named, same_cid_itself}
 use Rattle.palm_agenda.specs.Names.{IsPartedAt}
 use Rattle.palm_agenda.proofs.NameLists.{rising}
 use Rattle.palm_agenda.proofs.Sorted.{IsSortedKeys, parted, listed_at, apart, filter_removes, inserted}
@@ -293,3 +295,23 @@ rest_stands {F = F} meaning xs place rises other behind a m =
       | inr ge ↦ let e : place ≡ at.0 = omega (arith, at.1) in subst (λ y. is_negation y ≡ false) (ap (λ k. get_or xs k r.0) e ∙ at.3) first
     ] in
     ap (λ (b : Active). b.because) (sym r.2) ∙ because_none meaning r.0 stands
+
+-- ---- whether a constraint is active
+
+pub active_tells : {X : Type 0} (active : X → Active) (xs : List X) (place : ℕ) (x : X) (cid : Cid) (r : Bool) → slice_get xs place ≡ Some x
+    → ((a : Active) → Contains (map active xs) a → a.cid ≡ cid → slice_get (map active xs) place ≡ Some a) → r ≡ same_cid (active x).cid cid → Tells r (IsActive (map active xs) cid)
+active_tells active xs place x cid r e owner told =
+    let here : slice_get (map active xs) place ≡ Some (active x) = slice_get-map active xs place ∙ ap (option_map active) e in
+    tells_both (IsActive (map active xs) cid) r
+    (λ t. record {
+      owner = active x;
+      posted = member_map active xs x (place, slice_get_within xs place x e, get_or_from_slice_get xs place x x e);
+      named = cid_same (active x).cid cid (sym told ∙ t);
+    })
+    (λ f is.
+    let same = some_active (active x) is.owner (sym here ∙ owner is.owner is.posted is.named) in
+    false≢true (sym f ∙ told ∙ ap (λ d. same_cid d cid) (ap (λ (a : Active). a.cid) same ∙ is.named) ∙ same_cid_itself cid))
+
+pub none_active : {X : Type 0} (active : X → Active) (xs : List X) (place : ℕ) (cid : Cid) → length xs ≤ place
+    → ((a : Active) → Contains (map active xs) a → a.cid ≡ cid → slice_get (map active xs) place ≡ Some a) → IsActive (map active xs) cid → ⊥
+none_active active xs place cid le owner is = absurd (omega (arith, le, placed_within active xs place is.owner (owner is.owner is.posted is.named)))

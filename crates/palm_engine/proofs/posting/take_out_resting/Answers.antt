@@ -6,8 +6,8 @@ use Rattle.palm_engine.proofs.Placing.{at_place, removed_names, front_stands, be
 use Rattle.palm_engine.proofs.Withdrawing.{walk_starts, walk_ends, walked_out, walked_past}
 use Rattle.palm_engine.proofs.posting.take_out_resting.Goals as goal
 
-pub loop-stands_negation-init : goal.loop-stands_negation-init
-loop-stands_negation-init g c =
+pub loop-posted-init : goal.loop-posted-init
+loop-posted-init g c =
     let meaning = g.F.Filter.meaning in
     let xs = c.args.posted.now.items in
     let place = c.decisions_of-place.result in
