@@ -16,6 +16,7 @@ use Rattle.palm_model.specs.declared.constraint.Con.{Con}
 use Rattle.palm_base.specs.Tells.{Tells}
 use Rattle.palm_base.proofs.Telling.{tells_both}
 use Rattle.palm_events.proofs.Names.{before_then, cid_same, not_before_itself, member_named, member_not_named, same_cid_itself}
+use Rattle.palm_events.proofs.States.{without_names_rises}
 use Rattle.palm_agenda.specs.Names.{IsPartedAt}
 use Rattle.palm_agenda.proofs.NameLists.{rising}
 use Rattle.palm_agenda.proofs.Sorted.{IsSortedKeys, parted, listed_at, apart, filter_removes, inserted}
@@ -92,7 +93,7 @@ inserted_names active xs y place rises at inactive =
 
 -- ---- one constraint less
 
-map_remove : {X Y : Type 0} (f : X → Y) (xs : List X) (k : ℕ) → map f (remove xs k) ≡ remove (map f xs) k
+pub map_remove : {X Y : Type 0} (f : X → Y) (xs : List X) (k : ℕ) → map f (remove xs k) ≡ remove (map f xs) k
 map_remove f [] zero = refl
 map_remove f [] (suc k) = refl
 map_remove f (x ∷ xs) zero = refl
@@ -109,6 +110,10 @@ removed_from active place a rises e =
 pub removed_names : {X : Type 0} (active : X → Active) (xs : List X) (place : ℕ) (a : Active) → Rises (cids_of (map active xs)) → slice_get (map active xs) place ≡ Some a
     → map active (remove xs place) ≡ without_names (a.cid ∷ []) (map active xs)
 removed_names active xs place a rises e = map_remove active xs place ∙ removed_from (map active xs) place a rises e
+
+pub removed_rises : {X : Type 0} (active : X → Active) (xs ys : List X) (place : ℕ) (a : Active) → Rises (cids_of (map active xs)) → slice_get (map active xs) place ≡ Some a → ys ≡ remove xs place → Rises (cids_of (map active ys))
+removed_rises active xs ys place a rises e left =
+    subst (λ l. Rises (cids_of l)) (sym (ap (map active) left ∙ removed_names active xs place a rises e)) (without_names_rises (a.cid ∷ []) (map active xs) rises)
 
 -- ---- decisions, then negations, then users
 

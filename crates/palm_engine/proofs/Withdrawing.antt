@@ -300,9 +300,10 @@ walk_ends f g before after cid place walked stands =
     (sym (ap (λ l. resting_on l cid) walked.parts ∙ resting_append walked.front (drop place after) cid (resting_none (drop place after) cid stands))) walked.withdraws
 
 -- and the whole withdrawal
-pub withdrawn_engine : (f m g : Filtering) (active middle after : List Active) (cid : Cid) → IsEngine f active → middle ≡ without_names (cid ∷ []) active
-    → WithdrawsAll (state_of f active) (cid ∷ []) (state_of m middle) → WithdrawsAll (state_of m middle) (resting_on middle cid) (state_of g after) → IsKept g after
+pub withdrawn_engine : (f m g : Filtering) (active middle after : List Active) (cid : Cid) (a : Active) → IsEngine f active → a.cid ≡ cid → middle ≡ without_names (a.cid ∷ []) active
+    → WithdrawsAll (state_of f active) (a.cid ∷ []) (state_of m middle) → WithdrawsAll (state_of m middle) (resting_on middle cid) (state_of g after) → IsKept g after
     → IsEngine g after × Withdraws (state_of f active) cid (state_of g after)
-withdrawn_engine f m g active middle after cid engine left one two kept =
-    let withdraws = withdraws_both (state_of f active) (state_of m middle) (state_of g after) cid engine.valid left one two in
+withdrawn_engine f m g active middle after cid a engine named left one two kept =
+    let withdraws = withdraws_both (state_of f active) (state_of m middle) (state_of g after) cid engine.valid (left ∙ ap (λ c. without_names (c ∷ []) active) named)
+      (subst (λ c. WithdrawsAll (state_of f active) (c ∷ []) (state_of m middle)) named one) two in
     (record { kept = kept; valid = withdraws_valid (state_of f active) (state_of g after) cid withdraws engine.valid }, withdraws)
