@@ -294,7 +294,7 @@ rest_stands {F = F} meaning xs place rises other behind a m =
     let first : is_negation x ≡ false = subst (λ (o : Option (Posted F)). IfSome o (λ p. is_negation p ≡ false)) (slice_get-get_or xs place r.0 lt) other in
     let here : Contains (drop place xs) x = (0, omega (arith, length-drop place xs), get_or-drop place xs 0 x ∙ ap (λ k. get_or xs k x) (add-zero place) ∙ get_or_default xs place x r.0 lt) in
     let free : (v : ℕ) → (active_of meaning x).cid ≡ Decide v → ⊥ = λ v e.
-      behind (active_of meaning x) v (subst (λ l. Contains l (active_of meaning x)) (sym (map_drop (active_of meaning) place xs)) (member_map (active_of meaning) (drop place xs) x here)) e in
+    behind (active_of meaning x) v (subst (λ l. Contains l (active_of meaning x)) (sym (map_drop (active_of meaning) place xs)) (member_map (active_of meaning) (drop place xs) x here)) e in
     let stands : is_negation r.0 ≡ false = elim (cases_lt place at.0) [
       | inl l ↦ user_then meaning x r.0 first free (subst (λ y. cid_before (active_of meaning x).cid (active_of meaning y).cid ≡ true) at.3 (sorted_at (active_of meaning) xs rises place at.0 r.0 l at.2))
       | inr ge ↦ let e : place ≡ at.0 = omega (arith, at.1) in subst (λ y. is_negation y ≡ false) (ap (λ k. get_or xs k r.0) e ∙ at.3) first
