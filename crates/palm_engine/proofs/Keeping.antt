@@ -1,25 +1,27 @@
 -- What an engine keeps holds after a removal, a withdrawal, a posting and a declaration.
-use Rattle.std.proofs.Common.{◌≡◌, ℕ, ◌<◌, Bool, true, false, not, ◌||◌, List, [], ◌∷◌, ◌++◌, length, map, filter, Contains, Option, None, Some, ℤ, ◌⊎◌, ◌↔◌, inl, inr, refl, sym, ap, ◌∙◌, subst, arith}
+use Rattle.std.proofs.Common.{◌≡◌, ℕ, ◌<◌, Bool, true, false, not, ◌||◌, List, [], ◌∷◌, ◌++◌, length, map, filter, Contains, Option, None, Some, ℤ, All, ◌+◌, ◌⊎◌, ◌↔◌, inl, inr, refl, sym, ap, ◌∙◌, subst, arith, length-append}
 use Rattle.std.specs.List.{list_any}
-use Rattle.std.proofs.lemmas.Bool.{or_cases, false≢true}
+use Rattle.std.proofs.lemmas.Bool.{or_cases, false≢true, cases_lt}
 use Rattle.std.specs.Prelude.{slice_set}
-use Rattle.std.proofs.lemmas.List.{length-map, map-append}
-use Rattle.std.proofs.lemmas.List.Elements.{Contains-push_cases}
+use Rattle.std.proofs.lemmas.List.{get_or_push, length-map, map-append}
+use Rattle.std.proofs.lemmas.List.Elements.{All-append, All-cons, All-nil, Contains-push_cases}
 use Rattle.palm_base.specs.declared.terms.Pair.{Pair}
 use Rattle.palm_base.specs.declared.terms.Cid.{Cid}
-use Rattle.palm_base.proofs.Members.{member_nil, member_here, member_there, member_cases, member_same, member_map, nat_known}
+use Rattle.palm_base.proofs.Members.{member_nil, member_here, member_there, member_cases, member_same, member_map, member_single, all_members, nat_known}
 use Rattle.palm_domain.specs.Rows.{Row, IsPresent, LosesPair, initial_of, present_of, present_values, values_without}
-use Rattle.palm_model.specs.Domains.{Domains, Has, IsInside, values_of, without}
+use Rattle.palm_model.specs.Domains.{Domains, AllAscend, Ascends, Has, IsInside, values_of, without}
 use Rattle.palm_model.specs.Constraint.{scope}
 use Rattle.palm_model.specs.Log.{Active, IsActive, Removal, Rises, cids_of, is_named, log_pairs}
 use Rattle.palm_model.specs.State.{EngineState, FitsName, IsEmptyAt, IsValid, AllFilled, is_awake, is_over, present, woken, without_cid}
-use Rattle.palm_model.specs.Event.{Posts, WithdrawsAll, with_posted, without_names, withdrawn, posted, vars_of, lost_pairs}
+use Rattle.palm_model.specs.Event.{Declares, Posts, WithdrawsAll, with_posted, without_names, withdrawn, posted, vars_of, lost_pairs}
 use Rattle.palm_model.proofs.Narrowing.{has_declared}
 use Rattle.palm_model.proofs.Supports.{any_member}
-use Rattle.palm_model.proofs.Without.{without_has}
+use Rattle.palm_model.proofs.Ascending.{domains_same}
+use Rattle.palm_model.proofs.Without.{ascend_without, has_without, length_without, pair_of, without_has}
+use Rattle.palm_events.proofs.Agreeing.{has_more, more_has, values_of_more}
 use Rattle.palm_events.proofs.Names.{named_member, rising_same}
 use Rattle.palm_events.proofs.States.{over_member, awake_named, awake_over, woken_active, member_woken, woken_rises, without_cid_member, member_without_cid, without_names_member, member_without_names, without_names_rises, with_posted_rises, with_posted_here, member_with_posted, with_posted_cases}
-use Rattle.palm_events.proofs.Valid.{left_grows, left_same}
+use Rattle.palm_events.proofs.Valid.{active_declared, declares_valid, left_grows, left_same, posts_valid}
 use Rattle.palm_explain.specs.Explanations.{Explanations, LacksExactly}
 use Rattle.palm_agenda.specs.Agenda.{Waiting, IsFormed, IsOver, mark_others, marked_whole, marked_where, with_connected, without_connected}
 use Rattle.palm_engine.specs.declared.filtering.Filtering.{Filtering}
@@ -27,7 +29,7 @@ use Rattle.palm_engine.specs.Kept.{AreConnected, AreMarked, IsEmptyKept, IsKept,
 use Rattle.palm_engine.specs.Changed.{NotesGain, NotesLoss, PutsBack, TakesOut, is_one_of}
 use Rattle.palm_engine.proofs.Scopes.{active_is_connected, connected_is_active, over_active, active_over, others_connected, marked_connected, without_is_connected, with_is_connected}
 use Rattle.palm_engine.proofs.Taking.{without_push}
-use Rattle.palm_engine.proofs.Marking.{taken_marked, restored_marked, posted_marked}
+use Rattle.palm_engine.proofs.Marking.{agreeing_marked, taken_marked, restored_marked, posted_marked}
 
 -- ---- empty variables
 
@@ -158,9 +160,9 @@ put_back_kept f g cid active puts kept =
     let now : present_of f.store ≡ present s = kept.removed.present in
     let then : present_of g.store ≡ without s.initial (log_pairs g.log.log) = puts.removed.present ∙ ap (λ d. without d (log_pairs g.log.log)) puts.initial in
     let grows : IsInside (present_of f.store) (present_of g.store) = λ x v has.
-      subst (λ d. Has d x v) (sym then) (left_grows s (cid ∷ []) g.log.log puts.loses x v (subst (λ d. Has d x v) now has)) in
+    subst (λ d. Has d x v) (sym then) (left_grows s (cid ∷ []) g.log.log puts.loses x v (subst (λ d. Has d x v) now has)) in
     let only : (z : ℕ) (u : ℤ) → (Contains g.log.restored z → ⊥) → Has (present_of g.store) z u → Has (present_of f.store) z u = λ z u no has.
-      subst (λ d. Has d z u) (sym now) (left_same s g.log.log z u (λ m. no ((puts.restored z).1 m)) (subst (λ d. Has d z u) then has)) in
+    subst (λ d. Has d z u) (sym now) (left_same s g.log.log z u (λ m. no ((puts.restored z).1 m)) (subst (λ d. Has d z u) then has)) in
     let long : length (present_of f.store) ≡ length (present_of g.store) = present_long f.store ∙ ap (λ (d : Domains). length d) (sym puts.initial) ∙ sym (present_long g.store) in
     let without = without_is_connected active f.agenda.connected cid kept.connected in
     record {
@@ -181,29 +183,29 @@ put_back_withdraws f g cid active rises puts kept =
     let after_rises : Rises (cids_of left) = without_names_rises (cid ∷ []) active rises in
     let connected = without_is_connected active f.agenda.connected cid kept.connected in
     let same : g.agenda.pending ≡ woken left f.agenda.pending vars =
-      rising_same g.agenda.pending (woken left f.agenda.pending vars) puts.formed.pending_rising (woken_rises left f.agenda.pending vars after_rises)
-      (λ c m. elim ((puts.pending c).0 m) [
-        | inl k ↦
-            let r = without_cid_member cid f.agenda.pending c k in
-            let is = connected_is_active active f.agenda.connected kept.connected c (kept.formed.pending_connected c r.0) in
-            let stays = member_without_names (cid ∷ []) active is.owner is.posted (λ n. r.1 (sym (is.named) ∙ sym (single_name cid is.owner.cid n))) in
-            subst (Contains (woken left f.agenda.pending vars)) is.named
-            (member_woken left f.agenda.pending vars is.owner stays (awake_named f.agenda.pending vars is.owner (member_same f.agenda.pending c is.owner.cid (sym is.named) r.0)))
-        | inr k ↦
-            let a = over_active left (without_connected cid f.agenda.connected) connected k.0 c k.2 in
-            subst (Contains (woken left f.agenda.pending vars)) a.2
-            (member_woken left f.agenda.pending vars a.0 a.1 (awake_over f.agenda.pending vars a.0 k.0 ((puts.restored k.0).0 k.1) a.3))
-      ])
-      (λ c m.
-      let r = woken_active left f.agenda.pending vars c m in
-      let stays = without_names_member (cid ∷ []) active r.0 r.1 in
-      (puts.pending c).1 (elim (or_cases (is_named f.agenda.pending r.0.cid) (list_any (λ x. is_over r.0.con x) vars) r.3) [
-        | inl t ↦ inl (member_without_cid cid f.agenda.pending c (member_same f.agenda.pending r.0.cid c r.2 (named_member f.agenda.pending r.0.cid t))
-            (λ e. stays.1 (member_same (cid ∷ []) cid r.0.cid (sym (r.2 ∙ e)) (member_here cid []))))
-        | inr t ↦
-            let x = any_member (λ y. is_over r.0.con y) vars t in
-            inr (x.0, (puts.restored x.0).1 x.1, subst (λ d. IsOver (without_connected cid f.agenda.connected) x.0 d) r.2 (active_over left (without_connected cid f.agenda.connected) connected x.0 r.0 r.1 (over_member r.0.con x.0 x.2)))
-      ])) in
+    rising_same g.agenda.pending (woken left f.agenda.pending vars) puts.formed.pending_rising (woken_rises left f.agenda.pending vars after_rises)
+    (λ c m. elim ((puts.pending c).0 m) [
+      | inl k ↦
+          let r = without_cid_member cid f.agenda.pending c k in
+          let is = connected_is_active active f.agenda.connected kept.connected c (kept.formed.pending_connected c r.0) in
+          let stays = member_without_names (cid ∷ []) active is.owner is.posted (λ n. r.1 (sym (is.named) ∙ sym (single_name cid is.owner.cid n))) in
+          subst (Contains (woken left f.agenda.pending vars)) is.named
+          (member_woken left f.agenda.pending vars is.owner stays (awake_named f.agenda.pending vars is.owner (member_same f.agenda.pending c is.owner.cid (sym is.named) r.0)))
+      | inr k ↦
+          let a = over_active left (without_connected cid f.agenda.connected) connected k.0 c k.2 in
+          subst (Contains (woken left f.agenda.pending vars)) a.2
+          (member_woken left f.agenda.pending vars a.0 a.1 (awake_over f.agenda.pending vars a.0 k.0 ((puts.restored k.0).0 k.1) a.3))
+    ])
+    (λ c m.
+    let r = woken_active left f.agenda.pending vars c m in
+    let stays = without_names_member (cid ∷ []) active r.0 r.1 in
+    (puts.pending c).1 (elim (or_cases (is_named f.agenda.pending r.0.cid) (list_any (λ x. is_over r.0.con x) vars) r.3) [
+      | inl t ↦ inl (member_without_cid cid f.agenda.pending c (member_same f.agenda.pending r.0.cid c r.2 (named_member f.agenda.pending r.0.cid t))
+          (λ e. stays.1 (member_same (cid ∷ []) cid r.0.cid (sym (r.2 ∙ e)) (member_here cid []))))
+      | inr t ↦
+          let x = any_member (λ y. is_over r.0.con y) vars t in
+          inr (x.0, (puts.restored x.0).1 x.1, subst (λ d. IsOver (without_connected cid f.agenda.connected) x.0 d) r.2 (active_over left (without_connected cid f.agenda.connected) connected x.0 r.0 r.1 (over_member r.0.con x.0 x.2)))
+    ])) in
     record {
       left = g.log.log;
       loses = puts.loses;
@@ -239,19 +241,151 @@ posted_state f w a active rises inactive formed pending kept =
     let more = with_posted a active in
     let names = a.cid ∷ f.agenda.pending in
     let same : w.pending ≡ woken more names [] =
-      rising_same w.pending (woken more names []) formed.pending_rising (woken_rises more names [] (with_posted_rises a active rises))
-      (λ c m. elim ((pending c).0 m) [
-        | inl k ↦
-            let is = connected_is_active active f.agenda.connected kept.connected c (kept.formed.pending_connected c k) in
-            subst (Contains (woken more names [])) is.named
-            (member_woken more names [] is.owner (member_with_posted a active is.owner inactive is.posted)
-            (awake_named names [] is.owner (member_there a.cid f.agenda.pending is.owner.cid (member_same f.agenda.pending c is.owner.cid (sym is.named) k))))
-        | inr e ↦ subst (Contains (woken more names [])) (sym e) (member_woken more names [] a (with_posted_here a active) (awake_named names [] a (member_here a.cid f.agenda.pending)))
-      ])
-      (λ c m.
-      let r = woken_active more names [] c m in
-      (pending c).1 (elim (member_cases a.cid f.agenda.pending r.0.cid (awake_alone names r.0 r.3)) [
-        | inl e ↦ inr (sym (e ∙ r.2))
-        | inr k ↦ inl (member_same f.agenda.pending r.0.cid c r.2 k)
-      ])) in
+    rising_same w.pending (woken more names []) formed.pending_rising (woken_rises more names [] (with_posted_rises a active rises))
+    (λ c m. elim ((pending c).0 m) [
+      | inl k ↦
+          let is = connected_is_active active f.agenda.connected kept.connected c (kept.formed.pending_connected c k) in
+          subst (Contains (woken more names [])) is.named
+          (member_woken more names [] is.owner (member_with_posted a active is.owner inactive is.posted)
+          (awake_named names [] is.owner (member_there a.cid f.agenda.pending is.owner.cid (member_same f.agenda.pending c is.owner.cid (sym is.named) k))))
+      | inr e ↦ subst (Contains (woken more names [])) (sym e) (member_woken more names [] a (with_posted_here a active) (awake_named names [] a (member_here a.cid f.agenda.pending)))
+    ])
+    (λ c m.
+    let r = woken_active more names [] c m in
+    (pending c).1 (elim (member_cases a.cid f.agenda.pending r.0.cid (awake_alone names r.0 r.3)) [
+      | inl e ↦ inr (sym (e ∙ r.2))
+      | inr k ↦ inl (member_same f.agenda.pending r.0.cid c r.2 k)
+    ])) in
     λ i. record { initial = initial_of f.store; active = more; log = f.log.log; pending = same i }
+
+-- what a posting leaves, where it succeeded
+pub record IsActivated (f : Filtering) (w : Waiting) (a : Active) (active after : List Active) : Type 0 where
+  pub fits : FitsName (length (initial_of f.store)) active a
+  pub posted : after ≡ with_posted a active
+  pub connected : w.connected ≡ with_connected (marked_whole a.cid (scope a.con)) f.agenda.connected
+  pub pending : (c : Cid) → Contains w.pending c ↔ (Contains f.agenda.pending c ⊎ (c ≡ a.cid))
+  pub formed : IsFormed w
+
+pub activated_posts : (f : Filtering) (w : Waiting) (a : Active) (active after : List Active) → (IsActive active a.cid → ⊥) → IsActivated f w a active after → IsEngine f active
+    → Posts (state_of f active) a (state_of (record f { agenda = w }) after)
+activated_posts f w a active after inactive is engine = record {
+  inactive = inactive;
+  formed = is.fits;
+  after = ap (state_of (record f { agenda = w })) is.posted ∙ posted_state f w a active engine.valid.rising inactive is.formed is.pending engine.kept;
+}
+
+pub activated_engine : (f : Filtering) (w : Waiting) (a : Active) (active after : List Active) → (IsActive active a.cid → ⊥) → IsActivated f w a active after → IsEngine f active
+    → IsEngine (record f { agenda = w }) after
+activated_engine f w a active after inactive is engine = record {
+  kept = subst (IsKept (record f { agenda = w })) (sym is.posted) (posted_kept f w a active inactive is.formed is.connected engine.kept);
+  valid = posts_valid (state_of f active) (state_of (record f { agenda = w }) after) a (activated_posts f w a active after inactive is engine) engine.valid;
+}
+
+pub unchanged_engine : (f : Filtering) (w : Waiting) (active after : List Active) → after ≡ active → w ≡ f.agenda → IsEngine f active → IsEngine (record f { agenda = w }) after
+unchanged_engine f w active after same still engine =
+    subst (IsEngine (record f { agenda = w })) (sym same) (subst (λ v. IsEngine (record f { agenda = v }) active) (sym still) engine)
+
+-- ---- a declaration
+
+pub declared_state : (f : Filtering) (store : List Row) (values : List ℤ) (active : List Active) → Ascends values → store ≡ f.store ++ record { initial = values; present = values } ∷ []
+    → Declares (state_of f active) values (state_of (record f { store = store }) active)
+declared_state f store values active ascends e = record {
+  ascend = ascends;
+  after = ap (λ (rows : List Row). record (state_of f active) { initial = initial_of rows }) e
+      ∙ ap (λ d. record (state_of f active) { initial = d }) (map-append (λ (r : Row). r.initial) f.store (record { initial = values; present = values } ∷ []));
+}
+
+-- the last variable has its values
+last_values : (d : Domains) (vs : List ℤ) → values_of (d ++ vs ∷ []) (length d) ≡ vs
+last_values d vs = get_or_push d vs [] (length d) refl
+
+pub declared_present : (d : Domains) (pairs : List Pair) (vs : List ℤ) → AllAscend d → Ascends vs → ((p : Pair) → Contains pairs p → Has d p.var p.value)
+    → without d pairs ++ vs ∷ [] ≡ without (d ++ vs ∷ []) pairs
+declared_present d pairs vs ascend ascends declared =
+    let more = d ++ vs ∷ [] in
+    let left = without d pairs ++ vs ∷ [] in
+    let long : length (without d pairs) ≡ length d = length_without d pairs in
+    let ascend_left : AllAscend left = All-append Ascends (without d pairs) (vs ∷ []) (ascend_without d pairs ascend) (All-cons Ascends vs [] ascends (All-nil Ascends)) in
+    let ascend_more : AllAscend (without more pairs) = ascend_without more pairs (All-append Ascends d (vs ∷ []) ascend (All-cons Ascends vs [] ascends (All-nil Ascends))) in
+    let lengths : length left ≡ length (without more pairs) = length-append (without d pairs) (vs ∷ []) ∙ ap (λ n. n + 1) long ∙ sym (length-append d (vs ∷ [])) ∙ sym (length_without more pairs) in
+    domains_same left (without more pairs) ascend_left ascend_more lengths
+    (λ x v has. elim (which x (length d) (subst (λ n. x < n + 1) long (subst (λ n. x < n) (length-append (without d pairs) (vs ∷ [])) (has_declared left x v has)))) [
+      | inl lt ↦ has_more d vs pairs x v lt (subst (λ ws. Contains ws v) (values_of_more (without d pairs) vs x (subst (λ n. x < n) (sym long) lt)) has)
+      | inr e ↦ has_without more pairs x v
+          (subst (λ ws. Contains ws v) (sym (ap (values_of more) e ∙ last_values d vs)) (subst (λ ws. Contains ws v) (ap (values_of left) (e ∙ sym long) ∙ last_values (without d pairs) vs) has))
+          (λ m. no_pair x v e m)
+    ])
+    (λ x v has. let r = without_has more pairs x v has in elim (which x (length d) (subst (λ n. x < n) (length-append d (vs ∷ [])) (has_declared more x v r.0))) [
+      | inl lt ↦ subst (λ ws. Contains ws v) (sym (values_of_more (without d pairs) vs x (subst (λ n. x < n) (sym long) lt))) (more_has d vs pairs x v lt has)
+      | inr e ↦ subst (λ ws. Contains ws v) (sym (ap (values_of left) (e ∙ sym long) ∙ last_values (without d pairs) vs)) (subst (λ ws. Contains ws v) (ap (values_of more) e ∙ last_values d vs) r.0)
+    ])
+  where
+    which : (x n : ℕ) → x < n + 1 → (x < n) ⊎ (x ≡ n)
+    which x n lt = elim (nat_known x n) [ inl e ↦ inr e | inr ne ↦ inl (below x n lt ne) ]
+      where
+        below : (x n : ℕ) → x < n + 1 → (x ≡ n → ⊥) → x < n
+        below x n lt ne = elim (cases_lt x n) [ inl l ↦ l | inr ge ↦ absurd (ne (omega arith)) ]
+
+    no_pair : (x : ℕ) (v : ℤ) → x ≡ length d → Contains pairs (pair_of x v) → ⊥
+    no_pair x v e m = absurd (omega (arith, e, has_declared d x v (declared (pair_of x v) m)))
+
+pub declared_engine : (f : Filtering) (store : List Row) (values : List ℤ) (active : List Active) → Ascends values → 0 < length values → store ≡ f.store ++ record { initial = values; present = values } ∷ []
+    → IsEngine f active → IsEngine (record f { store = store }) active
+declared_engine f store values active ascends filled e engine =
+    let s = state_of f active in
+    let t = state_of (record f { store = store }) active in
+    let pairs = log_pairs f.log.log in
+    let row : Row = record { initial = values; present = values } in
+    let kept = engine.kept in
+    let initial : initial_of store ≡ initial_of f.store ++ values ∷ [] = ap initial_of e ∙ map-append (λ (r : Row). r.initial) f.store (row ∷ []) in
+    let now : present_of store ≡ present_of f.store ++ values ∷ [] = ap present_of e ∙ map-append (λ (r : Row). r.present) f.store (row ∷ []) in
+    let was : present_of f.store ≡ without (initial_of f.store) pairs = kept.removed.present in
+    let lacks : present_of store ≡ without (initial_of store) pairs =
+    now ∙ ap (λ d. d ++ values ∷ []) was ∙ declared_present (initial_of f.store) pairs values engine.valid.ascend ascends kept.removed.declared ∙ ap (λ d. without d pairs) (sym initial) in
+    let within : (a : Active) (z : ℕ) → Contains active a → Contains (scope a.con) z → z < length (present_of f.store) = λ a z m over.
+    subst (λ n. z < n) (sym (present_long f.store)) (active_declared s engine.valid a m z over) in
+    record {
+      kept = record {
+        removed = record {
+          declared = λ p m. subst (λ d. Has d p.var p.value) (sym initial)
+              (subst (λ ws. Contains ws p.value) (sym (values_of_more (initial_of f.store) values p.var (has_declared (initial_of f.store) p.var p.value (kept.removed.declared p m)))) (kept.removed.declared p m));
+          present = lacks;
+        };
+        formed = kept.formed;
+        connected = kept.connected;
+        marked = agreeing_marked active f.agenda.connected (present_of f.store) (present_of store) engine.valid.rising kept.connected
+            (λ a z u m over has. subst (λ d. Has d z u) (sym now) (subst (λ ws. Contains ws u) (sym (values_of_more (present_of f.store) values z (within a z m over))) has))
+            (λ a z u m over has. subst (λ ws. Contains ws u) (values_of_more (present_of f.store) values z (within a z m over)) (subst (λ d. Has d z u) now has))
+            kept.marked;
+        empty = subst (λ d. IsEmptyKept d f.empty) (sym now) (more_empty (present_of f.store) values filled f.empty kept.empty);
+      };
+      valid = declares_valid s t values (declared_state f store values active ascends e) engine.valid;
+    }
+  where
+    more_filled : (d : Domains) (vs : List ℤ) → 0 < length vs → (x : ℕ) → (x < length d → 0 < length (values_of d x)) → x < length (d ++ vs ∷ []) → 0 < length (values_of (d ++ vs ∷ []) x)
+    more_filled d vs some x old lt = elim (cases_lt x (length d)) [
+      | inl l ↦ subst (λ ws. 0 < length ws) (sym (values_of_more d vs x l)) (old l)
+      | inr ge ↦
+          let e : x ≡ length d = omega (arith, length-append d (vs ∷ []), lt) in
+          subst (λ ws. 0 < length ws) (sym (ap (values_of (d ++ vs ∷ [])) e ∙ last_values d vs)) some
+    ]
+
+    more_empty : (d : Domains) (vs : List ℤ) → 0 < length vs → (empty : Option ℕ) → IsEmptyKept d empty → IsEmptyKept (d ++ vs ∷ []) empty
+    more_empty d vs some None kept = λ x lt. more_filled d vs some x (kept x) lt
+    more_empty d vs some (Some x) kept = (
+      record { exists = omega (arith, length-append d (vs ∷ []), kept.0.exists); empty = values_of_more d vs x kept.0.exists ∙ kept.0.empty },
+      λ y is. elim (cases_lt y (length d)) [
+        | inl l ↦ kept.1 y (record { exists = l; empty = sym (values_of_more d vs y l) ∙ is.empty })
+        | inr ge ↦
+            let e : y ≡ length d = omega (arith, length-append d (vs ∷ []), is.exists) in
+            absurd (empty_not_filled vs (sym (ap (values_of (d ++ vs ∷ [])) e ∙ last_values d vs) ∙ is.empty) some)
+      ],
+    )
+
+-- ---- what a decision asks for
+
+pub present_declared : (s : EngineState) (x : ℕ) (v : ℤ) → Has (present s) x v → x < length s.initial
+present_declared s x v has = has_declared s.initial x v (without_has s.initial (log_pairs s.log) x v has).0
+
+pub one_declared : (n x : ℕ) → x < n → All (λ y. y < n) (x ∷ [])
+one_declared n x lt = all_members (λ y. y < n) (x ∷ []) (λ y m. subst (λ z. z < n) (member_single x y m) lt)

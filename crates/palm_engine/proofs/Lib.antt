@@ -1,10 +1,13 @@
 pub mod Comparing
 pub mod Counting
 pub mod Ending
+pub mod Fitting
+pub mod Gathering
 pub mod Keeping
 pub mod Marking
 pub mod Placing
 pub mod Restoring
+pub mod Results
 pub mod Same
 pub mod Scopes
 pub mod Settled

@@ -1,26 +1,35 @@
 -- Waking the constraints over restored variables, one variable after another.
-use Rattle.std.proofs.Common.{◌≡◌, ℕ, ◌+◌, ◌<◌, ◌≤◌, Bool, true, false, ◌||◌, nat_eq, List, [], ◌∷◌, ◌++◌, map, length, get_or, take, Contains, Option, ◌⊎◌, ◌↔◌, inl, inr, refl, sym, ap, ◌∙◌, subst}
-use Rattle.std.proofs.lemmas.Bool.{or-false, or_assoc}
+use Rattle.std.proofs.Common.{◌≡◌, ℕ, ◌+◌, ◌<◌, ◌≤◌, Bool, true, false, not, ◌||◌, nat_eq, All, List, [], ◌∷◌, ◌++◌, map, length, get_or, take, Contains, Option, ◌⊎◌, ◌↔◌, inl, inr, refl, sym, ap, ◌∙◌, subst}
 use Rattle.std.proofs.lemmas.List.{take_more, take_all}
 use Rattle.std.proofs.lemmas.List.Folds.{list_any_more}
-use Rattle.std.proofs.lemmas.List.Elements.{Contains-append_left, Contains-push, Contains-push_cases}
+use Rattle.std.proofs.lemmas.List.Elements.{All-filter, Contains-append_left, Contains-push, Contains-push_cases}
 use Rattle.palm_base.specs.declared.terms.Cid.{Cid}
 use Rattle.palm_base.proofs.Members.{member_nil, member_same, member_map, member_unmap}
 use Rattle.palm_domain.specs.Rows.{Row, initial_of, present_of}
-use Rattle.palm_model.specs.Log.{Loses, log_pairs}
+use Rattle.palm_model.specs.Log.{Loses, Rises, is_named, log_pairs}
 use Rattle.palm_model.specs.State.{without_cid}
 use Rattle.palm_model.specs.Event.{lost_pairs, vars_of}
 use Rattle.palm_explain.specs.Explanations.{Explanations, LacksExactly}
-use Rattle.palm_agenda.specs.Agenda.{Connected, Waiting, IsFormed, IsOver, mark_own, marked_where, marks_where, without_connected}
+use Rattle.palm_events.proofs.States.{without_cid_member, without_cid_rises}
+use Rattle.palm_agenda.proofs.Connecting.{member_without_connected, names_without}
+use Rattle.palm_agenda.specs.Agenda.{Connected, Waiting, HasMarks, IsConnected, IsFormed, IsOver, names_of, mark_own, marked_where, marks_where, without_connected}
 use Rattle.palm_engine.specs.declared.filtering.Filtering.{Filtering}
 use Rattle.palm_engine.specs.Changed.{NotesGain, PutsBack, is_one_of}
 
 -- ---- marks
 
+or_false : (b : Bool) → (b || false) ≡ b
+or_false true = refl
+or_false false = refl
+
+or_assoc : (a b c : Bool) → (a || (b || c)) ≡ ((a || b) || c)
+or_assoc true b c = refl
+or_assoc false b c = refl
+
 marks_none : (scope : List ℕ) (marks : List Bool) → marks_where (is_one_of []) scope marks ≡ marks
 marks_none [] marks = refl
 marks_none (x ∷ scope) [] = refl
-marks_none (x ∷ scope) (mark ∷ marks) = ap (λ m. m ∷ marks_where (is_one_of []) scope marks) (or-false mark) ∙ ap (λ ms. mark ∷ ms) (marks_none scope marks)
+marks_none (x ∷ scope) (mark ∷ marks) = ap (λ m. m ∷ marks_where (is_one_of []) scope marks) (or_false mark) ∙ ap (λ ms. mark ∷ ms) (marks_none scope marks)
 
 marks_then : (s t u : ℕ → Bool) → ((x : ℕ) → u x ≡ (s x || t x)) → (scope : List ℕ) (marks : List Bool) → marks_where t scope (marks_where s scope marks) ≡ marks_where u scope marks
 marks_then s t u each [] marks = refl
@@ -52,7 +61,7 @@ woken_more vars i x before middle after lt at was own =
     (λ y. list_any_more (λ z. nat_eq y z) vars i x lt ∙ ap (λ z. is_one_of (take i vars) y || nat_eq y z) (sym at)) before
 
 pub woken_all : (vars : List ℕ) (i : ℕ) (before after : List Connected) → length vars ≤ i → after ≡ map (marked_where (is_one_of (take i vars))) before → after ≡ map (marked_where (is_one_of vars)) before
-woken_all vars i before after le e = e ∙ ap (λ vs. map (marked_where (is_one_of vs)) before) (take_all vars i le)
+woken_all vars i before after le e = e ∙ ap (λ vs. map (marked_where (is_one_of vs)) before) (take_all i vars le)
 
 -- ---- pending names
 
@@ -88,8 +97,7 @@ pub waits_more : (vars : List ℕ) (i x : ℕ) (before middle : List Connected) 
     → ((c : Cid) → Contains new c ↔ (Contains then c ⊎ IsOver middle x c)) → AreWoken before (take (i + 1) vars) old new
 waits_more vars i x before middle old then new lt at was first last c =
     let more : take (i + 1) vars ≡ take i vars ++ x ∷ [] = take_more vars i x lt ∙ ap (λ y. take i vars ++ y ∷ []) (sym at) in
-    let test = is_one_of (take i vars) in
-    (
+    let test = is_one_of (take i vars) in (
       λ m. elim ((last c).0 m) [
         | inl k ↦ elim ((first c).0 k) [
           | inl o ↦ inl o
@@ -107,9 +115,22 @@ waits_more vars i x before middle old then new lt at was first last c =
     )
 
 pub waits_all : (vars : List ℕ) (i : ℕ) (before : List Connected) (old new : List Cid) → length vars ≤ i → AreWoken before (take i vars) old new → AreWoken before vars old new
-waits_all vars i before old new le are c = subst (λ vs. Contains new c ↔ (Contains old c ⊎ IsOverSome before vs c)) (take_all vars i le) (are c)
+waits_all vars i before old new le are c = subst (λ vs. Contains new c ↔ (Contains old c ⊎ IsOverSome before vs c)) (take_all i vars le) (are c)
 
 -- ---- the whole withdrawal
+
+-- an agenda without one constraint
+pub away_formed : (before away : Waiting) (cid : Cid) → away.connected ≡ without_connected cid before.connected → away.pending ≡ without_cid cid before.pending → IsFormed before → IsFormed away
+away_formed before away cid connected pending formed = record {
+  rising = subst (λ ds. Rises (names_of ds)) (sym connected) (subst Rises (sym (names_without cid before.connected)) (without_cid_rises cid (names_of before.connected) formed.rising));
+  pending_rising = subst Rises (sym pending) (without_cid_rises cid before.pending formed.pending_rising);
+  pending_connected = λ c m.
+      let k = without_cid_member cid before.pending c (subst (λ ns. Contains ns c) pending m) in
+      let is = formed.pending_connected c k.0 in
+      subst (λ ds. IsConnected ds c) (sym connected)
+      (record { owner = is.owner; listed = member_without_connected cid before.connected is.owner is.listed (λ e. k.1 (sym is.named ∙ e)); named = is.named });
+  marks = subst (All HasMarks) (sym connected) (All-filter (λ (d : Connected). not (is_named (cid ∷ []) d.cid)) HasMarks before.connected formed.marks);
+}
 
 pub put_back : (f : Filtering) (cid : Cid) (store : List Row) (log : Explanations) (away agenda : Waiting) (vars : List ℕ) (empty : Option ℕ)
     → away.connected ≡ without_connected cid f.agenda.connected → away.pending ≡ without_cid cid f.agenda.pending

@@ -17,7 +17,7 @@ ghost use Rattle.palm_engine.specs.Posted.{active_of, decision, negation, user};
 
 use crate::conflicts::{conflict_of, flat_of};
 use crate::filtering::Filtering;
-use crate::posted::{Posted, decisions_of, place_of};
+use crate::posted::{Posted, decisions_of, is_same, place_of};
 use crate::posting::{insert, take_out, take_out_resting};
 use crate::settle::{Settle, outcome, run_revision, take_next, tell};
 use palm_agenda::Order;
@@ -226,7 +226,7 @@ impl<F: Filter> Engine<F> {
         ensures { Tells result (IsActive self.now.state.active cid) }
     {
         match self.posted.get(place_of(&self.posted, &cid)) {
-            Some(constraint) => constraint.cid() == cid,
+            Some(constraint) => is_same(&constraint.cid(), &cid),
             None => false,
         }
     }
@@ -237,10 +237,8 @@ impl<F: Filter> Engine<F> {
             ((p : PairTerm) → IsActive self.now.state.active (Cid.Not p) → ⊥)
             (λ p. IsActive self.now.state.active (Cid.Not p) × ((q : PairTerm) → IsActive self.now.state.active (Cid.Not q) → pair_before q p ≡ true → ⊥)) }
     {
-        match self.posted.get(decisions_of(&self.posted)) {
-            Some(Posted::Negation { pair, .. }) => Some(*pair),
-            _ => None,
-        }
+        let constraint = self.posted.get(decisions_of(&self.posted))?;
+        constraint.negated()
     }
 
     /// Makes a constraint active and pending. Without memory nothing changes.

@@ -1,5 +1,8 @@
-use Rattle.palm_engine.proofs.Restoring.{put_back}
+use Rattle.palm_engine.proofs.Restoring.{away_formed, put_back}
 use Rattle.palm_engine.proofs.filtering.Filtering.withdraw.Goals as goal
+
+pub wake_restored-requires : goal.wake_restored-requires
+wake_restored-requires c = away_formed c.args.self.now.agenda c.disconnect.new.self c.args.cid.now c.disconnect.ensures.connected c.disconnect.ensures.pending c.requires.formed
 
 pub returns : goal.returns
 returns c =
