@@ -1,5 +1,5 @@
 -- Conflicts and flat conflicts, gathered from one value or one name after another.
-use Rattle.std.proofs.Common.{◌≡◌, ℕ, ◌+◌, ◌<◌, ◌≤◌, List, [], ◌∷◌, ◌++◌, length, get_or, take, Contains, Option, Some, ℤ, ◌⊎◌, inl, inr, refl, sym, ap, ◌∙◌, subst}
+use Rattle.std.proofs.Common.{◌≡◌, ℕ, ◌+◌, ◌<◌, ◌≤◌, List, [], ◌∷◌, ◌++◌, length, get_or, take, Contains, Some, ℤ, ◌⊎◌, inl, inr, sym, ap, ◌∙◌, subst}
 use Rattle.std.proofs.lemmas.List.{take_more, take_all}
 use Rattle.std.proofs.lemmas.List.Elements.{Contains-append_left, Contains-push, Contains-push_cases}
 use Rattle.palm_base.specs.declared.terms.Pair.{Pair}
@@ -7,10 +7,10 @@ use Rattle.palm_base.specs.declared.terms.Cid.{Cid}
 use Rattle.palm_base.specs.declared.terms.Cid.TheVariants.{Not}
 use Rattle.palm_base.proofs.Members.{member_nil, member_here, member_same, member_single}
 use Rattle.palm_domain.specs.Rows.{initial_of, present_of, declared_values}
-use Rattle.palm_model.specs.Conflict.{InConflict, InFlat, IsKeptConflict}
+use Rattle.palm_model.specs.Conflict.{InFlat, IsKeptConflict}
 use Rattle.palm_model.specs.Conflict.InFlat.{as_it_is, in_place}
-use Rattle.palm_model.specs.Domains.{Has, without}
-use Rattle.palm_model.specs.Log.{Active, IsActive, IsListOf, NamesOfPair, Removal, Rises, cids_of, log_pairs}
+use Rattle.palm_model.specs.Domains.{Has}
+use Rattle.palm_model.specs.Log.{Active, IsListOf, NamesOfPair, Removal, Rises, cids_of, log_pairs}
 use Rattle.palm_model.specs.State.{IsEmptyAt, IsGround, present}
 use Rattle.palm_model.proofs.Without.{pair_of}
 use Rattle.palm_events.proofs.Agreeing.{gone_member}

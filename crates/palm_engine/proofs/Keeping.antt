@@ -1,5 +1,5 @@
 -- What an engine keeps holds after a removal, a withdrawal, a posting and a declaration.
-use Rattle.std.proofs.Common.{◌≡◌, ℕ, ◌<◌, Bool, true, false, not, ◌||◌, List, [], ◌∷◌, ◌++◌, length, map, filter, Contains, Option, None, Some, ℤ, All, ◌+◌, ◌⊎◌, ◌↔◌, inl, inr, refl, sym, ap, ◌∙◌, subst, arith, length-append}
+use Rattle.std.proofs.Common.{◌≡◌, ℕ, ◌<◌, true, false, List, [], ◌∷◌, ◌++◌, length, map, Contains, Option, None, Some, ℤ, All, ◌+◌, ◌⊎◌, ◌↔◌, inl, inr, refl, sym, ap, ◌∙◌, subst, arith, length-append}
 use Rattle.std.specs.List.{list_any}
 use Rattle.std.proofs.lemmas.Bool.{or_cases, false≢true, cases_lt}
 use Rattle.std.specs.Prelude.{slice_set}
@@ -7,27 +7,27 @@ use Rattle.std.proofs.lemmas.List.{get_or_push, length-map, map-append}
 use Rattle.std.proofs.lemmas.List.Elements.{All-append, All-cons, All-nil, Contains-push_cases}
 use Rattle.palm_base.specs.declared.terms.Pair.{Pair}
 use Rattle.palm_base.specs.declared.terms.Cid.{Cid}
-use Rattle.palm_base.proofs.Members.{member_nil, member_here, member_there, member_cases, member_same, member_map, member_single, all_members, nat_known}
+use Rattle.palm_base.proofs.Members.{member_nil, member_here, member_there, member_cases, member_same, member_single, all_members, nat_known}
 use Rattle.palm_domain.specs.Rows.{Row, IsPresent, LosesPair, initial_of, present_of, present_values, values_without}
 use Rattle.palm_model.specs.Domains.{Domains, AllAscend, Ascends, Has, IsInside, values_of, without}
 use Rattle.palm_model.specs.Constraint.{scope}
 use Rattle.palm_model.specs.Log.{Active, IsActive, Removal, Rises, cids_of, is_named, log_pairs}
-use Rattle.palm_model.specs.State.{EngineState, FitsName, IsEmptyAt, IsValid, AllFilled, is_awake, is_over, present, woken, without_cid}
-use Rattle.palm_model.specs.Event.{Declares, Posts, WithdrawsAll, with_posted, without_names, withdrawn, posted, vars_of, lost_pairs}
+use Rattle.palm_model.specs.State.{EngineState, FitsName, IsEmptyAt, AllFilled, is_awake, is_over, present, woken}
+use Rattle.palm_model.specs.Event.{Declares, Posts, WithdrawsAll, with_posted, without_names, posted, vars_of, lost_pairs}
 use Rattle.palm_model.proofs.Narrowing.{has_declared}
 use Rattle.palm_model.proofs.Supports.{any_member}
 use Rattle.palm_model.proofs.Ascending.{domains_same}
 use Rattle.palm_model.proofs.Without.{ascend_without, has_without, length_without, pair_of, without_has}
 use Rattle.palm_events.proofs.Agreeing.{has_more, more_has, values_of_more}
 use Rattle.palm_events.proofs.Names.{named_member, rising_same}
-use Rattle.palm_events.proofs.States.{over_member, awake_named, awake_over, woken_active, member_woken, woken_rises, without_cid_member, member_without_cid, without_names_member, member_without_names, without_names_rises, with_posted_rises, with_posted_here, member_with_posted, with_posted_cases}
+use Rattle.palm_events.proofs.States.{over_member, awake_named, awake_over, woken_active, member_woken, woken_rises, without_cid_member, member_without_cid, without_names_member, member_without_names, without_names_rises, with_posted_rises, with_posted_here, member_with_posted}
 use Rattle.palm_events.proofs.Valid.{active_declared, declares_valid, left_grows, left_same, posts_valid}
 use Rattle.palm_explain.specs.Explanations.{Explanations, LacksExactly}
-use Rattle.palm_agenda.specs.Agenda.{Waiting, IsFormed, IsOver, mark_others, marked_whole, marked_where, with_connected, without_connected}
+use Rattle.palm_agenda.specs.Agenda.{Waiting, IsFormed, IsOver, mark_others, marked_whole, with_connected, without_connected}
 use Rattle.palm_engine.specs.declared.filtering.Filtering.{Filtering}
 use Rattle.palm_engine.specs.Kept.{AreConnected, AreMarked, IsEmptyKept, IsKept, IsEngine, state_of}
 use Rattle.palm_engine.specs.Changed.{NotesGain, NotesLoss, PutsBack, TakesOut, is_one_of}
-use Rattle.palm_engine.proofs.Scopes.{active_is_connected, connected_is_active, over_active, active_over, others_connected, marked_connected, without_is_connected, with_is_connected}
+use Rattle.palm_engine.proofs.Scopes.{connected_is_active, over_active, active_over, others_connected, marked_connected, without_is_connected, with_is_connected}
 use Rattle.palm_engine.proofs.Taking.{without_push}
 use Rattle.palm_engine.proofs.Marking.{agreeing_marked, taken_marked, restored_marked, posted_marked}
 

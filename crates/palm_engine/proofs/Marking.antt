@@ -1,16 +1,13 @@
 -- Places without a mark: which they are after marks were made, and that their values have support.
-use Rattle.std.proofs.Common.{◌≡◌, ℕ, zero, suc, Bool, true, false, not, if◌then◌else◌, ◌||◌, nat_eq, List, [], ◌∷◌, ◌++◌, map, filter, length, slice_get, replicate, Contains, Option, None, Some, ◌⊎◌, inl, inr, refl, sym, ap, ◌∙◌, subst, eq-eqb, eqb-true, ℤ}
-use Rattle.std.specs.List.{list_any}
-use Rattle.std.proofs.lemmas.Bool.{cases_Bool, false≢true, not-true, or_left, or_right}
+use Rattle.std.proofs.Common.{◌≡◌, ℕ, zero, suc, Bool, true, false, not, if◌then◌else◌, ◌||◌, nat_eq, List, [], ◌∷◌, map, filter, length, slice_get, replicate, Contains, Some, ◌⊎◌, inl, inr, refl, sym, ap, ◌∙◌, subst, eq-eqb, eqb-true, ℤ}
+use Rattle.std.proofs.lemmas.Bool.{false≢true}
 use Rattle.std.proofs.lemmas.List.Elements.{Contains-append_cases}
 use Rattle.std.proofs.lemmas.Option.{slice_get_within, get_or_from_slice_get}
-use Rattle.palm_base.specs.declared.terms.Pair.{Pair}
 use Rattle.palm_base.specs.declared.terms.Cid.{Cid}
-use Rattle.palm_base.proofs.Members.{member_cases, member_map, member_unmap, member_same, filter_member, nat_known}
+use Rattle.palm_base.proofs.Members.{member_cases, member_unmap, member_same, filter_member, nat_known}
 use Rattle.palm_model.specs.Constraint.{scope}
 use Rattle.palm_model.specs.Domains.{Domains, Has, IsInside}
-use Rattle.palm_model.specs.Part.{scope_of}
-use Rattle.palm_model.specs.Support.{HasSupport, IsSupported}
+use Rattle.palm_model.specs.Support.{IsSupported}
 use Rattle.palm_model.specs.Log.{Active, IsActive, Rises, cid_before, cids_of, is_named}
 use Rattle.palm_model.specs.Event.{with_posted, without_names}
 use Rattle.palm_model.specs.declared.constraint.Con.{Con}

@@ -1,5 +1,5 @@
 -- How far a revision has come over the places of a scope.
-use Rattle.std.proofs.Common.{◌≡◌, ℕ, zero, suc, ◌+◌, ◌<◌, ◌≤◌, Bool, true, false, cond, List, [], ◌∷◌, ◌++◌, length, map, flat_map, sum_by, take, drop, All, Contains, ℤ, Option, Some, None, slice_get, slice_set, get_or, inl, inr, refl, sym, ap, ◌∙◌, subst, arith, zero-add}
+use Rattle.std.proofs.Common.{◌≡◌, ℕ, zero, suc, ◌+◌, ◌<◌, ◌≤◌, Bool, true, false, List, [], ◌∷◌, ◌++◌, length, map, flat_map, sum_by, take, drop, All, Contains, Option, Some, None, slice_get, slice_set, get_or, inl, inr, refl, sym, ap, ◌∙◌, subst, arith}
 use Rattle.std.specs.Option.{is_some}
 use Rattle.std.proofs.lemmas.Bool.{cases_Bool, false≢true}
 use Rattle.std.proofs.lemmas.List.{append_assoc, take_more}
@@ -8,7 +8,6 @@ use Rattle.std.proofs.lemmas.List.Sums.{sum_by-cons, sum_by-append}
 use Rattle.std.proofs.lemmas.Option.{slice_get_within, get_or_from_slice_get, slice_get-get_or}
 use Rattle.palm_base.specs.declared.terms.Pair.{Pair}
 use Rattle.palm_base.specs.declared.terms.Cid.{Cid}
-use Rattle.palm_base.specs.Tells.{Tells}
 use Rattle.palm_base.proofs.Members.{member_map, member_unmap, member_get, all_members}
 use Rattle.palm_domain.specs.Rows.{initial_of, present_of}
 use Rattle.palm_model.specs.Domains.{Domains, Has, values_of}
@@ -17,13 +16,13 @@ use Rattle.palm_model.specs.Support.{IsSupported}
 use Rattle.palm_model.specs.Removed.{pairs_of}
 use Rattle.palm_model.specs.Log.{Active, Rises, same_cid, log_pairs}
 use Rattle.palm_explain.specs.Explanations.{Explanations, LacksExactly}
-use Rattle.palm_model.specs.State.{EngineState, HasEmpty, IsValid, present, woken}
+use Rattle.palm_model.specs.State.{HasEmpty, IsValid, present, woken}
 use Rattle.palm_model.proofs.Without.{pair_of}
-use Rattle.palm_agenda.specs.Agenda.{Connected, Waiting, HasMarks, HasPlace, IsConnected, IsFormed, IsMarked, names_of}
+use Rattle.palm_agenda.specs.Agenda.{Connected, Waiting, HasMarks, HasPlace, IsFormed, IsMarked, names_of}
 use Rattle.palm_engine.specs.declared.filtering.Filtering.{Filtering}
 use Rattle.palm_engine.specs.Settling.{Walks, walk_order}
 use Rattle.palm_engine.specs.Settling.Walks.{walked_empty}
-use Rattle.palm_engine.specs.Kept.{IsKept, IsEmptyKept, AreConnected, AreMarked, state_in_revision}
+use Rattle.palm_engine.specs.Kept.{IsEmptyKept, AreConnected, AreMarked, state_in_revision}
 use Rattle.palm_engine.specs.Revising.{IsRevising, IsAgain, Walked, WalkedPart, AreSupportedAt, HasCounted}
 use Rattle.palm_engine.proofs.Joined.{walk_past}
 use Rattle.palm_engine.proofs.Unmarking.{active_connected, connected_walked, marked_walked, unmark, unmark_cid}

@@ -8,8 +8,8 @@ use Rattle.std.proofs.lemmas.List.Elements.{All-contains, Contains-get_or}
 use Rattle.std.proofs.lemmas.Option.{slice_get-map, slice_get-get_or, slice_get_within, get_or_from_slice_get}
 use Rattle.palm_base.specs.declared.terms.Pair.{Pair}
 use Rattle.palm_base.specs.declared.terms.Cid.{Cid}
-use Rattle.palm_base.specs.declared.terms.Cid.TheVariants.{Decide, Not, User}
-use Rattle.palm_base.proofs.Members.{member_here, member_map, member_unmap, member_single, member_get}
+use Rattle.palm_base.specs.declared.terms.Cid.TheVariants.{Decide, Not}
+use Rattle.palm_base.proofs.Members.{member_here, member_map, member_unmap, member_single}
 use Rattle.palm_model.specs.Log.{Active, IsActive, Rises, cid_before, cids_of, is_named, pair_before, same_cid}
 use Rattle.palm_model.specs.Event.{with_posted, without_names}
 use Rattle.palm_model.specs.declared.constraint.Con.{Con}

@@ -1,29 +1,28 @@
 -- How far a revision has come: over the values of a variable, and over the places of a scope.
-use Rattle.std.proofs.Common.{◌≡◌, ℕ, zero, suc, ◌+◌, ◌-◌, ◌<◌, ◌≤◌, min, pos, ◌+ℤ◌, ◌<ℤ◌, ◌≤ℤ◌, List, [], ◌∷◌, ◌++◌, length, flat_map, sum_by, take, drop, Contains, ℤ, Option, Some, None, IfSome, Result, Ok, Err, OnOk, OnErr, slice_get, ◌⊎◌, inl, inr, refl, sym, ap, ◌∙◌, subst, arith, zero-add, length-append}
+use Rattle.std.proofs.Common.{◌≡◌, ℕ, zero, suc, ◌+◌, ◌-◌, ◌<◌, ◌≤◌, min, pos, ◌+ℤ◌, ◌<ℤ◌, ◌≤ℤ◌, List, [], ◌∷◌, ◌++◌, length, Contains, ℤ, Option, Some, None, IfSome, Result, Ok, Err, OnOk, OnErr, ◌⊎◌, inl, inr, refl, sym, ap, ◌∙◌, subst, arith, zero-add, length-append}
 use Rattle.std.proofs.lemmas.Int.{ints, by_lt_z}
 use Rattle.palm_base.specs.declared.terms.Pair.{Pair}
 use Rattle.palm_base.specs.declared.terms.Cid.{Cid}
 use Rattle.palm_base.specs.declared.limits.TheConstants.{LAST_COUNT}
-use Rattle.palm_base.proofs.Members.{member_nil, member_same, int_known, nat_known}
-use Rattle.palm_domain.specs.Rows.{IsLeastOf, initial_of, present_of, present_values, declared_values}
+use Rattle.palm_base.proofs.Members.{member_nil, int_known}
+use Rattle.palm_domain.specs.Rows.{IsLeastOf, initial_of, present_of, present_values}
 use Rattle.palm_domain.proofs.Ascending.{Ascends-at}
 use Rattle.palm_model.specs.Domains.{Domains, Ascends, Has, values_of}
 use Rattle.palm_model.specs.Constraint.{scope}
 use Rattle.palm_model.specs.Support.{IsSupported, LacksSupport}
 use Rattle.palm_model.specs.Removed.{pairs_of}
 use Rattle.palm_model.specs.Log.{Active, log_pairs}
-use Rattle.palm_model.specs.State.{EngineState, IsEmptyAt, AllFilled, present}
+use Rattle.palm_model.specs.State.{IsEmptyAt, AllFilled, present}
 use Rattle.palm_model.proofs.Without.{pair_of, without_has}
 use Rattle.palm_engine.specs.declared.filtering.Filtering.{Filtering}
 use Rattle.palm_engine.specs.Changed.{TakesOut}
-use Rattle.palm_engine.specs.Settling.{Walks}
 use Rattle.palm_engine.specs.Settling.Walks.{walked_all}
 use Rattle.palm_engine.specs.Kept.{IsKept, state_in_revision}
 use Rattle.palm_engine.specs.Revising.{IsRevising, IsAgain, Walked, WalkedPart, AreSupportedAt, HasCounted}
 use Rattle.palm_engine.proofs.Walking.{walk_filters}
 use Rattle.palm_engine.proofs.Joined.{walk_has, walk_then, walk_one_past, walk_one_out}
-use Rattle.palm_engine.proofs.Bounds.{left_from, fewer_left, values_below, values_from, values_between, values_before, IsNextAt, below_between, below_from, between_one, below_of, from_of, member_below, member_from, walk_next, walk_least, walk_value, pairs_both}
-use Rattle.palm_engine.proofs.Revised.{over_connected, present_is, present_length, owner_declared, stated, out_removes, out_kept, out_state, one_keeps, one_supports, only_emptied, others_filled, some_length}
+use Rattle.palm_engine.proofs.Bounds.{left_from, fewer_left, values_below, values_from, values_between, values_before, IsNextAt, below_between, below_from, between_one, below_of, member_below, member_from, walk_next, walk_least, walk_value, pairs_both}
+use Rattle.palm_engine.proofs.Revised.{over_connected, present_is, present_length, stated, out_removes, out_kept, one_keeps, one_supports, only_emptied, some_length}
 use Rattle.palm_events.proofs.Reasons.{reasons_right}
 use Rattle.palm_events.proofs.Valid.{removes_valid}
 

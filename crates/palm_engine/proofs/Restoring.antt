@@ -4,7 +4,7 @@ use Rattle.std.proofs.lemmas.List.{take_more, take_all}
 use Rattle.std.proofs.lemmas.List.Folds.{list_any_more}
 use Rattle.std.proofs.lemmas.List.Elements.{All-filter, Contains-append_left, Contains-push, Contains-push_cases}
 use Rattle.palm_base.specs.declared.terms.Cid.{Cid}
-use Rattle.palm_base.proofs.Members.{member_nil, member_same, member_map, member_unmap}
+use Rattle.palm_base.proofs.Members.{member_nil, member_map, member_unmap}
 use Rattle.palm_domain.specs.Rows.{Row, initial_of, present_of}
 use Rattle.palm_model.specs.Log.{Loses, Rises, is_named, log_pairs}
 use Rattle.palm_model.specs.State.{without_cid}

@@ -1,31 +1,29 @@
 -- One value of a revision: it is passed or taken out, and what the engine keeps stays right.
-use Rattle.std.proofs.Common.{◌≡◌, ℕ, zero, suc, ◌+◌, ◌-◌, ◌<◌, ◌≤◌, min, List, [], ◌∷◌, ◌++◌, length, map, All, Contains, ℤ, Option, Some, None, ◌⊎◌, inl, inr, refl, sym, ap, ◌∙◌, subst, arith, zero-add}
+use Rattle.std.proofs.Common.{◌≡◌, ℕ, ◌<◌, List, [], ◌∷◌, ◌++◌, length, Contains, ℤ, Option, Some, None, ◌⊎◌, inl, inr, refl, sym, ap, ◌∙◌, subst, arith}
 use Rattle.std.proofs.lemmas.List.{length-map}
 use Rattle.palm_base.specs.declared.terms.Pair.{Pair}
 use Rattle.palm_base.specs.declared.terms.Cid.{Cid}
-use Rattle.palm_base.specs.declared.limits.TheConstants.{LAST_COUNT}
-use Rattle.palm_base.proofs.Members.{member_nil, member_here, nat_known, all_members}
+use Rattle.palm_base.proofs.Members.{member_here, nat_known, all_members}
 use Rattle.palm_domain.specs.Rows.{Row, LosesPair, initial_of, present_of}
-use Rattle.palm_model.specs.Domains.{Domains, Has, values_of, without}
+use Rattle.palm_model.specs.Domains.{Domains, Has, values_of}
 use Rattle.palm_model.specs.Constraint.{scope}
 use Rattle.palm_model.specs.Support.{IsSupported, LacksSupport}
 use Rattle.palm_model.specs.Reason.{AreFilled, reason}
-use Rattle.palm_model.specs.Log.{Active, Removal, log_pairs}
-use Rattle.palm_model.specs.State.{EngineState, FitsName, IsEmptyAt, AllFilled, IsValid, present, woken}
+use Rattle.palm_model.specs.Log.{Active, log_pairs}
+use Rattle.palm_model.specs.State.{EngineState, FitsName, IsEmptyAt, AllFilled, present}
 use Rattle.palm_model.specs.Event.{Removes, removed}
 use Rattle.palm_model.proofs.Without.{pair_of, length_without}
 use Rattle.palm_events.proofs.Names.{single}
 use Rattle.palm_events.proofs.Reasons.{reasons_right, removal_right}
-use Rattle.palm_events.proofs.Valid.{removes_valid, active_declared, has_removed}
-use Rattle.palm_agenda.specs.Agenda.{mark_others, IsOver as IsOverConnected}
+use Rattle.palm_events.proofs.Valid.{active_declared, has_removed}
+use Rattle.palm_agenda.specs.Agenda.{IsOver as IsOverConnected}
 use Rattle.palm_engine.specs.declared.filtering.Filtering.{Filtering}
 use Rattle.palm_engine.specs.Settling.{Walks}
 use Rattle.palm_engine.specs.Settling.Walks.{walked_all, walked_empty, walked_past, walked_out}
 use Rattle.palm_engine.specs.Kept.{IsKept, IsEmptyKept, AreConnected, AreMarked, state_in_revision}
 use Rattle.palm_engine.specs.Changed.{TakesOut, NotesLoss}
 use Rattle.palm_engine.specs.Posted.{IsInForm}
-use Rattle.palm_engine.specs.Revising.{IsRevising, IsAgain, Walked, HasCounted}
-use Rattle.palm_engine.proofs.Joined.{walk_then, walk_one_past, walk_one_out}
+use Rattle.palm_engine.specs.Revising.{IsRevising}
 use Rattle.palm_engine.proofs.Unmarking.{active_connected, connected_active, connected_removed, marked_removed}
 use Rattle.palm_engine.proofs.Staying.{KeepsOthers, support_stays}
 use Rattle.palm_engine.proofs.Waking.{IsOver, woken_beside}

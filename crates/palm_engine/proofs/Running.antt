@@ -1,6 +1,5 @@
 -- A settling as it runs: what its revisions so far have done.
-use Rattle.std.proofs.Common.{◌≡◌, ℕ, zero, suc, ◌+◌, ◌-◌, ◌<◌, ◌≤◌, min, Bool, true, false, Option, Some, None, IfSome, List, [], ◌∷◌, ◌++◌, length, filter, All, Contains, inl, inr, refl, sym, ap, ◌∙◌, subst, arith, length-append}
-use Rattle.std.specs.Option.{is_some}
+use Rattle.std.proofs.Common.{◌≡◌, ℕ, ◌+◌, ◌-◌, ◌<◌, ◌≤◌, min, Bool, true, false, Option, Some, None, IfSome, List, [], ◌∷◌, ◌++◌, length, All, Contains, refl, sym, ap, ◌∙◌, subst, arith, length-append}
 use Rattle.std.proofs.lemmas.List.Elements.{All-nil, All-cons, All-append}
 use Rattle.palm_base.specs.declared.terms.Cid.{Cid}
 use Rattle.palm_base.specs.declared.limits.TheConstants.{LAST_COUNT}
@@ -16,17 +15,17 @@ use Rattle.palm_agenda.specs.Agenda.{IsConnected, IsFormed, HasMarks, Waiting, i
 use Rattle.palm_engine.specs.declared.filtering.Filtering.{Filtering}
 use Rattle.palm_engine.specs.declared.settle.Settle.{Settle}
 use Rattle.palm_engine.specs.declared.settle.Settle.TheVariants.{Settled, Empty, Stopped}
-use Rattle.palm_engine.specs.Engine.{View, EndsAs, HasAsked, HasSettled, IsInterrupted, view_of}
-use Rattle.palm_engine.specs.Settling.{Walks, Revision, Revises, Revisions, Settles, FitsOrder, IsEnded, IsInLimit, HasReached}
+use Rattle.palm_engine.specs.Engine.{View, EndsAs, HasAsked, HasSettled, IsInterrupted}
+use Rattle.palm_engine.specs.Settling.{Revision, Revises, Revisions, FitsOrder, IsEnded, IsInLimit, HasReached}
 use Rattle.palm_engine.specs.Settling.IsEnded.{ended_empty, ended_quiet, ended_limit}
 use Rattle.palm_engine.specs.Kept.{IsKept, IsEmptyKept, IsEngine, AreConnected, AreMarked, state_of, state_in_revision}
-use Rattle.palm_engine.specs.Revising.{IsRevising, HasCounted, IsTaken, HasRevised, HasPartlyRevised, TakesNext, TakesNone, TellsEnd}
+use Rattle.palm_engine.specs.Revising.{HasCounted, IsTaken, HasRevised, HasPartlyRevised, TakesNext, TakesNone, TellsEnd}
 use Rattle.palm_engine.specs.Revising.TakesNone.{none_filled, none_allowed, none_pending}
 use Rattle.palm_engine.specs.Work.{effort, named_sizes, most_asked}
 use Rattle.palm_engine.proofs.Ending.{revision_falls}
 use Rattle.palm_engine.proofs.Joined.{walk_valid}
 use Rattle.palm_engine.proofs.Places.{kept_empty}
-use Rattle.palm_engine.proofs.Progress.{counted_none, counted_then, counted_more}
+use Rattle.palm_engine.proofs.Progress.{counted_none, counted_then}
 use Rattle.palm_engine.proofs.Settles.{pending_is_active, pending_waits}
 use Rattle.palm_engine.proofs.Spending.{revisions_more, asked_more, settling_asked, interrupted_asked}
 use Rattle.palm_engine.proofs.Waking.{taken_woken}

@@ -1,37 +1,29 @@
 -- A settling, revision by revision.
-use Rattle.std.proofs.Common.{◌≡◌, ℕ, zero, suc, ◌+◌, ◌-◌, ◌<◌, ◌≤◌, ◌↔◌, ◌⊎◌, min, Bool, true, false, Option, Some, None, IfSome, MatchOption, Result, Ok, Err, OnOk, OnErr, List, [], ◌∷◌, ◌++◌, length, map, All, Contains, slice_get, get_or, inl, inr, refl, sym, ap, ◌∙◌, subst, arith, length-append}
+use Rattle.std.proofs.Common.{◌≡◌, ℕ, zero, suc, ◌-◌, ◌<◌, ◌≤◌, ◌↔◌, ◌⊎◌, true, false, Option, Some, None, IfSome, MatchOption, Result, Ok, Err, OnOk, OnErr, List, [], ◌∷◌, length, map, Contains, slice_get, get_or, inl, inr, refl, sym, ap, ◌∙◌, subst, arith}
 use Rattle.std.specs.Option.{is_some}
 use Rattle.std.specs.Result.{is_err}
 use Rattle.std.proofs.lemmas.Bool.{false≢true, or_cases}
 use Rattle.std.proofs.lemmas.List.{length-map}
 use Rattle.std.proofs.lemmas.Option.{slice_get_within}
-use Rattle.std.proofs.lemmas.List.Elements.{All-nil, All-cons, All-append}
 use Rattle.palm_base.specs.declared.terms.Pair.{Pair}
 use Rattle.palm_base.specs.declared.terms.Cid.{Cid}
-use Rattle.palm_base.specs.declared.limits.TheConstants.{LAST_COUNT}
-use Rattle.palm_base.proofs.Members.{member_nil, member_here, member_there, member_cases, member_same, member_get}
+use Rattle.palm_base.proofs.Members.{member_here, member_there, member_cases, member_same}
 use Rattle.palm_domain.specs.Rows.{initial_of, present_of}
-use Rattle.palm_model.specs.Domains.{Domains}
-use Rattle.palm_model.specs.Log.{Active, IsActive, Rises, cids_of, is_named, log_pairs}
-use Rattle.palm_model.specs.State.{EngineState, HasEmpty, AllFilled, IsValid, IsSettled, IsEmptyAt, is_awake, present, woken, without_cid}
-use Rattle.palm_model.specs.Event.{calmed}
+use Rattle.palm_model.specs.Log.{Active, IsActive, Rises, cids_of, is_named}
+use Rattle.palm_model.specs.State.{is_awake, woken, without_cid}
 use Rattle.palm_events.proofs.Names.{rising_same, named_member}
-use Rattle.palm_events.proofs.Reasons.{reasons_right}
-use Rattle.palm_events.proofs.Runs.{run_valid}
 use Rattle.palm_events.proofs.States.{waits, woken_rises, woken_active, member_woken, awake_named, without_cid_rises, without_cid_member, member_without_cid}
-use Rattle.palm_agenda.specs.Agenda.{IsConnected, IsFormed, Takes, Waiting}
+use Rattle.palm_agenda.specs.Agenda.{IsConnected, IsFormed, Waiting}
 use Rattle.palm_engine.specs.declared.filtering.Filtering.{Filtering}
-use Rattle.palm_engine.specs.Settling.{Walks, Revision, Revises, Revisions, Settles, FitsOrder, IsInLimit, HasReached, walk_order, rested}
-use Rattle.palm_engine.specs.Settling.IsEnded.{ended_empty, ended_quiet, ended_limit}
-use Rattle.palm_engine.specs.Kept.{IsKept, IsEmptyKept, IsEngine, AreConnected, AreMarked, state_of, state_in_revision}
-use Rattle.palm_engine.specs.Revising.{IsRevising, IsAgain, Walked, WalkedPart, HasCounted, IsTaken, HasRevised, HasPartlyRevised, TakesNext, TakesNone}
-use Rattle.palm_engine.specs.Work.{size_of, named_sizes, most_asked}
-use Rattle.palm_engine.proofs.Joined.{walk_valid, walk_logged}
+use Rattle.palm_engine.specs.Settling.{Walks, walk_order, rested}
+use Rattle.palm_engine.specs.Kept.{IsKept, AreConnected, AreMarked, state_of, state_in_revision}
+use Rattle.palm_engine.specs.Revising.{IsRevising, IsAgain, Walked, WalkedPart, HasCounted, IsTaken, HasRevised, HasPartlyRevised}
+use Rattle.palm_engine.specs.Work.{size_of, named_sizes}
+use Rattle.palm_engine.proofs.Joined.{walk_logged}
 use Rattle.palm_engine.proofs.Progress.{counted_more}
 use Rattle.palm_engine.proofs.Spending.{owner_size}
 use Rattle.palm_engine.proofs.Unmarking.{active_connected, connected_active}
-use Rattle.palm_engine.proofs.Waking.{IsAwake, woken_same, taken_woken, pending_woken}
-use Rattle.palm_engine.proofs.Walking.{revision_filters}
+use Rattle.palm_engine.proofs.Waking.{woken_same, pending_woken}
 
 -- ---- the pending names
 
@@ -99,20 +91,20 @@ woken_state : (m : Filtering) (a : Waiting) (active : List Active) (owner : Acti
     → state_of (record m { agenda = a }) active ≡ state_in_revision m active owner.cid
 woken_state m a active owner r kept pending =
     let e = pending_waits (record m { agenda = a }) active r.valid.rising kept ∙ woken_same active a.pending (owner.cid ∷ m.agenda.pending) [] []
-        (λ b k h. elim h [
-          | inl n ↦ inl (elim ((pending b.cid).0 n) [
-            | inl was ↦ member_there owner.cid m.agenda.pending b.cid was
-            | inr is ↦ member_same (owner.cid ∷ m.agenda.pending) owner.cid b.cid (sym is) (member_here owner.cid m.agenda.pending)
-          ])
-          | inr none ↦ inr none
-        ])
-        (λ b k h. elim h [
-          | inl n ↦ inl (elim (member_cases owner.cid m.agenda.pending b.cid n) [
-            | inl is ↦ (pending b.cid).1 (inr (sym is))
-            | inr was ↦ (pending b.cid).1 (inl was)
-          ])
-          | inr none ↦ inr none
-        ]) in
+    (λ b k h. elim h [
+      | inl n ↦ inl (elim ((pending b.cid).0 n) [
+        | inl was ↦ member_there owner.cid m.agenda.pending b.cid was
+        | inr is ↦ member_same (owner.cid ∷ m.agenda.pending) owner.cid b.cid (sym is) (member_here owner.cid m.agenda.pending)
+      ])
+      | inr none ↦ inr none
+    ])
+    (λ b k h. elim h [
+      | inl n ↦ inl (elim (member_cases owner.cid m.agenda.pending b.cid n) [
+        | inl is ↦ (pending b.cid).1 (inr (sym is))
+        | inr was ↦ (pending b.cid).1 (inl was)
+      ])
+      | inr none ↦ inr none
+    ]) in
     λ i. record (state_of (record m { agenda = a }) active) { pending = e i }
 
 pub woken_kept : (m : Filtering) (a : Waiting) (active : List Active) → IsKept m active → a.connected ≡ m.agenda.connected → IsFormed a → IsKept (record m { agenda = a }) active

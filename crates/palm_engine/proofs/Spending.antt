@@ -1,18 +1,16 @@
 -- How often support was asked for in a settling, whole or interrupted.
-use Rattle.std.proofs.Common.{◌≡◌, ℕ, zero, suc, ◌+◌, ◌<◌, ◌≤◌, Bool, true, false, List, [], ◌∷◌, ◌++◌, length, filter, sum_by, Contains, inl, inr, refl, sym, ap, ◌∙◌, subst, arith}
-use Rattle.std.proofs.lemmas.Bool.{cases_Bool}
+use Rattle.std.proofs.Common.{◌≡◌, ℕ, zero, suc, ◌+◌, ◌≤◌, List, [], ◌∷◌, ◌++◌, filter, sum_by, Contains, inl, inr, refl, sym, ap, ◌∙◌, subst, arith}
 use Rattle.std.proofs.lemmas.List.Sums.{sum_by-cons, sum_by-append}
 use Rattle.palm_base.specs.declared.terms.Pair.{Pair}
-use Rattle.palm_base.specs.declared.terms.Cid.{Cid}
 use Rattle.palm_base.proofs.Members.{member_nil, member_here, member_cases, member_filter}
-use Rattle.palm_model.specs.Log.{Active, Removal, Rises, cids_of, is_named, log_pairs}
+use Rattle.palm_model.specs.Log.{Active, Rises, cids_of, is_named}
 use Rattle.palm_model.specs.State.{EngineState, AllFilled, present}
 use Rattle.palm_events.proofs.Names.{member_named}
 use Rattle.palm_engine.specs.Settling.{Walks, Revision, Revises, Revisions}
-use Rattle.palm_engine.specs.Work.{size_of, sizes_of, named_sizes, most_asked, sizes_over}
+use Rattle.palm_engine.specs.Work.{size_of, named_sizes, most_asked}
 use Rattle.palm_engine.specs.Engine.{HasAsked}
 use Rattle.palm_engine.proofs.Walking.{took_none}
-use Rattle.palm_engine.proofs.Working.{Pays, calm_sizes, some_pays, pays_then, same_named, revisions_pay}
+use Rattle.palm_engine.proofs.Working.{calm_sizes, some_pays, pays_then, same_named, revisions_pay}
 
 -- ---- one more revision
 

@@ -1,11 +1,11 @@
 -- The domains without one more pair.
-use Rattle.std.proofs.Common.{◌≡◌, ℕ, ◌<◌, Bool, true, false, not, ◌&&◌, ◌||◌, List, [], ◌∷◌, ◌++◌, length, filter, cond, get_or, Contains, ℤ, int_eq, nat_eq, inl, inr, refl, sym, ap, ◌∙◌, subst, arith, ext_get_or, length-set}
+use Rattle.std.proofs.Common.{◌≡◌, ℕ, ◌<◌, Bool, true, false, not, ◌&&◌, List, [], ◌∷◌, ◌++◌, length, filter, cond, Contains, ℤ, int_eq, inl, inr, refl, sym, ap, ◌∙◌, subst, ext_get_or, length-set}
 use Rattle.std.specs.Prelude.{slice_set}
-use Rattle.std.proofs.lemmas.Bool.{cases_Bool, false≢true, and_parts, and_from, not-true}
+use Rattle.std.proofs.lemmas.Bool.{false≢true, and_parts, and_from, not-true}
 use Rattle.std.proofs.lemmas.Bool.Decides.{Decides-int_eq}
 use Rattle.std.proofs.lemmas.List.Elements.{Contains-append_cases, Contains-append_left, Contains-append_right}
 use Rattle.palm_base.specs.declared.terms.Pair.{Pair}
-use Rattle.palm_base.proofs.Members.{member_here, member_same, member_single, filter_agree_members, nat_known}
+use Rattle.palm_base.proofs.Members.{member_here, member_single, filter_agree_members, nat_known}
 use Rattle.palm_domain.specs.Rows.{values_without}
 use Rattle.palm_model.specs.Domains.{Domains, values_of, is_among, without}
 use Rattle.palm_model.proofs.Narrowing.{values_of_set, values_of_set_other}

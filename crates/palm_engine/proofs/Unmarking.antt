@@ -1,5 +1,5 @@
 -- Marks: they stay right after a removal, and after a place was walked over.
-use Rattle.std.proofs.Common.{◌≡◌, ℕ, zero, suc, ◌||◌, ◌⊎◌, Bool, true, false, not, cond, List, [], ◌∷◌, map, Contains, ℤ, Some, slice_get, slice_set, nat_eq, eq-eqb, eqb-true, inl, inr, refl, sym, ap, ◌∙◌, subst}
+use Rattle.std.proofs.Common.{◌≡◌, ℕ, zero, suc, ◌||◌, ◌⊎◌, Bool, true, false, not, List, [], ◌∷◌, map, Contains, ℤ, Some, slice_get, slice_set, nat_eq, eq-eqb, eqb-true, inl, inr, refl, sym, ap, ◌∙◌, subst}
 use Rattle.std.proofs.lemmas.Bool.{cases_Bool, false≢true}
 use Rattle.palm_base.specs.declared.terms.Pair.{Pair}
 use Rattle.palm_base.specs.declared.terms.Cid.{Cid}
@@ -9,9 +9,8 @@ use Rattle.palm_model.specs.Constraint.{scope}
 use Rattle.palm_model.specs.Support.{IsSupported}
 use Rattle.palm_model.specs.Log.{Active, Rises, cids_of, same_cid}
 use Rattle.palm_model.proofs.Supports.{member_any}
-use Rattle.palm_model.proofs.Without.{pair_of}
 use Rattle.palm_events.proofs.Names.{single, cid_same}
-use Rattle.palm_agenda.specs.Agenda.{Connected, marks_where, marked_where, is_over, mark_others, changed_at, unmarked}
+use Rattle.palm_agenda.specs.Agenda.{Connected, marks_where, is_over, mark_others, changed_at, unmarked}
 use Rattle.palm_engine.specs.Kept.{AreConnected, AreMarked, Scoped}
 use Rattle.palm_engine.proofs.Staying.{KeepsOthers, support_stays}
 
@@ -91,9 +90,9 @@ others_unmarked x d k y at = elim (cases_Bool (is_over x d)) [
       let r = where_unmarked (λ z. not (nat_eq z x)) d.scope d.marks k y at un in
       record { unmarked = r.0; own = λ m. eqb-true y x (not_false (nat_eq y x) r.1) })
   | inr f ↦ rw f (λ un. record {
-      unmarked = un;
-      own = λ m. absurd (false≢true (sym f ∙ member_any (λ z. nat_eq z x) d.scope x m (eq-eqb x x refl)));
-    })
+    unmarked = un;
+    own = λ m. absurd (false≢true (sym f ∙ member_any (λ z. nat_eq z x) d.scope x m (eq-eqb x x refl)));
+  })
 ]
 
 pub marked_removed : (d e : Domains) (active : List Active) (connected : List Connected) (x : ℕ) (v : ℤ) → Rises (cids_of active) → AreConnected active connected → KeepsOthers d e x v → IsInside e d → (Has e x v → ⊥)

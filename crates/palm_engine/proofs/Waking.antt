@@ -41,9 +41,6 @@ woken_same active ps qs xs ys to back =
     (λ t. is_awake_so qs ys a (to a m (awake_is ps xs a t)))
     (λ t. is_awake_so ps xs a (back a m (awake_is qs ys a t)))))
 
-none_over : (vars : List ℕ) (a : Active) → vars ≡ [] → (x : ℕ) × Contains vars x × Contains (scope a.con) x → ⊥
-none_over vars a e r = member_nil r.0 (subst (λ xs. Contains xs r.0) e r.1)
-
 -- a name that was taken is pending again as soon as it is counted
 pub taken_woken : (active : List Active) (pending : List Cid) (cid : Cid) → Contains pending cid → pending ≡ woken active pending [] → woken active (cid ∷ without_cid cid pending) [] ≡ pending
 taken_woken active pending cid has waiting = woken_same active (cid ∷ without_cid cid pending) pending [] []

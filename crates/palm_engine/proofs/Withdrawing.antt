@@ -1,24 +1,22 @@
 -- Withdrawals one after another, and the negations that rest on a name.
-use Rattle.std.proofs.Common.{◌≡◌, ℕ, zero, suc, ◌+◌, ◌<◌, Bool, true, false, not, ◌&&◌, cond, List, [], ◌∷◌, ◌++◌, map, filter, length, get_or, slice_get, take, drop, remove, Contains, Some, ◌⊎◌, inl, inr, refl, sym, ap, ◌∙◌, subst, arith}
+use Rattle.std.proofs.Common.{◌≡◌, ℕ, zero, suc, Bool, true, false, not, ◌&&◌, cond, List, [], ◌∷◌, ◌++◌, filter, length, slice_get, take, drop, remove, Contains, Some, inl, inr, refl, sym, ap, ◌∙◌, subst}
 use Rattle.std.specs.List.{list_any}
-use Rattle.std.proofs.lemmas.Bool.{cases_Bool, or_cases, false≢true, and_from, and_parts, not-true}
+use Rattle.std.proofs.lemmas.Bool.{or_cases, and_from, and_parts}
 use Rattle.std.proofs.lemmas.List.{map-append, append_assoc, append-nil, take-append-drop}
 use Rattle.std.proofs.lemmas.List.Elements.{Contains-append_left, Contains-append_right, Contains-append_cases, filter-append}
-use Rattle.std.proofs.lemmas.Option.{slice_get_within, get_or_from_slice_get}
 use Rattle.palm_base.specs.declared.terms.Pair.{Pair}
 use Rattle.palm_base.specs.declared.terms.Cid.{Cid}
-use Rattle.palm_base.specs.declared.terms.Cid.TheVariants.{Decide, Not, User}
-use Rattle.palm_base.proofs.Members.{member_nil, member_here, member_there, member_cases, member_same, member_map, member_unmap, member_single, filter_agree_members}
-use Rattle.palm_model.specs.Log.{Active, IsActive, Removal, NamesSome, Loses, Rises, cids_of, is_named, log_pairs, same_cid}
-use Rattle.palm_model.specs.Log.Loses.{none_left, is_lost, is_kept}
-use Rattle.palm_model.specs.State.{EngineState, FitsName, IsGround, IsValid, is_awake, is_over, woken}
-use Rattle.palm_model.specs.Event.{Withdraws, WithdrawsAll, gone_with, lost_pairs, vars_of, without_names, withdrawn}
-use Rattle.palm_model.proofs.Supports.{any_member, member_any, not_true}
-use Rattle.palm_events.proofs.Names.{named_member, member_named, member_not_named, not_named_member, rising_same, single}
+use Rattle.palm_base.specs.declared.terms.Cid.TheVariants.{Decide}
+use Rattle.palm_base.proofs.Members.{member_nil, member_here, member_there, member_same, member_map, member_unmap, member_single, filter_agree_members}
+use Rattle.palm_model.specs.Log.{Active, Removal, Loses, Rises, cids_of, is_named}
+use Rattle.palm_model.specs.Log.Loses.{none_left, is_kept}
+use Rattle.palm_model.specs.State.{EngineState, IsGround, IsValid, is_awake, is_over, woken}
+use Rattle.palm_model.specs.Event.{Withdraws, WithdrawsAll, lost_pairs, vars_of, without_names, withdrawn}
+use Rattle.palm_model.proofs.Supports.{any_member}
+use Rattle.palm_events.proofs.Names.{named_member, member_not_named, not_named_member, rising_same, single}
 use Rattle.palm_events.proofs.States.{awake_named, awake_over, member_woken, over_member, woken_active, woken_rises, without_names_member, without_names_rises, form_grounds, held_not_ground}
 use Rattle.palm_events.proofs.Valid.{withdraws_valid}
 use Rattle.palm_explain.proofs.Withdrawn.{adds_up, lost_in_two, two_lost, lost_logged}
-use Rattle.palm_agenda.specs.Agenda.{IsFormed}
 use Rattle.palm_engine.specs.declared.filtering.Filtering.{Filtering}
 use Rattle.palm_engine.specs.Changed.{PutsBack}
 use Rattle.palm_engine.specs.Kept.{IsEngine, IsKept, state_of}

@@ -12,7 +12,7 @@ use Rattle.palm_agenda.specs.Agenda.{Takes}
 use Rattle.palm_engine.specs.Settling.{Walks, HasReached, walk_order, rested}
 use Rattle.palm_engine.specs.declared.settle.Settle.{Settle}
 use Rattle.palm_engine.specs.declared.settle.Settle.TheVariants.{Settled, Empty, Stopped}
-use Rattle.palm_engine.specs.Kept.{IsKept, state_of, state_in_revision}
+use Rattle.palm_engine.specs.Kept.{IsKept, state_in_revision}
 use Rattle.palm_engine.specs.declared.filtering.Filtering.{Filtering}
 
 -- what holds at every moment of the constraint's revision

@@ -1,10 +1,9 @@
-use Rattle.std.proofs.Common.{◌≡◌, List, sym, subst, false, true}
+use Rattle.std.proofs.Common.{sym, subst}
 use Rattle.palm_base.proofs.Telling.{tells_false}
 use Rattle.palm_base.specs.declared.terms.Cid.{Cid}
 use Rattle.palm_domain.specs.Rows.{initial_of}
 use Rattle.palm_model.specs.Domains.{values_of}
 use Rattle.palm_model.specs.Removed.{pairs_of}
-use Rattle.palm_model.specs.Log.{Active}
 use Rattle.palm_agenda.specs.Agenda.{HasPlace, IsMarked}
 use Rattle.palm_engine.specs.Posted.{active_of}
 use Rattle.palm_engine.proofs.Progress.{on_err_of}

@@ -1,8 +1,7 @@
-use Rattle.std.proofs.Common.{◌≡◌, ℤ, ◌<◌, Option, Some, None, List, sym, subst}
+use Rattle.std.proofs.Common.{◌<◌, sym, subst}
 use Rattle.palm_domain.specs.Rows.{initial_of, present_values}
 use Rattle.palm_model.specs.Domains.{values_of}
 use Rattle.palm_model.specs.Removed.{pairs_of}
-use Rattle.palm_model.specs.Log.{Active}
 use Rattle.palm_engine.specs.declared.filtering.Filtering.{Filtering}
 use Rattle.palm_engine.specs.Posted.{active_of}
 use Rattle.palm_engine.specs.Revising.{WalkedPart}

@@ -1,9 +1,8 @@
-use Rattle.std.proofs.Common.{◌≡◌, List, sym, subst, ◌∙◌, ap}
+use Rattle.std.proofs.Common.{sym, subst, ◌∙◌}
 use Rattle.palm_domain.specs.Rows.{initial_of}
 use Rattle.palm_model.specs.Log.{Active}
-use Rattle.palm_engine.specs.declared.filtering.Filtering.{Filtering}
 use Rattle.palm_engine.specs.Posted.{active_of, actives_of}
-use Rattle.palm_engine.specs.Revising.{IsRevising, IsTaken}
+use Rattle.palm_engine.specs.Revising.{IsRevising}
 use Rattle.palm_engine.specs.Settling.{walk_order}
 use Rattle.palm_engine.proofs.Settles.{walked_revised, woken_kept, part_revised, owner_connected, get_mapped, mapped_within, revision_counted, counted_agenda, err_of, ok_of, log_grows, log_counts, taken_as}
 use Rattle.palm_engine.proofs.settle.run_revision.Goals as goal
@@ -71,7 +70,7 @@ returns-clause-ok g c =
     let taken = taken_as c.args.filtering.now active c.args.cid.now c.requires (active_of g.F.Filter.meaning c.index-posted-place_of.result) same in
     let w = ok_of c.revise.result (sym c.is_err.ensures.value ∙ c.if-is_err.false) (c.revise.ensures.walked active taken.revising) in
     let count = log_counts c.args.filtering.now m active (active_of g.F.Filter.meaning c.index-posted-place_of.result) (walk_order (initial_of c.args.filtering.now.store) (active_of g.F.Filter.meaning c.index-posted-place_of.result).con)
-        c.removals-before.result c.removals.result w c.removals-before.ensures.count c.removals.ensures.count in
+    c.removals-before.result c.removals.result w c.removals-before.ensures.count c.removals.ensures.count in
     walked_revised c.args.filtering.now m active c.args.cid.now taken _ (c.revise.ensures.revising active taken.revising) w count
 
 pub returns-clause-kept : goal.returns-clause-kept

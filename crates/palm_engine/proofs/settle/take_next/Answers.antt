@@ -1,7 +1,6 @@
-use Rattle.std.proofs.Common.{◌≡◌, ℕ, false, sym, ◌∙◌, refl}
+use Rattle.std.proofs.Common.{sym, ◌∙◌, refl}
 use Rattle.palm_base.proofs.Telling.{tells_false}
 use Rattle.palm_engine.specs.Settling.{HasReached}
-use Rattle.palm_engine.specs.Revising.{TakesNext}
 use Rattle.palm_engine.proofs.Settles.{some_map, none_of, first_answer}
 use Rattle.palm_engine.proofs.settle.take_next.Goals as goal
 

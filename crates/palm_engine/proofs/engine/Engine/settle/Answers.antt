@@ -1,12 +1,12 @@
-use Rattle.std.proofs.Common.{◌≡◌, ℕ, ◌+◌, ◌-◌, ◌<◌, ◌≤◌, min, Bool, List, ◌∷◌, [], is_some, refl, sym, ap, ◌∙◌, subst, arith}
+use Rattle.std.proofs.Common.{◌≡◌, ℕ, ◌+◌, ◌-◌, ◌≤◌, min, Bool, ◌∷◌, [], is_some, refl, sym, ap, ◌∙◌, subst, arith}
 use Rattle.palm_base.specs.declared.limits.TheConstants.{LAST_COUNT}
 use Rattle.palm_model.specs.State.{EngineState}
 use Rattle.palm_engine.specs.declared.filtering.Filtering.{Filtering}
 use Rattle.palm_engine.specs.Engine.{View, HasAsked, IsInterrupted}
-use Rattle.palm_engine.specs.Kept.{IsEngine, IsKept, state_of, state_in_revision}
+use Rattle.palm_engine.specs.Kept.{IsKept, state_of, state_in_revision}
 use Rattle.palm_engine.specs.Posted.{actives_of}
 use Rattle.palm_engine.specs.Revising.{HasCounted, HasPartlyRevised, HasRevised, IsTaken, TakesNext, TakesNone}
-use Rattle.palm_engine.specs.Work.{effort, named_sizes}
+use Rattle.palm_engine.specs.Work.{named_sizes}
 use Rattle.palm_engine.proofs.Progress.{on_err_of}
 use Rattle.palm_engine.proofs.Running.{HasRun, run_start, run_more, run_falls, run_settled, run_asked, run_stopped, taken_is, stopped_engine, stopped_asked, stopped_checks}
 use Rattle.palm_engine.proofs.engine.Engine.settle.Goals as goal
