@@ -11,6 +11,3 @@ pub use laws::{
     withdrawals_add_up,
 };
 pub use store::ExplainStore;
-
-#[cfg(test)]
-mod tests;
