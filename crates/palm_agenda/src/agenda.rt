@@ -1,12 +1,12 @@
 //! The connected constraints, and those of them that wait to be revised.
-ghost use Rattle.std.specs.Prelude.{◌≡◌, ℕ, ◌<◌, ◌≤◌, ◌↔◌, ◌⊎◌, [], length, map, reverse, Contains, MatchOption, IfSome, IfNone, IsSomeAnd, Some, OnOk, OnErr, is_some, vec_capacity};
+ghost use Rattle.std.specs.Prelude.{◌≡◌, ℕ, ◌≤◌, ◌↔◌, ◌⊎◌, [], length, map, Contains, MatchOption, IfSome, IfNone, IsSomeAnd, Some, OnOk, OnErr, is_some, vec_capacity};
 ghost use Rattle.palm_base.specs.Tells.{Tells};
 ghost use Rattle.palm_base.specs.declared.terms.Cid.{Cid as CidTerm};
 ghost use Rattle.palm_model.specs.Log.{Rises, cid_before};
+ghost use Rattle.palm_model.specs.State.{without_cid};
 ghost use Rattle.palm_agenda.specs.Agenda.{Connected, HasPlace, IsConnected, IsFormed, IsMarked, IsOver, Takes, changed_among, changed_at, marked_whole, mark_others, mark_own, names_of, unmarked, with_connected, without_connected};
 ghost use Rattle.palm_agenda.specs.Names.{FitsBoth, IsPartedAt};
 ghost use Rattle.palm_agenda.specs.Places.{mark_places};
-ghost use Rattle.palm_model.specs.State.{without_cid};
 
 use crate::connection::{Connection, Places};
 use crate::names::{Names, copy_of, is_before};
