@@ -1,5 +1,5 @@
 -- Revisions and settlings: which removals are made, in which order, and when it ends.
-use Rattle.std.specs.Prelude.{◌≡◌, ℕ, zero, suc, ◌≤◌, ⊤, if◌then◌else◌, Bool, true, false, List, [], ◌∷◌, length, flat_map, Contains, All, Option, Some, None, slice_get, nat_lt}
+use Rattle.std.specs.Prelude.{◌≡◌, ℕ, zero, suc, ◌≤◌, ⊤, Bool, true, false, List, [], ◌∷◌, length, flat_map, Contains, All, Option, Some, None, slice_get}
 use Rattle.palm_base.specs.declared.terms.Pair.{Pair}
 use Rattle.palm_base.specs.declared.terms.Cid.{Cid}
 use Rattle.palm_model.specs.Domains.{Domains, Has, values_of}
@@ -10,6 +10,7 @@ use Rattle.palm_model.specs.Log.{Active}
 use Rattle.palm_model.specs.State.{EngineState, HasEmpty, AllFilled, present}
 use Rattle.palm_model.specs.Event.{Removes, Step, Runs, calmed}
 use Rattle.palm_events.specs.Along.{IsFiltering}
+pub use Rattle.palm_agenda.specs.Agenda.{index_within}
 use Rattle.palm_model.specs.declared.constraint.Con.{Con}
 
 -- ---- revisions
@@ -34,10 +35,6 @@ pub record Revision : Type 0 where
   pub answer : ℕ
   pub cid : Cid
   pub removed : ℕ
-
--- an index, or 0 where it is out of range
-abbrev pub index_within : ℕ → ℕ → ℕ
-index_within index count = if nat_lt index count then index else 0
 
 -- a constraint that took nothing out stops being pending
 abbrev pub rested : ℕ → Cid → EngineState → EngineState
