@@ -1,8 +1,7 @@
-pub mod Actives
 pub mod Answers
+pub mod Asking
 pub mod Effects
 pub mod Feeding
-pub mod Filtering
 pub mod Lines
 pub mod Refusals
 pub mod Replies
