@@ -1,5 +1,6 @@
 pub mod Accepting
-pub mod Actives
+pub mod ActiveLists
+pub mod Asked
 pub mod Closing
 pub mod Deciding
 pub mod Delivering
@@ -7,11 +8,15 @@ pub mod FeedLemmas
 pub mod Intervals
 pub mod Keeping
 pub mod LawsOfAnswers
+pub mod LawsOfChanges
+pub mod LawsOfDomains
 pub mod LawsOfLines
 pub mod LawsOfStates
 pub mod LawsOfTexts
 pub mod Presents
 pub mod ReadOnce
+pub mod Retracting
 pub mod Serving
-pub mod States
+pub mod Telling
+pub mod Users
 pub mod WellFormed

@@ -7,4 +7,5 @@ pub mod Refusals
 pub mod Replies
 pub mod ReplyText
 pub mod State
+pub mod Told
 pub mod Writing
