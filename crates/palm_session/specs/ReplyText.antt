@@ -1,9 +1,9 @@
 -- The text of a reply.
-use Rattle.std.specs.Prelude.{◌≡◌, ◌⊎◌, ◌<◌, ℕ, List, [], length, All, Some}
+use Rattle.std.specs.Prelude.{◌≡◌, ◌⊎◌, ◌<◌, ℕ, List, [], length, Some}
 use Rattle.palm_model.specs.Domains.{values_of}
-use Rattle.palm_book.specs.Book.{name_of, IsUser}
-use Rattle.palm_lang.specs.Reply.{fixed_text, refusal_text, ran_text, domain_line}
-use Rattle.palm_session.specs.Answers.{Accepts, domains_text, list_text, log_text, users_text}
+use Rattle.palm_book.specs.Book.{name_of}
+use Rattle.palm_lang.specs.Reply.{fixed_text, refusal_text, domain_line}
+use Rattle.palm_session.specs.Answers.{Accepts, domains_text, list_text}
 use Rattle.palm_session.specs.Refusals.{IsFirst, IsNone, Meets, in_order, refusal_of}
 use Rattle.palm_session.specs.State.{SessionState, IsContradiction}
 use Rattle.palm_read.specs.declared.line.Line.{Line}
@@ -13,7 +13,7 @@ use Rattle.palm_lang.specs.declared.reply.Refusal.{Refusal}
 use Rattle.palm_session.specs.declared.going.Going.{Going}
 use Rattle.palm_session.specs.declared.going.Going.TheVariants.{More}
 use Rattle.palm_session.specs.declared.reply.Reply.{Reply}
-use Rattle.palm_session.specs.declared.reply.Reply.TheVariants.{Nothing, Word, Refused, Domains, Domain, Listing, Log, Ran, Users}
+use Rattle.palm_session.specs.declared.reply.Reply.TheVariants.{Nothing, Word, Refused, Domains, Domain, Listing}
 
 -- the text of a reply to a line, by what is held after it
 abbrev pub reply_text : SessionState → Reply → List ℕ
@@ -23,15 +23,11 @@ reply_text s (Refused refusal) = refusal_text refusal
 reply_text s (Domains d) = domains_text s.book.variables d
 reply_text s (Domain x d) = domain_line (name_of s.book.variables x) (values_of d x)
 reply_text s Listing = list_text s.book
-reply_text s Log = log_text s.book s.engine.log
-reply_text s (Ran revisions) = ran_text revisions
-reply_text s (Users lead names) = users_text s.book lead names
 
 -- what a reply is about is in the book
 abbrev pub ReplyFits : SessionState → Reply → Type 0
 ReplyFits s (Domains d) = length d ≡ length s.book.variables
 ReplyFits s (Domain x d) = (x < length s.book.variables) × (length d ≡ length s.book.variables)
-ReplyFits s (Users lead names) = All (IsUser s.book) names
 ReplyFits s _ = Unit {0}
 
 -- the refusal of a line that could not be read, after which the session goes on

@@ -1,6 +1,6 @@
 //! What is replied to a line, before it is written.
-use palm_base::{CidList, Var};
-use palm_lang::{Fixed, Lead, Refusal};
+use palm_base::Var;
+use palm_lang::{Fixed, Refusal};
 use palm_model::DomainList;
 
 /// A reply.
@@ -18,10 +18,4 @@ pub enum Reply {
     Domain { var: Var, domains: DomainList },
     /// The book.
     Listing,
-    /// The removals that the engine keeps.
-    Log,
-    /// How many revisions ran.
-    Ran(u64),
-    /// Constraints of users, behind a word.
-    Users { lead: Lead, names: CidList },
 }
