@@ -1,7 +1,6 @@
 pub mod Accepting
 pub mod ActiveLists
 pub mod Asked
-pub mod Closing
 pub mod Deciding
 pub mod Delivering
 pub mod FeedLemmas
@@ -13,7 +12,6 @@ pub mod LawsOfDomains
 pub mod LawsOfLines
 pub mod LawsOfStates
 pub mod LawsOfTexts
-pub mod Presents
 pub mod ReadOnce
 pub mod Retracting
 pub mod Serving

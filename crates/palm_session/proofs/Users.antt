@@ -3,7 +3,7 @@ use Rattle.std.proofs.Common.{◌≡◌, ◌<◌, ℕ, List, [], ◌∷◌, ◌+
 use Rattle.std.proofs.lemmas.List.{length-map}
 use Rattle.palm_base.specs.declared.terms.Pair.{Pair}
 use Rattle.palm_base.specs.declared.terms.Cid.{Cid}
-use Rattle.palm_base.specs.declared.terms.Cid.TheVariants.{User}
+use Rattle.palm_base.specs.declared.terms.Cid.TheVariants.{Decide, Not, User}
 use Rattle.palm_base.proofs.Members.{member_nil, member_cases, all_members}
 use Rattle.palm_model.specs.Domains.{Domains, Has}
 use Rattle.palm_model.specs.Log.{Active, IsActive, Removal, NamesOfPair, IsListOf, AreRight}
@@ -17,6 +17,7 @@ use Rattle.palm_events.proofs.Logs.{logged}
 use Rattle.palm_events.proofs.Undone.{reasons_logged}
 use Rattle.palm_session.specs.State.{SessionState, IsHeld}
 use Rattle.palm_session.specs.Answers.{HasConflict}
+use Rattle.palm_session.specs.Logged.{IsLogged, AreLogged, IsNumbered}
 use Rattle.palm_session.proofs.ActiveLists.{active_member}
 use Rattle.palm_session.proofs.LawsOfDomains.{explanation_active, conflict_names_active}
 
@@ -32,11 +33,12 @@ explanation_users s is p names list = all_members (IsUser s.book) names (λ c m.
 pub conflict_users : (s : SessionState) → IsHeld s → (names : List Cid) → HasConflict s names → All (IsUser s.book) names
 conflict_users s is names conflict = all_members (IsUser s.book) names (λ c m. active_user s.book c (conflict_names_active s is names conflict c m))
 
--- what is printed of a removal is in the book
-pub record IsPrintable (book : Contents) (r : Removal) : Type 0 where
-  pub variable : r.pair.var < length book.variables
-  pub constraint : IsUser book r.by
-  pub reasons : All (λ (p : Pair). p.var < length book.variables) r.reasons
+pub user_numbered : (book : Contents) (c : Cid) → IsUser book c → IsNumbered c
+user_numbered book (Decide x) user = user
+user_numbered book (Not p) user = user
+user_numbered book (User n) user = tt
+
+-- ---- what the log holds is in the book
 
 declared_from : (initial : Domains) (active : List Active) (earlier rest : List Removal) → AreRight initial active earlier rest → (r : Removal) → Contains rest r → Has initial r.pair.var r.pair.value
 declared_from initial active earlier [] right r m = absurd (member_nil r m)
@@ -50,11 +52,14 @@ logged_declared s is r m =
     let lt : r.pair.var < length s.engine.initial = has_declared s.engine.initial r.pair.var r.pair.value (declared_from s.engine.initial s.engine.active [] s.engine.log is.valid.founded r m) in
     subst (λ (n : ℕ). r.pair.var < n) (ap (λ (d : Domains). length d) is.initial ∙ length-map s.book.variables (λ (e : Entry). e.values)) lt
 
-pub logged_printable : (s : SessionState) → IsHeld s → (r : Removal) → Contains s.engine.log r → IsPrintable s.book r
-logged_printable s is r m = record {
+is_logged : (s : SessionState) → IsHeld s → (r : Removal) → Contains s.engine.log r → IsLogged s.book r
+is_logged s is r m = record {
   variable = logged_declared s is r m;
-  constraint = active_user s.book r.by (subst (λ (l : List Active). IsActive l r.by) is.active (names_active s.engine.initial s.engine.active s.engine.log r.by is.valid.founded r m (by_itself r refl)));
+  user = active_user s.book r.by (subst (λ (l : List Active). IsActive l r.by) is.active (names_active s.engine.initial s.engine.active s.engine.log r.by is.valid.founded r m (by_itself r refl)));
   reasons = all_members (λ (p : Pair). p.var < length s.book.variables) r.reasons (λ p k.
       let q = logged s.engine.log p (reasons_logged s.engine.initial s.engine.active s.engine.log is.valid.founded r m p k) in
       subst (λ (z : Pair). z.var < length s.book.variables) q.2 (logged_declared s is q.0 q.1));
 }
+
+pub are_logged : (s : SessionState) → IsHeld s → AreLogged s.book s.engine.log
+are_logged s is = all_members (IsLogged s.book) s.engine.log (is_logged s is)

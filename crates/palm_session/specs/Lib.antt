@@ -3,6 +3,7 @@ pub mod Asking
 pub mod Effects
 pub mod Feeding
 pub mod Lines
+pub mod Logged
 pub mod Refusals
 pub mod Replies
 pub mod ReplyText
