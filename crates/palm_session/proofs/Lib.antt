@@ -12,6 +12,7 @@ pub mod LawsOfDomains
 pub mod LawsOfLines
 pub mod LawsOfStates
 pub mod LawsOfTexts
+pub mod OneEmpty
 pub mod ReadOnce
 pub mod Retracting
 pub mod Serving
