@@ -131,6 +131,10 @@ fn filters_and_the_slow_way_agree_on_sums(rt: HostRuntime) -> Result<(), Fail> {
             "var x 0..5\nvar y 0..5\nadd s : sum 3*x - 2*y = 1\n",
             "ok\nok\nok\n",
         ),
+        (
+            "var x 999999..1000000\nvar y -1000000..-999999\nadd g : sum 100000*x - 100000*y >= 200000000000\n",
+            "ok\nok\nok\n",
+        ),
     ];
     for (text, replies) in sessions {
         assert!(rt; agree(rt.alloc(), text, replies)?);
