@@ -44,9 +44,12 @@ fn a_session_is_fed_and_finished(rt: HostRuntime) -> Result<(), Fail> {
 }
 
 /// A session that changes, and its replies.
-const TEXT: &str = "var x 1..3\nvar y 1..3\nadd c : x != 2\nadd a : x = y\nadd d : y != 2\nwhy x 2\nretract c\n\
+const TEXT: &str =
+    "var x 1..3\nvar y 1..3\nadd c : x != 2\nadd a : x = y\nadd d : y != 2\nwhy x 2\nretract c\n\
      domains\nwhy x 2\nwhy x 1\nlog\n";
-const REPLIES: &str = "ok\nok\nok\nok\nok\nbecause c\nok\nx: 1 3\ny: 1 3\nend\nbecause a d\npresent\n\
+
+const REPLIES: &str =
+    "ok\nok\nok\nok\nok\nbecause c\nok\nx: 1 3\ny: 1 3\nend\nbecause a d\npresent\n\
      y 2 by d\nx 2 by a from y 2\nend\n";
 
 /// Feeds the text in two pieces that meet at the place, and answers how many removals the engine's log has then.
