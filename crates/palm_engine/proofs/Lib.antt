@@ -1,6 +1,17 @@
+pub mod Comparing
 pub mod Counting
 pub mod Ending
+pub mod Fitting
+pub mod Gathering
+pub mod Keeping
+pub mod Marking
+pub mod Placing
+pub mod Restoring
+pub mod Results
 pub mod Same
+pub mod Scopes
 pub mod Settled
+pub mod Taking
 pub mod Walking
+pub mod Withdrawing
 pub mod Working

@@ -1,2 +1,7 @@
+pub mod Changed
+pub mod Engine
+pub mod Gathered
+pub mod Kept
+pub mod Posted
 pub mod Settling
 pub mod Work
