@@ -15,3 +15,14 @@ pub mod Taking
 pub mod Walking
 pub mod Withdrawing
 pub mod Working
+pub mod Joined
+pub mod Bounds
+pub mod Staying
+pub mod Waking
+pub mod Revised
+pub mod Progress
+pub mod Spending
+pub mod Unmarking
+pub mod Places
+pub mod Settles
+pub mod Running
