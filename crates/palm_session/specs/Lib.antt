@@ -3,8 +3,10 @@ pub mod Asking
 pub mod Effects
 pub mod Feeding
 pub mod Lines
+pub mod Logged
 pub mod Refusals
 pub mod Replies
 pub mod ReplyText
+pub mod Serving
 pub mod State
 pub mod Writing

@@ -34,9 +34,9 @@ fresh guides orders = record {
   engine = blank [];
 }
 
--- a state that a session can hold: the engine has the book's variables and its active constraints, and no decision and no
--- negation; while filtering does not wait, nothing is pending or a domain is empty
-pub record IsState (s : SessionState) : Type 0 where
+-- what a session holds, also in the midst of a line: the engine has the book's variables and its active constraints, and
+-- no decision and no negation
+pub record IsHeld (s : SessionState) : Type 0 where
   pub book : IsBook s.book
   pub accepted : s.accepted ≤ MOST_ADDED
   pub numbered : All (λ c. c.number ≤ s.accepted) s.book.constraints
@@ -45,6 +45,10 @@ pub record IsState (s : SessionState) : Type 0 where
   pub initial : s.engine.initial ≡ initial_of s.book
   pub active : s.engine.active ≡ active_of s.book
   pub valid : IsValid s.engine
+
+-- a state that a session can hold between two lines: while filtering does not wait, nothing is pending or a domain is empty
+pub record IsState (s : SessionState) : Type 0 where
+  pub held : IsHeld s
   pub still : s.paused ≡ false → IsStill s.engine
 
 -- a variable has the name
