@@ -1,0 +1,6 @@
+mod Linked
+mod Naming
+mod Withdrawn
+mod Rising
+mod Entries
+mod PuttingBack

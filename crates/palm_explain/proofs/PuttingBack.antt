@@ -1,0 +1,221 @@
+-- Pairs that come back, one place after another, and the variables that are noted.
+use Rattle.std.proofs.Common.{◌≡◌, ℕ, zero, suc, ◌+◌, ◌<◌, ◌≤◌, ℤ, Bool, true, false, not, cond, List, [], ◌∷◌, ◌++◌, length, map, filter, take, drop, fold, slice_get, Contains, Some, ◌⊎◌, inl, inr, refl, sym, ap, ◌∙◌, subst, arith, nat_eq, eqb-true, eq-eqb}
+use Rattle.std.specs.List.{list_any}
+use Rattle.indexmap.specs.IndexSet.{insert_all, insert_key}
+use Rattle.std.proofs.lemmas.Bool.{cases_Bool, false≢true, not-true}
+use Rattle.std.proofs.lemmas.List.{map-append, length-append, length-map, length-take-le, take-append-drop}
+use Rattle.std.proofs.lemmas.List.Elements.{filter-append, Contains-append_left, Contains-append_right, Contains-append_cases, Contains-push, Contains-push_cases}
+use Rattle.std.proofs.lemmas.List.Filters.{length-filter_both}
+use Rattle.std.proofs.lemmas.List.Sums.{fold-append}
+use Rattle.palm_base.specs.declared.terms.Pair.{Pair}
+use Rattle.palm_base.specs.declared.terms.Cid.{Cid}
+use Rattle.palm_base.proofs.Members.{member_nil, member_here, member_there, member_cases, member_same, member_map, member_unmap, filter_member, member_filter, member_take, member_drop, member_get, nat_known, int_known}
+use Rattle.palm_domain.specs.Rows.{Row, GainsPair, IsDeclared, IsPresent, initial_of, present_of, declared_values, present_values}
+use Rattle.palm_model.specs.Constraint.{Distinct}
+use Rattle.palm_model.specs.Event.{vars_of}
+use Rattle.palm_model.specs.Domains.{values_of, without}
+use Rattle.palm_model.specs.Log.{Removal, is_named, log_pairs}
+use Rattle.palm_model.proofs.Without.{pair_of, without_has}
+use Rattle.palm_model.proofs.Supports.{any_member, member_any}
+use Rattle.palm_events.proofs.Logs.{logged, pair_logged}
+use Rattle.palm_events.proofs.Names.{named_member, member_named}
+use Rattle.palm_explain.specs.declared.causes.Cause.{Cause}
+use Rattle.palm_explain.specs.Causes.{HasBack, is_lost, kept_of, log_of, lost_at, lost_of, removal_of}
+use Rattle.palm_explain.specs.Explanations.{AreLinked, IsLinked, LacksExactly}
+use Rattle.palm_explain.proofs.Linked.{later_fresh, linked_later}
+use Rattle.palm_explain.proofs.Entries.{entry_logged}
+
+-- ---- lost pairs
+
+pub lost_append : (cid : Cid) (xs ys : List (Pair × Cause)) → lost_of cid (xs ++ ys) ≡ lost_of cid xs ++ lost_of cid ys
+lost_append cid xs ys = ap (λ l. map (λ (e : Pair × Cause). e.0) l) (filter-append (is_lost cid) xs ys) ∙ map-append (λ (e : Pair × Cause). e.0) (filter (is_lost cid) xs) (filter (is_lost cid) ys)
+
+take_next : {X : Type 0} (i : ℕ) (xs : List X) → take (i + 1) xs ≡ take i xs ++ take 1 (drop i xs)
+take_next zero xs = refl
+take_next (suc i) [] = refl
+take_next (suc i) (x ∷ xs) = ap (λ l. x ∷ l) (take_next i xs)
+
+lost_next : (cid : Cid) (es : List (Pair × Cause)) (i : ℕ) → lost_of cid (take (i + 1) es) ≡ lost_of cid (take i es) ++ lost_at cid es i
+lost_next cid es i = ap (lost_of cid) (take_next i es) ∙ lost_append cid (take i es) (take 1 (drop i es))
+
+-- a lost pair is that of an entry whose explanation holds the name
+pub lost_entry : (cid : Cid) (es : List (Pair × Cause)) (p : Pair) → Contains (lost_of cid es) p → (e : Pair × Cause) × Contains es e × (e.0 ≡ p) × Contains e.1.explanation cid
+lost_entry cid es p m =
+    let e = member_unmap (λ (z : Pair × Cause). z.0) (filter (is_lost cid) es) p m in
+    let k = filter_member (is_lost cid) es e.0 e.1 in
+    (e.0, k.0, e.2, named_member e.0.1.explanation cid k.1)
+
+pub entry_lost : (cid : Cid) (es : List (Pair × Cause)) (e : Pair × Cause) → Contains es e → Contains e.1.explanation cid → Contains (lost_of cid es) e.0
+entry_lost cid es e m named = member_map (λ (z : Pair × Cause). z.0) (filter (is_lost cid) es) e (member_filter (is_lost cid) es e m (member_named e.1.explanation cid named))
+
+lost_few : (cid : Cid) (es : List (Pair × Cause)) → length (lost_of cid es) ≤ length es
+lost_few cid es =
+    let a = length-map (filter (is_lost cid) es) (λ (e : Pair × Cause). e.0) in
+    let b = length-filter_both (is_lost cid) (λ e. not (is_lost cid e)) (λ e. refl) es in omega (arith, a, b)
+
+-- what stays and what is lost are all
+pub kept_and_lost : (cid : Cid) (es : List (Pair × Cause)) → length (kept_of cid es) + length (lost_of cid es) ≡ length es
+kept_and_lost cid es =
+    let a = length-map (filter (is_lost cid) es) (λ (e : Pair × Cause). e.0) in
+    let b = length-filter_both (is_lost cid) (λ e. not (is_lost cid e)) (λ e. refl) es in omega (arith, a, b)
+
+taken_one : {X : Type 0} (xs : List X) (i : ℕ) (x : X) → slice_get xs i ≡ Some x → take 1 (drop i xs) ≡ x ∷ []
+taken_one [] i x at = cc
+taken_one (y ∷ xs) zero x at = let f : y ≡ x = cc in ap (λ z. z ∷ []) f
+taken_one (y ∷ xs) (suc i) x at = taken_one xs i x at
+
+-- the pair at a place is lost, or none there is
+pub lost_here : (cid : Cid) (es : List (Pair × Cause)) (i : ℕ) (e : Pair × Cause) → slice_get es i ≡ Some e → Contains e.1.explanation cid → lost_at cid es i ≡ e.0 ∷ []
+lost_here cid es i e at named =
+    ap (lost_of cid) (taken_one es i e at) ∙ ap (λ b. map (λ (z : Pair × Cause). z.0) (cond b (e ∷ []) [])) (member_named e.1.explanation cid named)
+
+pub none_lost_here : (cid : Cid) (es : List (Pair × Cause)) (i : ℕ) (e : Pair × Cause) → slice_get es i ≡ Some e → (Contains e.1.explanation cid → ⊥) → lost_at cid es i ≡ []
+none_lost_here cid es i e at free =
+    ap (lost_of cid) (taken_one es i e at) ∙ ap (λ b. map (λ (z : Pair × Cause). z.0) (cond b (e ∷ []) [])) (not_named e.1.explanation cid free)
+  where
+    not_named : (names : List Cid) (c : Cid) → (Contains names c → ⊥) → is_named names c ≡ false
+    not_named names c n = elim (cases_Bool (is_named names c)) [ inl t ↦ absurd (n (named_member names c t)) | inr f ↦ f ]
+
+-- ---- pairs that are back
+
+pub back_none : (rows : List Row) → HasBack rows rows []
+back_none rows = record { initial = refl; sound = λ x v h. inl h; others = λ x v h. h; back = λ p m. absurd (member_nil p m) }
+
+pub back_one : (before after : List Row) (p : Pair) → initial_of after ≡ initial_of before → GainsPair before after p.var p.value → HasBack before after (p ∷ [])
+back_one before after p same gains = record {
+  initial = same;
+  sound = λ x v h. elim (nat_known x p.var) [
+    | inr n ↦ inl (gains.inside x v (λ e f. n e) h)
+    | inl e ↦ elim (int_known v p.value) [
+      | inr n ↦ inl (gains.inside x v (λ e f. n f) h)
+      | inl f ↦ inr (member_same (p ∷ []) p (pair_of x v) (λ i. record { var = sym e i; value = sym f i }) (member_here p []))
+    ]
+  ];
+  others = gains.others;
+  back = λ q m. elim (member_cases p [] q m) [
+    | inl e ↦ subst (λ (z : Pair). IsPresent after z.var z.value) e gains.there
+    | inr k ↦ absurd (member_nil q k)
+  ];
+}
+
+pub back_then : (before middle after : List Row) (ps qs : List Pair) → HasBack before middle ps → HasBack middle after qs → HasBack before after (ps ++ qs)
+back_then before middle after ps qs one two = record {
+  initial = two.initial ∙ one.initial;
+  sound = λ x v h. elim (two.sound x v h) [
+    | inl k ↦ elim (one.sound x v k) [ inl j ↦ inl j | inr m ↦ inr (Contains-append_left ps qs (pair_of x v) m) ]
+    | inr m ↦ inr (Contains-append_right ps qs (pair_of x v) m)
+  ];
+  others = λ x v h. two.others x v (one.others x v h);
+  back = λ p m. elim (Contains-append_cases ps qs p m) [
+    | inl k ↦ two.others p.var p.value (one.back p k)
+    | inr k ↦ two.back p k
+  ];
+}
+
+-- ---- below a place
+
+-- the lost pairs of the places below this one are back, their variables are noted, and there is room for the others
+pub record IsBackBelow (cid : Cid) (es : List (Pair × Cause)) (before now : List Row) (old keys : List ℕ) (room place : ℕ) : Type 0 where
+  pub back : HasBack before now (lost_of cid (take place es))
+  pub noted : keys ≡ insert_all nat_eq old (vars_of (lost_of cid (take place es)))
+  pub room : length es ≤ room + length (lost_of cid (take place es))
+
+pub back_below_next : (cid : Cid) (es : List (Pair × Cause)) (before middle now : List Row) (old keys later : List ℕ) (room spare place : ℕ)
+    → IsBackBelow cid es before middle old keys room place → HasBack middle now (lost_at cid es place) → later ≡ insert_all nat_eq keys (vars_of (lost_at cid es place))
+    → room ≤ spare + length (lost_at cid es place) → IsBackBelow cid es before now old later spare (place + 1)
+back_below_next cid es before middle now old keys later room spare place below back noted fits =
+    let next = lost_next cid es place in
+    let some = lost_of cid (take place es) in
+    let here = lost_at cid es place in record {
+      back = subst (λ l. HasBack before now l) (sym next) (back_then before middle now some here below.back back);
+      noted = noted ∙ ap (λ l. insert_all nat_eq l (vars_of here)) below.noted ∙ sym (fold-append (insert_key nat_eq) old (vars_of some) (vars_of here))
+          ∙ ap (λ l. insert_all nat_eq old l) (sym (map-append (λ (p : Pair). p.var) some here)) ∙ ap (λ l. insert_all nat_eq old (vars_of l)) (sym next);
+      room =
+          let more = length-append some here in
+          let all = ap length next in omega (arith, below.room, fits, more, all);
+    }
+
+-- there is room for one more
+pub back_below_room : (cid : Cid) (es : List (Pair × Cause)) (before now : List Row) (old keys : List ℕ) (room place : ℕ) → IsBackBelow cid es before now old keys room place → place < length es → 0 < room
+back_below_room cid es before now old keys room place below lt =
+    let few = lost_few cid (take place es) in
+    let short = length-take-le place es (omega arith) in omega (arith, below.room, few, short)
+
+-- the pair at a place has another one than the pairs before it
+places_apart : (es : List (Pair × Cause)) (i : ℕ) → IsLinked (log_of es) → (d e : Pair × Cause) → Contains (take i es) d → Contains (drop i es) e → d.0 ≡ e.0 → ⊥
+places_apart es i linked d e m n same =
+    let split : log_of es ≡ log_of (take i es) ++ log_of (drop i es) = ap log_of (sym (take-append-drop i es)) ∙ map-append removal_of (take i es) (drop i es) in
+    let later = linked_later [] (log_of (take i es)) (log_of (drop i es)) (subst IsLinked split linked) in
+    later_fresh (log_of (take i es)) (log_of (drop i es)) later (removal_of e) (entry_logged (drop i es) e n)
+    (member_same (log_pairs (log_of (take i es))) d.0 e.0 same (pair_logged (log_of (take i es)) (removal_of d) (entry_logged (take i es) d m)))
+
+-- the pair at the place is still out
+pub back_below_out : (cid : Cid) (es : List (Pair × Cause)) (before now : List Row) (old keys : List ℕ) (room place : ℕ) → IsLinked (log_of es) → LacksExactly before (log_pairs (log_of es))
+    → IsBackBelow cid es before now old keys room place → (p : Pair) → Contains (lost_at cid es place) p → IsDeclared now p.var p.value × (IsPresent now p.var p.value → ⊥)
+back_below_out cid es before now old keys room place linked lacks below p m =
+    let e = lost_entry cid (take 1 (drop place es)) p m in
+    let dropped = member_take 1 (drop place es) e.0 e.1 in
+    let in_log : Contains (log_pairs (log_of es)) p = member_same (log_pairs (log_of es)) e.0.0 p e.2 (pair_logged (log_of es) (removal_of e.0) (entry_logged es e.0 (member_drop place es e.0 dropped))) in (
+      subst (λ lists. Contains (values_of lists p.var) p.value) (sym below.back.initial) (lacks.declared p in_log),
+      λ h. elim (below.back.sound p.var p.value h) [
+        | inl k ↦ (without_has (initial_of before) (log_pairs (log_of es)) p.var p.value (subst (λ lists. Contains (values_of lists p.var) p.value) lacks.present k)).1 in_log
+        | inr k ↦
+            let d = lost_entry cid (take place es) p k in
+            places_apart es place linked d.0 e.0 d.1 dropped (d.2 ∙ sym e.2)
+      ],
+    )
+
+-- ---- noted variables
+
+any_same : (k : ℕ) (ks : List ℕ) → list_any (nat_eq k) ks ≡ true → Contains ks k
+any_same k ks h = let r = any_member (nat_eq k) ks h in member_same ks r.0 k (sym (eqb-true k r.0 r.2)) r.1
+
+insert_cases : (ks : List ℕ) (k : ℕ) (b : Bool) → list_any (nat_eq k) ks ≡ b → (insert_key nat_eq ks k ≡ ks) × Contains ks k ⊎ (insert_key nat_eq ks k ≡ ks ++ k ∷ []) × (Contains ks k → ⊥)
+insert_cases ks k true e = inl (ap (λ c. cond c ks (ks ++ k ∷ [])) e, any_same k ks e)
+insert_cases ks k false e = inr (ap (λ c. cond c ks (ks ++ k ∷ [])) e, λ m. false≢true (sym e ∙ member_any (nat_eq k) ks k m (eq-eqb k k refl)))
+
+distinct_push : (ks : List ℕ) (k : ℕ) → Distinct ks → (Contains ks k → ⊥) → Distinct (ks ++ k ∷ [])
+distinct_push [] k once free = (member_nil k, tt)
+distinct_push (j ∷ ks) k once free = (
+  λ m. elim (Contains-push_cases ks k j m) [ inl n ↦ once.0 n | inr e ↦ free (member_same (j ∷ ks) j k (sym e) (member_here j ks)) ],
+  distinct_push ks k once.1 (λ m. free (member_there j ks k m)),
+)
+
+distinct_inserted : (ks : List ℕ) (k : ℕ) → Distinct ks → Distinct (insert_key nat_eq ks k)
+distinct_inserted ks k once = elim (insert_cases ks k (list_any (nat_eq k) ks) refl) [
+  | inl r ↦ subst Distinct (sym r.0) once
+  | inr r ↦ subst Distinct (sym r.0) (distinct_push ks k once r.1)
+]
+
+pub distinct_noted : (ks vars : List ℕ) → Distinct ks → Distinct (insert_all nat_eq ks vars)
+distinct_noted ks [] once = once
+distinct_noted ks (k ∷ vars) once = distinct_noted (insert_key nat_eq ks k) vars (distinct_inserted ks k once)
+
+inserted_member : (ks : List ℕ) (k x : ℕ) → Contains (insert_key nat_eq ks k) x → Contains ks x ⊎ (k ≡ x)
+inserted_member ks k x m = elim (insert_cases ks k (list_any (nat_eq k) ks) refl) [
+  | inl r ↦ inl (subst (λ l. Contains l x) r.0 m)
+  | inr r ↦ Contains-push_cases ks k x (subst (λ l. Contains l x) r.0 m)
+]
+
+member_inserted : (ks : List ℕ) (k x : ℕ) → Contains ks x ⊎ (k ≡ x) → Contains (insert_key nat_eq ks k) x
+member_inserted ks k x m = elim (insert_cases ks k (list_any (nat_eq k) ks) refl) [
+  | inl r ↦ subst (λ l. Contains l x) (sym r.0) (elim m [ inl n ↦ n | inr e ↦ member_same ks k x e r.1 ])
+  | inr r ↦ subst (λ l. Contains l x) (sym r.0) (elim m [ inl n ↦ Contains-append_left ks (k ∷ []) x n | inr e ↦ member_same (ks ++ k ∷ []) k x e (Contains-push ks k) ])
+]
+
+pub noted_member : (ks vars : List ℕ) (x : ℕ) → Contains (insert_all nat_eq ks vars) x → Contains ks x ⊎ Contains vars x
+noted_member ks [] x m = inl m
+noted_member ks (k ∷ vars) x m = elim (noted_member (insert_key nat_eq ks k) vars x m) [
+  | inl n ↦ elim (inserted_member ks k x n) [ inl j ↦ inl j | inr e ↦ inr (member_same (k ∷ vars) k x e (member_here k vars)) ]
+  | inr n ↦ inr (member_there k vars x n)
+]
+
+pub member_noted : (ks vars : List ℕ) (x : ℕ) → Contains ks x ⊎ Contains vars x → Contains (insert_all nat_eq ks vars) x
+member_noted ks [] x m = elim m [ inl n ↦ n | inr n ↦ absurd (member_nil x n) ]
+member_noted ks (k ∷ vars) x m = elim m [
+  | inl n ↦ member_noted (insert_key nat_eq ks k) vars x (inl (member_inserted ks k x (inl n)))
+  | inr n ↦ elim (member_cases k vars x n) [
+    | inl e ↦ member_noted (insert_key nat_eq ks k) vars x (inl (member_inserted ks k x (inr e)))
+    | inr j ↦ member_noted (insert_key nat_eq ks k) vars x (inr j)
+  ]
+]

@@ -1,0 +1,46 @@
+-- The log of removals as its callers see it, what holds of every such log, and how a store of domains goes with it.
+use Rattle.std.specs.Prelude.{◌≡◌, ℕ, ⊤, ◌⊎◌, List, [], ◌∷◌, ◌++◌, map, Contains, slice_index_or}
+use Rattle.palm_base.specs.declared.terms.Pair.{Pair}
+use Rattle.palm_base.specs.declared.terms.Cid.{Cid}
+use Rattle.palm_domain.specs.Rows.{Row, IsDeclared, initial_of, present_of}
+use Rattle.palm_model.specs.Domains.{without}
+use Rattle.palm_model.specs.Log.{Removal, NamesOfPair, log_pairs}
+
+-- the removals, the oldest first, and the variables of which the last withdrawal put values back
+pub record Explanations : Type 0 where
+  pub log : List Removal
+  pub restored : List ℕ
+
+-- ---- logs
+
+-- the names of the constraints that removed, and the reasons of the removal at a place
+abbrev pub log_bys : List Removal → List Cid
+log_bys log = map (λ r. r.by) log
+
+abbrev pub reasons_of : List Removal → ℕ → List Pair
+reasons_of log place = slice_index_or (map (λ r. r.reasons) log) place []
+
+-- the pair is none of the earlier ones, and each reason is one of them
+pub record IsLink (earlier : List Removal) (r : Removal) : Type 0 where
+  pub fresh : Contains (log_pairs earlier) r.pair → ⊥
+  pub reasons : (p : Pair) → Contains r.reasons p → Contains (log_pairs earlier) p
+
+-- each of the removals is a link after the earlier ones and those before it
+abbrev pub AreLinked : List Removal → List Removal → Type 0
+AreLinked earlier [] = ⊤
+AreLinked earlier (r ∷ rest) = IsLink earlier r × AreLinked (earlier ++ r ∷ []) rest
+
+-- no pair stands twice in the log, and each reason is the pair of an earlier removal
+abbrev pub IsLinked : List Removal → Type 0
+IsLinked log = AreLinked [] log
+
+-- the names that a removal by this constraint and for these reasons has, after this log
+abbrev pub NamesOfNext : List Removal → Cid → List Pair → Cid → Type 0
+NamesOfNext log by reasons cid = (by ≡ cid) ⊎ ((p : Pair) × Contains reasons p × NamesOfPair log p cid)
+
+-- ---- domains
+
+-- the pairs are declared, and exactly they are taken out of the declared values
+pub record LacksExactly (rows : List Row) (pairs : List Pair) : Type 0 where
+  pub declared : (p : Pair) → Contains pairs p → IsDeclared rows p.var p.value
+  pub present : present_of rows ≡ without (initial_of rows) pairs

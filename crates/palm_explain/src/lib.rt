@@ -1,0 +1,10 @@
+//! The log of removals: it explains each removed value, and withdraws a constraint from all that rests on it.
+#![tactic(auto)]
+
+mod causes;
+mod laws;
+mod names;
+mod store;
+
+pub use laws::{well_founded_logs_are_linked, withdrawals_add_up};
+pub use store::ExplainStore;
