@@ -35,10 +35,6 @@ pub record Revision : Type 0 where
   pub cid : Cid
   pub removed : ℕ
 
--- an index, or 0 where it is out of range
-abbrev pub index_within : ℕ → ℕ → ℕ
-index_within index count = if nat_lt index count then index else 0
-
 -- a constraint that took nothing out stops being pending
 abbrev pub rested : ℕ → Cid → EngineState → EngineState
 rested zero cid s = calmed s cid

@@ -1,0 +1,6 @@
+pub mod Sorted
+pub mod NameLists
+pub mod Connecting
+pub mod Marking
+pub mod Rows
+pub mod Keeping

@@ -1,0 +1,13 @@
+use Rattle.std.proofs.Common.{◌≡◌, length, take}
+use Rattle.palm_agenda.specs.Agenda.{marks_where}
+use Rattle.palm_agenda.specs.Places.{is_place}
+use Rattle.palm_agenda.proofs.connection.Connection.mark.Given as goal
+
+-- the places so far are marked where they are to be
+abbrev pub invariant-loop-place : goal.invariant-loop-place
+invariant-loop-place l = record {
+  cid : l.self-inside.cid ≡ l.initial.self-inside.cid;
+  scope : l.self-inside.scope ≡ l.initial.self-inside.scope;
+  long : length l.self-inside.marks.items ≡ length l.self-inside.scope;
+  marked : l.self-inside.marks.items ≡ marks_where (is_place l.places l.var) (take l.place l.self-inside.scope) l.initial.self-inside.marks.items;
+}

@@ -1,0 +1,122 @@
+-- What an agenda holds: the connected constraints with their marks, and the names of those that wait to be revised.
+use Rattle.std.specs.Prelude.{◌≡◌, ℕ, ◌<◌, if◌then◌else◌, Bool, true, false, not, ◌||◌, Option, Some, List, [], ◌∷◌, ◌++◌, length, map, filter, All, Contains, nat_eq, nat_lt, slice_get, slice_set, replicate}
+use Rattle.std.specs.List.{list_any}
+use Rattle.palm_base.specs.declared.terms.Cid.{Cid}
+use Rattle.palm_model.specs.Log.{Rises, cid_before, same_cid, is_named}
+use Rattle.palm_model.specs.State.{without_cid}
+
+-- a constraint by its name, the variables of its scope, and a mark at each place of the scope where values of the
+-- variable may lack support
+pub record Connected : Type 0 where
+  pub cid : Cid
+  pub scope : List ℕ
+  pub marks : List Bool
+
+-- the connected constraints by rising name, and the names of those that are pending, by rising name too
+pub record Waiting : Type 0 where
+  pub connected : List Connected
+  pub pending : List Cid
+
+-- the names of connected constraints
+abbrev pub names_of : List Connected → List Cid
+names_of connected = map (λ d. d.cid) connected
+
+-- a constraint is connected under the name
+pub record IsConnected (connected : List Connected) (cid : Cid) : Type 0 where
+  pub owner : Connected
+  pub listed : Contains connected owner
+  pub named : owner.cid ≡ cid
+
+-- a constraint over the variable is connected under the name
+pub record IsOver (connected : List Connected) (x : ℕ) (cid : Cid) : Type 0 where
+  pub owner : Connected
+  pub listed : Contains connected owner
+  pub named : owner.cid ≡ cid
+  pub over : Contains owner.scope x
+
+-- the scope of the constraint under the name has the place
+pub record HasPlace (connected : List Connected) (cid : Cid) (place : ℕ) : Type 0 where
+  pub owner : Connected
+  pub listed : Contains connected owner
+  pub named : owner.cid ≡ cid
+  pub within : place < length owner.scope
+
+-- the constraint under the name is marked at the place
+pub record IsMarked (connected : List Connected) (cid : Cid) (place : ℕ) : Type 0 where
+  pub owner : Connected
+  pub listed : Contains connected owner
+  pub named : owner.cid ≡ cid
+  pub marked : slice_get owner.marks place ≡ Some true
+
+-- there is a mark for each place
+abbrev pub HasMarks : Connected → Type 0
+HasMarks d = length d.marks ≡ length d.scope
+
+-- what holds of every agenda
+pub record IsFormed (w : Waiting) : Type 0 where
+  pub rising : Rises (names_of w.connected)
+  pub pending_rising : Rises w.pending
+  pub pending_connected : (c : Cid) → Contains w.pending c → IsConnected w.connected c
+  pub marks : All HasMarks w.connected
+
+-- ---- connected constraints
+
+-- a constraint that is marked whole
+abbrev pub marked_whole : Cid → List ℕ → Connected
+marked_whole cid scope = record { cid = cid; scope = scope; marks = replicate (length scope) true }
+
+-- the connected constraints with one more, by rising name
+abbrev pub with_connected : Connected → List Connected → List Connected
+with_connected d connected = filter (λ e. cid_before e.cid d.cid) connected ++ d ∷ filter (λ e. cid_before d.cid e.cid) connected
+
+-- the connected constraints but the one under this name
+abbrev pub without_connected : Cid → List Connected → List Connected
+without_connected cid connected = filter (λ d. not (is_named (cid ∷ []) d.cid)) connected
+
+-- ---- marks
+
+-- the marks, and one at each place whose variable passes the test
+abbrev pub marks_where : (ℕ → Bool) → List ℕ → List Bool → List Bool
+marks_where test [] marks = marks
+marks_where test (x ∷ scope) [] = []
+marks_where test (x ∷ scope) (mark ∷ marks) = (mark || test x) ∷ marks_where test scope marks
+
+-- the constraint with a mark at each of these places
+abbrev pub marked_where : (ℕ → Bool) → Connected → Connected
+marked_where test d = record d { marks = marks_where test d.scope d.marks }
+
+-- whether the constraint is over the variable
+abbrev pub is_over : ℕ → Connected → Bool
+is_over x d = list_any (λ y. nat_eq y x) d.scope
+
+-- where the constraint is over the variable, each place of another variable is marked
+abbrev pub mark_others : ℕ → Connected → Connected
+mark_others x d = if is_over x d then marked_where (λ y. not (nat_eq y x)) d else d
+
+-- each place of the variable is marked
+abbrev pub mark_own : ℕ → Connected → Connected
+mark_own x d = marked_where (λ y. nat_eq y x) d
+
+-- the change, at the constraint under this name alone
+abbrev pub changed_at : Cid → (Connected → Connected) → Connected → Connected
+changed_at cid change d = if same_cid cid d.cid then change d else d
+
+-- the change, at the constraints under these names
+abbrev pub changed_among : List Cid → (Connected → Connected) → Connected → Connected
+changed_among names change d = if is_named names d.cid then change d else d
+
+-- the constraint without the mark at a place
+abbrev pub unmarked : ℕ → Connected → Connected
+unmarked place d = record d { marks = slice_set d.marks place false }
+
+-- ---- the next constraint
+
+-- an index, or 0 where it is out of range
+abbrev pub index_within : ℕ → ℕ → ℕ
+index_within index count = if nat_lt index count then index else 0
+
+-- the pending constraint at the answered index is pending no longer
+pub record Takes (before after : Waiting) (answer : ℕ) (cid : Cid) : Type 0 where
+  pub chosen : slice_get before.pending (index_within answer (length before.pending)) ≡ Some cid
+  pub pending : after.pending ≡ without_cid cid before.pending
+  pub connected : after.connected ≡ before.connected

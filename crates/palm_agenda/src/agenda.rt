@@ -1,0 +1,245 @@
+//! The connected constraints, and those of them that wait to be revised.
+ghost use Rattle.std.specs.Prelude.{◌≡◌, ℕ, ◌<◌, ◌≤◌, ◌↔◌, ◌⊎◌, [], length, map, reverse, Contains, MatchOption, IfSome, IfNone, IsSomeAnd, Some, OnOk, OnErr, is_some, vec_capacity};
+ghost use Rattle.palm_base.specs.Tells.{Tells};
+ghost use Rattle.palm_base.specs.declared.terms.Cid.{Cid as CidTerm};
+ghost use Rattle.palm_model.specs.Log.{Rises, cid_before};
+ghost use Rattle.palm_agenda.specs.Agenda.{Connected, HasPlace, IsConnected, IsFormed, IsMarked, IsOver, Takes, changed_among, changed_at, marked_whole, mark_others, mark_own, names_of, unmarked, with_connected, without_connected};
+ghost use Rattle.palm_agenda.specs.Names.{FitsBoth, IsPartedAt};
+ghost use Rattle.palm_agenda.specs.Places.{mark_places};
+ghost use Rattle.palm_model.specs.State.{without_cid};
+
+use crate::connection::{Connection, Places};
+use crate::names::{Names, copy_of, is_before};
+use crate::order::Order;
+use crate::over::{insert_over, make_room, names_over, remove_over};
+use palm_base::{Cid, NoMemory, Var};
+use std::alloc::Global;
+use std::marker::Model;
+
+/// The connected constraints by rising name, the names of the constraints over each variable, and the pending names.
+/// There is room for every name among the pending ones, and among those that an order is shown.
+#[derive(Debug, Drop)]
+pub struct Agenda {
+    connections: Vec<Connection>,
+    over: Vec<Names>,
+    pending: Names,
+    shown: Vec<Cid>,
+}
+
+impl Model for Agenda {
+    ghost use Rattle.std.specs.Prelude.{vec_capacity};
+    ghost use Rattle.palm_agenda.specs.Agenda.{Waiting};
+    ghost use Rattle.palm_agenda.specs.Kept.{IsKept};
+
+    ghost Value = { Waiting };
+
+    ghost view = { λ a. record { connected = a.connections.items; pending = a.pending.names } };
+
+    ghost invariant = { λ a. IsKept a.connections.items a.over.items a.pending (vec_capacity a.shown) };
+}
+
+/// How many of the connected constraints have names that come before this one.
+fn place_of(connections: &[Connection], cid: &Cid) -> usize
+    requires { Rises (names_of connections.now) }
+    ensures { IsPartedAt (λ d. cid_before d.cid cid.now) connections.now result }
+{
+    connections.partition_point(|connection| is_before(connection.cid(), cid))
+}
+
+/// Marks these places of the constraint, as seen from the variable.
+fn mark_named(connections: &mut Vec<Connection>, cid: &Cid, places: Places, var: &Var)
+    requires rising { Rises (names_of connections.old.items) }
+    requires over { IsOver connections.old.items var.now cid.now }
+    ensures { connections.new.items ≡ map (changed_at cid.now (mark_places places var.now)) connections.old.items }
+{
+    let place = place_of(connections, cid);
+    let connection = &mut connections[place];
+    connection.mark(places, var);
+}
+
+/// Marks these places of each of the constraints, as seen from the variable.
+fn mark_each(connections: &mut Vec<Connection>, names: &[Cid], places: Places, var: &Var)
+    requires rising { Rises (names_of connections.old.items) }
+    requires over { (c : CidTerm) → Contains names.now c → IsOver connections.old.items var.now c }
+    ensures { connections.new.items ≡ map (changed_among names.now (mark_places places var.now)) connections.old.items }
+{
+    for cid in names {
+        mark_named(connections, cid, places, var);
+    }
+}
+
+/// Makes each of the names pending.
+fn insert_each(pending: &mut Names, names: &[Cid])
+    requires rising { Rises pending.old.names }
+    requires room { FitsBoth pending.old.room pending.old.names names.now }
+    ensures names { (c : CidTerm) → Contains pending.new.names c ↔ (Contains pending.old.names c ⊎ Contains names.now c) }
+    ensures room { pending.new.room ≡ pending.old.room }
+{
+    for cid in names {
+        pending.insert(cid);
+    }
+}
+
+/// Writes the names from the first to the last.
+fn show(shown: &mut Vec<Cid>, pending: &Names)
+    requires { length pending.now.names ≤ vec_capacity shown.old }
+    ensures names { shown.new.items ≡ pending.now.names }
+    ensures room { vec_capacity shown.old ≤ vec_capacity shown.new }
+{
+    shown.clear();
+    let copied = shown.extend_from_slice(pending.falling());
+    prove!(copied.is_ok());
+    shown.reverse();
+}
+
+impl Agenda {
+    /// No constraint is connected.
+    pub fn new(alloc: Global) -> Agenda
+        ensures { result ≡ record { connected = []; pending = [] } }
+    {
+        Agenda {
+            connections: Vec::new(alloc),
+            over: Vec::new(alloc),
+            pending: Names::new(alloc),
+            shown: Vec::new(alloc),
+        }
+    }
+
+    /// Connects a constraint, pending and marked whole. Without memory nothing changes.
+    pub fn connect(&mut self, cid: Cid, scope: &[Var]) -> Result<(), NoMemory>
+        requires { IsConnected self.old.connected cid → ⊥ }
+        ensures connected { OnOk result (self.new.connected ≡ with_connected (marked_whole cid scope.now) self.old.connected) }
+        ensures pending { OnOk result ((c : CidTerm) → Contains self.new.pending c ↔ (Contains self.old.pending c ⊎ (c ≡ cid))) }
+        ensures err { OnErr result (self.new ≡ self.old) }
+    {
+        let alloc = *self.connections.allocator();
+        let count = self.connections.len() + 1;
+        let connection = Connection::new(alloc, copy_of(&cid), scope)?;
+        make_room(&mut self.over, scope)?;
+        self.pending.reserve(count - self.pending.len())?;
+        self.shown.clear();
+        self.shown.reserve(count)?;
+        let place = place_of(&self.connections, &cid);
+        self.connections.insert(place, connection)?;
+        insert_over(&mut self.over, scope, &cid);
+        self.pending.insert(&cid);
+        Ok(())
+    }
+
+    /// Takes a constraint out, which is pending no longer.
+    pub fn disconnect(&mut self, cid: Cid)
+        requires { IsConnected self.old.connected cid }
+        ensures connected { self.new.connected ≡ without_connected cid self.old.connected }
+        ensures pending { self.new.pending ≡ without_cid cid self.old.pending }
+    {
+        let place = place_of(&self.connections, &cid);
+        let connection = self.connections.remove(place);
+        remove_over(&mut self.over, connection.scope(), &cid);
+        self.pending.remove(&cid);
+    }
+
+    /// A value of the variable was taken out: each constraint over it is pending, and its places of other variables
+    /// are marked.
+    pub fn wake(&mut self, var: Var)
+        ensures connected { self.new.connected ≡ map (mark_others var) self.old.connected }
+        ensures pending { (c : CidTerm) → Contains self.new.pending c ↔ (Contains self.old.pending c ⊎ IsOver self.old.connected var c) }
+    {
+        let names = names_over(&self.over, &var);
+        mark_each(&mut self.connections, names, Places::Others, &var);
+        insert_each(&mut self.pending, names);
+    }
+
+    /// A value of the variable was put back: each constraint over it is pending, and its places of the variable are
+    /// marked.
+    pub fn wake_restored(&mut self, var: Var)
+        ensures connected { self.new.connected ≡ map (mark_own var) self.old.connected }
+        ensures pending { (c : CidTerm) → Contains self.new.pending c ↔ (Contains self.old.pending c ⊎ IsOver self.old.connected var c) }
+    {
+        let names = names_over(&self.over, &var);
+        mark_each(&mut self.connections, names, Places::Own, &var);
+        insert_each(&mut self.pending, names);
+    }
+
+    /// Makes one constraint pending.
+    pub fn wake_one(&mut self, cid: Cid)
+        requires { IsConnected self.old.connected cid }
+        ensures connected { self.new.connected ≡ self.old.connected }
+        ensures pending { (c : CidTerm) → Contains self.new.pending c ↔ (Contains self.old.pending c ⊎ (c ≡ cid)) }
+    {
+        self.pending.insert(&cid);
+    }
+
+    /// A mark for each place of the constraint's scope: whether values of the place's variable may lack support.
+    pub fn marks(&self, cid: Cid) -> &[bool]
+        requires { IsConnected self.now.connected cid }
+        ensures { (d : Connected) → Contains self.now.connected d → d.cid ≡ cid → result.now ≡ d.marks }
+    {
+        let place = place_of(&self.connections, &cid);
+        self.connections[place].marks()
+    }
+
+    /// Whether the place of the constraint's scope is marked.
+    pub fn is_marked(&self, cid: Cid, place: usize) -> bool
+        requires { HasPlace self.now.connected cid place }
+        ensures { Tells result (IsMarked self.now.connected cid place) }
+    {
+        self.marks(cid)[place]
+    }
+
+    /// Takes the mark of a place away.
+    pub fn unmark(&mut self, cid: Cid, place: usize)
+        requires { HasPlace self.old.connected cid place }
+        ensures connected { self.new.connected ≡ map (changed_at cid (unmarked place)) self.old.connected }
+        ensures pending { self.new.pending ≡ self.old.pending }
+    {
+        unmark_named(&mut self.connections, &cid, place);
+    }
+
+    /// Whether no constraint is pending. What it ensures besides holds of every agenda.
+    pub fn is_empty(&self) -> bool
+        ensures tells { Tells result (self.now.pending ≡ []) }
+        ensures formed { IsFormed self.now }
+    {
+        self.pending.len() == 0
+    }
+
+    /// The constraint that is revised next, which is pending no longer: the first one without an order, and with one
+    /// the one that it answers when it is asked once. It is not asked where none is pending.
+    pub fn take(&mut self, order: &mut Option<Box<dyn Order>>) -> Option<Cid>
+        ensures none { IfNone result ((self.old.pending ≡ []) × (self.new ≡ self.old) × (order.new ≡ order.old)) }
+        ensures some { IfSome result (λ c. (answer : ℕ) × Takes self.old self.new answer c
+            × MatchOption order.old (answer ≡ 0) (λ before. IsSomeAnd order.new (λ after. answers before self.old.pending answer (state after)))) }
+        ensures stays { is_some order.new ≡ is_some order.old }
+    {
+        match order {
+            None => self.pending.take_first(),
+            Some(order) => self.take_answered(order),
+        }
+    }
+
+    /// The pending constraint that the order answers.
+    fn take_answered(&mut self, order: &mut Box<dyn Order>) -> Option<Cid>
+        ensures none { IfNone result ((self.old.pending ≡ []) × (self.new ≡ self.old) × (order.new ≡ order.old)) }
+        ensures some { IfSome result (λ c. (answer : ℕ) × Takes self.old self.new answer c × answers order.old self.old.pending answer (state order.new)) }
+    {
+        let count = self.pending.len();
+        if count == 0 {
+            return None;
+        }
+        show(&mut self.shown, &self.pending);
+        let answer = order.next(&self.shown);
+        let place = if answer < count { answer } else { 0 };
+        Some(self.pending.take_at(place))
+    }
+}
+
+/// Takes a mark of the constraint away.
+fn unmark_named(connections: &mut Vec<Connection>, cid: &Cid, place: usize)
+    requires rising { Rises (names_of connections.old.items) }
+    requires connected { HasPlace connections.old.items cid.now place }
+    ensures { connections.new.items ≡ map (changed_at cid.now (unmarked place)) connections.old.items }
+{
+    let at = place_of(connections, cid);
+    let connection = &mut connections[at];
+    connection.unmark(place);
+}

@@ -1,0 +1,12 @@
+//! The agenda: which constraints wait to be revised, and at which places of their scopes values may have lost their
+//! support.
+#![tactic(auto)]
+
+mod agenda;
+mod connection;
+mod names;
+mod order;
+mod over;
+
+pub use agenda::Agenda;
+pub use order::{LastOrder, Order, RotateOrder};

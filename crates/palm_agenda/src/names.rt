@@ -1,0 +1,166 @@
+//! Names of constraints in their order.
+ghost use Rattle.std.specs.Prelude.{◌≡◌, ℕ, ◌+◌, ◌<◌, ◌≤◌, [], ◌∷◌, length, reverse, Contains, MatchOption, None, Some, OnOk, slice_get, vec_capacity};
+ghost use Rattle.std.specs.List.{insert};
+ghost use Rattle.palm_base.specs.Tells.{Tells};
+ghost use Rattle.palm_base.specs.declared.terms.Cid.{Cid as CidTerm};
+ghost use Rattle.palm_model.specs.Log.{Rises, cid_before, same_cid};
+ghost use Rattle.palm_model.specs.State.{without_cid};
+ghost use Rattle.palm_agenda.specs.Names.{HasRoomFor, IsPartedAt, with_name};
+
+use palm_base::{Cid, NoMemory, Pair};
+use std::alloc::Global;
+use std::marker::Model;
+
+/// Whether the first name comes before the second.
+pub(crate) fn is_before(first: &Cid, second: &Cid) -> bool
+    ensures { result ≡ cid_before first.now second.now }
+{
+    first < second
+}
+
+/// Whether the two names are one.
+fn is_same(first: &Cid, second: &Cid) -> bool
+    ensures { result ≡ same_cid first.now second.now }
+{
+    first == second
+}
+
+/// Different names, with room for more. They are kept in falling order, so that the first one is taken from the end.
+#[derive(Debug, Drop)]
+pub(crate) struct Names {
+    falling: Vec<Cid>,
+}
+
+impl Model for Names {
+    ghost use Rattle.std.specs.Prelude.{reverse};
+    ghost use Rattle.std.specs.Prelude.{vec_capacity};
+    ghost use Rattle.palm_model.specs.Log.{Rises};
+    ghost use Rattle.palm_agenda.specs.Names.{Roomy};
+
+    ghost Value = { Roomy };
+
+    ghost view = { λ n. record { names = reverse n.falling.items; room = vec_capacity n.falling } };
+
+    ghost invariant = { λ n. Rises (reverse n.falling.items) };
+}
+
+impl Names {
+    /// No name, and no room.
+    pub(crate) fn new(alloc: Global) -> Names
+        ensures { result ≡ record { names = []; room = 0 } }
+    {
+        Names {
+            falling: Vec::new(alloc),
+        }
+    }
+
+    /// How many names there are.
+    pub(crate) fn len(&self) -> usize
+        ensures count { result ≡ length self.now.names }
+        ensures rising { Rises self.now.names }
+    {
+        self.falling.len()
+    }
+
+    /// The names from the last one to the first.
+    pub(crate) fn falling(&self) -> &[Cid]
+        ensures { result.now ≡ reverse self.now.names }
+    {
+        self.falling.as_slice()
+    }
+
+    /// Makes room for so many more names.
+    pub(crate) fn reserve(&mut self, more: usize) -> Result<(), NoMemory>
+        ensures names { self.new.names ≡ self.old.names }
+        ensures grows { self.old.room ≤ self.new.room }
+        ensures ok { OnOk result (length self.new.names + more ≤ self.new.room) }
+    {
+        self.falling.reserve(more)?;
+        Ok(())
+    }
+
+    /// Puts a name at its place, where it was not there.
+    pub(crate) fn insert(&mut self, cid: &Cid)
+        requires { HasRoomFor cid.now self.old }
+        ensures names { self.new.names ≡ with_name cid.now self.old.names }
+        ensures room { self.new.room ≡ self.old.room }
+    {
+        let place = place_of(&self.falling, cid);
+        if !stands_at(&self.falling, place, cid) {
+            put_at(&mut self.falling, place, cid);
+        }
+    }
+
+    /// Takes a name out, where it was there.
+    pub(crate) fn remove(&mut self, cid: &Cid)
+        ensures names { self.new.names ≡ without_cid cid.now self.old.names }
+        ensures room { self.new.room ≡ self.old.room }
+    {
+        let place = place_of(&self.falling, cid);
+        if stands_at(&self.falling, place, cid) {
+            self.falling.remove(place);
+        }
+    }
+
+    /// Takes the first name out.
+    pub(crate) fn take_first(&mut self) -> Option<Cid>
+        ensures { MatchOption result
+            ((self.old.names ≡ []) × (self.new ≡ self.old))
+            (λ c. (slice_get self.old.names 0 ≡ Some c)
+            × (self.new.names ≡ without_cid c self.old.names)
+            × (self.new.room ≡ self.old.room)) }
+    {
+        self.falling.pop()
+    }
+
+    /// Takes the name at the place out, counted from the first one.
+    pub(crate) fn take_at(&mut self, place: usize) -> Cid
+        requires { place < length self.old.names }
+        ensures chosen { slice_get self.old.names place ≡ Some result }
+        ensures names { self.new.names ≡ without_cid result self.old.names }
+        ensures room { self.new.room ≡ self.old.room }
+    {
+        let last = self.falling.len() - 1;
+        self.falling.remove(last - place)
+    }
+}
+
+/// How many of the names come after this one.
+fn place_of(falling: &[Cid], cid: &Cid) -> usize
+    requires { Rises (reverse falling.now) }
+    ensures { IsPartedAt (λ c. cid_before cid.now c) falling.now result }
+{
+    falling.partition_point(|name| is_before(cid, name))
+}
+
+/// Whether the name stands at the place.
+fn stands_at(names: &[Cid], place: usize, cid: &Cid) -> bool
+    ensures { Tells result (slice_get names.now place ≡ Some cid.now) }
+{
+    place < names.len() && is_same(&names[place], cid)
+}
+
+/// Puts the name at the place, where there is room.
+fn put_at(names: &mut Vec<Cid>, place: usize, cid: &Cid)
+    requires within { place ≤ length names.old.items }
+    requires room { length names.old.items < vec_capacity names.old }
+    ensures items { names.new.items ≡ insert names.old.items place cid.now }
+    ensures room { vec_capacity names.new ≡ vec_capacity names.old }
+{
+    let inserted = names.insert(place, copy_of(cid));
+    prove!(inserted.is_ok());
+}
+
+/// The name again.
+pub(crate) fn copy_of(cid: &Cid) -> Cid
+    ensures { result ≡ cid.now }
+{
+    match cid {
+        Cid::Decide(var) => Cid::Decide(*var),
+        Cid::Not(pair) => Cid::Not(Pair {
+            var: pair.var,
+            value: pair.value,
+        }),
+        Cid::User(number) => Cid::User(*number),
+    }
+}
