@@ -1,9 +1,17 @@
 //! The engine: revisions and settlings, the laws on them, and what a settling may ask at most.
 #![tactic(auto)]
 
+mod conflicts;
+mod engine;
+mod filtering;
+mod posted;
+mod posting;
+mod settle;
 pub mod settling;
 pub mod work;
 
+pub use engine::Engine;
+pub use settle::Settle;
 pub use settling::{
     revisions_fall, revisions_filter, settled_domains_do_not_depend_on_the_order,
     settling_and_withdrawing_gives_back_the_log, settlings_end, settlings_exist, settlings_filter,

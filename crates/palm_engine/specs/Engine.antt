@@ -1,0 +1,69 @@
+-- What an engine is seen as, and what a settling says of it.
+use Rattle.std.specs.Prelude.{◌≡◌, ℕ, ◌+◌, ◌-◌, ◌≤◌, min, Bool, List, [], length, ◌++◌, Contains, Option}
+use Rattle.palm_base.specs.declared.terms.Pair.{Pair}
+use Rattle.palm_base.specs.declared.limits.TheConstants.{LAST_COUNT}
+use Rattle.palm_model.specs.Log.{Active, Removal, log_pairs}
+use Rattle.palm_model.specs.State.{EngineState, IsEmptyAt, IsSettled, AllFilled, present}
+use Rattle.palm_engine.specs.Settling.{Revision, Revisions, Settles, Walks, FitsOrder, IsInLimit, HasReached, walk_order}
+use Rattle.palm_engine.specs.Kept.{state_of}
+use Rattle.palm_engine.specs.Work.{most_questions}
+use Rattle.palm_engine.specs.declared.filtering.Filtering.{Filtering}
+use Rattle.palm_engine.specs.declared.settle.Settle.{Settle}
+use Rattle.palm_engine.specs.declared.settle.Settle.TheVariants.{Settled, Empty, Stopped}
+
+-- the state, how many revisions the last settling ran, and how often support was asked for in all settlings so far;
+-- both numbers stop at the last count
+pub record View : Type 0 where
+  pub state : EngineState
+  pub revisions : ℕ
+  pub checks : ℕ
+
+-- what is seen of what an engine keeps
+abbrev pub view_of : Filtering → List Active → ℕ → View
+view_of f active revisions = record { state = state_of f active; revisions = revisions; checks = f.checks }
+
+-- a call that is no settling changes neither number
+pub record KeepsCounts (before after : View) : Type 0 where
+  pub revisions : after.revisions ≡ before.revisions
+  pub checks : after.checks ≡ before.checks
+
+-- how a settling of so many revisions ended
+abbrev pub EndsAs : Settle → Option ℕ → ℕ → EngineState → Type 0
+EndsAs Settled limit count s = IsSettled s
+EndsAs (Empty x) limit count s = IsEmptyAt (present s) x
+EndsAs Stopped limit count s = HasReached limit count × AllFilled (present s) × (s.pending ≡ [] → ⊥)
+
+-- a settling, with an order object or without one, and how it ended
+pub record HasSettled (limit : Option ℕ) (ordered : Bool) (answer : Settle) (before after : View) : Type 0 where
+  pub revisions : List Revision
+  pub settles : Settles limit before.state revisions after.state
+  pub fits : FitsOrder ordered revisions
+  pub ends : EndsAs answer limit (length revisions) after.state
+  pub counted : after.revisions ≡ min (length revisions) LAST_COUNT
+
+-- a settling whose last revision was interrupted by want of memory: it walked over some of its pairs, and its constraint
+-- is still pending
+pub record IsInterrupted (limit : Option ℕ) (ordered : Bool) (before after : View) : Type 0 where
+  pub revisions : List Revision
+  pub middle : EngineState
+  pub ended : Revisions before.state revisions middle
+  pub fits : FitsOrder ordered revisions
+  pub within : IsInLimit limit (length revisions + 1)
+  pub owner : Active
+  pub posted : Contains middle.active owner
+  pub chosen : Contains middle.pending owner.cid
+  pub walked : List Pair
+  pub left : List Pair
+  pub order : walk_order middle.initial owner.con ≡ walked ++ left
+  pub removed : ℕ
+  pub walk : Walks owner walked middle removed after.state
+  pub pending : Contains after.state.pending owner.cid
+  pub counted : after.revisions ≡ min (length revisions + 1) LAST_COUNT
+
+-- how often support was asked for on the way from s to t: no more than the constraints that were pending and those over the
+-- removed pairs' variables have pairs
+pub record HasAsked (s t : EngineState) (before after : ℕ) : Type 0 where
+  pub gained : List Removal
+  pub log : t.log ≡ s.log ++ gained
+  pub later : before ≤ after
+  pub paid : after ≤ before + most_questions s (log_pairs gained)

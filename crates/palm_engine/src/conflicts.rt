@@ -1,0 +1,70 @@
+//! The constraints of a conflict.
+ghost use Rattle.std.specs.Prelude.{◌≡◌, [], Contains, IfOk, OnOk};
+ghost use Rattle.palm_base.specs.declared.terms.Cid.{Cid as CidTerm};
+ghost use Rattle.palm_domain.specs.Rows.{initial_of, present_of};
+ghost use Rattle.palm_model.specs.Conflict.{InConflict, InFlat, IsKeptConflict};
+ghost use Rattle.palm_model.specs.Log.{IsActive, IsListOf, Rises, cids_of, log_pairs};
+ghost use Rattle.palm_model.specs.State.{IsEmptyAt};
+ghost use Rattle.palm_explain.specs.Explanations.{LacksExactly};
+ghost use Rattle.palm_engine.specs.Kept.{state_of};
+ghost use Rattle.palm_engine.specs.Posted.{actives_of};
+
+use crate::filtering::Filtering;
+use crate::posted::{Posted, place_of};
+use palm_base::{Cid, CidList, NoMemory, Pair, Var};
+use palm_explain::add_names;
+use palm_filter::Filter;
+use std::alloc::Global;
+
+/// The constraints of the explanations of all declared values of an empty variable, by rising name.
+pub(crate) fn conflict_of(
+    alloc: Global,
+    filtering: &Filtering,
+    var: Var,
+) -> Result<CidList, NoMemory>
+    requires removed { LacksExactly filtering.now.store (log_pairs filtering.now.log.log) }
+    requires empty { IsEmptyAt (present_of filtering.now.store) var }
+    ensures { IfOk result (IsKeptConflict (state_of filtering.now []) var) }
+{
+    let mut names = Vec::new(alloc);
+    let mut explanation = CidList::new(alloc);
+    for value in filtering.store.initial_values(var) {
+        let pair = Pair { var, value: *value };
+        filtering.log.explanation(pair, &mut explanation)?;
+        add_names(&mut names, explanation.as_slice())?;
+    }
+    Ok(CidList::from_vec(names))
+}
+
+/// Adds the grounds of a negation, or the name itself of another constraint.
+fn add_flat<F: Filter>(
+    posted: &[Posted<F>],
+    cid: &Cid,
+    names: &mut Vec<Cid>,
+) -> Result<(), NoMemory>
+    requires rising { Rises (cids_of (actives_of F.meaning posted.now)) }
+    requires active { IsActive (actives_of F.meaning posted.now) cid.now }
+    requires names { Rises names.old.items }
+{
+    match cid {
+        Cid::Not(_) => add_names(names, posted[place_of(posted, cid)].because()),
+        Cid::Decide(_) | Cid::User(_) => add_names(names, &[*cid]),
+    }
+}
+
+/// The names with each negation replaced by its justification, by rising name.
+pub(crate) fn flat_of<F: Filter>(
+    alloc: Global,
+    posted: &[Posted<F>],
+    from: &[Cid],
+) -> Result<CidList, NoMemory>
+    requires rising { Rises (cids_of (actives_of F.meaning posted.now)) }
+    requires active { (c : CidTerm) → Contains from.now c → IsActive (actives_of F.meaning posted.now) c }
+    ensures { IfOk result (IsListOf (InFlat (actives_of F.meaning posted.now) (Contains from.now))) }
+{
+    let mut names = Vec::new(alloc);
+    for cid in from {
+        add_flat(posted, cid, &mut names)?;
+    }
+    Ok(CidList::from_vec(names))
+}

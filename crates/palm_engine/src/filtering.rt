@@ -1,0 +1,118 @@
+//! The domains, the log and the agenda of an engine, and what changes them together.
+ghost use Rattle.std.specs.Prelude.{◌≡◌, ◌↔◌, ◌⊎◌, ℕ, ◌<◌, [], map, length, Contains, None, Some, OnErr, OnOk};
+ghost use Rattle.palm_base.specs.declared.terms.Cid.{Cid as CidTerm};
+ghost use Rattle.palm_base.specs.declared.terms.Pair.{Pair as PairTerm};
+ghost use Rattle.palm_domain.specs.Rows.{IsPresent, present_of};
+ghost use Rattle.palm_model.specs.Log.{log_pairs};
+ghost use Rattle.palm_explain.specs.Explanations.{LacksExactly};
+ghost use Rattle.palm_agenda.specs.Agenda.{IsConnected, IsFormed, IsOver, marked_where};
+ghost use Rattle.palm_engine.specs.Changed.{NotesGain, NotesLoss, PutsBack, TakesOut, is_one_of};
+
+use palm_agenda::Agenda;
+use palm_base::{Cid, NoMemory, Pair, Var};
+use palm_domain::DomainStore;
+use palm_explain::ExplainStore;
+use std::alloc::Global;
+
+/// The present values, why the others are gone, and which constraints wait.
+#[derive(Drop)]
+pub(crate) struct Filtering {
+    pub(crate) store: DomainStore,
+    pub(crate) log: ExplainStore,
+    pub(crate) agenda: Agenda,
+    /// The variable that has no value left.
+    pub(crate) empty: Option<Var>,
+    /// How often support was asked for.
+    pub(crate) checks: u64,
+}
+
+/// The empty variable after a value of `var` was taken out.
+fn after_loss(empty: &Option<Var>, store: &DomainStore, var: Var) -> Option<Var>
+    requires { var < length store.now }
+    ensures { NotesLoss empty.now result (present_of store.now) var }
+{
+    if store.count(var) == 0 {
+        Some(var)
+    } else {
+        *empty
+    }
+}
+
+/// The empty variable after values were put back.
+fn after_gain(empty: &Option<Var>, store: &DomainStore) -> Option<Var>
+    requires { (x : ℕ) → empty.now ≡ Some x → x < length store.now }
+    ensures { NotesGain empty.now result (present_of store.now) }
+{
+    let var = (*empty)?;
+    if store.count(var) == 0 {
+        Some(var)
+    } else {
+        None
+    }
+}
+
+/// Makes the constraints over these variables pending, and marks their places.
+fn wake_restored(agenda: &mut Agenda, vars: &[Var])
+    requires { IsFormed agenda.old }
+    ensures formed { IsFormed agenda.new }
+    ensures connected { agenda.new.connected ≡ map (marked_where (is_one_of vars.now)) agenda.old.connected }
+    ensures pending { (c : CidTerm) → Contains agenda.new.pending c
+        ↔ (Contains agenda.old.pending c ⊎ ((x : ℕ) × Contains vars.now x × IsOver agenda.old.connected x c)) }
+{
+    for var in vars {
+        agenda.wake_restored(*var);
+    }
+}
+
+impl Filtering {
+    /// No variable and no constraint.
+    pub(crate) fn new(alloc: Global) -> Filtering
+        ensures store { result.store ≡ [] }
+        ensures log { result.log ≡ record { log = []; restored = [] } }
+        ensures agenda { result.agenda ≡ record { connected = []; pending = [] } }
+        ensures empty { result.empty ≡ None }
+        ensures checks { result.checks ≡ 0 }
+    {
+        Filtering {
+            store: DomainStore::new(alloc),
+            log: ExplainStore::new(alloc),
+            agenda: Agenda::new(alloc),
+            empty: None,
+            checks: 0,
+        }
+    }
+
+    /// Takes a present value out by this constraint and for these removed pairs. Without memory nothing changes.
+    pub(crate) fn remove(
+        &mut self,
+        pair: Pair,
+        by: Cid,
+        reasons: &[Pair],
+    ) -> Result<(), NoMemory>
+        requires removed { LacksExactly self.old.store (log_pairs self.old.log.log) }
+        requires present { IsPresent self.old.store pair.var pair.value }
+        requires earlier { (p : PairTerm) → Contains reasons.now p → Contains (log_pairs self.old.log.log) p }
+        ensures ok { OnOk result (TakesOut self.old pair by reasons.now self.new) }
+        ensures err { OnErr result (self.new ≡ self.old) }
+    {
+        let Pair { var, value } = pair;
+        self.log.enter(Pair { var, value }, by, reasons)?;
+        self.store.take_out(Pair { var, value });
+        self.agenda.wake(var);
+        self.empty = after_loss(&self.empty, &self.store, var);
+        Ok(())
+    }
+
+    /// Takes the constraint out with all removals that rest on it. It takes no memory.
+    pub(crate) fn withdraw(&mut self, cid: &Cid)
+        requires removed { LacksExactly self.old.store (log_pairs self.old.log.log) }
+        requires connected { IsConnected self.old.agenda.connected cid.now }
+        requires empty { (x : ℕ) → self.old.empty ≡ Some x → x < length self.old.store }
+        ensures { PutsBack self.old cid.now self.new }
+    {
+        self.agenda.disconnect(*cid);
+        self.log.withdraw(*cid, &mut self.store);
+        wake_restored(&mut self.agenda, self.log.restored());
+        self.empty = after_gain(&self.empty, &self.store);
+    }
+}

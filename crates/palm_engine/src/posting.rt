@@ -1,0 +1,81 @@
+//! Putting a constraint among the active ones, and taking it out with what rests on it.
+ghost use Rattle.std.specs.Prelude.{◌≡◌, ◌↔◌, ◌⊎◌, ℕ, ◌<◌, [], ◌∷◌, length, remove, Contains, Some, OnErr, OnOk, slice_get};
+ghost use Rattle.palm_base.specs.declared.terms.Cid.{Cid as CidTerm};
+ghost use Rattle.palm_model.specs.Constraint.{scope, IsWellFormed};
+ghost use Rattle.palm_model.specs.Event.{WithdrawsAll, with_posted};
+ghost use Rattle.palm_model.specs.Log.{Active, IsActive, Rises, cids_of};
+ghost use Rattle.palm_agenda.specs.Agenda.{IsFormed, marked_whole, with_connected};
+ghost use Rattle.palm_engine.specs.Kept.{AreConnected, IsKept, state_of};
+ghost use Rattle.palm_engine.specs.Posted.{active_of, actives_of, resting_on};
+
+use crate::filtering::Filtering;
+use crate::posted::{Posted, decisions_of, place_of};
+use palm_agenda::Agenda;
+use palm_base::{Cid, NoMemory};
+use palm_filter::Filter;
+
+/// Puts a constraint at its place, pending. Without memory nothing changes.
+pub(crate) fn insert<F: Filter>(
+    agenda: &mut Agenda,
+    posted: &mut Vec<Posted<F>>,
+    constraint: Posted<F>,
+) -> Result<(), NoMemory>
+    requires rising { Rises (cids_of (actives_of F.meaning posted.old.items)) }
+    requires connected { AreConnected (actives_of F.meaning posted.old.items) agenda.old.connected }
+    requires inactive { IsActive (actives_of F.meaning posted.old.items) (active_of F.meaning constraint).cid → ⊥ }
+    ensures active { OnOk result (actives_of F.meaning posted.new.items ≡ with_posted (active_of F.meaning constraint) (actives_of F.meaning posted.old.items)) }
+    ensures connected { OnOk result (agenda.new.connected ≡ with_connected (marked_whole (active_of F.meaning constraint).cid (scope (active_of F.meaning constraint).con)) agenda.old.connected) }
+    ensures pending { OnOk result ((c : CidTerm) → Contains agenda.new.pending c ↔ (Contains agenda.old.pending c ⊎ (c ≡ (active_of F.meaning constraint).cid))) }
+    ensures formed { OnOk result (IsFormed agenda.new) }
+    ensures shaped { OnOk result ((number : ℕ) → (active_of F.meaning constraint).cid ≡ Cid.User number → (variables : ℕ) × IsWellFormed variables (active_of F.meaning constraint).con) }
+    ensures err { OnErr result ((posted.new.items ≡ posted.old.items) × (agenda.new ≡ agenda.old)) }
+{
+    let cid = constraint.cid();
+    let place = place_of(posted, &cid);
+    posted.reserve(1)?;
+    agenda.connect(cid, constraint.scope())?;
+    let inserted = posted.insert(place, constraint);
+    prove!(inserted.is_ok());
+    Ok(())
+}
+
+/// Takes the constraint at a place out, with all removals that rest on it.
+pub(crate) fn take_out<F: Filter>(
+    filtering: &mut Filtering,
+    posted: &mut Vec<Posted<F>>,
+    place: usize,
+)
+    requires kept { IsKept filtering.old (actives_of F.meaning posted.old.items) }
+    requires rising { Rises (cids_of (actives_of F.meaning posted.old.items)) }
+    requires within { place < length posted.old.items }
+    ensures posted { posted.new.items ≡ remove posted.old.items place }
+    ensures kept { IsKept filtering.new (actives_of F.meaning posted.new.items) }
+    ensures withdraws { (a : Active) → slice_get (actives_of F.meaning posted.old.items) place ≡ Some a
+        → WithdrawsAll (state_of filtering.old (actives_of F.meaning posted.old.items)) (a.cid ∷ []) (state_of filtering.new (actives_of F.meaning posted.new.items)) }
+    ensures checks { filtering.new.checks ≡ filtering.old.checks }
+{
+    let constraint = posted.remove(place);
+    filtering.withdraw(&constraint.cid());
+}
+
+/// Takes each negation out whose justification holds the name, with all removals that rest on it.
+pub(crate) fn take_out_resting<F: Filter>(
+    filtering: &mut Filtering,
+    posted: &mut Vec<Posted<F>>,
+    cid: &Cid,
+)
+    requires kept { IsKept filtering.old (actives_of F.meaning posted.old.items) }
+    requires rising { Rises (cids_of (actives_of F.meaning posted.old.items)) }
+    ensures kept { IsKept filtering.new (actives_of F.meaning posted.new.items) }
+    ensures withdraws { WithdrawsAll (state_of filtering.old (actives_of F.meaning posted.old.items)) (resting_on (actives_of F.meaning posted.old.items) cid.now) (state_of filtering.new (actives_of F.meaning posted.new.items)) }
+    ensures checks { filtering.new.checks ≡ filtering.old.checks }
+{
+    let mut place = decisions_of(posted);
+    while let Some(Posted::Negation { because, .. }) = posted.get(place) {
+        if because.as_slice().contains(cid) {
+            take_out(filtering, posted, place);
+        } else {
+            place += 1;
+        }
+    }
+}
