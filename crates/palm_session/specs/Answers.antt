@@ -106,7 +106,7 @@ Says s (Domain name) effect reply =
 Says s ListLine effect reply = reply ≡ list_text s.book
 Says s Log effect reply = reply ≡ log_text s.book s.engine.log
 Says s (Why name value) effect reply =
-    (d : Domains) (x : ℕ) × AreDomains s d × (x < length s.book.variables) × (name_of s.book.variables x ≡ name) × SaysWhy s d x value reply
+    (d : Domains) × (x : ℕ) × AreDomains s d × (x < length s.book.variables) × (name_of s.book.variables x ≡ name) × SaysWhy s d x value reply
 Says s Conflict effect reply = (d : Domains) × AreDomains s d × SaysConflict s d reply
 Says s Quit effect reply = reply ≡ fixed_text Bye
 Says s _ _ reply = ⊥

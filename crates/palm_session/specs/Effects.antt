@@ -1,5 +1,6 @@
 -- What an accepted line does.
 use Rattle.std.specs.Prelude.{◌≡◌, ℕ, ℤ, ◌+◌, Bool, true, false, List, [], ◌∷◌, ◌++◌, length, Option, Some, None, is_some, slice_get, remove, if◌then◌else◌}
+use Rattle.palm_base.specs.declared.terms.Cid.{Cid}
 use Rattle.palm_base.specs.declared.terms.Cid.TheVariants.{User}
 use Rattle.palm_model.specs.State.{EngineState}
 use Rattle.palm_model.specs.Event.{Posts, Withdraws, Declares}
@@ -60,27 +61,31 @@ without_constraint s place = record s { book = record s.book { constraints = rem
 -- the constraint with the name, and its place
 pub record IsNamed (s : SessionState) (name : List ℕ) (place : ℕ) (c : BookCon) : Type 0 where
   pub at : slice_get s.book.constraints place ≡ Some c
-  pub name : c.name ≡ name
+  pub named : c.name ≡ name
 
--- the constraint is withdrawn where it is active
+-- the constraint is withdrawn where it is active, and else nothing changes
+abbrev pub WithdrawsWhere : Bool → EngineState → Cid → EngineState → Type 0
+WithdrawsWhere true e cid after = Withdraws e cid after
+WithdrawsWhere false e cid after = after ≡ e
+
 abbrev pub WithdrawsActive : EngineState → BookCon → EngineState → Type 0
-WithdrawsActive e c after = if c.active then Withdraws e (User c.number) after else (after ≡ e)
+WithdrawsActive e c after = WithdrawsWhere c.active e (User c.number) after
 
 -- what the line changes before anything is filtered; a form without a row of its own changes nothing, and does not happen
 abbrev pub Changes : SessionState → Line → SessionState → Type 0
 Changes s Comment t = t ≡ s
 Changes s (Var name domain) t = (e : EngineState) × Declares s.engine (values_in domain) e × (t ≡ with_engine (with_variable s name (values_in domain)) e)
 Changes s (Add name shape) t =
-    (con : Con) (e : EngineState) × Resolves s.book.variables shape con × Posts s.engine (user_at (next_constraint s name con)) e
+    (con : Con) × (e : EngineState) × Resolves s.book.variables shape con × Posts s.engine (user_at (next_constraint s name con)) e
     × (t ≡ with_engine (with_constraint s name con) e)
 Changes s (Relax name) t =
-    (place : ℕ) (c : BookCon) (e : EngineState) × IsNamed s name place c × Withdraws s.engine (User c.number) e
+    (place : ℕ) × (c : BookCon) × (e : EngineState) × IsNamed s name place c × Withdraws s.engine (User c.number) e
     × (t ≡ with_engine (with_active_at s place false) e)
 Changes s (Enforce name) t =
-    (place : ℕ) (c : BookCon) (e : EngineState) × IsNamed s name place c × Posts s.engine (user_at c) e
+    (place : ℕ) × (c : BookCon) × (e : EngineState) × IsNamed s name place c × Posts s.engine (user_at c) e
     × (t ≡ with_engine (with_active_at s place true) e)
 Changes s (Retract name) t =
-    (place : ℕ) (c : BookCon) (e : EngineState) × IsNamed s name place c × WithdrawsActive s.engine c e
+    (place : ℕ) × (c : BookCon) × (e : EngineState) × IsNamed s name place c × WithdrawsActive s.engine c e
     × (t ≡ with_engine (without_constraint s place) e)
 Changes s DomainsLine t = t ≡ s
 Changes s (Domain name) t = t ≡ s

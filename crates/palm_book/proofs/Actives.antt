@@ -5,24 +5,32 @@ use Rattle.std.proofs.lemmas.Option.{slice_get_within, get_or_from_slice_get}
 use Rattle.palm_model.specs.Constraint.{IsWellFormed}
 use Rattle.palm_model.specs.Domains.{Ascends, AllAscend}
 use Rattle.palm_model.specs.declared.constraint.Con.{Con}
-use Rattle.palm_book.specs.Book.{Entry, Contents, IsBook, AreValues, initial_of, active_of}
+use Rattle.palm_book.specs.Book.{Entry, Contents, IsBook, AreValues, initial_of, user_at, active_of}
 use Rattle.palm_book.specs.declared.book.BookCon.{BookCon}
 use Rattle.std.proofs.lemmas.List.Kept.{AllPairs-filter}
 use Rattle.std.proofs.lemmas.Bool.{lt-ltb}
 use Rattle.palm_base.specs.declared.terms.Cid.{Cid}
 use Rattle.palm_base.specs.declared.terms.Cid.TheVariants.{User}
 use Rattle.palm_model.specs.Log.{Active, Rises, cid_before, cids_of, cons_of}
-use Rattle.palm_session.specs.Actives.{active_at, actives_of}
 
 pub initial_ascend : (book : Contents) → IsBook book → AllAscend (initial_of book)
 initial_ascend book b =
     All-map Ascends (λ (e : Entry). e.values) book.variables
     (All-weaker (λ (e : Entry). AreValues e.values) (λ (e : Entry). Ascends e.values) (λ e h. h.ascend) book.variables b.values)
 
-pub active_formed : (book : Contents) → IsBook book → All (IsWellFormed (length book.variables)) (active_of book)
+-- the active constraints themselves
+pub same_cons : (cs : List BookCon) → cons_of (map user_at cs) ≡ map (λ (c : BookCon). c.con) cs
+same_cons [] = refl
+same_cons (c ∷ cs) = ap (λ (z : List Con). c.con ∷ z) (same_cons cs)
+
+pub active_cons : (book : Contents) → cons_of (active_of book) ≡ map (λ (c : BookCon). c.con) (filter (λ (c : BookCon). c.active) book.constraints)
+active_cons book = same_cons (filter (λ (c : BookCon). c.active) book.constraints)
+
+pub active_formed : (book : Contents) → IsBook book → All (IsWellFormed (length book.variables)) (cons_of (active_of book))
 active_formed book b =
-    All-map (IsWellFormed (length book.variables)) (λ (c : BookCon). c.con) (filter (λ c. c.active) book.constraints)
-    (All-filter (λ (c : BookCon). c.active) (λ (c : BookCon). IsWellFormed (length book.variables) c.con) book.constraints b.formed)
+    subst (λ (cs : List Con). All (IsWellFormed (length book.variables)) cs) (sym (active_cons book))
+    (All-map (IsWellFormed (length book.variables)) (λ (c : BookCon). c.con) (filter (λ c. c.active) book.constraints)
+    (All-filter (λ (c : BookCon). c.active) (λ (c : BookCon). IsWellFormed (length book.variables) c.con) book.constraints b.formed))
 
 map_both : (xs ys : List BookCon) → map (λ (c : BookCon). c.con) (xs ++ ys) ≡ map (λ (c : BookCon). c.con) xs ++ map (λ (c : BookCon). c.con) ys
 map_both [] ys = refl
@@ -58,19 +66,15 @@ active_same cs i e at off =
 
 -- ---- under their names
 
-names_rise : (cs : List BookCon) → AllPairs (λ (c d : BookCon). c.number < d.number) cs → Rises (cids_of (map active_at cs))
+names_rise : (cs : List BookCon) → AllPairs (λ (c d : BookCon). c.number < d.number) cs → Rises (cids_of (map user_at cs))
 names_rise [] p = tt
 names_rise (c ∷ cs) p =
     let later : All (λ (d : BookCon). cid_before (User c.number) (User d.number) ≡ true) cs
     = λ k d lt. lt-ltb c.number (get_or cs k d).number (p 0 (suc k) d (omega arith) (omega (arith, lt))) in (
-      All-map (λ (n : Cid). cid_before (User c.number) n ≡ true) (λ (a : Active). a.cid) (map active_at cs)
-          (All-map (λ (a : Active). cid_before (User c.number) a.cid ≡ true) active_at cs later),
+      All-map (λ (n : Cid). cid_before (User c.number) n ≡ true) (λ (a : Active). a.cid) (map user_at cs)
+          (All-map (λ (a : Active). cid_before (User c.number) a.cid ≡ true) user_at cs later),
       names_rise cs (λ i j d before within. p (suc i) (suc j) d (omega (arith, before)) (omega (arith, within))),
     )
 
-pub actives_rise : (book : Contents) → IsBook book → Rises (cids_of (actives_of book))
+pub actives_rise : (book : Contents) → IsBook book → Rises (cids_of (active_of book))
 actives_rise book b = names_rise (filter (λ (c : BookCon). c.active) book.constraints) (AllPairs-filter (λ (c d : BookCon). c.number < d.number) (λ (c : BookCon). c.active) book.constraints b.rising)
-
-pub same_cons : (cs : List BookCon) → cons_of (map active_at cs) ≡ map (λ (c : BookCon). c.con) cs
-same_cons [] = refl
-same_cons (c ∷ cs) = ap (λ (z : List Con). c.con ∷ z) (same_cons cs)
