@@ -1,5 +1,5 @@
 -- What a line changes: it can be done, in one way, and leaves what a session can hold in the midst of a line.
-use Rattle.std.proofs.Common.{◌≡◌, ◌≢◌, ℕ, ◌+◌, ◌<◌, ◌≤◌, ℤ, pos, negsuc, ◌+ℤ◌, ◌-ℤ◌, ◌≤ℤ◌, Bool, true, false, not, if◌then◌else◌, Option, Some, None, List, [], ◌∷◌, ◌++◌, length, map, filter, slice_get, remove, All, AllPairs, Any, Contains, ◌⊎◌, inl, inr, refl, sym, ap, ◌∙◌, subst, arith, length-append, get_or}
+use Rattle.std.proofs.Common.{◌≡◌, ◌≢◌, ℕ, ◌+◌, ◌<◌, ◌≤◌, ℤ, pos, negsuc, ◌+ℤ◌, ◌-ℤ◌, ◌≤ℤ◌, Bool, true, false, not, if◌then◌else◌, Some, None, List, [], ◌∷◌, ◌++◌, length, filter, slice_get, remove, All, AllPairs, Any, ◌⊎◌, inl, inr, refl, sym, ap, ◌∙◌, subst, arith, length-append, get_or}
 use Rattle.std.proofs.lemmas.Bool.{cases_Bool, cases_lt, false≢true}
 use Rattle.std.proofs.lemmas.Int.{ints}
 use Rattle.std.proofs.lemmas.List.{length-map, map-append}
@@ -10,14 +10,14 @@ use Rattle.palm_base.specs.declared.terms.Cid.TheVariants.{User}
 use Rattle.palm_base.proofs.Members.{Known, all_members, member_get, member_place, remove_member}
 use Rattle.palm_model.specs.declared.limits.TheConstants.{MOST_SCOPE}
 use Rattle.palm_model.specs.Constraint.{IsWellFormed}
-use Rattle.palm_model.specs.Domains.{Domains, is_among, values_of, without}
+use Rattle.palm_model.specs.Domains.{Domains, is_among, without}
 use Rattle.palm_model.specs.Limits.{IsValue}
 use Rattle.palm_model.specs.Log.{Active, IsActive, log_pairs}
 use Rattle.palm_model.specs.State.{EngineState, HasEmpty, IsEmptyAt, IsValid, present}
 use Rattle.palm_model.specs.Event.{Posts, Withdraws, Declares, posted, with_posted, without_names, gone_with}
 use Rattle.palm_model.specs.declared.constraint.Con.{Con}
 use Rattle.palm_model.proofs.Without.{length_without, values_of_without}
-use Rattle.palm_book.specs.Book.{Contents, Entry, IsBook, AreValues, user_at, active_of, with_active}
+use Rattle.palm_book.specs.Book.{Entry, IsBook, AreValues, user_at, active_of, with_active}
 use Rattle.palm_book.specs.Named.{Resolves}
 use Rattle.palm_book.specs.declared.book.BookCon.{BookCon}
 use Rattle.palm_book.specs.declared.limits.TheConstants.{MOST_VARIABLES, MOST_CONSTRAINTS, MOST_ADDED}
@@ -37,8 +37,8 @@ use Rattle.palm_events.proofs.Outcomes.{withdrawal_exists, withdrawal_same}
 use Rattle.palm_events.proofs.Valid.{declares_valid, posts_valid, withdraws_valid}
 use Rattle.palm_session.specs.State.{SessionState, IsHeld, IsState, HasConstraint, HasVariable}
 use Rattle.palm_session.specs.Refusals.{IsBuilt, IsUnknown, HasActive, Meets, in_order, IsNone}
-use Rattle.palm_session.specs.Effects.{with_engine, with_variable, with_constraint, with_active_at, without_constraint, next_constraint, IsNamed, WithdrawsWhere, WithdrawsActive, Changes, Next, Rests, Filters, next, unless_paused}
-use Rattle.palm_session.proofs.ActiveLists.{turned, turned_cases, active_member, active_added, active_enforced, active_relaxed, active_retracted, active_alike, relaxed_inactive, user_same}
+use Rattle.palm_session.specs.Effects.{with_engine, with_variable, with_constraint, with_active_at, without_constraint, next_constraint, IsNamed, WithdrawsWhere, WithdrawsActive, Changes, Rests, Filters, next, unless_paused}
+use Rattle.palm_session.proofs.ActiveLists.{turned_cases, active_member, active_added, active_enforced, active_relaxed, active_retracted, active_alike, relaxed_inactive, user_same}
 use Rattle.palm_session.proofs.Intervals.{are_values, narrow}
 use Rattle.palm_session.proofs.LawsOfLines.{name_known, constraint_once, constraint_with}
 use Rattle.palm_session.proofs.WellFormed.{well_formed}

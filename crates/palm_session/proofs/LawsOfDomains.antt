@@ -1,14 +1,14 @@
 -- What is printed of domains, explanations and conflicts is what the engine holds.
-use Rattle.std.proofs.Common.{◌≡◌, ◌↔◌, ℕ, zero, suc, ◌<◌, ◌≤◌, ℤ, Bool, true, false, List, [], ◌∷◌, length, Contains, inl, inr, refl, sym, ap, ◌∙◌, subst, arith}
+use Rattle.std.proofs.Common.{◌≡◌, ◌↔◌, ℕ, zero, suc, ◌≤◌, ℤ, true, false, List, [], ◌∷◌, length, Contains, inl, inr, refl, sym, ◌∙◌, subst, arith}
 use Rattle.std.proofs.lemmas.Bool.{false≢true}
 use Rattle.palm_base.specs.declared.terms.Pair.{Pair}
 use Rattle.palm_base.specs.declared.terms.Cid.{Cid}
 use Rattle.palm_base.proofs.Members.{member_nil, member_here, member_same}
 use Rattle.palm_model.specs.Domains.{Domains, Has, IsInside, values_of}
 use Rattle.palm_model.specs.Closure.{IsGreatest, Explains, IsConflict}
-use Rattle.palm_model.specs.Conflict.{InConflict, IsKeptConflict}
+use Rattle.palm_model.specs.Conflict.{InConflict}
 use Rattle.palm_model.specs.Log.{Active, IsActive, Named, Removal, Names, NamesOfPair, IsListOf, cons_of, log_pairs}
-use Rattle.palm_model.specs.State.{EngineState, HasEmpty, IsEmptyAt, present}
+use Rattle.palm_model.specs.State.{HasEmpty, IsEmptyAt, present}
 use Rattle.palm_model.proofs.Without.{pair_of, length_without}
 use Rattle.palm_laws.proofs.Solutions.{explains_more}
 use Rattle.palm_book.specs.Book.{initial_of, active_of}

@@ -1,5 +1,5 @@
 -- What an accepted line leaves is a state that a session can hold, and without an order object nothing else.
-use Rattle.std.proofs.Common.{◌≡◌, ℕ, ◌<◌, Bool, true, false, is_some, Option, Some, None, List, [], ◌∷◌, length, Contains, inl, inr, refl, sym, ap, ◌∙◌, subst, arith}
+use Rattle.std.proofs.Common.{◌≡◌, ℕ, Bool, true, false, is_some, Option, Some, None, List, [], length, Contains, inl, inr, refl, sym, ap, ◌∙◌, subst, arith}
 use Rattle.std.proofs.lemmas.Bool.{false≢true}
 use Rattle.std.proofs.lemmas.List.Elements.{All-nil}
 use Rattle.palm_base.proofs.Members.{Known}
@@ -15,7 +15,7 @@ use Rattle.palm_laws.proofs.Uniqueness.{greatest_unique}
 use Rattle.palm_events.specs.Along.{IsStill}
 use Rattle.palm_events.proofs.Reasons.{reasons_right}
 use Rattle.palm_events.proofs.Valid.{blank_valid}
-use Rattle.palm_engine.specs.Settling.{Revision, Settles, FitsOrder}
+use Rattle.palm_engine.specs.Settling.{Revision, FitsOrder}
 use Rattle.palm_engine.proofs.Settled.{settling_filters, settling_valid, settling_still, plainly_exists, plainly_same}
 use Rattle.palm_session.specs.State.{SessionState, IsHeld, IsState, fresh, AreDomains, has_empty, IsContradiction}
 use Rattle.palm_session.specs.Refusals.{IsBuilt, Meets, in_order, IsNone}

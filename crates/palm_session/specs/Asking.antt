@@ -6,7 +6,7 @@ use Rattle.palm_read.specs.Reading.{IsRead}
 use Rattle.palm_read.specs.declared.line.Line.{Line}
 use Rattle.palm_session.specs.State.{SessionState}
 use Rattle.palm_session.specs.Refusals.{Meets, IsNone, in_order}
-use Rattle.palm_session.specs.Effects.{Changes, Next, Filters, next}
+use Rattle.palm_session.specs.Effects.{Changes, Filters, next}
 use Rattle.palm_session.specs.Answers.{Answers}
 
 -- the line was accepted and filtering followed it, which took out what the log gained

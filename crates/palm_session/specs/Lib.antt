@@ -9,4 +9,5 @@ pub mod Replies
 pub mod ReplyText
 pub mod Serving
 pub mod State
+pub mod Told
 pub mod Writing

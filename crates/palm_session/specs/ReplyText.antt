@@ -12,7 +12,7 @@ use Rattle.palm_lang.specs.declared.reply.Refusal.{Refusal}
 use Rattle.palm_session.specs.declared.going.Going.{Going}
 use Rattle.palm_session.specs.declared.going.Going.TheVariants.{More}
 use Rattle.palm_session.specs.declared.reply.Reply.{Reply}
-use Rattle.palm_session.specs.declared.reply.Reply.TheVariants.{Nothing, Word, Refused, Ran, Domains, Domain, Listing, Log, Names}
+use Rattle.palm_session.specs.declared.reply.Reply.TheVariants.{Nothing, Word, Refused, Ran, Domains, Domain, Listing, Log, Users}
 
 -- the text of a reply to a line, by what is held after it
 abbrev pub reply_text : SessionState → Reply → List ℕ
@@ -24,12 +24,12 @@ reply_text s Domains = domains_text s.book.variables (present s.engine)
 reply_text s (Domain x) = domain_line (name_of s.book.variables x) (values_of (present s.engine) x)
 reply_text s Listing = list_text s.book
 reply_text s Log = log_text s.book s.engine.log
-reply_text s (Names lead names) = users_text s.book lead names
+reply_text s (Users lead names) = users_text s.book lead names
 
 -- what a reply is about is in the book
 abbrev pub ReplyFits : SessionState → Reply → Type 0
 ReplyFits s (Domain x) = x < length s.book.variables
-ReplyFits s (Names lead names) = All (IsUser s.book) names
+ReplyFits s (Users lead names) = All (IsUser s.book) names
 ReplyFits s _ = Unit {0}
 
 -- the refusal of a line that could not be read, after which the session goes on

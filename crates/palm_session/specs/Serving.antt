@@ -1,20 +1,21 @@
 -- What a desk is seen as, and what serving a line that was read does to it.
-use Rattle.std.specs.Prelude.{◌≡◌, ℕ, ℤ, ◌+◌, ◌-◌, ◌≤◌, min, Bool, true, List, [], ◌++◌, ◌⊎◌, Option, Some, slice_get}
+use Rattle.std.specs.Prelude.{◌≡◌, ℕ, ℤ, ◌+◌, ◌-◌, ◌≤◌, min, Bool, true, false, List, [], ◌++◌, ◌⊎◌, Option, None, Some, slice_get}
 use Rattle.palm_base.specs.declared.limits.TheConstants.{LAST_COUNT}
 use Rattle.palm_model.specs.Log.{Removal, log_pairs}
-use Rattle.palm_model.specs.State.{EngineState, IsValid, present}
+use Rattle.palm_model.specs.State.{EngineState, IsValid}
 use Rattle.palm_engine.specs.Engine.{View}
 use Rattle.palm_engine.specs.Work.{most_questions}
 use Rattle.palm_book.specs.Book.{Contents}
 use Rattle.palm_book.specs.declared.book.BookCon.{BookCon}
 use Rattle.palm_read.specs.declared.line.Line.{Line}
 use Rattle.palm_lang.specs.Reply.{fixed_text, refusal_text}
+use Rattle.palm_lang.specs.declared.reply.Fixed.{Fixed}
 use Rattle.palm_lang.specs.declared.reply.Fixed.TheVariants.{Contradiction, Paused}
 use Rattle.palm_lang.specs.declared.reply.Refusal.{Refusal}
 use Rattle.palm_session.specs.State.{SessionState, IsContradiction, fresh}
 use Rattle.palm_session.specs.Refusals.{IsFirst, IsNone, Meets, in_order}
 use Rattle.palm_session.specs.Effects.{Effect, Changes, Next, Rests, Filters, SettlesIn, Follows, next, with_engine}
-use Rattle.palm_session.specs.Answers.{Accepts, SaysWhy}
+use Rattle.palm_session.specs.Answers.{Accepts}
 
 -- what a desk holds, and how often its engine has asked for support
 pub record DeskView : Type 0 where
@@ -76,7 +77,19 @@ TellsDomains s IsOwn text =
 
 -- `paused` where filtering waits, and else a text as it is wanted
 abbrev pub TellsUnlessPaused : SessionState → (List ℕ → Type 0) → List ℕ → Type 0
-TellsUnlessPaused s IsOwn text = ((s.paused ≡ true) × (text ≡ fixed_text Paused)) ⊎ ((s.paused ≡ true → ⊥) × IsOwn text)
+TellsUnlessPaused s IsOwn text = ((s.paused ≡ true) × (text ≡ fixed_text Paused)) ⊎ ((s.paused ≡ false) × IsOwn text)
+
+-- the word in place of what domains say
+abbrev pub Withholds : SessionState → Option Fixed → Type 0
+Withholds s None = (s.paused ≡ false) × (IsContradiction s → ⊥)
+Withholds s (Some Paused) = s.paused ≡ true
+Withholds s (Some Contradiction) = IsContradiction s
+Withholds s (Some _) = ⊥
+
+-- a text as it is wanted, or the word in its place
+pub data TellsOpenly (s : SessionState) (IsOwn : List ℕ → Type 0) (text : List ℕ) : Type 0 where
+  tells_word : (word : Fixed) → Withholds s (Some word) → text ≡ fixed_text word → TellsOpenly s IsOwn text
+  tells_own : Withholds s None → IsOwn text → TellsOpenly s IsOwn text
 
 -- what serving a line that was read does: its first refusal changes nothing, and without one it is accepted
 pub data Serves : SessionState → Line → List ℕ → SessionState → Type 0 where
@@ -90,9 +103,3 @@ pub record StandsAt (s : SessionState) (place : ℕ) (active : Bool) : Type 0 wh
   pub constraint : BookCon
   pub at : slice_get s.book.constraints place ≡ Some constraint
   pub is : constraint.active ≡ active
-
--- ---- explanations
-
--- `present` where the value is present, and else the explanation that the log keeps
-abbrev pub Explains : SessionState → ℕ → ℤ → List ℕ → Type 0
-Explains s x value reply = SaysWhy s (present s.engine) x value reply

@@ -42,7 +42,7 @@ pub fn deliver<K: Sink>(
         Reply::Domain(var) => write_one_domain(desk, *var, out, buffer),
         Reply::Listing => write_list(desk.book(), out, buffer),
         Reply::Log => write_log(desk, out, buffer),
-        Reply::Names { lead, names } => write_names(desk.book(), *lead, names, out, buffer),
+        Reply::Users { lead, names } => write_names(desk.book(), *lead, names, out, buffer),
     }
 }
 

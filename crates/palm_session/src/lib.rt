@@ -9,6 +9,7 @@ mod going;
 mod laws;
 mod limits;
 mod lines;
+mod printed;
 mod questions;
 mod refuse;
 mod reply;
@@ -25,5 +26,9 @@ pub use laws::{
     no_line_has_two_answers, states_stay, the_first_bytes_decide, the_first_bytes_end,
 };
 pub use limits::MOST_KEPT_BYTES;
+pub use printed::{
+    adding_and_retracting_gives_back_the_domains, contradictions_are_empty_domains,
+    kept_conflicts_conflict, kept_explanations_explain, printed_domains_are_the_engines,
+};
 pub use session::Session;
 pub use stop::Stop;

@@ -1,9 +1,11 @@
 //! Lines that ask: they change nothing.
-ghost use Rattle.std.specs.Prelude.{◌≡◌, ◌<◌, length, IfOk};
+ghost use Rattle.std.specs.Prelude.{◌≡◌, IfOk};
 ghost use Rattle.palm_model.specs.Domains.{Has};
+ghost use Rattle.palm_model.specs.State.{present};
+ghost use Rattle.palm_session.specs.Answers.{SaysWhy};
 ghost use Rattle.palm_session.specs.ReplyText.{reply_text, ReplyFits};
-ghost use Rattle.palm_session.specs.Serving.{Explains, Serves, TellsDomains, TellsUnlessPaused};
-ghost use Rattle.palm_session.specs.State.{IsState};
+ghost use Rattle.palm_session.specs.Serving.{Serves, TellsOpenly, TellsUnlessPaused, Withholds};
+ghost use Rattle.palm_session.specs.State.{IsHeld, IsState};
 
 use crate::desk::Desk;
 use crate::reply::Reply;
@@ -24,20 +26,31 @@ impl Desk {
         }
     }
 
-    /// The reply of a line's own, or `paused` where filtering waits, or `contradiction` where some variable has no value.
-    pub fn unless_empty(&self, own: Reply) -> Reply
-        requires state { IsState self.now.state }
-        requires fits { ReplyFits self.now.state own }
-        ensures tells { TellsUnlessPaused self.now.state
-            (λ text. TellsDomains self.now.state (λ said. said ≡ reply_text self.now.state own) text) (reply_text self.now.state result) }
-        ensures fits { ReplyFits self.now.state result }
+    /// The word in place of what domains say: `paused` where filtering waits, `contradiction` where some variable has no
+    /// value.
+    fn withheld(&self) -> Option<Fixed>
+        requires { IsState self.now.state }
+        ensures { Withholds self.now.state result }
     {
         if self.paused {
-            Reply::Word(Fixed::Paused)
+            Some(Fixed::Paused)
         } else if self.is_contradiction() {
-            Reply::Word(Fixed::Contradiction)
+            Some(Fixed::Contradiction)
         } else {
-            own
+            None
+        }
+    }
+
+    /// The reply of a line's own, unless domains are withheld.
+    pub fn unless_withheld(&self, own: Reply) -> Reply
+        requires state { IsState self.now.state }
+        requires fits { ReplyFits self.now.state own }
+        ensures tells { TellsOpenly self.now.state (λ text. text ≡ reply_text self.now.state own) (reply_text self.now.state result) }
+        ensures fits { ReplyFits self.now.state result }
+    {
+        match self.withheld() {
+            Some(word) => Reply::Word(word),
+            None => own,
         }
     }
 
@@ -48,7 +61,7 @@ impl Desk {
         ensures fits { ReplyFits self.now.state result }
     {
         match self.book.variable_named(name) {
-            Some(var) => self.unless_empty(Reply::Domain(var)),
+            Some(var) => self.unless_withheld(Reply::Domain(var)),
             None => Reply::Refused(Refusal::E4),
         }
     }
@@ -65,16 +78,17 @@ impl Desk {
         if !self.engine.store().declared(Pair { var, value }) {
             return Ok(Reply::Refused(Refusal::E12));
         }
-        let own = self.why(Pair { var, value })?;
-        Ok(self.unless_empty(own))
+        match self.withheld() {
+            Some(word) => Ok(Reply::Word(word)),
+            None => self.why(Pair { var, value }),
+        }
     }
 
     /// `present`, or the constraints of the kept explanation of a removed pair.
     fn why(&self, pair: Pair) -> Result<Reply, NoMemory>
-        requires state { IsState self.now.state }
-        requires variable { pair.var < length self.now.state.book.variables }
+        requires held { IsHeld self.now.state }
         requires declared { Has self.now.state.engine.initial pair.var pair.value }
-        ensures explains { IfOk result (λ reply. Explains self.now.state pair.var pair.value (reply_text self.now.state reply)) }
+        ensures tells { IfOk result (λ reply. SaysWhy self.now.state (present self.now.state.engine) pair.var pair.value (reply_text self.now.state reply)) }
         ensures fits { IfOk result (ReplyFits self.now.state) }
     {
         let Pair { var, value } = pair;
@@ -84,7 +98,7 @@ impl Desk {
         }
         let mut names = CidList::new(self.alloc);
         log.explanation(Pair { var, value }, &mut names)?;
-        Ok(Reply::Names {
+        Ok(Reply::Users {
             lead: Lead::Because,
             names,
         })
@@ -104,7 +118,7 @@ impl Desk {
         }
         let mut names = CidList::new(self.alloc);
         self.engine.conflict(&mut names)?;
-        Ok(Reply::Names {
+        Ok(Reply::Users {
             lead: Lead::Conflict,
             names,
         })

@@ -22,5 +22,5 @@ pub enum Reply {
     /// The removals.
     Log,
     /// The names of users' constraints behind a word.
-    Names { lead: Lead, names: CidList },
+    Users { lead: Lead, names: CidList },
 }

@@ -55,7 +55,7 @@ impl Desk {
             Line::Relax(name) => self.serve_relax(&name, steps),
             Line::Enforce(name) => self.serve_enforce(&name, steps),
             Line::Retract(name) => self.serve_retract(&name, steps),
-            Line::Domains => Ok(self.unless_empty(Reply::Domains)),
+            Line::Domains => Ok(self.unless_withheld(Reply::Domains)),
             Line::Domain(name) => Ok(self.serve_domain(&name)),
             Line::List => Ok(Reply::Listing),
             Line::Log => Ok(self.unless_paused(Reply::Log)),
