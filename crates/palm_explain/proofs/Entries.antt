@@ -1,7 +1,7 @@
 -- The causes of removed pairs by pair and by place, and what their explanations list.
-use Rattle.std.proofs.Common.{◌≡◌, ℕ, zero, suc, ◌+◌, ◌<◌, Bool, true, false, cond, List, [], ◌∷◌, ◌++◌, length, map, get_or, take, drop, slice_get, position, Contains, All, Option, Some, None, MatchOption, is_some, ◌⊎◌, inl, inr, refl, sym, ap, ◌∙◌, subst, arith, true≢false}
+use Rattle.std.proofs.Common.{◌≡◌, ℕ, zero, suc, ◌+◌, ◌<◌, ◌≤◌, Bool, true, false, cond, List, [], ◌∷◌, ◌++◌, length, map, get_or, take, drop, slice_get, position, Contains, All, Option, Some, None, Result, Ok, Err, OnOk, OnErr, not, MatchOption, is_some, ◌⊎◌, inl, inr, refl, sym, ap, ◌∙◌, subst, arith, true≢false}
 use Rattle.std.specs.Map.{lookup}
-use Rattle.std.proofs.lemmas.List.{take_more, map-append}
+use Rattle.std.proofs.lemmas.List.{take_more, map-append, length-append}
 use Rattle.std.proofs.lemmas.List.Elements.{All-contains, Contains-append_left, Contains-push, Contains-push_cases}
 use Rattle.std.proofs.lemmas.List.Quantifiers.{position-Some}
 use Rattle.std.proofs.lemmas.Option.{slice_get-get_or}
@@ -9,12 +9,12 @@ use Rattle.palm_base.specs.Tells.{Tells}
 use Rattle.palm_base.specs.declared.terms.Pair.{Pair}
 use Rattle.palm_base.specs.declared.terms.Cid.{Cid}
 use Rattle.palm_base.specs.contracts.terms.PairPartialEq.TheImpl.{eq-value}
-use Rattle.palm_base.proofs.Members.{member_nil, member_here, member_there, member_cases, member_same, member_map, member_unmap, member_take_more, all_members}
-use Rattle.palm_model.specs.Log.{Removal, Names, NamesOfPair, Rises, IsListOf, log_pairs}
-use Rattle.palm_events.proofs.Names.{pair_same, same_pair_itself}
+use Rattle.palm_base.proofs.Members.{member_nil, member_here, member_there, member_cases, member_same, member_map, member_unmap, member_get, member_take_more, all_members}
+use Rattle.palm_model.specs.Log.{Removal, Names, NamesOfPair, Rises, IsListOf, is_named, log_pairs}
+use Rattle.palm_events.proofs.Names.{pair_same, same_pair_itself, member_named, member_not_named}
 use Rattle.palm_explain.specs.declared.causes.Cause.{Cause}
 use Rattle.palm_explain.specs.Causes.{AreExplained, IsMerged, log_of, removal_of}
-use Rattle.palm_explain.specs.Explanations.{IsLink, IsLinked, NamesOfNext, log_bys, reasons_of}
+use Rattle.palm_explain.specs.Explanations.{Explanations, IsLink, IsLinked, NamesOfNext, log_bys, reasons_of}
 use Rattle.palm_explain.proofs.Linked.{linked_push}
 use Rattle.palm_explain.proofs.Naming.{listed_like, names_pair, pair_names, names_before_push, names_after_push, next_named, named_next}
 
@@ -100,6 +100,11 @@ entry_place [] i k v at is = cc
 entry_place (e ∷ es) zero k v at is = let f : e.1 ≡ v = cc in let g : e.0 ≡ k = sym is in λ i. Some (g i, f i)
 entry_place (e ∷ es) (suc i) k v at is = entry_place es i k v at is
 
+pub cause_entry : (es : List (Pair × Cause)) (i : ℕ) (v : Cause) → slice_get (causes_in es) i ≡ Some v → (k : Pair) × (slice_get es i ≡ Some (k, v))
+cause_entry [] i v at = cc
+cause_entry (e ∷ es) zero v at = let f : e.1 ≡ v = cc in (e.0, λ i. Some (e.0, f i))
+cause_entry (e ∷ es) (suc i) v at = cause_entry es i v at
+
 -- ---- explanations
 
 pub explained_rises : (es : List (Pair × Cause)) → AreExplained es → (e : Pair × Cause) → Contains es e → Rises e.1.explanation
@@ -179,3 +184,49 @@ entered_explained es k v linked link explained list =
       | inr f ↦ subst (λ z. IsListOf (λ c. Names (log ++ r ∷ []) c (removal_of z)) z.1.explanation) f
           (listed_like (NamesOfNext log v.by v.reasons.items) (λ c. Names (log ++ r ∷ []) c r) v.explanation (next_named log r) (named_next log r linked link) list)
     ]))
+
+-- the explanation of a cause rises
+pub cause_rises : (es : List (Pair × Cause)) → AreExplained es → (i : ℕ) (v : Cause) → slice_get (causes_in es) i ≡ Some v → Rises v.explanation
+cause_rises es explained i v at =
+    let e = member_unmap (λ (z : Pair × Cause). z.1) es v (member_get (causes_in es) i v at) in
+    subst (λ (z : Cause). Rises z.explanation) e.2 (explained_rises es explained e.0 e.1)
+
+-- what the opposite of the test is
+pub told_not_named : (b : Bool) (names : List Cid) (c : Cid) → Tells b (Contains names c) → not b ≡ not (is_named names c)
+told_not_named true names c m = ap not (sym (member_named names c m))
+told_not_named false names c n = sym (member_not_named names c n)
+
+-- ---- entering
+
+pub ok_then : {T E : Type 0} (r : Result T E) (P Q : Type 0) → (P → Q) → OnOk r P → OnOk r Q
+ok_then (Ok x) P Q f h = f h
+ok_then (Err e) P Q f h = tt
+
+pub ok_or_err : {T E : Type 0} (r : Result T E) (P Q : Type 0) → OnOk r P → OnErr r Q → P ⊎ Q
+ok_or_err (Ok x) P Q p q = inl p
+ok_or_err (Err e) P Q p q = inr q
+
+-- with one more cause or with none the causes are as they should be, and there is room for them
+pub entered_whole : (es later : List (Pair × Cause)) (k : Pair) (v : Cause) (reasons : List Pair) (spare : ℕ) → IsLinked (log_of es) → AreExplained es
+    → (Contains (log_pairs (log_of es)) k → ⊥) → ((p : Pair) → Contains reasons p → Contains (log_pairs (log_of es)) p) → v.reasons.items ≡ reasons
+    → IsListOf (NamesOfNext (log_of es) v.by reasons) v.explanation → length es + 1 ≤ spare → (later ≡ es ++ (k, v) ∷ []) ⊎ (later ≡ es)
+    → IsLinked (log_of later) × AreExplained later × (length later ≤ spare)
+entered_whole es later k v reasons spare linked explained fresh earlier same list room is =
+    let link : IsLink (log_of es) (removal_of (k, v)) = record { fresh = fresh; reasons = λ p m. earlier p (subst (λ l. Contains l p) same m) } in
+    let list' = subst (λ l. IsListOf (NamesOfNext (log_of es) v.by l) v.explanation) (sym same) list in
+    elim is [
+      | inl e ↦ (
+        subst (λ l. IsLinked (log_of l)) (sym e) (entered_linked es k v linked link),
+        subst AreExplained (sym e) (entered_explained es k v linked link explained list'),
+        let a = ap length e in let b = length-append es ((k, v) ∷ []) in omega (arith, a, b, room),
+      )
+      | inr e ↦ (subst (λ l. IsLinked (log_of l)) (sym e) linked, subst AreExplained (sym e) explained, let a = ap length e in omega (arith, a, room))
+    ]
+
+pub entered_view : (s : Explanations) (es later : List (Pair × Cause)) (k : Pair) (v : Cause) (reasons : List Pair) (vars after : List ℕ)
+    → record { log = log_of es; restored = vars } ≡ s → after ≡ vars → v.reasons.items ≡ reasons → later ≡ es ++ (k, v) ∷ []
+    → record { log = log_of later; restored = after } ≡ record s { log = s.log ++ record { pair = k; by = v.by; reasons = reasons } ∷ [] }
+entered_view s es later k v reasons vars after view unchanged same is =
+    let log : log_of later ≡ s.log ++ record { pair = k; by = v.by; reasons = reasons } ∷ [] =
+    ap log_of is ∙ entered_log es k v ∙ ap (λ (z : Explanations). z.log ++ removal_of (k, v) ∷ []) view ∙ ap (λ l. s.log ++ record { pair = k; by = v.by; reasons = l } ∷ []) same in
+    let restored : after ≡ s.restored = unchanged ∙ ap (λ (z : Explanations). z.restored) view in λ i. record { log = log i; restored = restored i }

@@ -4,3 +4,5 @@ mod Withdrawn
 mod Rising
 mod Entries
 mod PuttingBack
+mod Keeping
+mod Taking

@@ -1,9 +1,9 @@
 -- Pairs that come back, one place after another, and the variables that are noted.
-use Rattle.std.proofs.Common.{◌≡◌, ℕ, zero, suc, ◌+◌, ◌<◌, ◌≤◌, ℤ, Bool, true, false, not, cond, List, [], ◌∷◌, ◌++◌, length, map, filter, take, drop, fold, slice_get, Contains, Some, ◌⊎◌, inl, inr, refl, sym, ap, ◌∙◌, subst, arith, nat_eq, eqb-true, eq-eqb}
+use Rattle.std.proofs.Common.{◌≡◌, ℕ, zero, suc, ◌+◌, ◌<◌, ◌≤◌, ℤ, Bool, true, false, not, cond, List, [], ◌∷◌, ◌++◌, length, map, filter, get_or, take, drop, fold, slice_get, Contains, Some, ◌⊎◌, inl, inr, refl, sym, ap, ◌∙◌, subst, arith, nat_eq, eqb-true, eq-eqb}
 use Rattle.std.specs.List.{list_any}
 use Rattle.indexmap.specs.IndexSet.{insert_all, insert_key}
 use Rattle.std.proofs.lemmas.Bool.{cases_Bool, false≢true, not-true}
-use Rattle.std.proofs.lemmas.List.{map-append, length-append, length-map, length-take-le, take-append-drop}
+use Rattle.std.proofs.lemmas.List.{map-append, length-append, length-map, length-take-le, take-append-drop, take_all}
 use Rattle.std.proofs.lemmas.List.Elements.{filter-append, Contains-append_left, Contains-append_right, Contains-append_cases, Contains-push, Contains-push_cases}
 use Rattle.std.proofs.lemmas.List.Filters.{length-filter_both}
 use Rattle.std.proofs.lemmas.List.Sums.{fold-append}
@@ -20,44 +20,46 @@ use Rattle.palm_model.proofs.Supports.{any_member, member_any}
 use Rattle.palm_events.proofs.Logs.{logged, pair_logged}
 use Rattle.palm_events.proofs.Names.{named_member, member_named}
 use Rattle.palm_explain.specs.declared.causes.Cause.{Cause}
-use Rattle.palm_explain.specs.Causes.{HasBack, is_lost, kept_of, log_of, lost_at, lost_of, removal_of}
+use Rattle.palm_explain.specs.Causes.{HasBack, rests_on, kept_of, log_of, lost_at, lost_of, removal_of}
 use Rattle.palm_explain.specs.Explanations.{AreLinked, IsLinked, LacksExactly}
 use Rattle.palm_explain.proofs.Linked.{later_fresh, linked_later}
-use Rattle.palm_explain.proofs.Entries.{entry_logged}
+use Rattle.palm_explain.proofs.Entries.{pairs_in, causes_in, entry_logged, entry_place, cause_entry}
 
 -- ---- lost pairs
 
 pub lost_append : (cid : Cid) (xs ys : List (Pair × Cause)) → lost_of cid (xs ++ ys) ≡ lost_of cid xs ++ lost_of cid ys
-lost_append cid xs ys = ap (λ l. map (λ (e : Pair × Cause). e.0) l) (filter-append (is_lost cid) xs ys) ∙ map-append (λ (e : Pair × Cause). e.0) (filter (is_lost cid) xs) (filter (is_lost cid) ys)
+lost_append cid xs ys = ap (λ l. map (λ (e : Pair × Cause). e.0) l) (filter-append (rests_on cid) xs ys) ∙ map-append (λ (e : Pair × Cause). e.0) (filter (rests_on cid) xs) (filter (rests_on cid) ys)
 
-take_next : {X : Type 0} (i : ℕ) (xs : List X) → take (i + 1) xs ≡ take i xs ++ take 1 (drop i xs)
+take_next : {X : Type 0} (i : ℕ) (xs : List X) → take (suc i) xs ≡ take i xs ++ take 1 (drop i xs)
 take_next zero xs = refl
 take_next (suc i) [] = refl
 take_next (suc i) (x ∷ xs) = ap (λ l. x ∷ l) (take_next i xs)
 
 lost_next : (cid : Cid) (es : List (Pair × Cause)) (i : ℕ) → lost_of cid (take (i + 1) es) ≡ lost_of cid (take i es) ++ lost_at cid es i
-lost_next cid es i = ap (lost_of cid) (take_next i es) ∙ lost_append cid (take i es) (take 1 (drop i es))
+lost_next cid es i =
+    let e : i + 1 ≡ suc i = omega arith in
+    ap (λ n. lost_of cid (take n es)) e ∙ ap (lost_of cid) (take_next i es) ∙ lost_append cid (take i es) (take 1 (drop i es))
 
 -- a lost pair is that of an entry whose explanation holds the name
 pub lost_entry : (cid : Cid) (es : List (Pair × Cause)) (p : Pair) → Contains (lost_of cid es) p → (e : Pair × Cause) × Contains es e × (e.0 ≡ p) × Contains e.1.explanation cid
 lost_entry cid es p m =
-    let e = member_unmap (λ (z : Pair × Cause). z.0) (filter (is_lost cid) es) p m in
-    let k = filter_member (is_lost cid) es e.0 e.1 in
+    let e = member_unmap (λ (z : Pair × Cause). z.0) (filter (rests_on cid) es) p m in
+    let k = filter_member (rests_on cid) es e.0 e.1 in
     (e.0, k.0, e.2, named_member e.0.1.explanation cid k.1)
 
 pub entry_lost : (cid : Cid) (es : List (Pair × Cause)) (e : Pair × Cause) → Contains es e → Contains e.1.explanation cid → Contains (lost_of cid es) e.0
-entry_lost cid es e m named = member_map (λ (z : Pair × Cause). z.0) (filter (is_lost cid) es) e (member_filter (is_lost cid) es e m (member_named e.1.explanation cid named))
+entry_lost cid es e m named = member_map (λ (z : Pair × Cause). z.0) (filter (rests_on cid) es) e (member_filter (rests_on cid) es e m (member_named e.1.explanation cid named))
 
 lost_few : (cid : Cid) (es : List (Pair × Cause)) → length (lost_of cid es) ≤ length es
 lost_few cid es =
-    let a = length-map (filter (is_lost cid) es) (λ (e : Pair × Cause). e.0) in
-    let b = length-filter_both (is_lost cid) (λ e. not (is_lost cid e)) (λ e. refl) es in omega (arith, a, b)
+    let a = length-map (filter (rests_on cid) es) (λ (e : Pair × Cause). e.0) in
+    let b = length-filter_both (rests_on cid) (λ e. not (rests_on cid e)) (λ e. refl) es in omega (arith, a, b)
 
 -- what stays and what is lost are all
 pub kept_and_lost : (cid : Cid) (es : List (Pair × Cause)) → length (kept_of cid es) + length (lost_of cid es) ≡ length es
 kept_and_lost cid es =
-    let a = length-map (filter (is_lost cid) es) (λ (e : Pair × Cause). e.0) in
-    let b = length-filter_both (is_lost cid) (λ e. not (is_lost cid e)) (λ e. refl) es in omega (arith, a, b)
+    let a = length-map (filter (rests_on cid) es) (λ (e : Pair × Cause). e.0) in
+    let b = length-filter_both (rests_on cid) (λ e. not (rests_on cid e)) (λ e. refl) es in omega (arith, a, b)
 
 taken_one : {X : Type 0} (xs : List X) (i : ℕ) (x : X) → slice_get xs i ≡ Some x → take 1 (drop i xs) ≡ x ∷ []
 taken_one [] i x at = cc
@@ -75,6 +77,15 @@ none_lost_here cid es i e at free =
   where
     not_named : (names : List Cid) (c : Cid) → (Contains names c → ⊥) → is_named names c ≡ false
     not_named names c n = elim (cases_Bool (is_named names c)) [ inl t ↦ absurd (n (named_member names c t)) | inr f ↦ f ]
+
+-- the same where the pair and the cause are read apart
+pub lost_there : (cid : Cid) (es : List (Pair × Cause)) (i : ℕ) (k : Pair) (v : Cause) (pairs : List Pair) → pairs ≡ pairs_in es → k ≡ get_or pairs i k → slice_get (causes_in es) i ≡ Some v
+    → Contains v.explanation cid → lost_at cid es i ≡ k ∷ []
+lost_there cid es i k v pairs all is at named =
+    lost_here cid es i (k, v) (entry_place es i k v at (is ∙ ap (λ l. get_or l i k) all)) named
+
+pub none_lost_there : (cid : Cid) (es : List (Pair × Cause)) (i : ℕ) (v : Cause) → slice_get (causes_in es) i ≡ Some v → (Contains v.explanation cid → ⊥) → lost_at cid es i ≡ []
+none_lost_there cid es i v at free = let e = cause_entry es i v at in none_lost_here cid es i (e.0, v) e.1 free
 
 -- ---- pairs that are back
 
@@ -115,10 +126,10 @@ back_then before middle after ps qs one two = record {
 -- ---- below a place
 
 -- the lost pairs of the places below this one are back, their variables are noted, and there is room for the others
-pub record IsBackBelow (cid : Cid) (es : List (Pair × Cause)) (before now : List Row) (old keys : List ℕ) (room place : ℕ) : Type 0 where
+pub record IsBackBelow (cid : Cid) (es : List (Pair × Cause)) (before now : List Row) (old keys : List ℕ) (spare place : ℕ) : Type 0 where
   pub back : HasBack before now (lost_of cid (take place es))
   pub noted : keys ≡ insert_all nat_eq old (vars_of (lost_of cid (take place es)))
-  pub room : length es ≤ room + length (lost_of cid (take place es))
+  pub room : length es ≤ spare + length (lost_of cid (take place es))
 
 pub back_below_next : (cid : Cid) (es : List (Pair × Cause)) (before middle now : List Row) (old keys later : List ℕ) (room spare place : ℕ)
     → IsBackBelow cid es before middle old keys room place → HasBack middle now (lost_at cid es place) → later ≡ insert_all nat_eq keys (vars_of (lost_at cid es place))
@@ -134,6 +145,10 @@ back_below_next cid es before middle now old keys later room spare place below b
           let more = length-append some here in
           let all = ap length next in omega (arith, below.room, fits, more, all);
     }
+
+-- past the last place all lost pairs are back
+pub back_below_all : (cid : Cid) (es : List (Pair × Cause)) (before now : List Row) (old keys : List ℕ) (room place : ℕ) → IsBackBelow cid es before now old keys room place → length es ≤ place → HasBack before now (lost_of cid es)
+back_below_all cid es before now old keys room place below le = subst (λ l. HasBack before now (lost_of cid l)) (take_all place es le) below.back
 
 -- there is room for one more
 pub back_below_room : (cid : Cid) (es : List (Pair × Cause)) (before now : List Row) (old keys : List ℕ) (room place : ℕ) → IsBackBelow cid es before now old keys room place → place < length es → 0 < room

@@ -97,7 +97,7 @@ two_lost log middle left first then one two p m = elim m [
 ]
 
 -- a removal is lost or stays
-lost_or_left : (log : List Removal) (gone : List Cid) (rest left : List Removal) → Loses log gone rest left → (r : Removal) → Contains rest r → NamesSome log gone r ⊎ Contains left r
+pub lost_or_left : (log : List Removal) (gone : List Cid) (rest left : List Removal) → Loses log gone rest left → (r : Removal) → Contains rest r → NamesSome log gone r ⊎ Contains left r
 lost_or_left log gone _ _ none_left r m = absurd (member_nil r m)
 lost_or_left log gone _ _ (is_lost s rest left names loses) r m = elim (member_cases s rest r m) [
   | inl e ↦ inl (subst (λ z. NamesSome log gone z) e names)

@@ -29,13 +29,13 @@ pub record IsMerged (names more merged : List Cid) : Type 0 where
 
 -- ---- withdrawing
 
--- whether the explanation holds the name
-abbrev pub is_lost : Cid → Pair × Cause → Bool
-is_lost cid e = is_named e.1.explanation cid
+-- whether the removal rests on the constraint: its explanation holds the name
+abbrev pub rests_on : Cid → Pair × Cause → Bool
+rests_on cid e = is_named e.1.explanation cid
 
 -- the pairs whose explanations hold the name
 abbrev pub lost_of : Cid → List (Pair × Cause) → List Pair
-lost_of cid entries = map (λ e. e.0) (filter (is_lost cid) entries)
+lost_of cid entries = map (λ e. e.0) (filter (rests_on cid) entries)
 
 -- the pair at the place, where its explanation holds the name
 abbrev pub lost_at : Cid → List (Pair × Cause) → ℕ → List Pair
@@ -43,7 +43,7 @@ lost_at cid entries place = lost_of cid (take 1 (drop place entries))
 
 -- what stays when the name goes
 abbrev pub kept_of : Cid → List (Pair × Cause) → List (Pair × Cause)
-kept_of cid entries = filter (λ e. not (is_lost cid e)) entries
+kept_of cid entries = filter (λ e. not (rests_on cid e)) entries
 
 -- exactly these pairs have come back
 pub record HasBack (before after : List Row) (pairs : List Pair) : Type 0 where

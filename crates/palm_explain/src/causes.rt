@@ -1,10 +1,10 @@
 //! Why each pair was removed.
-ghost use Rattle.std.specs.Prelude.{◌≡◌, ◌+◌, ◌<◌, ◌≤◌, length, nat_eq, Contains, IfOk};
+ghost use Rattle.std.specs.Prelude.{◌≡◌, ◌+◌, ◌<◌, ◌≤◌, [], ◌∷◌, ◌++◌, not, length, nat_eq, Contains, IfOk, OnOk, OnErr};
 ghost use Rattle.indexmap.specs.IndexSet.{insert_all, insert_key, spare};
 ghost use Rattle.palm_base.specs.Tells.{Tells};
-ghost use Rattle.palm_domain.specs.Rows.{IsDeclared, IsPresent};
+ghost use Rattle.palm_domain.specs.Rows.{IsDeclared, IsPresent, initial_of};
 ghost use Rattle.palm_model.specs.Event.{vars_of};
-ghost use Rattle.palm_model.specs.Log.{Rises, IsListOf, log_pairs};
+ghost use Rattle.palm_model.specs.Log.{Rises, IsListOf, is_named, log_pairs};
 ghost use Rattle.palm_explain.specs.Causes.{AreExplained, HasBack, kept_of, log_of, lost_at, lost_of};
 ghost use Rattle.palm_explain.specs.Explanations.{IsLinked, LacksExactly, NamesOfNext};
 
@@ -34,6 +34,16 @@ impl Cause {
     {
         has_name(self.explanation.as_slice(), cid)
     }
+}
+
+/// Adds the cause of a pair behind the others; without memory nothing changes.
+pub(crate) fn push_cause(causes: &mut Causes, pair: Pair, cause: Cause) -> Result<(), NoMemory>
+    requires { Contains (log_pairs (log_of causes.old.entries)) pair → ⊥ }
+    ensures ok { OnOk result (causes.new.entries ≡ causes.old.entries ++ (pair, cause) ∷ []) }
+    ensures err { OnErr result (causes.new.entries ≡ causes.old.entries) }
+{
+    causes.insert(pair, cause)?;
+    Ok(())
 }
 
 /// All constraints on which a removal rests that this constraint makes for these reasons.
@@ -67,7 +77,8 @@ pub(crate) fn put_back(
     requires explained { AreExplained causes.now.entries }
     requires lacks { LacksExactly store.old (log_pairs (log_of causes.now.entries)) }
     requires room { length causes.now.entries ≤ spare restored.old }
-    ensures back { HasBack store.old store.new (lost_of cid.now causes.now.entries) }
+    ensures initial { initial_of store.new ≡ initial_of store.old }
+    ensures lacks { LacksExactly store.new (log_pairs (log_of (kept_of cid.now causes.now.entries))) }
     ensures noted { restored.new.keys
         ≡ insert_all nat_eq restored.old.keys (vars_of (lost_of cid.now causes.now.entries)) }
     ensures room { length causes.now.entries
@@ -76,6 +87,7 @@ pub(crate) fn put_back(
     for place in 0..causes.len() {
         put_back_at(causes, place, cid, store, restored);
     }
+    let _ = store.variables();
 }
 
 /// Puts the pair at a place back, where its removal rests on the constraint, and notes its variable.
@@ -99,8 +111,9 @@ fn put_back_at(
 {
     let pairs = causes.keys().as_slice();
     if causes[place].names(cid) {
-        store.put_back(pairs[place]);
-        note(restored, pairs[place].var);
+        let pair = &pairs[place];
+        store.put_back(*pair);
+        note(restored, pair.var);
     }
 }
 
@@ -114,6 +127,7 @@ fn note(restored: &mut IndexSet<Var>, var: Var)
 }
 
 /// Takes each removal out that rests on the constraint; the others keep their order.
+#[tactic(auto, using(crate::proofs::Entries::told_not_named))]
 pub(crate) fn take_out(causes: &mut Causes, cid: &Cid)
     requires { AreExplained causes.old.entries }
     ensures { causes.new.entries ≡ kept_of cid.now causes.old.entries }
@@ -121,7 +135,7 @@ pub(crate) fn take_out(causes: &mut Causes, cid: &Cid)
     causes.retain(
         |_pair: &Pair, cause: &mut Cause| -> bool
             requires { Rises cause.old.explanation }
-            ensures { Tells result (Contains cause.old.explanation cid.entry.now → ⊥) × (cause.new ≡ cause.old) }
+            ensures { (result ≡ not (is_named cause.old.explanation cid.entry.now)) × (cause.new ≡ cause.old) }
         { !cause.names(cid) },
     );
 }

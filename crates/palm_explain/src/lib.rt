@@ -6,5 +6,11 @@ mod laws;
 mod names;
 mod store;
 
-pub use laws::{well_founded_logs_are_linked, withdrawals_add_up};
+pub use laws::{
+    full_stores_lack_nothing, stores_lack_what_is_taken_out, well_founded_logs_are_linked,
+    withdrawals_add_up,
+};
 pub use store::ExplainStore;
+
+#[cfg(test)]
+mod tests;

@@ -7,7 +7,7 @@ ghost use Rattle.palm_model.specs.Event.{lost_pairs, vars_of};
 ghost use Rattle.palm_model.specs.Log.{IsListOf, Loses, NamesOfPair, log_pairs};
 ghost use Rattle.palm_explain.specs.Explanations.{IsLinked, LacksExactly, log_bys, reasons_of};
 
-use crate::causes::{Cause, Causes, explanation_of, put_back, take_out};
+use crate::causes::{Cause, Causes, explanation_of, push_cause, put_back, take_out};
 use indexmap::IndexSet;
 use palm_base::{Cid, CidList, NoMemory, Pair, Var};
 use palm_domain::DomainStore;
@@ -19,7 +19,6 @@ use std::marker::Model;
 /// explanations of its reasons: a set of constraints that together imply that the variable does not take the value.
 #[derive(Debug, Drop)]
 pub struct ExplainStore {
-    alloc: Global,
     causes: Causes,
     restored: IndexSet<Var>,
 }
@@ -43,7 +42,6 @@ impl ExplainStore {
         ensures { result ≡ record { log = []; restored = [] } }
     {
         ExplainStore {
-            alloc,
             causes: Causes::new(alloc),
             restored: IndexSet::new(alloc),
         }
@@ -56,14 +54,14 @@ impl ExplainStore {
         ensures ok { OnOk result (self.new ≡ record self.old { log = self.old.log ++ record { pair = pair; by = by; reasons = reasons.now } ∷ [] }) }
         ensures err { OnErr result (self.new ≡ self.old) }
     {
+        let alloc = *self.causes.allocator();
         let cause = Cause {
-            explanation: explanation_of(self.alloc, &self.causes, &by, reasons)?,
-            reasons: Vec::from_slice(self.alloc, reasons)?,
+            explanation: explanation_of(alloc, &self.causes, &by, reasons)?,
+            reasons: Vec::from_slice(alloc, reasons)?,
             by,
         };
         self.restored.reserve(self.causes.len() + 1)?;
-        self.causes.insert(pair, cause)?;
-        Ok(())
+        push_cause(&mut self.causes, pair, cause)
     }
 
     /// How many removals there are. That the log is linked holds of every store.
