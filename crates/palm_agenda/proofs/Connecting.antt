@@ -1,5 +1,5 @@
 -- Connected constraints: their names, their places, and what one more and one fewer leaves.
-use Rattle.std.proofs.Common.{◌≡◌, ℕ, ◌+◌, ◌<◌, ◌≤◌, Bool, true, false, not, List, [], ◌∷◌, ◌++◌, map, length, get_or, slice_get, insert, remove, filter, Contains, All, Some, ◌⊎◌, ◌↔◌, inl, inr, refl, sym, ap, ◌∙◌, subst, arith}
+use Rattle.std.proofs.Common.{◌≡◌, ℕ, ◌<◌, Bool, true, not, List, [], ◌∷◌, ◌++◌, length, get_or, slice_get, insert, remove, filter, Contains, Some, ◌⊎◌, ◌↔◌, inl, inr, refl, sym, ap, ◌∙◌, subst, arith}
 use Rattle.std.proofs.lemmas.Bool.{cases_Bool}
 use Rattle.std.proofs.lemmas.List.{get_or-map, length-map, map-append}
 use Rattle.std.proofs.lemmas.List.Elements.{Contains-append_left, Contains-append_right, Contains-append_cases}
@@ -9,7 +9,7 @@ use Rattle.palm_model.specs.Log.{Rises, cid_before, is_named}
 use Rattle.palm_model.specs.State.{without_cid}
 use Rattle.palm_events.proofs.Names.{cid_order, member_not_named, not_named_member}
 use Rattle.palm_agenda.specs.Names.{IsPartedAt, with_name}
-use Rattle.palm_agenda.specs.Agenda.{Connected, IsConnected, IsOver, names_of, with_connected, without_connected}
+use Rattle.palm_agenda.specs.Agenda.{Connected, HasPlace, IsConnected, IsOver, names_of, with_connected, without_connected}
 use Rattle.palm_agenda.proofs.Sorted.{IsSortedKeys, filter_passes, filter_fails, inserted, listed_at}
 use Rattle.palm_agenda.proofs.NameLists.{rising, rises_at, removed_by_name}
 
@@ -34,8 +34,11 @@ connected_name connected c is = member_same (names_of connected) is.owner.cid c 
 pub name_connected : (connected : List Connected) (c : Cid) → Contains (names_of connected) c → IsConnected connected c
 name_connected connected c m = let r = member_unmap cid_of connected c m in record { owner = r.0; listed = r.1; named = r.2 }
 
-pub over_connected : (connected : List Connected) (x : ℕ) (c : Cid) → IsOver connected x c → IsConnected connected c
+abbrev pub over_connected : (connected : List Connected) (x : ℕ) (c : Cid) → IsOver connected x c → IsConnected connected c
 over_connected connected x c is = record { owner = is.owner; listed = is.listed; named = is.named }
+
+abbrev pub place_connected : (connected : List Connected) (c : Cid) (place : ℕ) → HasPlace connected c place → IsConnected connected c
+place_connected connected c place is = record { owner = is.owner; listed = is.listed; named = is.named }
 
 names_filter : (test : Cid → Bool) (connected : List Connected) → names_of (filter (λ d. test d.cid) connected) ≡ filter test (names_of connected)
 names_filter test [] = refl
@@ -58,6 +61,9 @@ pub names_without : (cid : Cid) (connected : List Connected) → names_of (witho
 names_without cid connected = names_filter (λ c. not (is_named (cid ∷ []) c)) connected
 
 -- ---- places
+
+pub parted_in : (looked connected : List Connected) (cid : Cid) (place : ℕ) → looked ≡ connected → IsPartedAt (λ d. cid_before d.cid cid) looked place → IsPartedAt (λ d. cid_before d.cid cid) connected place
+parted_in looked connected cid place is at = subst (λ ds. IsPartedAt (λ d. cid_before d.cid cid) ds place) is at
 
 module _ (connected : List Connected) (rises : Rises (names_of connected)) (cid : Cid) (place : ℕ) (at : IsPartedAt (λ d. cid_before d.cid cid) connected place) where
   pub stands : (d : Connected) → Contains connected d → d.cid ≡ cid → slice_get connected place ≡ Some d

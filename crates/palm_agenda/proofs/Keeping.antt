@@ -1,27 +1,29 @@
 -- What an agenda keeps, after each of its calls.
-use Rattle.std.proofs.Common.{◌≡◌, ℕ, ◌+◌, ◌<◌, ◌≤◌, Bool, true, false, not, ◌||◌, cond, if◌then◌else◌, List, [], ◌∷◌, ◌++◌, map, reverse, length, get_or, set, take, slice_get, insert, remove, filter, Contains, All, Some, ◌⊎◌, ◌↔◌, inl, inr, refl, sym, ap, ◌∙◌, subst, arith, nat_eq, eq-eqb, eqb-true, length-set}
-use Rattle.std.specs.List.{list_any}
-use Rattle.std.proofs.lemmas.Bool.{cases_Bool, false≢true, not-true}
-use Rattle.std.proofs.lemmas.List.{length-map, length-replicate}
+use Rattle.std.proofs.Common.{◌≡◌, ℕ, ◌+◌, ◌<◌, ◌≤◌, Bool, true, false, not, ◌||◌, if◌then◌else◌, List, [], ◌∷◌, map, reverse, length, get_or, set, take, slice_get, insert, remove, Contains, All, Option, None, Some, ◌⊎◌, ◌↔◌, inl, inr, refl, sym, ap, ◌∙◌, subst, arith, nat_eq, eq-eqb, eqb-true, length-set}
+use Rattle.std.specs.Option.{MatchOption}
+use Rattle.std.proofs.lemmas.Bool.{cases_Bool, false≢true}
+use Rattle.std.proofs.lemmas.List.{length-map, length-replicate, take_all}
 use Rattle.std.proofs.lemmas.List.Edits.{length-insert}
 use Rattle.std.proofs.lemmas.List.Folds.{list_any_more}
-use Rattle.std.proofs.lemmas.Option.{slice_get_within, get_or_from_slice_get}
+use Rattle.std.proofs.lemmas.Option.{slice_get_within, slice_get-get_or, get_or_from_slice_get}
 use Rattle.palm_base.specs.declared.terms.Cid.{Cid}
-use Rattle.palm_base.proofs.Members.{member_nil, member_same, member_map, member_unmap, all_members, map_agree, member_take_more}
+use Rattle.palm_base.proofs.Members.{member_same, member_map, member_unmap, all_members, map_agree, member_take, member_take_more}
+use Rattle.palm_base.specs.Tells.{Tells}
 use Rattle.palm_model.proofs.Supports.{any_member, member_any}
 use Rattle.palm_model.specs.Log.{Rises, cid_before, is_named, same_cid}
 use Rattle.palm_model.specs.State.{without_cid}
-use Rattle.palm_events.proofs.Names.{cid_same, same_cid_itself, named_member, member_named}
+use Rattle.palm_events.proofs.Names.{cid_same, same_cid_itself, member_named}
 use Rattle.palm_events.proofs.States.{without_cid_member, without_cid_rises}
 use Rattle.palm_agenda.specs.Names.{Roomy, HasRoomFor, FitsBoth, IsPartedAt, names_at, with_name}
-use Rattle.palm_agenda.specs.Agenda.{Connected, Waiting, HasMarks, IsConnected, IsFormed, IsOver, names_of, marked_whole, marked_where, marks_where, changed_at, changed_among, mark_others, mark_own, is_over, unmarked, with_connected, without_connected}
+use Rattle.palm_agenda.specs.Agenda.{Connected, HasMarks, IsConnected, IsMarked, IsOver, HasPlace, names_of, marked_whole, marked_where, changed_at, changed_among, mark_others, is_over, unmarked, with_connected, without_connected}
 use Rattle.palm_agenda.specs.Kept.{IsKept}
 use Rattle.palm_agenda.specs.Places.{is_place, mark_places}
 use Rattle.palm_agenda.specs.declared.connection.Places.{Places}
 use Rattle.palm_agenda.specs.declared.connection.Places.TheVariants.{Own, Others}
-use Rattle.palm_agenda.proofs.Connecting.{cid_of, connected_name, name_connected, names_with, names_without, over_connected, over_with, over_without, stands, connected_at, disconnected_at, with_connected_cases, with_connected_here, member_with_connected, without_connected_member, member_without_connected, sorted_connected}
+use Rattle.palm_agenda.proofs.Connecting.{cid_of, connected_name, names_with, names_without, over_connected, over_with, over_without, stands, connected_at, disconnected_at, with_connected_cases, with_connected_here, member_with_connected, without_connected_member, member_without_connected, sorted_connected}
 use Rattle.palm_agenda.proofs.Marking.{marks_length, marks_none, marks_twice}
-use Rattle.palm_agenda.proofs.NameLists.{fits_among, length_within, member_reverse, reverse_member, rises_different, room_among, with_name_cases, with_name_rises, with_name_set, rising}
+use Rattle.palm_agenda.proofs.NameLists.{fits_among, filter_short, length_within, member_reverse, reverse_member, rises_different, room_among, room_of_both, with_name_cases, with_name_rises, with_name_set, rising}
+use Rattle.palm_agenda.proofs.Rows.{front_last, front_more, row_within}
 use Rattle.palm_agenda.proofs.Sorted.{map_sets, apart}
 
 -- ---- a change of marks
@@ -57,6 +59,14 @@ module _ (f : Connected → Connected) (keeps : KeepsScopes f) where
 
   pub connected_kept : (connected : List Connected) (c : Cid) → IsConnected connected c → IsConnected (map f connected) c
   connected_kept connected c is = record { owner = f is.owner; listed = member_map f connected is.owner is.listed; named = keeps.cid is.owner ∙ is.named }
+
+  pub place_kept : (connected : List Connected) (c : Cid) (place : ℕ) → HasPlace connected c place → HasPlace (map f connected) c place
+  place_kept connected c place is = record {
+    owner = f is.owner;
+    listed = member_map f connected is.owner is.listed;
+    named = keeps.cid is.owner ∙ is.named;
+    within = subst (λ (xs : List ℕ). place < length xs) (sym (keeps.scope is.owner)) is.within;
+  }
 
   marks_kept : (connected : List Connected) → All HasMarks connected → All HasMarks (map f connected)
   marks_kept connected all = all_members HasMarks (map f connected) (λ d m.
@@ -109,6 +119,12 @@ pub taken_after : (connected : List Connected) (over : List Roomy) (pending now 
 taken_after connected over pending now shown room cid kept is same grows =
     pending_after connected over pending now shown room kept (subst Rises (sym is) (without_cid_rises cid pending.names kept.formed.pending_rising))
     (λ c m. kept.formed.pending_connected c (without_cid_member cid pending.names c (subst (λ names. Contains names c) is m)).0) same grows
+
+-- the first name is taken out, where there is one
+pub first_after : (connected : List Connected) (over : List Roomy) (pending now : Roomy) (shown : ℕ) (taken : Option Cid) → IsKept connected over pending shown
+    → MatchOption taken ((pending.names ≡ []) × (now ≡ pending)) (λ c. (slice_get pending.names 0 ≡ Some c) × (now.names ≡ without_cid c pending.names) × (now.room ≡ pending.room)) → IsKept connected over now shown
+first_after connected over pending now shown None kept is = subst (λ (p : Roomy). IsKept connected over p shown) (sym is.1) kept
+first_after connected over pending now shown (Some c) kept is = taken_after connected over pending now shown shown c kept is.1 is.2 (omega arith)
 
 -- the pending names are no more than the connected ones
 pub pending_few : (connected : List Connected) (over : List Roomy) (pending : Roomy) (shown : ℕ) → IsKept connected over pending shown → length pending.names ≤ length connected
@@ -221,10 +237,10 @@ module _ (connected : List Connected) (rises : Rises (names_of connected)) (cid 
   changed_here f is d now e becomes =
       map_sets (changed_at cid f) connected place now (place_within is)
       (λ x.
-          let here = get_or_from_slice_get connected place is.owner x (stands connected rises cid place at is.owner is.listed is.named) in
-          ap (changed_at cid f) here
-          ∙ if_true (same_cid cid is.owner.cid) (f is.owner) is.owner (subst (λ c. same_cid cid c ≡ true) (sym is.named) (same_cid_itself cid))
-          ∙ ap f (sym (owner_is is d e)) ∙ sym becomes)
+      let here = get_or_from_slice_get connected place is.owner x (stands connected rises cid place at is.owner is.listed is.named) in
+      ap (changed_at cid f) here
+      ∙ if_true (same_cid cid is.owner.cid) (f is.owner) is.owner (subst (λ c. same_cid cid c ≡ true) (sym is.named) (same_cid_itself cid))
+      ∙ ap f (sym (owner_is is d e)) ∙ sym becomes)
       (λ k x lt ne. if_false (same_cid cid (get_or connected k x).cid) (f (get_or connected k x)) (get_or connected k x) (other k x lt ne))
     where
       other : (k : ℕ) (x : Connected) → k < length connected → (k ≡ place → ⊥) → same_cid cid (get_or connected k x).cid ≡ false
@@ -232,7 +248,7 @@ module _ (connected : List Connected) (rises : Rises (names_of connected)) (cid 
         | inl t ↦
             let here = get_or_from_slice_get connected place is.owner x (stands connected rises cid place at is.owner is.listed is.named) in
             absurd (apart cid_of cid_before rising connected (sorted_connected connected rises) k place x lt (place_within is) ne
-              (sym (cid_same cid (get_or connected k x).cid t) ∙ sym is.named ∙ ap cid_of (sym here)))
+            (sym (cid_same cid (get_or connected k x).cid t) ∙ sym is.named ∙ ap cid_of (sym here)))
         | inr f ↦ f
       ]
 
@@ -266,7 +282,7 @@ module _ (f : Connected → Connected) (keeps : KeepsScopes f) (twice : (d : Con
       map_twice (changed_at cid f) (changed_among (take i names) f) first
       ∙ map_agree (λ d. changed_at cid f (changed_among (take i names) f d)) (changed_among (take (i + 1) names) f) first
       (λ d m. change_more cid d (is_named (take i names) d.cid) (same_cid cid d.cid) (is_named (take (i + 1) names) d.cid) refl
-        (list_any_more (λ c. same_cid c d.cid) names i cid lt ∙ ap (λ c. is_named (take i names) d.cid || same_cid c d.cid) (sym item)))
+      (list_any_more (λ c. same_cid c d.cid) names i cid lt ∙ ap (λ c. is_named (take i names) d.cid || same_cid c d.cid) (sym item)))
 
 pub marked_more : (places : Places) (x : ℕ) (names : List Cid) (i : ℕ) (cid : Cid) (first : List Connected) → i < length names → cid ≡ get_or names i cid
     → map (changed_at cid (mark_places places x)) (map (changed_among (take i names) (mark_places places x)) first) ≡ map (changed_among (take (i + 1) names) (mark_places places x)) first
@@ -284,3 +300,198 @@ woken_marks places x names connected all = map_agree (changed_among names (mark_
       if_false (is_named names d.cid) (mark_places places x d) d f
       ∙ sym (places_none places x d (λ over. false≢true (sym f ∙ member_named names d.cid (all d.cid (record { owner = d; listed = m; named = refl; over = over })))))
 ])
+
+-- ---- one more constraint and one fewer
+
+-- more room, and the same names
+pub grown_after : (connected : List Connected) (over later : List Roomy) (pending now : Roomy) (shown room : ℕ) → IsKept connected over pending shown → ((x : ℕ) → names_at later x ≡ names_at over x)
+    → now.names ≡ pending.names → pending.room ≤ now.room → shown ≤ room → IsKept connected later now room
+grown_after connected over later pending now shown room kept names same wider longer = record {
+  formed = record {
+    rising = kept.formed.rising;
+    pending_rising = subst Rises (sym same) kept.formed.pending_rising;
+    pending_connected = λ c m. kept.formed.pending_connected c (subst (λ cs. Contains cs c) same m);
+    marks = kept.formed.marks;
+  };
+  over_names = λ x c. subst (λ cs. Contains cs c ↔ IsOver connected x c) (sym (names x)) (kept.over_names x c);
+  pending_room = omega (arith, kept.pending_room, wider);
+  shown_room = omega (arith, kept.shown_room, longer);
+}
+
+module _ (connected : List Connected) (over later : List Roomy) (pending now : Roomy) (shown room : ℕ) (cid : Cid) (scope : List ℕ) (place : ℕ) (kept : IsKept connected over pending shown)
+    (at : IsPartedAt (λ d. cid_before d.cid cid) connected place) (absent : IsConnected connected cid → ⊥) where
+  inserted_is : insert connected place (marked_whole cid scope) ≡ with_connected (marked_whole cid scope) connected
+  inserted_is = connected_at connected kept.formed.rising cid place at absent (marked_whole cid scope) refl
+
+  pub connected_after : (after : List Connected) → after ≡ insert connected place (marked_whole cid scope)
+      → ((x : ℕ) (c : Cid) → Contains (names_at later x) c ↔ (Contains (names_at over x) c ⊎ (Contains scope x × (c ≡ cid))))
+      → now.names ≡ with_name cid pending.names → length connected + 1 ≤ now.room → length connected + 1 ≤ room → IsKept after later now room
+  connected_after after is names pending_is wide long =
+      let whole = marked_whole cid scope in
+      let e : after ≡ with_connected whole connected = is ∙ inserted_is in
+      let many : length after ≡ length connected + 1 = ap length is ∙ length-insert connected place whole at.within in
+      record {
+        formed = record {
+          rising = subst (λ ds. Rises (names_of ds)) (sym e) (subst Rises (sym (names_with whole connected)) (with_name_rises cid (names_of connected) kept.formed.rising));
+          pending_rising = subst Rises (sym pending_is) (with_name_rises cid pending.names kept.formed.pending_rising);
+          pending_connected = λ c m. subst (λ ds. IsConnected ds c) (sym e) (elim (with_name_cases cid pending.names c (subst (λ cs. Contains cs c) pending_is m)) [
+            | inl k ↦
+                let old = kept.formed.pending_connected c k in
+                record { owner = old.owner; listed = member_with_connected whole connected old.owner absent old.listed; named = old.named }
+            | inr s ↦ record { owner = whole; listed = with_connected_here whole connected; named = sym s }
+          ]);
+          marks = subst (All HasMarks) (sym e) (all_members HasMarks (with_connected whole connected) (λ d m. elim (with_connected_cases whole connected d m) [
+            | inl s ↦ subst HasMarks s (length-replicate (length scope) true)
+            | inr k ↦ subst HasMarks k.2 (kept.formed.marks k.0 d k.1)
+          ]));
+        };
+        over_names = λ x c. subst (λ ds. Contains (names_at later x) c ↔ IsOver ds x c) (sym e) (
+          λ m. (over_with whole connected x c absent).1 (elim ((names x c).0 m) [ inl k ↦ inl ((kept.over_names x c).0 k) | inr both ↦ inr both ]),
+          λ h. (names x c).1 (elim ((over_with whole connected x c absent).0 h) [ inl k ↦ inl ((kept.over_names x c).1 k) | inr both ↦ inr both ]),
+        );
+        pending_room = omega (arith, many, wide);
+        shown_room = omega (arith, many, long);
+      }
+
+module _ (connected : List Connected) (over : List Roomy) (pending : Roomy) (shown : ℕ) (cid : Cid) (place : ℕ) (d : Connected) (kept : IsKept connected over pending shown)
+    (at : IsPartedAt (λ e. cid_before e.cid cid) connected place) (there : IsConnected connected cid) (item : d ≡ get_or connected place d) where
+  owner_here : d ≡ there.owner
+  owner_here = owner_is connected kept.formed.rising cid place at there d item
+
+  removed_over : (x : ℕ) → Contains d.scope x → IsOver connected x cid
+  removed_over x m = record { owner = there.owner; listed = there.listed; named = there.named; over = subst (λ (e : Connected). Contains e.scope x) owner_here m }
+
+  -- each variable of its scope has a list
+  pub scope_within : (scope : List ℕ) → scope ≡ d.scope → (x : ℕ) → Contains scope x → x < length over
+  scope_within scope is x m = row_within over x cid ((kept.over_names x cid).1 (removed_over x (subst (λ xs. Contains xs x) is m)))
+
+  pub removed_is : remove connected place ≡ without_connected cid connected
+  removed_is = disconnected_at connected kept.formed.rising cid place at there
+
+  pub disconnected_after : (after : List Connected) (later : List Roomy) (now : Roomy) (scope : List ℕ) → after ≡ remove connected place → scope ≡ d.scope
+      → ((x : ℕ) (c : Cid) → Contains (names_at later x) c ↔ (Contains (names_at over x) c × (Contains scope x → c ≡ cid → ⊥)))
+      → now.names ≡ without_cid cid pending.names → now.room ≡ pending.room → IsKept after later now shown
+  disconnected_after after later now scope is scope_is names pending_is same =
+      let e : after ≡ without_connected cid connected = is ∙ removed_is in
+      let few : length after ≤ length connected = omega (arith, ap length e, filter_short (λ (f : Connected). not (is_named (cid ∷ []) f.cid)) connected) in
+      record {
+        formed = record {
+          rising = subst (λ ds. Rises (names_of ds)) (sym e) (subst Rises (sym (names_without cid connected)) (without_cid_rises cid (names_of connected) kept.formed.rising));
+          pending_rising = subst Rises (sym pending_is) (without_cid_rises cid pending.names kept.formed.pending_rising);
+          pending_connected = λ c m.
+              let r = without_cid_member cid pending.names c (subst (λ cs. Contains cs c) pending_is m) in
+              let old = kept.formed.pending_connected c r.0 in
+              subst (λ ds. IsConnected ds c) (sym e)
+              (record { owner = old.owner; listed = member_without_connected cid connected old.owner old.listed (λ s. r.1 (sym old.named ∙ s)); named = old.named });
+          marks = subst (All HasMarks) (sym e) (all_members HasMarks (without_connected cid connected) (λ f m.
+              let k = (without_connected_member cid connected f m).0 in subst HasMarks k.2 (kept.formed.marks k.0 f k.1)));
+        };
+        over_names = λ x c. subst (λ ds. Contains (names_at later x) c ↔ IsOver ds x c) (sym e) (
+          λ m.
+              let r = (names x c).0 m in
+              let old = (kept.over_names x c).0 r.0 in
+              (over_without cid connected x c).1 (old, λ s. r.1 (in_scope x c old s) s),
+          λ h.
+              let r = (over_without cid connected x c).0 h in
+              (names x c).1 ((kept.over_names x c).1 r.0, λ m s. r.1 s),
+        );
+        pending_room = omega (arith, few, same, kept.pending_room);
+        shown_room = omega (arith, few, kept.shown_room);
+      }
+    where
+      in_scope : (x : ℕ) (c : Cid) → IsOver connected x c → c ≡ cid → Contains scope x
+      in_scope x c old s =
+          let one : IsConnected connected cid = record { owner = old.owner; listed = old.listed; named = old.named ∙ s } in
+          subst (λ xs. Contains xs x) (sym scope_is) (subst (λ (f : Connected). Contains f.scope x) (sym (owner_is connected kept.formed.rising cid place at one d item)) old.over)
+
+-- ---- waking
+
+pub woken_after : (places : Places) (x : ℕ) (names : List Cid) (connected : List Connected) (over : List Roomy) (pending now : Roomy) (shown : ℕ) → IsKept connected over pending shown → names ≡ reverse (names_at over x)
+    → ((c : Cid) → Contains now.names c ↔ (Contains pending.names c ⊎ Contains names c)) → Rises now.names → now.room ≡ pending.room → (after : List Connected) → after ≡ map (changed_among names (mark_places places x)) connected
+    → IsKept after over now shown
+woken_after places x names connected over pending now shown kept is set rises same after becomes =
+    subst (λ ds. IsKept ds over now shown) (sym becomes)
+    (kept_after (changed_among names (mark_places places x)) (keeps_among names (mark_places places x) (keeps_places places x)) connected over now shown
+    (pending_after connected over pending now shown shown kept rises
+    (λ c m. elim ((set c).0 m) [
+      | inl k ↦ kept.formed.pending_connected c k
+      | inr k ↦ over_connected connected x c ((kept.over_names x c).0 (reverse_member (names_at over x) c (subst (λ cs. Contains cs c) is k)))
+    ]) same (omega arith)))
+
+pub names_are_over : (x : ℕ) (names : List Cid) (connected : List Connected) (over : List Roomy) (pending : Roomy) (shown : ℕ) → IsKept connected over pending shown → names ≡ reverse (names_at over x)
+    → (c : Cid) → Contains names c ↔ IsOver connected x c
+names_are_over x names connected over pending shown kept is c = (
+  λ m. (kept.over_names x c).0 (reverse_member (names_at over x) c (subst (λ cs. Contains cs c) is m)),
+  λ h. subst (λ cs. Contains cs c) (sym is) (member_reverse (names_at over x) c ((kept.over_names x c).1 h)),
+)
+
+pub woken_pending : (x : ℕ) (names : List Cid) (connected : List Connected) (over : List Roomy) (pending now : Roomy) (shown : ℕ) → IsKept connected over pending shown → names ≡ reverse (names_at over x)
+    → ((c : Cid) → Contains now.names c ↔ (Contains pending.names c ⊎ Contains names c)) → (c : Cid) → Contains now.names c ↔ (Contains pending.names c ⊎ IsOver connected x c)
+woken_pending x names connected over pending now shown kept is set c = (
+  λ m. elim ((set c).0 m) [ inl k ↦ inl k | inr k ↦ inr ((names_are_over x names connected over pending shown kept is c).0 k) ],
+  λ h. (set c).1 (elim h [ inl k ↦ inl k | inr k ↦ inr ((names_are_over x names connected over pending shown kept is c).1 k) ]),
+)
+
+pub woken_connected : (places : Places) (x : ℕ) (names : List Cid) (connected : List Connected) (over : List Roomy) (pending : Roomy) (shown : ℕ) → IsKept connected over pending shown → names ≡ reverse (names_at over x)
+    → (after : List Connected) → after ≡ map (changed_among names (mark_places places x)) connected → after ≡ map (mark_places places x) connected
+woken_connected places x names connected over pending shown kept is after becomes =
+    becomes ∙ woken_marks places x names connected (λ c h. (names_are_over x names connected over pending shown kept is c).1 h)
+
+-- ---- reading
+
+pub marks_here : (connected : List Connected) (cid : Cid) (place : ℕ) → Rises (names_of connected) → IsPartedAt (λ e. cid_before e.cid cid) connected place → (d : Connected) → d ≡ get_or connected place d
+    → (e : Connected) → Contains connected e → e.cid ≡ cid → d ≡ e
+marks_here connected cid place rises at d item e m named = owner_is connected rises cid place at (record { owner = e; listed = m; named = named }) d item
+
+pub place_of_marks : (connected : List Connected) (cid : Cid) (place : ℕ) (is : HasPlace connected cid place) (marks : List Bool)
+    → ((d : Connected) → Contains connected d → d.cid ≡ cid → length marks ≡ length d.scope) → place < length marks
+place_of_marks connected cid place is marks whole = omega (arith, whole is.owner is.listed is.named, is.within)
+
+-- what the answer of a test says of a mark
+pub tells_mark : (connected : List Connected) (cid : Cid) (place : ℕ) → HasPlace connected cid place → (marks : List Bool)
+    → ((d : Connected) → Contains connected d → d.cid ≡ cid → marks ≡ d.marks) → place < length marks → Tells (get_or marks place false) (IsMarked connected cid place)
+tells_mark connected cid place has marks is within = go (get_or marks place false) refl
+  where
+    go : (b : Bool) → get_or marks place false ≡ b → Tells b (IsMarked connected cid place)
+    go true e = record {
+      owner = has.owner;
+      listed = has.listed;
+      named = has.named;
+      marked = ap (λ ms. slice_get ms place) (sym (is has.owner has.listed has.named)) ∙ slice_get-get_or marks place false within ∙ ap Some e;
+    }
+    go false e = λ m.
+        let f = get_or_from_slice_get m.owner.marks place true false m.marked in
+        false≢true (sym e ∙ ap (λ ms. get_or ms place false) (is m.owner m.listed m.named) ∙ f)
+
+-- ---- waking by name
+
+pub rises_changed : (f : Connected → Connected) → KeepsScopes f → (first after : List Connected) → after ≡ map f first → Rises (names_of first) → Rises (names_of after)
+rises_changed f keeps first after is rises = subst (λ ds. Rises (names_of ds)) (sym is) (subst Rises (sym (names_kept f keeps first)) rises)
+
+pub over_changed : (f : Connected → Connected) → KeepsScopes f → (first after : List Connected) (x : ℕ) (c : Cid) → after ≡ map f first → IsOver first x c → IsOver after x c
+over_changed f keeps first after x c is over = subst (λ ds. IsOver ds x c) (sym is) ((over_kept f keeps first x c).1 over)
+
+pub put_set : (first now after more : List Cid) (i : ℕ) (cid : Cid) → i < length more → cid ≡ get_or more i cid → ((c : Cid) → Contains now c ↔ (Contains first c ⊎ Contains (take i more) c)) → after ≡ with_name cid now
+    → (c : Cid) → Contains after c ↔ (Contains first c ⊎ Contains (take (i + 1) more) c)
+put_set first now after more i cid lt item so_far is c = subst (λ names. Contains names c ↔ (Contains first c ⊎ Contains (take (i + 1) more) c)) (sym is) (
+  λ m. elim (with_name_cases cid now c m) [
+    | inl k ↦ elim ((so_far c).0 k) [ inl n ↦ inl n | inr n ↦ inr (front_more more i cid c lt n) ]
+    | inr e ↦ inr (member_same (take (i + 1) more) cid c (sym e) (front_last more i cid lt item))
+  ],
+  λ h. elim h [
+    | inl n ↦ (with_name_set cid now c).1 (inl ((so_far c).1 (inl n)))
+    | inr n ↦ elim (member_take_more more i cid c lt item n) [
+      | inl k ↦ (with_name_set cid now c).1 (inl ((so_far c).1 (inr k)))
+      | inr e ↦ (with_name_set cid now c).1 (inr (sym e))
+    ]
+  ],
+)
+
+pub room_in_both : (cid : Cid) (now : Roomy) (first more : List Cid) (room i : ℕ) → i < length more → cid ≡ get_or more i cid → FitsBoth room first more → now.room ≡ room → Rises now.names
+    → ((c : Cid) → Contains now.names c ↔ (Contains first c ⊎ Contains (take i more) c)) → HasRoomFor cid now
+room_in_both cid now first more room i lt item fits same rises so_far =
+    room_of_both cid now first more (subst (λ r. FitsBoth r first more) (sym same) fits) rises
+    (λ c m. elim ((so_far c).0 m) [ inl k ↦ inl k | inr k ↦ inr (member_take i more c k) ]) (i, lt, sym item)
+
+pub put_all_set : (first now more : List Cid) (i : ℕ) → length more ≤ i → ((c : Cid) → Contains now c ↔ (Contains first c ⊎ Contains (take i more) c)) → (c : Cid) → Contains now c ↔ (Contains first c ⊎ Contains more c)
+put_all_set first now more i past so_far c = subst (λ names. Contains now c ↔ (Contains first c ⊎ Contains names c)) (take_all i more past) (so_far c)

@@ -4,3 +4,4 @@ pub mod Connecting
 pub mod Marking
 pub mod Rows
 pub mod Keeping
+pub mod Samples

@@ -1,18 +1,17 @@
 -- Lists of names: in rising and falling order, with a name and without it, and how long they are.
-use Rattle.std.proofs.Common.{◌≡◌, ℕ, zero, suc, ◌+◌, ◌-◌, ◌<◌, ◌≤◌, Bool, true, false, not, cond, List, [], ◌∷◌, ◌++◌, map, reverse, length, get_or, set, take, drop, slice_get, insert, remove, filter, Contains, Option, None, Some, ◌⊎◌, ◌↔◌, inl, inr, refl, sym, ap, ◌∙◌, subst, arith}
-use Rattle.std.specs.List.{AllWithin}
+use Rattle.std.proofs.Common.{◌≡◌, ℕ, zero, suc, ◌-◌, ◌<◌, ◌≤◌, Bool, true, false, not, List, [], ◌∷◌, ◌++◌, reverse, length, get_or, slice_get, insert, remove, filter, Contains, Option, None, Some, ◌⊎◌, ◌↔◌, inl, inr, refl, sym, ap, ◌∙◌, subst, arith}
 use Rattle.std.specs.Option.{MatchOption, option_to_list}
-use Rattle.std.proofs.lemmas.Bool.{cases_lt, cases_Bool, false≢true}
+use Rattle.std.proofs.lemmas.Bool.{cases_Bool}
 use Rattle.std.proofs.lemmas.Grind.{reverse_onto}
 use Rattle.std.proofs.lemmas.List.{append_assoc, append-nil, nil_from_length, get_or-reverse, length-reverse, reverse-append, reverse-reverse}
-use Rattle.std.proofs.lemmas.List.Elements.{Contains-get_or, Contains-append_left, Contains-append_right, Contains-append_cases, filter-append}
+use Rattle.std.proofs.lemmas.List.Elements.{Contains-append_left, Contains-append_right, Contains-append_cases, filter-append}
 use Rattle.std.proofs.lemmas.Option.{slice_get_read, slice_get-get_or, slice_get_within, get_or_from_slice_get}
 use Rattle.palm_base.specs.declared.terms.Cid.{Cid}
-use Rattle.palm_base.proofs.Members.{Known, member_nil, member_here, member_there, member_cases, member_same, member_filter, filter_member, member_known, member_single, member_get, all_members}
+use Rattle.palm_base.proofs.Members.{member_nil, member_here, member_there, member_cases, member_same, member_filter, filter_member, member_known, member_single, member_get, all_members}
 use Rattle.palm_base.specs.Tells.{Tells}
 use Rattle.palm_model.specs.Log.{Rises, cid_before, is_named}
 use Rattle.palm_model.specs.State.{without_cid}
-use Rattle.palm_events.proofs.Names.{before_then, cid_known, cid_order, not_before_itself, rises_append, rising_same, named_member, member_named, member_not_named, not_named_member}
+use Rattle.palm_events.proofs.Names.{before_then, cid_known, cid_order, not_before_itself, rises_append, rising_same, member_named, member_not_named}
 use Rattle.palm_events.proofs.States.{without_cid_member, member_without_cid, without_cid_rises}
 use Rattle.palm_agenda.specs.Names.{IsPartedAt, Roomy, AreDifferent, HasRoomFor, FitsBoth, with_name}
 use Rattle.palm_agenda.proofs.Sorted.{IsStrict, IsSortedKeys, filter_removes, filter_fails, filter_passes, inserted, listed_at, apart}
@@ -138,17 +137,16 @@ rises_names test (c ∷ names) rises = elim (cases_Bool (test c)) [
 
 pub with_name_rises : (cid : Cid) (names : List Cid) → Rises names → Rises (with_name cid names)
 with_name_rises cid names rises =
-    rises_append (filter (λ d. cid_before d cid) names) (cid ∷ filter (λ d. cid_before cid d) names) (rises_names (λ d. cid_before d cid) names rises)
-    (
+    rises_append (filter (λ d. cid_before d cid) names) (cid ∷ filter (λ d. cid_before cid d) names) (rises_names (λ d. cid_before d cid) names rises) (
       all_members (λ d. cid_before cid d ≡ true) (filter (λ d. cid_before cid d) names) (λ d m. (filter_member (λ e. cid_before cid e) names d m).1),
       rises_names (λ d. cid_before cid d) names rises,
     )
     (λ x y m n.
-        let low = (filter_member (λ d. cid_before d cid) names x m).1 in
-        elim (member_cases cid (filter (λ d. cid_before cid d) names) y n) [
-          | inl e ↦ subst (λ z. cid_before x z ≡ true) e low
-          | inr k ↦ before_then x cid y low (filter_member (λ d. cid_before cid d) names y k).1
-        ])
+    let low = (filter_member (λ d. cid_before d cid) names x m).1 in
+    elim (member_cases cid (filter (λ d. cid_before cid d) names) y n) [
+      | inl e ↦ subst (λ z. cid_before x z ≡ true) e low
+      | inr k ↦ before_then x cid y low (filter_member (λ d. cid_before cid d) names y k).1
+    ])
 
 -- a name that is there stays where it is
 pub with_name_same : (cid : Cid) (names : List Cid) → Rises names → Contains names cid → names ≡ with_name cid names
@@ -209,7 +207,7 @@ rises_different (c ∷ names) rises = (
   rises_different names rises.1,
 )
 
-filter_short : {X : Type 0} (test : X → Bool) (xs : List X) → length (filter test xs) ≤ length xs
+pub filter_short : {X : Type 0} (test : X → Bool) (xs : List X) → length (filter test xs) ≤ length xs
 filter_short test [] = omega arith
 filter_short test (x ∷ xs) = elim (cases_Bool (test x)) [
   | inl t ↦ omega (arith, ap length (filter_passes test x xs t), filter_short test xs)
@@ -241,7 +239,7 @@ room_among cid list all rises within there room = elim (member_known cid_known l
   | inl m ↦ inl m
   | inr n ↦
       let less = length_within (cid ∷ list.names) all (n, rises_different list.names rises)
-        (λ c m. elim (member_cases cid list.names c m) [ inl e ↦ member_same all cid c e there | inr k ↦ within c k ]) in
+      (λ c m. elim (member_cases cid list.names c m) [ inl e ↦ member_same all cid c e there | inr k ↦ within c k ]) in
       inr (omega arith)
 ]
 
@@ -250,7 +248,7 @@ room_of_both cid list names more fits rises within there = elim (member_known ci
   | inl m ↦ inl m
   | inr n ↦
       let less = fits.fits (cid ∷ list.names) (n, rises_different list.names rises)
-        (λ c m. elim (member_cases cid list.names c m) [ inl e ↦ inr (member_same more cid c e there) | inr k ↦ within c k ]) in
+      (λ c m. elim (member_cases cid list.names c m) [ inl e ↦ inr (member_same more cid c e there) | inr k ↦ within c k ]) in
       inr (omega arith)
 ]
 
@@ -285,13 +283,12 @@ put_room names cid list capacity is room absent =
 -- the last one of a falling list is taken
 pub taken_last : (old new : List Cid) (room capacity : ℕ) (taken : Option Cid) → Rises (reverse old) → old ≡ new ++ option_to_list taken → (taken ≡ None → length old ≡ 0) → capacity ≡ room
     → MatchOption taken ((reverse old ≡ []) × (roomy (reverse new) capacity ≡ roomy (reverse old) room))
-      (λ c. (slice_get (reverse old) 0 ≡ Some c) × (reverse new ≡ without_cid c (reverse old)) × (capacity ≡ room))
+    (λ c. (slice_get (reverse old) 0 ≡ Some c) × (reverse new ≡ without_cid c (reverse old)) × (capacity ≡ room))
 taken_last old new room capacity None rises is none same =
     let e : old ≡ new = is ∙ append-nil new in
     (ap reverse (nil_from_length old (none refl)), ap (λ xs. roomy (reverse xs) capacity) (sym e) ∙ ap (roomy (reverse old)) same)
 taken_last old new room capacity (Some c) rises is none same =
-    let e : reverse old ≡ c ∷ reverse new = ap reverse is ∙ reverse-append new (c ∷ []) in
-    (
+    let e : reverse old ≡ c ∷ reverse new = ap reverse is ∙ reverse-append new (c ∷ []) in (
       ap (λ names. slice_get names 0) e,
       sym (ap (without_cid c) e ∙ first_cut c (reverse new) (subst Rises e rises)),
       same,

@@ -1,12 +1,13 @@
 -- A list of names for each variable: what a longer table and a change of one list leave.
 use Rattle.std.proofs.Common.{◌≡◌, ℕ, zero, suc, ◌+◌, ◌<◌, ◌≤◌, List, [], ◌∷◌, ◌++◌, length, get_or, set, take, Contains, ◌⊎◌, ◌↔◌, inl, inr, refl, sym, ap, ◌∙◌, subst, arith, get_or-set_same, get_or-set_other, length-set}
-use Rattle.std.proofs.lemmas.List.{take_all, take_more}
+use Rattle.std.proofs.lemmas.List.{get_or_past, take_all, take_more}
+use Rattle.std.proofs.lemmas.Bool.{cases_lt}
 use Rattle.std.proofs.lemmas.List.Elements.{Contains-append_left, Contains-append_right}
 use Rattle.palm_base.specs.declared.terms.Cid.{Cid}
 use Rattle.palm_base.proofs.Members.{member_nil, member_here, member_same, member_take_more, nat_known}
 use Rattle.palm_model.specs.State.{without_cid}
 use Rattle.palm_events.proofs.States.{without_cid_member, member_without_cid}
-use Rattle.palm_agenda.specs.Names.{Roomy, HasRoomFor, HasSpace, names_at, row_at, with_name, with_names}
+use Rattle.palm_agenda.specs.Names.{Roomy, HasRoomFor, HasSpace, names_at, row_at, with_name}
 use Rattle.palm_agenda.proofs.NameLists.{with_name_cases, with_name_here, member_with_name, roomy}
 
 -- ---- the first members
@@ -27,6 +28,13 @@ row_pushed [] zero = refl
 row_pushed [] (suc x) = refl
 row_pushed (r ∷ rows) zero = refl
 row_pushed (r ∷ rows) (suc x) = row_pushed rows x
+
+-- a variable with a name has a list
+pub row_within : (rows : List Roomy) (x : ℕ) (c : Cid) → Contains (names_at rows x) c → x < length rows
+row_within rows x c m = elim (cases_lt x (length rows)) [
+  | inl lt ↦ lt
+  | inr past ↦ absurd (member_nil c (subst (λ (r : Roomy). Contains r.names c) (get_or_past rows x (roomy [] 0) past) m))
+]
 
 module _ (rows after : List Roomy) (v : ℕ) (row : Roomy) (within : v < length rows) (is : after ≡ set rows v row) where
   pub row_here : row_at after v ≡ row

@@ -1,5 +1,5 @@
 -- What an agenda holds: the connected constraints with their marks, and the names of those that wait to be revised.
-use Rattle.std.specs.Prelude.{◌≡◌, ℕ, ◌<◌, if◌then◌else◌, Bool, true, false, not, ◌||◌, Option, Some, List, [], ◌∷◌, ◌++◌, length, map, filter, All, Contains, nat_eq, nat_lt, slice_get, slice_set, replicate}
+use Rattle.std.specs.Prelude.{◌≡◌, ℕ, ◌<◌, if◌then◌else◌, Bool, true, false, not, ◌||◌, Some, List, [], ◌∷◌, ◌++◌, length, map, filter, All, Contains, nat_eq, nat_lt, slice_get, slice_set, replicate}
 use Rattle.std.specs.List.{list_any}
 use Rattle.palm_base.specs.declared.terms.Cid.{Cid}
 use Rattle.palm_model.specs.Log.{Rises, cid_before, same_cid, is_named}
@@ -115,8 +115,7 @@ unmarked place d = record d { marks = slice_set d.marks place false }
 abbrev pub index_within : ℕ → ℕ → ℕ
 index_within index count = if nat_lt index count then index else 0
 
--- the pending constraint at the answered index is pending no longer
-pub record Takes (before after : Waiting) (answer : ℕ) (cid : Cid) : Type 0 where
-  pub chosen : slice_get before.pending (index_within answer (length before.pending)) ≡ Some cid
-  pub pending : after.pending ≡ without_cid cid before.pending
-  pub connected : after.connected ≡ before.connected
+-- the name at the answered index is pending no longer
+pub record Takes (before after : List Cid) (answer : ℕ) (cid : Cid) : Type 0 where
+  pub chosen : slice_get before (index_within answer (length before)) ≡ Some cid
+  pub pending : after ≡ without_cid cid before

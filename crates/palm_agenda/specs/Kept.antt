@@ -1,5 +1,5 @@
 -- What an agenda keeps beside what it shows.
-use Rattle.std.specs.Prelude.{◌≡◌, ℕ, ◌≤◌, ◌↔◌, List, length, Contains}
+use Rattle.std.specs.Prelude.{ℕ, ◌≤◌, ◌↔◌, List, length, Contains}
 use Rattle.palm_base.specs.declared.terms.Cid.{Cid}
 use Rattle.palm_agenda.specs.Agenda.{Connected, IsFormed, IsOver}
 use Rattle.palm_agenda.specs.Names.{Roomy, names_at}

@@ -68,11 +68,23 @@ fn mark_each(connections: &mut Vec<Connection>, names: &[Cid], places: Places, v
     }
 }
 
+/// Takes a mark of the constraint away.
+fn unmark_named(connections: &mut Vec<Connection>, cid: &Cid, place: usize)
+    requires rising { Rises (names_of connections.old.items) }
+    requires connected { HasPlace connections.old.items cid.now place }
+    ensures { connections.new.items ≡ map (changed_at cid.now (unmarked place)) connections.old.items }
+{
+    let at = place_of(connections, cid);
+    let connection = &mut connections[at];
+    connection.unmark(place);
+}
+
 /// Makes each of the names pending.
 fn insert_each(pending: &mut Names, names: &[Cid])
     requires rising { Rises pending.old.names }
     requires room { FitsBoth pending.old.room pending.old.names names.now }
     ensures names { (c : CidTerm) → Contains pending.new.names c ↔ (Contains pending.old.names c ⊎ Contains names.now c) }
+    ensures rising { Rises pending.new.names }
     ensures room { pending.new.room ≡ pending.old.room }
 {
     for cid in names {
@@ -110,6 +122,7 @@ impl Agenda {
         requires { IsConnected self.old.connected cid → ⊥ }
         ensures connected { OnOk result (self.new.connected ≡ with_connected (marked_whole cid scope.now) self.old.connected) }
         ensures pending { OnOk result ((c : CidTerm) → Contains self.new.pending c ↔ (Contains self.old.pending c ⊎ (c ≡ cid))) }
+        ensures formed { IsFormed self.new }
         ensures err { OnErr result (self.new ≡ self.old) }
     {
         let alloc = *self.connections.allocator();
@@ -143,6 +156,7 @@ impl Agenda {
     pub fn wake(&mut self, var: Var)
         ensures connected { self.new.connected ≡ map (mark_others var) self.old.connected }
         ensures pending { (c : CidTerm) → Contains self.new.pending c ↔ (Contains self.old.pending c ⊎ IsOver self.old.connected var c) }
+        ensures formed { IsFormed self.new }
     {
         let names = names_over(&self.over, &var);
         mark_each(&mut self.connections, names, Places::Others, &var);
@@ -154,6 +168,7 @@ impl Agenda {
     pub fn wake_restored(&mut self, var: Var)
         ensures connected { self.new.connected ≡ map (mark_own var) self.old.connected }
         ensures pending { (c : CidTerm) → Contains self.new.pending c ↔ (Contains self.old.pending c ⊎ IsOver self.old.connected var c) }
+        ensures formed { IsFormed self.new }
     {
         let names = names_over(&self.over, &var);
         mark_each(&mut self.connections, names, Places::Own, &var);
@@ -165,6 +180,7 @@ impl Agenda {
         requires { IsConnected self.old.connected cid }
         ensures connected { self.new.connected ≡ self.old.connected }
         ensures pending { (c : CidTerm) → Contains self.new.pending c ↔ (Contains self.old.pending c ⊎ (c ≡ cid)) }
+        ensures formed { IsFormed self.new }
     {
         self.pending.insert(&cid);
     }
@@ -172,7 +188,8 @@ impl Agenda {
     /// A mark for each place of the constraint's scope: whether values of the place's variable may lack support.
     pub fn marks(&self, cid: Cid) -> &[bool]
         requires { IsConnected self.now.connected cid }
-        ensures { (d : Connected) → Contains self.now.connected d → d.cid ≡ cid → result.now ≡ d.marks }
+        ensures marks { (d : Connected) → Contains self.now.connected d → d.cid ≡ cid → result.now ≡ d.marks }
+        ensures whole { (d : Connected) → Contains self.now.connected d → d.cid ≡ cid → length result.now ≡ length d.scope }
     {
         let place = place_of(&self.connections, &cid);
         self.connections[place].marks()
@@ -207,8 +224,9 @@ impl Agenda {
     /// the one that it answers when it is asked once. It is not asked where none is pending.
     pub fn take(&mut self, order: &mut Option<Box<dyn Order>>) -> Option<Cid>
         ensures none { IfNone result ((self.old.pending ≡ []) × (self.new ≡ self.old) × (order.new ≡ order.old)) }
-        ensures some { IfSome result (λ c. (answer : ℕ) × Takes self.old self.new answer c
+        ensures some { IfSome result (λ c. (answer : ℕ) × Takes self.old.pending self.new.pending answer c
             × MatchOption order.old (answer ≡ 0) (λ before. IsSomeAnd order.new (λ after. answers before self.old.pending answer (state after)))) }
+        ensures connected { self.new.connected ≡ self.old.connected }
         ensures stays { is_some order.new ≡ is_some order.old }
     {
         match order {
@@ -220,7 +238,8 @@ impl Agenda {
     /// The pending constraint that the order answers.
     fn take_answered(&mut self, order: &mut Box<dyn Order>) -> Option<Cid>
         ensures none { IfNone result ((self.old.pending ≡ []) × (self.new ≡ self.old) × (order.new ≡ order.old)) }
-        ensures some { IfSome result (λ c. (answer : ℕ) × Takes self.old self.new answer c × answers order.old self.old.pending answer (state order.new)) }
+        ensures some { IfSome result (λ c. (answer : ℕ) × Takes self.old.pending self.new.pending answer c × answers order.old self.old.pending answer (state order.new)) }
+        ensures connected { self.new.connected ≡ self.old.connected }
     {
         let count = self.pending.len();
         if count == 0 {
@@ -231,15 +250,4 @@ impl Agenda {
         let place = if answer < count { answer } else { 0 };
         Some(self.pending.take_at(place))
     }
-}
-
-/// Takes a mark of the constraint away.
-fn unmark_named(connections: &mut Vec<Connection>, cid: &Cid, place: usize)
-    requires rising { Rises (names_of connections.old.items) }
-    requires connected { HasPlace connections.old.items cid.now place }
-    ensures { connections.new.items ≡ map (changed_at cid.now (unmarked place)) connections.old.items }
-{
-    let at = place_of(connections, cid);
-    let connection = &mut connections[at];
-    connection.unmark(place);
 }

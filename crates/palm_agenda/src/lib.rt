@@ -7,6 +7,8 @@ mod connection;
 mod names;
 mod order;
 mod over;
+#[cfg(test)]
+mod tests;
 
 pub use agenda::Agenda;
 pub use order::{LastOrder, Order, RotateOrder};

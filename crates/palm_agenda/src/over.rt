@@ -2,7 +2,6 @@
 ghost use Rattle.std.specs.Prelude.{◌≡◌, ℕ, ◌<◌, ◌≤◌, ◌↔◌, ◌⊎◌, length, reverse, Contains, OnOk};
 ghost use Rattle.palm_base.specs.declared.terms.Cid.{Cid as CidTerm};
 ghost use Rattle.palm_agenda.specs.Names.{HasRoomFor, HasSpace, names_at, row_at, with_name, with_names};
-
 ghost use Rattle.palm_model.specs.State.{without_cid};
 
 use crate::names::Names;

@@ -1,5 +1,5 @@
 -- Revisions and settlings: which removals are made, in which order, and when it ends.
-use Rattle.std.specs.Prelude.{◌≡◌, ℕ, zero, suc, ◌≤◌, ⊤, if◌then◌else◌, Bool, true, false, List, [], ◌∷◌, length, flat_map, Contains, All, Option, Some, None, slice_get, nat_lt}
+use Rattle.std.specs.Prelude.{◌≡◌, ℕ, zero, suc, ◌≤◌, ⊤, Bool, true, false, List, [], ◌∷◌, length, flat_map, Contains, All, Option, Some, None, slice_get}
 use Rattle.palm_base.specs.declared.terms.Pair.{Pair}
 use Rattle.palm_base.specs.declared.terms.Cid.{Cid}
 use Rattle.palm_model.specs.Domains.{Domains, Has, values_of}
@@ -10,6 +10,7 @@ use Rattle.palm_model.specs.Log.{Active}
 use Rattle.palm_model.specs.State.{EngineState, HasEmpty, AllFilled, present}
 use Rattle.palm_model.specs.Event.{Removes, Step, Runs, calmed}
 use Rattle.palm_events.specs.Along.{IsFiltering}
+pub use Rattle.palm_agenda.specs.Agenda.{index_within}
 use Rattle.palm_model.specs.declared.constraint.Con.{Con}
 
 -- ---- revisions

@@ -8,5 +8,5 @@ use Rattle.palm_agenda.proofs.names.place_of.Goals as goal
 pub returns : goal.returns
 returns c =
     let at = c.partition_point.ensures.partitioned (λ n. cid_before c.args.cid.now n) (always_returns_same _ _ _ (λ a r f k. search (rules, of_calls)))
-      (parted (λ n. n) cid_after falling c.args.falling.now (sorted_falling c.args.falling.now c.requires) c.args.cid.now) in
+    (parted (λ n. n) cid_after falling c.args.falling.now (sorted_falling c.args.falling.now c.requires) c.args.cid.now) in
     record { within = c.partition_point.ensures.bound; before = at.0; after = at.1 }

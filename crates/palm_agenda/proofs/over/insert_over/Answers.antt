@@ -1,4 +1,4 @@
-use Rattle.std.proofs.Common.{inr, sym, subst, arith, ◌<◌, length}
+use Rattle.std.proofs.Common.{inr, sym, arith}
 use Rattle.palm_agenda.proofs.Rows.{put_none, put_more, put_all, put_room_stays, row_put, same_many}
 use Rattle.palm_agenda.specs.Names.{names_at}
 use Rattle.palm_agenda.proofs.over.insert_over.Goals as goal
@@ -18,7 +18,7 @@ loop-var-preserved c =
     let within = c.loop-var.invariant.within c.var-item.result (c.loop-var.var-index, c.loop-var-test.true, sym c.var-item.is) in
     record {
       names = put_more c.loop-var.over.items c.insert_at.new.over.items c.var-item.result c.args.cid.now within c.insert_at.ensures
-        c.args.over.now.items c.args.scope.now c.loop-var.var-index c.loop-var-test.true c.var-item.is c.loop-var.invariant.names;
+          c.args.over.now.items c.args.scope.now c.loop-var.var-index c.loop-var-test.true c.var-item.is c.loop-var.invariant.names;
       within = λ x m.
           let many = same_many c.loop-var.over.items c.insert_at.new.over.items c.var-item.result (row_put c.loop-var.over.items c.var-item.result c.args.cid.now) within c.insert_at.ensures in
           let old = c.loop-var.invariant.within x m in

@@ -1,4 +1,4 @@
-use Rattle.std.proofs.Common.{Contains, inl, inr, ap, ◌∙◌, subst, sym}
+use Rattle.std.proofs.Common.{Contains, inl, inr, ◌∙◌, subst, sym}
 use Rattle.std.proofs.lemmas.List.{take_all}
 use Rattle.palm_base.proofs.Members.{member_take_more}
 use Rattle.palm_agenda.specs.Names.{HasSpace}

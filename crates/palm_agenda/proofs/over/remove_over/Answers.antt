@@ -13,7 +13,7 @@ loop-var-preserved c =
     let within : c.var-item.result < length c.loop-var.over.items = omega (arith, c.loop-var.invariant.many, old) in
     record {
       names = cut_more c.loop-var.over.items c.remove_at.new.over.items c.var-item.result c.args.cid.now within c.remove_at.ensures
-        c.args.over.now.items c.args.scope.now c.loop-var.var-index c.loop-var-test.true c.var-item.is c.loop-var.invariant.names;
+          c.args.over.now.items c.args.scope.now c.loop-var.var-index c.loop-var-test.true c.var-item.is c.loop-var.invariant.names;
       many = same_many c.loop-var.over.items c.remove_at.new.over.items c.var-item.result (row_cut c.loop-var.over.items c.var-item.result c.args.cid.now) within c.remove_at.ensures ∙ c.loop-var.invariant.many;
     }
 

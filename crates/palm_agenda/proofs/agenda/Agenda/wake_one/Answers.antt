@@ -1,4 +1,4 @@
-use Rattle.std.proofs.Common.{refl, subst, sym, arith, ◌≤◌}
+use Rattle.std.proofs.Common.{subst, sym}
 use Rattle.palm_agenda.specs.Agenda.{Waiting, IsConnected}
 use Rattle.palm_agenda.proofs.Keeping.{room_connected, put_after, pending_set}
 use Rattle.palm_agenda.proofs.agenda.Agenda.wake_one.Goals as goal
@@ -13,3 +13,6 @@ invariant_of-self c =
 
 pub returns-clause-pending : goal.returns-clause-pending
 returns-clause-pending c = rw (← c.self.view_is) (pending_set c.args.cid c.self.inside.pending.names c.insert.new.self.names c.insert.ensures.names)
+
+pub returns-clause-formed : goal.returns-clause-formed
+returns-clause-formed c = (invariant_of-self c).formed

@@ -1,4 +1,4 @@
-use Rattle.std.proofs.Common.{sym, ap, ◌∙◌}
+use Rattle.std.proofs.Common.{sym}
 use Rattle.palm_agenda.proofs.NameLists.{put_room, told_absent, told_put, told_put_rises, told_member, with_name_same}
 use Rattle.palm_agenda.proofs.names.Names.insert.Goals as goal
 

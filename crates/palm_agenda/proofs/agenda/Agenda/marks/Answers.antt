@@ -1,0 +1,18 @@
+use Rattle.std.proofs.Common.{◌≡◌, Contains, ap, ◌∙◌, length, subst, sym}
+use Rattle.palm_agenda.specs.Agenda.{Connected, Waiting}
+use Rattle.palm_agenda.proofs.Connecting.{parted_in}
+use Rattle.palm_agenda.proofs.Keeping.{marks_here}
+use Rattle.palm_agenda.proofs.agenda.Agenda.marks.Goals as goal
+use Rattle.palm_agenda.proofs.agenda.Agenda.marks.Goals.{After-marks}
+
+found : (c : After-marks) (d : Connected) → Contains c.args.self.now.connected d → d.cid ≡ c.args.cid → c.index.result.now ≡ d
+found c d m named =
+    marks_here c.self.inside.connections.items c.args.cid c.place_of-place.result c.self.invariant.formed.rising
+    (parted_in c.deref.result.now c.self.inside.connections.items c.args.cid c.place_of-place.result c.deref.ensures.value c.place_of-place.ensures)
+    c.index.result.now c.index.ensures d (subst (λ (w : Waiting). Contains w.connected d) (sym c.self.view_is) m) named
+
+pub returns-clause-marks : goal.returns-clause-marks
+returns-clause-marks c d m named = c.marks.ensures.marks ∙ ap (λ (e : Connected). e.marks) (found c d m named)
+
+pub returns-clause-whole : goal.returns-clause-whole
+returns-clause-whole c d m named = ap length c.marks.ensures.marks ∙ c.marks.ensures.whole ∙ ap (λ (e : Connected). length e.scope) (found c d m named)
