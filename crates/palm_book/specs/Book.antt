@@ -1,5 +1,5 @@
 -- The book of a session: its variables with their initial values, and its constraints.
-use Rattle.std.specs.Prelude.{◌≡◌, ◌≢◌, ℕ, zero, suc, ℤ, ◌<◌, ◌≤◌, ◌==◌, Bool, true, List, [], ◌∷◌, length, map, All, Any, AllPairs, if◌then◌else◌, slice_index_or, filter}
+use Rattle.std.specs.Prelude.{◌≡◌, ◌≢◌, ℕ, zero, suc, ℤ, ◌<◌, ◌≤◌, ◌==◌, Bool, List, [], ◌∷◌, length, map, All, Any, AllPairs, if◌then◌else◌, slice_index_or, filter}
 use Rattle.palm_base.specs.declared.terms.Cid.{Cid}
 use Rattle.palm_base.specs.declared.terms.Cid.TheVariants.{Decide, Not, User}
 use Rattle.palm_read.specs.Name.{IsNameText}

@@ -63,7 +63,7 @@ domain_values (Set values) sound small = record { some = sound.0; few = omega (a
 none_named : {X : Type 0} (f : X → List ℕ) (xs : List X) (name : List ℕ) → (Any (λ x. f x ≡ name) xs → ⊥) → All (λ x. f x ≢ name) xs
 none_named f xs name none = all_members (λ x. f x ≢ name) xs (λ x m e. none (m.0, x, m.1, m.2, e))
 
-line_values : (s : SessionState) (name : List ℕ) (domain : DomainText) → IsSound (Var name domain) → IsNone (Meets s (Var name domain)) in_order → AreValues (values_in domain)
+pub line_values : (s : SessionState) (name : List ℕ) (domain : DomainText) → IsSound (Var name domain) → IsNone (Meets s (Var name domain)) in_order → AreValues (values_in domain)
 line_values s name domain sound none = domain_values domain sound.1 (λ h. none.1.1.1.1.0 (inl h))
 
 keeps_variable : (s : SessionState) (name : List ℕ) (domain : DomainText) (e : EngineState) → IsHeld s → IsSound (Var name domain) → IsNone (Meets s (Var name domain)) in_order

@@ -63,7 +63,7 @@ none_nil [] none = refl
 none_nil (v ∷ vs) none = absurd (none v (member_here v vs))
 
 -- what is inside domains with an empty one has an empty one
-inside_empty : (d e : Domains) (x : ℕ) → length d ≡ length e → IsInside d e → IsEmptyAt e x → IsEmptyAt d x
+pub inside_empty : (d e : Domains) (x : ℕ) → length d ≡ length e → IsInside d e → IsEmptyAt e x → IsEmptyAt d x
 inside_empty d e x long inside empty = record {
   exists = omega (arith, long, empty.exists);
   empty = none_nil (values_of d x) (λ v m. member_nil v (subst (λ (vs : List ℤ). Contains vs v) empty.empty (inside x v m)));

@@ -12,8 +12,10 @@ pub mod LawsOfDomains
 pub mod LawsOfLines
 pub mod LawsOfStates
 pub mod LawsOfTexts
+pub mod OneEmpty
 pub mod ReadOnce
 pub mod Retracting
 pub mod Serving
 pub mod Telling
+pub mod Users
 pub mod WellFormed

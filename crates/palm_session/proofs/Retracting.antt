@@ -9,13 +9,13 @@ use Rattle.palm_book.specs.Book.{Contents, initial_of, active_of}
 use Rattle.palm_book.specs.declared.book.BookCon.{BookCon}
 use Rattle.palm_book.proofs.Any.{any_member}
 use Rattle.palm_read.specs.declared.line.Line.{Line}
-use Rattle.palm_read.specs.declared.line.Line.TheVariants.{Add, Retract}
+use Rattle.palm_read.specs.declared.line.Line.TheVariants.{Add, Retract, Domains as DomainsLine}
 use Rattle.palm_read.specs.declared.line.Shape.{Shape}
-use Rattle.palm_session.specs.State.{SessionState, AreDomains}
+use Rattle.palm_session.specs.State.{SessionState, AreDomains, IsContradiction}
 use Rattle.palm_session.specs.Refusals.{Meets, in_order, IsNone}
-use Rattle.palm_session.specs.Effects.{Effect, Does, next, next_constraint, IsNamed}
-use Rattle.palm_session.specs.Answers.{IsPausable, Accepts, waits, contradicts, says}
-use Rattle.palm_session.proofs.LawsOfStates.{follows_book}
+use Rattle.palm_session.specs.Effects.{Effect, Nothing, Settled, Searched, Next, Rests, Filters, Follows, Does, next, next_constraint, IsNamed}
+use Rattle.palm_session.specs.Answers.{IsPausable, domains_text, Says, Accepts, waits, contradicts, says}
+use Rattle.palm_session.proofs.LawsOfStates.{follows_book, rests_same}
 
 -- the last of a list goes where no other one has its name
 last_removed : (cs : List BookCon) (c d : BookCon) (place : ℕ) → slice_get (cs ++ c ∷ []) place ≡ Some d → ((x : BookCon) → Contains cs x → x ≡ d → ⊥) → remove (cs ++ c ∷ []) place ≡ cs
@@ -42,6 +42,23 @@ back book next c d place e at other =
     ap (λ (b : Contents). shrunk b place) e
     ∙ ap (λ (l : List BookCon). record book { constraints = l }) (last_removed book.constraints c d place (subst (λ (b : Contents). slice_get b.constraints place ≡ Some d) e at) other)
 
+-- ---- and the session waits as before
+
+follows_paused : (m : SessionState) (n : Next) (effect : Effect) (t : SessionState) → Follows m n effect t → t.paused ≡ m.paused
+follows_paused m Rests Nothing t f = ap (λ (z : SessionState). z.paused) f
+follows_paused m Rests (Settled k) t f = absurd f
+follows_paused m Rests (Searched k) t f = absurd f
+follows_paused m (Filters limit) Nothing t f = absurd f
+follows_paused m (Filters limit) (Settled k) t f = ap (λ (z : SessionState). z.paused) f.2
+follows_paused m (Filters limit) (Searched k) t f = absurd f
+
+pub paused_as_before : (s m t : SessionState) (name : List ℕ) (shape : Shape) (a b : List ℕ) → Accepts s (Add name shape) a m → Accepts m (Retract name) b t → t.paused ≡ s.paused
+paused_as_before s m t name shape a b adds retracts =
+    let d = accepts_does s (Add name shape) a m (λ h. h) adds in
+    let r = accepts_does m (Retract name) b t (λ h. h) retracts in
+    follows_paused r.1.0 (next r.1.0 (Retract name)) r.0 t r.1.2 ∙ ap (λ (z : SessionState). z.paused) r.1.1.5
+    ∙ follows_paused d.1.0 (next d.1.0 (Add name shape)) d.0 m d.1.2 ∙ ap (λ (z : SessionState). z.paused) d.1.1.4
+
 pub added_and_retracted : (s m t : SessionState) (name : List ℕ) (shape : Shape) (a b : List ℕ) → IsNone (Meets s (Add name shape)) in_order → Accepts s (Add name shape) a m → Accepts m (Retract name) b t → t.book ≡ s.book
 added_and_retracted s m t name shape a b none adds retracts =
     let d = accepts_does s (Add name shape) a m (λ h. h) adds in
@@ -61,3 +78,31 @@ same_domains s t d e = (
   λ are. subst (λ (b : Contents). IsGreatest (initial_of b) (Contains (cons_of (active_of b))) d) (sym e) are,
   λ are. subst (λ (b : Contents). IsGreatest (initial_of b) (Contains (cons_of (active_of b))) d) e are,
 )
+
+-- ---- so the same domains are printed
+
+same_contradiction : (s t : SessionState) → t.book ≡ s.book → t.paused ≡ s.paused → IsContradiction s → IsContradiction t
+same_contradiction s t book paused c = record {
+  awake = paused ∙ c.awake;
+  domains = c.domains;
+  greatest = (same_domains s t c.domains book).0 c.greatest;
+  empty = c.empty;
+}
+
+printed_quietly : (s t u : SessionState) (effect : Effect) (reply : List ℕ) → t.book ≡ s.book → Follows s Rests effect u → Says u DomainsLine effect reply → Says t DomainsLine Nothing reply
+printed_quietly s t u effect reply book f said =
+    let same : u.book ≡ s.book = ap (λ (z : SessionState). z.book) (rests_same s effect u f) in
+    let back_there : u.book ≡ t.book = same ∙ sym book in
+    (said.0, (same_domains u t said.0 (sym back_there)).0 said.1, said.2 ∙ ap (λ (b : Contents). domains_text b.variables said.0) back_there)
+
+pub printed_as_before : (s t u : SessionState) (reply : List ℕ) → t.book ≡ s.book → t.paused ≡ s.paused → Accepts s DomainsLine reply u → Accepts t DomainsLine reply t
+printed_as_before s t u reply book paused (waits w) = waits (record { paused = paused ∙ w.paused; pausable = tt })
+printed_as_before s t u reply book paused (contradicts effect awake does c) =
+    let same : u ≡ s = rests_same does.0 effect u does.2 ∙ does.1 in
+    contradicts Nothing (λ w. awake (record { paused = sym paused ∙ w.paused; pausable = tt })) (t, refl, refl)
+    (record { contradiction = same_contradiction s t book paused (subst IsContradiction same c.contradiction); contradictable = tt })
+printed_as_before s t u reply book paused (says effect awake does quiet said) =
+    let same : u ≡ s = rests_same does.0 effect u does.2 ∙ does.1 in
+    says Nothing (λ w. awake (record { paused = sym paused ∙ w.paused; pausable = tt })) (t, refl, refl)
+    (λ c. quiet (record { contradiction = subst IsContradiction (sym same) (same_contradiction t s (sym book) (sym paused) c.contradiction); contradictable = tt }))
+    (printed_quietly s t u effect reply book (subst (λ (z : SessionState). Follows z Rests effect u) does.1 does.2) said)

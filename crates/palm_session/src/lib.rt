@@ -28,7 +28,8 @@ pub use laws::{
 pub use limits::MOST_KEPT_BYTES;
 pub use printed::{
     adding_and_retracting_gives_back_the_domains, contradictions_are_empty_domains,
-    kept_conflicts_conflict, kept_explanations_explain, printed_domains_are_the_engines,
+    kept_conflicts_conflict, kept_explanations_explain, one_domain_is_empty_at_most,
+    printed_domains_are_the_engines,
 };
 pub use session::Session;
 pub use stop::Stop;
