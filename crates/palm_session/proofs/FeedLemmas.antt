@@ -68,7 +68,7 @@ served_append s m t text more rest xs ys mid q r a b one two = record {
 }
 
 -- the same without the counts
-run_then : (s m t : SessionState) (xs ys : List (List ℕ)) (a b : List ℕ) → Run s xs a m → Run m ys b t → Run s (xs ++ ys) (a ++ b) t
+pub run_then : (s m t : SessionState) (xs ys : List (List ℕ)) (a b : List ℕ) → Run s xs a m → Run m ys b t → Run s (xs ++ ys) (a ++ b) t
 run_then s m t [] ys a b run more =
     let here : Run m ys (a ++ b) t = subst (λ (z : List ℕ). Run m ys (z ++ b) t) (sym run.0) more in
     subst (λ (x : SessionState). Run x ys (a ++ b) t) run.1 here

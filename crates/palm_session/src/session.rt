@@ -1,5 +1,5 @@
 //! Sessions: bytes in, in any pieces; lines cut out of them; replies out.
-ghost use Rattle.std.specs.Prelude.{◌≡◌, ◌-◌, ◌≤◌, ◌++◌, [], false, IfOk, OnOk, take};
+ghost use Rattle.std.specs.Prelude.{◌≡◌, ◌-◌, ◌≤◌, ◌++◌, [], true, false, IfOk, OnOk, take};
 ghost use Rattle.palm_session.specs.Writing.{IsCounted};
 ghost use Rattle.palm_session.specs.Feeding.{AnswersLines, Feeds, FeedsText, Finishes, FinishesTo, RaisesChecks};
 ghost use Rattle.palm_session.specs.Lines.{HasNoFeed, IsUnfinished};
