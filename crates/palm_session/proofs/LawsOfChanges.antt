@@ -281,7 +281,7 @@ changes_keep s m _ is sound none h = absurd h
 
 -- ---- where nothing follows, nothing waits for filtering
 
-rests_paused : (m : SessionState) → unless_paused m ≡ Rests → m.paused ≡ false → ⊥
+pub rests_paused : (m : SessionState) → unless_paused m ≡ Rests → m.paused ≡ false → ⊥
 rests_paused m rests awake =
     let e : Filters None ≡ Rests = subst (λ (b : Bool). (if b then Rests else Filters None) ≡ Rests) awake rests in cc
 

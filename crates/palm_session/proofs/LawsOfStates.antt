@@ -69,7 +69,7 @@ settled_still : (m : SessionState) (limit : Option ℕ) (count : ℕ) (e : Engin
 settled_still m None count e settles limited awake = settling_still m.engine settles.revisions e settles.settles
 settled_still m (Some l) count e settles limited awake = absurd (false≢true (sym awake ∙ limited l refl))
 
-follows_keeps : (m : SessionState) (n : Next) (effect : Effect) (t : SessionState) → IsHeld m → (n ≡ Rests → m.paused ≡ false → IsStill m.engine)
+pub follows_keeps : (m : SessionState) (n : Next) (effect : Effect) (t : SessionState) → IsHeld m → (n ≡ Rests → m.paused ≡ false → IsStill m.engine)
     → ((l : ℕ) → n ≡ Filters (Some l) → m.paused ≡ true) → Follows m n effect t → IsState t
 follows_keeps m Rests Nothing t is still limited f = subst IsState (sym f) (record { held = is; still = still refl })
 follows_keeps m Rests (Settled count) t is still limited f = absurd f

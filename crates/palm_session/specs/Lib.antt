@@ -7,6 +7,7 @@ pub mod Logged
 pub mod Refusals
 pub mod Replies
 pub mod ReplyText
+pub mod Serving
 pub mod State
 pub mod Told
 pub mod Writing

@@ -2,20 +2,23 @@
 #![tactic(auto)]
 
 mod answer;
+mod constraints;
 mod deliver;
 mod desk;
-mod domains;
-mod filtering;
 mod going;
 mod laws;
 mod limits;
 mod lines;
 mod printed;
+mod questions;
 mod refuse;
 mod reply;
 mod serve;
 mod session;
+mod settling;
 mod stop;
+mod variables;
+mod waiting;
 
 pub use going::Going;
 pub use laws::{

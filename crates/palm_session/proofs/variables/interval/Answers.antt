@@ -6,7 +6,7 @@ use Rattle.palm_model.specs.Limits.{IsValue}
 use Rattle.palm_book.specs.Book.{AreValues}
 use Rattle.palm_read.specs.Domain.{from_on}
 use Rattle.palm_session.proofs.Intervals.{abs_is, narrow, from_on_more, are_values}
-use Rattle.palm_session.proofs.serve.interval.Goals as goal
+use Rattle.palm_session.proofs.variables.interval.Goals as goal
 
 pub loop-offset-preserved : goal.loop-offset-preserved
 loop-offset-preserved c =
