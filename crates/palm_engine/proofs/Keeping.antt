@@ -160,9 +160,9 @@ put_back_kept f g cid active puts kept =
     let now : present_of f.store ≡ present s = kept.removed.present in
     let then : present_of g.store ≡ without s.initial (log_pairs g.log.log) = puts.removed.present ∙ ap (λ d. without d (log_pairs g.log.log)) puts.initial in
     let grows : IsInside (present_of f.store) (present_of g.store) = λ x v has.
-      subst (λ d. Has d x v) (sym then) (left_grows s (cid ∷ []) g.log.log puts.loses x v (subst (λ d. Has d x v) now has)) in
+    subst (λ d. Has d x v) (sym then) (left_grows s (cid ∷ []) g.log.log puts.loses x v (subst (λ d. Has d x v) now has)) in
     let only : (z : ℕ) (u : ℤ) → (Contains g.log.restored z → ⊥) → Has (present_of g.store) z u → Has (present_of f.store) z u = λ z u no has.
-      subst (λ d. Has d z u) (sym now) (left_same s g.log.log z u (λ m. no ((puts.restored z).1 m)) (subst (λ d. Has d z u) then has)) in
+    subst (λ d. Has d z u) (sym now) (left_same s g.log.log z u (λ m. no ((puts.restored z).1 m)) (subst (λ d. Has d z u) then has)) in
     let long : length (present_of f.store) ≡ length (present_of g.store) = present_long f.store ∙ ap (λ (d : Domains). length d) (sym puts.initial) ∙ sym (present_long g.store) in
     let without = without_is_connected active f.agenda.connected cid kept.connected in
     record {
@@ -183,29 +183,29 @@ put_back_withdraws f g cid active rises puts kept =
     let after_rises : Rises (cids_of left) = without_names_rises (cid ∷ []) active rises in
     let connected = without_is_connected active f.agenda.connected cid kept.connected in
     let same : g.agenda.pending ≡ woken left f.agenda.pending vars =
-      rising_same g.agenda.pending (woken left f.agenda.pending vars) puts.formed.pending_rising (woken_rises left f.agenda.pending vars after_rises)
-      (λ c m. elim ((puts.pending c).0 m) [
-        | inl k ↦
-            let r = without_cid_member cid f.agenda.pending c k in
-            let is = connected_is_active active f.agenda.connected kept.connected c (kept.formed.pending_connected c r.0) in
-            let stays = member_without_names (cid ∷ []) active is.owner is.posted (λ n. r.1 (sym (is.named) ∙ sym (single_name cid is.owner.cid n))) in
-            subst (Contains (woken left f.agenda.pending vars)) is.named
-            (member_woken left f.agenda.pending vars is.owner stays (awake_named f.agenda.pending vars is.owner (member_same f.agenda.pending c is.owner.cid (sym is.named) r.0)))
-        | inr k ↦
-            let a = over_active left (without_connected cid f.agenda.connected) connected k.0 c k.2 in
-            subst (Contains (woken left f.agenda.pending vars)) a.2
-            (member_woken left f.agenda.pending vars a.0 a.1 (awake_over f.agenda.pending vars a.0 k.0 ((puts.restored k.0).0 k.1) a.3))
-      ])
-      (λ c m.
-      let r = woken_active left f.agenda.pending vars c m in
-      let stays = without_names_member (cid ∷ []) active r.0 r.1 in
-      (puts.pending c).1 (elim (or_cases (is_named f.agenda.pending r.0.cid) (list_any (λ x. is_over r.0.con x) vars) r.3) [
-        | inl t ↦ inl (member_without_cid cid f.agenda.pending c (member_same f.agenda.pending r.0.cid c r.2 (named_member f.agenda.pending r.0.cid t))
-            (λ e. stays.1 (member_same (cid ∷ []) cid r.0.cid (sym (r.2 ∙ e)) (member_here cid []))))
-        | inr t ↦
-            let x = any_member (λ y. is_over r.0.con y) vars t in
-            inr (x.0, (puts.restored x.0).1 x.1, subst (λ d. IsOver (without_connected cid f.agenda.connected) x.0 d) r.2 (active_over left (without_connected cid f.agenda.connected) connected x.0 r.0 r.1 (over_member r.0.con x.0 x.2)))
-      ])) in
+    rising_same g.agenda.pending (woken left f.agenda.pending vars) puts.formed.pending_rising (woken_rises left f.agenda.pending vars after_rises)
+    (λ c m. elim ((puts.pending c).0 m) [
+      | inl k ↦
+          let r = without_cid_member cid f.agenda.pending c k in
+          let is = connected_is_active active f.agenda.connected kept.connected c (kept.formed.pending_connected c r.0) in
+          let stays = member_without_names (cid ∷ []) active is.owner is.posted (λ n. r.1 (sym (is.named) ∙ sym (single_name cid is.owner.cid n))) in
+          subst (Contains (woken left f.agenda.pending vars)) is.named
+          (member_woken left f.agenda.pending vars is.owner stays (awake_named f.agenda.pending vars is.owner (member_same f.agenda.pending c is.owner.cid (sym is.named) r.0)))
+      | inr k ↦
+          let a = over_active left (without_connected cid f.agenda.connected) connected k.0 c k.2 in
+          subst (Contains (woken left f.agenda.pending vars)) a.2
+          (member_woken left f.agenda.pending vars a.0 a.1 (awake_over f.agenda.pending vars a.0 k.0 ((puts.restored k.0).0 k.1) a.3))
+    ])
+    (λ c m.
+    let r = woken_active left f.agenda.pending vars c m in
+    let stays = without_names_member (cid ∷ []) active r.0 r.1 in
+    (puts.pending c).1 (elim (or_cases (is_named f.agenda.pending r.0.cid) (list_any (λ x. is_over r.0.con x) vars) r.3) [
+      | inl t ↦ inl (member_without_cid cid f.agenda.pending c (member_same f.agenda.pending r.0.cid c r.2 (named_member f.agenda.pending r.0.cid t))
+          (λ e. stays.1 (member_same (cid ∷ []) cid r.0.cid (sym (r.2 ∙ e)) (member_here cid []))))
+      | inr t ↦
+          let x = any_member (λ y. is_over r.0.con y) vars t in
+          inr (x.0, (puts.restored x.0).1 x.1, subst (λ d. IsOver (without_connected cid f.agenda.connected) x.0 d) r.2 (active_over left (without_connected cid f.agenda.connected) connected x.0 r.0 r.1 (over_member r.0.con x.0 x.2)))
+    ])) in
     record {
       left = g.log.log;
       loses = puts.loses;
@@ -241,21 +241,21 @@ posted_state f w a active rises inactive formed pending kept =
     let more = with_posted a active in
     let names = a.cid ∷ f.agenda.pending in
     let same : w.pending ≡ woken more names [] =
-      rising_same w.pending (woken more names []) formed.pending_rising (woken_rises more names [] (with_posted_rises a active rises))
-      (λ c m. elim ((pending c).0 m) [
-        | inl k ↦
-            let is = connected_is_active active f.agenda.connected kept.connected c (kept.formed.pending_connected c k) in
-            subst (Contains (woken more names [])) is.named
-            (member_woken more names [] is.owner (member_with_posted a active is.owner inactive is.posted)
-            (awake_named names [] is.owner (member_there a.cid f.agenda.pending is.owner.cid (member_same f.agenda.pending c is.owner.cid (sym is.named) k))))
-        | inr e ↦ subst (Contains (woken more names [])) (sym e) (member_woken more names [] a (with_posted_here a active) (awake_named names [] a (member_here a.cid f.agenda.pending)))
-      ])
-      (λ c m.
-      let r = woken_active more names [] c m in
-      (pending c).1 (elim (member_cases a.cid f.agenda.pending r.0.cid (awake_alone names r.0 r.3)) [
-        | inl e ↦ inr (sym (e ∙ r.2))
-        | inr k ↦ inl (member_same f.agenda.pending r.0.cid c r.2 k)
-      ])) in
+    rising_same w.pending (woken more names []) formed.pending_rising (woken_rises more names [] (with_posted_rises a active rises))
+    (λ c m. elim ((pending c).0 m) [
+      | inl k ↦
+          let is = connected_is_active active f.agenda.connected kept.connected c (kept.formed.pending_connected c k) in
+          subst (Contains (woken more names [])) is.named
+          (member_woken more names [] is.owner (member_with_posted a active is.owner inactive is.posted)
+          (awake_named names [] is.owner (member_there a.cid f.agenda.pending is.owner.cid (member_same f.agenda.pending c is.owner.cid (sym is.named) k))))
+      | inr e ↦ subst (Contains (woken more names [])) (sym e) (member_woken more names [] a (with_posted_here a active) (awake_named names [] a (member_here a.cid f.agenda.pending)))
+    ])
+    (λ c m.
+    let r = woken_active more names [] c m in
+    (pending c).1 (elim (member_cases a.cid f.agenda.pending r.0.cid (awake_alone names r.0 r.3)) [
+      | inl e ↦ inr (sym (e ∙ r.2))
+      | inr k ↦ inl (member_same f.agenda.pending r.0.cid c r.2 k)
+    ])) in
     λ i. record { initial = initial_of f.store; active = more; log = f.log.log; pending = same i }
 
 -- what a posting leaves, where it succeeded
@@ -315,7 +315,7 @@ declared_present d pairs vs ascend ascends declared =
           (subst (λ ws. Contains ws v) (sym (ap (values_of more) e ∙ last_values d vs)) (subst (λ ws. Contains ws v) (ap (values_of left) (e ∙ sym long) ∙ last_values (without d pairs) vs) has))
           (λ m. no_pair x v e m)
     ])
-    (λ x v has. let r = without_has more pairs x v has in elim (which x (length d) (subst (λ n. x < n) (length-append d (vs ∷ [])) (has_declared more x v r.0)) ) [
+    (λ x v has. let r = without_has more pairs x v has in elim (which x (length d) (subst (λ n. x < n) (length-append d (vs ∷ [])) (has_declared more x v r.0))) [
       | inl lt ↦ subst (λ ws. Contains ws v) (sym (values_of_more (without d pairs) vs x (subst (λ n. x < n) (sym long) lt))) (more_has d vs pairs x v lt has)
       | inr e ↦ subst (λ ws. Contains ws v) (sym (ap (values_of left) (e ∙ sym long) ∙ last_values (without d pairs) vs)) (subst (λ ws. Contains ws v) (ap (values_of more) e ∙ last_values d vs) r.0)
     ])
@@ -341,9 +341,9 @@ declared_engine f store values active ascends filled e engine =
     let now : present_of store ≡ present_of f.store ++ values ∷ [] = ap present_of e ∙ map-append (λ (r : Row). r.present) f.store (row ∷ []) in
     let was : present_of f.store ≡ without (initial_of f.store) pairs = kept.removed.present in
     let lacks : present_of store ≡ without (initial_of store) pairs =
-      now ∙ ap (λ d. d ++ values ∷ []) was ∙ declared_present (initial_of f.store) pairs values engine.valid.ascend ascends kept.removed.declared ∙ ap (λ d. without d pairs) (sym initial) in
+    now ∙ ap (λ d. d ++ values ∷ []) was ∙ declared_present (initial_of f.store) pairs values engine.valid.ascend ascends kept.removed.declared ∙ ap (λ d. without d pairs) (sym initial) in
     let within : (a : Active) (z : ℕ) → Contains active a → Contains (scope a.con) z → z < length (present_of f.store) = λ a z m over.
-      subst (λ n. z < n) (sym (present_long f.store)) (active_declared s engine.valid a m z over) in
+    subst (λ n. z < n) (sym (present_long f.store)) (active_declared s engine.valid a m z over) in
     record {
       kept = record {
         removed = record {

@@ -16,6 +16,7 @@ use Rattle.palm_model.specs.declared.constraint.Con.{Con}
 use Rattle.palm_base.specs.Tells.{Tells}
 use Rattle.palm_base.proofs.Telling.{tells_both}
 use Rattle.palm_events.proofs.Names.{before_then, cid_same, not_before_itself, member_named, member_not_named, same_cid_itself}
+use Rattle.palm_events.proofs.States.{without_names_rises}
 use Rattle.palm_agenda.specs.Names.{IsPartedAt}
 use Rattle.palm_agenda.proofs.NameLists.{rising}
 use Rattle.palm_agenda.proofs.Sorted.{IsSortedKeys, parted, listed_at, apart, filter_removes, inserted}
@@ -92,7 +93,7 @@ inserted_names active xs y place rises at inactive =
 
 -- ---- one constraint less
 
-map_remove : {X Y : Type 0} (f : X → Y) (xs : List X) (k : ℕ) → map f (remove xs k) ≡ remove (map f xs) k
+pub map_remove : {X Y : Type 0} (f : X → Y) (xs : List X) (k : ℕ) → map f (remove xs k) ≡ remove (map f xs) k
 map_remove f [] zero = refl
 map_remove f [] (suc k) = refl
 map_remove f (x ∷ xs) zero = refl
@@ -109,6 +110,10 @@ removed_from active place a rises e =
 pub removed_names : {X : Type 0} (active : X → Active) (xs : List X) (place : ℕ) (a : Active) → Rises (cids_of (map active xs)) → slice_get (map active xs) place ≡ Some a
     → map active (remove xs place) ≡ without_names (a.cid ∷ []) (map active xs)
 removed_names active xs place a rises e = map_remove active xs place ∙ removed_from (map active xs) place a rises e
+
+pub removed_rises : {X : Type 0} (active : X → Active) (xs ys : List X) (place : ℕ) (a : Active) → Rises (cids_of (map active xs)) → slice_get (map active xs) place ≡ Some a → ys ≡ remove xs place → Rises (cids_of (map active ys))
+removed_rises active xs ys place a rises e left =
+    subst (λ l. Rises (cids_of l)) (sym (ap (map active) left ∙ removed_names active xs place a rises e)) (without_names_rises (a.cid ∷ []) (map active xs) rises)
 
 -- ---- decisions, then negations, then users
 
@@ -289,7 +294,7 @@ rest_stands {F = F} meaning xs place rises other behind a m =
     let first : is_negation x ≡ false = subst (λ (o : Option (Posted F)). IfSome o (λ p. is_negation p ≡ false)) (slice_get-get_or xs place r.0 lt) other in
     let here : Contains (drop place xs) x = (0, omega (arith, length-drop place xs), get_or-drop place xs 0 x ∙ ap (λ k. get_or xs k x) (add-zero place) ∙ get_or_default xs place x r.0 lt) in
     let free : (v : ℕ) → (active_of meaning x).cid ≡ Decide v → ⊥ = λ v e.
-      behind (active_of meaning x) v (subst (λ l. Contains l (active_of meaning x)) (sym (map_drop (active_of meaning) place xs)) (member_map (active_of meaning) (drop place xs) x here)) e in
+    behind (active_of meaning x) v (subst (λ l. Contains l (active_of meaning x)) (sym (map_drop (active_of meaning) place xs)) (member_map (active_of meaning) (drop place xs) x here)) e in
     let stands : is_negation r.0 ≡ false = elim (cases_lt place at.0) [
       | inl l ↦ user_then meaning x r.0 first free (subst (λ y. cid_before (active_of meaning x).cid (active_of meaning y).cid ≡ true) at.3 (sorted_at (active_of meaning) xs rises place at.0 r.0 l at.2))
       | inr ge ↦ let e : place ≡ at.0 = omega (arith, at.1) in subst (λ y. is_negation y ≡ false) (ap (λ k. get_or xs k r.0) e ∙ at.3) first

@@ -97,8 +97,7 @@ pub waits_more : (vars : List ℕ) (i x : ℕ) (before middle : List Connected) 
     → ((c : Cid) → Contains new c ↔ (Contains then c ⊎ IsOver middle x c)) → AreWoken before (take (i + 1) vars) old new
 waits_more vars i x before middle old then new lt at was first last c =
     let more : take (i + 1) vars ≡ take i vars ++ x ∷ [] = take_more vars i x lt ∙ ap (λ y. take i vars ++ y ∷ []) (sym at) in
-    let test = is_one_of (take i vars) in
-    (
+    let test = is_one_of (take i vars) in (
       λ m. elim ((last c).0 m) [
         | inl k ↦ elim ((first c).0 k) [
           | inl o ↦ inl o

@@ -22,7 +22,8 @@ use Rattle.palm_engine.specs.Settling.IsEnded.{ended_empty, ended_quiet, ended_l
 use Rattle.palm_engine.specs.Kept.{IsKept, IsEmptyKept, IsEngine, AreConnected, AreMarked, state_of, state_in_revision}
 use Rattle.palm_engine.specs.Revising.{IsRevising, HasCounted, IsTaken, HasRevised, HasPartlyRevised, TakesNext, TakesNone, TellsEnd}
 use Rattle.palm_engine.specs.Revising.TakesNone.{none_filled, none_allowed, none_pending}
-use Rattle.palm_engine.specs.Work.{named_sizes, most_asked}
+use Rattle.palm_engine.specs.Work.{effort, named_sizes, most_asked}
+use Rattle.palm_engine.proofs.Ending.{revision_falls}
 use Rattle.palm_engine.proofs.Joined.{walk_valid}
 use Rattle.palm_engine.proofs.Places.{kept_empty}
 use Rattle.palm_engine.proofs.Progress.{counted_none, counted_then, counted_more}
@@ -262,3 +263,8 @@ stopped_asked limit ordered active before f g h count old mid new cid rises run 
 pub stopped_checks : (limit : Option ℕ) (ordered : Bool) (active : List Active) (before f g h : Filtering) (count old mid new : ℕ) (cid : Cid) → HasRun limit ordered active before f count old mid → TakesNext limit ordered count f g cid
     → HasCounted (named_sizes (state_in_revision g active cid) (cid ∷ [])) g h mid new → before.checks ≤ LAST_COUNT → h.checks ≡ min (before.checks + (new - old)) LAST_COUNT
 stopped_checks limit ordered active before f g h count old mid new cid run takes counted le = (spent_more limit ordered active before f g h count old mid new cid run takes counted).checks le
+
+pub run_falls : (limit : Option ℕ) (ordered : Bool) (ran : ℕ) (active : List Active) (f g h : Filtering) (cid : Cid) (removed : ℕ) → TakesNext limit ordered ran f g cid → IsEngine f active
+    → HasRevised active cid (state_in_revision g active cid) (state_of h active) removed → effort (state_of h active) < effort (state_of f active)
+run_falls limit ordered ran active f g h cid removed takes engine revised =
+    (revision_falls (state_of f active) (record { answer = takes.answer; cid = cid; removed = removed }) (state_of h active) (revises_next limit ordered ran active f g h cid removed takes engine revised)).effort

@@ -86,43 +86,43 @@ withdraws_then s m t first then rises one two =
         let same = without_both first then s.active in
         let between_rises = without_names_rises first s.active rises in
         let pending : woken active (woken between s.pending vars) more ≡ woken active s.pending lost =
-          rising_same (woken active (woken between s.pending vars) more) (woken active s.pending lost)
-          (woken_rises active (woken between s.pending vars) more (without_names_rises then between between_rises))
-          (woken_rises active s.pending lost (without_names_rises then between between_rises))
-          (λ c k.
-          let r = woken_active active (woken between s.pending vars) more c k in
-          subst (Contains (woken active s.pending lost)) r.2 (member_woken active s.pending lost r.0 r.1
-          (elim (or_cases (is_named (woken between s.pending vars) r.0.cid) (list_any (λ x. is_over r.0.con x) more) r.3) [
-            | inl h ↦
-                let b = woken_active between s.pending vars r.0.cid (named_member (woken between s.pending vars) r.0.cid h) in
-                let e = single between between_rises b.0 r.0 b.1 (without_names_member then between r.0 r.1).0 b.2 in
-                let awake : is_awake s.pending vars r.0 ≡ true = subst (λ z. is_awake s.pending vars z ≡ true) e b.3 in
-                elim (or_cases (is_named s.pending r.0.cid) (list_any (λ x. is_over r.0.con x) vars) awake) [
-                  | inl n ↦ awake_named s.pending lost r.0 (named_member s.pending r.0.cid n)
-                  | inr n ↦ let x = any_member (λ y. is_over r.0.con y) vars n in
-                      awake_over s.pending lost r.0 x.0 (more_vars (lost_pairs s.log middle) (lost_pairs s.log left) (λ p j. two_lost s.log middle left first then one two p (inl j)) x.0 x.1) (over_member r.0.con x.0 x.2)
-                ]
-            | inr h ↦ let x = any_member (λ y. is_over r.0.con y) more h in
-                awake_over s.pending lost r.0 x.0 (more_vars (lost_pairs middle left) (lost_pairs s.log left) (λ p j. two_lost s.log middle left first then one two p (inr j)) x.0 x.1) (over_member r.0.con x.0 x.2)
-          ])))
-          (λ c k.
-          let r = woken_active active s.pending lost c k in
-          let was = (without_names_member then between r.0 r.1).0 in
-          subst (Contains (woken active (woken between s.pending vars) more)) r.2 (member_woken active (woken between s.pending vars) more r.0 r.1
-          (elim (or_cases (is_named s.pending r.0.cid) (list_any (λ x. is_over r.0.con x) lost) r.3) [
-            | inl h ↦ awake_named (woken between s.pending vars) more r.0 (member_woken between s.pending vars r.0 was (awake_named s.pending vars r.0 (named_member s.pending r.0.cid h)))
-            | inr h ↦
-                let x = any_member (λ y. is_over r.0.con y) lost h in
-                let p = var_of (lost_pairs s.log left) x.0 x.1 in
-                let over = over_member r.0.con x.0 x.2 in
-                elim (lost_in_two s.log middle left first then one two p.0 p.1) [
-                  | inl j ↦ awake_named (woken between s.pending vars) more r.0 (member_woken between s.pending vars r.0 was
-                      (awake_over s.pending vars r.0 x.0 (member_same vars p.0.var x.0 p.2 (member_map (λ (q : Pair). q.var) (lost_pairs s.log middle) p.0 j)) over))
-                  | inr j ↦ awake_over (woken between s.pending vars) more r.0 x.0 (member_same more p.0.var x.0 p.2 (member_map (λ (q : Pair). q.var) (lost_pairs middle left) p.0 j)) over
-                ]
-          ]))) in
+        rising_same (woken active (woken between s.pending vars) more) (woken active s.pending lost)
+        (woken_rises active (woken between s.pending vars) more (without_names_rises then between between_rises))
+        (woken_rises active s.pending lost (without_names_rises then between between_rises))
+        (λ c k.
+        let r = woken_active active (woken between s.pending vars) more c k in
+        subst (Contains (woken active s.pending lost)) r.2 (member_woken active s.pending lost r.0 r.1
+        (elim (or_cases (is_named (woken between s.pending vars) r.0.cid) (list_any (λ x. is_over r.0.con x) more) r.3) [
+          | inl h ↦
+              let b = woken_active between s.pending vars r.0.cid (named_member (woken between s.pending vars) r.0.cid h) in
+              let e = single between between_rises b.0 r.0 b.1 (without_names_member then between r.0 r.1).0 b.2 in
+              let awake : is_awake s.pending vars r.0 ≡ true = subst (λ z. is_awake s.pending vars z ≡ true) e b.3 in
+              elim (or_cases (is_named s.pending r.0.cid) (list_any (λ x. is_over r.0.con x) vars) awake) [
+                | inl n ↦ awake_named s.pending lost r.0 (named_member s.pending r.0.cid n)
+                | inr n ↦ let x = any_member (λ y. is_over r.0.con y) vars n in
+                    awake_over s.pending lost r.0 x.0 (more_vars (lost_pairs s.log middle) (lost_pairs s.log left) (λ p j. two_lost s.log middle left first then one two p (inl j)) x.0 x.1) (over_member r.0.con x.0 x.2)
+              ]
+          | inr h ↦ let x = any_member (λ y. is_over r.0.con y) more h in
+              awake_over s.pending lost r.0 x.0 (more_vars (lost_pairs middle left) (lost_pairs s.log left) (λ p j. two_lost s.log middle left first then one two p (inr j)) x.0 x.1) (over_member r.0.con x.0 x.2)
+        ])))
+        (λ c k.
+        let r = woken_active active s.pending lost c k in
+        let was = (without_names_member then between r.0 r.1).0 in
+        subst (Contains (woken active (woken between s.pending vars) more)) r.2 (member_woken active (woken between s.pending vars) more r.0 r.1
+        (elim (or_cases (is_named s.pending r.0.cid) (list_any (λ x. is_over r.0.con x) lost) r.3) [
+          | inl h ↦ awake_named (woken between s.pending vars) more r.0 (member_woken between s.pending vars r.0 was (awake_named s.pending vars r.0 (named_member s.pending r.0.cid h)))
+          | inr h ↦
+              let x = any_member (λ y. is_over r.0.con y) lost h in
+              let p = var_of (lost_pairs s.log left) x.0 x.1 in
+              let over = over_member r.0.con x.0 x.2 in
+              elim (lost_in_two s.log middle left first then one two p.0 p.1) [
+                | inl j ↦ awake_named (woken between s.pending vars) more r.0 (member_woken between s.pending vars r.0 was
+                    (awake_over s.pending vars r.0 x.0 (member_same vars p.0.var x.0 p.2 (member_map (λ (q : Pair). q.var) (lost_pairs s.log middle) p.0 j)) over))
+                | inr j ↦ awake_over (woken between s.pending vars) more r.0 x.0 (member_same more p.0.var x.0 p.2 (member_map (λ (q : Pair). q.var) (lost_pairs middle left) p.0 j)) over
+              ]
+        ]))) in
         let there : withdrawn (withdrawn s first middle) then left ≡ record s { active = active; log = left; pending = woken active s.pending lost } =
-          ap (λ names. record s { active = active; log = left; pending = names }) pending in
+        ap (λ names. record s { active = active; log = left; pending = names }) pending in
         there ∙ ap (λ l. record s { active = l; log = left; pending = woken l s.pending lost }) same
 
 -- ---- none at all
@@ -143,16 +143,16 @@ withdraws_none f active rises kept =
     let pending = f.agenda.pending in
     let vars = vars_of (lost_pairs f.log.log f.log.log) in
     let same : pending ≡ woken active pending vars =
-      rising_same pending (woken active pending vars) kept.formed.pending_rising (woken_rises active pending vars rises)
-      (λ c m.
-      let is = connected_is_active active f.agenda.connected kept.connected c (kept.formed.pending_connected c m) in
-      subst (Contains (woken active pending vars)) is.named (member_woken active pending vars is.owner is.posted (awake_named pending vars is.owner (member_same pending c is.owner.cid (sym is.named) m))))
-      (λ c m.
-      let r = woken_active active pending vars c m in
-      elim (or_cases (is_named pending r.0.cid) (list_any (λ x. is_over r.0.con x) vars) r.3) [
-        | inl t ↦ member_same pending r.0.cid c r.2 (named_member pending r.0.cid t)
-        | inr t ↦ let x = any_member (λ y. is_over r.0.con y) vars t in absurd (none_lost f.log.log x.0 x.1)
-      ]) in
+    rising_same pending (woken active pending vars) kept.formed.pending_rising (woken_rises active pending vars rises)
+    (λ c m.
+    let is = connected_is_active active f.agenda.connected kept.connected c (kept.formed.pending_connected c m) in
+    subst (Contains (woken active pending vars)) is.named (member_woken active pending vars is.owner is.posted (awake_named pending vars is.owner (member_same pending c is.owner.cid (sym is.named) m))))
+    (λ c m.
+    let r = woken_active active pending vars c m in
+    elim (or_cases (is_named pending r.0.cid) (list_any (λ x. is_over r.0.con x) vars) r.3) [
+      | inl t ↦ member_same pending r.0.cid c r.2 (named_member pending r.0.cid t)
+      | inr t ↦ let x = any_member (λ y. is_over r.0.con y) vars t in absurd (none_lost f.log.log x.0 x.1)
+    ]) in
     record {
       left = f.log.log;
       loses = loses_none f.log.log f.log.log;
@@ -300,9 +300,10 @@ walk_ends f g before after cid place walked stands =
     (sym (ap (λ l. resting_on l cid) walked.parts ∙ resting_append walked.front (drop place after) cid (resting_none (drop place after) cid stands))) walked.withdraws
 
 -- and the whole withdrawal
-pub withdrawn_engine : (f m g : Filtering) (active middle after : List Active) (cid : Cid) → IsEngine f active → middle ≡ without_names (cid ∷ []) active
-    → WithdrawsAll (state_of f active) (cid ∷ []) (state_of m middle) → WithdrawsAll (state_of m middle) (resting_on middle cid) (state_of g after) → IsKept g after
+pub withdrawn_engine : (f m g : Filtering) (active middle after : List Active) (cid : Cid) (a : Active) → IsEngine f active → a.cid ≡ cid → middle ≡ without_names (a.cid ∷ []) active
+    → WithdrawsAll (state_of f active) (a.cid ∷ []) (state_of m middle) → WithdrawsAll (state_of m middle) (resting_on middle cid) (state_of g after) → IsKept g after
     → IsEngine g after × Withdraws (state_of f active) cid (state_of g after)
-withdrawn_engine f m g active middle after cid engine left one two kept =
-    let withdraws = withdraws_both (state_of f active) (state_of m middle) (state_of g after) cid engine.valid left one two in
+withdrawn_engine f m g active middle after cid a engine named left one two kept =
+    let withdraws = withdraws_both (state_of f active) (state_of m middle) (state_of g after) cid engine.valid (left ∙ ap (λ c. without_names (c ∷ []) active) named)
+    (subst (λ c. WithdrawsAll (state_of f active) (c ∷ []) (state_of m middle)) named one) two in
     (record { kept = kept; valid = withdraws_valid (state_of f active) (state_of g after) cid withdraws engine.valid }, withdraws)

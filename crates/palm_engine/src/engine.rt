@@ -143,6 +143,8 @@ impl<F: Filter> Engine<F> {
         ensures stays { is_some order.new ≡ is_some order.old }
         ensures valid { IsValid self.new.state }
     {
+        // A number that is read is known to fit its type.
+        let _checks = self.filtering.checks;
         let mut reasons = Reasons::new(*self.posted.allocator());
         self.revisions = 0;
         while let Some(cid) = take_next(&mut self.filtering, order, limit, self.revisions) {

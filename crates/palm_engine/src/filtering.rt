@@ -83,12 +83,7 @@ impl Filtering {
     }
 
     /// Takes a present value out by this constraint and for these removed pairs. Without memory nothing changes.
-    pub(crate) fn remove(
-        &mut self,
-        pair: Pair,
-        by: Cid,
-        reasons: &[Pair],
-    ) -> Result<(), NoMemory>
+    pub(crate) fn remove(&mut self, pair: Pair, by: Cid, reasons: &[Pair]) -> Result<(), NoMemory>
         requires removed { LacksExactly self.old.store (log_pairs self.old.log.log) }
         requires present { IsPresent self.old.store pair.var pair.value }
         requires earlier { (p : PairTerm) → Contains reasons.now p → Contains (log_pairs self.old.log.log) p }

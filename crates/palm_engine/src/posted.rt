@@ -22,15 +22,9 @@ pub(crate) enum Posted<F> {
     /// The variable has the value.
     Decision(Pair),
     /// The variable does not have the value, for these constraints.
-    Negation {
-        pair: Pair,
-        because: CidList,
-    },
+    Negation { pair: Pair, because: CidList },
     /// The constraint of a user.
-    User {
-        number: u32,
-        filter: F,
-    },
+    User { number: u32, filter: F },
 }
 
 /// Whether the first name comes before the second.

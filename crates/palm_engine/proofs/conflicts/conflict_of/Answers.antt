@@ -1,6 +1,3 @@
-use Rattle.std.proofs.Common.{take, subst, refl, sym}
-use Rattle.palm_model.specs.Conflict.{IsKeptConflict}
-use Rattle.palm_engine.specs.Kept.{state_of}
 use Rattle.palm_engine.proofs.Gathering.{explanations_more, conflict_listed, empty_logged}
 use Rattle.palm_engine.proofs.conflicts.conflict_of.Goals as goal
 

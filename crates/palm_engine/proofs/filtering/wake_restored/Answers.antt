@@ -1,4 +1,4 @@
-use Rattle.std.proofs.Common.{rules, refl}
+use Rattle.std.proofs.Common.{refl}
 use Rattle.palm_engine.proofs.Restoring.{woken_none, woken_more, woken_all, waits_none, waits_more, waits_all}
 use Rattle.palm_engine.proofs.filtering.wake_restored.Goals as goal
 

@@ -1,4 +1,4 @@
-use Rattle.std.proofs.Common.{◌≡◌, ◌⊎◌, ◌↔◌, if◌then◌else◌, insert, map, sym, ap, ◌∙◌, subst, Contains}
+use Rattle.std.proofs.Common.{◌≡◌, ◌⊎◌, ◌↔◌, if◌then◌else◌, insert, sym, ap, ◌∙◌, subst, Contains}
 use Rattle.palm_base.specs.declared.terms.Cid.{Cid}
 use Rattle.palm_model.specs.Log.{IsActive, cid_before}
 use Rattle.palm_agenda.specs.Names.{IsPartedAt}

@@ -1,4 +1,4 @@
-use Rattle.std.proofs.Common.{ℕ, ◌-◌, length}
+use Rattle.std.proofs.Common.{◌-◌, length}
 use Rattle.palm_engine.specs.Posted.{actives_of}
 use Rattle.palm_engine.proofs.Withdrawing.{IsWalked}
 use Rattle.palm_engine.proofs.posting.take_out_resting.Given as goal

@@ -1,9 +1,5 @@
-use Rattle.std.proofs.Common.{◌≡◌}
-use Rattle.palm_domain.specs.Rows.{initial_of}
-use Rattle.palm_model.specs.State.{IsValid}
-use Rattle.palm_engine.specs.Kept.{IsEngine, state_of}
 use Rattle.palm_engine.specs.Posted.{active_of, actives_of}
-use Rattle.palm_engine.proofs.Keeping.{IsActivated, activated_engine, activated_posts, unchanged_engine}
+use Rattle.palm_engine.proofs.Keeping.{activated_posts}
 use Rattle.palm_engine.proofs.Fitting.{activated, engine_or_unchanged}
 use Rattle.palm_engine.proofs.Results.{on_ok}
 use Rattle.palm_engine.proofs.engine.Engine.activate.Goals as goal

@@ -1,4 +1,4 @@
-use Rattle.std.proofs.Common.{◌≡◌, sym, subst}
+use Rattle.std.proofs.Common.{sym, subst}
 use Rattle.palm_engine.specs.Kept.{IsEngine}
 use Rattle.palm_engine.specs.Posted.{actives_of}
 use Rattle.palm_engine.proofs.Keeping.{declared_engine}

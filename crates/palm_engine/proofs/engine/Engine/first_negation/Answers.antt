@@ -1,4 +1,4 @@
-use Rattle.std.proofs.Common.{◌≡◌, ◌≤◌, ◌∙◌, Some, length, slice_get, sym, ap, subst}
+use Rattle.std.proofs.Common.{◌≤◌, ◌∙◌, Some, length, slice_get, sym, ap, subst}
 use Rattle.std.proofs.lemmas.Option.{slice_get-get_or}
 use Rattle.palm_agenda.specs.Names.{IsPartedAt}
 use Rattle.palm_engine.specs.Posted.{is_decision}

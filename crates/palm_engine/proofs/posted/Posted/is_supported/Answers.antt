@@ -1,4 +1,3 @@
-use Rattle.std.proofs.Common.{rules}
 use Rattle.palm_domain.specs.Rows.{present_of}
 use Rattle.palm_model.specs.declared.constraint.Op.TheVariants.{Eq, Ne}
 use Rattle.palm_engine.proofs.Comparing.{value_supported, value_lacks, equal_stands, equal_fails, differ_stands, differ_fails}
