@@ -99,20 +99,20 @@ woken_state : (m : Filtering) (a : Waiting) (active : List Active) (owner : Acti
     → state_of (record m { agenda = a }) active ≡ state_in_revision m active owner.cid
 woken_state m a active owner r kept pending =
     let e = pending_waits (record m { agenda = a }) active r.valid.rising kept ∙ woken_same active a.pending (owner.cid ∷ m.agenda.pending) [] []
-        (λ b k h. elim h [
-          | inl n ↦ inl (elim ((pending b.cid).0 n) [
-            | inl was ↦ member_there owner.cid m.agenda.pending b.cid was
-            | inr is ↦ member_same (owner.cid ∷ m.agenda.pending) owner.cid b.cid (sym is) (member_here owner.cid m.agenda.pending)
-          ])
-          | inr none ↦ inr none
-        ])
-        (λ b k h. elim h [
-          | inl n ↦ inl (elim (member_cases owner.cid m.agenda.pending b.cid n) [
-            | inl is ↦ (pending b.cid).1 (inr (sym is))
-            | inr was ↦ (pending b.cid).1 (inl was)
-          ])
-          | inr none ↦ inr none
-        ]) in
+    (λ b k h. elim h [
+      | inl n ↦ inl (elim ((pending b.cid).0 n) [
+        | inl was ↦ member_there owner.cid m.agenda.pending b.cid was
+        | inr is ↦ member_same (owner.cid ∷ m.agenda.pending) owner.cid b.cid (sym is) (member_here owner.cid m.agenda.pending)
+      ])
+      | inr none ↦ inr none
+    ])
+    (λ b k h. elim h [
+      | inl n ↦ inl (elim (member_cases owner.cid m.agenda.pending b.cid n) [
+        | inl is ↦ (pending b.cid).1 (inr (sym is))
+        | inr was ↦ (pending b.cid).1 (inl was)
+      ])
+      | inr none ↦ inr none
+    ]) in
     λ i. record (state_of (record m { agenda = a }) active) { pending = e i }
 
 pub woken_kept : (m : Filtering) (a : Waiting) (active : List Active) → IsKept m active → a.connected ≡ m.agenda.connected → IsFormed a → IsKept (record m { agenda = a }) active

@@ -91,9 +91,9 @@ others_unmarked x d k y at = elim (cases_Bool (is_over x d)) [
       let r = where_unmarked (λ z. not (nat_eq z x)) d.scope d.marks k y at un in
       record { unmarked = r.0; own = λ m. eqb-true y x (not_false (nat_eq y x) r.1) })
   | inr f ↦ rw f (λ un. record {
-      unmarked = un;
-      own = λ m. absurd (false≢true (sym f ∙ member_any (λ z. nat_eq z x) d.scope x m (eq-eqb x x refl)));
-    })
+    unmarked = un;
+    own = λ m. absurd (false≢true (sym f ∙ member_any (λ z. nat_eq z x) d.scope x m (eq-eqb x x refl)));
+  })
 ]
 
 pub marked_removed : (d e : Domains) (active : List Active) (connected : List Connected) (x : ℕ) (v : ℤ) → Rises (cids_of active) → AreConnected active connected → KeepsOthers d e x v → IsInside e d → (Has e x v → ⊥)

@@ -31,7 +31,7 @@ pub returns-clause-walked : goal.returns-clause-walked
 returns-clause-walked g c = λ active r.
     let e = c.as_slice.ensures ∙ c.in_ok-reason.ensures.ok in
     on_ok c.remove.result (λ takes. taken_walked active (active_of g.F.Filter.meaning c.args.constraint.now) c.args.pair c.args.filtering.now c.remove.new.self c.is_supported.new.checks c.cid.result c.as_slice.result.now r
-        c.requires.filled c.requires.present (c.is_supported.ensures.lacking c.if-is_supported.false) c.requires.over c.cid.ensures e takes) c.remove.ensures.ok
+    c.requires.filled c.requires.present (c.is_supported.ensures.lacking c.if-is_supported.false) c.requires.over c.cid.ensures e takes) c.remove.ensures.ok
 
 pub returns-clause-revising : goal.returns-clause-revising
 returns-clause-revising g c = λ active r.
@@ -39,7 +39,7 @@ returns-clause-revising g c = λ active r.
     let owner = active_of g.F.Filter.meaning c.args.constraint.now in
     on_either c.remove.result
     (λ takes. taken_revising active owner c.args.pair c.args.filtering.now c.remove.new.self c.is_supported.new.checks c.cid.result c.as_slice.result.now r
-        c.requires.filled c.requires.present (c.is_supported.ensures.lacking c.if-is_supported.false) c.requires.over c.cid.ensures e takes)
+    c.requires.filled c.requires.present (c.is_supported.ensures.lacking c.if-is_supported.false) c.requires.over c.cid.ensures e takes)
     (λ same. subst (λ (f : Filtering). IsRevising f active owner) (sym same) (revising_checks active owner c.args.filtering.now c.is_supported.new.checks r))
     c.remove.ensures.ok c.remove.ensures.err
 

@@ -71,7 +71,7 @@ returns-clause-ok g c =
     let taken = taken_as c.args.filtering.now active c.args.cid.now c.requires (active_of g.F.Filter.meaning c.index-posted-place_of.result) same in
     let w = ok_of c.revise.result (sym c.is_err.ensures.value ∙ c.if-is_err.false) (c.revise.ensures.walked active taken.revising) in
     let count = log_counts c.args.filtering.now m active (active_of g.F.Filter.meaning c.index-posted-place_of.result) (walk_order (initial_of c.args.filtering.now.store) (active_of g.F.Filter.meaning c.index-posted-place_of.result).con)
-        c.removals-before.result c.removals.result w c.removals-before.ensures.count c.removals.ensures.count in
+    c.removals-before.result c.removals.result w c.removals-before.ensures.count c.removals.ensures.count in
     walked_revised c.args.filtering.now m active c.args.cid.now taken _ (c.revise.ensures.revising active taken.revising) w count
 
 pub returns-clause-kept : goal.returns-clause-kept
