@@ -1,9 +1,8 @@
 -- The two constraints of the tests, through the calls that keep them.
-use Rattle.std.proofs.Common.{◌≡◌, ℕ, ◌<◌, List, [], ◌∷◌, map, Contains, refl, sym, subst, arith}
+use Rattle.std.proofs.Common.{◌≡◌, ℕ, ◌<◌, List, [], ◌∷◌, map, refl, sym, subst}
 use Rattle.palm_base.specs.declared.terms.Cid.TheVariants.{Decide, User}
-use Rattle.palm_base.proofs.Members.{member_here, member_there, member_map}
+use Rattle.palm_base.proofs.Members.{member_here, member_there}
 use Rattle.palm_agenda.specs.Agenda.{Connected, HasPlace, IsConnected, marked_whole}
-use Rattle.palm_agenda.proofs.Connecting.{place_connected}
 use Rattle.palm_agenda.proofs.Keeping.{KeepsScopes, connected_kept, place_kept}
 
 abbrev pub decision_con : Connected

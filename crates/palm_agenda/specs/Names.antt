@@ -28,8 +28,8 @@ abbrev pub names_at : List Roomy → ℕ → List Cid
 names_at rows x = (row_at rows x).names
 
 -- the lists, with these names in the list of the variable
-abbrev pub with_names : List Roomy → ℕ → List Cid → List Roomy
-with_names rows x names = slice_set rows x (record { names = names; room = (row_at rows x).room })
+abbrev pub with_names_at : List Roomy → ℕ → List Cid → List Roomy
+with_names_at rows x names = slice_set rows x (record { names = names; room = (row_at rows x).room })
 
 -- ---- places
 

@@ -1,12 +1,12 @@
 //! The connected constraints, and those of them that wait to be revised.
-ghost use Rattle.std.specs.Prelude.{◌≡◌, ℕ, ◌<◌, ◌≤◌, ◌↔◌, ◌⊎◌, [], length, map, reverse, Contains, MatchOption, IfSome, IfNone, IsSomeAnd, Some, OnOk, OnErr, is_some, vec_capacity};
+ghost use Rattle.std.specs.Prelude.{◌≡◌, ℕ, ◌≤◌, ◌↔◌, ◌⊎◌, [], length, map, Contains, MatchOption, IfSome, IfNone, IsSomeAnd, Some, OnOk, OnErr, is_some, vec_capacity};
 ghost use Rattle.palm_base.specs.Tells.{Tells};
 ghost use Rattle.palm_base.specs.declared.terms.Cid.{Cid as CidTerm};
 ghost use Rattle.palm_model.specs.Log.{Rises, cid_before};
+ghost use Rattle.palm_model.specs.State.{without_cid};
 ghost use Rattle.palm_agenda.specs.Agenda.{Connected, HasPlace, IsConnected, IsFormed, IsMarked, IsOver, Takes, changed_among, changed_at, marked_whole, mark_others, mark_own, names_of, unmarked, with_connected, without_connected};
 ghost use Rattle.palm_agenda.specs.Names.{FitsBoth, IsPartedAt};
 ghost use Rattle.palm_agenda.specs.Places.{mark_places};
-ghost use Rattle.palm_model.specs.State.{without_cid};
 
 use crate::connection::{Connection, Places};
 use crate::names::{Names, copy_of, is_before};
@@ -229,14 +229,27 @@ impl Agenda {
         ensures connected { self.new.connected ≡ self.old.connected }
         ensures stays { is_some order.new ≡ is_some order.old }
     {
+        if self.is_empty() {
+            return None;
+        }
         match order {
-            None => self.pending.take_first(),
-            Some(order) => self.take_answered(order),
+            None => self.take_first(),
+            Some(order) => self.take_answered(&mut **order),
         }
     }
 
-    /// The pending constraint that the order answers.
-    fn take_answered(&mut self, order: &mut Box<dyn Order>) -> Option<Cid>
+    /// The first pending constraint, which is pending no longer.
+    pub fn take_first(&mut self) -> Option<Cid>
+        ensures none { IfNone result ((self.old.pending ≡ []) × (self.new ≡ self.old)) }
+        ensures some { IfSome result (λ c. Takes self.old.pending self.new.pending 0 c) }
+        ensures connected { self.new.connected ≡ self.old.connected }
+    {
+        self.pending.take_first()
+    }
+
+    /// The pending constraint that the order answers when it is asked once, which is pending no longer. The order is not
+    /// asked where none is pending.
+    pub fn take_answered(&mut self, order: &mut dyn Order) -> Option<Cid>
         ensures none { IfNone result ((self.old.pending ≡ []) × (self.new ≡ self.old) × (order.new ≡ order.old)) }
         ensures some { IfSome result (λ c. (answer : ℕ) × Takes self.old.pending self.new.pending answer c × answers order.old self.old.pending answer (state order.new)) }
         ensures connected { self.new.connected ≡ self.old.connected }

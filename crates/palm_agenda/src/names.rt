@@ -1,8 +1,7 @@
 //! Names of constraints in their order.
-ghost use Rattle.std.specs.Prelude.{◌≡◌, ℕ, ◌+◌, ◌<◌, ◌≤◌, [], ◌∷◌, length, reverse, Contains, MatchOption, None, Some, OnOk, slice_get, vec_capacity};
+ghost use Rattle.std.specs.Prelude.{◌≡◌, ◌+◌, ◌<◌, ◌≤◌, [], length, reverse, MatchOption, Some, OnOk, slice_get, vec_capacity};
 ghost use Rattle.std.specs.List.{insert};
 ghost use Rattle.palm_base.specs.Tells.{Tells};
-ghost use Rattle.palm_base.specs.declared.terms.Cid.{Cid as CidTerm};
 ghost use Rattle.palm_model.specs.Log.{Rises, cid_before, same_cid};
 ghost use Rattle.palm_model.specs.State.{without_cid};
 ghost use Rattle.palm_agenda.specs.Names.{HasRoomFor, IsPartedAt, with_name};
@@ -23,6 +22,20 @@ fn is_same(first: &Cid, second: &Cid) -> bool
     ensures { result ≡ same_cid first.now second.now }
 {
     first == second
+}
+
+/// The name again.
+pub(crate) fn copy_of(cid: &Cid) -> Cid
+    ensures { result ≡ cid.now }
+{
+    match cid {
+        Cid::Decide(var) => Cid::Decide(*var),
+        Cid::Not(pair) => Cid::Not(Pair {
+            var: pair.var,
+            value: pair.value,
+        }),
+        Cid::User(number) => Cid::User(*number),
+    }
 }
 
 /// Different names, with room for more. They are kept in falling order, so that the first one is taken from the end.
@@ -149,18 +162,4 @@ fn put_at(names: &mut Vec<Cid>, place: usize, cid: &Cid)
 {
     let inserted = names.insert(place, copy_of(cid));
     prove!(inserted.is_ok());
-}
-
-/// The name again.
-pub(crate) fn copy_of(cid: &Cid) -> Cid
-    ensures { result ≡ cid.now }
-{
-    match cid {
-        Cid::Decide(var) => Cid::Decide(*var),
-        Cid::Not(pair) => Cid::Not(Pair {
-            var: pair.var,
-            value: pair.value,
-        }),
-        Cid::User(number) => Cid::User(*number),
-    }
 }

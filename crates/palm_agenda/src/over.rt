@@ -1,8 +1,8 @@
 //! For each variable the names of the constraints over it.
 ghost use Rattle.std.specs.Prelude.{◌≡◌, ℕ, ◌<◌, ◌≤◌, ◌↔◌, ◌⊎◌, length, reverse, Contains, OnOk};
 ghost use Rattle.palm_base.specs.declared.terms.Cid.{Cid as CidTerm};
-ghost use Rattle.palm_agenda.specs.Names.{HasRoomFor, HasSpace, names_at, row_at, with_name, with_names};
 ghost use Rattle.palm_model.specs.State.{without_cid};
+ghost use Rattle.palm_agenda.specs.Names.{HasRoomFor, HasSpace, names_at, row_at, with_name, with_names_at};
 
 use crate::names::Names;
 use palm_base::{Cid, NoMemory, Var};
@@ -59,7 +59,7 @@ pub(crate) fn make_room(over: &mut Vec<Names>, scope: &[Var]) -> Result<(), NoMe
 fn insert_at(over: &mut Vec<Names>, var: &Var, cid: &Cid)
     requires within { var.now < length over.old.items }
     requires room { HasRoomFor cid.now (row_at over.old.items var.now) }
-    ensures { over.new.items ≡ with_names over.old.items var.now (with_name cid.now (names_at over.old.items var.now)) }
+    ensures { over.new.items ≡ with_names_at over.old.items var.now (with_name cid.now (names_at over.old.items var.now)) }
 {
     let names = &mut over[var.0 as usize];
     names.insert(cid);
@@ -79,7 +79,7 @@ pub(crate) fn insert_over(over: &mut Vec<Names>, scope: &[Var], cid: &Cid)
 /// Takes the name out of the list of the variable.
 fn remove_at(over: &mut Vec<Names>, var: &Var, cid: &Cid)
     requires { var.now < length over.old.items }
-    ensures { over.new.items ≡ with_names over.old.items var.now (without_cid cid.now (names_at over.old.items var.now)) }
+    ensures { over.new.items ≡ with_names_at over.old.items var.now (without_cid cid.now (names_at over.old.items var.now)) }
 {
     let names = &mut over[var.0 as usize];
     names.remove(cid);

@@ -1,3 +1,4 @@
+pub mod Actives
 pub mod Any
 pub mod BookLemmas
 pub mod NameLemmas

@@ -1,5 +1,5 @@
 -- Names that are looked up, and the constraints that they stand in.
-use Rattle.std.proofs.Common.{◌≡◌, ℕ, zero, suc, ℤ, ◌<◌, ◌⊎◌, inl, inr, arith, List, [], ◌∷◌, ◌++◌, map, All, Any, length, refl, subst, sym, ap, ◌∙◌}
+use Rattle.std.proofs.Common.{◌≡◌, ℕ, zero, suc, ℤ, ◌<◌, inl, inr, arith, List, [], ◌∷◌, ◌++◌, map, All, Any, length, refl, subst, sym, ap, ◌∙◌}
 use Rattle.std.proofs.lemmas.List.Elements.{All-map, All-append, All-head, All-tail}
 use Rattle.palm_model.specs.Constraint.{scope}
 use Rattle.palm_model.specs.Count.{target_scope}

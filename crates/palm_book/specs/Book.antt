@@ -1,13 +1,13 @@
 -- The book of a session: its variables with their initial values, and its constraints.
-use Rattle.std.specs.Prelude.{◌≡◌, ◌≢◌, ℕ, zero, suc, ℤ, ◌<◌, ◌≤◌, ◌==◌, Bool, true, List, [], ◌∷◌, length, map, All, Any, AllPairs, if◌then◌else◌, slice_index_or, filter}
+use Rattle.std.specs.Prelude.{◌≡◌, ◌≢◌, ℕ, zero, suc, ℤ, ◌<◌, ◌≤◌, ◌==◌, Bool, List, [], ◌∷◌, length, map, All, Any, AllPairs, if◌then◌else◌, slice_index_or, filter}
 use Rattle.palm_base.specs.declared.terms.Cid.{Cid}
 use Rattle.palm_base.specs.declared.terms.Cid.TheVariants.{Decide, Not, User}
 use Rattle.palm_read.specs.Name.{IsNameText}
 use Rattle.palm_read.specs.declared.limits.TheConstants.{MOST_VALUES}
 use Rattle.palm_book.specs.declared.book.BookCon.{BookCon}
 use Rattle.palm_book.specs.declared.limits.TheConstants.{MOST_VARIABLES, MOST_CONSTRAINTS}
-use Rattle.palm_model.specs.declared.constraint.Con.{Con}
 use Rattle.palm_model.specs.Domains.{Domains, Ascends}
+use Rattle.palm_model.specs.Log.{Active}
 use Rattle.palm_model.specs.Constraint.{IsWellFormed}
 use Rattle.palm_model.specs.Limits.{IsValue}
 
@@ -64,9 +64,13 @@ IsUser book (User n) = HasNumber book n
 abbrev pub initial_of : Contents → Domains
 initial_of book = map (λ e. e.values) book.variables
 
+-- a constraint of the book under its number, which needs no justification
+abbrev pub user_at : BookCon → Active
+user_at c = record { cid = User c.number; con = c.con; because = [] }
+
 -- the active constraints, by rising number
-abbrev pub active_of : Contents → List Con
-active_of book = map (λ c. c.con) (filter (λ c. c.active) book.constraints)
+abbrev pub active_of : Contents → List Active
+active_of book = map user_at (filter (λ c. c.active) book.constraints)
 
 -- the values of a variable: at least one, not too many, ascending
 pub record AreValues (values : List ℤ) : Type 0 where

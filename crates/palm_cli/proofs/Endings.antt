@@ -49,6 +49,6 @@ unended (x ∷ xs) last back (l ∷ ls) rest nb nl nr on e ends =
     (All-tail GoesOn (without_return l) (map without_return ls) on) r.1 ends
 
 -- all lines were answered, and the session goes on
-pub no_end : (before after : SessionState) (text rest : List ℕ) (was now : Option (List ℕ)) → FeedsOn before text was now rest after → HasEnd text → ⊥
-no_end before after text rest was now f e =
+pub no_end : (before after : SessionState) (text rest : List ℕ) (was now : Option (List ℕ)) (asked : ℕ) → FeedsOn before text was now rest after asked → HasEnd text → ⊥
+no_end before after text rest was now asked f e =
     unended e.before e.last e.rest f.lines rest e.unbroken f.answered.unbroken f.unfinished f.goes_on (sym f.answered.whole ∙ e.whole) e.ends

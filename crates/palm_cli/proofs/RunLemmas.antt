@@ -11,7 +11,8 @@ use Rattle.palm_session.specs.State.{SessionState, fresh}
 use Rattle.palm_session.specs.Lines.{HasNoFeed, Cuts, AreLines, last_line, without_return}
 use Rattle.palm_session.specs.Replies.{Run, AreAnswered, GoesOn, Ends, KeepsOn, all, until}
 use Rattle.palm_session.specs.Feeding.{View, FeedsOn, FeedsEnd, FeedsPart, FinishesAll, FinishesPart}
-use Rattle.palm_session.proofs.FeedLemmas.{feeds_more, feeds_more_end, feeds_more_part, feeds_none, run_append, map_more, map_append}
+use Rattle.palm_session.proofs.FeedLemmas.{feeds_more, feeds_more_end, feeds_more_part, feeds_none, run_append, run_then, map_more, map_append}
+use Rattle.palm_session.proofs.Asked.{run_of}
 use Rattle.palm_session.proofs.Keeping.{feeds_long, feeds_long_end, feeds_long_part, finishes_long, finishes_long_part}
 use Rattle.palm_session.specs.declared.limits.TheConstants.{MOST_KEPT_BYTES}
 use Rattle.std.proofs.lemmas.Grind.{flat_map-append}
@@ -29,7 +30,8 @@ pub record Served (before now : Streams) (taken : ℕ) (session : View) : Type 0
   pub long : length text ≡ taken
   pub takes : Consumes before.source.left now.source.left text
   pub in_time : StopsInTime text
-  pub feeds : FeedsOn (fresh [] []) (first_bytes text) before.sink.written now.sink.written rest session.state
+  pub asked : ℕ
+  pub feeds : FeedsOn (fresh [] []) (first_bytes text) before.sink.written now.sink.written rest session.state asked
   pub kept : session.unfinished ≡ take MOST_KEPT_BYTES rest
   pub going : session.over ≡ false
   pub calm : IsCalm before now
@@ -39,7 +41,7 @@ in_time_whole : (text : List ℕ) → length text ≤ MOST_INPUT_BYTES → (HasE
 in_time_whole text le none = record { front = text; piece = []; whole = sym (append-nil text); small = omega arith; within = le; unended = none }
 
 no_end_nothing : HasEnd [] → ⊥
-no_end_nothing e = no_end (fresh [] []) (fresh [] []) [] [] None None (feeds_none (fresh [] []) None) e
+no_end_nothing e = no_end (fresh [] []) (fresh [] []) [] [] None None 0 (feeds_none (fresh [] []) None) e
 
 in_time_nothing : StopsInTime []
 in_time_nothing = in_time_whole [] (omega arith) no_end_nothing
@@ -47,7 +49,7 @@ in_time_nothing = in_time_whole [] (omega arith) no_end_nothing
 calm_still : (before : Streams) → IsCalm before before
 calm_still before = record { read = refl; write = refl }
 
-pub served_start : (before : Streams) (session : View) → session ≡ record { state = (fresh [] []); unfinished = []; over = false } → Served before before 0 session
+pub served_start : (before : Streams) (session : View) → session ≡ record { state = (fresh [] []); checks = 0; unfinished = []; over = false } → Served before before 0 session
 served_start before session e =
     subst (λ (v : View). Served before before 0 v) (sym e)
     (record {
@@ -56,6 +58,7 @@ served_start before session e =
       long = refl;
       takes = consumes_nothing before.source.left;
       in_time = in_time_nothing;
+      asked = 0;
       feeds = feeds_none (fresh [] []) before.sink.written;
       kept = refl;
       going = refl;
@@ -93,16 +96,16 @@ takes_more_nothing a b c x p q = subst (λ (z : List ℕ). Consumes a c z) (appe
 
 -- what was fed is all that was taken
 whole_feeds : (before now : Streams) (taken : ℕ) (session : View) (s : Served before now taken session) → taken ≤ MOST_INPUT_BYTES
-    → FeedsOn (fresh [] []) s.text before.sink.written now.sink.written s.rest session.state
+    → FeedsOn (fresh [] []) s.text before.sink.written now.sink.written s.rest session.state s.asked
 whole_feeds before now taken session s le =
-    subst (λ (z : List ℕ). FeedsOn (fresh [] []) z before.sink.written now.sink.written s.rest session.state) (whole_text s.text taken s.long le) s.feeds
+    subst (λ (z : List ℕ). FeedsOn (fresh [] []) z before.sink.written now.sink.written s.rest session.state s.asked) (whole_text s.text taken s.long le) s.feeds
 
 served_unended : (before now : Streams) (taken : ℕ) (session : View) (s : Served before now taken session) → taken ≤ MOST_INPUT_BYTES → HasEnd s.text → ⊥
 served_unended before now taken session s le =
-    no_end (fresh [] []) session.state s.text s.rest before.sink.written now.sink.written (whole_feeds before now taken session s le)
+    no_end (fresh [] []) session.state s.text s.rest before.sink.written now.sink.written s.asked (whole_feeds before now taken session s le)
 
-same_written : (a b : SinkState) (was : Option (List ℕ)) (text rest : List ℕ) (t : SessionState) → a ≡ b → FeedsOn (fresh [] []) text was b.written rest t → FeedsOn (fresh [] []) text was a.written rest t
-same_written a b was text rest t e f = subst (λ (k : SinkState). FeedsOn (fresh [] []) text was k.written rest t) (sym e) f
+same_written : (a b : SinkState) (was : Option (List ℕ)) (text rest : List ℕ) (t : SessionState) (n : ℕ) → a ≡ b → FeedsOn (fresh [] []) text was b.written rest t n → FeedsOn (fresh [] []) text was a.written rest t n
+same_written a b was text rest t n e f = subst (λ (k : SinkState). FeedsOn (fresh [] []) text was k.written rest t n) (sym e) f
 
 rose_after : (a b c : ℕ) → b ≡ a → Rose b c → Rose a c
 rose_after a b c e r = subst (λ (n : ℕ). Rose n c) e r
@@ -118,9 +121,10 @@ fault_runs before mid now taken session s le f = (
     text = s.text;
     rest = s.rest;
     state = session.state;
+    asked = s.asked;
     takes = takes_more_nothing before.source.left mid.source.left now.source.left s.text s.takes f.takes;
     short = omega (arith, s.long, le);
-    feeds = same_written now.sink mid.sink before.sink.written s.text s.rest session.state f.sink (whole_feeds before mid taken session s le);
+    feeds = same_written now.sink mid.sink before.sink.written s.text s.rest session.state s.asked f.sink (whole_feeds before mid taken session s le);
   },
 )
 
@@ -173,16 +177,17 @@ pub served_more : (before mid now : Streams) (taken : ℕ) (session later : View
     → (p : PumpsPiece session (MOST_INPUT_BYTES - taken) mid later now None) → Served before now (taken + length p.piece) later
 served_more before mid now taken session later s le p =
     let fed : List ℕ = take (MOST_INPUT_BYTES - taken) p.piece in
-    let left = feeds_long session.state session.unfinished s.rest fed mid.sink.written now.sink.written s.kept s.feeds.unfinished later.state p.feeds.1.rest p.feeds.1.feeds in
+    let left = feeds_long session.state session.unfinished s.rest fed mid.sink.written now.sink.written s.kept s.feeds.unfinished later.state p.feeds.1.1.rest p.feeds.1.0 p.feeds.1.1.feeds in
     record {
       text = s.text ++ p.piece;
       rest = left.0;
       long = omega (arith, length-append s.text p.piece, s.long);
       takes = consumes_both before.source.left mid.source.left now.source.left s.text p.piece s.takes p.reads.takes;
       in_time = in_time_more s.text p.piece (omega (arith, s.long, le)) (served_unended before mid taken session s le) p.reads.small;
-      feeds = subst (λ (z : List ℕ). FeedsOn (fresh [] []) z before.sink.written now.sink.written left.0 later.state) (sym (fed_text s.text p.piece taken s.long le))
-          (feeds_more (fresh [] []) session.state later.state (first_bytes s.text) fed s.rest left.0 before.sink.written mid.sink.written now.sink.written s.feeds left.2);
-      kept = p.feeds.1.kept ∙ left.1;
+      asked = s.asked + p.feeds.1.0;
+      feeds = subst (λ (z : List ℕ). FeedsOn (fresh [] []) z before.sink.written now.sink.written left.0 later.state (s.asked + p.feeds.1.0)) (sym (fed_text s.text p.piece taken s.long le))
+          (feeds_more (fresh [] []) session.state later.state (first_bytes s.text) fed s.rest left.0 before.sink.written mid.sink.written now.sink.written s.asked p.feeds.1.0 s.feeds left.2);
+      kept = p.feeds.1.1.kept ∙ left.1;
       going = p.feeds.2;
       calm = calm_more before mid now s.calm p.reads.calm p.feeds.0;
     }
@@ -199,6 +204,7 @@ served_over before now taken session s over = (
     text = s.text;
     rest = s.rest;
     state = session.state;
+    asked = s.asked;
     takes = s.takes;
     long = omega (arith, s.long, over);
     in_time = s.in_time;
@@ -239,11 +245,11 @@ keeps_on_last (b ∷ bs) = tt
 front_whole : (was now : Option (List ℕ)) (x : List ℕ) → Appended was now x → AppendedFront was now x
 front_whole was now x w = record { front = x; back = []; whole = sym (append-nil x); written = w }
 
-finish_done : (before mid now : Streams) (taken : ℕ) (session : View) (t : SessionState) → Served before mid taken session → taken ≤ MOST_INPUT_BYTES
-    → ReadsEnd mid.source now.source → FinishesAll session.state session.unfinished mid.sink.written now.sink.written t → RunsAll before now
-finish_done before mid now taken session t s le e short =
+finish_done : (before mid now : Streams) (taken : ℕ) (session : View) (t : SessionState) (n : ℕ) → Served before mid taken session → taken ≤ MOST_INPUT_BYTES
+    → ReadsEnd mid.source now.source → FinishesAll session.state session.unfinished mid.sink.written now.sink.written t n → RunsAll before now
+finish_done before mid now taken session t n s le e short =
     let fs = whole_feeds before mid taken session s le in
-    let f = finishes_long session.state session.unfinished s.rest mid.sink.written now.sink.written s.kept t short in
+    let f = finishes_long session.state session.unfinished s.rest mid.sink.written now.sink.written s.kept t n short in
     record {
       text = s.text;
       output = fs.replies ++ f.replies;
@@ -256,7 +262,8 @@ finish_done before mid now taken session t s le e short =
         state = t;
         are_lines = lines_of s.text fs.lines s.rest fs.answered.whole fs.answered.unbroken fs.unfinished;
         are_answered = answered_lines (map without_return fs.lines) s.rest fs.goes_on f.last;
-        run = run_append (fresh [] []) session.state t (map without_return fs.lines) (last_line s.rest) fs.replies f.replies fs.answered.run f.run;
+        run = run_of (fresh [] []) (map without_return fs.lines ++ last_line s.rest) (fs.replies ++ f.replies) t (s.asked + n)
+            (run_append (fresh [] []) session.state t (map without_return fs.lines) (last_line s.rest) fs.replies f.replies s.asked n fs.answered.run f.run);
       };
       written = appended_both before.sink.written mid.sink.written now.sink.written fs.replies f.replies fs.written f.written;
     }
@@ -277,7 +284,8 @@ finish_part before mid now taken session s le e short =
       are_lines = subst (λ (ls : List (List ℕ)). AreLines s.text ls) (sym (append-nil (map without_return fs.lines ++ last_line s.rest)))
           (lines_of s.text fs.lines s.rest fs.answered.whole fs.answered.unbroken fs.unfinished);
       keeps_on = keeps_on_all (map without_return fs.lines) (last_line s.rest) fs.goes_on (keeps_on_last s.rest);
-      run = run_append (fresh [] []) session.state f.after (map without_return fs.lines) (last_line s.rest) fs.replies f.replies fs.answered.run f.run;
+      run = run_then (fresh [] []) session.state f.after (map without_return fs.lines) (last_line s.rest) fs.replies f.replies
+          (run_of (fresh [] []) (map without_return fs.lines) fs.replies session.state s.asked fs.answered.run) f.run;
       written = record {
         front = fs.replies ++ f.written.front;
         back = f.written.back;
@@ -292,7 +300,7 @@ fails_more before mid now c read rose = record { read = read ∙ c.read; write =
 -- the end of the source was reached
 last_runs : (before mid now : Streams) (taken : ℕ) (session : View) (status : Status) → Served before mid taken session → taken ≤ MOST_INPUT_BYTES
     → ReadsEnd mid.source now.source → FinishesStatus session mid.sink now.sink status → Runs before now status
-last_runs before mid now taken session Done s le e f = (calm_more before mid now s.calm e.calm f.0, finish_done before mid now taken session f.1.0 s le e f.1.1)
+last_runs before mid now taken session Done s le e f = (calm_more before mid now s.calm e.calm f.0, finish_done before mid now taken session f.1.0 f.1.1 s le e f.1.2)
 last_runs before mid now taken session WriteFault s le e f = (fails_more before mid now s.calm e.calm f.0, finish_part before mid now taken session s le e f.1)
 last_runs before mid now taken session NoMemory s le e f = (calm_more before mid now s.calm e.calm f.0, finish_part before mid now taken session s le e f.1)
 last_runs before mid now taken session Usage s le e f = f
@@ -361,9 +369,9 @@ whole_end : (n : ℕ) (text rest : List ℕ) (lines : List (List ℕ)) → take 
 whole_end n text rest lines e =
     sym (take-append-drop n text) ∙ ap (λ (z : List ℕ). z ++ drop n text) e ∙ append_assoc (flat_map ended lines) rest (drop n text)
 
-end_runs : (before now : Streams) (text : List ℕ) (t : SessionState) → Consumes before.source.left now.source.left text → StopsInTime text
-    → FeedsEnd (fresh [] []) (first_bytes text) before.sink.written now.sink.written t → RunsAll before now
-end_runs before now text t takes in_time e =
+end_runs : (before now : Streams) (text : List ℕ) (t : SessionState) (n : ℕ) → Consumes before.source.left now.source.left text → StopsInTime text
+    → FeedsEnd (fresh [] []) (first_bytes text) before.sink.written now.sink.written t n → RunsAll before now
+end_runs before now text t n takes in_time e =
     let l = text_lines text (e.lines ++ e.last ∷ []) (e.rest ++ drop MOST_INPUT_BYTES text) (whole_end MOST_INPUT_BYTES text e.rest (e.lines ++ e.last ∷ []) e.answered.whole) e.answered.unbroken in
     record {
       text = text;
@@ -378,7 +386,7 @@ end_runs before now text t takes in_time e =
         are_lines = l.1;
         are_answered = until (map without_return e.lines) l.0 (without_return e.last) e.goes_on e.ends
             (ap (λ (z : List (List ℕ)). z ++ l.0) (map_more e.lines e.last) ∙ append_assoc (map without_return e.lines) (without_return e.last ∷ []) l.0);
-        run = subst (λ (ls : List (List ℕ)). Run (fresh [] []) ls e.replies t) (map_more e.lines e.last) e.answered.run;
+        run = subst (λ (ls : List (List ℕ)). Run (fresh [] []) ls e.replies t) (map_more e.lines e.last) (run_of (fresh [] []) (map without_return (e.lines ++ e.last ∷ [])) e.replies t n e.answered.run);
       };
       written = e.written;
     }
@@ -408,23 +416,23 @@ more_part before mid now taken session piece s le r f =
     part_runs before now (s.text ++ piece) (consumes_both before.source.left mid.source.left now.source.left s.text piece s.takes r.takes)
     (in_time_more s.text piece (omega (arith, s.long, le)) (served_unended before mid taken session s le) r.small)
     (subst (λ (z : List ℕ). FeedsPart (fresh [] []) z before.sink.written now.sink.written) (sym (fed_text s.text piece taken s.long le))
-    (feeds_more_part (fresh [] []) session.state (first_bytes s.text) (take (MOST_INPUT_BYTES - taken) piece) s.rest before.sink.written mid.sink.written now.sink.written s.feeds
+    (feeds_more_part (fresh [] []) session.state (first_bytes s.text) (take (MOST_INPUT_BYTES - taken) piece) s.rest before.sink.written mid.sink.written now.sink.written s.asked s.feeds
     (feeds_long_part session.state session.unfinished s.rest (take (MOST_INPUT_BYTES - taken) piece) mid.sink.written now.sink.written s.kept s.feeds.unfinished f)))
 
-more_end : (before mid now : Streams) (taken : ℕ) (session later : View) (piece : List ℕ) → Served before mid taken session → taken ≤ MOST_INPUT_BYTES
+more_end : (before mid now : Streams) (taken : ℕ) (session later : View) (piece : List ℕ) (n : ℕ) → Served before mid taken session → taken ≤ MOST_INPUT_BYTES
     → ReadsPiece mid.source now.source piece
-    → FeedsEnd session.state (session.unfinished ++ take (MOST_INPUT_BYTES - taken) piece) mid.sink.written now.sink.written later.state → RunsAll before now
-more_end before mid now taken session later piece s le r f =
-    end_runs before now (s.text ++ piece) later.state (consumes_both before.source.left mid.source.left now.source.left s.text piece s.takes r.takes)
+    → FeedsEnd session.state (session.unfinished ++ take (MOST_INPUT_BYTES - taken) piece) mid.sink.written now.sink.written later.state n → RunsAll before now
+more_end before mid now taken session later piece n s le r f =
+    end_runs before now (s.text ++ piece) later.state (s.asked + n) (consumes_both before.source.left mid.source.left now.source.left s.text piece s.takes r.takes)
     (in_time_more s.text piece (omega (arith, s.long, le)) (served_unended before mid taken session s le) r.small)
-    (subst (λ (z : List ℕ). FeedsEnd (fresh [] []) z before.sink.written now.sink.written later.state) (sym (fed_text s.text piece taken s.long le))
-    (feeds_more_end (fresh [] []) session.state later.state (first_bytes s.text) (take (MOST_INPUT_BYTES - taken) piece) s.rest before.sink.written mid.sink.written now.sink.written s.feeds
-    (feeds_long_end session.state session.unfinished s.rest (take (MOST_INPUT_BYTES - taken) piece) mid.sink.written now.sink.written s.kept s.feeds.unfinished later.state f)))
+    (subst (λ (z : List ℕ). FeedsEnd (fresh [] []) z before.sink.written now.sink.written later.state (s.asked + n)) (sym (fed_text s.text piece taken s.long le))
+    (feeds_more_end (fresh [] []) session.state later.state (first_bytes s.text) (take (MOST_INPUT_BYTES - taken) piece) s.rest before.sink.written mid.sink.written now.sink.written s.asked n s.feeds
+    (feeds_long_end session.state session.unfinished s.rest (take (MOST_INPUT_BYTES - taken) piece) mid.sink.written now.sink.written s.kept s.feeds.unfinished later.state n f)))
 
 -- feeding a piece ended the run
 piece_runs : (before mid now : Streams) (taken : ℕ) (session later : View) (status : Status) (piece : List ℕ) → Served before mid taken session → taken ≤ MOST_INPUT_BYTES
     → ReadsPiece mid.source now.source piece → FeedsStatus session (take (MOST_INPUT_BYTES - taken) piece) mid.sink now.sink later (Some status) → Runs before now status
-piece_runs before mid now taken session later Done piece s le r f = (calm_more before mid now s.calm r.calm f.0, more_end before mid now taken session later piece s le r f.1)
+piece_runs before mid now taken session later Done piece s le r f = (calm_more before mid now s.calm r.calm f.0, more_end before mid now taken session later piece f.1.0 s le r f.1.1)
 piece_runs before mid now taken session later WriteFault piece s le r f = (fails_more before mid now s.calm r.calm f.0, more_part before mid now taken session piece s le r f.1)
 piece_runs before mid now taken session later NoMemory piece s le r f = (calm_more before mid now s.calm r.calm f.0, more_part before mid now taken session piece s le r f.1)
 piece_runs before mid now taken session later Usage piece s le r f = f
@@ -457,7 +465,7 @@ whole_status before after NoMemory r none within = tt
 whole_status before after TooLong r none within =
     elim (within r.1.text r.1.takes) [
       | inl short ↦ absurd (omega (arith, short, r.1.long))
-      | inr end ↦ no_end (fresh [] []) r.1.state (first_bytes r.1.text) r.1.rest before.sink.written after.sink.written r.1.feeds end
+      | inr end ↦ no_end (fresh [] []) r.1.state (first_bytes r.1.text) r.1.rest before.sink.written after.sink.written r.1.asked r.1.feeds end
     ]
 
 -- where the source tells its bytes, it is known which were taken

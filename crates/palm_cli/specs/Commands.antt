@@ -77,24 +77,28 @@ pub record RunsAll (before after : Streams) : Type 0 where
   pub replies : Replies [] [] text output
   pub written : Appended before.sink.written after.sink.written output
 
--- so many bytes were taken, and the replies to the lines that they complete were written
+-- so many bytes were taken, and the replies to the lines that they complete were written, while support was asked for so
+-- often
 pub record RunsLines (before after : Streams) : Type 0 where
   pub text : List ℕ
   pub rest : List ℕ
   pub state : SessionState
+  pub asked : ℕ
   pub takes : Consumes before.source.left after.source.left text
   pub short : length text ≤ MOST_INPUT_BYTES
-  pub feeds : FeedsOn (fresh [] []) text before.sink.written after.sink.written rest state
+  pub feeds : FeedsOn (fresh [] []) text before.sink.written after.sink.written rest state asked
 
--- more bytes were taken than can be answered, and the replies to the lines that the first of them complete were written
+-- more bytes were taken than can be answered, and the replies to the lines that the first of them complete were written,
+-- while support was asked for so often
 pub record RunsOver (before after : Streams) : Type 0 where
   pub text : List ℕ
   pub rest : List ℕ
   pub state : SessionState
+  pub asked : ℕ
   pub takes : Consumes before.source.left after.source.left text
   pub long : MOST_INPUT_BYTES < length text
   pub in_time : StopsInTime text
-  pub feeds : FeedsOn (fresh [] []) (first_bytes text) before.sink.written after.sink.written rest state
+  pub feeds : FeedsOn (fresh [] []) (first_bytes text) before.sink.written after.sink.written rest state asked
 
 -- a front of the replies to the first lines of what was taken was written
 pub record RunsPart (before after : Streams) : Type 0 where

@@ -11,10 +11,10 @@ use Rattle.palm_cli.specs.declared.status.Status.TheVariants.{Done, ReadFault, W
 -- what feeding a piece does, by the status of the run if it ends there
 abbrev pub FeedsStatus : View → List ℕ → SinkState → SinkState → View → Option Status → Type 0
 FeedsStatus session piece before after later None =
-    (after.faults ≡ before.faults) × KeepsRest session.state (session.unfinished ++ piece) before.written after.written later.unfinished later.state
+    (after.faults ≡ before.faults) × ((asked : ℕ) × KeepsRest session.state (session.unfinished ++ piece) before.written after.written later.unfinished later.state asked)
     × (later.over ≡ false)
 FeedsStatus session piece before after later (Some Done) =
-    (after.faults ≡ before.faults) × FeedsEnd session.state (session.unfinished ++ piece) before.written after.written later.state
+    (after.faults ≡ before.faults) × ((asked : ℕ) × FeedsEnd session.state (session.unfinished ++ piece) before.written after.written later.state asked)
 FeedsStatus session piece before after later (Some WriteFault) =
     Rose before.faults after.faults × FeedsPart session.state (session.unfinished ++ piece) before.written after.written
 FeedsStatus session piece before after later (Some NoMemory) =
@@ -24,7 +24,7 @@ FeedsStatus session piece before after later (Some _) = ⊥
 -- what finishing does, by the status of the run
 abbrev pub FinishesStatus : View → SinkState → SinkState → Status → Type 0
 FinishesStatus session before after Done =
-    (after.faults ≡ before.faults) × ((state : SessionState) × FinishesAll session.state session.unfinished before.written after.written state)
+    (after.faults ≡ before.faults) × ((state : SessionState) × (asked : ℕ) × FinishesAll session.state session.unfinished before.written after.written state asked)
 FinishesStatus session before after WriteFault =
     Rose before.faults after.faults × FinishesPart session.state session.unfinished before.written after.written
 FinishesStatus session before after NoMemory =

@@ -50,7 +50,7 @@ fn serve<S: Source, K: Sink, L: Ledger>(
     sink: &mut K,
     steps: &mut Steps<L>,
 ) -> Status
-    requires fresh { session.old ≡ record { state = fresh [] []; unfinished = []; over = false } }
+    requires fresh { session.old ≡ record { state = fresh [] []; checks = 0; unfinished = []; over = false } }
     requires piece { length buffer.old ≡ PIECE }
     ensures { Runs (streams (S.state source.old) (K.state sink.old)) (streams (S.state source.new) (K.state sink.new)) result }
 {

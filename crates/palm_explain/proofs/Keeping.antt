@@ -1,5 +1,5 @@
 -- What stays when a name goes: of the causes, of the log, and of the pairs that a store lacks.
-use Rattle.std.proofs.Common.{◌≡◌, ℕ, ℤ, ◌+◌, ◌<◌, ◌≤◌, Bool, true, false, not, cond, List, [], ◌∷◌, ◌++◌, length, map, filter, get_or, Contains, All, inl, inr, refl, sym, ap, ◌∙◌, subst, arith, nat_eq}
+use Rattle.std.proofs.Common.{◌≡◌, ℕ, ℤ, ◌+◌, ◌<◌, ◌≤◌, Bool, not, cond, List, [], ◌∷◌, length, filter, get_or, Contains, All, inl, inr, sym, ap, ◌∙◌, subst, arith, nat_eq}
 use Rattle.std.specs.Map.Calls.{RetainsPairs}
 use Rattle.indexmap.specs.IndexSet.{insert_all}
 use Rattle.std.proofs.lemmas.List.{same_lists, get_or_default, length-map}
@@ -9,14 +9,14 @@ use Rattle.palm_base.specs.declared.terms.Cid.{Cid}
 use Rattle.palm_base.proofs.Members.{member_nil, member_here, member_there, member_same, member_single, member_map, member_unmap, filter_member, member_known, all_members}
 use Rattle.palm_domain.specs.Rows.{Row, Ascends, IsDeclared, IsPresent, initial_of, present_of}
 use Rattle.palm_domain.proofs.Ascending.{same_ascending}
-use Rattle.palm_model.specs.Domains.{Domains, Has, values_of, without}
+use Rattle.palm_model.specs.Domains.{Domains, Has, without}
 use Rattle.palm_model.specs.Event.{lost_pairs, vars_of}
-use Rattle.palm_model.specs.Log.{Removal, Names, NamesSome, Loses, IsListOf, is_named, log_pairs}
+use Rattle.palm_model.specs.Log.{Removal, Names, NamesSome, Loses, IsListOf, log_pairs}
 use Rattle.palm_model.specs.Log.Loses.{none_left, is_lost, is_kept}
 use Rattle.palm_model.proofs.Without.{pair_of, without_has, has_without, length_without, ascend_without}
 use Rattle.palm_events.proofs.Agreeing.{pair_known}
 use Rattle.palm_events.proofs.Logs.{logged, left_member}
-use Rattle.palm_events.proofs.Names.{cid_known, member_named, named_member, member_not_named}
+use Rattle.palm_events.proofs.Names.{cid_known, member_named, member_not_named}
 use Rattle.palm_explain.specs.declared.causes.Cause.{Cause}
 use Rattle.palm_explain.specs.Causes.{AreExplained, HasBack, kept_of, log_of, lost_of, removal_of, rests_on}
 use Rattle.palm_explain.specs.Explanations.{IsLinked, LacksExactly}

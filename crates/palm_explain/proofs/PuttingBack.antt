@@ -1,27 +1,27 @@
 -- Pairs that come back, one place after another, and the variables that are noted.
-use Rattle.std.proofs.Common.{◌≡◌, ℕ, zero, suc, ◌+◌, ◌<◌, ◌≤◌, ℤ, Bool, true, false, not, cond, List, [], ◌∷◌, ◌++◌, length, map, filter, get_or, take, drop, fold, slice_get, Contains, Some, ◌⊎◌, inl, inr, refl, sym, ap, ◌∙◌, subst, arith, nat_eq, eqb-true, eq-eqb}
+use Rattle.std.proofs.Common.{◌≡◌, ℕ, zero, suc, ◌+◌, ◌<◌, ◌≤◌, Bool, true, false, not, cond, List, [], ◌∷◌, ◌++◌, length, map, filter, get_or, take, drop, slice_get, Contains, Some, ◌⊎◌, inl, inr, refl, sym, ap, ◌∙◌, subst, arith, nat_eq, eqb-true, eq-eqb}
 use Rattle.std.specs.List.{list_any}
 use Rattle.indexmap.specs.IndexSet.{insert_all, insert_key}
-use Rattle.std.proofs.lemmas.Bool.{cases_Bool, false≢true, not-true}
+use Rattle.std.proofs.lemmas.Bool.{cases_Bool, false≢true}
 use Rattle.std.proofs.lemmas.List.{map-append, length-append, length-map, length-take-le, take-append-drop, take_all}
 use Rattle.std.proofs.lemmas.List.Elements.{filter-append, Contains-append_left, Contains-append_right, Contains-append_cases, Contains-push, Contains-push_cases}
 use Rattle.std.proofs.lemmas.List.Filters.{length-filter_both}
 use Rattle.std.proofs.lemmas.List.Sums.{fold-append}
 use Rattle.palm_base.specs.declared.terms.Pair.{Pair}
 use Rattle.palm_base.specs.declared.terms.Cid.{Cid}
-use Rattle.palm_base.proofs.Members.{member_nil, member_here, member_there, member_cases, member_same, member_map, member_unmap, filter_member, member_filter, member_take, member_drop, member_get, nat_known, int_known}
-use Rattle.palm_domain.specs.Rows.{Row, GainsPair, IsDeclared, IsPresent, initial_of, present_of, declared_values, present_values}
+use Rattle.palm_base.proofs.Members.{member_nil, member_here, member_there, member_cases, member_same, member_map, member_unmap, filter_member, member_filter, member_take, member_drop, nat_known, int_known}
+use Rattle.palm_domain.specs.Rows.{Row, GainsPair, IsDeclared, IsPresent, initial_of}
 use Rattle.palm_model.specs.Constraint.{Distinct}
 use Rattle.palm_model.specs.Event.{vars_of}
-use Rattle.palm_model.specs.Domains.{values_of, without}
-use Rattle.palm_model.specs.Log.{Removal, is_named, log_pairs}
+use Rattle.palm_model.specs.Domains.{values_of}
+use Rattle.palm_model.specs.Log.{is_named, log_pairs}
 use Rattle.palm_model.proofs.Without.{pair_of, without_has}
 use Rattle.palm_model.proofs.Supports.{any_member, member_any}
-use Rattle.palm_events.proofs.Logs.{logged, pair_logged}
+use Rattle.palm_events.proofs.Logs.{pair_logged}
 use Rattle.palm_events.proofs.Names.{named_member, member_named}
 use Rattle.palm_explain.specs.declared.causes.Cause.{Cause}
 use Rattle.palm_explain.specs.Causes.{HasBack, rests_on, kept_of, log_of, lost_at, lost_of, removal_of}
-use Rattle.palm_explain.specs.Explanations.{AreLinked, IsLinked, LacksExactly}
+use Rattle.palm_explain.specs.Explanations.{IsLinked, LacksExactly}
 use Rattle.palm_explain.proofs.Linked.{later_fresh, linked_later}
 use Rattle.palm_explain.proofs.Entries.{pairs_in, causes_in, entry_logged, entry_place, cause_entry}
 

@@ -1,5 +1,5 @@
 -- Lists of names that rise: looking a name up by halves, and adding one.
-use Rattle.std.proofs.Common.{◌≡◌, ℕ, zero, suc, ℤ, ◌+◌, ◌<◌, ◌≤◌, ◌<ℤ◌, Bool, true, false, ◌&&◌, List, [], ◌∷◌, ◌++◌, length, get_or, take, drop, All, Contains, Ordering, Less, Equal, Greater, Result, Ok, Err, is_ok, int_eq, int_lt, nat_eq, ◌⊎◌, ⊎_elim, inl, inr, refl, sym, ap, ◌∙◌, subst, arith, eq-eqb}
+use Rattle.std.proofs.Common.{◌≡◌, ℕ, zero, suc, ℤ, ◌+◌, ◌<◌, ◌≤◌, ◌<ℤ◌, true, ◌&&◌, List, [], ◌∷◌, ◌++◌, length, get_or, take, drop, Contains, Ordering, Less, Equal, Greater, Result, Ok, Err, is_ok, int_lt, nat_eq, ◌⊎◌, ⊎_elim, inl, inr, refl, sym, ap, ◌∙◌, subst, arith, eq-eqb}
 use Rattle.std.specs.Prelude.{nat_lt}
 use Rattle.std.specs.List.{insert}
 use Rattle.std.specs.List.Sorted.{IsBinarySearchResult, IsSearchInRange, IsPartitionPoint}

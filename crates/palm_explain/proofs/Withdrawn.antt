@@ -1,10 +1,10 @@
 -- Withdrawals one after another, and the pairs that they lose.
-use Rattle.std.proofs.Common.{◌≡◌, not, List, [], ◌∷◌, ◌++◌, Contains, ◌⊎◌, inl, inr, refl, sym, ◌∙◌, subst, filter}
+use Rattle.std.proofs.Common.{◌≡◌, not, List, [], ◌∷◌, ◌++◌, Contains, ◌⊎◌, inl, inr, refl, sym, ◌∙◌, subst}
 use Rattle.std.proofs.lemmas.List.Elements.{Contains-append_left, Contains-append_right, Contains-append_cases}
-use Rattle.std.proofs.lemmas.Bool.{not-true, false≢true, cases_Bool}
+use Rattle.std.proofs.lemmas.Bool.{not-true, false≢true}
 use Rattle.palm_base.specs.declared.terms.Pair.{Pair}
 use Rattle.palm_base.specs.declared.terms.Cid.{Cid}
-use Rattle.palm_base.proofs.Members.{Known, member_nil, member_here, member_there, member_cases, member_same, filter_member, member_filter}
+use Rattle.palm_base.proofs.Members.{member_nil, member_here, member_there, member_cases, member_same, filter_member, member_filter}
 use Rattle.palm_model.specs.Domains.{is_among}
 use Rattle.palm_model.specs.Event.{lost_pairs}
 use Rattle.palm_model.specs.Log.{Removal, NamesSome, Loses, log_pairs}

@@ -12,6 +12,3 @@ pub use laws::{
 };
 pub use names::add_names;
 pub use store::ExplainStore;
-
-#[cfg(test)]
-mod tests;

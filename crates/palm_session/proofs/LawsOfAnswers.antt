@@ -1,70 +1,117 @@
 -- Every line has an answer in each state that a session can hold, and no line has two.
-use Rattle.std.proofs.Common.{◌≡◌, ℕ, zero, suc, ◌++◌, ◌+◌, ◌-◌, ◌<◌, ◌≤◌, ◌==◌, Bool, true, false, cond, List, [], ◌∷◌, length, take, All, Any, Some, ◌⊎◌, inl, inr, refl, sym, ap, ◌∙◌, subst, arith, length-take, take_all}
+use Rattle.std.proofs.Common.{◌≡◌, ℕ, ℤ, zero, suc, ◌++◌, ◌+◌, ◌-◌, ◌<◌, ◌≤◌, ◌==◌, Bool, true, false, None, cond, List, [], ◌∷◌, length, take, Any, Contains, Some, ◌⊎◌, inl, inr, refl, sym, ap, ◌∙◌, subst, arith, length-take, take_all}
 use Rattle.palm_book.specs.declared.limits.TheConstants.{MOST_VARIABLES, MOST_CONSTRAINTS, MOST_ADDED}
 use Rattle.palm_read.specs.declared.limits.TheConstants.{MOST_LINE_BYTES}
 use Rattle.std.specs.Prelude.{slice_index, ◌↔◌}
-use Rattle.std.proofs.lemmas.Bool.{cases_lt}
+use Rattle.std.proofs.lemmas.Bool.{cases_lt, cases_Bool, false≢true}
 use Rattle.std.proofs.lemmas.Option.{same_Some, none-some}
-use Rattle.palm_base.proofs.Members.{Known, known_both, known_not, all_members}
+use Rattle.palm_base.specs.declared.terms.Cid.{Cid}
+use Rattle.palm_base.proofs.Members.{Known, known_both, known_not, int_known, list_known, nat_known, member_known}
 use Rattle.palm_model.specs.Domains.{Domains, values_of}
+use Rattle.palm_model.proofs.Without.{pair_of}
+use Rattle.palm_book.specs.Book.{Entry}
+use Rattle.palm_book.specs.declared.book.BookCon.{BookCon}
+use Rattle.palm_events.proofs.Names.{listed_once}
+use Rattle.palm_model.specs.Log.{NamesOfPair, IsListOf}
+use Rattle.palm_model.specs.Conflict.{InConflict}
 use Rattle.palm_read.specs.Limits.{names_of}
 use Rattle.palm_read.specs.Reading.{IsRead, IsRefusedBy}
-use Rattle.palm_lang.specs.Reply.{fixed_text, refusal_text, domain_line}
+use Rattle.palm_lang.specs.Reply.{fixed_text, refusal_text, ran_text, domain_line}
 use Rattle.palm_read.specs.Sound.{IsSound}
 use Rattle.palm_read.specs.declared.line.Line.{Line}
-use Rattle.palm_read.specs.declared.line.Line.TheVariants.{Comment, Var, Add, Relax, Enforce, Retract, Domains as DomainsLine, Domain, List as ListLine, Log, Why, Conflict, MinimalConflict, Minimal, Resume, SolveDbt, SolveRepair, Cert, CertConflict, Quit}
+use Rattle.palm_read.specs.declared.line.Line.TheVariants.{Comment, Var, Add, Relax, Enforce, Retract, Domains as DomainsLine, Domain, List as ListLine, Log, Why, Conflict, MinimalConflict, Minimal, Pause, Resume, Step, SolveDbt, SolveRepair, Cert, CertConflict, Quit}
 use Rattle.palm_read.specs.declared.parse.LineError.{LineError}
 use Rattle.palm_read.specs.declared.parse.LineError.TheVariants.{Bytes, Form, Range as OutOfRange, Empty, Repeated, NoMemory}
-use Rattle.palm_lang.specs.declared.reply.Fixed.TheVariants.{Done, Contradiction, Paused, Bye}
+use Rattle.palm_lang.specs.declared.reply.Fixed.TheVariants.{Done, Contradiction, Paused, Present, Consistent, Bye}
+use Rattle.palm_lang.specs.declared.reply.Lead.TheVariants.{Because, Conflict as ConflictLead}
 use Rattle.palm_lang.specs.declared.reply.Refusal.{Refusal}
-use Rattle.palm_lang.specs.declared.reply.Refusal.TheVariants.{E1, E2, E3, E4, E6, E7, E8, E9}
+use Rattle.palm_lang.specs.declared.reply.Refusal.TheVariants.{E1, E2, E3, E4, E5, E6, E7, E8, E9, E10, E12}
 use Rattle.palm_read.proofs.Parsing.{one_reading, read_not_refused, one_refusal, each_answered}
 use Rattle.palm_read.proofs.SoundLines.{read_sound}
-use Rattle.palm_session.specs.State.{SessionState, IsState, HasVariable}
-use Rattle.palm_session.specs.Refusals.{IsBuilt, IsUnknown, TakesName, NamesNone, HasNoRoom, Meets, in_order, IsFirst, IsNone, refusal_of, heard}
-use Rattle.palm_session.specs.Effects.{Effect, Nothing, with_variable, with_constraint, Does}
-use Rattle.palm_read.specs.Domain.{values_in}
-use Rattle.palm_session.specs.Answers.{IsPausable, IsContradictable, domains_text, list_text, Says, WaitsFor, Contradicts, Accepts, waits, contradicts, says, Answers, misread, refused, accepted}
+use Rattle.palm_session.specs.State.{SessionState, IsState, HasVariable, AreDomains, has_empty}
+use Rattle.palm_session.specs.Refusals.{IsBuilt, IsUnknown, TakesName, NamesNone, NamesNoConstraint, HasNoRoom, AsksUndeclared, HasActive, IsInWrongState, Meets, in_order, IsFirst, IsNone, refusal_of, heard}
+use Rattle.palm_session.specs.Effects.{Effect, Nothing, Settled, Searched, Rests, Filters, Follows, Does}
+use Rattle.palm_session.specs.Answers.{IsPausable, IsContradictable, domains_text, list_text, log_text, users_text, SaysWhy, HasConflict, SaysConflict, Says, WaitsFor, Contradicts, Accepts, waits, contradicts, says, Answers, misread, refused, accepted}
 use Rattle.palm_session.specs.Lines.{without_return}
 use Rattle.palm_session.specs.declared.limits.TheConstants.{MOST_KEPT_BYTES}
-use Rattle.palm_session.proofs.LawsOfLines.{known_either, most_known, some_known, name_known, beyond_known, long_bytes, long_unread, variable_with, constraint_with, variable_once}
-use Rattle.palm_session.proofs.LawsOfStates.{does_nothing, does_keeps, does_once, domains_exist, domains_once, bool_known, contradiction_known}
+use Rattle.palm_session.proofs.LawsOfChanges.{variable_known, has_variable}
+use Rattle.palm_session.proofs.LawsOfDomains.{empty_domains, explanation_names, conflict_exists}
+use Rattle.palm_session.proofs.LawsOfLines.{known_either, most_known, some_known, name_known, beyond_known, long_bytes, long_unread, variable_with, variable_once}
+use Rattle.palm_session.proofs.LawsOfStates.{does_keeps, does_exist, does_once, does_order, rests_same, domains_exist, domains_once, bool_known, contradiction_known}
 
 -- ---- whether a refusal holds is known
-
-variable_known : (s : SessionState) (name : List ℕ) → Known (HasVariable s name)
-variable_known s name = name_known (λ e. e.name) s.book.variables name
 
 built_known : (line : Line) → Known (IsBuilt line)
 built_known Comment = inl tt
 built_known (Var name domain) = inl tt
 built_known (Add name shape) = inl tt
+built_known (Relax name) = inl tt
+built_known (Enforce name) = inl tt
+built_known (Retract name) = inl tt
 built_known DomainsLine = inl tt
 built_known (Domain name) = inl tt
 built_known ListLine = inl tt
+built_known Log = inl tt
+built_known (Why name value) = inl tt
+built_known Conflict = inl tt
+built_known Pause = inl tt
+built_known Resume = inl tt
+built_known (Step count) = inl tt
 built_known Quit = inl tt
 built_known _ = inr (λ h. h)
 
+constraint_known : (s : SessionState) (name : List ℕ) → Known (Any (λ c. c.name ≡ name) s.book.constraints)
+constraint_known s name = name_known (λ (c : BookCon). c.name) s.book.constraints name
+
 takes_known : (s : SessionState) (line : Line) → Known (TakesName s line)
 takes_known s (Var name domain) = variable_known s name
-takes_known s (Add name shape) = name_known (λ c. c.name) s.book.constraints name
+takes_known s (Add name shape) = constraint_known s name
 takes_known s _ = inr (λ h. h)
 
 names_known : (s : SessionState) (line : Line) → Known (NamesNone s line)
 names_known s (Add name shape) = some_known (IsUnknown s) (names_of shape) (λ x. known_not (variable_known s x))
 names_known s (Domain name) = known_not (variable_known s name)
+names_known s (Why name value) = known_not (variable_known s name)
 names_known s _ = inr (λ h. h)
+
+constraints_known : (s : SessionState) (line : Line) → Known (NamesNoConstraint s line)
+constraints_known s (Relax name) = known_not (constraint_known s name)
+constraints_known s (Enforce name) = known_not (constraint_known s name)
+constraints_known s (Retract name) = known_not (constraint_known s name)
+constraints_known s _ = inr (λ h. h)
 
 room_known : (s : SessionState) (line : Line) → Known (HasNoRoom s line)
 room_known s (Var name domain) = most_known MOST_VARIABLES (length s.book.variables)
 room_known s (Add name shape) = known_either (most_known MOST_CONSTRAINTS (length s.book.constraints)) (most_known MOST_ADDED s.accepted)
 room_known s _ = inr (λ h. h)
 
+undeclared_known : (s : SessionState) (line : Line) → Known (AsksUndeclared s line)
+undeclared_known s (Why name value) =
+    some_known (λ (e : Entry). (e.name ≡ name) × (Contains e.values value → ⊥)) s.book.variables
+    (λ e. known_both (list_known nat_known e.name name) (known_not (member_known int_known e.values value)))
+undeclared_known s _ = inr (λ h. h)
+
+active_known : (s : SessionState) (name : List ℕ) (active : Bool) → Known (HasActive s name active)
+active_known s name active =
+    some_known (λ (c : BookCon). (c.name ≡ name) × (c.active ≡ active)) s.book.constraints
+    (λ c. known_both (list_known nat_known c.name name) (bool_known c.active active))
+
+wrong_known : (s : SessionState) (line : Line) → Known (IsInWrongState s line)
+wrong_known s (Relax name) = active_known s name false
+wrong_known s (Enforce name) = active_known s name true
+wrong_known s Pause = bool_known s.paused true
+wrong_known s Resume = bool_known s.paused false
+wrong_known s (Step count) = bool_known s.paused false
+wrong_known s _ = inr (λ h. h)
+
 meets_known : (s : SessionState) (line : Line) (refusal : Refusal) → Known (Meets s line refusal)
 meets_known s line E2 = known_not (built_known line)
 meets_known s line E3 = takes_known s line
 meets_known s line E4 = names_known s line
+meets_known s line E5 = constraints_known s line
 meets_known s line E7 = known_either (beyond_known line) (room_known s line)
+meets_known s line E12 = undeclared_known s line
+meets_known s line E10 = wrong_known s line
 meets_known s line _ = inr (λ h. h)
 
 -- the first of a list that holds, or none does
@@ -90,40 +137,73 @@ first_not_none holds (q ∷ qs) r f n = elim f [ inl h ↦ n.0 h.0 | inr m ↦ f
 built : (s : SessionState) (line : Line) → IsNone (Meets s line) in_order → IsBuilt line
 built s line none = elim (built_known line) [ inl h ↦ h | inr n ↦ absurd (none.0 n) ]
 
--- a name that is not unknown is known
-has_variable : (s : SessionState) (name : List ℕ) → (IsUnknown s name → ⊥) → HasVariable s name
-has_variable s name n = elim (variable_known s name) [ inl h ↦ h | inr u ↦ absurd (n u) ]
+-- ---- there is something to say
 
-all_named : (s : SessionState) (names : List (List ℕ)) → (Any (IsUnknown s) names → ⊥) → All (HasVariable s) names
-all_named s names none = all_members (HasVariable s) names (λ x m. has_variable s x (λ u. none (m.0, x, m.1, m.2, u)))
+-- the explanation of a value that is not in the greatest closed domains
+why_exists : (t : SessionState) → IsState t → (d : Domains) (x : ℕ) (value : ℤ) → (reply : List ℕ) × SaysWhy t d x value reply
+why_exists t is d x value = elim (member_known int_known (values_of d x) value) [
+  | inl has ↦ (fixed_text Present, inl (has, refl))
+  | inr missing ↦
+      let l = explanation_names t is.held (pair_of x value) in
+      (users_text t.book Because l.0, inr (missing, l.0, l.1, refl))
+]
 
--- ---- an accepted line does something, and there is something to say
+conflict_says : (t : SessionState) → IsState t → t.paused ≡ false → (d : Domains) → AreDomains t d → (reply : List ℕ) × SaysConflict t d reply
+conflict_says t is awake d are = elim (cases_Bool (has_empty d)) [
+  | inl e ↦
+      let c = conflict_exists t is.held (empty_domains t d is awake are e) in
+      (users_text t.book ConflictLead c.0, inr (e, c.0, c.1, refl))
+  | inr e ↦ (fixed_text Consistent, inl (e, refl))
+]
 
-does_exist : (s : SessionState) (line : Line) → IsNone (Meets s line) in_order → IsBuilt line → (t : SessionState) × Does s line Nothing t
-does_exist s Comment none b = (s, refl)
-does_exist s (Var name domain) none b = (with_variable s name (values_in domain), refl)
-does_exist s (Add name shape) none b =
-    let c = constraint_with s.book.variables shape (all_named s (names_of shape) none.1.1.0) in
-    (with_constraint s name c.0, (c.0, record { declared = c.1; says = c.2 }, refl))
-does_exist s DomainsLine none b = (s, refl)
-does_exist s (Domain name) none b = (s, refl)
-does_exist s ListLine none b = (s, refl)
-does_exist s Quit none b = (s, refl)
-does_exist s _ none b = absurd b
+-- a line that waits while filtering waits finds the session awake
+pub awake_for : (s : SessionState) (line : Line) → IsPausable line → (WaitsFor s line → ⊥) → s.paused ≡ false
+awake_for s line pausable goes = elim (cases_Bool s.paused) [ inl on ↦ absurd (goes (record { paused = on; pausable = pausable })) | inr off ↦ off ]
 
-says_exist : (s : SessionState) (line : Line) (t : SessionState) → IsNone (Meets s line) in_order → IsBuilt line → IsState t → Does s line Nothing t → (reply : List ℕ) × Says t line Nothing reply
-says_exist s Comment t none b is does = ([], refl)
-says_exist s (Var name domain) t none b is does = (fixed_text Done, refl)
-says_exist s (Add name shape) t none b is does = (fixed_text Done, refl)
-says_exist s DomainsLine t none b is does = let d = domains_exist t is in (domains_text t.book.variables d.0, (d.0, d.1, refl))
-says_exist s (Domain name) t none b is does =
-    let d = domains_exist t is in
-    let h : HasVariable t name = subst (λ (z : SessionState). HasVariable z name) (sym does) (has_variable s name none.1.1.0) in
+step_says : (m : SessionState) (count : ℕ) (effect : Effect) (t : SessionState) → Follows m (Filters (Some count)) effect t → (reply : List ℕ) × Says t (Step count) effect reply
+step_says m count Nothing t f = absurd f
+step_says m count (Settled k) t f = (ran_text k, refl)
+step_says m count (Searched k) t f = absurd f
+
+-- a query leaves the state
+pub query_same : (s m t : SessionState) (effect : Effect) → m ≡ s → Follows m Rests effect t → t ≡ s
+query_same s m t effect e f = rests_same m effect t f ∙ e
+
+says_exist : (s : SessionState) (line : Line) (effect : Effect) (t : SessionState) → IsNone (Meets s line) in_order → IsBuilt line → IsState t → (WaitsFor s line → ⊥) → Does s line effect t
+    → (reply : List ℕ) × Says t line effect reply
+says_exist s Comment effect t none b is goes does = ([], refl)
+says_exist s (Var name domain) effect t none b is goes does = (fixed_text Done, refl)
+says_exist s (Add name shape) effect t none b is goes does = (fixed_text Done, refl)
+says_exist s (Relax name) effect t none b is goes does = (fixed_text Done, refl)
+says_exist s (Enforce name) effect t none b is goes does = (fixed_text Done, refl)
+says_exist s (Retract name) effect t none b is goes does = (fixed_text Done, refl)
+says_exist s DomainsLine effect t none b is goes does = let d = domains_exist t is.held in (domains_text t.book.variables d.0, (d.0, d.1, refl))
+says_exist s (Domain name) effect t none b is goes does =
+    let d = domains_exist t is.held in
+    let same : t ≡ s = query_same s does.0 t effect does.1 does.2 in
+    let h : HasVariable t name = subst (λ (z : SessionState). HasVariable z name) (sym same) (has_variable s name none.1.1.0) in
     let x = variable_with t.book.variables name h in
     (domain_line name (values_of d.0 x.0), (d.0, x.0, d.1, x.1, x.2, refl))
-says_exist s ListLine t none b is does = (list_text t.book, refl)
-says_exist s Quit t none b is does = (fixed_text Bye, refl)
-says_exist s _ t none b is does = absurd b
+says_exist s ListLine effect t none b is goes does = (list_text t.book, refl)
+says_exist s Log effect t none b is goes does = (log_text t.book t.engine.log, refl)
+says_exist s (Why name value) effect t none b is goes does =
+    let d = domains_exist t is.held in
+    let same : t ≡ s = query_same s does.0 t effect does.1 does.2 in
+    let h : HasVariable t name = subst (λ (z : SessionState). HasVariable z name) (sym same) (has_variable s name none.1.1.0) in
+    let x = variable_with t.book.variables name h in
+    let w = why_exists t is d.0 x.0 value in
+    (w.0, (d.0, x.0, d.1, x.1, x.2, w.1))
+says_exist s Conflict effect t none b is goes does =
+    let d = domains_exist t is.held in
+    let same : t ≡ s = query_same s does.0 t effect does.1 does.2 in
+    let awake : t.paused ≡ false = ap (λ (z : SessionState). z.paused) same ∙ awake_for s Conflict tt goes in
+    let c = conflict_says t is awake d.0 d.1 in
+    (c.0, (d.0, d.1, c.1))
+says_exist s Pause effect t none b is goes does = (fixed_text Done, refl)
+says_exist s Resume effect t none b is goes does = (fixed_text Done, refl)
+says_exist s (Step count) effect t none b is goes does = step_says does.0 count effect t does.2
+says_exist s Quit effect t none b is goes does = (fixed_text Bye, refl)
+says_exist s _ effect t none b is goes does = absurd b
 
 pausable_known : (line : Line) → Known (IsPausable line)
 pausable_known DomainsLine = inl tt
@@ -160,7 +240,7 @@ waits_known s line = elim (known_both (bool_known s.paused true) (pausable_known
 ]
 
 contradicts_known : (t : SessionState) → IsState t → (line : Line) → Known (Contradicts t line)
-contradicts_known t is line = elim (known_both (contradiction_known t is) (contradictable_known line)) [
+contradicts_known t is line = elim (known_both (contradiction_known t is.held) (contradictable_known line)) [
   | inl c ↦ inl (record { contradiction = c.0; contradictable = c.1 })
   | inr n ↦ inr (λ c. n (c.contradiction, c.contradictable))
 ]
@@ -175,11 +255,12 @@ accepted_answer s is bytes line read none = elim (waits_known s line) [
   | inl w ↦ (fixed_text Paused, s, accepted line read none (waits w))
   | inr awake ↦
       let b = built s line none in
-      let d = does_exist s line none b in
-      let it : IsState d.0 = does_keeps s line Nothing d.0 is (read_sound bytes line read) none d.1 in
-      elim (contradicts_known d.0 it line) [
-        | inl c ↦ (fixed_text Contradiction, d.0, accepted line read none (contradicts Nothing awake d.1 c))
-        | inr n ↦ let r = says_exist s line d.0 none b it d.1 in (r.0, d.0, accepted line read none (says Nothing awake d.1 n r.1))
+      let sound = read_sound bytes line read in
+      let d = does_exist s line is sound none b in
+      let it : IsState d.1 = does_keeps s line d.0 d.1 is sound none d.2 in
+      elim (contradicts_known d.1 it line) [
+        | inl c ↦ (fixed_text Contradiction, d.1, accepted line read none (contradicts d.0 awake d.2 c))
+        | inr n ↦ let r = says_exist s line d.0 d.1 none b it awake d.2 in (r.0, d.1, accepted line read none (says d.0 awake d.2 n r.1))
       ]
 ]
 
@@ -215,49 +296,100 @@ answers_keep s bytes reply t is (misread error refusal q some) = is
 answers_keep s bytes reply t is (refused line refusal read first) = is
 answers_keep s bytes reply t is (accepted line read none a) = accepts_keeps s line reply t is (read_sound bytes line read) none a
 
+-- ---- no line of today chooses an order
+
+accepts_order : (s : SessionState) (line : Line) (reply : List ℕ) (t : SessionState) → Accepts s line reply t → t.order ≡ s.order
+accepts_order s line reply t (waits w) = refl
+accepts_order s line reply t (contradicts effect awake does c) = does_order s line effect t does
+accepts_order s line reply t (says effect awake does n r) = does_order s line effect t does
+
+pub answers_order : (s : SessionState) (bytes reply : List ℕ) (t : SessionState) → Answers s bytes reply t → t.order ≡ s.order
+answers_order s bytes reply t (misread error refusal q some) = refl
+answers_order s bytes reply t (refused line refusal read first) = refl
+answers_order s bytes reply t (accepted line read none a) = accepts_order s line reply t a
+
 -- ---- no line has two answers
 
-says_same : (t : SessionState) (line : Line) (a b : List ℕ) → IsState t → Says t line Nothing a → Says t line Nothing b → a ≡ b
-says_same t Comment a b is x y = x ∙ sym y
-says_same t (Var name domain) a b is x y = x ∙ sym y
-says_same t (Add name shape) a b is x y = x ∙ sym y
-says_same t DomainsLine a b is x y =
+why_same : (t : SessionState) (d : Domains) (x : ℕ) (value : ℤ) (a b : List ℕ) → SaysWhy t d x value a → SaysWhy t d x value b → a ≡ b
+why_same t d x value a b (inl p) (inl q) = p.1 ∙ sym q.1
+why_same t d x value a b (inl p) (inr q) = absurd (q.0 p.0)
+why_same t d x value a b (inr p) (inl q) = absurd (p.0 q.0)
+why_same t d x value a b (inr p) (inr q) =
+    let names : p.1 ≡ q.1 = listed_once (NamesOfPair t.engine.log (pair_of x value)) p.1 q.1 p.2 q.2 in
+    p.3 ∙ ap (λ (z : List Cid). users_text t.book Because z) names ∙ sym q.3
+
+-- there is one kept conflict of the lowest empty variable
+conflict_names_same : (t : SessionState) (names others : List Cid) → HasConflict t names → HasConflict t others → names ≡ others
+conflict_names_same t names others one other =
+    let below : one.var ≤ other.var = one.lowest other.var other.empty in
+    let above : other.var ≤ one.var = other.lowest one.var one.empty in
+    let same : other.var ≡ one.var = omega (arith, below, above) in
+    listed_once (InConflict t.engine one.var) names others one.is (subst (λ (x : ℕ). IsListOf (InConflict t.engine x) others) same other.is)
+
+conflict_same : (t : SessionState) (d : Domains) (a b : List ℕ) → SaysConflict t d a → SaysConflict t d b → a ≡ b
+conflict_same t d a b (inl p) (inl q) = p.1 ∙ sym q.1
+conflict_same t d a b (inl p) (inr q) = absurd (false≢true (sym p.0 ∙ q.0))
+conflict_same t d a b (inr p) (inl q) = absurd (false≢true (sym q.0 ∙ p.0))
+conflict_same t d a b (inr p) (inr q) =
+    p.3 ∙ ap (λ (z : List Cid). users_text t.book ConflictLead z) (conflict_names_same t p.1 q.1 p.2 q.2) ∙ sym q.3
+
+step_same : (t : SessionState) (count : ℕ) (effect : Effect) (a b : List ℕ) → Says t (Step count) effect a → Says t (Step count) effect b → a ≡ b
+step_same t count Nothing a b x y = absurd x
+step_same t count (Settled k) a b x y = x ∙ sym y
+step_same t count (Searched k) a b x y = absurd x
+
+says_same : (t : SessionState) (line : Line) (effect : Effect) (a b : List ℕ) → IsState t → Says t line effect a → Says t line effect b → a ≡ b
+says_same t Comment effect a b is x y = x ∙ sym y
+says_same t (Var name domain) effect a b is x y = x ∙ sym y
+says_same t (Add name shape) effect a b is x y = x ∙ sym y
+says_same t (Relax name) effect a b is x y = x ∙ sym y
+says_same t (Enforce name) effect a b is x y = x ∙ sym y
+says_same t (Retract name) effect a b is x y = x ∙ sym y
+says_same t DomainsLine effect a b is x y =
     x.2 ∙ ap (λ (z : Domains). domains_text t.book.variables z) (domains_once t x.0 y.0 x.1 y.1) ∙ sym y.2
-says_same t (Domain name) a b is x y =
+says_same t (Domain name) effect a b is x y =
     let d : x.0 ≡ y.0 = domains_once t x.0 y.0 x.2 y.2 in
-    let v : x.1 ≡ y.1 = variable_once t.book.variables is.book.different_variables x.1 y.1 x.3 y.3 (x.4 ∙ sym y.4) in
+    let v : x.1 ≡ y.1 = variable_once t.book.variables is.held.book.different_variables x.1 y.1 x.3 y.3 (x.4 ∙ sym y.4) in
     x.5 ∙ ap (λ (z : Domains). domain_line name (values_of z x.1)) d ∙ ap (λ (z : ℕ). domain_line name (values_of y.0 z)) v ∙ sym y.5
-says_same t ListLine a b is x y = x ∙ sym y
-says_same t Quit a b is x y = x ∙ sym y
-says_same t _ a b is x y = absurd x
+says_same t ListLine effect a b is x y = x ∙ sym y
+says_same t Log effect a b is x y = x ∙ sym y
+says_same t (Why name value) effect a b is x y =
+    let d : x.0 ≡ y.0 = domains_once t x.0 y.0 x.2 y.2 in
+    let v : x.1 ≡ y.1 = variable_once t.book.variables is.held.book.different_variables x.1 y.1 x.3 y.3 (x.4 ∙ sym y.4) in
+    why_same t y.0 y.1 value a b
+    (subst (λ (z : ℕ). SaysWhy t y.0 z value a) v (subst (λ (z : Domains). SaysWhy t z x.1 value a) d x.5)) y.5
+says_same t Conflict effect a b is x y =
+    conflict_same t y.0 a b (subst (λ (z : Domains). SaysConflict t z a) (domains_once t x.0 y.0 x.1 y.1) x.2) y.2
+says_same t Pause effect a b is x y = x ∙ sym y
+says_same t Resume effect a b is x y = x ∙ sym y
+says_same t (Step count) effect a b is x y = step_same t count effect a b x y
+says_same t Quit effect a b is x y = x ∙ sym y
+says_same t _ effect a b is x y = absurd x
 
 abbrev AreOne : List ℕ → List ℕ → SessionState → SessionState → Type 0
 AreOne a b t u = (a ≡ b) × (t ≡ u)
 
-both_say : (s : SessionState) (line : Line) (e f : Effect) (t u : SessionState) (a b : List ℕ) → IsState s → IsSound line → IsNone (Meets s line) in_order → Does s line e t → Does s line f u → Says t line e a → Says u line f b → AreOne a b t u
-both_say s line e f t u a b is sound none d g x y =
-    let at = does_keeps s line e t is sound none d in
-    let one = does_once s line e f t u is d g in
-    let idle : e ≡ Nothing = does_nothing s line e t d in
-    let idle_too : f ≡ Nothing = does_nothing s line f u g in
-    let there : Says t line f b = subst (λ (z : SessionState). Says z line f b) (sym one.1) y in (
-      says_same t line a b at (subst (λ (z : Effect). Says t line z a) idle x) (subst (λ (z : Effect). Says t line z b) idle_too there),
-      one.1,
-    )
+module _ (s : SessionState) (line : Line) (free : s.order ≡ None) (is : IsState s) (sound : IsSound line) (none : IsNone (Meets s line) in_order) where
+  both_say : (e f : Effect) (t u : SessionState) (a b : List ℕ) → Does s line e t → Does s line f u → Says t line e a → Says u line f b → AreOne a b t u
+  both_say e f t u a b d g x y =
+      let at = does_keeps s line e t is sound none d in
+      let one = does_once s line e f t u free is sound none d g in
+      let there : Says t line f b = subst (λ (z : SessionState). Says z line f b) (sym one.1) y in
+      (says_same t line e a b at x (subst (λ (z : Effect). Says t line z b) (sym one.0) there), one.1)
 
-one_tells : (s : SessionState) (line : Line) (e f : Effect) (t u : SessionState) → IsState s → Does s line e t → Does s line f u → Contradicts t line → (Contradicts u line → ⊥) → ⊥
-one_tells s line e f t u is d g c n = n (subst (λ (z : SessionState). Contradicts z line) (does_once s line e f t u is d g).1 c)
+  one_tells : (e f : Effect) (t u : SessionState) → Does s line e t → Does s line f u → Contradicts t line → (Contradicts u line → ⊥) → ⊥
+  one_tells e f t u d g c n = n (subst (λ (z : SessionState). Contradicts z line) (does_once s line e f t u free is sound none d g).1 c)
 
-accepts_once : (s : SessionState) (line : Line) (a b : List ℕ) (t u : SessionState) → IsState s → IsSound line → IsNone (Meets s line) in_order → Accepts s line a t → Accepts s line b u → AreOne a b t u
-accepts_once s line a b t u is sound none (waits w) (waits v) = (refl, refl)
-accepts_once s line a b t u is sound none (waits w) (contradicts f m g k) = absurd (m w)
-accepts_once s line a b t u is sound none (waits w) (says f m g k y) = absurd (m w)
-accepts_once s line a b t u is sound none (contradicts e n d c) (waits v) = absurd (n v)
-accepts_once s line a b t u is sound none (contradicts e n d c) (contradicts f m g k) = (refl, (does_once s line e f t u is d g).1)
-accepts_once s line a b t u is sound none (contradicts e n d c) (says f m g k y) = absurd (one_tells s line e f t u is d g c k)
-accepts_once s line a b t u is sound none (says e n d c x) (waits v) = absurd (n v)
-accepts_once s line a b t u is sound none (says e n d c x) (contradicts f m g k) = absurd (one_tells s line f e u t is g d k c)
-accepts_once s line a b t u is sound none (says e n d c x) (says f m g k y) = both_say s line e f t u a b is sound none d g x y
+accepts_once : (s : SessionState) (line : Line) (a b : List ℕ) (t u : SessionState) → s.order ≡ None → IsState s → IsSound line → IsNone (Meets s line) in_order → Accepts s line a t → Accepts s line b u → AreOne a b t u
+accepts_once s line a b t u free is sound none (waits w) (waits v) = (refl, refl)
+accepts_once s line a b t u free is sound none (waits w) (contradicts f m g k) = absurd (m w)
+accepts_once s line a b t u free is sound none (waits w) (says f m g k y) = absurd (m w)
+accepts_once s line a b t u free is sound none (contradicts e n d c) (waits v) = absurd (n v)
+accepts_once s line a b t u free is sound none (contradicts e n d c) (contradicts f m g k) = (refl, (does_once s line e f t u free is sound none d g).1)
+accepts_once s line a b t u free is sound none (contradicts e n d c) (says f m g k y) = absurd (one_tells s line free is sound none e f t u d g c k)
+accepts_once s line a b t u free is sound none (says e n d c x) (waits v) = absurd (n v)
+accepts_once s line a b t u free is sound none (says e n d c x) (contradicts f m g k) = absurd (one_tells s line free is sound none f e u t g d k c)
+accepts_once s line a b t u free is sound none (says e n d c x) (says f m g k y) = both_say s line free is sound none e f t u a b d g x y
 
 -- an error with a refusal is not want of memory
 not_memory : (error : LineError) (refusal : Refusal) → refusal_of error ≡ Some refusal → error ≡ NoMemory → ⊥
@@ -272,24 +404,24 @@ misread_once bytes d e p r x y some other =
     let same : d ≡ e = one_refusal bytes d e x y (not_memory d p some) (not_memory e r other) in
     same_Some p r (sym some ∙ ap refusal_of same ∙ other)
 
-pub answers_once : (s : SessionState) (bytes a b : List ℕ) (t u : SessionState) → IsState s → Answers s bytes a t → Answers s bytes b u → (a ≡ b) × (t ≡ u)
-answers_once s bytes a b t u is (misread d p x some) (misread e r y other) = (ap refusal_text (misread_once bytes d e p r x y some other), refl)
-answers_once s bytes a b t u is (misread d p x some) (refused line r read first) = absurd (misread_unread bytes line d p read x some)
-answers_once s bytes a b t u is (misread d p x some) (accepted line read none h) = absurd (misread_unread bytes line d p read x some)
-answers_once s bytes a b t u is (refused line p read first) (misread e r y other) = absurd (misread_unread bytes line e r read y other)
-answers_once s bytes a b t u is (refused line p read first) (refused other r again second) =
+pub answers_once : (s : SessionState) (bytes a b : List ℕ) (t u : SessionState) → s.order ≡ None → IsState s → Answers s bytes a t → Answers s bytes b u → (a ≡ b) × (t ≡ u)
+answers_once s bytes a b t u free is (misread d p x some) (misread e r y other) = (ap refusal_text (misread_once bytes d e p r x y some other), refl)
+answers_once s bytes a b t u free is (misread d p x some) (refused line r read first) = absurd (misread_unread bytes line d p read x some)
+answers_once s bytes a b t u free is (misread d p x some) (accepted line read none h) = absurd (misread_unread bytes line d p read x some)
+answers_once s bytes a b t u free is (refused line p read first) (misread e r y other) = absurd (misread_unread bytes line e r read y other)
+answers_once s bytes a b t u free is (refused line p read first) (refused other r again second) =
     let same : other ≡ line = one_reading bytes other line again read in
     (ap refusal_text (first_once (Meets s line) in_order p r first (subst (λ (z : Line). IsFirst (Meets s z) in_order r) same second)), refl)
-answers_once s bytes a b t u is (refused line p read first) (accepted other again none h) =
+answers_once s bytes a b t u free is (refused line p read first) (accepted other again none h) =
     let same : other ≡ line = one_reading bytes other line again read in
     absurd (first_not_none (Meets s line) in_order p first (subst (λ (z : Line). IsNone (Meets s z) in_order) same none))
-answers_once s bytes a b t u is (accepted line read none h) (misread e r y other) = absurd (misread_unread bytes line e r read y other)
-answers_once s bytes a b t u is (accepted line read none h) (refused other r again second) =
+answers_once s bytes a b t u free is (accepted line read none h) (misread e r y other) = absurd (misread_unread bytes line e r read y other)
+answers_once s bytes a b t u free is (accepted line read none h) (refused other r again second) =
     let same : other ≡ line = one_reading bytes other line again read in
     absurd (first_not_none (Meets s line) in_order r (subst (λ (z : Line). IsFirst (Meets s z) in_order r) same second) none)
-answers_once s bytes a b t u is (accepted line read none h) (accepted other again free k) =
+answers_once s bytes a b t u free is (accepted line read none h) (accepted other again clear k) =
     let same : other ≡ line = one_reading bytes other line again read in
-    accepts_once s line a b t u is (read_sound bytes line read) none h (subst (λ (z : Line). Accepts s z b u) same k)
+    accepts_once s line a b t u free is (read_sound bytes line read) none h (subst (λ (z : Line). Accepts s z b u) same k)
 
 -- ---- the first bytes decide
 

@@ -1,167 +1,174 @@
--- What an accepted line leaves is a state that a session can hold, and nothing else.
-use Rattle.std.proofs.Common.{◌≡◌, ◌≢◌, ℕ, ◌+◌, ◌<◌, ◌≤◌, ℤ, pos, negsuc, ◌+ℤ◌, ◌-ℤ◌, ◌≤ℤ◌, Bool, true, false, List, [], ◌∷◌, ◌++◌, length, All, Any, Contains, inl, inr, refl, sym, ap, ◌∙◌, subst, arith}
-use Rattle.palm_model.specs.declared.limits.TheConstants.{MOST_SCOPE}
-use Rattle.palm_book.specs.declared.limits.TheConstants.{MOST_VARIABLES, MOST_CONSTRAINTS, MOST_ADDED}
-use Rattle.std.proofs.lemmas.Int.{ints}
-use Rattle.std.proofs.lemmas.List.Elements.{All-push, All-weaker}
-use Rattle.palm_base.proofs.Members.{Known, all_members}
-use Rattle.palm_model.specs.Domains.{Domains}
-use Rattle.palm_model.specs.Limits.{IsValue}
-use Rattle.palm_model.specs.declared.constraint.Con.{Con}
-use Rattle.palm_book.specs.Book.{Entry, initial_of, active_of, AreValues}
-use Rattle.palm_read.specs.Limits.{names_of, HasManyRows}
-use Rattle.palm_read.specs.Domain.{IsLarge}
-use Rattle.palm_read.specs.Domain.{count_in}
+-- What an accepted line leaves is a state that a session can hold, and without an order object nothing else.
+use Rattle.std.proofs.Common.{◌≡◌, ℕ, Bool, true, false, is_some, Option, Some, None, List, [], length, Contains, inl, inr, refl, sym, ap, ◌∙◌, subst, arith}
+use Rattle.std.proofs.lemmas.Bool.{false≢true}
+use Rattle.std.proofs.lemmas.List.Elements.{All-nil}
+use Rattle.palm_base.proofs.Members.{Known}
+use Rattle.palm_model.specs.Domains.{Domains, Ascends}
+use Rattle.palm_model.specs.Log.{cons_of}
+use Rattle.palm_model.specs.State.{EngineState, IsValid}
+use Rattle.palm_book.specs.Book.{initial_of, active_of}
+use Rattle.palm_book.proofs.Actives.{initial_ascend}
 use Rattle.palm_read.specs.Sound.{IsSound}
-use Rattle.palm_read.specs.Domain.{IsSoundDomain}
-use Rattle.palm_book.specs.declared.book.BookCon.{BookCon}
-use Rattle.palm_read.specs.declared.line.DomainText.{DomainText}
-use Rattle.palm_read.specs.declared.line.DomainText.TheVariants.{Range, Set}
 use Rattle.palm_read.specs.declared.line.Line.{Line}
-use Rattle.palm_read.specs.declared.line.Line.TheVariants.{Comment, Var, Add, Domains as DomainsLine, Domain, List as ListLine, Quit}
-use Rattle.palm_read.specs.declared.line.Shape.{Shape}
-use Rattle.palm_book.proofs.BookLemmas.{IsBook-with_variable, IsBook-with_constraint}
 use Rattle.palm_laws.proofs.Existence.{greatest_exists}
 use Rattle.palm_laws.proofs.Uniqueness.{greatest_unique}
-use Rattle.palm_session.specs.State.{SessionState, IsState, fresh, AreDomains, has_empty, IsContradiction}
-use Rattle.palm_session.specs.Refusals.{Meets, in_order, IsNone}
-use Rattle.palm_session.specs.Effects.{Effect, Nothing, Settled, Searched, with_variable, with_constraint, Does}
-use Rattle.palm_read.specs.Domain.{values_in}
-use Rattle.palm_book.specs.Named.{Resolves}
-use Rattle.palm_session.proofs.Actives.{initial_ascend}
-use Rattle.palm_session.proofs.Intervals.{are_values, narrow}
-use Rattle.palm_session.proofs.LawsOfLines.{constraint_once}
-use Rattle.palm_session.proofs.WellFormed.{well_formed}
+use Rattle.palm_events.specs.Along.{IsStill}
+use Rattle.palm_events.proofs.Reasons.{reasons_right}
+use Rattle.palm_events.proofs.Valid.{blank_valid}
+use Rattle.palm_engine.specs.Settling.{Revision, FitsOrder}
+use Rattle.palm_engine.proofs.Settled.{settling_filters, settling_valid, settling_still, plainly_exists, plainly_same}
+use Rattle.palm_session.specs.State.{SessionState, IsHeld, IsState, fresh, AreDomains, has_empty, IsContradiction}
+use Rattle.palm_session.specs.Refusals.{IsBuilt, Meets, in_order, IsNone}
+use Rattle.palm_session.specs.Effects.{Effect, Nothing, Settled, Searched, with_engine, Next, Rests, Filters, next, SettlesIn, Follows, Does}
+use Rattle.palm_session.proofs.LawsOfChanges.{changes_keep, changes_still, changes_limited, changes_exist, changes_once, changes_order}
 
 -- ---- a fresh session
 
 pub fresh_is : (guides orders : List ℕ) → IsState (fresh guides orders)
 fresh_is guides orders = record {
-  book = record {
-    few_variables = omega arith;
-    few_constraints = omega arith;
-    variable_names = λ k d h. absurd (omega (arith, h));
-    values = λ k d h. absurd (omega (arith, h));
-    different_variables = λ i j d l h. absurd (omega (arith, h));
-    constraint_names = λ k d h. absurd (omega (arith, h));
-    different_constraints = λ i j d l h. absurd (omega (arith, h));
-    rising = λ i j d l h. absurd (omega (arith, h));
-    formed = λ k d h. absurd (omega (arith, h));
+  held = record {
+    book = record {
+      few_variables = omega arith;
+      few_constraints = omega arith;
+      variable_names = λ k d h. absurd (omega (arith, h));
+      values = λ k d h. absurd (omega (arith, h));
+      different_variables = λ i j d l h. absurd (omega (arith, h));
+      constraint_names = λ k d h. absurd (omega (arith, h));
+      different_constraints = λ i j d l h. absurd (omega (arith, h));
+      rising = λ i j d l h. absurd (omega (arith, h));
+      formed = λ k d h. absurd (omega (arith, h));
+    };
+    accepted = omega arith;
+    numbered = λ k d h. absurd (omega (arith, h));
+    guide = tt;
+    order = tt;
+    initial = refl;
+    active = refl;
+    valid = blank_valid [] (All-nil Ascends);
   };
-  accepted = omega arith;
-  numbered = λ k d h. absurd (omega (arith, h));
-  guide = tt;
-  order = tt;
+  still = λ awake. inl refl;
 }
 
--- ---- one more variable
+-- ---- what follows a change
 
-count_is : (z : ℤ) → pos 0 ≤ℤ z → pos (count_in z) ≡ z
-count_is (pos n) h = refl
-count_is (negsuc n) h = absurd (omega (arith, ints, h))
-
--- the values of a sound domain that is not large
-pub domain_values : (domain : DomainText) → IsSoundDomain domain → (IsLarge domain → ⊥) → AreValues (values_in domain)
-domain_values (Range low high) sound small =
-    let n : ℕ = count_in (high -ℤ low) in
-    let wide : pos 0 ≤ℤ (high -ℤ low) = omega (arith, ints, sound.2) in
-    let is : pos n ≡ high -ℤ low = count_is (high -ℤ low) wide in
-    let last : low +ℤ pos (n + 1) -ℤ pos 1 ≡ high = omega (arith, ints, is) in
-    are_values low (n + 1) (omega arith) (narrow low high (n + 1) last small) sound.0 (subst IsValue (sym last) sound.1)
-domain_values (Set values) sound small = record { some = sound.0; few = omega (arith, small); ascend = sound.1; each = sound.2 }
-
--- no variable has the name
-none_named : {X : Type 0} (f : X → List ℕ) (xs : List X) (name : List ℕ) → (Any (λ x. f x ≡ name) xs → ⊥) → All (λ x. f x ≢ name) xs
-none_named f xs name none = all_members (λ x. f x ≢ name) xs (λ x m e. none (m.0, x, m.1, m.2, e))
-
-keeps_variable : (s : SessionState) (name : List ℕ) (domain : DomainText) → IsState s → IsSound (Var name domain) → IsNone (Meets s (Var name domain)) in_order → IsState (with_variable s name (values_in domain))
-keeps_variable s name domain is sound none =
-    let e : Entry = record { name = name; values = values_in domain } in
-    let room : length s.book.variables < 64 = let r : MOST_VARIABLES ≤ length s.book.variables → ⊥ = λ h. none.1.1.1.1.0 (inr h) in omega (arith, r) in
+settled_held : (m : SessionState) (limit : Option ℕ) (count : ℕ) (e : EngineState) → IsHeld m → SettlesIn m limit count e → IsHeld (with_engine m e)
+settled_held m limit count e is settles =
+    let filters = settling_filters limit m.engine settles.revisions e settles.settles in
     record {
-      book = IsBook-with_variable s.book s.book refl is.book e (s.book.variables ++ e ∷ []) sound.0
-          (none_named (λ (f : Entry). f.name) s.book.variables name none.1.0)
-          (domain_values domain sound.1 (λ h. none.1.1.1.1.0 (inl h))) room refl;
+      book = is.book;
       accepted = is.accepted;
       numbered = is.numbered;
       guide = is.guide;
       order = is.order;
+      initial = filters.initial ∙ is.initial;
+      active = filters.active ∙ is.active;
+      valid = settling_valid reasons_right limit m.engine settles.revisions e settles.settles is.valid;
     }
 
--- ---- one more constraint
+settled_still : (m : SessionState) (limit : Option ℕ) (count : ℕ) (e : EngineState) → SettlesIn m limit count e → ((l : ℕ) → limit ≡ Some l → m.paused ≡ true) → m.paused ≡ false → IsStill e
+settled_still m None count e settles limited awake = settling_still m.engine settles.revisions e settles.settles
+settled_still m (Some l) count e settles limited awake = absurd (false≢true (sym awake ∙ limited l refl))
 
-keeps_constraint : (s : SessionState) (name : List ℕ) (shape : Shape) (con : Con) → IsState s → IsSound (Add name shape) → IsNone (Meets s (Add name shape)) in_order → Resolves s.book.variables shape con → IsState (with_constraint s name con)
-keeps_constraint s name shape con is sound none says =
-    let c : BookCon = record { number = s.accepted + 1; name = name; active = true; con = con } in
-    let few : MOST_CONSTRAINTS ≤ length s.book.constraints → ⊥ = λ h. none.1.1.1.1.0 (inr (inl h)) in
-    let counts : MOST_ADDED ≤ s.accepted → ⊥ = λ h. none.1.1.1.1.0 (inr (inr h)) in
-    let narrow_scope : MOST_SCOPE < length (names_of shape) → ⊥ = λ h. none.1.1.1.1.0 (inl (inl h)) in
-    let few_rows : HasManyRows shape → ⊥ = λ h. none.1.1.1.1.0 (inl (inr h)) in
-    record {
-      book = IsBook-with_constraint s.book s.book refl is.book c (s.book.constraints ++ c ∷ []) sound.0
-          (none_named (λ (d : BookCon). d.name) s.book.constraints name none.1.0)
-          (All-weaker (λ (d : BookCon). d.number ≤ s.accepted) (λ (d : BookCon). d.number < s.accepted + 1) (λ d h. omega (arith, h)) s.book.constraints is.numbered)
-          (well_formed s.book.variables shape con says sound.1 sound.2 narrow_scope few_rows) (omega (arith, few)) refl;
-      accepted = omega (arith, counts);
-      numbered = All-push (λ (d : BookCon). d.number ≤ s.accepted + 1) s.book.constraints c
-          (All-weaker (λ (d : BookCon). d.number ≤ s.accepted) (λ (d : BookCon). d.number ≤ s.accepted + 1) (λ d h. omega (arith, h)) s.book.constraints is.numbered)
-          (omega arith);
-      guide = is.guide;
-      order = is.order;
-    }
-
--- ---- what a line does
-
-pub does_nothing : (s : SessionState) (line : Line) (effect : Effect) (t : SessionState) → Does s line effect t → effect ≡ Nothing
-does_nothing s line Nothing t d = refl
-does_nothing s Comment (Settled n) t d = absurd d
-does_nothing s Comment (Searched e) t d = absurd d
-does_nothing s _ (Settled n) t d = absurd d
-does_nothing s _ (Searched e) t d = absurd d
-
--- a state that a session can hold stays one
-keeps : (s : SessionState) (line : Line) (t : SessionState) → IsState s → IsSound line → IsNone (Meets s line) in_order → Does s line Nothing t → IsState t
-keeps s Comment t is sound none d = subst IsState (sym d) is
-keeps s (Var name domain) t is sound none d = subst IsState (sym d) (keeps_variable s name domain is sound none)
-keeps s (Add name shape) t is sound none d = subst IsState (sym d.2) (keeps_constraint s name shape d.0 is sound none d.1)
-keeps s DomainsLine t is sound none d = subst IsState (sym d) is
-keeps s (Domain name) t is sound none d = subst IsState (sym d) is
-keeps s ListLine t is sound none d = subst IsState (sym d) is
-keeps s Quit t is sound none d = subst IsState (sym d) is
-keeps s _ t is sound none d = absurd d
+pub follows_keeps : (m : SessionState) (n : Next) (effect : Effect) (t : SessionState) → IsHeld m → (n ≡ Rests → m.paused ≡ false → IsStill m.engine)
+    → ((l : ℕ) → n ≡ Filters (Some l) → m.paused ≡ true) → Follows m n effect t → IsState t
+follows_keeps m Rests Nothing t is still limited f = subst IsState (sym f) (record { held = is; still = still refl })
+follows_keeps m Rests (Settled count) t is still limited f = absurd f
+follows_keeps m Rests (Searched end) t is still limited f = absurd f
+follows_keeps m (Filters limit) Nothing t is still limited f = absurd f
+follows_keeps m (Filters limit) (Settled count) t is still limited f = subst IsState (sym f.2) (record {
+  held = settled_held m limit count f.0 is f.1;
+  still = λ awake. settled_still m limit count f.0 f.1 (λ l e. limited l (ap Filters e)) awake;
+})
+follows_keeps m (Filters limit) (Searched end) t is still limited f = absurd f
 
 pub does_keeps : (s : SessionState) (line : Line) (effect : Effect) (t : SessionState) → IsState s → IsSound line → IsNone (Meets s line) in_order → Does s line effect t → IsState t
 does_keeps s line effect t is sound none d =
-    keeps s line t is sound none (subst (λ (e : Effect). Does s line e t) (does_nothing s line effect t d) d)
+    follows_keeps d.0 (next d.0 line) effect t (changes_keep s d.0 line is.held sound none d.1)
+    (λ rests awake. changes_still s d.0 line is d.1 rests awake) (λ l e. changes_limited s d.0 line none d.1 l e) d.2
 
-does_same : (s : SessionState) (line : Line) (t u : SessionState) → IsState s → Does s line Nothing t → Does s line Nothing u → t ≡ u
-does_same s Comment t u is d e = d ∙ sym e
-does_same s (Var name domain) t u is d e = d ∙ sym e
-does_same s (Add name shape) t u is d e =
-    let same : d.0 ≡ e.0 = constraint_once s.book.variables is.book.different_variables d.0 e.0 d.1.declared e.1.declared (d.1.says ∙ sym e.1.says) in
-    d.2 ∙ ap (λ (c : Con). with_constraint s name c) same ∙ sym e.2
-does_same s DomainsLine t u is d e = d ∙ sym e
-does_same s (Domain name) t u is d e = d ∙ sym e
-does_same s ListLine t u is d e = d ∙ sym e
-does_same s Quit t u is d e = d ∙ sym e
-does_same s _ t u is d e = absurd d
+-- ---- a line does something
+
+fits_any : (b : Bool) (rs : List Revision) → FitsOrder false rs → FitsOrder b rs
+fits_any false rs fits = fits
+fits_any true rs fits = tt
+
+follows_exist : (m : SessionState) (n : Next) → IsValid m.engine → (effect : Effect) × (t : SessionState) × Follows m n effect t
+follows_exist m Rests valid = (Nothing, m, refl)
+follows_exist m (Filters limit) valid =
+    let p = plainly_exists limit m.engine valid in
+    let settles : SettlesIn m limit (length p.revisions) p.state =
+    record { revisions = p.revisions; settles = p.settles; fits = fits_any (is_some m.order) p.revisions p.fits; counted = refl } in
+    (Settled (length p.revisions), with_engine m p.state, (p.state, settles, refl))
+
+pub does_exist : (s : SessionState) (line : Line) → IsState s → IsSound line → IsNone (Meets s line) in_order → IsBuilt line → (effect : Effect) × (t : SessionState) × Does s line effect t
+does_exist s line is sound none b =
+    let c = changes_exist s line is.held sound none b in
+    let f = follows_exist c.0 (next c.0 line) (changes_keep s c.0 line is.held sound none c.1).valid in
+    (f.0, f.1, (c.0, c.1, f.2))
+
+-- ---- and without an order object nothing else
+
+fits_none : (m : SessionState) (limit : Option ℕ) (count : ℕ) (e : EngineState) → m.order ≡ None → (settles : SettlesIn m limit count e) → FitsOrder false settles.revisions
+fits_none m limit count e free settles = subst (λ (o : Option ℕ). FitsOrder (is_some o) settles.revisions) free settles.fits
+
+follows_once : (m : SessionState) (n : Next) (e f : Effect) (t u : SessionState) → m.order ≡ None → IsValid m.engine → Follows m n e t → Follows m n f u → (e ≡ f) × (t ≡ u)
+follows_once m Rests Nothing Nothing t u free valid x y = (refl, x ∙ sym y)
+follows_once m Rests Nothing (Settled k) t u free valid x y = absurd y
+follows_once m Rests Nothing (Searched k) t u free valid x y = absurd y
+follows_once m Rests (Settled k) f t u free valid x y = absurd x
+follows_once m Rests (Searched k) f t u free valid x y = absurd x
+follows_once m (Filters limit) Nothing f t u free valid x y = absurd x
+follows_once m (Filters limit) (Searched k) f t u free valid x y = absurd x
+follows_once m (Filters limit) (Settled k) Nothing t u free valid x y = absurd y
+follows_once m (Filters limit) (Settled k) (Searched l) t u free valid x y = absurd y
+follows_once m (Filters limit) (Settled k) (Settled l) t u free valid x y =
+    let same = plainly_same limit m.engine x.1.revisions x.0 y.1.revisions y.0 valid (fits_none m limit k x.0 free x.1) (fits_none m limit l y.0 free y.1) x.1.settles y.1.settles in
+    let count : k ≡ l = sym x.1.counted ∙ ap (λ (rs : List Revision). length rs) same.revisions ∙ y.1.counted in
+    (ap Settled count, x.2 ∙ ap (λ (z : EngineState). with_engine m z) same.state ∙ sym y.2)
 
 -- a line does one thing
-pub does_once : (s : SessionState) (line : Line) (e f : Effect) (t u : SessionState) → IsState s → Does s line e t → Does s line f u → (e ≡ f) × (t ≡ u)
-does_once s line e f t u is d g =
-    let x : e ≡ Nothing = does_nothing s line e t d in
-    let y : f ≡ Nothing = does_nothing s line f u g in (
-      x ∙ sym y,
-      does_same s line t u is (subst (λ (z : Effect). Does s line z t) x d) (subst (λ (z : Effect). Does s line z u) y g),
-    )
+pub does_once : (s : SessionState) (line : Line) (e f : Effect) (t u : SessionState) → s.order ≡ None → IsState s → IsSound line → IsNone (Meets s line) in_order
+    → Does s line e t → Does s line f u → (e ≡ f) × (t ≡ u)
+does_once s line e f t u free is sound none d g =
+    let same : g.0 ≡ d.0 = changes_once s g.0 d.0 line is.held g.1 d.1 in
+    follows_once d.0 (next d.0 line) e f t u (changes_order s d.0 line d.1 ∙ free) (changes_keep s d.0 line is.held sound none d.1).valid d.2
+    (subst (λ (z : SessionState). Follows z (next z line) f u) same g.2)
+
+-- ---- the order stays
+
+follows_order : (m : SessionState) (n : Next) (effect : Effect) (t : SessionState) → Follows m n effect t → t.order ≡ m.order
+follows_order m Rests Nothing t f = ap (λ (z : SessionState). z.order) f
+follows_order m Rests (Settled k) t f = absurd f
+follows_order m Rests (Searched k) t f = absurd f
+follows_order m (Filters limit) Nothing t f = absurd f
+follows_order m (Filters limit) (Settled k) t f = ap (λ (z : SessionState). z.order) f.2
+follows_order m (Filters limit) (Searched k) t f = absurd f
+
+pub does_order : (s : SessionState) (line : Line) (effect : Effect) (t : SessionState) → Does s line effect t → t.order ≡ s.order
+does_order s line effect t d = follows_order d.0 (next d.0 line) effect t d.2 ∙ changes_order s d.0 line d.1
+
+-- where nothing follows, the change is all
+pub rests_same : (m : SessionState) (effect : Effect) (t : SessionState) → Follows m Rests effect t → t ≡ m
+rests_same m Nothing t f = f
+rests_same m (Settled k) t f = absurd f
+rests_same m (Searched k) t f = absurd f
+
+-- what follows leaves the book
+pub follows_book : (m : SessionState) (n : Next) (effect : Effect) (t : SessionState) → Follows m n effect t → t.book ≡ m.book
+follows_book m Rests Nothing t f = ap (λ (z : SessionState). z.book) f
+follows_book m Rests (Settled k) t f = absurd f
+follows_book m Rests (Searched k) t f = absurd f
+follows_book m (Filters limit) Nothing t f = absurd f
+follows_book m (Filters limit) (Settled k) t f = ap (λ (z : SessionState). z.book) f.2
+follows_book m (Filters limit) (Searched k) t f = absurd f
 
 -- ---- the greatest closed domains
 
-pub domains_exist : (s : SessionState) → IsState s → (d : Domains) × AreDomains s d
-domains_exist s is = greatest_exists (initial_of s.book) (active_of s.book) (initial_ascend s.book is.book)
+pub domains_exist : (s : SessionState) → IsHeld s → (d : Domains) × AreDomains s d
+domains_exist s is = greatest_exists (initial_of s.book) (cons_of (active_of s.book)) (initial_ascend s.book is.book)
 
 pub domains_once : (s : SessionState) (d e : Domains) → AreDomains s d → AreDomains s e → d ≡ e
-domains_once s d e one other = greatest_unique (initial_of s.book) (Contains (active_of s.book)) d e one other
+domains_once s d e one other = greatest_unique (initial_of s.book) (Contains (cons_of (active_of s.book))) d e one other
 
 pub bool_known : (b c : Bool) → Known (b ≡ c)
 bool_known true true = inl refl
@@ -169,7 +176,7 @@ bool_known true false = inr (λ e. cc)
 bool_known false true = inr (λ e. cc)
 bool_known false false = inl refl
 
-pub contradiction_known : (s : SessionState) → IsState s → Known (IsContradiction s)
+pub contradiction_known : (s : SessionState) → IsHeld s → Known (IsContradiction s)
 contradiction_known s is =
     let d = domains_exist s is in
     elim (bool_known s.paused false) [

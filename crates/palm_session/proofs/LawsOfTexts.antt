@@ -1,12 +1,12 @@
 -- A text has lines in one way, and its lines are answered in one way.
-use Rattle.std.proofs.Common.{◌≡◌, ◌≢◌, ℕ, List, [], ◌∷◌, ◌++◌, map, flat_map, All, Contains, ◌⊎◌, inl, inr, refl, sym, ap, ◌∙◌, subst, append_assoc}
+use Rattle.std.proofs.Common.{◌≡◌, ◌≢◌, ℕ, None, List, [], ◌∷◌, ◌++◌, map, flat_map, All, Contains, ◌⊎◌, inl, inr, refl, sym, ap, ◌∙◌, subst, append_assoc}
 use Rattle.std.proofs.lemmas.List.Elements.{All-nil, All-cons, All-head, All-tail, All-contains, Contains-append_right}
 use Rattle.palm_base.proofs.Members.{nat_known, member_here}
 use Rattle.palm_lang.specs.Reply.{ended}
 use Rattle.palm_session.specs.State.{SessionState, IsState, fresh}
 use Rattle.palm_session.specs.Lines.{HasNoFeed, Cuts, without_return, last_line, AreLines}
 use Rattle.palm_session.specs.Replies.{Ends, GoesOn, Run, AreAnswered, all, until, Replies}
-use Rattle.palm_session.proofs.LawsOfAnswers.{has_answer, answers_keep, answers_once}
+use Rattle.palm_session.proofs.LawsOfAnswers.{has_answer, answers_keep, answers_order, answers_once}
 use Rattle.palm_session.proofs.LawsOfLines.{quit_known}
 use Rattle.palm_session.proofs.LawsOfStates.{fresh_is}
 
@@ -163,12 +163,12 @@ answered_once lines xs ys (until a x k on e is) (until b y l too f other) = ends
 
 -- ---- the lines are answered in one way
 
-pub run_once : (s : SessionState) (lines : List (List ℕ)) (a b : List ℕ) (t u : SessionState) → IsState s → Run s lines a t → Run s lines b u → a ≡ b
-run_once s [] a b t u is x y = x.0 ∙ sym y.0
-run_once s (l ∷ ls) a b t u is x y =
-    let one = answers_once s l x.0 y.0 x.2 y.2 is x.3 y.3 in
+pub run_once : (s : SessionState) (lines : List (List ℕ)) (a b : List ℕ) (t u : SessionState) → s.order ≡ None → IsState s → Run s lines a t → Run s lines b u → a ≡ b
+run_once s [] a b t u free is x y = x.0 ∙ sym y.0
+run_once s (l ∷ ls) a b t u free is x y =
+    let one = answers_once s l x.0 y.0 x.2 y.2 free is x.3 y.3 in
     let next : Run x.2 ls y.1 u = subst (λ (z : SessionState). Run z ls y.1 u) (sym one.1) y.5 in
-    let rest : x.1 ≡ y.1 = run_once x.2 ls x.1 y.1 t u (answers_keep s l x.0 x.2 is x.3) x.5 next in
+    let rest : x.1 ≡ y.1 = run_once x.2 ls x.1 y.1 t u (answers_order s l x.0 x.2 x.3 ∙ free) (answers_keep s l x.0 x.2 is x.3) x.5 next in
     x.4 ∙ ap (λ (z : List ℕ). z ++ x.1) one.0 ∙ ap (λ (z : List ℕ). y.0 ++ z) rest ∙ sym y.4
 
 pub has_run : (s : SessionState) (lines : List (List ℕ)) → IsState s → (replies : List ℕ) × (t : SessionState) × Run s lines replies t
@@ -191,7 +191,7 @@ output_once guides orders text a b x y =
     let there : AreAnswered x.lines y.answered = subst (λ (z : List (List ℕ)). AreAnswered z y.answered) (sym lines) y.are_answered in
     let same : x.answered ≡ y.answered = answered_once x.lines x.answered y.answered x.are_answered there in
     let run : Run (fresh guides orders) x.answered b y.state = subst (λ (z : List (List ℕ)). Run (fresh guides orders) z b y.state) (sym same) y.run in
-    run_once (fresh guides orders) x.answered a b x.state y.state (fresh_is guides orders) x.run run
+    run_once (fresh guides orders) x.answered a b x.state y.state refl (fresh_is guides orders) x.run run
 
 pub has_output : (guides orders text : List ℕ) → (output : List ℕ) × Replies guides orders text output
 has_output guides orders text =

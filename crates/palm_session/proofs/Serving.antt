@@ -1,49 +1,88 @@
 -- What is served, by the tests that it passed.
-use Rattle.std.proofs.Common.{◌≡◌, ◌≢◌, ◌<◌, ℕ, List, [], length, get_or, All, Any, ◌⊎◌, refl, sym, subst, inl, inr, Result, IfOk}
+use Rattle.std.proofs.Common.{◌≡◌, ◌≢◌, ◌<◌, ℕ, ℤ, Bool, true, false, List, length, get_or, All, Any, Contains, ◌⊎◌, None, Some, refl, sym, ap, ◌∙◌, subst, inl, inr, []}
+use Rattle.std.proofs.lemmas.Bool.{cases_Bool}
+use Rattle.std.specs.Prelude.{slice_get}
 use Rattle.std.proofs.lemmas.List.Elements.{Contains-get_or}
-use Rattle.std.proofs.lemmas.Result.{IfOk-weaker}
+use Rattle.palm_model.specs.Domains.{Domains, Has, values_of}
+use Rattle.palm_model.specs.State.{EngineState, HasEmpty, present}
 use Rattle.palm_read.specs.Limits.{IsBeyond}
 use Rattle.palm_read.specs.declared.line.Line.{Line}
-use Rattle.palm_lang.specs.Reply.{refusal_text}
-use Rattle.palm_lang.specs.declared.reply.Refusal.TheVariants.{E4, E7}
+use Rattle.palm_read.specs.declared.line.Line.TheVariants.{Comment, Domains as DomainsLine, Domain, List as ListLine, Log, Why, Conflict, Pause, Quit}
+use Rattle.palm_lang.specs.Reply.{fixed_text, refusal_text, domain_line}
+use Rattle.palm_lang.specs.declared.reply.Fixed.TheVariants.{Done, Paused, Consistent, Bye}
+use Rattle.palm_lang.specs.declared.reply.Lead.TheVariants.{Conflict as ConflictLead}
+use Rattle.palm_lang.specs.declared.reply.Refusal.TheVariants.{E4, E5, E7, E10, E12}
+use Rattle.palm_base.specs.declared.terms.Cid.{Cid}
 use Rattle.palm_book.specs.Book.{Entry, name_of}
+use Rattle.palm_book.specs.declared.book.BookCon.{BookCon}
 use Rattle.palm_book.proofs.Any.{any_member}
-use Rattle.palm_session.proofs.Accepting.{accepts_quietly}
-use Rattle.palm_session.specs.Answers.{Accepts, IsContradictable, IsPausable, Says}
-use Rattle.palm_session.specs.Effects.{Nothing, Does}
-use Rattle.palm_session.specs.Refusals.{IsBuilt, TakesName, NamesNone, HasNoRoom, Meets, IsNone, in_order}
-use Rattle.palm_session.specs.ReplyText.{Serves, refuses, accepts}
-use Rattle.palm_session.specs.State.{SessionState}
+use Rattle.palm_session.specs.Answers.{HasConflict, waits, SaysWhy, domains_text, list_text, log_text, users_text}
+use Rattle.palm_session.specs.Effects.{Effect, Nothing, IsNamed}
+use Rattle.palm_session.specs.Refusals.{IsBuilt, TakesName, NamesNone, NamesNoConstraint, HasNoRoom, HasActive, AsksUndeclared, IsInWrongState, Meets, IsNone, in_order}
+use Rattle.palm_session.specs.Serving.{Serves, refuses, accepts, StandsAt, TellsOpenly, TellsUnlessPaused}
+use Rattle.palm_session.specs.State.{SessionState, HasConstraint, IsState, has_empty}
+use Rattle.palm_session.proofs.Accepting.{accepts_quietly, accepts_openly, accepts_unless_paused, awake_goes}
+use Rattle.palm_session.proofs.ActiveLists.{split_place}
+use Rattle.palm_session.proofs.LawsOfDomains.{present_domains, domains_empty, printed_domains, empty_at}
+use Rattle.palm_session.proofs.LawsOfStates.{domains_exist}
+
+-- ---- refusals
 
 module _ (s : SessionState) (line : Line) (built : IsBuilt line) (free : TakesName s line → ⊥) where
   pub unknown_refused : NamesNone s line → Serves s line (refusal_text E4) s
   unknown_refused none = refuses E4 (inr ((λ m. m built), inr (free, inl (none, refl))))
 
-  pub over_refused : (NamesNone s line → ⊥) → (IsBeyond line ⊎ HasNoRoom s line) → Serves s line (refusal_text E7) s
-  over_refused known over = refuses E7 (inr ((λ m. m built), inr (free, inr (known, inr ((λ m. m), inl (over, refl))))))
+  pub unnamed_refused : (NamesNone s line → ⊥) → NamesNoConstraint s line → Serves s line (refusal_text E5) s
+  unnamed_refused known none = refuses E5 (inr ((λ m. m built), inr (free, inr (known, inl (none, refl)))))
 
-  pub none_met : (NamesNone s line → ⊥) → (IsBeyond line ⊎ HasNoRoom s line → ⊥) → IsNone (Meets s line) in_order
-  none_met known within = ((λ m. m built), (free, (known, ((λ m. m), (within, ((λ m. m), ((λ m. m), ((λ m. m), tt))))))))
+  pub over_refused : (NamesNone s line → ⊥) → (NamesNoConstraint s line → ⊥) → (IsBeyond line ⊎ HasNoRoom s line) → Serves s line (refusal_text E7) s
+  over_refused known named over = refuses E7 (inr ((λ m. m built), inr (free, inr (known, inr (named, inl (over, refl))))))
 
-  pub all_accepted : {T E : Type 0} (t : SessionState) (text : T → List ℕ) (r : Result T E) → (NamesNone s line → ⊥) → (IsBeyond line ⊎ HasNoRoom s line → ⊥)
-      → IfOk r (λ reply. Accepts s line (text reply) t) → IfOk r (λ reply. Serves s line (text reply) t)
-  all_accepted t text r known within h =
-      IfOk-weaker r (λ reply. Accepts s line (text reply) t) (λ reply. Serves s line (text reply) t) (λ reply a. accepts (none_met known within) a) h
+  module _ (known : NamesNone s line → ⊥) (named : NamesNoConstraint s line → ⊥) (within : IsBeyond line ⊎ HasNoRoom s line → ⊥) where
+    pub undeclared_refused : AsksUndeclared s line → Serves s line (refusal_text E12) s
+    undeclared_refused asks = refuses E12 (inr ((λ m. m built), inr (free, inr (known, inr (named, inr (within, inr ((λ m. m), inl (asks, refl))))))))
 
--- a line that is answered at any time, and tells nothing of domains
-pub served_quietly : (s : SessionState) (line l : Line) (text : List ℕ) → line ≡ l → IsBuilt l → (TakesName s l → ⊥) → (NamesNone s l → ⊥)
-    → (IsBeyond l → ⊥) → (HasNoRoom s l → ⊥) → (IsPausable l → ⊥) → Does s l Nothing s → (IsContradictable l → ⊥) → Says s l Nothing text → Serves s line text s
-served_quietly s line l text e built free known near room awake does quiet said =
-    subst (λ (x : Line). Serves s x text s) (sym e)
-    (accepts (none_met s l built free known (λ m. elim m [ inl h ↦ near h | inr h ↦ room h ]))
-    (accepts_quietly s s l Nothing text (λ w. awake w.pausable) does quiet said))
+    pub wrong_refused : (AsksUndeclared s line → ⊥) → IsInWrongState s line → Serves s line (refusal_text E10) s
+    wrong_refused declared wrong = refuses E10 (inr ((λ m. m built), inr (free, inr (known, inr (named, inr (within, inr ((λ m. m), inr (declared, inl (wrong, refl)))))))))
 
--- a line that asks for domains
-pub served_domains : {T E : Type 0} (s : SessionState) (line l : Line) (text : T → List ℕ) (r : Result T E) → line ≡ l → IsBuilt l → (TakesName s l → ⊥)
-    → (NamesNone s l → ⊥) → (IsBeyond l → ⊥) → (HasNoRoom s l → ⊥) → IfOk r (λ reply. Accepts s l (text reply) s) → IfOk r (λ reply. Serves s line (text reply) s)
-served_domains s line l text r e built free known near room h =
-    subst (λ (x : Line). IfOk r (λ reply. Serves s x (text reply) s)) (sym e)
-    (all_accepted s l built free s text r known (λ m. elim m [ inl f ↦ near f | inr f ↦ room f ]) h)
+    pub none_met : (AsksUndeclared s line → ⊥) → (IsInWrongState s line → ⊥) → IsNone (Meets s line) in_order
+    none_met declared right = ((λ m. m built), (free, (known, (named, (within, ((λ m. m), (declared, (right, tt))))))))
+
+-- a line that names nothing, breaks no limit and fits every state
+pub free_of_refusals : (s : SessionState) (line : Line) → IsBuilt line → (TakesName s line → ⊥) → (NamesNone s line → ⊥) → (NamesNoConstraint s line → ⊥)
+    → (IsBeyond line → ⊥) → (HasNoRoom s line → ⊥) → (AsksUndeclared s line → ⊥) → (IsInWrongState s line → ⊥) → IsNone (Meets s line) in_order
+free_of_refusals s line built free known named near room declared right =
+    none_met s line built free known named (λ m. elim m [ inl h ↦ near h | inr h ↦ room h ]) declared right
+
+-- ---- questions that name nothing
+
+pub serves_comment : (s : SessionState) → Serves s Comment [] s
+serves_comment s =
+    accepts (free_of_refusals s Comment tt (λ h. h) (λ h. h) (λ h. h) (λ h. h) (λ h. h) (λ h. h) (λ h. h))
+    (accepts_quietly s s Comment Nothing [] (λ w. w.pausable) (s, refl, refl) (λ h. h) refl)
+
+pub serves_list : (s : SessionState) → Serves s ListLine (list_text s.book) s
+serves_list s =
+    accepts (free_of_refusals s ListLine tt (λ h. h) (λ h. h) (λ h. h) (λ h. h) (λ h. h) (λ h. h) (λ h. h))
+    (accepts_quietly s s ListLine Nothing (list_text s.book) (λ w. w.pausable) (s, refl, refl) (λ h. h) refl)
+
+pub serves_quit : (s : SessionState) → Serves s Quit (fixed_text Bye) s
+serves_quit s =
+    accepts (free_of_refusals s Quit tt (λ h. h) (λ h. h) (λ h. h) (λ h. h) (λ h. h) (λ h. h) (λ h. h))
+    (accepts_quietly s s Quit Nothing (fixed_text Bye) (λ w. w.pausable) (s, refl, refl) (λ h. h) refl)
+
+pub serves_log : (s : SessionState) (text : List ℕ) → TellsUnlessPaused s (λ x. x ≡ log_text s.book s.engine.log) text → Serves s Log text s
+serves_log s text told =
+    accepts (free_of_refusals s Log tt (λ h. h) (λ h. h) (λ h. h) (λ h. h) (λ h. h) (λ h. h) (λ h. h))
+    (accepts_unless_paused s Log (λ (x : List ℕ). x ≡ log_text s.book s.engine.log) text tt (λ h. h) (s, refl, refl) (λ x e. e) told)
+
+pub serves_domains : (s : SessionState) (text : List ℕ) → IsState s → TellsOpenly s (λ x. x ≡ domains_text s.book.variables (present s.engine)) text → Serves s DomainsLine text s
+serves_domains s text is told =
+    accepts (free_of_refusals s DomainsLine tt (λ h. h) (λ h. h) (λ h. h) (λ h. h) (λ h. h) (λ h. h) (λ h. h))
+    (accepts_openly s DomainsLine (λ (x : List ℕ). x ≡ domains_text s.book.variables (present s.engine)) text tt tt (s, refl, refl)
+    (λ open x e. (present s.engine, printed_domains s is open.0 open.1, e)) told)
+
+-- ---- questions that name a variable
 
 pub none_named : (variables : List Entry) (name : List ℕ) → All (λ e. e.name ≢ name) variables → Any (λ e. e.name ≡ name) variables → ⊥
 none_named variables name h a = h a.0 a.1 a.2 (subst (λ (e : Entry). e.name ≡ name) (sym a.3) a.4)
@@ -52,3 +91,55 @@ pub some_named : (variables : List Entry) (x : ℕ) (name : List ℕ) → x < le
 some_named variables x name lt e =
     let d : Entry = record { name = []; values = [] } in
     any_member (λ (e : Entry). e.name ≡ name) variables (get_or variables x d) (Contains-get_or variables x d lt) e
+
+module _ (s : SessionState) (name : List ℕ) (x : ℕ) (lt : x < length s.book.variables) (is : name_of s.book.variables x ≡ name) where
+  pub serves_domain : (text : List ℕ) → IsState s → TellsOpenly s (λ y. y ≡ domain_line (name_of s.book.variables x) (values_of (present s.engine) x)) text → Serves s (Domain name) text s
+  serves_domain text state told =
+      accepts (free_of_refusals s (Domain name) tt (λ h. h) (λ none. none (some_named s.book.variables x name lt is)) (λ h. h) (λ h. h) (λ h. h) (λ h. h) (λ h. h))
+      (accepts_openly s (Domain name) (λ (y : List ℕ). y ≡ domain_line (name_of s.book.variables x) (values_of (present s.engine) x)) text tt tt (s, refl, refl)
+      (λ open y e. (present s.engine, x, printed_domains s state open.0 open.1, lt, is, e ∙ ap (λ (n : List ℕ). domain_line n (values_of (present s.engine) x)) is)) told)
+
+  module _ (value : ℤ) (declared : AsksUndeclared s (Why name value) → ⊥) where
+    pub serves_why : (text : List ℕ) → IsState s → TellsOpenly s (SaysWhy s (present s.engine) x value) text → Serves s (Why name value) text s
+    serves_why text state told =
+        accepts (free_of_refusals s (Why name value) tt (λ h. h) (λ none. none (some_named s.book.variables x name lt is)) (λ h. h) (λ h. h) (λ h. h) declared (λ h. h))
+        (accepts_openly s (Why name value) (SaysWhy s (present s.engine) x value) text tt tt (s, refl, refl)
+        (λ open y said. (present s.engine, x, printed_domains s state open.0 open.1, lt, is, said)) told)
+
+-- ---- conflicts
+
+conflict_unrefused : (s : SessionState) → IsNone (Meets s Conflict) in_order
+conflict_unrefused s = free_of_refusals s Conflict tt (λ h. h) (λ h. h) (λ h. h) (λ h. h) (λ h. h) (λ h. h) (λ h. h)
+
+pub conflict_paused : (s : SessionState) → s.paused ≡ true → Serves s Conflict (fixed_text Paused) s
+conflict_paused s paused = accepts (conflict_unrefused s) (waits (record { paused = paused; pausable = tt }))
+
+none_empty : (d : Domains) → (HasEmpty d → ⊥) → has_empty d ≡ false
+none_empty d filled = elim (cases_Bool (has_empty d)) [ inl e ↦ absurd (filled (empty_at d e)) | inr e ↦ e ]
+
+pub consistent : (s : SessionState) → IsState s → s.paused ≡ false → (HasEmpty (present s.engine) → ⊥) → Serves s Conflict (fixed_text Consistent) s
+consistent s is awake filled =
+    accepts (conflict_unrefused s) (accepts_quietly s s Conflict Nothing (fixed_text Consistent) (awake_goes s Conflict awake) (s, refl, refl) (λ h. h)
+    (present s.engine, present_domains s is awake filled, inl (none_empty (present s.engine) filled, refl)))
+
+pub conflicting : (s : SessionState) (names : List Cid) → IsState s → s.paused ≡ false → HasEmpty (present s.engine) → HasConflict s names
+    → Serves s Conflict (users_text s.book ConflictLead names) s
+conflicting s names is awake empty conflict =
+    let d = domains_exist s is.held in
+    accepts (conflict_unrefused s) (accepts_quietly s s Conflict Nothing (users_text s.book ConflictLead names) (awake_goes s Conflict awake) (s, refl, refl) (λ h. h)
+    (d.0, d.1, inr (domains_empty s d.0 is.held d.1 empty, names, conflict, refl)))
+
+-- ---- lines that say when filtering waits
+
+pub paused_already : (s : SessionState) → s.paused ≡ true → Serves s Pause (refusal_text E10) s
+paused_already s paused = wrong_refused s Pause tt (λ h. h) (λ h. h) (λ h. h) (λ m. elim m [ inl h ↦ h | inr h ↦ h ]) (λ h. h) paused
+
+pub pauses : (s : SessionState) → s.paused ≡ false → Serves s Pause (fixed_text Done) (record s { paused = true })
+pauses s awake =
+    accepts (free_of_refusals s Pause tt (λ h. h) (λ h. h) (λ h. h) (λ h. h) (λ h. h) (λ h. h) (λ (h : s.paused ≡ true). let e = awake in cc))
+    (accepts_quietly s (record s { paused = true }) Pause Nothing (fixed_text Done) (λ w. w.pausable) (record s { paused = true }, refl, refl) (λ h. h) refl)
+
+-- ---- lines that name a constraint
+
+pub no_constraint : (cs : List BookCon) (name : List ℕ) → All (λ c. c.name ≢ name) cs → Any (λ c. c.name ≡ name) cs → ⊥
+no_constraint cs name h a = h a.0 a.1 a.2 (subst (λ (c : BookCon). c.name ≡ name) (sym a.3) a.4)

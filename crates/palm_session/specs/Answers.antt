@@ -1,17 +1,23 @@
 -- What a session answers to a line, and what it holds afterwards.
-use Rattle.std.specs.Prelude.{◌≡◌, ℕ, ◌<◌, true, List, [], ◌++◌, length, flat_map, zip, Some}
-use Rattle.palm_model.specs.Domains.{Domains, values_of}
-use Rattle.palm_book.specs.Book.{Entry, Contents, name_of}
+use Rattle.std.specs.Prelude.{◌≡◌, ℕ, ℤ, ◌<◌, ◌≤◌, ◌⊎◌, true, false, List, [], ◌++◌, length, map, flat_map, zip, Some}
+use Rattle.palm_base.specs.declared.terms.Cid.{Cid}
+use Rattle.palm_model.specs.Domains.{Domains, Has, values_of}
+use Rattle.palm_model.specs.Log.{Removal, NamesOfPair, IsListOf}
+use Rattle.palm_model.specs.State.{IsEmptyAt, present}
+use Rattle.palm_model.specs.Conflict.{IsKeptConflict}
+use Rattle.palm_book.specs.Book.{Entry, Contents, name_of, user_name}
 use Rattle.palm_read.specs.Reading.{IsRead, IsRefusedBy}
-use Rattle.palm_lang.specs.Reply.{fixed_text, refusal_text, domain_line, var_line, entry_line}
+use Rattle.palm_lang.specs.Reply.{fixed_text, refusal_text, ran_text, domain_line, var_line, entry_line, removal_line, names_line}
+use Rattle.palm_lang.specs.declared.reply.Lead.{Lead}
+use Rattle.palm_lang.specs.declared.reply.Lead.TheVariants.{Because, Conflict as ConflictLead}
 use Rattle.palm_read.specs.declared.line.Line.{Line}
-use Rattle.palm_read.specs.declared.line.Line.TheVariants.{Comment, Var, Add, Relax, Enforce, Retract, Domains as DomainsLine, Domain, List as ListLine, Log, Why, Conflict, MinimalConflict, Minimal, Resume, SolveDbt, SolveRepair, Cert, CertConflict, Quit}
+use Rattle.palm_read.specs.declared.line.Line.TheVariants.{Comment, Var, Add, Relax, Enforce, Retract, Domains as DomainsLine, Domain, List as ListLine, Log, Why, Conflict, MinimalConflict, Minimal, Pause, Resume, Step, SolveDbt, SolveRepair, Cert, CertConflict, Quit}
 use Rattle.palm_read.specs.declared.parse.LineError.{LineError}
-use Rattle.palm_lang.specs.declared.reply.Fixed.TheVariants.{Done, Contradiction, Paused, Bye, End}
+use Rattle.palm_lang.specs.declared.reply.Fixed.TheVariants.{Done, Contradiction, Paused, Present, Consistent, Bye, End}
 use Rattle.palm_lang.specs.declared.reply.Refusal.{Refusal}
-use Rattle.palm_session.specs.State.{SessionState, AreDomains, IsContradiction}
+use Rattle.palm_session.specs.State.{SessionState, AreDomains, IsContradiction, has_empty}
 use Rattle.palm_session.specs.Refusals.{Meets, in_order, IsFirst, IsNone, refusal_of, heard}
-use Rattle.palm_session.specs.Effects.{Effect, Nothing, Does}
+use Rattle.palm_session.specs.Effects.{Effect, Settled, Does}
 
 -- the lines that are answered by `paused` while filtering waits
 abbrev pub IsPausable : Line → Type 0
@@ -53,18 +59,56 @@ list_text book =
     flat_map (λ e. var_line e.name e.values) book.variables ++ flat_map (entry_line book.variables) book.constraints
     ++ fixed_text End
 
+-- a line for each removal of the kept log, the oldest first, and `end`
+abbrev pub log_line : Contents → Removal → List ℕ
+log_line book r = removal_line book.variables (user_name book.constraints r.by) r.pair r.reasons
+
+abbrev pub log_text : Contents → List Removal → List ℕ
+log_text book log = flat_map (log_line book) log ++ fixed_text End
+
+-- the names of users' constraints behind a word, by rising number
+abbrev pub users_text : Contents → Lead → List Cid → List ℕ
+users_text book lead names = names_line lead (map (user_name book.constraints) names)
+
+-- `present` where the value is one of the greatest closed domains, and else the explanation that the log keeps
+abbrev pub SaysWhy : SessionState → Domains → ℕ → ℤ → List ℕ → Type 0
+SaysWhy s d x value reply = (Has d x value × (reply ≡ fixed_text Present)) ⊎ ((Has d x value → ⊥)
+    × (names : List Cid) × IsListOf (NamesOfPair s.engine.log (record { var = x; value = value })) names × (reply ≡ users_text s.book Because names))
+
+-- the kept conflict of the lowest empty variable
+pub record HasConflict (s : SessionState) (names : List Cid) : Type 0 where
+  pub var : ℕ
+  pub empty : IsEmptyAt (present s.engine) var
+  pub lowest : (y : ℕ) → IsEmptyAt (present s.engine) y → var ≤ y
+  pub is : IsKeptConflict s.engine var names
+
+-- `consistent` where none of the greatest closed domains is empty, and else the conflict that the engine keeps
+abbrev pub SaysConflict : SessionState → Domains → List ℕ → Type 0
+SaysConflict s d reply = ((has_empty d ≡ false) × (reply ≡ fixed_text Consistent))
+    ⊎ ((has_empty d ≡ true) × (names : List Cid) × HasConflict s names × (reply ≡ users_text s.book ConflictLead names))
+
 -- the reply of the line's own to an accepted line, by what is held after it and by what happened; a form without a row
 -- of its own has no reply
 abbrev pub Says : SessionState → Line → Effect → List ℕ → Type 0
-Says s Comment Nothing reply = reply ≡ []
-Says s (Var name domain) Nothing reply = reply ≡ fixed_text Done
-Says s (Add name shape) Nothing reply = reply ≡ fixed_text Done
-Says s DomainsLine Nothing reply = (d : Domains) × AreDomains s d × (reply ≡ domains_text s.book.variables d)
-Says s (Domain name) Nothing reply =
+Says s Comment effect reply = reply ≡ []
+Says s (Var name domain) effect reply = reply ≡ fixed_text Done
+Says s (Add name shape) effect reply = reply ≡ fixed_text Done
+Says s (Relax name) effect reply = reply ≡ fixed_text Done
+Says s (Enforce name) effect reply = reply ≡ fixed_text Done
+Says s (Retract name) effect reply = reply ≡ fixed_text Done
+Says s Pause effect reply = reply ≡ fixed_text Done
+Says s Resume effect reply = reply ≡ fixed_text Done
+Says s (Step count) (Settled revisions) reply = reply ≡ ran_text revisions
+Says s DomainsLine effect reply = (d : Domains) × AreDomains s d × (reply ≡ domains_text s.book.variables d)
+Says s (Domain name) effect reply =
     (d : Domains) × (x : ℕ) × AreDomains s d × (x < length s.book.variables) × (name_of s.book.variables x ≡ name)
     × (reply ≡ domain_line name (values_of d x))
-Says s ListLine Nothing reply = reply ≡ list_text s.book
-Says s Quit Nothing reply = reply ≡ fixed_text Bye
+Says s ListLine effect reply = reply ≡ list_text s.book
+Says s Log effect reply = reply ≡ log_text s.book s.engine.log
+Says s (Why name value) effect reply =
+    (d : Domains) × (x : ℕ) × AreDomains s d × (x < length s.book.variables) × (name_of s.book.variables x ≡ name) × SaysWhy s d x value reply
+Says s Conflict effect reply = (d : Domains) × AreDomains s d × SaysConflict s d reply
+Says s Quit effect reply = reply ≡ fixed_text Bye
 Says s _ _ reply = ⊥
 
 -- filtering waits, and the line is one that waits with it

@@ -1,10 +1,17 @@
 -- What an accepted line does.
-use Rattle.std.specs.Prelude.{◌≡◌, ℕ, ℤ, ◌+◌, List, [], ◌∷◌, ◌++◌, true, Option}
+use Rattle.std.specs.Prelude.{◌≡◌, ℕ, ℤ, ◌+◌, Bool, true, false, List, [], ◌∷◌, ◌++◌, length, Option, Some, None, is_some, slice_get, remove, if◌then◌else◌}
+use Rattle.palm_base.specs.declared.terms.Cid.{Cid}
+use Rattle.palm_base.specs.declared.terms.Cid.TheVariants.{User}
+use Rattle.palm_model.specs.State.{EngineState}
+use Rattle.palm_model.specs.Event.{Posts, Withdraws, Declares}
 use Rattle.palm_model.specs.declared.constraint.Con.{Con}
+use Rattle.palm_engine.specs.Settling.{Revision, Settles, FitsOrder}
+use Rattle.palm_book.specs.Book.{with_active, user_at}
 use Rattle.palm_book.specs.Named.{Resolves}
+use Rattle.palm_book.specs.declared.book.BookCon.{BookCon}
 use Rattle.palm_read.specs.Domain.{values_in}
 use Rattle.palm_read.specs.declared.line.Line.{Line}
-use Rattle.palm_read.specs.declared.line.Line.TheVariants.{Comment, Var, Add, Domains as DomainsLine, Domain, List as ListLine, Quit}
+use Rattle.palm_read.specs.declared.line.Line.TheVariants.{Comment, Var, Add, Relax, Enforce, Retract, Domains as DomainsLine, Domain, List as ListLine, Log, Why, Conflict, Pause, Resume, Step, Quit}
 use Rattle.palm_session.specs.State.{SessionState}
 
 -- how a search ended: with a value for each variable, with constraints that have no solution, or after so many turns,
@@ -20,26 +27,111 @@ pub data Effect : Type 0 where
   Settled : (revisions : ℕ) → Effect
   Searched : (end : SearchEnd) → Effect
 
+-- ---- what a line changes
+
+-- the engine holds another state
+abbrev pub with_engine : SessionState → EngineState → SessionState
+with_engine s e = record s { engine = e }
+
 -- a variable behind the others
 abbrev pub with_variable : SessionState → List ℕ → List ℤ → SessionState
 with_variable s name values = record s {
   book = record s.book { variables = s.book.variables ++ record { name = name; values = values } ∷ [] };
 }
 
--- a constraint behind the others, active, under the next number
+-- the constraint that is added next
+abbrev pub next_constraint : SessionState → List ℕ → Con → BookCon
+next_constraint s name con = record { number = s.accepted + 1; name = name; active = true; con = con }
+
+-- it stands behind the others, active, under the next number
 abbrev pub with_constraint : SessionState → List ℕ → Con → SessionState
 with_constraint s name con = record s {
-  book = record s.book { constraints = s.book.constraints ++ record { number = s.accepted + 1; name = name; active = true; con = con } ∷ [] };
+  book = record s.book { constraints = s.book.constraints ++ next_constraint s name con ∷ [] };
   accepted = s.accepted + 1;
 }
 
--- what the session holds after an accepted line, and what happened; a form without a row of its own does not happen
+-- the constraint at the place is active or relaxed
+abbrev pub with_active_at : SessionState → ℕ → Bool → SessionState
+with_active_at s place active = record s { book = record s.book { constraints = with_active s.book.constraints place active } }
+
+-- the constraint at the place is taken out of the book
+abbrev pub without_constraint : SessionState → ℕ → SessionState
+without_constraint s place = record s { book = record s.book { constraints = remove s.book.constraints place } }
+
+-- the constraint with the name, and its place
+pub record IsNamed (s : SessionState) (name : List ℕ) (place : ℕ) (c : BookCon) : Type 0 where
+  pub at : slice_get s.book.constraints place ≡ Some c
+  pub named : c.name ≡ name
+
+-- the constraint is withdrawn where it is active, and else nothing changes
+abbrev pub WithdrawsWhere : Bool → EngineState → Cid → EngineState → Type 0
+WithdrawsWhere true e cid after = Withdraws e cid after
+WithdrawsWhere false e cid after = after ≡ e
+
+abbrev pub WithdrawsActive : EngineState → BookCon → EngineState → Type 0
+WithdrawsActive e c after = WithdrawsWhere c.active e (User c.number) after
+
+-- what the line changes before anything is filtered; a form without a row of its own changes nothing, and does not happen
+abbrev pub Changes : SessionState → Line → SessionState → Type 0
+Changes s Comment t = t ≡ s
+Changes s (Var name domain) t = (e : EngineState) × Declares s.engine (values_in domain) e × (t ≡ with_engine (with_variable s name (values_in domain)) e)
+Changes s (Add name shape) t =
+    (con : Con) × (e : EngineState) × Resolves s.book.variables shape con × Posts s.engine (user_at (next_constraint s name con)) e
+    × (t ≡ with_engine (with_constraint s name con) e)
+Changes s (Relax name) t =
+    (place : ℕ) × (c : BookCon) × (e : EngineState) × IsNamed s name place c × Withdraws s.engine (User c.number) e
+    × (t ≡ with_engine (with_active_at s place false) e)
+Changes s (Enforce name) t =
+    (place : ℕ) × (c : BookCon) × (e : EngineState) × IsNamed s name place c × Posts s.engine (user_at c) e
+    × (t ≡ with_engine (with_active_at s place true) e)
+Changes s (Retract name) t =
+    (place : ℕ) × (c : BookCon) × (e : EngineState) × IsNamed s name place c × WithdrawsActive s.engine c e
+    × (t ≡ with_engine (without_constraint s place) e)
+Changes s DomainsLine t = t ≡ s
+Changes s (Domain name) t = t ≡ s
+Changes s ListLine t = t ≡ s
+Changes s Log t = t ≡ s
+Changes s (Why name value) t = t ≡ s
+Changes s Conflict t = t ≡ s
+Changes s Pause t = t ≡ record s { paused = true }
+Changes s Resume t = t ≡ record s { paused = false }
+Changes s (Step count) t = t ≡ s
+Changes s Quit t = t ≡ s
+Changes s _ t = ⊥
+
+-- ---- what follows
+
+-- nothing, or filtering: as far as it goes, or so many revisions at most
+pub data Next : Type 0 where
+  Rests : Next
+  Filters : (limit : Option ℕ) → Next
+
+-- a change is followed by filtering, unless it waits
+abbrev pub unless_paused : SessionState → Next
+unless_paused s = if s.paused then Rests else Filters None
+
+-- what follows the line in what is held after its change
+abbrev pub next : SessionState → Line → Next
+next s (Add name shape) = unless_paused s
+next s (Relax name) = unless_paused s
+next s (Enforce name) = unless_paused s
+next s (Retract name) = unless_paused s
+next s Resume = Filters None
+next s (Step count) = Filters (Some count)
+next s _ = Rests
+
+-- the engine settles by the chosen order object, or without one, in so many revisions
+pub record SettlesIn (s : SessionState) (limit : Option ℕ) (count : ℕ) (e : EngineState) : Type 0 where
+  pub revisions : List Revision
+  pub settles : Settles limit s.engine revisions e
+  pub fits : FitsOrder (is_some s.order) revisions
+  pub counted : length revisions ≡ count
+
+abbrev pub Follows : SessionState → Next → Effect → SessionState → Type 0
+Follows s Rests Nothing t = t ≡ s
+Follows s (Filters limit) (Settled count) t = (e : EngineState) × SettlesIn s limit count e × (t ≡ with_engine s e)
+Follows s _ _ t = ⊥
+
+-- what the session holds after an accepted line, and what happened
 abbrev pub Does : SessionState → Line → Effect → SessionState → Type 0
-Does s Comment Nothing t = t ≡ s
-Does s (Var name domain) Nothing t = t ≡ with_variable s name (values_in domain)
-Does s (Add name shape) Nothing t = (con : Con) × Resolves s.book.variables shape con × (t ≡ with_constraint s name con)
-Does s DomainsLine Nothing t = t ≡ s
-Does s (Domain name) Nothing t = t ≡ s
-Does s ListLine Nothing t = t ≡ s
-Does s Quit Nothing t = t ≡ s
-Does s _ _ t = ⊥
+Does s line effect t = (m : SessionState) × Changes s line m × Follows m (next m line) effect t

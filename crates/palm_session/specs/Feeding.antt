@@ -1,8 +1,11 @@
 -- What feeding bytes to a session does.
-use Rattle.std.specs.Prelude.{◌≡◌, ℕ, Bool, true, false, List, [], ◌∷◌, ◌++◌, ◌⊎◌, All, map, ◌≤◌, take, drop, length, Option, Result, Ok, Err}
+use Rattle.std.specs.Prelude.{◌≡◌, ℕ, Bool, true, false, List, [], ◌∷◌, ◌++◌, ◌⊎◌, All, map, flat_map, ◌≤◌, ◌+◌, min, take, drop, length, Option, Result, Ok, Err}
 use Rattle.palm_base.specs.Streams.{Appended, AppendedFront}
 use Rattle.palm_session.specs.State.{SessionState}
 use Rattle.palm_session.specs.Answers.{Answers}
+use Rattle.palm_base.specs.declared.limits.TheConstants.{LAST_COUNT}
+use Rattle.palm_lang.specs.Reply.{ended}
+use Rattle.palm_session.specs.Asking.{Asks, RunAsking}
 use Rattle.palm_session.specs.Lines.{HasNoFeed, without_return, last_line}
 use Rattle.palm_session.specs.Replies.{Run, Answered, GoesOn, Ends, KeepsOn}
 use Rattle.palm_session.specs.declared.limits.TheConstants.{MOST_KEPT_BYTES}
@@ -10,9 +13,11 @@ use Rattle.palm_session.specs.declared.going.Going.{Going}
 use Rattle.palm_session.specs.declared.going.Going.TheVariants.{More, Quit}
 use Rattle.palm_session.specs.declared.stop.Stop.{Stop}
 
--- what is seen of a session: what it holds, the bytes that it keeps of an unfinished line, and whether it is over
+-- what is seen of a session: what it holds, how often its engine has asked for support, the bytes that it keeps of an
+-- unfinished line, and whether it is over
 pub record View : Type 0 where
   pub state : SessionState
+  pub checks : ℕ
   pub unfinished : List ℕ
   pub over : Bool
 
@@ -21,10 +26,11 @@ abbrev pub Decides : Going → List ℕ → Type 0
 Decides More line = GoesOn line
 Decides Quit line = Ends line
 
--- the line was answered, and its reply written
-pub record AnswersLine (before : SessionState) (line : List ℕ) (was now : Option (List ℕ)) (going : Going) (after : SessionState) : Type 0 where
+-- the line was answered, its reply written, and support asked for so often
+pub record AnswersLine (before : SessionState) (line : List ℕ) (was now : Option (List ℕ)) (going : Going) (after : SessionState) (asked : ℕ) : Type 0 where
   pub reply : List ℕ
   pub answers : Answers before line reply after
+  pub asks : Asks before line after asked
   pub written : Appended was now reply
   pub decides : Decides going line
 
@@ -35,26 +41,33 @@ pub record AnswersFront (before : SessionState) (line : List ℕ) (was now : Opt
   pub answers : Answers before line reply after
   pub written : AppendedFront was now reply
 
-abbrev pub AnswersTo : SessionState → List ℕ → Option (List ℕ) → Option (List ℕ) → SessionState → Result Going Stop → Type 0
-AnswersTo before line was now after (Ok going) = AnswersLine before line was now going after
-AnswersTo before line was now after (Err stop) = AnswersFront before line was now
+abbrev pub AnswersTo : SessionState → List ℕ → Option (List ℕ) → Option (List ℕ) → SessionState → ℕ → Result Going Stop → Type 0
+AnswersTo before line was now after asked (Ok going) = AnswersLine before line was now going after asked
+AnswersTo before line was now after asked (Err stop) = AnswersFront before line was now
+
+-- the first lines of the text are these, a rest is left, and the lines are answered with these replies, while support is
+-- asked for so often
+pub record Served (before : SessionState) (text : List ℕ) (lines : List (List ℕ)) (rest replies : List ℕ) (after : SessionState) (asked : ℕ) : Type 0 where
+  pub whole : text ≡ flat_map ended lines ++ rest
+  pub unbroken : All HasNoFeed lines
+  pub run : RunAsking before (map without_return lines) replies after asked
 
 -- each line that the text completes was answered, and the rest is left
-pub record FeedsOn (before : SessionState) (text : List ℕ) (was now : Option (List ℕ)) (rest : List ℕ) (after : SessionState) : Type 0 where
+pub record FeedsOn (before : SessionState) (text : List ℕ) (was now : Option (List ℕ)) (rest : List ℕ) (after : SessionState) (asked : ℕ) : Type 0 where
   pub lines : List (List ℕ)
   pub replies : List ℕ
-  pub answered : Answered before text lines rest replies after
+  pub answered : Served before text lines rest replies after asked
   pub unfinished : HasNoFeed rest
   pub goes_on : All GoesOn (map without_return lines)
   pub written : Appended was now replies
 
 -- the lines up to one that ends the session were answered, and the bytes behind it were not looked at
-pub record FeedsEnd (before : SessionState) (text : List ℕ) (was now : Option (List ℕ)) (after : SessionState) : Type 0 where
+pub record FeedsEnd (before : SessionState) (text : List ℕ) (was now : Option (List ℕ)) (after : SessionState) (asked : ℕ) : Type 0 where
   pub lines : List (List ℕ)
   pub last : List ℕ
   pub rest : List ℕ
   pub replies : List ℕ
-  pub answered : Answered before text (lines ++ last ∷ []) rest replies after
+  pub answered : Served before text (lines ++ last ∷ []) rest replies after asked
   pub goes_on : All GoesOn (map without_return lines)
   pub ends : Ends (without_return last)
   pub written : Appended was now replies
@@ -70,34 +83,34 @@ pub record FeedsPart (before : SessionState) (text : List ℕ) (was now : Option
   pub written : AppendedFront was now replies
 
 -- what answering the lines of a text answers: whether the session goes on, and where the rest of the text begins
-abbrev pub AnswersLines : SessionState → List ℕ → Option (List ℕ) → Option (List ℕ) → SessionState → Result (Going × ℕ) Stop → Type 0
-AnswersLines before text was now after (Ok (More, used)) = (used ≤ length text) × FeedsOn before text was now (drop used text) after
-AnswersLines before text was now after (Ok (Quit, used)) = (used ≤ length text) × FeedsEnd before text was now after
-AnswersLines before text was now after (Err stop) = FeedsPart before text was now
+abbrev pub AnswersLines : SessionState → List ℕ → Option (List ℕ) → Option (List ℕ) → SessionState → ℕ → Result (Going × ℕ) Stop → Type 0
+AnswersLines before text was now after asked (Ok (More, used)) = (used ≤ length text) × FeedsOn before text was now (drop used text) after asked
+AnswersLines before text was now after asked (Ok (Quit, used)) = (used ≤ length text) × FeedsEnd before text was now after asked
+AnswersLines before text was now after asked (Err stop) = FeedsPart before text was now
 
 -- each line that the text completes was answered, and the first bytes of the rest are kept
-pub record KeepsRest (before : SessionState) (text : List ℕ) (was now : Option (List ℕ)) (unfinished : List ℕ) (after : SessionState) : Type 0 where
+pub record KeepsRest (before : SessionState) (text : List ℕ) (was now : Option (List ℕ)) (unfinished : List ℕ) (after : SessionState) (asked : ℕ) : Type 0 where
   pub rest : List ℕ
-  pub feeds : FeedsOn before text was now rest after
+  pub feeds : FeedsOn before text was now rest after asked
   pub kept : unfinished ≡ take MOST_KEPT_BYTES rest
 
 -- what feeding answers, before it is noted whether the session is over
-abbrev pub FeedsText : SessionState → List ℕ → Option (List ℕ) → Option (List ℕ) → View → Result Going Stop → Type 0
-FeedsText before text was now after (Ok More) = KeepsRest before text was now after.unfinished after.state
-FeedsText before text was now after (Ok Quit) = FeedsEnd before text was now after.state
-FeedsText before text was now after (Err stop) = FeedsPart before text was now
+abbrev pub FeedsText : SessionState → List ℕ → Option (List ℕ) → Option (List ℕ) → View → ℕ → Result Going Stop → Type 0
+FeedsText before text was now after asked (Ok More) = KeepsRest before text was now after.unfinished after.state asked
+FeedsText before text was now after asked (Ok Quit) = FeedsEnd before text was now after.state asked
+FeedsText before text was now after asked (Err stop) = FeedsPart before text was now
 
--- what feeding answers
-abbrev pub Feeds : View → List ℕ → Option (List ℕ) → Option (List ℕ) → View → Result Going Stop → Type 0
-Feeds before piece was now after (Ok More) =
-    KeepsRest before.state (before.unfinished ++ piece) was now after.unfinished after.state × (after.over ≡ false)
-Feeds before piece was now after (Ok Quit) = FeedsEnd before.state (before.unfinished ++ piece) was now after.state × (after.over ≡ true)
-Feeds before piece was now after (Err stop) = FeedsPart before.state (before.unfinished ++ piece) was now × (after.over ≡ true)
+-- what feeding answers, while support is asked for so often
+abbrev pub Feeds : View → List ℕ → Option (List ℕ) → Option (List ℕ) → View → ℕ → Result Going Stop → Type 0
+Feeds before piece was now after asked (Ok More) =
+    KeepsRest before.state (before.unfinished ++ piece) was now after.unfinished after.state asked × (after.over ≡ false)
+Feeds before piece was now after asked (Ok Quit) = FeedsEnd before.state (before.unfinished ++ piece) was now after.state asked × (after.over ≡ true)
+Feeds before piece was now after asked (Err stop) = FeedsPart before.state (before.unfinished ++ piece) was now × (after.over ≡ true)
 
 -- a last line without its line feed was answered, if it has a byte
-pub record FinishesAll (before : SessionState) (line : List ℕ) (was now : Option (List ℕ)) (after : SessionState) : Type 0 where
+pub record FinishesAll (before : SessionState) (line : List ℕ) (was now : Option (List ℕ)) (after : SessionState) (asked : ℕ) : Type 0 where
   pub replies : List ℕ
-  pub run : Run before (last_line line) replies after
+  pub run : RunAsking before (last_line line) replies after asked
   pub last : All GoesOn (last_line line) ⊎ All Ends (last_line line)
   pub written : Appended was now replies
 
@@ -109,10 +122,14 @@ pub record FinishesPart (before : SessionState) (line : List ℕ) (was now : Opt
   pub written : AppendedFront was now replies
 
 -- what answering a last line answers
-abbrev pub FinishesTo : {T : Type 0} → SessionState → List ℕ → Option (List ℕ) → Option (List ℕ) → SessionState → Result T Stop → Type 0
-FinishesTo before line was now after (Ok _) = FinishesAll before line was now after
-FinishesTo before line was now after (Err stop) = FinishesPart before line was now
+abbrev pub FinishesTo : {T : Type 0} → SessionState → List ℕ → Option (List ℕ) → Option (List ℕ) → SessionState → ℕ → Result T Stop → Type 0
+FinishesTo before line was now after asked (Ok _) = FinishesAll before line was now after asked
+FinishesTo before line was now after asked (Err stop) = FinishesPart before line was now
 
--- what finishing answers
-abbrev pub Finishes : {T : Type 0} → View → Option (List ℕ) → Option (List ℕ) → View → Result T Stop → Type 0
-Finishes before was now after result = FinishesTo before.state before.unfinished was now after.state result × (after.over ≡ true)
+-- what finishing answers, while support is asked for so often
+abbrev pub Finishes : {T : Type 0} → View → Option (List ℕ) → Option (List ℕ) → View → ℕ → Result T Stop → Type 0
+Finishes before was now after asked result = FinishesTo before.state before.unfinished was now after.state asked result × (after.over ≡ true)
+
+-- how the engine's count of questions rose while support was asked for so often
+abbrev pub RaisesChecks : View → View → ℕ → Type 0
+RaisesChecks before after asked = after.checks ≡ min (before.checks + asked) LAST_COUNT

@@ -1,11 +1,13 @@
-pub mod Actives
 pub mod Answers
+pub mod Asking
 pub mod Effects
 pub mod Feeding
-pub mod Filtering
 pub mod Lines
+pub mod Logged
 pub mod Refusals
 pub mod Replies
 pub mod ReplyText
+pub mod Serving
 pub mod State
+pub mod Told
 pub mod Writing

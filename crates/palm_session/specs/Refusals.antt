@@ -1,8 +1,8 @@
 -- Which lines are refused, and by which refusal.
-use Rattle.std.specs.Prelude.{◌≡◌, ◌≤◌, List, [], ◌∷◌, ◌⊎◌, ℕ, length, Any, Option, Some, None}
+use Rattle.std.specs.Prelude.{◌≡◌, ◌≤◌, Bool, true, false, List, [], ◌∷◌, ◌⊎◌, ℕ, length, Any, Contains, Option, Some, None}
 use Rattle.palm_read.specs.Limits.{names_of, IsBeyond}
 use Rattle.palm_read.specs.declared.line.Line.{Line}
-use Rattle.palm_read.specs.declared.line.Line.TheVariants.{Comment, Var, Add, Domains as DomainsLine, Domain, List as ListLine, Quit}
+use Rattle.palm_read.specs.declared.line.Line.TheVariants.{Comment, Var, Add, Relax, Enforce, Retract, Domains as DomainsLine, Domain, List as ListLine, Log, Why, Conflict, Pause, Resume, Step, Quit}
 use Rattle.palm_read.specs.declared.parse.LineError.{LineError}
 use Rattle.palm_read.specs.declared.parse.LineError.TheVariants.{Bytes, Form, Range as OutOfRange, Empty, Repeated, NoMemory}
 use Rattle.palm_lang.specs.declared.reply.Refusal.{Refusal}
@@ -18,6 +18,15 @@ IsBuilt (Add name shape) = Unit {0}
 IsBuilt DomainsLine = Unit {0}
 IsBuilt (Domain name) = Unit {0}
 IsBuilt ListLine = Unit {0}
+IsBuilt (Relax name) = Unit {0}
+IsBuilt (Enforce name) = Unit {0}
+IsBuilt (Retract name) = Unit {0}
+IsBuilt Log = Unit {0}
+IsBuilt (Why name value) = Unit {0}
+IsBuilt Conflict = Unit {0}
+IsBuilt Pause = Unit {0}
+IsBuilt Resume = Unit {0}
+IsBuilt (Step count) = Unit {0}
 IsBuilt Quit = Unit {0}
 IsBuilt _ = ⊥
 
@@ -35,7 +44,15 @@ TakesName s _ = ⊥
 abbrev pub NamesNone : SessionState → Line → Type 0
 NamesNone s (Add name shape) = Any (IsUnknown s) (names_of shape)
 NamesNone s (Domain name) = IsUnknown s name
+NamesNone s (Why name value) = IsUnknown s name
 NamesNone s _ = ⊥
+
+-- no present constraint has the name that the line gives
+abbrev pub NamesNoConstraint : SessionState → Line → Type 0
+NamesNoConstraint s (Relax name) = HasConstraint s name → ⊥
+NamesNoConstraint s (Enforce name) = HasConstraint s name → ⊥
+NamesNoConstraint s (Retract name) = HasConstraint s name → ⊥
+NamesNoConstraint s _ = ⊥
 
 -- the session is full
 abbrev pub HasNoRoom : SessionState → Line → Type 0
@@ -43,12 +60,33 @@ HasNoRoom s (Var name domain) = MOST_VARIABLES ≤ length s.book.variables
 HasNoRoom s (Add name shape) = (MOST_CONSTRAINTS ≤ length s.book.constraints) ⊎ (MOST_ADDED ≤ s.accepted)
 HasNoRoom s _ = ⊥
 
+-- the line asks for a value that its variable was not declared with
+abbrev pub AsksUndeclared : SessionState → Line → Type 0
+AsksUndeclared s (Why name value) = Any (λ e. (e.name ≡ name) × (Contains e.values value → ⊥)) s.book.variables
+AsksUndeclared s _ = ⊥
+
+-- a present constraint has the name and is active, or is relaxed
+abbrev pub HasActive : SessionState → List ℕ → Bool → Type 0
+HasActive s name active = Any (λ c. (c.name ≡ name) × (c.active ≡ active)) s.book.constraints
+
+-- what the line would change is so already, or it goes on with what does not wait
+abbrev pub IsInWrongState : SessionState → Line → Type 0
+IsInWrongState s (Relax name) = HasActive s name false
+IsInWrongState s (Enforce name) = HasActive s name true
+IsInWrongState s Pause = s.paused ≡ true
+IsInWrongState s Resume = s.paused ≡ false
+IsInWrongState s (Step count) = s.paused ≡ false
+IsInWrongState s _ = ⊥
+
 -- the condition of a refusal, on a line that was read
 abbrev pub Meets : SessionState → Line → Refusal → Type 0
 Meets s line E2 = IsBuilt line → ⊥
 Meets s line E3 = TakesName s line
 Meets s line E4 = NamesNone s line
+Meets s line E5 = NamesNoConstraint s line
 Meets s line E7 = IsBeyond line ⊎ HasNoRoom s line
+Meets s line E12 = AsksUndeclared s line
+Meets s line E10 = IsInWrongState s line
 Meets s line _ = ⊥
 
 -- the order in which a session looks for refusals of a line that was read

@@ -3,11 +3,14 @@ use Rattle.std.specs.Prelude.{◌≡◌, ℕ, ◌≤◌, Bool, true, false, List
 use Rattle.std.specs.List.{list_any}
 use Rattle.palm_model.specs.Domains.{Domains}
 use Rattle.palm_model.specs.Closure.{IsGreatest}
+use Rattle.palm_model.specs.Log.{cons_of}
+use Rattle.palm_model.specs.State.{EngineState, IsValid, blank}
+use Rattle.palm_events.specs.Along.{IsStill}
 use Rattle.palm_book.specs.declared.limits.TheConstants.{MOST_ADDED}
 use Rattle.palm_book.specs.Book.{Contents, IsBook, initial_of, active_of}
 
--- the book, how many `add` lines were accepted, whether filtering waits, and the guides and orders: the numbers of those
--- that are there, and which one is chosen
+-- the book, how many `add` lines were accepted, whether filtering waits, the guides and orders (the numbers of those
+-- that are there, and which one is chosen), and what the engine holds
 pub record SessionState : Type 0 where
   pub book : Contents
   pub accepted : ℕ
@@ -16,6 +19,7 @@ pub record SessionState : Type 0 where
   pub orders : List ℕ
   pub guide : Option ℕ
   pub order : Option ℕ
+  pub engine : EngineState
 
 -- no variable, no constraint, nothing accepted; the guides and orders that were handed in are there, and none is chosen
 abbrev pub fresh : List ℕ → List ℕ → SessionState
@@ -27,15 +31,25 @@ fresh guides orders = record {
   orders = orders;
   guide = None;
   order = None;
+  engine = blank [];
 }
 
--- a state that a session can hold
-pub record IsState (s : SessionState) : Type 0 where
+-- what a session holds, also in the midst of a line: the engine has the book's variables and its active constraints, and
+-- no decision and no negation
+pub record IsHeld (s : SessionState) : Type 0 where
   pub book : IsBook s.book
   pub accepted : s.accepted ≤ MOST_ADDED
   pub numbered : All (λ c. c.number ≤ s.accepted) s.book.constraints
   pub guide : IfSome s.guide (Contains s.guides)
   pub order : IfSome s.order (Contains s.orders)
+  pub initial : s.engine.initial ≡ initial_of s.book
+  pub active : s.engine.active ≡ active_of s.book
+  pub valid : IsValid s.engine
+
+-- a state that a session can hold between two lines: while filtering does not wait, nothing is pending or a domain is empty
+pub record IsState (s : SessionState) : Type 0 where
+  pub held : IsHeld s
+  pub still : s.paused ≡ false → IsStill s.engine
 
 -- a variable has the name
 abbrev pub HasVariable : SessionState → List ℕ → Type 0
@@ -47,7 +61,7 @@ HasConstraint s name = Any (λ c. c.name ≡ name) s.book.constraints
 
 -- the greatest closed domains of the active constraints
 abbrev pub AreDomains : SessionState → Domains → Type 0
-AreDomains s d = IsGreatest (initial_of s.book) (Contains (active_of s.book)) d
+AreDomains s d = IsGreatest (initial_of s.book) (Contains (cons_of (active_of s.book))) d
 
 abbrev pub is_nil : {X : Type 0} → List X → Bool
 is_nil [] = true

@@ -1,9 +1,12 @@
 //! Answering one line.
-ghost use Rattle.std.specs.Prelude.{IfOk};
+ghost use Rattle.std.specs.Prelude.{◌-◌, IfOk, OnOk};
 ghost use Rattle.palm_session.specs.Writing.{IsCounted};
 ghost use Rattle.palm_session.specs.Answers.{Answers};
+ghost use Rattle.palm_session.specs.Asking.{Asks};
 ghost use Rattle.palm_session.specs.Feeding.{AnswersTo, Decides};
 ghost use Rattle.palm_session.specs.ReplyText.{reply_text, IsRefusal, ReplyFits};
+ghost use Rattle.palm_session.specs.Serving.{Spends};
+ghost use Rattle.palm_session.specs.State.{IsState};
 
 use crate::deliver::deliver;
 use crate::desk::Desk;
@@ -11,23 +14,26 @@ use crate::going::Going;
 use crate::refuse::refusal_of;
 use crate::reply::Reply;
 use crate::stop::Stop;
-use palm_base::{NoMemory, Sink};
+use palm_base::{NoMemory, Sink, Steps};
 use palm_lang::{LineError, parse_line};
+use std::sync::ledger::Ledger;
 
 impl Desk {
     /// Answers a line without its line end, and writes the reply.
-    pub fn answer<K: Sink>(
+    pub fn answer<K: Sink, L: Ledger>(
         &mut self,
         line: &[u8],
         out: &mut K,
         buffer: &mut Vec<u8>,
+        steps: &mut Steps<L>,
     ) -> Result<Going, Stop>
+        requires { IsState self.old.state }
         ensures counted { IsCounted (K.state out.old).faults (K.state out.new).faults result }
-        ensures answers { AnswersTo self.old line.now (K.state out.old).written (K.state out.new).written self.new result }
+        ensures answers { AnswersTo self.old.state line.now (K.state out.old).written (K.state out.new).written self.new.state (steps.new - steps.old) result }
+        ensures spends { Spends self.old self.new steps.old steps.new }
+        ensures state { OnOk result (IsState self.new.state) }
     {
-        // In what the desk holds every line has an answer.
-        let _ = &self.alloc;
-        match self.decide(line) {
+        match self.decide(line, steps) {
             Ok((reply, going)) => match deliver(self, &reply, out, buffer) {
                 Ok(()) => Ok(going),
                 Err(stop) => Err(stop),
@@ -37,15 +43,22 @@ impl Desk {
     }
 
     /// Reads a line and serves it.
-    fn decide(&mut self, line: &[u8]) -> Result<(Reply, Going), NoMemory>
-        ensures answers { IfOk result (λ r. Answers self.old line.now (reply_text self.new r.0) self.new) }
+    fn decide<L: Ledger>(
+        &mut self,
+        line: &[u8],
+        steps: &mut Steps<L>,
+    ) -> Result<(Reply, Going), NoMemory>
+        requires { IsState self.old.state }
+        ensures answers { IfOk result (λ r. Answers self.old.state line.now (reply_text self.new.state r.0) self.new.state) }
+        ensures asks { OnOk result (Asks self.old.state line.now self.new.state (steps.new - steps.old)) }
+        ensures spends { Spends self.old self.new steps.old steps.new }
         ensures going { IfOk result (λ r. Decides r.1 line.now) }
-        ensures fits { IfOk result (λ r. ReplyFits self.new r.0) }
+        ensures fits { IfOk result (λ r. ReplyFits self.new.state r.0) }
     {
         match parse_line(self.alloc, line) {
             Ok(line) => {
                 let going = Going::after(&line);
-                Ok((self.serve(line)?, going))
+                Ok((self.serve(line, steps)?, going))
             }
             Err(error) => misread(error),
         }

@@ -1,20 +1,26 @@
 //! Writing replies, a line at a time, so that no whole reply is held.
-ghost use Rattle.std.specs.Prelude.{◌≡◌, ◌<◌, length, flat_map};
-ghost use Rattle.palm_book.specs.Book.{AreValues, name_of, values_at};
-ghost use Rattle.palm_lang.specs.Reply.{fixed_text, refusal_text, domain_line, var_line, entry_at, entry_line};
-ghost use Rattle.palm_session.specs.Answers.{domains_text, list_text};
-ghost use Rattle.palm_session.specs.ReplyText.{reply_text, ReplyFits};
+ghost use Rattle.std.specs.Prelude.{◌≡◌, ◌<◌, length, flat_map, All, OnOk};
+ghost use Rattle.palm_book.specs.Book.{AreValues, IsUser, name_of, values_at};
+ghost use Rattle.palm_domain.specs.Rows.{present_of, present_values};
+ghost use Rattle.palm_explain.specs.Explanations.{reasons_of};
+ghost use Rattle.palm_lang.specs.Reply.{fixed_text, refusal_text, ran_text, domain_line, var_line, entry_at, entry_line};
 ghost use Rattle.palm_model.specs.Domains.{values_of};
+ghost use Rattle.palm_session.specs.Answers.{domains_text, list_text, log_text, users_text};
+ghost use Rattle.palm_session.specs.Logged.{AreLogged, IsNumbered, log_line_at};
+ghost use Rattle.palm_session.specs.ReplyText.{reply_text, ReplyFits};
+ghost use Rattle.palm_session.specs.State.{IsHeld};
 ghost use Rattle.palm_session.specs.Writing.{Delivers};
 
 use crate::desk::Desk;
 use crate::reply::Reply;
 use crate::stop::Stop;
-use palm_base::{Failed, Sink, Var, write_all};
+use palm_base::{Cid, CidList, Failed, NoMemory, Pair, Sink, Value, Var, write_all};
+use palm_domain::DomainStore;
+use palm_explain::ExplainStore;
 use palm_lang::{
-    Book, Fixed, Refusal, print_domain, print_entry, print_fixed, print_refusal, print_var,
+    Book, Fixed, Lead, Refusal, print_domain, print_entry, print_fixed, print_names, print_ran,
+    print_refusal, print_removal, print_var,
 };
-use palm_model::DomainList;
 
 /// Writes a reply.
 pub fn deliver<K: Sink>(
@@ -23,16 +29,20 @@ pub fn deliver<K: Sink>(
     out: &mut K,
     buffer: &mut Vec<u8>,
 ) -> Result<(), Stop>
-    requires { ReplyFits desk.now reply.now }
-    ensures { Delivers (K.state out.old) (K.state out.new) (reply_text desk.now reply.now) result }
+    requires held { IsHeld desk.now.state }
+    requires fits { ReplyFits desk.now.state reply.now }
+    ensures { Delivers (K.state out.old) (K.state out.new) (reply_text desk.now.state reply.now) result }
 {
     match reply {
         Reply::Nothing => Ok(()),
         Reply::Word(word) => write_word(*word, out, buffer),
         Reply::Refused(refusal) => write_refusal(*refusal, out, buffer),
-        Reply::Domains(domains) => write_domains(desk.book(), domains, out, buffer),
-        Reply::Domain { var, domains } => write_domain(desk.book(), *var, domains, out, buffer),
+        Reply::Ran(revisions) => write_ran(*revisions, out, buffer),
+        Reply::Domains => write_domains(desk, out, buffer),
+        Reply::Domain(var) => write_one_domain(desk, *var, out, buffer),
         Reply::Listing => write_list(desk.book(), out, buffer),
+        Reply::Log => write_log(desk, out, buffer),
+        Reply::Users { lead, names } => write_names(desk.book(), *lead, names, out, buffer),
     }
 }
 
@@ -54,36 +64,101 @@ fn write_refusal<K: Sink>(refusal: Refusal, out: &mut K, buffer: &mut Vec<u8>) -
     write_text(out, buffer)
 }
 
+/// Writes how many revisions ran.
+fn write_ran<K: Sink>(revisions: u64, out: &mut K, buffer: &mut Vec<u8>) -> Result<(), Stop>
+    ensures { Delivers (K.state out.old) (K.state out.new) (ran_text revisions) result }
+{
+    buffer.clear();
+    print_ran(revisions, buffer)?;
+    write_text(out, buffer)
+}
+
+/// Writes the names of users' constraints behind a word.
+fn write_names<K: Sink>(
+    book: &Book,
+    lead: Lead,
+    names: &CidList,
+    out: &mut K,
+    buffer: &mut Vec<u8>,
+) -> Result<(), Stop>
+    requires { All (IsUser book.now) names.now }
+    ensures { Delivers (K.state out.old) (K.state out.new) (users_text book.now lead names.now) result }
+{
+    buffer.clear();
+    print_names(book, lead, names, buffer)?;
+    write_text(out, buffer)
+}
+
+/// Makes the list the present values of a variable.
+fn collect_values(store: &DomainStore, var: Var, values: &mut Vec<Value>) -> Result<(), NoMemory>
+    requires { var < length store.now }
+    ensures { OnOk result (values.new.items ≡ present_values store.now var) }
+{
+    values.clear();
+    for value in store.initial_values(var) {
+        if store.contains(Pair { var, value: *value }) {
+            values.push(*value)?;
+        }
+    }
+    Ok(())
+}
+
 /// Writes a variable's values.
 fn write_domain<K: Sink>(
     book: &Book,
+    store: &DomainStore,
     var: Var,
-    domains: &DomainList,
+    values: &mut Vec<Value>,
     out: &mut K,
     buffer: &mut Vec<u8>,
 ) -> Result<(), Stop>
     requires variable { var < length book.now.variables }
-    requires domain { var < length domains.now }
-    ensures { Delivers (K.state out.old) (K.state out.new) (domain_line (name_of book.now.variables var) (values_of domains.now var)) result }
+    requires domain { var < length store.now }
+    ensures { Delivers (K.state out.old) (K.state out.new) (domain_line (name_of book.now.variables var) (values_of (present_of store.now) var)) result }
 {
+    collect_values(store, var, values)?;
     buffer.clear();
-    let values = &domains.as_slice()[var.0 as usize];
-    print_domain(book.variable_name(var), values.as_slice(), buffer)?;
+    print_domain(book.variable_name(var), values, buffer)?;
     write_text(out, buffer)
 }
 
-/// Writes the values of all variables.
-fn write_domains<K: Sink>(
-    book: &Book,
-    domains: &DomainList,
+/// Writes the values of one variable.
+fn write_one_domain<K: Sink>(
+    desk: &Desk,
+    var: Var,
     out: &mut K,
     buffer: &mut Vec<u8>,
 ) -> Result<(), Stop>
-    requires { length domains.now ≡ length book.now.variables }
-    ensures { Delivers (K.state out.old) (K.state out.new) (domains_text book.now.variables domains.now) result }
+    requires held { IsHeld desk.now.state }
+    requires variable { var < length desk.now.state.book.variables }
+    ensures { Delivers (K.state out.old) (K.state out.new) (reply_text desk.now.state (Reply.Domain var)) result }
+{
+    let mut values = Vec::new(desk.alloc);
+    write_domain(desk.book(), desk.engine().store(), var, &mut values, out, buffer)
+}
+
+/// Writes the values of all variables.
+fn write_domains<K: Sink>(desk: &Desk, out: &mut K, buffer: &mut Vec<u8>) -> Result<(), Stop>
+    requires { IsHeld desk.now.state }
+    ensures { Delivers (K.state out.old) (K.state out.new) (reply_text desk.now.state Reply.Domains) result }
+{
+    let mut values = Vec::new(desk.alloc);
+    write_each_domain(desk.book(), desk.engine().store(), &mut values, out, buffer)
+}
+
+/// Writes the values of each variable, one list after another in the same memory.
+fn write_each_domain<K: Sink>(
+    book: &Book,
+    store: &DomainStore,
+    values: &mut Vec<Value>,
+    out: &mut K,
+    buffer: &mut Vec<u8>,
+) -> Result<(), Stop>
+    requires { length store.now ≡ length book.now.variables }
+    ensures { Delivers (K.state out.old) (K.state out.new) (domains_text book.now.variables (present_of store.now)) result }
 {
     for index in 0..book.variables() {
-        write_domain(book, Var(index), domains, out, buffer)?;
+        write_domain(book, store, Var(index), values, out, buffer)?;
     }
     write_word(Fixed::End, out, buffer)
 }
@@ -150,6 +225,79 @@ fn write_entry<K: Sink>(
     buffer.clear();
     print_entry(book, place, buffer)?;
     write_text(out, buffer)
+}
+
+/// Writes the log.
+fn write_log<K: Sink>(desk: &Desk, out: &mut K, buffer: &mut Vec<u8>) -> Result<(), Stop>
+    requires { IsHeld desk.now.state }
+    ensures { Delivers (K.state out.old) (K.state out.new) (log_text desk.now.state.book desk.now.state.engine.log) result }
+{
+    let mut reasons = Vec::new(desk.alloc);
+    write_removals(desk.book(), desk.engine().log(), &mut reasons, out, buffer)
+}
+
+/// Writes each removal, the reasons of one after another in the same memory.
+fn write_removals<K: Sink>(
+    book: &Book,
+    log: &ExplainStore,
+    reasons: &mut Vec<Pair>,
+    out: &mut K,
+    buffer: &mut Vec<u8>,
+) -> Result<(), Stop>
+    requires { AreLogged book.now log.now.log }
+    ensures { Delivers (K.state out.old) (K.state out.new) (log_text book.now log.now.log) result }
+{
+    for place in 0..log.removals() {
+        write_removal(book, log, place, reasons, out, buffer)?;
+    }
+    write_word(Fixed::End, out, buffer)
+}
+
+/// Writes the removal at a place.
+fn write_removal<K: Sink>(
+    book: &Book,
+    log: &ExplainStore,
+    place: usize,
+    reasons: &mut Vec<Pair>,
+    out: &mut K,
+    buffer: &mut Vec<u8>,
+) -> Result<(), Stop>
+    requires logged { AreLogged book.now log.now.log }
+    requires place { place < length log.now.log }
+    ensures { Delivers (K.state out.old) (K.state out.new) (log_line_at book.now log.now.log place) result }
+{
+    collect_reasons(log, place, reasons)?;
+    buffer.clear();
+    let by = number_of(log.by_at(place));
+    print_removal(book, log.pair_at(place), by, reasons, buffer)?;
+    write_text(out, buffer)
+}
+
+/// Makes the list the reasons of the removal at a place.
+fn collect_reasons(
+    log: &ExplainStore,
+    place: usize,
+    reasons: &mut Vec<Pair>,
+) -> Result<(), NoMemory>
+    requires { place < length log.now.log }
+    ensures { OnOk result (reasons.new.items ≡ reasons_of log.now.log place) }
+{
+    reasons.clear();
+    for index in 0..log.reasons_at(place) {
+        reasons.push(log.reason_at(place, index))?;
+    }
+    Ok(())
+}
+
+/// The number of a user's constraint.
+fn number_of(cid: Cid) -> u32
+    requires { IsNumbered cid }
+    ensures { cid ≡ Cid.User result }
+{
+    match cid {
+        Cid::User(number) => number,
+        Cid::Decide(_) | Cid::Not(_) => unreachable!(),
+    }
 }
 
 /// Writes a text that was made.

@@ -1,8 +1,5 @@
 //! Laws of sessions: in every state that a session can hold, every line has one answer, and a text has one output.
-ghost use Rattle.std.specs.Prelude.{◌≡◌, ◌↔◌, ℕ, List, take};
-ghost use Rattle.palm_model.specs.Log.{Rises, cids_of, cons_of};
-ghost use Rattle.palm_book.specs.Book.{Contents, IsBook, active_of};
-ghost use Rattle.palm_session.specs.Actives.{actives_of};
+ghost use Rattle.std.specs.Prelude.{◌≡◌, ◌↔◌, ℕ, None, List, take};
 ghost use Rattle.palm_session.specs.State.{SessionState, IsState, fresh};
 ghost use Rattle.palm_session.specs.Answers.{Answers};
 ghost use Rattle.palm_session.specs.Lines.{without_return};
@@ -15,7 +12,7 @@ pub fn fresh_states_are_states()
     ensures { (guides orders : List ℕ) → IsState (fresh guides orders) }
 {}
 
-/// Every line has an answer.
+/// Every line has an answer, whether an order object is chosen or not.
 pub fn each_line_has_an_answer()
     ensures { (s : SessionState) → IsState s → (bytes : List ℕ)
         → (reply : List ℕ) × (t : SessionState) × Answers s bytes reply t }
@@ -27,10 +24,10 @@ pub fn states_stay()
         → IsState s → Answers s bytes reply t → IsState t }
 {}
 
-/// No line has two replies, or leaves two states.
+/// While no order object is chosen, no line has two replies, or leaves two states.
 pub fn no_line_has_two_answers()
     ensures { (s : SessionState) (bytes a b : List ℕ) (t u : SessionState)
-        → IsState s → Answers s bytes a t → Answers s bytes b u → (a ≡ b) × (t ≡ u) }
+        → s.order ≡ None → IsState s → Answers s bytes a t → Answers s bytes b u → (a ≡ b) × (t ≡ u) }
 {}
 
 /// A text has an output.
@@ -53,10 +50,4 @@ pub fn the_first_bytes_decide()
 /// And so does whether it ends the session.
 pub fn the_first_bytes_end()
     ensures { (line : List ℕ) → (Ends (without_return line) ↔ Ends (without_return (take MOST_KEPT_BYTES line))) }
-{}
-
-/// The active constraints of a book stand under rising names, and are those whose domains are printed.
-pub fn active_constraints_rise()
-    ensures rise { (book : Contents) → IsBook book → Rises (cids_of (actives_of book)) }
-    ensures same { (book : Contents) → cons_of (actives_of book) ≡ active_of book }
 {}

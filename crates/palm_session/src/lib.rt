@@ -2,19 +2,23 @@
 #![tactic(auto)]
 
 mod answer;
+mod constraints;
 mod deliver;
 mod desk;
-mod domains;
-mod filtering;
 mod going;
 mod laws;
 mod limits;
 mod lines;
+mod printed;
+mod questions;
 mod refuse;
 mod reply;
 mod serve;
 mod session;
+mod settling;
 mod stop;
+mod variables;
+mod waiting;
 
 pub use going::Going;
 pub use laws::{
@@ -22,5 +26,10 @@ pub use laws::{
     no_line_has_two_answers, states_stay, the_first_bytes_decide, the_first_bytes_end,
 };
 pub use limits::MOST_KEPT_BYTES;
+pub use printed::{
+    adding_and_retracting_gives_back_the_domains, contradictions_are_empty_domains,
+    kept_conflicts_conflict, kept_explanations_explain, one_domain_is_empty_at_most,
+    printed_domains_are_the_engines,
+};
 pub use session::Session;
 pub use stop::Stop;

@@ -32,9 +32,18 @@ fn is_built(line: &Line) -> bool
         Line::Comment
         | Line::Var { .. }
         | Line::Add { .. }
+        | Line::Relax(_)
+        | Line::Enforce(_)
+        | Line::Retract(_)
         | Line::Domains
         | Line::Domain(_)
         | Line::List
+        | Line::Log
+        | Line::Why { .. }
+        | Line::Conflict
+        | Line::Pause
+        | Line::Resume
+        | Line::Step(_)
         | Line::Quit => true,
         _ => false,
     }
@@ -43,8 +52,8 @@ fn is_built(line: &Line) -> bool
 impl Desk {
     /// The first refusal of a line that is looked for before the names in its variables' places.
     pub fn early_refusal(&self, line: &Line) -> Option<Refusal>
-        ensures none { IfNone result (IsBuilt line.now × (TakesName self.now line.now → ⊥)) }
-        ensures first { IfSome result (IsFirst (Meets self.now line.now) in_order) }
+        ensures none { IfNone result (IsBuilt line.now × (TakesName self.now.state line.now → ⊥)) }
+        ensures first { IfSome result (IsFirst (Meets self.now.state line.now) in_order) }
     {
         if !is_built(line) {
             Some(Refusal::E2)
@@ -57,7 +66,7 @@ impl Desk {
 
     /// Whether a variable has the name.
     fn has_variable(&self, name: &Name) -> bool
-        ensures { Tells result (HasVariable self.now name.now) }
+        ensures { Tells result (HasVariable self.now.state name.now) }
     {
         match self.book.variable_named(name) {
             Some(_) => true,
@@ -67,7 +76,7 @@ impl Desk {
 
     /// Whether a constraint has the name.
     fn has_constraint(&self, name: &Name) -> bool
-        ensures { Tells result (HasConstraint self.now name.now) }
+        ensures { Tells result (HasConstraint self.now.state name.now) }
     {
         match self.book.constraint_named(name) {
             Some(_) => true,
@@ -77,7 +86,7 @@ impl Desk {
 
     /// Whether the line declares or adds a name that stands for something already.
     fn takes_name(&self, line: &Line) -> bool
-        ensures { Tells result (TakesName self.now line.now) }
+        ensures { Tells result (TakesName self.now.state line.now) }
     {
         match line {
             Line::Var { name, domain: _ } => self.has_variable(name),
@@ -88,14 +97,14 @@ impl Desk {
 
     /// Whether the line breaks a limit by itself, or the session is full.
     pub fn goes_beyond(&self, line: &Line) -> bool
-        ensures { Tells result (IsBeyond line.now ⊎ HasNoRoom self.now line.now) }
+        ensures { Tells result (IsBeyond line.now ⊎ HasNoRoom self.now.state line.now) }
     {
         beyond(line) || self.has_no_room(line)
     }
 
     /// Whether the session is full.
     fn has_no_room(&self, line: &Line) -> bool
-        ensures { Tells result (HasNoRoom self.now line.now) }
+        ensures { Tells result (HasNoRoom self.now.state line.now) }
     {
         match line {
             Line::Var { .. } => self.book.variables() >= MOST_VARIABLES as u32,

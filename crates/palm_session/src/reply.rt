@@ -1,9 +1,8 @@
 //! What is replied to a line, before it is written.
-use palm_base::Var;
-use palm_lang::{Fixed, Refusal};
-use palm_model::DomainList;
+use palm_base::{CidList, Var};
+use palm_lang::{Fixed, Lead, Refusal};
 
-/// A reply.
+/// A reply. What it shows of the book, the domains and the log is read when it is written.
 #[derive(Debug, Drop)]
 pub enum Reply {
     /// Nothing, to a comment.
@@ -12,10 +11,16 @@ pub enum Reply {
     Word(Fixed),
     /// The line changes nothing.
     Refused(Refusal),
+    /// How many revisions ran.
+    Ran(u64),
     /// The values of every variable.
-    Domains(DomainList),
+    Domains,
     /// The values of one variable.
-    Domain { var: Var, domains: DomainList },
+    Domain(Var),
     /// The book.
     Listing,
+    /// The removals.
+    Log,
+    /// The names of users' constraints behind a word.
+    Users { lead: Lead, names: CidList },
 }

@@ -1,8 +1,11 @@
 //! Sessions: bytes in, in any pieces; lines cut out of them; replies out.
-ghost use Rattle.std.specs.Prelude.{◌≡◌, ◌++◌, [], false, IfOk, OnOk, take};
+ghost use Rattle.std.specs.Prelude.{◌≡◌, ◌-◌, ◌≤◌, ◌++◌, [], true, false, IfOk, OnOk, take};
 ghost use Rattle.palm_session.specs.Writing.{IsCounted};
-ghost use Rattle.palm_session.specs.Feeding.{AnswersLines, Feeds, FeedsText, Finishes, FinishesTo};
+ghost use Rattle.palm_session.specs.Feeding.{AnswersLines, Feeds, FeedsText, Finishes, FinishesTo, RaisesChecks};
 ghost use Rattle.palm_session.specs.Lines.{HasNoFeed, IsUnfinished};
+ghost use Rattle.palm_session.specs.Serving.{Spends};
+ghost use Rattle.palm_session.specs.State.{IsState};
+ghost use Rattle.palm_model.specs.State.{IsValid};
 
 use crate::desk::Desk;
 use crate::going::Going;
@@ -10,6 +13,8 @@ use crate::limits::MOST_KEPT_BYTES;
 use crate::lines::{next_feed, without_return};
 use crate::stop::Stop;
 use palm_base::{NoMemory, Sink, Steps};
+use palm_engine::Engine;
+use palm_kind::Kind;
 use palm_lang::Book;
 use std::alloc::Global;
 use std::marker::Model;
@@ -25,14 +30,16 @@ pub struct Session {
 }
 
 impl Model for Session {
+    ghost use Rattle.std.specs.Prelude.{◌≡◌, false};
     ghost use Rattle.palm_session.specs.Feeding.{View};
     ghost use Rattle.palm_session.specs.Lines.{IsUnfinished};
+    ghost use Rattle.palm_session.specs.State.{IsState};
 
     ghost Value = { View };
 
-    ghost view = { λ s. record { state = s.desk; unfinished = s.unfinished.items; over = s.over } };
+    ghost view = { λ s. record { state = s.desk.state; checks = s.desk.checks; unfinished = s.unfinished.items; over = s.over } };
 
-    ghost invariant = { λ s. IsUnfinished s.unfinished.items };
+    ghost invariant = { λ s. IsUnfinished s.unfinished.items × (s.over ≡ false → IsState s.desk.state) };
 }
 
 impl Session {
@@ -41,7 +48,7 @@ impl Session {
 
     /// A fresh session.
     pub fn new(alloc: Global) -> Result<Session, NoMemory>
-        ensures { IfOk result (λ s. s ≡ record { state = fresh [] []; unfinished = []; over = false }) }
+        ensures { IfOk result (λ s. s ≡ record { state = fresh [] []; checks = 0; unfinished = []; over = false }) }
     {
         Ok(Session {
             desk: Desk::new(alloc),
@@ -65,6 +72,15 @@ impl Session {
         self.desk.book()
     }
 
+    /// The engine that filters the active constraints.
+    pub fn engine(&self) -> &Engine<Kind>
+        ensures state { result.now.state ≡ self.now.state.engine }
+        ensures checks { result.now.checks ≡ self.now.checks }
+        ensures valid { IsValid self.now.state.engine }
+    {
+        self.desk.engine()
+    }
+
     /// Takes the next bytes, answers each line that they complete, and writes each reply before the next line is
     /// looked at. The bytes behind a `quit` line are not looked at. Of a line that is not complete yet the first
     /// [`MOST_KEPT_BYTES`] bytes are kept.
@@ -76,10 +92,12 @@ impl Session {
     ) -> Result<Going, Stop>
         requires { self.old.over ≡ false }
         ensures counted { IsCounted (K.state out.old).faults (K.state out.new).faults result }
-        ensures feeds { Feeds self.old piece.now (K.state out.old).written (K.state out.new).written self.new result }
-        ensures steps { steps.new ≡ steps.old }
+        ensures feeds { Feeds self.old piece.now (K.state out.old).written (K.state out.new).written self.new (steps.new - steps.old) result }
+        ensures checks { OnOk result (RaisesChecks self.old self.new (steps.new - steps.old)) }
+        ensures later { steps.old ≤ steps.new }
     {
-        let result = self.feed_lines(piece, out);
+        self.over = true;
+        let result = self.feed_lines(piece, out, steps);
         self.over = !matches!(result, Ok(Going::More));
         result
     }
@@ -92,21 +110,32 @@ impl Session {
     ) -> Result<(), Stop>
         requires { self.old.over ≡ false }
         ensures counted { IsCounted (K.state out.old).faults (K.state out.new).faults result }
-        ensures finishes { Finishes self.old (K.state out.old).written (K.state out.new).written self.new result }
-        ensures steps { steps.new ≡ steps.old }
+        ensures finishes { Finishes self.old (K.state out.old).written (K.state out.new).written self.new (steps.new - steps.old) result }
+        ensures checks { OnOk result (RaisesChecks self.old self.new (steps.new - steps.old)) }
+        ensures later { steps.old ≤ steps.new }
     {
         self.over = true;
-        answer_last(&mut self.desk, &self.unfinished, out, &mut self.buffer)
+        answer_last(&mut self.desk, &self.unfinished, out, &mut self.buffer, steps)
     }
 
     /// Answers the lines that the piece completes, the first of them by the kept bytes and the piece's first part, and
-    /// keeps the first bytes of the rest.
-    fn feed_lines<K: Sink>(&mut self, piece: &[u8], out: &mut K) -> Result<Going, Stop>
+    /// keeps the first bytes of the rest. The session counts as over until they are answered.
+    fn feed_lines<K: Sink, L: Ledger>(
+        &mut self,
+        piece: &[u8],
+        out: &mut K,
+        steps: &mut Steps<L>,
+    ) -> Result<Going, Stop>
+        requires over { self.old.over ≡ true }
+        requires state { IsState self.old.state }
         ensures counted { IsCounted (K.state out.old).faults (K.state out.new).faults result }
-        ensures feeds { FeedsText self.old.state (self.old.unfinished ++ piece.now) (K.state out.old).written (K.state out.new).written self.new result }
+        ensures feeds { FeedsText self.old.state (self.old.unfinished ++ piece.now) (K.state out.old).written (K.state out.new).written self.new (steps.new - steps.old) result }
+        ensures checks { RaisesChecks self.old self.new (steps.new - steps.old) }
+        ensures later { steps.old ≤ steps.new }
+        ensures state { OnOk result (IsState self.new.state) }
     {
         if self.unfinished.is_empty() {
-            return self.feed_text(piece, out);
+            return self.feed_text(piece, out, steps);
         }
         let Some(end) = next_feed(piece, 0) else {
             keep(&mut self.unfinished, piece)?;
@@ -114,10 +143,10 @@ impl Session {
         };
         keep(&mut self.unfinished, &piece[..end])?;
         let line = without_return(&self.unfinished);
-        match self.desk.answer(line, out, &mut self.buffer) {
+        match self.desk.answer(line, out, &mut self.buffer, steps) {
             Ok(Going::More) => {
                 self.unfinished.clear();
-                self.feed_text(&piece[end + 1..], out)
+                self.feed_text(&piece[end + 1..], out, steps)
             }
             Ok(Going::Quit) => Ok(Going::Quit),
             Err(stop) => Err(stop),
@@ -125,12 +154,22 @@ impl Session {
     }
 
     /// Answers the lines of a text, and keeps the first bytes of the rest; nothing is kept before it.
-    fn feed_text<K: Sink>(&mut self, text: &[u8], out: &mut K) -> Result<Going, Stop>
-        requires { self.old.unfinished ≡ [] }
+    fn feed_text<K: Sink, L: Ledger>(
+        &mut self,
+        text: &[u8],
+        out: &mut K,
+        steps: &mut Steps<L>,
+    ) -> Result<Going, Stop>
+        requires none { self.old.unfinished ≡ [] }
+        requires over { self.old.over ≡ true }
+        requires state { IsState self.old.state }
         ensures counted { IsCounted (K.state out.old).faults (K.state out.new).faults result }
-        ensures feeds { FeedsText self.old.state text.now (K.state out.old).written (K.state out.new).written self.new result }
+        ensures feeds { FeedsText self.old.state text.now (K.state out.old).written (K.state out.new).written self.new (steps.new - steps.old) result }
+        ensures checks { RaisesChecks self.old self.new (steps.new - steps.old) }
+        ensures later { steps.old ≤ steps.new }
+        ensures state { OnOk result (IsState self.new.state) }
     {
-        match answer_lines(&mut self.desk, text, out, &mut self.buffer) {
+        match answer_lines(&mut self.desk, text, out, &mut self.buffer, steps) {
             Ok((Going::More, used)) => {
                 keep(&mut self.unfinished, &text[used..])?;
                 Ok(Going::More)
@@ -143,20 +182,24 @@ impl Session {
 
 /// Answers the lines of a text that have their line feeds, up to one that ends the session, and answers where the rest
 /// begins.
-fn answer_lines<K: Sink>(
+fn answer_lines<K: Sink, L: Ledger>(
     desk: &mut Desk,
     text: &[u8],
     out: &mut K,
     buffer: &mut Vec<u8>,
+    steps: &mut Steps<L>,
 ) -> Result<(Going, usize), Stop>
+    requires { IsState desk.old.state }
     ensures counted { IsCounted (K.state out.old).faults (K.state out.new).faults result }
-    ensures answers { AnswersLines desk.old text.now (K.state out.old).written (K.state out.new).written desk.new result }
+    ensures answers { AnswersLines desk.old.state text.now (K.state out.old).written (K.state out.new).written desk.new.state (steps.new - steps.old) result }
+    ensures spends { Spends desk.old desk.new steps.old steps.new }
+    ensures state { OnOk result (IsState desk.new.state) }
 {
     let mut start = 0;
     while let Some(end) = next_feed(text, start) {
         let line = without_return(&text[start..end]);
         start = end + 1;
-        match desk.answer(line, out, buffer) {
+        match desk.answer(line, out, buffer, steps) {
             Ok(Going::More) => {}
             Ok(Going::Quit) => return Ok((Going::Quit, start)),
             Err(stop) => return Err(stop),
@@ -178,19 +221,22 @@ fn keep(bytes: &mut Vec<u8>, more: &[u8]) -> Result<(), NoMemory>
 }
 
 /// Answers a last line without its line feed, if it has a byte.
-fn answer_last<K: Sink>(
+fn answer_last<K: Sink, L: Ledger>(
     desk: &mut Desk,
     line: &[u8],
     out: &mut K,
     buffer: &mut Vec<u8>,
+    steps: &mut Steps<L>,
 ) -> Result<(), Stop>
+    requires { IsState desk.old.state }
     ensures counted { IsCounted (K.state out.old).faults (K.state out.new).faults result }
-    ensures answers { FinishesTo desk.old line.now (K.state out.old).written (K.state out.new).written desk.new result }
+    ensures answers { FinishesTo desk.old.state line.now (K.state out.old).written (K.state out.new).written desk.new.state (steps.new - steps.old) result }
+    ensures spends { Spends desk.old desk.new steps.old steps.new }
 {
     if line.is_empty() {
         return Ok(());
     }
-    match desk.answer(without_return(line), out, buffer) {
+    match desk.answer(without_return(line), out, buffer, steps) {
         Ok(_) => Ok(()),
         Err(stop) => Err(stop),
     }

@@ -1,10 +1,10 @@
-//! `scratch` at one small case for each kind of constraint.
+//! `scratch` at two small cases; tests_sessions sets it beside the filters for every kind.
 ghost use Rattle.std.specs.Prelude.{◌≡◌, [], ◌∷◌, length, IfOk};
 ghost use Rattle.palm_model.specs.Constraint.{IsWellFormed};
 ghost use Rattle.palm_model.specs.Domains.{AllAscend};
 
 use palm_base::{NoMemory, Value, ValueList, Var, VarList};
-use palm_model::{Con, ConList, DomainList, Op, Target, Term, TermList, parts_of, scratch};
+use palm_model::{Con, ConList, DomainList, Op, parts_of, scratch};
 use std::alloc::Global;
 use std::test::Fail;
 
@@ -77,128 +77,6 @@ fn comparisons(rt: HostRuntime) -> Result<(), Fail> {
         has_values(
             &closed_by(rt.alloc(), &initial, other)?,
             &[&[1, 3], &[1, 2, 3]]
-        )
-    );
-    Ok(())
-}
-
-#[test]
-fn sums_of_the_largest_numbers(rt: HostRuntime) -> Result<(), Fail> {
-    let far = two(
-        rt.alloc(),
-        &[Value(999_999), Value(1_000_000)],
-        &[Value(-1_000_000), Value(-999_999)],
-    )?;
-    let terms = TermList::from_slice(
-        rt.alloc(),
-        &[
-            Term {
-                factor: 100_000,
-                var: Var(0),
-            },
-            Term {
-                factor: -100_000,
-                var: Var(1),
-            },
-        ],
-    )?;
-    let large = Con::Linear {
-        terms,
-        op: Op::Ge,
-        bound: 200_000_000_000,
-    };
-    assert!(rt;
-        has_values(
-            &closed_by(rt.alloc(), &far, large)?,
-            &[&[1_000_000], &[-1_000_000]]
-        )
-    );
-    Ok(())
-}
-
-#[test]
-fn a_sum_that_differs_from_a_number(rt: HostRuntime) -> Result<(), Fail> {
-    let near = two(rt.alloc(), &[Value(0), Value(1)], &[Value(1)])?;
-    let terms = TermList::from_slice(
-        rt.alloc(),
-        &[
-            Term {
-                factor: 1,
-                var: Var(0),
-            },
-            Term {
-                factor: 1,
-                var: Var(1),
-            },
-        ],
-    )?;
-    let other = Con::Linear {
-        terms,
-        op: Op::Ne,
-        bound: 1,
-    };
-    assert!(rt; has_values(&closed_by(rt.alloc(), &near, other)?, &[&[1], &[1]]));
-    Ok(())
-}
-
-#[test]
-fn a_table(rt: HostRuntime) -> Result<(), Fail> {
-    let initial = two(
-        rt.alloc(),
-        &[Value(1), Value(2), Value(3)],
-        &[Value(1), Value(2), Value(3)],
-    )?;
-    let mut rows = two(rt.alloc(), &[Value(1), Value(2)], &[Value(2), Value(3)])?;
-    rows.push(ValueList::from_slice(rt.alloc(), &[Value(3), Value(9)])?)?;
-    let table = Con::Table {
-        vars: VarList::from_slice(rt.alloc(), &[Var(0), Var(1)])?,
-        rows,
-    };
-    assert!(rt;
-        has_values(
-            &closed_by(rt.alloc(), &initial, table)?,
-            &[&[1, 2], &[2, 3]]
-        )
-    );
-    Ok(())
-}
-
-#[test]
-fn an_element(rt: HostRuntime) -> Result<(), Fail> {
-    let initial = two(
-        rt.alloc(),
-        &[Value(3), Value(5), Value(7)],
-        &[Value(0), Value(1), Value(2), Value(3), Value(4)],
-    )?;
-    let element = Con::Element {
-        outcome: Var(0),
-        index: Var(1),
-        entries: ValueList::from_slice(rt.alloc(), &[Value(5), Value(3), Value(5)])?,
-    };
-    assert!(rt;
-        has_values(
-            &closed_by(rt.alloc(), &initial, element)?,
-            &[&[3, 5], &[1, 2, 3]]
-        )
-    );
-    Ok(())
-}
-
-#[test]
-fn a_count(rt: HostRuntime) -> Result<(), Fail> {
-    let mut initial = two(rt.alloc(), &[Value(1)], &[Value(1), Value(2)])?;
-    initial.push(ValueList::from_slice(rt.alloc(), &[Value(2)])?)?;
-    initial.push(ValueList::from_slice(rt.alloc(), &[Value(2)])?)?;
-    let count = Con::Count {
-        value: Value(1),
-        vars: VarList::from_slice(rt.alloc(), &[Var(0), Var(1), Var(2)])?,
-        op: Op::Eq,
-        target: Target::Variable(Var(3)),
-    };
-    assert!(rt;
-        has_values(
-            &closed_by(rt.alloc(), &initial, count)?,
-            &[&[1], &[1], &[2], &[2]]
         )
     );
     Ok(())

@@ -3,6 +3,10 @@
 #![tactic(auto)]
 
 #[cfg(test)]
+mod changes;
+#[cfg(test)]
+mod reasons;
+#[cfg(test)]
 mod sessions;
 #[cfg(test)]
 mod streams;

@@ -23,9 +23,14 @@ fn answers(alloc: Global, text: &[u8], replies: &str, piece: usize) -> Result<bo
     Ok(status == Status::Done && sink.bytes() == replies.as_bytes())
 }
 
-/// Whether `run` answers the text in pieces of 1 and of 7 bytes.
-fn answers_in_pieces(alloc: Global, text: &[u8], replies: &str) -> Result<bool, NoMemory> {
-    Ok(answers(alloc, text, replies, 1)? && answers(alloc, text, replies, 7)?)
+/// Whether `run` answers each text by the replies beside it, in pieces of 1 and of 7 bytes.
+pub fn are_answered(alloc: Global, sessions: &[(&[u8], &str)]) -> Result<bool, NoMemory> {
+    for (text, replies) in sessions {
+        if !answers(alloc, text, replies, 1)? || !answers(alloc, text, replies, 7)? {
+            return Ok(false);
+        }
+    }
+    Ok(true)
 }
 
 #[test]
@@ -40,9 +45,7 @@ fn lines_and_their_ends(rt: HostRuntime) -> Result<(), Fail> {
              2 active m : x < y\nend\ny: 5\nbye\n",
         ),
     ];
-    for (text, replies) in sessions {
-        assert!(rt; answers_in_pieces(rt.alloc(), text, replies)?);
-    }
+    assert!(rt; are_answered(rt.alloc(), &sessions)?);
     Ok(())
 }
 
@@ -63,15 +66,13 @@ fn refusals_and_a_contradiction(rt: HostRuntime) -> Result<(), Fail> {
              error E2 no such form\nok\nerror E6 number out of range\nerror E1 bytes or length\n",
         ),
     ];
-    for (text, replies) in sessions {
-        assert!(rt; answers_in_pieces(rt.alloc(), text, replies)?);
-    }
+    assert!(rt; are_answered(rt.alloc(), &sessions)?);
     Ok(())
 }
 
 #[test]
 fn each_kind_is_filtered(rt: HostRuntime) -> Result<(), Fail> {
-    let sessions: [(&[u8], &str); 7] = [
+    let sessions: [(&[u8], &str); 4] = [
         (
             b"var x 1..3\nvar y 1..3\nadd a : x < y\ndomains\n",
             "ok\nok\nok\nx: 1 2\ny: 2 3\nend\n",
@@ -93,23 +94,8 @@ fn each_kind_is_filtered(rt: HostRuntime) -> Result<(), Fail> {
             b"var x 1..2\nvar y 1..2\nvar z 1..2\nadd d : differ x y z\ndomains\n",
             "ok\nok\nok\nok\nx: 1 2\ny: 1 2\nz: 1 2\nend\n",
         ),
-        (
-            b"var z {3,5,7}\nvar y 0..4\nadd e : element z y (5,3,5)\ndomains\nadd f : z != 5\ndomains\n",
-            "ok\nok\nok\nz: 3 5\ny: 1 2 3\nend\nok\nz: 3\ny: 2\nend\n",
-        ),
-        (
-            b"var a 1..2\nvar b 1..2\nvar c 1..2\nvar n 0..3\nadd p : a = 1\nadd q : c != 1\n\
-             add k : count 1 a b c = n\nadd r : n = 2\ndomains\n",
-            "ok\nok\nok\nok\nok\nok\nok\nok\na: 1\nb: 1\nc: 2\nn: 2\nend\n",
-        ),
-        (
-            b"var x 1..3\nvar y 1..3\nadd t : table x y : (1,2) (2,3) (3,9)\nadd f : x != 1\ndomains\n",
-            "ok\nok\nok\nok\nx: 2\ny: 3\nend\n",
-        ),
     ];
-    for (text, replies) in sessions {
-        assert!(rt; answers_in_pieces(rt.alloc(), text, replies)?);
-    }
+    assert!(rt; are_answered(rt.alloc(), &sessions)?);
     Ok(())
 }
 

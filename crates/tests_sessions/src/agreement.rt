@@ -3,6 +3,7 @@ ghost use Rattle.std.specs.Prelude.{◌≡◌, ◌<◌, IfOk, All, length};
 ghost use Rattle.palm_book.specs.Book.{active_of, initial_of};
 ghost use Rattle.palm_model.specs.Constraint.{IsWellFormed};
 ghost use Rattle.palm_model.specs.Domains.{AllAscend};
+ghost use Rattle.palm_model.specs.Log.{cons_of};
 
 use palm_base::{NoMemory, SteadySink, Steps, ValueList, Var};
 use palm_lang::{Book, Fixed, print_domain, print_fixed};
@@ -30,7 +31,7 @@ fn initial_domains(alloc: Global, book: &Book) -> Result<DomainList, NoMemory>
 
 /// The active constraints.
 fn active_constraints(alloc: Global, book: &Book) -> Result<ConList, NoMemory>
-    ensures active { IfOk result (λ list. list ≡ active_of book.now) }
+    ensures active { IfOk result (λ list. list ≡ cons_of (active_of book.now)) }
     ensures formed { IfOk result (All (IsWellFormed (length book.now.variables))) }
 {
     let mut list = ConList::new(alloc);
@@ -128,6 +129,10 @@ fn filters_and_the_slow_way_agree_on_sums(rt: HostRuntime) -> Result<(), Fail> {
         ),
         (
             "var x 0..5\nvar y 0..5\nadd s : sum 3*x - 2*y = 1\n",
+            "ok\nok\nok\n",
+        ),
+        (
+            "var x 999999..1000000\nvar y -1000000..-999999\nadd g : sum 100000*x - 100000*y >= 200000000000\n",
             "ok\nok\nok\n",
         ),
     ];

@@ -42,3 +42,46 @@ fn a_session_is_fed_and_finished(rt: HostRuntime) -> Result<(), Fail> {
     assert!(rt; sink.bytes() == b"ok\nx: 1 2\nend\n".as_slice());
     Ok(())
 }
+
+/// A session that changes, and its replies.
+const TEXT: &str =
+    "var x 1..3\nvar y 1..3\nadd c : x != 2\nadd a : x = y\nadd d : y != 2\nwhy x 2\nretract c\n\
+     domains\nwhy x 2\nwhy x 1\nlog\n";
+
+const REPLIES: &str =
+    "ok\nok\nok\nok\nok\nbecause c\nok\nx: 1 3\ny: 1 3\nend\nbecause a d\npresent\n\
+     y 2 by d\nx 2 by a from y 2\nend\n";
+
+/// Feeds the text in two pieces that meet at the place, and answers how many removals the engine's log has then.
+fn is_fed_in_two<L: Ledger>(
+    alloc: Global,
+    place: usize,
+    sink: &mut SteadySink,
+    blank: Blank,
+) -> Result<usize, Stop>
+    requires named { blank.name ≡ L.name }
+    requires parts { blank.parts ≡ L.parts }
+    requires shared { 0 < L.parts }
+{
+    let mut steps = Steps::<L>::start(blank);
+    let mut session = Session::new(alloc)?;
+    let text = TEXT.as_bytes();
+    let place = place.min(text.len());
+    if session.feed(&text[..place], sink, &mut steps)? == Going::Quit {
+        return Ok(0);
+    }
+    session.feed(&text[place..], sink, &mut steps)?;
+    Ok(session.engine().log().removals())
+}
+
+#[test]
+fn a_text_is_cut_at_every_place(rt: HostRuntime) -> Result<(), Fail> {
+    for place in 0..=TEXT.len() {
+        let mut sink = SteadySink::new(rt.alloc());
+        sink.reserve(ROOM)?;
+        let removals = is_fed_in_two::<Brand>(rt.alloc(), place, &mut sink, Blank::new(1))?;
+        assert_eq!(rt; removals, 2);
+        assert!(rt; sink.bytes() == REPLIES.as_bytes());
+    }
+    Ok(())
+}

@@ -1,10 +1,10 @@
-use Rattle.std.proofs.Common.{ℕ, sym, subst, arith}
+use Rattle.std.proofs.Common.{sym, subst, arith}
 use Rattle.palm_agenda.specs.Agenda.{HasPlace, IsConnected, changed_at, unmarked}
 use Rattle.palm_agenda.specs.Places.{mark_places}
 use Rattle.palm_agenda.specs.declared.connection.Places.TheVariants.{Own, Others}
 use Rattle.palm_agenda.proofs.Connecting.{place_connected}
 use Rattle.palm_agenda.proofs.Keeping.{keeps_at, keeps_places, keeps_unmarked}
-use Rattle.palm_agenda.proofs.Samples.{sample_first, sample_kept, IsSample}
+use Rattle.palm_agenda.proofs.Samples.{sample_first, sample_kept}
 use Rattle.palm_agenda.proofs.tests.marks_follow_what_woke.Goals as goal
 
 pub unmark-requires : goal.unmark-requires

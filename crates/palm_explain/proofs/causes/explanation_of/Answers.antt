@@ -1,6 +1,4 @@
-use Rattle.std.proofs.Common.{[], ◌∷◌, length, sym, subst, arith, Contains}
-use Rattle.std.proofs.lemmas.List.Elements.{Contains-get_or}
-use Rattle.palm_base.proofs.Members.{member_same}
+use Rattle.std.proofs.Common.{[], ◌∷◌, sym, subst, Contains}
 use Rattle.palm_explain.specs.Causes.{IsMerged}
 use Rattle.palm_explain.proofs.Entries.{pairs_same, has_entry, found_entry, explains, first_names, next_names}
 use Rattle.palm_explain.proofs.causes.explanation_of.Goals as goal

@@ -1,4 +1,4 @@
-use Rattle.std.proofs.Common.{◌≡◌, ◌∷◌, [], length, nat_eq, refl, sym, ap, ◌∙◌, subst, arith, Contains}
+use Rattle.std.proofs.Common.{[], length, nat_eq, sym, ap, ◌∙◌, subst, arith, Contains}
 use Rattle.indexmap.specs.IndexSet.{insert_all}
 use Rattle.palm_base.specs.Tells.{Tells}
 use Rattle.palm_base.proofs.Members.{member_here}

@@ -2,9 +2,10 @@ use Rattle.std.proofs.Common.{◌≡◌, map, filter, All, length, arith, sym, s
 use Rattle.std.proofs.lemmas.List.{take_all}
 use Rattle.palm_book.specs.Book.{active_of}
 use Rattle.palm_book.specs.declared.book.BookCon.{BookCon}
+use Rattle.palm_book.proofs.Actives.{active_cons, active_formed, active_more, active_same}
 use Rattle.palm_model.specs.Constraint.{IsWellFormed}
+use Rattle.palm_model.specs.Log.{cons_of}
 use Rattle.palm_model.specs.declared.constraint.Con.{Con}
-use Rattle.palm_session.proofs.Actives.{active_formed, active_more, active_same}
 use Rattle.tests_sessions.proofs.agreement.active_constraints.Goals as goal
 use Rattle.tests_sessions.proofs.agreement.active_constraints.Goals.{then-entry+in_ok-copy_of+in_ok-push, else-entry}
 
@@ -20,8 +21,14 @@ loop-place-preserved c =
           w.list-is ∙ before ∙ active_same c.args.book.now.constraints c.loop-place.place c.constraint-entry.result.now at w.if-entry.false
     ]
 
+pub returns-clause-active : goal.returns-clause-active
+returns-clause-active c =
+    c.loop-place.invariant ∙ ap (λ (cs : List BookCon). map (λ (e : BookCon). e.con) (filter (λ (e : BookCon). e.active) cs)) (take_all c.loop-place.place c.args.book.now.constraints (omega (arith, c.loop-place-test.false, c.constraints-place-end.ensures.count)))
+    ∙ sym (active_cons c.args.book.now)
+
 pub returns-clause-formed : goal.returns-clause-formed
 returns-clause-formed c =
-    let all : c.loop-place.list ≡ active_of c.args.book.now
-    = c.loop-place.invariant ∙ ap (λ (cs : List BookCon). map (λ (e : BookCon). e.con) (filter (λ (e : BookCon). e.active) cs)) (take_all c.loop-place.place c.args.book.now.constraints (omega (arith, c.loop-place-test.false, c.constraints-place-end.ensures.count))) in
+    let all : c.loop-place.list ≡ cons_of (active_of c.args.book.now)
+    = c.loop-place.invariant ∙ ap (λ (cs : List BookCon). map (λ (e : BookCon). e.con) (filter (λ (e : BookCon). e.active) cs)) (take_all c.loop-place.place c.args.book.now.constraints (omega (arith, c.loop-place-test.false, c.constraints-place-end.ensures.count)))
+    ∙ sym (active_cons c.args.book.now) in
     subst (λ (cs : List Con). All (IsWellFormed (length c.args.book.now.variables)) cs) (sym all) (active_formed c.args.book.now c.constraints-place-end.ensures.valid)

@@ -1,5 +1,5 @@
 use Rattle.std.proofs.Common.{sym, subst, Contains}
-use Rattle.palm_model.specs.Log.{IsListOf, NamesOfPair, log_pairs}
+use Rattle.palm_model.specs.Log.{IsListOf, NamesOfPair}
 use Rattle.palm_explain.specs.Causes.{log_of}
 use Rattle.palm_explain.specs.Explanations.{Explanations}
 use Rattle.palm_explain.proofs.Entries.{pairs_same, has_entry, found_entry, explains}

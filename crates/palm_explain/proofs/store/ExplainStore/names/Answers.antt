@@ -1,6 +1,6 @@
-use Rattle.std.proofs.Common.{sym, subst, Contains}
+use Rattle.std.proofs.Common.{subst, Contains}
 use Rattle.palm_base.specs.Tells.{Tells}
-use Rattle.palm_model.specs.Log.{NamesOfPair, log_pairs}
+use Rattle.palm_model.specs.Log.{NamesOfPair}
 use Rattle.palm_explain.specs.Explanations.{Explanations}
 use Rattle.palm_explain.proofs.Entries.{pairs_same, has_entry, found_entry, explained_rises, explanation_tells}
 use Rattle.palm_explain.proofs.store.ExplainStore.names.Goals as goal

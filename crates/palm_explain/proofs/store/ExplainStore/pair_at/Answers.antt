@@ -1,4 +1,4 @@
-use Rattle.std.proofs.Common.{◌≡◌, Some, slice_get, get_or, length, sym, subst, ◌<◌}
+use Rattle.std.proofs.Common.{◌≡◌, Some, slice_get, subst}
 use Rattle.palm_model.specs.Log.{log_pairs}
 use Rattle.palm_explain.specs.Explanations.{Explanations}
 use Rattle.palm_explain.proofs.Entries.{pair_place}

@@ -1,5 +1,0 @@
-use Rattle.palm_session.specs.ReplyText.{refuses}
-use Rattle.palm_session.proofs.desk.Desk.serve.Goals as goal
-
-pub returns-in-Some-clause-serves : goal.returns-in-Some-clause-serves
-returns-in-Some-clause-serves c = refuses c.in-Some.refusal c.in-Some.ensures.first

@@ -1,0 +1,54 @@
+//! Laws of what a session prints: its engine's domains are the greatest closed ones, its explanations explain, and its
+//! conflicts have no solution.
+ghost use Rattle.std.specs.Prelude.{◌≡◌, ◌↔◌, ℕ, ℤ, false, List};
+ghost use Rattle.palm_model.specs.Domains.{Domains};
+ghost use Rattle.palm_model.specs.State.{HasEmpty, IsEmptyAt, present};
+ghost use Rattle.palm_read.specs.declared.line.Line.TheVariants.{Add, Retract, Domains as DomainsLine, Why, Conflict};
+ghost use Rattle.palm_read.specs.declared.line.Shape.{Shape};
+ghost use Rattle.palm_session.specs.State.{SessionState, IsState, fresh, AreDomains, IsContradiction};
+ghost use Rattle.palm_session.specs.Refusals.{Meets, IsNone, in_order};
+ghost use Rattle.palm_session.specs.Answers.{Accepts};
+ghost use Rattle.palm_session.specs.Replies.{Run};
+ghost use Rattle.palm_session.specs.Told.{ToldWhy, ToldConflict};
+
+/// While filtering does not wait and nothing contradicts, the engine's present domains are the greatest closed domains of
+/// the active constraints.
+pub fn printed_domains_are_the_engines()
+    ensures { (s : SessionState) → IsState s → s.paused ≡ false → (IsContradiction s → ⊥) → AreDomains s (present s.engine) }
+{}
+
+/// While filtering does not wait, there is a contradiction exactly where the engine has an empty domain.
+pub fn contradictions_are_empty_domains()
+    ensures { (s : SessionState) → IsState s → s.paused ≡ false → (IsContradiction s ↔ HasEmpty (present s.engine)) }
+{}
+
+/// The constraints that `why` names are active, and explain that the value is absent.
+pub fn kept_explanations_explain()
+    ensures { (s t : SessionState) (name reply : List ℕ) (value : ℤ)
+        → IsState s → IsNone (Meets s (Why name value)) in_order → Accepts s (Why name value) reply t → ToldWhy s.book name value reply }
+{}
+
+/// The constraints that `conflict` names are active, and are a conflict.
+pub fn kept_conflicts_conflict()
+    ensures { (s t : SessionState) (reply : List ℕ)
+        → IsState s → Accepts s Conflict reply t → ToldConflict s.book reply }
+{}
+
+/// From a fresh session on at most one variable has no value, so `conflict` names the constraints of the one conflict that
+/// there is.
+pub fn one_domain_is_empty_at_most()
+    ensures { (guides orders : List ℕ) (lines : List (List ℕ)) (replies : List ℕ) (t : SessionState) (x y : ℕ)
+        → Run (fresh guides orders) lines replies t
+        → IsEmptyAt (present t.engine) x → IsEmptyAt (present t.engine) y → x ≡ y }
+{}
+
+/// Adding a constraint and then retracting it leaves the greatest closed domains as they were, and `domains` prints what it
+/// would have printed before.
+pub fn adding_and_retracting_gives_back_the_domains()
+    ensures domains { (s m t : SessionState) (name a b : List ℕ) (shape : Shape) (d : Domains)
+        → IsNone (Meets s (Add name shape)) in_order → Accepts s (Add name shape) a m → Accepts m (Retract name) b t
+        → (AreDomains s d ↔ AreDomains t d) }
+    ensures printed { (s m t u : SessionState) (name a b reply : List ℕ) (shape : Shape)
+        → IsNone (Meets s (Add name shape)) in_order → Accepts s (Add name shape) a m → Accepts m (Retract name) b t
+        → Accepts s DomainsLine reply u → Accepts t DomainsLine reply t }
+{}
