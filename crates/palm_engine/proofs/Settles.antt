@@ -178,11 +178,6 @@ pub none_of : {A : Type 0} (o : Option A) → is_some o ≡ false → o ≡ None
 none_of (Some a) t = absurd (false≢true (sym t))
 none_of None t = refl
 
--- without an order object the answer is 0
-pub first_answer : {X : Type 0} (P : Type 0) (Q : X → Type 0) (o : Option X) → is_some o ≡ false → MatchOption o P Q → P
-first_answer P Q (Some x) t h = absurd (false≢true (sym t))
-first_answer P Q None t h = h
-
 pub log_grows : (f g : Filtering) (active : List Active) (owner : Active) (pairs : List Pair) (before after : ℕ) → Walked active owner pairs f g → before ≡ length f.log.log → after ≡ length g.log.log → before ≤ after
 log_grows f g active owner pairs before after w b a =
     let k = walk_logged owner pairs (state_in_revision f active owner.cid) w.removed (state_in_revision g active owner.cid) w.walk in

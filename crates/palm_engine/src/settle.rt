@@ -1,8 +1,9 @@
 //! Settlings.
-ghost use Rattle.std.specs.Prelude.{◌≡◌, ◌≤◌, [], ◌∷◌, List, IfNone, IfOk, IfSome, OnErr, OnOk, is_some};
+ghost use Rattle.std.specs.Prelude.{◌≡◌, ℕ, ◌≤◌, [], ◌∷◌, false, List, IfNone, IfOk, IfSome, OnErr, OnOk, is_some};
 ghost use Rattle.palm_base.specs.Tells.{Tells};
 ghost use Rattle.palm_base.specs.declared.limits.TheConstants.{LAST_COUNT};
 ghost use Rattle.palm_model.specs.Log.{Active};
+ghost use Rattle.palm_agenda.specs.Agenda.{Takes};
 ghost use Rattle.palm_engine.specs.Kept.{IsKept, state_in_revision, state_of};
 ghost use Rattle.palm_engine.specs.Posted.{actives_of};
 ghost use Rattle.palm_engine.specs.Revising.{HasCounted, HasPartlyRevised, HasRevised, IsTaken, TakesNext, TakesNone, TellsEnd};
@@ -12,7 +13,7 @@ ghost use Rattle.palm_engine.specs.Work.{named_sizes};
 use crate::filtering::Filtering;
 use crate::posted::{Posted, place_of};
 use crate::revise::revise;
-use palm_agenda::Order;
+use palm_agenda::{Agenda, Order};
 use palm_base::{Cid, NoMemory, Steps, Var};
 use palm_filter::{Filter, Reasons};
 use std::sync::ledger::Ledger;
@@ -39,6 +40,20 @@ fn is_reached(limit: Option<u64>, ran: u64) -> bool
     }
 }
 
+/// Takes the pending constraint that the order answers, and the first one without an order.
+fn take(agenda: &mut Agenda, order: &mut Option<Box<dyn Order>>) -> Option<Cid>
+    ensures none { IfNone result ((agenda.old.pending ≡ []) × (agenda.new ≡ agenda.old)) }
+    ensures some { IfSome result (λ c. (answer : ℕ) × Takes agenda.old.pending agenda.new.pending answer c
+        × (is_some order.old ≡ false → answer ≡ 0)) }
+    ensures connected { agenda.new.connected ≡ agenda.old.connected }
+    ensures stays { is_some order.new ≡ is_some order.old }
+{
+    match order {
+        None => agenda.take_first(),
+        Some(order) => agenda.take_answered(&mut **order),
+    }
+}
+
 /// Takes the constraint that is revised next, while no domain is empty and the limit is not reached.
 pub(crate) fn take_next(
     filtering: &mut Filtering,
@@ -53,7 +68,7 @@ pub(crate) fn take_next(
     if filtering.empty.is_some() || is_reached(limit, ran) {
         return None;
     }
-    filtering.agenda.take(order)
+    take(&mut filtering.agenda, order)
 }
 
 /// Tells the order, where there is one, what the revision took out.
