@@ -22,7 +22,6 @@ pub run_revision-requires : goal.run_revision-requires
 run_revision-requires g c =
     let xs = c.loop-cid.self-inside.posted.items in
     let active = actives_of g.F.Filter.meaning xs in
-    let before = c.self.inside.filtering in
     let now = c.loop-cid.self-inside.filtering in
     let count = c.loop-cid.self-inside.revisions in
     let ordered = is_some c.args.order.now in
@@ -36,7 +35,6 @@ pub invariant_of-self : goal.invariant_of-self
 invariant_of-self g c =
     let xs = c.loop-cid.self-inside.posted.items in
     let active = actives_of g.F.Filter.meaning xs in
-    let before = c.self.inside.filtering in
     let now = c.loop-cid.self-inside.filtering in
     let count = c.loop-cid.self-inside.revisions in
     let ordered = is_some c.args.order.now in
@@ -46,7 +44,6 @@ invariant_of-self g c =
     let takes = subst (λ (o : Bool). TakesNext c.args.limit o count now taken cid) c.loop-cid.invariant.stays c.in-Some.ensures.some in
     let after = c.run_revision.new.filtering in
     let kept = subst (λ ys. IsKept after (actives_of g.F.Filter.meaning ys)) c.deref.ensures.value c.run_revision.ensures.kept in
-    let counted = subst (λ ys. HasCounted (named_sizes (state_in_revision taken (actives_of g.F.Filter.meaning ys) cid) (cid ∷ [])) taken after c.loop-cid.steps c.run_revision.new.steps) c.deref.ensures.value c.run_revision.ensures.counted in
     let part = subst (λ ys. HasPartlyRevised (actives_of g.F.Filter.meaning ys) cid (state_in_revision taken (actives_of g.F.Filter.meaning ys) cid) (state_of after (actives_of g.F.Filter.meaning ys))) c.deref.ensures.value c.in_err-removed.ensures.err in
     stopped_engine c.args.limit ordered active now taken after count cid takes run.engine part kept
 
@@ -63,8 +60,6 @@ returns-in_err-removed-clause-err g c =
     let taken = c.take_next.new.filtering in
     let takes = subst (λ (o : Bool). TakesNext c.args.limit o count now taken cid) c.loop-cid.invariant.stays c.in-Some.ensures.some in
     let after = c.run_revision.new.filtering in
-    let kept = subst (λ ys. IsKept after (actives_of g.F.Filter.meaning ys)) c.deref.ensures.value c.run_revision.ensures.kept in
-    let counted = subst (λ ys. HasCounted (named_sizes (state_in_revision taken (actives_of g.F.Filter.meaning ys) cid) (cid ∷ [])) taken after c.loop-cid.steps c.run_revision.new.steps) c.deref.ensures.value c.run_revision.ensures.counted in
     let part = subst (λ ys. HasPartlyRevised (actives_of g.F.Filter.meaning ys) cid (state_in_revision taken (actives_of g.F.Filter.meaning ys) cid) (state_of after (actives_of g.F.Filter.meaning ys))) c.deref.ensures.value c.in_err-removed.ensures.err in
     let seen : c.args.self.now.state ≡ state_of before active = sym (ap (λ (v : View). v.state) c.self.view_is) ∙ ap (λ ys. state_of before (actives_of g.F.Filter.meaning ys)) (sym (ap (λ p. p.items) c.loop-cid.invariant.same)) in
     on_err_of c.from_residual.result
@@ -84,7 +79,6 @@ returns-in_err-removed-clause-asked g c =
     let taken = c.take_next.new.filtering in
     let takes = subst (λ (o : Bool). TakesNext c.args.limit o count now taken cid) c.loop-cid.invariant.stays c.in-Some.ensures.some in
     let after = c.run_revision.new.filtering in
-    let kept = subst (λ ys. IsKept after (actives_of g.F.Filter.meaning ys)) c.deref.ensures.value c.run_revision.ensures.kept in
     let counted = subst (λ ys. HasCounted (named_sizes (state_in_revision taken (actives_of g.F.Filter.meaning ys) cid) (cid ∷ [])) taken after c.loop-cid.steps c.run_revision.new.steps) c.deref.ensures.value c.run_revision.ensures.counted in
     let part = subst (λ ys. HasPartlyRevised (actives_of g.F.Filter.meaning ys) cid (state_in_revision taken (actives_of g.F.Filter.meaning ys) cid) (state_of after (actives_of g.F.Filter.meaning ys))) c.deref.ensures.value c.in_err-removed.ensures.err in
     let seen : c.args.self.now.state ≡ state_of before active = sym (ap (λ (v : View). v.state) c.self.view_is) ∙ ap (λ ys. state_of before (actives_of g.F.Filter.meaning ys)) (sym (ap (λ p. p.items) c.loop-cid.invariant.same)) in
@@ -104,7 +98,6 @@ returns-in_err-removed-clause-checks g c =
     let taken = c.take_next.new.filtering in
     let takes = subst (λ (o : Bool). TakesNext c.args.limit o count now taken cid) c.loop-cid.invariant.stays c.in-Some.ensures.some in
     let after = c.run_revision.new.filtering in
-    let kept = subst (λ ys. IsKept after (actives_of g.F.Filter.meaning ys)) c.deref.ensures.value c.run_revision.ensures.kept in
     let counted = subst (λ ys. HasCounted (named_sizes (state_in_revision taken (actives_of g.F.Filter.meaning ys) cid) (cid ∷ [])) taken after c.loop-cid.steps c.run_revision.new.steps) c.deref.ensures.value c.run_revision.ensures.counted in
     let le : before.checks ≤ LAST_COUNT = omega arith in
     let is = ap (λ (v : View). v.checks) c.self.view_is in
@@ -115,7 +108,6 @@ pub returns-in_err-removed-clause-valid : goal.returns-in_err-removed-clause-val
 returns-in_err-removed-clause-valid g c =
     let xs = c.loop-cid.self-inside.posted.items in
     let active = actives_of g.F.Filter.meaning xs in
-    let before = c.self.inside.filtering in
     let now = c.loop-cid.self-inside.filtering in
     let count = c.loop-cid.self-inside.revisions in
     let ordered = is_some c.args.order.now in
@@ -125,7 +117,6 @@ returns-in_err-removed-clause-valid g c =
     let takes = subst (λ (o : Bool). TakesNext c.args.limit o count now taken cid) c.loop-cid.invariant.stays c.in-Some.ensures.some in
     let after = c.run_revision.new.filtering in
     let kept = subst (λ ys. IsKept after (actives_of g.F.Filter.meaning ys)) c.deref.ensures.value c.run_revision.ensures.kept in
-    let counted = subst (λ ys. HasCounted (named_sizes (state_in_revision taken (actives_of g.F.Filter.meaning ys) cid) (cid ∷ [])) taken after c.loop-cid.steps c.run_revision.new.steps) c.deref.ensures.value c.run_revision.ensures.counted in
     let part = subst (λ ys. HasPartlyRevised (actives_of g.F.Filter.meaning ys) cid (state_in_revision taken (actives_of g.F.Filter.meaning ys) cid) (state_of after (actives_of g.F.Filter.meaning ys))) c.deref.ensures.value c.in_err-removed.ensures.err in
     (stopped_engine c.args.limit ordered active now taken after count cid takes run.engine part kept).valid
 
@@ -133,7 +124,6 @@ pub loop-cid-smaller : goal.loop-cid-smaller
 loop-cid-smaller g c =
     let xs = c.loop-cid.self-inside.posted.items in
     let active = actives_of g.F.Filter.meaning xs in
-    let before = c.self.inside.filtering in
     let now = c.loop-cid.self-inside.filtering in
     let count = c.loop-cid.self-inside.revisions in
     let ordered = is_some c.args.order.now in
@@ -142,8 +132,6 @@ loop-cid-smaller g c =
     let taken = c.take_next.new.filtering in
     let takes = subst (λ (o : Bool). TakesNext c.args.limit o count now taken cid) c.loop-cid.invariant.stays c.in-Some.ensures.some in
     let after = c.run_revision.new.filtering in
-    let kept = subst (λ ys. IsKept after (actives_of g.F.Filter.meaning ys)) c.deref.ensures.value c.run_revision.ensures.kept in
-    let counted = subst (λ ys. HasCounted (named_sizes (state_in_revision taken (actives_of g.F.Filter.meaning ys) cid) (cid ∷ [])) taken after c.loop-cid.steps c.run_revision.new.steps) c.deref.ensures.value c.run_revision.ensures.counted in
     let revised = subst (λ ys. HasRevised (actives_of g.F.Filter.meaning ys) cid (state_in_revision taken (actives_of g.F.Filter.meaning ys) cid) (state_of after (actives_of g.F.Filter.meaning ys)) c.in_ok-removed.removed) c.deref.ensures.value c.in_ok-removed.ensures.ok in
     run_falls c.args.limit ordered count active now taken after cid c.in_ok-removed.removed takes run.engine revised
 
@@ -175,7 +163,6 @@ returns-clause-ok g c =
     let xs = c.loop-cid.self-inside.posted.items in
     let active = actives_of g.F.Filter.meaning xs in
     let before = c.self.inside.filtering in
-    let now = c.loop-cid.self-inside.filtering in
     let count = c.loop-cid.self-inside.revisions in
     let ordered = is_some c.args.order.now in
     let run = c.loop-cid.invariant.run in
@@ -191,7 +178,6 @@ returns-clause-asked g c =
     let xs = c.loop-cid.self-inside.posted.items in
     let active = actives_of g.F.Filter.meaning xs in
     let before = c.self.inside.filtering in
-    let now = c.loop-cid.self-inside.filtering in
     let count = c.loop-cid.self-inside.revisions in
     let ordered = is_some c.args.order.now in
     let run = c.loop-cid.invariant.run in
@@ -206,7 +192,6 @@ returns-clause-checks g c =
     let xs = c.loop-cid.self-inside.posted.items in
     let active = actives_of g.F.Filter.meaning xs in
     let before = c.self.inside.filtering in
-    let now = c.loop-cid.self-inside.filtering in
     let count = c.loop-cid.self-inside.revisions in
     let ordered = is_some c.args.order.now in
     let run = c.loop-cid.invariant.run in
