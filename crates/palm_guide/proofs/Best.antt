@@ -1,5 +1,5 @@
 -- The best row is the pick.
-use Rattle.std.proofs.Common.{Bool, List, [], ◌∷◌, length, Some, filter, option_map, refl, sym, ap, ◌∙◌}
+use Rattle.std.proofs.Common.{Bool, List, [], ◌∷◌, Some, option_map, refl, ap, ◌∙◌}
 use Rattle.std.specs.Cmp.{IsStrictWeakOrder}
 use Rattle.std.specs.List.{best_of}
 use Rattle.std.proofs.lemmas.List.MinMax.{IsFirstBest-from_best_of}

@@ -1,5 +1,5 @@
 -- What the stock guides pick, and what becomes of the numbers of the one that counts conflicts.
-use Rattle.std.specs.Prelude.{◌≡◌, ℕ, ◌+◌, ◌<◌, ◌&&◌, min, cond, nat_eq, nat_le, nat_lt, Bool, List, [], ◌∷◌, length, filter, find, slice_get, slice_index_or, Option, None, Some, option_map}
+use Rattle.std.specs.Prelude.{◌≡◌, ℕ, ◌+◌, ◌<◌, ◌&&◌, min, nat_eq, nat_le, nat_lt, Bool, List, [], length, filter, find, slice_get, slice_index_or, Option, None, Some, option_map}
 use Rattle.std.specs.List.{IsFirstBest}
 use Rattle.palm_base.specs.declared.limits.TheConstants.{LAST_COUNT}
 use Rattle.palm_base.specs.declared.terms.Pair.{Pair}

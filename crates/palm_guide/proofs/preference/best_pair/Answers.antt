@@ -1,4 +1,4 @@
-use Rattle.std.proofs.Common.{◌≡◌, List, filter, option_copied, option_map, take, take_all, sym, ap, ◌∙◌, subst, rules}
+use Rattle.std.proofs.Common.{◌≡◌, List, filter, option_copied, option_map, take_all, sym, ap, ◌∙◌, subst, rules}
 use Rattle.palm_guide.specs.declared.guide.ViewRow.{ViewRow}
 use Rattle.palm_guide.specs.Picks.{IsPick, least_pair}
 use Rattle.palm_guide.specs.Choices.{best_among}
