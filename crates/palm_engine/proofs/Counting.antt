@@ -19,7 +19,7 @@ length_filter_le p q (x ∷ xs) sub = elim (cases_Bool (p x)) [
   ])
 ]
 
-length_filter_lt : (p q : ℤ → Bool) (xs : List ℤ) (v : ℤ) → ((x : ℤ) → p x ≡ true → q x ≡ true) → Contains xs v → q v ≡ true → p v ≡ false → length (filter p xs) < length (filter q xs)
+pub length_filter_lt : (p q : ℤ → Bool) (xs : List ℤ) (v : ℤ) → ((x : ℤ) → p x ≡ true → q x ≡ true) → Contains xs v → q v ≡ true → p v ≡ false → length (filter p xs) < length (filter q xs)
 length_filter_lt p q [] v sub m u f = absurd (member_nil v m)
 length_filter_lt p q (x ∷ xs) v sub m u f = elim (member_cases x xs v m) [
   | inl e ↦

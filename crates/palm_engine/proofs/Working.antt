@@ -147,7 +147,7 @@ first_sizes s a p rises posted pending over =
     let same = single s.active rises a b posted m e in
     (member_named s.pending b.cid (member_same s.pending a.cid b.cid e pending), member_over b.con p.var (subst (λ (c : Active). Contains (scope c.con) p.var) same over))))
 
-calm_sizes : (s : EngineState) (cid : Cid) → Contains s.pending cid → named_sizes s (without_cid cid s.pending) + named_sizes s (cid ∷ []) ≤ named_sizes s s.pending
+pub calm_sizes : (s : EngineState) (cid : Cid) → Contains s.pending cid → named_sizes s (without_cid cid s.pending) + named_sizes s (cid ∷ []) ≤ named_sizes s s.pending
 calm_sizes s cid pending =
     let k = sums_below (λ (b : Active). size_of s.initial b.con) (λ b. is_named (without_cid cid s.pending) b.cid) (λ b. is_named (cid ∷ []) b.cid)
     (λ b. is_named s.pending b.cid) (λ b. false) s.active
@@ -210,7 +210,7 @@ walk_pays a _ _ _ _ rises (walked_out p pairs s m n t removes walk) =
     pays_removed s a p 0 0 t (omega (arith, first)) rest
 
 -- a walk that takes something out pays for itself
-some_pays : (a : Active) (pairs : List Pair) (s : EngineState) (n : ℕ) (t : EngineState) → Rises (cids_of s.active) → Contains s.pending a.cid → 0 < n → Walks a pairs s n t → Pays s (named_sizes s (a.cid ∷ [])) t
+pub some_pays : (a : Active) (pairs : List Pair) (s : EngineState) (n : ℕ) (t : EngineState) → Rises (cids_of s.active) → Contains s.pending a.cid → 0 < n → Walks a pairs s n t → Pays s (named_sizes s (a.cid ∷ [])) t
 some_pays a _ _ _ _ rises pending lt (walked_all s) = absurd (omega arith)
 some_pays a _ _ _ _ rises pending lt (walked_empty pairs s empty) = absurd (omega arith)
 some_pays a _ _ _ _ rises pending lt (walked_past p pairs s n t supported walk) = some_pays a pairs s n t rises pending lt walk
@@ -244,16 +244,16 @@ revision_pays s r t rises revises = rest_pays s revises.state t revises.owner r.
 same_over : (s m : EngineState) (x : ℕ) → m.active ≡ s.active → m.initial ≡ s.initial → sizes_over m x ≡ sizes_over s x
 same_over s m x a i = λ j. sizes_of (i j) (filter (λ b. is_over b.con x) (a j))
 
-same_named : (s m : EngineState) (names : List Cid) → m.active ≡ s.active → m.initial ≡ s.initial → named_sizes m names ≡ named_sizes s names
+pub same_named : (s m : EngineState) (names : List Cid) → m.active ≡ s.active → m.initial ≡ s.initial → named_sizes m names ≡ named_sizes s names
 same_named s m names a i = λ j. sizes_of (i j) (filter (λ b. is_named names b.cid) (a j))
 
-same_asked : (s m : EngineState) (rs : List Revision) → m.active ≡ s.active → m.initial ≡ s.initial → most_asked m rs ≡ most_asked s rs
+pub same_asked : (s m : EngineState) (rs : List Revision) → m.active ≡ s.active → m.initial ≡ s.initial → most_asked m rs ≡ most_asked s rs
 same_asked s m rs a i = ap (λ (f : Cid → ℕ). sum_by (λ (r : Revision). f r.cid) rs) (λ j c. same_named s m (c ∷ []) a i j)
 
 same_gained : (s m : EngineState) (pairs : List Pair) → m.active ≡ s.active → m.initial ≡ s.initial → sum_by (λ (p : Pair). sizes_over m p.var) pairs ≡ sum_by (λ (p : Pair). sizes_over s p.var) pairs
 same_gained s m pairs a i = ap (λ (f : ℕ → ℕ). sum_by (λ (p : Pair). f p.var) pairs) (λ j x. same_over s m x a i j)
 
-pays_then : (s m t : EngineState) (spent more : ℕ) → Pays s spent m → Pays m more t → Pays s (spent + more) t
+pub pays_then : (s m t : EngineState) (spent more : ℕ) → Pays s spent m → Pays m more t → Pays s (spent + more) t
 pays_then s m t spent more first rest =
     let g = same_gained s m (log_pairs rest.gained) first.active first.initial in
     let e = sum_by-append (λ (p : Pair). sizes_over s p.var) (log_pairs first.gained) (log_pairs rest.gained) in

@@ -3,7 +3,7 @@ use Rattle.std.specs.Prelude.{◌≡◌, ℕ, ◌<◌, ◌↔◌, ◌⊎◌, Boo
 use Rattle.std.specs.List.{list_any}
 use Rattle.palm_base.specs.declared.terms.Pair.{Pair}
 use Rattle.palm_base.specs.declared.terms.Cid.{Cid}
-use Rattle.palm_domain.specs.Rows.{LosesPair, initial_of, present_of, present_values}
+use Rattle.palm_domain.specs.Rows.{LosesPair, initial_of, present_of}
 use Rattle.palm_model.specs.Domains.{Domains, values_of}
 use Rattle.palm_model.specs.Log.{Loses, log_pairs}
 use Rattle.palm_model.specs.State.{without_cid}

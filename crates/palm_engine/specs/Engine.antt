@@ -1,5 +1,5 @@
 -- What an engine is seen as, and what a settling says of it.
-use Rattle.std.specs.Prelude.{◌≡◌, ℕ, ◌+◌, ◌-◌, ◌≤◌, min, Bool, List, [], length, ◌++◌, Contains, Option}
+use Rattle.std.specs.Prelude.{◌≡◌, ℕ, ◌+◌, ◌≤◌, min, Bool, List, [], length, ◌++◌, Contains, Option}
 use Rattle.palm_base.specs.declared.terms.Pair.{Pair}
 use Rattle.palm_base.specs.declared.limits.TheConstants.{LAST_COUNT}
 use Rattle.palm_model.specs.Log.{Active, Removal, log_pairs}

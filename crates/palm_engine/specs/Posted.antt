@@ -1,5 +1,5 @@
 -- What the constraints of an engine mean.
-use Rattle.std.specs.Prelude.{ℕ, Bool, true, false, List, [], map, filter}
+use Rattle.std.specs.Prelude.{ℕ, Bool, true, false, Option, None, Some, List, [], map, filter}
 use Rattle.palm_base.specs.declared.terms.Pair.{Pair}
 use Rattle.palm_base.specs.declared.terms.Cid.{Cid}
 use Rattle.palm_base.specs.declared.terms.Cid.TheVariants.{Decide, Not, User}
@@ -35,6 +35,18 @@ abbrev pub is_decision : {F : Type 0} → Posted F → Bool
 is_decision (Decision p) = true
 is_decision (Negation p because) = false
 is_decision (UserPosted number filter) = false
+
+-- whether it is a negation
+abbrev pub is_negation : {F : Type 0} → Posted F → Bool
+is_negation (Decision p) = false
+is_negation (Negation p because) = true
+is_negation (UserPosted number filter) = false
+
+-- the pair of a negation
+abbrev pub negated : {F : Type 0} → Posted F → Option Pair
+negated (Decision p) = None
+negated (Negation p because) = Some p
+negated (UserPosted number filter) = None
 
 -- the constraint is what its name says, among some active ones
 pub record IsInForm (variables : ℕ) (a : Active) : Type 0 where

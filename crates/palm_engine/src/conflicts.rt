@@ -1,11 +1,12 @@
 //! The constraints of a conflict.
-ghost use Rattle.std.specs.Prelude.{◌≡◌, [], Contains, IfOk, OnOk};
+ghost use Rattle.std.specs.Prelude.{◌≡◌, List, Contains, IfOk, OnOk};
 ghost use Rattle.palm_base.specs.declared.terms.Cid.{Cid as CidTerm};
-ghost use Rattle.palm_domain.specs.Rows.{initial_of, present_of};
-ghost use Rattle.palm_model.specs.Conflict.{InConflict, InFlat, IsKeptConflict};
-ghost use Rattle.palm_model.specs.Log.{IsActive, IsListOf, Rises, cids_of, log_pairs};
+ghost use Rattle.palm_domain.specs.Rows.{present_of};
+ghost use Rattle.palm_model.specs.Conflict.{InFlat, IsKeptConflict};
+ghost use Rattle.palm_model.specs.Log.{Active, IsActive, IsListOf, Rises, cids_of, log_pairs};
 ghost use Rattle.palm_model.specs.State.{IsEmptyAt};
 ghost use Rattle.palm_explain.specs.Explanations.{LacksExactly};
+ghost use Rattle.palm_engine.specs.Gathered.{Gathers};
 ghost use Rattle.palm_engine.specs.Kept.{state_of};
 ghost use Rattle.palm_engine.specs.Posted.{actives_of};
 
@@ -24,7 +25,7 @@ pub(crate) fn conflict_of(
 ) -> Result<CidList, NoMemory>
     requires removed { LacksExactly filtering.now.store (log_pairs filtering.now.log.log) }
     requires empty { IsEmptyAt (present_of filtering.now.store) var }
-    ensures { IfOk result (IsKeptConflict (state_of filtering.now []) var) }
+    ensures { IfOk result (λ names. (active : List Active) → IsKeptConflict (state_of filtering.now active) var names) }
 {
     let mut names = Vec::new(alloc);
     let mut explanation = CidList::new(alloc);
@@ -45,6 +46,7 @@ fn add_flat<F: Filter>(
     requires rising { Rises (cids_of (actives_of F.meaning posted.now)) }
     requires active { IsActive (actives_of F.meaning posted.now) cid.now }
     requires names { Rises names.old.items }
+    ensures { OnOk result (Gathers (InFlat (actives_of F.meaning posted.now) (λ c. c ≡ cid.now)) names.old.items names.new.items) }
 {
     match cid {
         Cid::Not(_) => add_names(names, posted[place_of(posted, cid)].because()),

@@ -17,14 +17,14 @@ ghost use Rattle.palm_engine.specs.Posted.{active_of, decision, negation, user};
 
 use crate::conflicts::{conflict_of, flat_of};
 use crate::filtering::Filtering;
-use crate::posted::{Posted, decisions_of, place_of};
+use crate::posted::{Posted, decisions_of, is_same, place_of};
 use crate::posting::{insert, take_out, take_out_resting};
-use crate::settle::{Settle, run_settling};
+use crate::settle::{Settle, outcome, run_revision, take_next, tell};
 use palm_agenda::Order;
 use palm_base::{Cid, CidList, NoMemory, Pair, Steps, Value, Var};
 use palm_domain::DomainStore;
 use palm_explain::ExplainStore;
-use palm_filter::Filter;
+use palm_filter::{Filter, Reasons};
 use std::alloc::Global;
 use std::marker::Model;
 use std::sync::ledger::Ledger;
@@ -143,14 +143,22 @@ impl<F: Filter> Engine<F> {
         ensures stays { is_some order.new ≡ is_some order.old }
         ensures valid { IsValid self.new.state }
     {
-        run_settling(
-            &mut self.filtering,
-            &self.posted,
-            order,
-            limit,
-            steps,
-            &mut self.revisions,
-        )
+        // A number that is read is known to fit its type.
+        let _checks = self.filtering.checks;
+        let mut reasons = Reasons::new(*self.posted.allocator());
+        self.revisions = 0;
+        while let Some(cid) = take_next(&mut self.filtering, order, limit, self.revisions) {
+            self.revisions = self.revisions.saturating_add(1);
+            let removed = run_revision(
+                &mut self.filtering,
+                &self.posted,
+                &cid,
+                &mut reasons,
+                steps,
+            )?;
+            tell(order, &cid, removed);
+        }
+        Ok(outcome(&self.filtering))
     }
 
     /// How many revisions the last settling ran, one that was interrupted included, and the last number of a count where
@@ -223,7 +231,7 @@ impl<F: Filter> Engine<F> {
         ensures { Tells result (IsActive self.now.state.active cid) }
     {
         match self.posted.get(place_of(&self.posted, &cid)) {
-            Some(constraint) => constraint.cid() == cid,
+            Some(constraint) => is_same(&constraint.cid(), &cid),
             None => false,
         }
     }
@@ -234,10 +242,8 @@ impl<F: Filter> Engine<F> {
             ((p : PairTerm) → IsActive self.now.state.active (Cid.Not p) → ⊥)
             (λ p. IsActive self.now.state.active (Cid.Not p) × ((q : PairTerm) → IsActive self.now.state.active (Cid.Not q) → pair_before q p ≡ true → ⊥)) }
     {
-        match self.posted.get(decisions_of(&self.posted)) {
-            Some(Posted::Negation { pair, .. }) => Some(*pair),
-            _ => None,
-        }
+        let constraint = self.posted.get(decisions_of(&self.posted))?;
+        constraint.negated()
     }
 
     /// Makes a constraint active and pending. Without memory nothing changes.

@@ -83,12 +83,7 @@ impl Filtering {
     }
 
     /// Takes a present value out by this constraint and for these removed pairs. Without memory nothing changes.
-    pub(crate) fn remove(
-        &mut self,
-        pair: Pair,
-        by: Cid,
-        reasons: &[Pair],
-    ) -> Result<(), NoMemory>
+    pub(crate) fn remove(&mut self, pair: Pair, by: Cid, reasons: &[Pair]) -> Result<(), NoMemory>
         requires removed { LacksExactly self.old.store (log_pairs self.old.log.log) }
         requires present { IsPresent self.old.store pair.var pair.value }
         requires earlier { (p : PairTerm) → Contains reasons.now p → Contains (log_pairs self.old.log.log) p }
@@ -106,6 +101,7 @@ impl Filtering {
     /// Takes the constraint out with all removals that rest on it. It takes no memory.
     pub(crate) fn withdraw(&mut self, cid: &Cid)
         requires removed { LacksExactly self.old.store (log_pairs self.old.log.log) }
+        requires formed { IsFormed self.old.agenda }
         requires connected { IsConnected self.old.agenda.connected cid.now }
         requires empty { (x : ℕ) → self.old.empty ≡ Some x → x < length self.old.store }
         ensures { PutsBack self.old cid.now self.new }

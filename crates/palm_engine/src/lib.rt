@@ -6,6 +6,7 @@ mod engine;
 mod filtering;
 mod posted;
 mod posting;
+mod revise;
 mod settle;
 pub mod settling;
 pub mod work;

@@ -4,11 +4,11 @@ ghost use Rattle.palm_base.specs.declared.limits.TheConstants.{LAST_COUNT};
 ghost use Rattle.palm_domain.specs.Rows.{initial_of, present_of};
 ghost use Rattle.palm_model.specs.Constraint.{scope, IsWellFormed};
 ghost use Rattle.palm_model.specs.Domains.{Has};
-ghost use Rattle.palm_model.specs.Log.{Active, Rises, cid_before, cids_of, is_named};
+ghost use Rattle.palm_model.specs.Log.{Active, Rises, cid_before, cids_of, is_named, same_cid};
 ghost use Rattle.palm_model.specs.Reason.{AreFilled, reason};
 ghost use Rattle.palm_model.specs.Support.{IsSupported, LacksSupport};
 ghost use Rattle.palm_agenda.specs.Names.{IsPartedAt};
-ghost use Rattle.palm_engine.specs.Posted.{IsInForm, active_of, actives_of, is_decision};
+ghost use Rattle.palm_engine.specs.Posted.{IsInForm, active_of, actives_of, is_decision, is_negation, negated};
 
 use palm_base::{Cid, CidList, NoMemory, Pair, Steps, Var};
 use palm_domain::DomainStore;
@@ -22,15 +22,9 @@ pub(crate) enum Posted<F> {
     /// The variable has the value.
     Decision(Pair),
     /// The variable does not have the value, for these constraints.
-    Negation {
-        pair: Pair,
-        because: CidList,
-    },
+    Negation { pair: Pair, because: CidList },
     /// The constraint of a user.
-    User {
-        number: u32,
-        filter: F,
-    },
+    User { number: u32, filter: F },
 }
 
 /// Whether the first name comes before the second.
@@ -38,6 +32,13 @@ fn is_before(first: &Cid, second: &Cid) -> bool
     ensures { result ≡ cid_before first.now second.now }
 {
     first < second
+}
+
+/// Whether the two names are one.
+pub(crate) fn is_same(first: &Cid, second: &Cid) -> bool
+    ensures { result ≡ same_cid first.now second.now }
+{
+    first == second
 }
 
 impl<F: Filter> Posted<F> {
@@ -81,6 +82,30 @@ impl<F: Filter> Posted<F> {
         matches!(self, Posted::Decision(_))
     }
 
+    /// Whether it is a negation.
+    pub(crate) fn is_negation(&self) -> bool
+        ensures { result ≡ is_negation self.now }
+    {
+        matches!(self, Posted::Negation { .. })
+    }
+
+    /// The pair of a negation.
+    pub(crate) fn negated(&self) -> Option<Pair>
+        ensures { result ≡ negated self.now }
+    {
+        match self {
+            Posted::Negation { pair, .. } => Some(*pair),
+            Posted::Decision(_) | Posted::User { .. } => None,
+        }
+    }
+
+    /// Whether it is a negation whose justification holds the name.
+    pub(crate) fn rests_on(&self, cid: &Cid) -> bool
+        ensures { result ≡ is_named (active_of F.meaning self.now).because cid.now }
+    {
+        self.because().iter().any(|name| is_same(name, cid))
+    }
+
     /// Whether the value has support in every part over its variable. A user's filter is asked, which counts one
     /// check and one step; decisions and negations ask nothing.
     pub(crate) fn is_supported<L: Ledger>(
@@ -99,11 +124,12 @@ impl<F: Filter> Posted<F> {
         ensures once { steps.new ≤ steps.old + 1 }
         ensures checks { checks.new ≡ min (checks.old + (steps.new - steps.old)) LAST_COUNT }
     {
+        let counted = checks.saturating_add(1);
         match self {
             Posted::Decision(decided) => decided.value == pair.value,
             Posted::Negation { pair: negated, .. } => negated.value != pair.value,
             Posted::User { filter, .. } => {
-                *checks = checks.saturating_add(1);
+                *checks = counted;
                 ask(filter, store, pair, steps)
             }
         }

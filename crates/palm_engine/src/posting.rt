@@ -1,12 +1,12 @@
 //! Putting a constraint among the active ones, and taking it out with what rests on it.
-ghost use Rattle.std.specs.Prelude.{◌≡◌, ◌↔◌, ◌⊎◌, ℕ, ◌<◌, [], ◌∷◌, length, remove, Contains, Some, OnErr, OnOk, slice_get};
+ghost use Rattle.std.specs.Prelude.{◌≡◌, ◌↔◌, ◌⊎◌, ℕ, ◌<◌, [], ◌∷◌, length, remove, Contains, Some, true, false, IfSome, OnErr, OnOk, slice_get};
 ghost use Rattle.palm_base.specs.declared.terms.Cid.{Cid as CidTerm};
 ghost use Rattle.palm_model.specs.Constraint.{scope, IsWellFormed};
 ghost use Rattle.palm_model.specs.Event.{WithdrawsAll, with_posted};
 ghost use Rattle.palm_model.specs.Log.{Active, IsActive, Rises, cids_of};
 ghost use Rattle.palm_agenda.specs.Agenda.{IsFormed, marked_whole, with_connected};
 ghost use Rattle.palm_engine.specs.Kept.{AreConnected, IsKept, state_of};
-ghost use Rattle.palm_engine.specs.Posted.{active_of, actives_of, resting_on};
+ghost use Rattle.palm_engine.specs.Posted.{active_of, actives_of, is_negation, resting_on};
 
 use crate::filtering::Filtering;
 use crate::posted::{Posted, decisions_of, place_of};
@@ -58,6 +58,17 @@ pub(crate) fn take_out<F: Filter>(
     filtering.withdraw(&constraint.cid());
 }
 
+/// Whether a negation stands at the place.
+fn stands_negation<F: Filter>(posted: &[Posted<F>], place: usize) -> bool
+    ensures within { result ≡ true → place < length posted.now }
+    ensures other { result ≡ false → IfSome (slice_get posted.now place) (λ p. is_negation p ≡ false) }
+{
+    match posted.get(place) {
+        Some(constraint) => constraint.is_negation(),
+        None => false,
+    }
+}
+
 /// Takes each negation out whose justification holds the name, with all removals that rest on it.
 pub(crate) fn take_out_resting<F: Filter>(
     filtering: &mut Filtering,
@@ -71,8 +82,8 @@ pub(crate) fn take_out_resting<F: Filter>(
     ensures checks { filtering.new.checks ≡ filtering.old.checks }
 {
     let mut place = decisions_of(posted);
-    while let Some(Posted::Negation { because, .. }) = posted.get(place) {
-        if because.as_slice().contains(cid) {
+    while stands_negation(posted, place) {
+        if posted[place].rests_on(cid) {
             take_out(filtering, posted, place);
         } else {
             place += 1;

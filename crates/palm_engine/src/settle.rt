@@ -1,15 +1,20 @@
 //! Settlings.
-ghost use Rattle.std.specs.Prelude.{◌≡◌, ◌+◌, ◌-◌, min, IfOk, OnErr, is_some};
+ghost use Rattle.std.specs.Prelude.{◌≡◌, ◌≤◌, [], ◌∷◌, List, IfNone, IfOk, IfSome, OnErr, OnOk, is_some};
+ghost use Rattle.palm_base.specs.Tells.{Tells};
 ghost use Rattle.palm_base.specs.declared.limits.TheConstants.{LAST_COUNT};
-ghost use Rattle.palm_engine.specs.Engine.{HasAsked, HasSettled, IsInterrupted, view_of};
-ghost use Rattle.palm_engine.specs.Kept.{IsEngine, state_of};
+ghost use Rattle.palm_model.specs.Log.{Active};
+ghost use Rattle.palm_engine.specs.Kept.{IsKept, state_in_revision, state_of};
 ghost use Rattle.palm_engine.specs.Posted.{actives_of};
+ghost use Rattle.palm_engine.specs.Revising.{HasCounted, HasPartlyRevised, HasRevised, IsTaken, TakesNext, TakesNone, TellsEnd};
+ghost use Rattle.palm_engine.specs.Settling.{HasReached};
+ghost use Rattle.palm_engine.specs.Work.{named_sizes};
 
 use crate::filtering::Filtering;
-use crate::posted::Posted;
+use crate::posted::{Posted, place_of};
+use crate::revise::revise;
 use palm_agenda::Order;
-use palm_base::{NoMemory, Steps, Var};
-use palm_filter::Filter;
+use palm_base::{Cid, NoMemory, Steps, Var};
+use palm_filter::{Filter, Reasons};
 use std::sync::ledger::Ledger;
 
 /// How a settling ended.
@@ -23,22 +28,74 @@ pub enum Settle {
     Stopped,
 }
 
-/// Runs revisions until a domain is empty, nothing is pending, or as many ran as the limit says.
-pub(crate) fn run_settling<F: Filter, L: Ledger>(
+/// Whether as many revisions ran as the limit says.
+fn is_reached(limit: Option<u64>, ran: u64) -> bool
+    ensures tells { Tells result (HasReached limit ran) }
+    ensures bounded { IfSome limit (λ most. most ≤ LAST_COUNT) }
+{
+    match limit {
+        Some(limit) => ran == limit,
+        None => false,
+    }
+}
+
+/// Takes the constraint that is revised next, while no domain is empty and the limit is not reached.
+pub(crate) fn take_next(
     filtering: &mut Filtering,
-    posted: &[Posted<F>],
     order: &mut Option<Box<dyn Order>>,
     limit: Option<u64>,
-    steps: &mut Steps<L>,
-    revisions: &mut u64,
-) -> Result<Settle, NoMemory>
-    requires { IsEngine filtering.old (actives_of F.meaning posted.now) }
-    ensures ok { IfOk result (λ answer. HasSettled limit (is_some order.old) answer (view_of filtering.old (actives_of F.meaning posted.now) revisions.old) (view_of filtering.new (actives_of F.meaning posted.now) revisions.new)) }
-    ensures err { OnErr result (IsInterrupted limit (is_some order.old) (view_of filtering.old (actives_of F.meaning posted.now) revisions.old) (view_of filtering.new (actives_of F.meaning posted.now) revisions.new)) }
-    ensures asked { HasAsked (state_of filtering.old (actives_of F.meaning posted.now)) (state_of filtering.new (actives_of F.meaning posted.now)) steps.old steps.new }
-    ensures checks { filtering.new.checks ≡ min (filtering.old.checks + (steps.new - steps.old)) LAST_COUNT }
+    ran: u64,
+) -> Option<Cid>
+    ensures none { IfNone result ((filtering.new ≡ filtering.old) × TakesNone limit ran filtering.old) }
+    ensures some { IfSome result (TakesNext limit (is_some order.old) ran filtering.old filtering.new) }
     ensures stays { is_some order.new ≡ is_some order.old }
-    ensures kept { IsEngine filtering.new (actives_of F.meaning posted.now) }
 {
-    Err(NoMemory)
+    if filtering.empty.is_some() || is_reached(limit, ran) {
+        return None;
+    }
+    filtering.agenda.take(order)
+}
+
+/// Tells the order, where there is one, what the revision took out.
+pub(crate) fn tell(order: &mut Option<Box<dyn Order>>, cid: &Cid, removed: usize)
+    ensures { is_some order.new ≡ is_some order.old }
+{
+    if let Some(order) = order {
+        order.ran(*cid, u32::try_from(removed).unwrap_or(u32::MAX));
+    }
+}
+
+/// Revises the constraint that was taken, and answers how many values that took out. Without memory the constraint is
+/// pending again.
+pub(crate) fn run_revision<F: Filter, L: Ledger>(
+    filtering: &mut Filtering,
+    posted: &[Posted<F>],
+    cid: &Cid,
+    reasons: &mut Reasons,
+    steps: &mut Steps<L>,
+) -> Result<usize, NoMemory>
+    requires { IsTaken filtering.old (actives_of F.meaning posted.now) cid.now }
+    ensures ok { IfOk result (HasRevised (actives_of F.meaning posted.now) cid.now (state_in_revision filtering.old (actives_of F.meaning posted.now) cid.now) (state_of filtering.new (actives_of F.meaning posted.now))) }
+    ensures err { OnErr result (HasPartlyRevised (actives_of F.meaning posted.now) cid.now (state_in_revision filtering.old (actives_of F.meaning posted.now) cid.now) (state_of filtering.new (actives_of F.meaning posted.now))) }
+    ensures kept { IsKept filtering.new (actives_of F.meaning posted.now) }
+    ensures counted { HasCounted (named_sizes (state_in_revision filtering.old (actives_of F.meaning posted.now) cid.now) (cid.now ∷ [])) filtering.old filtering.new steps.old steps.new }
+{
+    let constraint = &posted[place_of(posted, cid)];
+    let before = filtering.log.removals();
+    if revise(filtering, constraint, reasons, steps).is_err() {
+        filtering.agenda.wake_one(*cid);
+        return Err(NoMemory);
+    }
+    Ok(filtering.log.removals() - before)
+}
+
+/// What a settling answers that ends here.
+pub(crate) fn outcome(filtering: &Filtering) -> Settle
+    ensures { (active : List Active) → IsKept filtering.now active → TellsEnd result (state_of filtering.now active) }
+{
+    match filtering.empty {
+        Some(var) => Settle::Empty(var),
+        None if filtering.agenda.is_empty() => Settle::Settled,
+        None => Settle::Stopped,
+    }
 }

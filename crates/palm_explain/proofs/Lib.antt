@@ -1,6 +1,6 @@
 mod Linked
 mod Naming
-mod Withdrawn
+pub mod Withdrawn
 mod Rising
 mod Entries
 mod PuttingBack

@@ -10,6 +10,7 @@ pub use laws::{
     full_stores_lack_nothing, stores_lack_what_is_taken_out, well_founded_logs_are_linked,
     withdrawals_add_up,
 };
+pub use names::add_names;
 pub use store::ExplainStore;
 
 #[cfg(test)]

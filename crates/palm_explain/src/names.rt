@@ -27,7 +27,7 @@ pub(crate) fn add_name(names: &mut Vec<Cid>, cid: &Cid) -> Result<(), NoMemory>
 }
 
 /// Adds each of the names, unless it is there.
-pub(crate) fn add_names(names: &mut Vec<Cid>, more: &[Cid]) -> Result<(), NoMemory>
+pub fn add_names(names: &mut Vec<Cid>, more: &[Cid]) -> Result<(), NoMemory>
     requires { Rises names.old.items }
     ensures { OnOk result (IsMerged names.old.items more.now names.new.items) }
 {

@@ -1,0 +1,322 @@
+-- Where constraints stand among those that rise, and which are left without one of them.
+use Rattle.std.proofs.Common.{◌≡◌, ℕ, zero, suc, ◌<◌, ◌≤◌, Bool, true, false, not, List, [], ◌∷◌, ◌++◌, map, filter, length, get_or, slice_get, insert, remove, take, drop, ◌+◌, Contains, Option, Some, inl, inr, refl, sym, ap, ◌∙◌, subst, arith, add-zero}
+use Rattle.std.specs.Option.{IfSome, MatchOption, option_map}
+use Rattle.std.specs.List.Sorted.{IsPartitionedBy}
+use Rattle.std.proofs.lemmas.Bool.{cases_lt, false≢true}
+use Rattle.std.proofs.lemmas.List.{get_or_default, get_or-drop, get_or-take, length-drop, length-map, length-take, map-append}
+use Rattle.std.proofs.lemmas.List.Elements.{All-contains, Contains-get_or}
+use Rattle.std.proofs.lemmas.Option.{slice_get-map, slice_get-get_or, slice_get_within, get_or_from_slice_get}
+use Rattle.palm_base.specs.declared.terms.Pair.{Pair}
+use Rattle.palm_base.specs.declared.terms.Cid.{Cid}
+use Rattle.palm_base.specs.declared.terms.Cid.TheVariants.{Decide, Not}
+use Rattle.palm_base.proofs.Members.{member_here, member_map, member_unmap, member_single}
+use Rattle.palm_model.specs.Log.{Active, IsActive, Rises, cid_before, cids_of, is_named, pair_before, same_cid}
+use Rattle.palm_model.specs.Event.{with_posted, without_names}
+use Rattle.palm_model.specs.declared.constraint.Con.{Con}
+use Rattle.palm_base.specs.Tells.{Tells}
+use Rattle.palm_base.proofs.Telling.{tells_both}
+use Rattle.palm_events.proofs.Names.{before_then, cid_same, not_before_itself, member_named, member_not_named, same_cid_itself}
+use Rattle.palm_events.proofs.States.{without_names_rises}
+use Rattle.palm_agenda.specs.Names.{IsPartedAt}
+use Rattle.palm_agenda.proofs.NameLists.{rising}
+use Rattle.palm_agenda.proofs.Sorted.{IsSortedKeys, parted, listed_at, apart, filter_removes, inserted}
+use Rattle.palm_engine.specs.declared.posted.Posted.{Posted}
+use Rattle.palm_engine.specs.declared.posted.Posted.TheVariants.{Decision, Negation, User as UserPosted}
+use Rattle.palm_engine.specs.Posted.{active_of, actives_of, is_decision, is_negation, negated}
+use Rattle.palm_engine.proofs.Scopes.{map_filter}
+
+-- ---- constraints that rise
+
+pub actives_at : (active : List Active) → Rises (cids_of active) → (i j : ℕ) (d : Active) → i < j → j < length active → cid_before (get_or active i d).cid (get_or active j d).cid ≡ true
+actives_at [] rises i j d lt within = absurd (omega arith)
+actives_at (a ∷ active) rises zero zero d lt within = absurd (omega arith)
+actives_at (a ∷ active) rises zero (suc j) d lt within =
+    All-contains (λ e. cid_before a.cid e ≡ true) (cids_of active) (get_or active j d).cid rises.0
+    (member_map (λ (b : Active). b.cid) active (get_or active j d) (Contains-get_or active j d (omega arith)))
+actives_at (a ∷ active) rises (suc i) zero d lt within = absurd (omega arith)
+actives_at (a ∷ active) rises (suc i) (suc j) d lt within = actives_at active rises.1 i j d (omega arith) (omega arith)
+
+pub sorted_actives : (active : List Active) → Rises (cids_of active) → IsSortedKeys (λ (a : Active). a.cid) cid_before active
+sorted_actives active rises = record { at = actives_at active rises }
+
+pub sorted_at : {X : Type 0} (active : X → Active) (xs : List X) → Rises (cids_of (map active xs)) → (i j : ℕ) (d : X) → i < j → j < length xs → cid_before (active (get_or xs i d)).cid (active (get_or xs j d)).cid ≡ true
+sorted_at active [] rises i j d lt within = absurd (omega arith)
+sorted_at active (x ∷ xs) rises zero zero d lt within = absurd (omega arith)
+sorted_at active (x ∷ xs) rises zero (suc j) d lt within =
+    All-contains (λ e. cid_before (active x).cid e ≡ true) (cids_of (map active xs)) (active (get_or xs j d)).cid rises.0
+    (member_map (λ (b : Active). b.cid) (map active xs) (active (get_or xs j d)) (member_map active xs (get_or xs j d) (Contains-get_or xs j d (omega arith))))
+sorted_at active (x ∷ xs) rises (suc i) zero d lt within = absurd (omega arith)
+sorted_at active (x ∷ xs) rises (suc i) (suc j) d lt within = sorted_at active xs rises.1 i j d (omega arith) (omega arith)
+
+pub sorted : {X : Type 0} (active : X → Active) (xs : List X) → Rises (cids_of (map active xs)) → IsSortedKeys (λ x. (active x).cid) cid_before xs
+sorted active xs rises = record { at = sorted_at active xs rises }
+
+pub parted_names : {X : Type 0} (active : X → Active) (xs : List X) (cid : Cid) → Rises (cids_of (map active xs)) → IsPartitionedBy (λ x. cid_before (active x).cid cid) xs
+parted_names active xs cid rises = parted (λ x. (active x).cid) cid_before rising xs (sorted active xs rises) cid
+
+-- the constraint under the name stands behind those that come before
+pub owner_placed : {X : Type 0} (active : X → Active) (xs : List X) (cid : Cid) (place : ℕ) → Rises (cids_of (map active xs)) → IsPartedAt (λ x. cid_before (active x).cid cid) xs place
+    → (a : Active) → Contains (map active xs) a → a.cid ≡ cid → slice_get (map active xs) place ≡ Some a
+owner_placed active xs cid place rises at a m named =
+    let r = member_unmap active xs a m in
+    let e = listed_at (λ x. (active x).cid) cid_before rising xs (sorted active xs rises) cid place at r.0 r.1 (ap (λ (b : Active). b.cid) r.2 ∙ named) in
+    slice_get-map active xs place ∙ ap (option_map active) e ∙ ap Some r.2
+
+-- the constraint at a place
+pub at_place : {X : Type 0} (active : X → Active) (xs : List X) (place : ℕ) (x : X) → place < length xs → x ≡ get_or xs place x → slice_get (map active xs) place ≡ Some (active x)
+at_place active xs place x lt e = slice_get-map active xs place ∙ ap (option_map active) (slice_get-get_or xs place x lt ∙ ap Some (sym e))
+
+some_active : (a b : Active) → Some a ≡ Some b → a ≡ b
+some_active a b e = cc
+
+pub placed_same : {X : Type 0} (active : X → Active) (xs : List X) (place : ℕ) (x : X) (a : Active) → x ≡ get_or xs place x → slice_get (map active xs) place ≡ Some a → active x ≡ a
+placed_same active xs place x a at e =
+    let within : place < length xs = subst (λ n. place < n) (length-map xs active) (slice_get_within (map active xs) place a e) in
+    some_active (active x) a (sym (at_place active xs place x within at) ∙ e)
+
+pub placed_within : {X : Type 0} (active : X → Active) (xs : List X) (place : ℕ) (a : Active) → slice_get (map active xs) place ≡ Some a → place < length xs
+placed_within active xs place a e = subst (λ n. place < n) (length-map xs active) (slice_get_within (map active xs) place a e)
+
+-- ---- one constraint more
+
+pub inserted_names : {X : Type 0} (active : X → Active) (xs : List X) (y : X) (place : ℕ) → Rises (cids_of (map active xs)) → IsPartedAt (λ x. cid_before (active x).cid (active y).cid) xs place
+    → (IsActive (map active xs) (active y).cid → ⊥) → map active (insert xs place y) ≡ with_posted (active y) (map active xs)
+inserted_names active xs y place rises at inactive =
+    let cid = (active y).cid in
+    let low = filter (λ x. cid_before (active x).cid cid) xs in
+    let high = filter (λ x. cid_before cid (active x).cid) xs in
+    ap (map active) (inserted (λ x. (active x).cid) cid_before rising xs (sorted active xs rises) cid place at
+    (λ x m e. inactive (record { owner = active x; posted = member_map active xs x m; named = e })) y)
+    ∙ map-append active low (y ∷ high)
+    ∙ ap (λ ls. ls ++ active y ∷ map active high) (map_filter active (λ (b : Active). cid_before b.cid cid) xs)
+    ∙ ap (λ ls. filter (λ (b : Active). cid_before b.cid cid) (map active xs) ++ active y ∷ ls) (map_filter active (λ (b : Active). cid_before cid b.cid) xs)
+
+-- ---- one constraint less
+
+pub map_remove : {X Y : Type 0} (f : X → Y) (xs : List X) (k : ℕ) → map f (remove xs k) ≡ remove (map f xs) k
+map_remove f [] zero = refl
+map_remove f [] (suc k) = refl
+map_remove f (x ∷ xs) zero = refl
+map_remove f (x ∷ xs) (suc k) = ap (λ ys. f x ∷ ys) (map_remove f xs k)
+
+removed_from : (active : List Active) (place : ℕ) (a : Active) → Rises (cids_of active) → slice_get active place ≡ Some a → remove active place ≡ without_names (a.cid ∷ []) active
+removed_from active place a rises e =
+    filter_removes (λ (b : Active). not (is_named (a.cid ∷ []) b.cid)) active place (slice_get_within active place a e)
+    (λ d. ap (λ (b : Active). not (is_named (a.cid ∷ []) b.cid)) (get_or_from_slice_get active place a d e) ∙ ap not (member_named (a.cid ∷ []) a.cid (member_here a.cid [])))
+    (λ k d lt ne. member_not_named (a.cid ∷ []) (get_or active k d).cid (λ m.
+    apart (λ (b : Active). b.cid) cid_before rising active (sorted_actives active rises) k place d lt (slice_get_within active place a e) ne
+    (sym (member_single a.cid (get_or active k d).cid m) ∙ ap (λ (b : Active). b.cid) (sym (get_or_from_slice_get active place a d e)))))
+
+pub removed_names : {X : Type 0} (active : X → Active) (xs : List X) (place : ℕ) (a : Active) → Rises (cids_of (map active xs)) → slice_get (map active xs) place ≡ Some a
+    → map active (remove xs place) ≡ without_names (a.cid ∷ []) (map active xs)
+removed_names active xs place a rises e = map_remove active xs place ∙ removed_from (map active xs) place a rises e
+
+pub removed_rises : {X : Type 0} (active : X → Active) (xs ys : List X) (place : ℕ) (a : Active) → Rises (cids_of (map active xs)) → slice_get (map active xs) place ≡ Some a → ys ≡ remove xs place → Rises (cids_of (map active ys))
+removed_rises active xs ys place a rises e left =
+    subst (λ l. Rises (cids_of l)) (sym (ap (map active) left ∙ removed_names active xs place a rises e)) (without_names_rises (a.cid ∷ []) (map active xs) rises)
+
+-- ---- decisions, then negations, then users
+
+decision_first : {F : Type 0} (meaning : F → Con) (p q : Posted F) → cid_before (active_of meaning p).cid (active_of meaning q).cid ≡ true → is_decision q ≡ true → is_decision p ≡ true
+decision_first meaning (Decision x) q h t = refl
+decision_first meaning (Negation x because) (Decision y) h t = absurd (false≢true h)
+decision_first meaning (Negation x because) (Negation y more) h t = absurd (false≢true t)
+decision_first meaning (Negation x because) (UserPosted n f) h t = absurd (false≢true t)
+decision_first meaning (UserPosted m e) (Decision y) h t = absurd (false≢true h)
+decision_first meaning (UserPosted m e) (Negation y more) h t = absurd (false≢true t)
+decision_first meaning (UserPosted m e) (UserPosted n f) h t = absurd (false≢true t)
+
+pub parted_decisions : {F : Type 0} (meaning : F → Con) (xs : List (Posted F)) → Rises (cids_of (actives_of meaning xs)) → IsPartitionedBy is_decision xs
+parted_decisions meaning xs rises i j d le lt h = elim (cases_lt i j) [
+  | inl l ↦ decision_first meaning (get_or xs i d) (get_or xs j d) (sorted_at (active_of meaning) xs rises i j d l lt) h
+  | inr ge ↦ let e : j ≡ i = omega arith in subst (λ k. is_decision (get_or xs k d) ≡ true) e h
+]
+
+not_decision : {F : Type 0} (meaning : F → Con) (p : Posted F) (q : Pair) → (active_of meaning p).cid ≡ Not q → is_decision p ≡ false
+not_decision meaning (Decision x) q e = cc
+not_decision meaning (Negation x because) q e = refl
+not_decision meaning (UserPosted n f) q e = refl
+
+-- an active negation, at its place
+record StandsAt {F : Type 0} (meaning : F → Con) (xs : List (Posted F)) (q : Pair) : Type 0 where
+  place : ℕ
+  within : place < length xs
+  named : (d : Posted F) → (active_of meaning (get_or xs place d)).cid ≡ Not q
+
+stands : {F : Type 0} (meaning : F → Con) (xs : List (Posted F)) (q : Pair) → IsActive (actives_of meaning xs) (Not q) → StandsAt meaning xs q
+stands meaning xs q is =
+    let r = member_unmap (active_of meaning) xs is.owner is.posted in
+    record {
+      place = r.1.0;
+      within = r.1.1;
+      named = λ d. ap (λ p. (active_of meaning p).cid) (get_or_from_slice_get xs r.1.0 r.0 d (slice_get-get_or xs r.1.0 r.0 r.1.1 ∙ ap Some r.1.2)) ∙ ap (λ (a : Active). a.cid) r.2 ∙ is.named;
+    }
+
+pair_in : {F : Type 0} (x y : Posted F) (p : Pair) (because : List Cid) (q : Pair) (more : List Cid) → x ≡ Negation p because → y ≡ Negation q more → x ≡ y → p ≡ q
+pair_in x y p because q more e f g = cc
+
+-- it stands behind the decisions
+behind : {F : Type 0} (meaning : F → Con) (xs : List (Posted F)) (place : ℕ) → IsPartedAt is_decision xs place → (q : Pair) (at : StandsAt meaning xs q) → Posted F → place ≤ at.place
+behind meaning xs place front q at d = elim (cases_lt at.place place) [
+  | inr ge ↦ ge
+  | inl l ↦ absurd (false≢true (sym (not_decision meaning (get_or xs at.place d) q (at.named d)) ∙ front.before at.place d (omega arith) l))
+]
+
+-- what the first constraint behind the decisions says of an active negation
+first_is : {F : Type 0} (meaning : F → Con) (xs : List (Posted F)) (place : ℕ) → Rises (cids_of (actives_of meaning xs)) → IsPartedAt is_decision xs place
+    → (q : Pair) → StandsAt meaning xs q → (x : Posted F) → slice_get xs place ≡ Some x → (p : Pair) × (because : List Cid) × (x ≡ Negation p because) × (pair_before q p ≡ true → ⊥)
+first_is meaning xs place rises front q at x e = elim (cases_lt place at.place) [
+  | inl l ↦ later x (subst (λ y. cid_before (active_of meaning y).cid (Not q) ≡ true) (get_or_from_slice_get xs place x x e) (subst (λ c. cid_before (active_of meaning (get_or xs place x)).cid c ≡ true) (at.named x) (sorted_at (active_of meaning) xs rises place at.place x l at.within)))
+      (subst (λ y. is_decision y ≡ false) (get_or_from_slice_get xs place x x e) (front.after place x (omega arith) (slice_get_within xs place x e)))
+  | inr ge ↦
+      let same : at.place ≡ place = omega (arith, behind meaning xs place front q at x) in
+      here x (subst (λ y. (active_of meaning y).cid ≡ Not q) (ap (λ k. get_or xs k x) same ∙ get_or_from_slice_get xs place x x e) (at.named x))
+]
+  where
+    later : (y : Posted _) → cid_before (active_of meaning y).cid (Not q) ≡ true → is_decision y ≡ false → (p : Pair) × (because : List Cid) × (y ≡ Negation p because) × (pair_before q p ≡ true → ⊥)
+    later (Decision p) h f = absurd (false≢true (sym f))
+    later (Negation p because) h f = (p, because, refl, λ k. not_before_itself (Not q) (before_then (Not q) (Not p) (Not q) k h))
+    later (UserPosted n g) h f = absurd (false≢true h)
+
+    here : (y : Posted _) → (active_of meaning y).cid ≡ Not q → (p : Pair) × (because : List Cid) × (y ≡ Negation p because) × (pair_before q p ≡ true → ⊥)
+    here (Decision p) f = cc
+    here (Negation p because) f = (p, because, refl, λ k. not_before_itself (Not q) (subst (λ c. cid_before (Not q) c ≡ true) f k))
+    here (UserPosted n g) f = cc
+
+-- where no negation stands behind the decisions, none is active
+pub no_negation : {F : Type 0} (meaning : F → Con) (xs : List (Posted F)) (place : ℕ) → Rises (cids_of (actives_of meaning xs)) → IsPartedAt is_decision xs place
+    → ((p : Pair) (because : List Cid) → slice_get xs place ≡ Some (Negation p because) → ⊥) → (q : Pair) → IsActive (actives_of meaning xs) (Not q) → ⊥
+no_negation meaning xs place rises front none q is =
+    let at = stands meaning xs q is in
+    let x = (member_unmap (active_of meaning) xs is.owner is.posted).0 in
+    let within : place < length xs = omega (arith, behind meaning xs place front q at x, at.within) in
+    let e = slice_get-get_or xs place x within in
+    let r = first_is meaning xs place rises front q at (get_or xs place x) e in
+    none r.0 r.1 (e ∙ ap Some r.2)
+
+-- the negation that stands there is the least
+pub least_negation : {F : Type 0} (meaning : F → Con) (xs : List (Posted F)) (place : ℕ) (p : Pair) (because : List Cid) → Rises (cids_of (actives_of meaning xs)) → IsPartedAt is_decision xs place
+    → slice_get xs place ≡ Some (Negation p because) → IsActive (actives_of meaning xs) (Not p) × ((q : Pair) → IsActive (actives_of meaning xs) (Not q) → pair_before q p ≡ true → ⊥)
+least_negation meaning xs place p because rises front e = (
+  record {
+    owner = active_of meaning (Negation p because);
+    posted = member_map (active_of meaning) xs (Negation p because) (place, slice_get_within xs place (Negation p because) e, get_or_from_slice_get xs place (Negation p because) (Negation p because) e);
+    named = refl;
+  },
+  λ q is k.
+      let r = first_is meaning xs place rises front q (stands meaning xs q is) (Negation p because) e in
+      r.3 (subst (λ z. pair_before q z ≡ true) (pair_in (Negation p because) (Negation r.0 r.1) p because r.0 r.1 refl refl r.2) k),
+)
+
+-- what the first constraint behind the decisions says
+pub negation_first : {F : Type 0} (meaning : F → Con) (xs : List (Posted F)) (place : ℕ) (x : Posted F) → Rises (cids_of (actives_of meaning xs)) → IsPartedAt is_decision xs place → slice_get xs place ≡ Some x
+    → MatchOption (negated x) ((p : Pair) → IsActive (actives_of meaning xs) (Not p) → ⊥)
+    (λ p. IsActive (actives_of meaning xs) (Not p) × ((q : Pair) → IsActive (actives_of meaning xs) (Not q) → pair_before q p ≡ true → ⊥))
+negation_first meaning xs place (Decision y) rises front e = no_negation meaning xs place rises front (λ p because f. cc)
+negation_first meaning xs place (Negation y because) rises front e = least_negation meaning xs place y because rises front e
+negation_first meaning xs place (UserPosted n f) rises front e = no_negation meaning xs place rises front (λ p because g. cc)
+
+pub negation_past : {F : Type 0} (meaning : F → Con) (xs : List (Posted F)) (place : ℕ) → Rises (cids_of (actives_of meaning xs)) → IsPartedAt is_decision xs place → length xs ≤ place
+    → (p : Pair) → IsActive (actives_of meaning xs) (Not p) → ⊥
+negation_past meaning xs place rises front le = no_negation meaning xs place rises front (λ p because e. absurd (omega (arith, slice_get_within xs place (Negation p because) e)))
+
+-- ---- the walk over the negations
+
+-- decisions rest on nothing, and so do users' constraints
+because_none : {F : Type 0} (meaning : F → Con) (x : Posted F) → is_negation x ≡ false → (active_of meaning x).because ≡ []
+because_none meaning (Decision p) e = refl
+because_none meaning (Negation p because) e = absurd (false≢true (sym e))
+because_none meaning (UserPosted n f) e = refl
+
+decision_not_negation : {F : Type 0} (x : Posted F) → is_decision x ≡ true → is_negation x ≡ false
+decision_not_negation (Decision p) e = refl
+decision_not_negation (Negation p because) e = absurd (false≢true e)
+decision_not_negation (UserPosted n f) e = absurd (false≢true e)
+
+-- behind one that is neither a decision nor a negation there are users alone
+user_then : {F : Type 0} (meaning : F → Con) (x y : Posted F) → is_negation x ≡ false → ((v : ℕ) → (active_of meaning x).cid ≡ Decide v → ⊥) → cid_before (active_of meaning x).cid (active_of meaning y).cid ≡ true → is_negation y ≡ false
+user_then meaning (Decision p) y e n h = absurd (n p.var refl)
+user_then meaning (Negation p because) y e n h = absurd (false≢true (sym e))
+user_then meaning (UserPosted m f) (Decision q) e n h = refl
+user_then meaning (UserPosted m f) (Negation q because) e n h = absurd (false≢true h)
+user_then meaning (UserPosted m f) (UserPosted k g) e n h = refl
+
+map_take : {X Y : Type 0} (f : X → Y) (n : ℕ) (xs : List X) → take n (map f xs) ≡ map f (take n xs)
+map_take f zero [] = refl
+map_take f zero (x ∷ xs) = refl
+map_take f (suc n) [] = refl
+map_take f (suc n) (x ∷ xs) = ap (λ ys. f x ∷ ys) (map_take f n xs)
+
+map_drop : {X Y : Type 0} (f : X → Y) (n : ℕ) (xs : List X) → drop n (map f xs) ≡ map f (drop n xs)
+map_drop f zero [] = refl
+map_drop f zero (x ∷ xs) = refl
+map_drop f (suc n) [] = refl
+map_drop f (suc n) (x ∷ xs) = map_drop f n xs
+
+-- where a member of the first ones, or of those behind them, stands
+taken_at : {X : Type 0} (place : ℕ) (xs : List X) (x : X) → Contains (take place xs) x → (k : ℕ) × (k < place) × (k < length xs) × (get_or xs k x ≡ x)
+taken_at place xs x m =
+    let both = length-take place xs in
+    let lt : m.0 < place = omega (arith, both, m.1) in
+    (m.0, lt, omega (arith, both, m.1), sym (get_or-take place xs m.0 x lt) ∙ m.2)
+
+dropped_at : {X : Type 0} (place : ℕ) (xs : List X) (x : X) → Contains (drop place xs) x → (k : ℕ) × (place ≤ k) × (k < length xs) × (get_or xs k x ≡ x)
+dropped_at place xs x m = (place + m.0, omega arith, omega (arith, length-drop place xs, m.1), sym (get_or-drop place xs m.0 x) ∙ m.2)
+
+-- the decisions rest on nothing
+pub front_stands : {F : Type 0} (meaning : F → Con) (xs : List (Posted F)) (place : ℕ) → IsPartedAt is_decision xs place → (a : Active) → Contains (take place (actives_of meaning xs)) a → a.because ≡ []
+front_stands meaning xs place front a m =
+    let r = member_unmap (active_of meaning) (take place xs) a (subst (λ l. Contains l a) (map_take (active_of meaning) place xs) m) in
+    let at = taken_at place xs r.0 r.1 in
+    let decides = subst (λ x. is_decision x ≡ true) at.3 (front.before at.0 r.0 (omega arith) at.1) in
+    ap (λ (b : Active). b.because) (sym r.2) ∙ because_none meaning r.0 (decision_not_negation r.0 decides)
+
+decides_is : {F : Type 0} (meaning : F → Con) (x : Posted F) (v : ℕ) → (active_of meaning x).cid ≡ Decide v → is_decision x ≡ true
+decides_is meaning (Decision p) v e = refl
+decides_is meaning (Negation p because) v e = cc
+decides_is meaning (UserPosted n f) v e = cc
+
+pub behind_decisions : {F : Type 0} (meaning : F → Con) (xs : List (Posted F)) (place : ℕ) → IsPartedAt is_decision xs place → (a : Active) (v : ℕ) → Contains (drop place (actives_of meaning xs)) a → a.cid ≡ Decide v → ⊥
+behind_decisions meaning xs place front a v m e =
+    let r = member_unmap (active_of meaning) (drop place xs) a (subst (λ l. Contains l a) (map_drop (active_of meaning) place xs) m) in
+    let at = dropped_at place xs r.0 r.1 in
+    let other = subst (λ x. is_decision x ≡ false) at.3 (front.after at.0 r.0 at.1 at.2) in
+    false≢true (sym other ∙ decides_is meaning r.0 v (ap (λ (b : Active). b.cid) r.2 ∙ e))
+
+-- where neither a decision nor a negation stands, those from there on rest on nothing
+pub rest_stands : {F : Type 0} (meaning : F → Con) (xs : List (Posted F)) (place : ℕ) → Rises (cids_of (actives_of meaning xs)) → IfSome (slice_get xs place) (λ p. is_negation p ≡ false)
+    → ((a : Active) (v : ℕ) → Contains (drop place (actives_of meaning xs)) a → a.cid ≡ Decide v → ⊥) → (a : Active) → Contains (drop place (actives_of meaning xs)) a → a.because ≡ []
+rest_stands {F = F} meaning xs place rises other behind a m =
+    let r = member_unmap (active_of meaning) (drop place xs) a (subst (λ l. Contains l a) (map_drop (active_of meaning) place xs) m) in
+    let at = dropped_at place xs r.0 r.1 in
+    let lt : place < length xs = omega (arith, at.1, at.2) in
+    let x = get_or xs place r.0 in
+    let first : is_negation x ≡ false = subst (λ (o : Option (Posted F)). IfSome o (λ p. is_negation p ≡ false)) (slice_get-get_or xs place r.0 lt) other in
+    let here : Contains (drop place xs) x = (0, omega (arith, length-drop place xs), get_or-drop place xs 0 x ∙ ap (λ k. get_or xs k x) (add-zero place) ∙ get_or_default xs place x r.0 lt) in
+    let free : (v : ℕ) → (active_of meaning x).cid ≡ Decide v → ⊥ = λ v e.
+    behind (active_of meaning x) v (subst (λ l. Contains l (active_of meaning x)) (sym (map_drop (active_of meaning) place xs)) (member_map (active_of meaning) (drop place xs) x here)) e in
+    let stands : is_negation r.0 ≡ false = elim (cases_lt place at.0) [
+      | inl l ↦ user_then meaning x r.0 first free (subst (λ y. cid_before (active_of meaning x).cid (active_of meaning y).cid ≡ true) at.3 (sorted_at (active_of meaning) xs rises place at.0 r.0 l at.2))
+      | inr ge ↦ let e : place ≡ at.0 = omega (arith, at.1) in subst (λ y. is_negation y ≡ false) (ap (λ k. get_or xs k r.0) e ∙ at.3) first
+    ] in
+    ap (λ (b : Active). b.because) (sym r.2) ∙ because_none meaning r.0 stands
+
+-- ---- whether a constraint is active
+
+pub active_tells : {X : Type 0} (active : X → Active) (xs : List X) (place : ℕ) (x : X) (cid : Cid) (r : Bool) → slice_get xs place ≡ Some x
+    → ((a : Active) → Contains (map active xs) a → a.cid ≡ cid → slice_get (map active xs) place ≡ Some a) → r ≡ same_cid (active x).cid cid → Tells r (IsActive (map active xs) cid)
+active_tells active xs place x cid r e owner told =
+    let here : slice_get (map active xs) place ≡ Some (active x) = slice_get-map active xs place ∙ ap (option_map active) e in
+    tells_both (IsActive (map active xs) cid) r
+    (λ t. record {
+      owner = active x;
+      posted = member_map active xs x (place, slice_get_within xs place x e, get_or_from_slice_get xs place x x e);
+      named = cid_same (active x).cid cid (sym told ∙ t);
+    })
+    (λ f is.
+    let same = some_active (active x) is.owner (sym here ∙ owner is.owner is.posted is.named) in
+    false≢true (sym f ∙ told ∙ ap (λ d. same_cid d cid) (ap (λ (a : Active). a.cid) same ∙ is.named) ∙ same_cid_itself cid))
+
+pub none_active : {X : Type 0} (active : X → Active) (xs : List X) (place : ℕ) (cid : Cid) → length xs ≤ place
+    → ((a : Active) → Contains (map active xs) a → a.cid ≡ cid → slice_get (map active xs) place ≡ Some a) → IsActive (map active xs) cid → ⊥
+none_active active xs place cid le owner is = absurd (omega (arith, le, placed_within active xs place is.owner (owner is.owner is.posted is.named)))

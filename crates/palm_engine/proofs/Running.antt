@@ -1,0 +1,269 @@
+-- A settling as it runs: what its revisions so far have done.
+use Rattle.std.proofs.Common.{◌≡◌, ℕ, ◌+◌, ◌-◌, ◌<◌, ◌≤◌, min, Bool, true, false, Option, Some, None, IfSome, List, [], ◌∷◌, ◌++◌, length, All, Contains, refl, sym, ap, ◌∙◌, subst, arith, length-append}
+use Rattle.std.proofs.lemmas.List.Elements.{All-nil, All-cons, All-append}
+use Rattle.palm_base.specs.declared.terms.Cid.{Cid}
+use Rattle.palm_base.specs.declared.limits.TheConstants.{LAST_COUNT}
+use Rattle.palm_base.proofs.Members.{member_get, member_same}
+use Rattle.palm_domain.specs.Rows.{initial_of, present_of}
+use Rattle.palm_model.specs.Log.{Active, Rises, cids_of, log_pairs}
+use Rattle.palm_model.specs.State.{EngineState, HasEmpty, AllFilled, IsValid, present, woken, without_cid}
+use Rattle.palm_events.proofs.Reasons.{reasons_right}
+use Rattle.palm_events.proofs.Runs.{run_valid}
+use Rattle.palm_events.proofs.States.{without_cid_rises, without_cid_member}
+use Rattle.palm_explain.specs.Explanations.{Explanations, LacksExactly}
+use Rattle.palm_agenda.specs.Agenda.{IsConnected, IsFormed, HasMarks, Waiting, index_within, names_of}
+use Rattle.palm_engine.specs.declared.filtering.Filtering.{Filtering}
+use Rattle.palm_engine.specs.declared.settle.Settle.{Settle}
+use Rattle.palm_engine.specs.declared.settle.Settle.TheVariants.{Settled, Empty, Stopped}
+use Rattle.palm_engine.specs.Engine.{View, EndsAs, HasAsked, HasSettled, IsInterrupted}
+use Rattle.palm_engine.specs.Settling.{Revision, Revises, Revisions, FitsOrder, IsEnded, IsInLimit, HasReached}
+use Rattle.palm_engine.specs.Settling.IsEnded.{ended_empty, ended_quiet, ended_limit}
+use Rattle.palm_engine.specs.Kept.{IsKept, IsEmptyKept, IsEngine, AreConnected, AreMarked, state_of, state_in_revision}
+use Rattle.palm_engine.specs.Revising.{HasCounted, IsTaken, HasRevised, HasPartlyRevised, TakesNext, TakesNone, TellsEnd}
+use Rattle.palm_engine.specs.Revising.TakesNone.{none_filled, none_allowed, none_pending}
+use Rattle.palm_engine.specs.Work.{effort, named_sizes, most_asked}
+use Rattle.palm_engine.proofs.Ending.{revision_falls}
+use Rattle.palm_engine.proofs.Joined.{walk_valid}
+use Rattle.palm_engine.proofs.Places.{kept_empty}
+use Rattle.palm_engine.proofs.Progress.{counted_none, counted_then}
+use Rattle.palm_engine.proofs.Settles.{pending_is_active, pending_waits}
+use Rattle.palm_engine.proofs.Spending.{revisions_more, asked_more, settling_asked, interrupted_asked}
+use Rattle.palm_engine.proofs.Waking.{taken_woken}
+use Rattle.palm_engine.proofs.Walking.{not_empty, revision_filters, revisions_filter}
+use Rattle.palm_engine.proofs.Working.{same_named}
+
+-- the revisions so far, and how often they asked
+pub record HasRun (limit : Option ℕ) (ordered : Bool) (active : List Active) (before now : Filtering) (count old new : ℕ) : Type 0 where
+  pub engine : IsEngine now active
+  pub revisions : List Revision
+  pub ran : Revisions (state_of before active) revisions (state_of now active)
+  pub fits : FitsOrder ordered revisions
+  pub within : IsInLimit limit (length revisions)
+  pub counted : count ≡ min (length revisions) LAST_COUNT
+  pub asked : HasCounted (most_asked (state_of before active) revisions) before now old new
+
+none_within : (limit : Option ℕ) → IsInLimit limit 0
+none_within None = tt
+none_within (Some most) = omega arith
+
+none_fit : (ordered : Bool) → FitsOrder ordered []
+none_fit false = All-nil (λ (r : Revision). r.answer ≡ 0)
+none_fit true = tt
+
+pub run_start : (limit : Option ℕ) (ordered : Bool) (active : List Active) (f : Filtering) (s : ℕ) → IsEngine f active → HasRun limit ordered active f f 0 s s
+run_start limit ordered active f s engine = record {
+  engine = engine;
+  revisions = [];
+  ran = refl;
+  fits = none_fit ordered;
+  within = none_within limit;
+  counted = omega arith;
+  asked = counted_none f s;
+}
+
+-- ---- the constraint that is taken
+
+chosen_pending : (limit : Option ℕ) (ordered : Bool) (ran : ℕ) (f g : Filtering) (cid : Cid) → TakesNext limit ordered ran f g cid → Contains f.agenda.pending cid
+chosen_pending limit ordered ran f g cid takes = member_get f.agenda.pending (index_within takes.answer (length f.agenda.pending)) cid takes.takes.chosen
+
+taken_formed : (before after : Waiting) (cid : Cid) → after.connected ≡ before.connected → after.pending ≡ without_cid cid before.pending → IsFormed before → IsFormed after
+taken_formed before after cid connected pending formed = record {
+  rising = subst (λ cs. Rises (names_of cs)) (sym connected) formed.rising;
+  pending_rising = subst Rises (sym pending) (without_cid_rises cid before.pending formed.pending_rising);
+  pending_connected = λ c m.
+      let was = without_cid_member cid before.pending c (subst (λ cs. Contains cs c) pending m) in
+      subst (λ cs. IsConnected cs c) (sym connected) (formed.pending_connected c was.0);
+  marks = subst (λ cs. All HasMarks cs) (sym connected) formed.marks;
+}
+
+taken_kept : (limit : Option ℕ) (ordered : Bool) (ran : ℕ) (active : List Active) (f g : Filtering) (cid : Cid) → TakesNext limit ordered ran f g cid → IsKept f active → IsKept g active
+taken_kept limit ordered ran active f g cid takes kept = record {
+  removed = subst (λ s. LacksExactly s (log_pairs g.log.log)) (sym takes.store) (subst (λ (l : Explanations). LacksExactly f.store (log_pairs l.log)) (sym takes.log) kept.removed);
+  formed = taken_formed f.agenda g.agenda cid takes.connected takes.takes.pending kept.formed;
+  connected = subst (λ cs. AreConnected active cs) (sym takes.connected) kept.connected;
+  marked = subst (λ s. AreMarked (present_of s) active g.agenda.connected) (sym takes.store) (subst (λ cs. AreMarked (present_of f.store) active cs) (sym takes.connected) kept.marked);
+  empty = subst (λ s. IsEmptyKept (present_of s) g.empty) (sym takes.store) (subst (λ o. IsEmptyKept (present_of f.store) o) (sym takes.empty) kept.empty);
+}
+
+taken_state : (limit : Option ℕ) (ordered : Bool) (ran : ℕ) (active : List Active) (f g : Filtering) (cid : Cid) → TakesNext limit ordered ran f g cid → IsEngine f active → state_in_revision g active cid ≡ state_of f active
+taken_state limit ordered ran active f g cid takes engine =
+    let store = takes.store in
+    let log = takes.log in
+    let has = chosen_pending limit ordered ran f g cid takes in
+    let pending = ap (λ cs. woken active (cid ∷ cs) []) takes.takes.pending ∙ taken_woken active f.agenda.pending cid has (pending_waits f active engine.valid.rising engine.kept) in
+    λ i. record { initial = initial_of (store i); active = active; log = (log i).log; pending = pending i }
+
+pub taken_is : (limit : Option ℕ) (ordered : Bool) (ran : ℕ) (active : List Active) (f g : Filtering) (cid : Cid) → TakesNext limit ordered ran f g cid → IsEngine f active → IsTaken g active cid
+taken_is limit ordered ran active f g cid takes engine =
+    let has = chosen_pending limit ordered ran f g cid takes in
+    let is = pending_is_active f active engine.kept cid has in
+    let e = taken_state limit ordered ran active f g cid takes engine in
+    let e' : state_in_revision g active is.owner.cid ≡ state_of f active = ap (λ (c : Cid). state_in_revision g active c) is.named ∙ e in
+    record {
+      owner = is.owner;
+      named = is.named;
+      revising = record { kept = taken_kept limit ordered ran active f g cid takes engine.kept; valid = subst IsValid (sym e') engine.valid; posted = is.posted };
+      absent = λ m. (without_cid_member cid f.agenda.pending cid (subst (λ cs. Contains cs cid) takes.takes.pending m)).1 refl;
+    }
+
+-- ---- one revision more
+
+filled_state : (f : Filtering) (active : List Active) → IsKept f active → f.empty ≡ None → AllFilled (present (state_of f active))
+filled_state f active kept none = subst AllFilled kept.removed.present (subst (λ o. IsEmptyKept (present_of f.store) o) none kept.empty)
+
+revises_next : (limit : Option ℕ) (ordered : Bool) (ran : ℕ) (active : List Active) (f g h : Filtering) (cid : Cid) (removed : ℕ) (takes : TakesNext limit ordered ran f g cid) → IsEngine f active
+    → HasRevised active cid (state_in_revision g active cid) (state_of h active) removed → Revises (state_of f active) (record { answer = takes.answer; cid = cid; removed = removed }) (state_of h active)
+revises_next limit ordered ran active f g h cid removed takes engine revised =
+    let one = subst (λ s. HasRevised active cid s (state_of h active) removed) (taken_state limit ordered ran active f g cid takes engine) revised in
+    record {
+      filled = filled_state f active engine.kept takes.filled;
+      chosen = takes.takes.chosen;
+      owner = one.owner;
+      posted = one.posted;
+      named = one.named;
+      state = one.state;
+      walk = one.walk;
+      after = one.after;
+    }
+
+within_more : (limit : Option ℕ) (count n : ℕ) → count ≡ min n LAST_COUNT → IsInLimit limit n → (HasReached limit count → ⊥) → IfSome limit (λ most. most ≤ LAST_COUNT) → IsInLimit limit (n + 1)
+within_more None count n is within below bounded = tt
+within_more (Some most) count n is within below bounded = last most count n LAST_COUNT is within below bounded
+  where
+    last : (most count n top : ℕ) → count ≡ min n top → n ≤ most → (count ≡ most → ⊥) → most ≤ top → n + 1 ≤ most
+    last most count n top is within below bounded = omega arith
+
+fits_more : (ordered : Bool) (rs : List Revision) (r : Revision) → FitsOrder ordered rs → (ordered ≡ false → r.answer ≡ 0) → FitsOrder ordered (rs ++ r ∷ [])
+fits_more false rs r fits zero_answer = All-append (λ (q : Revision). q.answer ≡ 0) rs (r ∷ []) fits (All-cons (λ (q : Revision). q.answer ≡ 0) r [] (zero_answer refl) (All-nil (λ (q : Revision). q.answer ≡ 0)))
+fits_more true rs r fits zero_answer = tt
+
+count_more : (count n top : ℕ) → count ≡ min n top → min (count + 1) top ≡ min (n + 1) top
+count_more count n top is = omega arith
+
+counted_from : (n : ℕ) (f g h : Filtering) (s t : ℕ) → g.checks ≡ f.checks → HasCounted n g h s t → HasCounted n f h s t
+counted_from n f g h s t same c = record {
+  later = c.later;
+  few = c.few;
+  checks = λ le. c.checks (subst (λ k. k ≤ LAST_COUNT) (sym same) le) ∙ ap (λ k. min (k + (t - s)) LAST_COUNT) same;
+}
+
+-- the revision's questions, as the settling counts them
+spent_more : (limit : Option ℕ) (ordered : Bool) (active : List Active) (before f g h : Filtering) (count old mid new : ℕ) (cid : Cid) → (run : HasRun limit ordered active before f count old mid) → TakesNext limit ordered count f g cid
+    → HasCounted (named_sizes (state_in_revision g active cid) (cid ∷ [])) g h mid new → HasCounted (most_asked (state_of before active) run.revisions + named_sizes (state_of before active) (cid ∷ [])) before h old new
+spent_more limit ordered active before f g h count old mid new cid run takes counted =
+    let s = state_of before active in
+    let m = state_of f active in
+    let e = taken_state limit ordered count active f g cid takes run.engine in
+    let same = revisions_filter s run.revisions m run.ran in
+    let size : named_sizes (state_in_revision g active cid) (cid ∷ []) ≡ named_sizes s (cid ∷ []) = ap (λ (z : EngineState). named_sizes z (cid ∷ [])) e ∙ same_named s m (cid ∷ []) same.active same.initial in
+    counted_then (most_asked s run.revisions) (named_sizes s (cid ∷ [])) before f h old mid new run.asked (counted_from (named_sizes s (cid ∷ [])) f g h mid new takes.checks (subst (λ n. HasCounted n g h mid new) size counted))
+
+pub run_more : (limit : Option ℕ) (ordered : Bool) (active : List Active) (before f g h : Filtering) (count old mid new : ℕ) (cid : Cid) (removed : ℕ) → HasRun limit ordered active before f count old mid → TakesNext limit ordered count f g cid
+    → HasRevised active cid (state_in_revision g active cid) (state_of h active) removed → IsKept h active → HasCounted (named_sizes (state_in_revision g active cid) (cid ∷ [])) g h mid new
+    → HasRun limit ordered active before h (min (count + 1) LAST_COUNT) old new
+run_more limit ordered active before f g h count old mid new cid removed run takes revised kept counted =
+    let s = state_of before active in
+    let m = state_of f active in
+    let t = state_of h active in
+    let rs = run.revisions in
+    let r : Revision = record { answer = takes.answer; cid = cid; removed = removed } in
+    let one : Revises m r t = revises_next limit ordered count active f g h cid removed takes run.engine revised in
+    let filters = revision_filters m r t one in
+    let more : length (rs ++ r ∷ []) ≡ length rs + 1 = length-append rs (r ∷ []) in
+    record {
+      engine = record { kept = kept; valid = run_valid reasons_right m filters.steps t filters.run run.engine.valid };
+      revisions = rs ++ r ∷ [];
+      ran = revisions_more s rs m r t run.ran one;
+      fits = fits_more ordered rs r run.fits takes.fits;
+      within = subst (λ n. IsInLimit limit n) (sym more) (within_more limit count (length rs) run.counted run.within takes.below takes.bounded);
+      counted = count_more count (length rs) LAST_COUNT run.counted ∙ ap (λ n. min n LAST_COUNT) (sym more);
+      asked = subst (λ n. HasCounted n before h old new) (sym (asked_more s rs r)) (spent_more limit ordered active before f g h count old mid new cid run takes counted);
+    }
+
+-- ---- the end
+
+reached_length : (limit : Option ℕ) (count n : ℕ) → count ≡ min n LAST_COUNT → IsInLimit limit n → HasReached limit count → HasReached limit n
+reached_length None count n is within reached = reached
+reached_length (Some most) count n is within reached = last most count n LAST_COUNT is within reached
+  where
+    last : (most count n top : ℕ) → count ≡ min n top → n ≤ most → count ≡ most → n ≡ most
+    last most count n top is within reached = omega arith
+
+ended_here : (limit : Option ℕ) (ordered : Bool) (active : List Active) (before now : Filtering) (count old new : ℕ) (run : HasRun limit ordered active before now count old new) → TakesNone limit count now → IsEnded limit (length run.revisions) (state_of now active)
+ended_here limit ordered active before now count old new run (none_filled some) = ended_empty (subst HasEmpty run.engine.kept.removed.present (kept_empty (present_of now.store) now.empty some run.engine.kept.empty))
+ended_here limit ordered active before now count old new run (none_allowed reached) = ended_limit (reached_length limit count (length run.revisions) run.counted run.within reached)
+ended_here limit ordered active before now count old new run (none_pending quiet) = ended_quiet quiet
+
+ends_as : (answer : Settle) (limit : Option ℕ) (n : ℕ) (s : EngineState) → IsEnded limit n s → TellsEnd answer s → EndsAs answer limit n s
+ends_as Settled limit n s ended tells = tells
+ends_as (Empty x) limit n s ended tells = tells
+ends_as Stopped limit n s (ended_empty empty) tells = absurd (not_empty (present s) tells.0 empty)
+ends_as Stopped limit n s (ended_quiet quiet) tells = absurd (tells.1 quiet)
+ends_as Stopped limit n s (ended_limit reached) tells = (reached, tells.0, tells.1)
+
+pub run_settled : (limit : Option ℕ) (ordered : Bool) (active : List Active) (before now : Filtering) (count old new : ℕ) (answer : Settle) (view : View) → view.state ≡ state_of before active → (run : HasRun limit ordered active before now count old new)
+    → TakesNone limit count now → TellsEnd answer (state_of now active) → HasSettled limit ordered answer view (record { state = state_of now active; revisions = count; checks = now.checks })
+run_settled limit ordered active before now count old new answer view is run none tells =
+    let ended = ended_here limit ordered active before now count old new run none in
+    record {
+      revisions = run.revisions;
+      settles = record { revisions = subst (λ s. Revisions s run.revisions (state_of now active)) (sym is) run.ran; within = run.within; ended = ended };
+      fits = run.fits;
+      ends = ends_as answer limit (length run.revisions) (state_of now active) ended tells;
+      counted = run.counted;
+    }
+
+pub run_asked : (limit : Option ℕ) (ordered : Bool) (active : List Active) (before now : Filtering) (count old new : ℕ) → Rises (cids_of active) → HasRun limit ordered active before now count old new → HasAsked (state_of before active) (state_of now active) old new
+run_asked limit ordered active before now count old new rises run = settling_asked (state_of before active) run.revisions (state_of now active) old new rises run.ran run.asked.later run.asked.few
+
+pub stopped_engine : (limit : Option ℕ) (ordered : Bool) (active : List Active) (f g h : Filtering) (ran : ℕ) (cid : Cid) → TakesNext limit ordered ran f g cid → IsEngine f active
+    → HasPartlyRevised active cid (state_in_revision g active cid) (state_of h active) → IsKept h active → IsEngine h active
+stopped_engine limit ordered active f g h ran cid takes engine part kept =
+    let one = subst (λ s. HasPartlyRevised active cid s (state_of h active)) (taken_state limit ordered ran active f g cid takes engine) part in
+    record { kept = kept; valid = walk_valid one.owner one.walked (state_of f active) one.removed (state_of h active) one.walk engine.valid }
+
+pub run_stopped : (limit : Option ℕ) (ordered : Bool) (active : List Active) (before f g h : Filtering) (count old mid : ℕ) (cid : Cid) (view : View) → view.state ≡ state_of before active → HasRun limit ordered active before f count old mid → TakesNext limit ordered count f g cid
+    → HasPartlyRevised active cid (state_in_revision g active cid) (state_of h active)
+    → IsInterrupted limit ordered view (record { state = state_of h active; revisions = min (count + 1) LAST_COUNT; checks = h.checks })
+run_stopped limit ordered active before f g h count old mid cid view is run takes part =
+    let m = state_of f active in
+    let one = subst (λ s. HasPartlyRevised active cid s (state_of h active)) (taken_state limit ordered count active f g cid takes run.engine) part in
+    let has = chosen_pending limit ordered count f g cid takes in
+    record {
+      revisions = run.revisions;
+      middle = m;
+      ended = subst (λ s. Revisions s run.revisions m) (sym is) run.ran;
+      fits = run.fits;
+      within = within_more limit count (length run.revisions) run.counted run.within takes.below takes.bounded;
+      owner = one.owner;
+      posted = one.posted;
+      chosen = member_same f.agenda.pending cid one.owner.cid (sym one.named) has;
+      walked = one.walked;
+      left = one.left;
+      order = one.order;
+      removed = one.removed;
+      walk = one.walk;
+      pending = member_same h.agenda.pending cid one.owner.cid (sym one.named) one.pending;
+      counted = count_more count (length run.revisions) LAST_COUNT run.counted;
+    }
+
+pub stopped_asked : (limit : Option ℕ) (ordered : Bool) (active : List Active) (before f g h : Filtering) (count old mid new : ℕ) (cid : Cid) → Rises (cids_of active) → HasRun limit ordered active before f count old mid → TakesNext limit ordered count f g cid
+    → HasPartlyRevised active cid (state_in_revision g active cid) (state_of h active) → HasCounted (named_sizes (state_in_revision g active cid) (cid ∷ [])) g h mid new → HasAsked (state_of before active) (state_of h active) old new
+stopped_asked limit ordered active before f g h count old mid new cid rises run takes part counted =
+    let s = state_of before active in
+    let m = state_of f active in
+    let one = subst (λ z. HasPartlyRevised active cid z (state_of h active)) (taken_state limit ordered count active f g cid takes run.engine) part in
+    let has = chosen_pending limit ordered count f g cid takes in
+    let all = spent_more limit ordered active before f g h count old mid new cid run takes counted in
+    interrupted_asked s run.revisions m one.owner one.walked one.removed (state_of h active) old new rises run.ran (member_same f.agenda.pending cid one.owner.cid (sym one.named) has)
+    (filled_state f active run.engine.kept takes.filled) one.walk all.later
+    (subst (λ (c : Cid). new ≤ old + (most_asked s run.revisions + named_sizes s (c ∷ []))) (sym one.named) all.few)
+
+pub stopped_checks : (limit : Option ℕ) (ordered : Bool) (active : List Active) (before f g h : Filtering) (count old mid new : ℕ) (cid : Cid) → HasRun limit ordered active before f count old mid → TakesNext limit ordered count f g cid
+    → HasCounted (named_sizes (state_in_revision g active cid) (cid ∷ [])) g h mid new → before.checks ≤ LAST_COUNT → h.checks ≡ min (before.checks + (new - old)) LAST_COUNT
+stopped_checks limit ordered active before f g h count old mid new cid run takes counted le = (spent_more limit ordered active before f g h count old mid new cid run takes counted).checks le
+
+pub run_falls : (limit : Option ℕ) (ordered : Bool) (ran : ℕ) (active : List Active) (f g h : Filtering) (cid : Cid) (removed : ℕ) → TakesNext limit ordered ran f g cid → IsEngine f active
+    → HasRevised active cid (state_in_revision g active cid) (state_of h active) removed → effort (state_of h active) < effort (state_of f active)
+run_falls limit ordered ran active f g h cid removed takes engine revised =
+    (revision_falls (state_of f active) (record { answer = takes.answer; cid = cid; removed = removed }) (state_of h active) (revises_next limit ordered ran active f g h cid removed takes engine revised)).effort

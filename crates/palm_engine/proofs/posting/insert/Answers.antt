@@ -1,0 +1,31 @@
+use Rattle.std.proofs.Common.{◌≡◌, ◌⊎◌, ◌↔◌, if◌then◌else◌, insert, sym, ap, ◌∙◌, subst, Contains}
+use Rattle.palm_base.specs.declared.terms.Cid.{Cid}
+use Rattle.palm_model.specs.Log.{IsActive, cid_before}
+use Rattle.palm_agenda.specs.Names.{IsPartedAt}
+use Rattle.palm_engine.specs.Posted.{active_of, actives_of}
+use Rattle.palm_engine.proofs.Placing.{inserted_names}
+use Rattle.palm_engine.proofs.Scopes.{connected_is_active}
+use Rattle.palm_engine.proofs.posting.insert.Goals as goal
+
+pub connect-requires : goal.connect-requires
+connect-requires g c is =
+    let active = actives_of g.F.Filter.meaning c.args.posted.now.items in
+    c.requires.inactive (subst (IsActive active) c.cid-cid.ensures (connected_is_active active c.args.agenda.now.connected c.requires.connected c.cid-cid.result is))
+
+pub returns-clause-active : goal.returns-clause-active
+returns-clause-active g c =
+    let meaning = g.F.Filter.meaning in
+    let before = c.args.posted.now.items in
+    let place = c.place_of-place.result in
+    let new = c.args.constraint in
+    let at : IsPartedAt (λ p. cid_before (active_of meaning p).cid c.cid-cid.result) c.deref.result.now place = c.place_of-place.ensures.parted in
+    let here = subst (λ d. IsPartedAt (λ p. cid_before (active_of meaning p).cid d) before place) c.cid-cid.ensures (subst (λ xs. IsPartedAt (λ p. cid_before (active_of meaning p).cid c.cid-cid.result) xs place) c.deref.ensures.value at) in
+    ap (actives_of meaning)
+    (c.insert-inserted.ensures.items
+    ∙ ap (λ b. if b then insert c.reserve.new.self.items place new else c.reserve.new.self.items) (sym c.is_ok.ensures.value ∙ c.if-prove.false)
+    ∙ ap (λ xs. insert xs place new) c.in_ok-reserve.ensures.items)
+    ∙ inserted_names (active_of meaning) before new place c.requires.rising here c.requires.inactive
+
+pub returns-clause-pending : goal.returns-clause-pending
+returns-clause-pending g c =
+    subst (λ d. (e : Cid) → Contains c.connect.new.self.pending e ↔ (Contains c.args.agenda.now.pending e ⊎ (e ≡ d))) c.cid-cid.ensures c.in_ok-connect.ensures.pending

@@ -1,0 +1,51 @@
+use Rattle.std.proofs.Common.{◌≡◌, ◌+◌, ◌<◌, ap, arith, length, slice_get, suc, sym, subst, ◌∙◌}
+use Rattle.std.specs.Prelude.{IfSome, false}
+use Rattle.palm_agenda.specs.Names.{IsPartedAt}
+use Rattle.palm_engine.specs.Posted.{active_of, actives_of, is_decision, is_negation}
+use Rattle.palm_engine.proofs.Placing.{at_place, behind_decisions, front_stands, map_remove, removed_rises, rest_stands}
+use Rattle.palm_engine.proofs.Withdrawing.{IsWalked, walk_starts, walk_ends, walked_out, walked_past}
+use Rattle.palm_engine.proofs.posting.take_out_resting.Goals as goal
+
+pub loop-posted-init : goal.loop-posted-init
+loop-posted-init g c =
+    let meaning = g.F.Filter.meaning in
+    let xs = c.args.posted.now.items in
+    let place = c.decisions_of-place.result in
+    let front = subst (λ ys. IsPartedAt is_decision ys place) c.deref.ensures.value c.decisions_of-place.ensures in
+    walk_starts c.args.filtering.now (actives_of meaning xs) c.args.cid.now place c.requires.rising c.requires.kept (front_stands meaning xs place front) (behind_decisions meaning xs place front)
+
+pub loop-posted-preserved-then-rests_on : goal.loop-posted-preserved-then-rests_on
+loop-posted-preserved-then-rests_on g c =
+    let meaning = g.F.Filter.meaning in
+    let xs = c.loop-posted.posted.items in
+    let ys = c.take_out.new.posted.items in
+    let place = c.loop-posted.place in
+    let x = c.index.result.now in
+    let within = subst (λ zs. place < length zs) c.deref-in-loop-posted.ensures.value (c.stands_negation.ensures.within c.loop-posted-test.true) in
+    let e = at_place (active_of meaning) xs place x within c.index.ensures in
+    walked_out c.args.filtering.now c.loop-posted.filtering c.take_out.new.filtering (actives_of meaning c.args.posted.now.items) (actives_of meaning xs) (actives_of meaning ys) c.args.cid.now place (active_of meaning x)
+    c.requires.rising e (sym c.rests_on.ensures ∙ c.if-rests_on.true) (ap (actives_of meaning) c.take_out.ensures.posted ∙ map_remove (active_of meaning) xs place)
+    (removed_rises (active_of meaning) xs ys place (active_of meaning x) c.loop-posted.invariant.rising e c.take_out.ensures.posted)
+    c.take_out.ensures.kept (c.take_out.ensures.withdraws (active_of meaning x) e) c.take_out.ensures.checks c.loop-posted.invariant
+
+pub loop-posted-preserved : goal.loop-posted-preserved
+loop-posted-preserved g c =
+    let meaning = g.F.Filter.meaning in
+    let xs = c.loop-posted.posted.items in
+    let place = c.loop-posted.place in
+    let x = c.index.result.now in
+    let within = subst (λ zs. place < length zs) c.deref-in-loop-posted.ensures.value (c.stands_negation.ensures.within c.loop-posted-test.true) in
+    let next : suc place ≡ place + 1 = omega arith in
+    subst (λ n. IsWalked c.args.filtering.now (actives_of meaning c.args.posted.now.items) c.args.cid.now c.loop-posted.filtering (actives_of meaning xs) n) next
+    (walked_past c.args.filtering.now c.loop-posted.filtering (actives_of meaning c.args.posted.now.items) (actives_of meaning xs) c.args.cid.now place (active_of meaning x)
+    (at_place (active_of meaning) xs place x within c.index.ensures) (sym c.rests_on.ensures ∙ c.if-rests_on.false) c.loop-posted.invariant)
+
+pub returns-clause-withdraws : goal.returns-clause-withdraws
+returns-clause-withdraws g c =
+    let meaning = g.F.Filter.meaning in
+    let xs = c.loop-posted.posted.items in
+    let place = c.loop-posted.place in
+    walk_ends c.args.filtering.now c.loop-posted.filtering (actives_of meaning c.args.posted.now.items) (actives_of meaning xs) c.args.cid.now place c.loop-posted.invariant
+    (rest_stands meaning xs place c.loop-posted.invariant.rising
+    (subst (λ zs. IfSome (slice_get zs place) (λ p. is_negation p ≡ false)) c.deref-in-loop-posted.ensures.value (c.stands_negation.ensures.other c.loop-posted-test.false))
+    c.loop-posted.invariant.behind)
