@@ -21,16 +21,22 @@ take_some {X} xs i x at =
     ap (λ (y : X). take i xs ++ y ∷ []) (sym (get_or_from_slice_get xs i x x at)) ∙ sym (take_more xs i x (slice_get_within xs i x at))
 
 -- the removal at a place is over the book's variables, by one of its constraints
-pub logged_at : (book : Contents) (log : List Removal) → AreLogged book log → (place : ℕ) (pair : Pair) (by : Cid) → slice_get (log_pairs log) place ≡ Some pair → slice_get (log_bys log) place ≡ Some by
-    → (pair.var < length book.variables) × IsUser book by × All (λ p. p.var < length book.variables) (reasons_of log place)
-logged_at book [] logged place pair by at there = none-some pair at
-logged_at book (r ∷ log) logged zero pair by at there =
-    let first = All-head (IsLogged book) r log logged in (
-      subst (λ (p : Pair). p.var < length book.variables) (same_Some r.pair pair at) first.variable,
-      subst (λ (c : Cid). IsUser book c) (same_Some r.by by there) first.user,
-      first.reasons,
-    )
-logged_at book (r ∷ log) logged (suc place) pair by at there = logged_at book log (All-tail (IsLogged book) r log logged) place pair by at there
+module _ (book : Contents) where
+  pub variable_at : (log : List Removal) → AreLogged book log → (place : ℕ) (pair : Pair) → slice_get (log_pairs log) place ≡ Some pair → pair.var < length book.variables
+  variable_at [] logged place pair at = absurd (none-some pair at)
+  variable_at (r ∷ log) logged zero pair at =
+      subst (λ (p : Pair). p.var < length book.variables) (same_Some r.pair pair at) (All-head (IsLogged book) r log logged).variable
+  variable_at (r ∷ log) logged (suc place) pair at = variable_at log (All-tail (IsLogged book) r log logged) place pair at
+
+  pub user_at_place : (log : List Removal) → AreLogged book log → (place : ℕ) (by : Cid) → slice_get (log_bys log) place ≡ Some by → IsUser book by
+  user_at_place [] logged place by at = absurd (none-some by at)
+  user_at_place (r ∷ log) logged zero by at = subst (λ (c : Cid). IsUser book c) (same_Some r.by by at) (All-head (IsLogged book) r log logged).user
+  user_at_place (r ∷ log) logged (suc place) by at = user_at_place log (All-tail (IsLogged book) r log logged) place by at
+
+  pub reasons_at_place : (log : List Removal) → AreLogged book log → (place : ℕ) → place < length log → All (λ p. p.var < length book.variables) (reasons_of log place)
+  reasons_at_place [] logged place lt = absurd (omega (arith, lt))
+  reasons_at_place (r ∷ log) logged zero lt = (All-head (IsLogged book) r log logged).reasons
+  reasons_at_place (r ∷ log) logged (suc place) lt = reasons_at_place log (All-tail (IsLogged book) r log logged) place (omega (arith, lt))
 
 pub numbered_user : (book : Contents) (by : Cid) (n : ℕ) → by ≡ User n → IsUser book by → HasNumber book n
 numbered_user book by n e user = subst (λ (c : Cid). IsUser book c) e user
@@ -45,7 +51,7 @@ line_same variables constraints p q by n rs qs a b d =
 pub line_at : (book : Contents) (log : List Removal) (place : ℕ) (pair : Pair) (by : Cid) (n : ℕ) (reasons : List Pair)
     → slice_get (log_pairs log) place ≡ Some pair → slice_get (log_bys log) place ≡ Some by → by ≡ User n → reasons ≡ reasons_of log place
     → removal_line book.variables (number_name book.constraints n) pair reasons ≡ log_line_at book log place
-line_at book [] place pair by n reasons at there e rs = none-some pair at
+line_at book [] place pair by n reasons at there e rs = absurd (none-some pair at)
 line_at book (r ∷ log) zero pair by n reasons at there e rs =
     line_same book.variables book.constraints pair r.pair r.by n reasons r.reasons (same_Some r.pair pair at) (same_Some r.by by there ∙ e) (sym rs) ∙ sym (append-nil (log_line book r))
 line_at book (r ∷ log) (suc place) pair by n reasons at there e rs = line_at book log place pair by n reasons at there e rs

@@ -5,7 +5,10 @@ use Rattle.std.proofs.lemmas.Bool.{cases_lt}
 use Rattle.std.proofs.lemmas.Option.{same_Some, get_or_from_slice_get, slice_get_within}
 use Rattle.palm_base.proofs.Members.{member_get, member_place, nat_known}
 use Rattle.palm_base.specs.declared.terms.Cid.TheVariants.{User}
-use Rattle.palm_model.specs.Log.{Active, IsActive}
+use Rattle.palm_model.specs.Domains.{AllAscend}
+use Rattle.palm_model.specs.Log.{Active, IsActive, log_pairs}
+use Rattle.palm_model.specs.State.{present}
+use Rattle.palm_model.proofs.Without.{ascend_without}
 use Rattle.palm_book.specs.Book.{user_at, active_of}
 use Rattle.palm_book.specs.declared.book.BookCon.{BookCon}
 use Rattle.palm_book.proofs.Any.{any_member, member_any}
@@ -86,3 +89,7 @@ pub some_entry : (cs : List BookCon) (place : ℕ) → place < length cs → (c 
 some_entry [] place lt = absurd (omega (arith, lt))
 some_entry (c ∷ cs) zero lt = (c, refl)
 some_entry (c ∷ cs) (suc place) lt = some_entry cs place (omega (arith, lt))
+
+-- the present values of each variable ascend
+pub present_ascends : (s : SessionState) → IsHeld s → AllAscend (present s.engine)
+present_ascends s is = ascend_without s.engine.initial (log_pairs s.engine.log) is.valid.ascend

@@ -6,7 +6,7 @@ use Rattle.palm_session.proofs.deliver.collect_reasons.Goals as goal
 
 pub loop-index-preserved : goal.loop-index-preserved
 loop-index-preserved c =
-    c.in_ok-push.ensures.ok ∙ ap (λ (ps : List Pair). ps ++ c.reason_at.result ∷ []) c.loop-index.invariant
+    c.in_ok-push.ensures.items ∙ ap (λ (ps : List Pair). ps ++ c.reason_at.result ∷ []) c.loop-index.invariant
     ∙ take_some (reasons_of c.args.log.now.log c.args.place) c.loop-index.index c.reason_at.result c.reason_at.ensures
 
 pub returns : goal.returns

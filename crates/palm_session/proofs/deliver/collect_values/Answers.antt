@@ -14,11 +14,11 @@ loop-value-preserved c =
     let declared = c.initial_values-value-items.result.now in
     elim c.if-contains.branch [
       | then-contains+in_ok-push w ↦
-          w.values-is ∙ w.in_ok-push.ensures.ok ∙ ap (λ (vs : List ℤ). vs ++ c.value-item.result ∷ []) c.loop-value.invariant
-          ∙ filter_taken (is_listed present) declared c.loop-value.value-index c.value-item.result c.loop-value-test.true c.value-item.is (member_listed present c.value-item.result (w.if-contains.ensures))
+          rw w.values-is (w.in_ok-push.ensures.items ∙ ap (λ (vs : List ℤ). vs ++ c.value-item.result ∷ []) c.loop-value.invariant
+          ∙ filter_taken (is_listed present) declared c.loop-value.value-index c.value-item.result c.loop-value-test.true c.value-item.is (member_listed present c.value-item.result (w.if-contains.ensures)))
       | else-contains w ↦
-          w.values-is ∙ c.loop-value.invariant
-          ∙ filter_left (is_listed present) declared c.loop-value.value-index c.value-item.result c.loop-value-test.true c.value-item.is (not_listed present c.value-item.result (w.if-contains.ensures))
+          rw w.values-is (c.loop-value.invariant
+          ∙ filter_left (is_listed present) declared c.loop-value.value-index c.value-item.result c.loop-value-test.true c.value-item.is (not_listed present c.value-item.result (w.if-contains.ensures)))
     ]
 
 pub returns : goal.returns
