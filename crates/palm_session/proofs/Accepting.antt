@@ -1,5 +1,5 @@
 -- Accepted lines: what they do, and what is told of domains.
-use Rattle.std.proofs.Common.{◌≡◌, ℕ, Bool, List, true, false, None, Some, inl, inr, sym, if◌then◌else◌, subst}
+use Rattle.std.proofs.Common.{◌≡◌, ℕ, Bool, List, true, false, None, Some, Result, Ok, Err, OnOk, IfOk, inl, inr, sym, if◌then◌else◌, subst}
 use Rattle.std.proofs.lemmas.Bool.{cases_Bool}
 
 use Rattle.palm_read.specs.declared.line.Line.{Line}
@@ -10,7 +10,7 @@ use Rattle.palm_lang.specs.declared.reply.Fixed.TheVariants.{Done, Contradiction
 use Rattle.palm_session.specs.Answers.{Accepts, Says, WaitsFor, waits, contradicts, says, IsContradictable, IsPausable}
 use Rattle.palm_session.specs.Effects.{Effect, Nothing, Does, Changes, Next, Rests, Filters, Follows, next, unless_paused}
 use Rattle.palm_session.specs.Refusals.{IsNone, Meets, in_order}
-use Rattle.palm_session.specs.Serving.{AsksFor, asks_after, AsksWithin, Followed, TellsDomains, TellsUnlessPaused, TellsOpenly, tells_word, tells_own, Withholds}
+use Rattle.palm_session.specs.Serving.{Serves, accepts, AsksFor, asks_after, AsksWithin, Followed, TellsDomains, TellsUnlessPaused, TellsOpenly, tells_word, tells_own, Withholds}
 use Rattle.palm_session.specs.State.{SessionState, IsHeld, IsState, IsContradiction}
 use Rattle.palm_session.proofs.LawsOfChanges.{rests_paused}
 use Rattle.palm_session.proofs.LawsOfStates.{follows_keeps}
@@ -50,8 +50,8 @@ pub accepts_openly : (s : SessionState) (line : Line) (own : List ℕ → Type 0
     → IsPausable line → IsContradictable line → Does s line Nothing s → (Withholds s None → (x : List ℕ) → own x → Says s line Nothing x) → TellsOpenly s own text → Accepts s line text s
 accepts_openly s line own text pausable tells does is (tells_word word held e) =
     subst (λ (x : List ℕ). Accepts s line x s) (sym e) (accepts_word s line word pausable tells does held)
-accepts_openly s line own text pausable tells does is (tells_own open said) =
-    says Nothing (awake_goes s line open.0) does (λ c. open.1 c.contradiction) (is open text said)
+accepts_openly s line own text pausable tells does is (tells_own known said) =
+    says Nothing (awake_goes s line known.0) does (λ c. known.1 c.contradiction) (is known text said)
 
 -- ---- lines that filtering follows
 
@@ -80,3 +80,20 @@ unlimited m l e = elim (cases_Bool m.paused) [
 pub followed_state : (m t : SessionState) (asked : ℕ) → IsHeld m → Followed m (unless_paused m) t asked → IsState t
 followed_state m t asked is f =
     follows_keeps m (unless_paused m) f.effect t is (λ rests awake. absurd (rests_paused m rests awake)) (λ l e. unlimited m l e) f.follows
+
+-- ---- the answers of calls that may lack memory
+
+pub ok_from : {T E : Type 0} {A B : Type 0} (r : Result T E) → OnOk r A → (A → B) → OnOk r B
+ok_from (Ok x) a f = f a
+ok_from (Err e) a f = tt
+
+-- serving a line that filtering follows
+module _ {T E : Type 0} (s m t : SessionState) (line : Line) (asked : ℕ) (text : T → List ℕ) (none : IsNone (Meets s line) in_order) (changes : Changes s line m)
+    (follows : next m line ≡ unless_paused m) where
+  pub asked_after : (r : Result T E) → OnOk r (Followed m (unless_paused m) t asked) → OnOk r (AsksFor s line t asked)
+  asked_after r f = ok_from r f (λ g. asks_filtered s m t line asked changes follows g none)
+
+  pub served_after : (r : Result T E) → (IsPausable line → ⊥) → IsContradictable line → ((effect : Effect) → Says t line effect (fixed_text Done))
+      → OnOk r (Followed m (unless_paused m) t asked) → IfOk r (λ reply. TellsDomains t (λ x. x ≡ fixed_text Done) (text reply)) → IfOk r (λ reply. Serves s line (text reply) t)
+  served_after (Ok reply) runs tells done f told = accepts none (accepts_filtered s m t line asked changes follows f (text reply) runs tells done told)
+  served_after (Err e) runs tells done f told = tt

@@ -6,7 +6,11 @@ use Rattle.palm_read.specs.declared.line.Line.TheVariants.{Quit as QuitLine}
 use Rattle.palm_read.specs.declared.parse.LineError.{LineError}
 use Rattle.palm_session.specs.Answers.{Answers, misread, refused, accepted}
 use Rattle.palm_session.specs.Feeding.{Decides}
-use Rattle.palm_session.specs.ReplyText.{reply_text, IsRefusal, Serves, refuses, accepts}
+use Rattle.palm_session.specs.ReplyText.{reply_text, IsRefusal}
+use Rattle.palm_session.specs.Asking.{Asks, asks_none, asks_settling}
+use Rattle.palm_session.specs.Effects.{Changes, Next, Rests, Filters, next}
+use Rattle.palm_session.specs.Refusals.{IsNone, Meets, in_order}
+use Rattle.palm_session.specs.Serving.{AsksFor, asks_nothing, asks_after, AsksWithin, Serves, refuses, accepts}
 use Rattle.palm_session.specs.State.{SessionState}
 use Rattle.palm_session.specs.declared.going.Going.{Going}
 use Rattle.palm_session.specs.declared.going.Going.TheVariants.{More, Quit}
@@ -27,3 +31,14 @@ decides_refusal bytes error q r is = subst (λ (g : Going). Decides g bytes) (sy
 pub serves_answers : (s t : SessionState) (bytes : List ℕ) (line : Line) (reply : List ℕ) → IsRead bytes line → Serves s line reply t → Answers s bytes reply t
 serves_answers s t bytes line reply r (refuses refusal first) = refused line refusal r first
 serves_answers s t bytes line reply r (accepts none took) = accepted line r none took
+
+settling_asks : (s m t : SessionState) (bytes : List ℕ) (line : Line) (asked : ℕ) (n : Next) → IsRead bytes line → IsNone (Meets s line) in_order → Changes s line m → next m line ≡ n
+    → AsksWithin m.engine n t.engine asked → Asks s bytes t asked
+settling_asks s m t bytes line asked Rests r none changes e asks = asks_none asks
+settling_asks s m t bytes line asked (Filters limit) r none changes e asks =
+    asks_settling (record { line = line; changed = m; limit = limit; gained = asks.0; read = r; accepted = none; changes = changes; filters = e; log = asks.1 }) asks.2
+
+-- and it asked as often as the line's serving did
+pub serves_asks : (s t : SessionState) (bytes : List ℕ) (line : Line) (asked : ℕ) → IsRead bytes line → AsksFor s line t asked → Asks s bytes t asked
+serves_asks s t bytes line asked r (asks_nothing none) = asks_none none
+serves_asks s t bytes line asked r (asks_after m none changes asks) = settling_asks s m t bytes line asked (next m line) r none changes refl asks

@@ -119,3 +119,10 @@ list_parts book =
 pub pairs_end : (variables : List Entry) (d : Domains) (i : ℕ) → length d ≡ length variables → length variables ≤ i
     → flat_map (λ (p : Entry × List ℤ). domain_line p.0.name p.1) (take i (zip variables d)) ≡ flat_map (λ (p : Entry × List ℤ). domain_line p.0.name p.1) (zip variables d)
 pairs_end variables d i e le = ap (λ (ps : List (Entry × List ℤ)). flat_map (λ (p : Entry × List ℤ). domain_line p.0.name p.1) ps) (take_all i (zip variables d) (omega (arith, length-zip variables d, e)))
+
+-- the texts of all members and `end`, around one of them
+pub flat_split_end : {X : Type 0} (f : X → List ℕ) (xs : List X) (i : ℕ) (d : X) → i < length xs
+    → flat_map f xs ++ fixed_text End ≡ (flat_map f (take i xs) ++ f (get_or xs i d)) ++ (flat_map f (drop (i + 1) xs) ++ fixed_text End)
+flat_split_end f xs i d lt =
+    ap (λ (t : List ℕ). t ++ fixed_text End) (flat_split f xs i d lt)
+    ∙ append_assoc (flat_map f (take i xs) ++ f (get_or xs i d)) (flat_map f (drop (i + 1) xs)) (fixed_text End)

@@ -143,33 +143,33 @@ keeps_on_last [] last all = tt
 keeps_on_last (l ∷ []) last all = (All-first l [] all, tt)
 keeps_on_last (l ∷ m ∷ ms) last all = (All-first l (m ∷ ms) all, keeps_on_last (m ∷ ms) last (All-others l (m ∷ ms) all))
 
-pub so_far_none : (s : SessionState) (text : List ℕ) (w : Option (List ℕ)) → SoFar s text w w text s 0
-so_far_none s text w = record {
+pub so_far_none : (s : SessionState) (text : List ℕ) (w : Option (List ℕ)) (n : ℕ) → n ≡ 0 → SoFar s text w w text s n
+so_far_none s text w n e = record {
   lines = [];
   replies = [];
-  answered = record { whole = refl; unbroken = All-nil HasNoFeed; run = (refl, refl, refl) };
+  answered = record { whole = refl; unbroken = All-nil HasNoFeed; run = (refl, refl, e) };
   goes_on = All-nil GoesOn;
   written = appended_nothing w;
 }
 
-pub so_far_more : (s m t : SessionState) (text : List ℕ) (from end : ℕ) (was mid now : Option (List ℕ)) (a b : ℕ)
+pub so_far_more : (s m t : SessionState) (text : List ℕ) (from end : ℕ) (was mid now : Option (List ℕ)) (a b n : ℕ) → a + b ≡ n
     → SoFar s text was mid (drop from text) m a → IsNextFeed text from end
     → AnswersLine m (without_return (slice_range text from end)) mid now More t b
-    → SoFar s text was now (drop (end + 1) text) t (a + b)
-so_far_more s m t text from end was mid now a b so f one = record {
+    → SoFar s text was now (drop (end + 1) text) t n
+so_far_more s m t text from end was mid now a b n e so f one = subst (λ (k : ℕ). SoFar s text was now (drop (end + 1) text) t k) e (record {
   lines = so.lines ++ slice_range text from end ∷ [];
   replies = so.replies ++ one.reply;
   answered = served_more s m t text so.lines so.replies one.reply from end a b so.answered f one.answers one.asks;
   goes_on = subst (λ (ls : List (List ℕ)). All GoesOn ls) (sym (map_more so.lines (slice_range text from end)))
       (All-push GoesOn (map without_return so.lines) (without_return (slice_range text from end)) so.goes_on one.decides);
   written = appended_both was mid now so.replies one.reply so.written one.written;
-}
+})
 
-pub feeds_end : (s m t : SessionState) (text : List ℕ) (from end : ℕ) (was mid now : Option (List ℕ)) (a b : ℕ)
+pub feeds_end : (s m t : SessionState) (text : List ℕ) (from end : ℕ) (was mid now : Option (List ℕ)) (a b n : ℕ) → a + b ≡ n
     → SoFar s text was mid (drop from text) m a → IsNextFeed text from end
     → AnswersLine m (without_return (slice_range text from end)) mid now Quit t b
-    → FeedsEnd s text was now t (a + b)
-feeds_end s m t text from end was mid now a b so f one = record {
+    → FeedsEnd s text was now t n
+feeds_end s m t text from end was mid now a b n e so f one = subst (λ (k : ℕ). FeedsEnd s text was now t k) e (record {
   lines = so.lines;
   last = slice_range text from end;
   rest = drop (end + 1) text;
@@ -178,7 +178,7 @@ feeds_end s m t text from end was mid now a b so f one = record {
   goes_on = so.goes_on;
   ends = one.decides;
   written = appended_both was mid now so.replies one.reply so.written one.written;
-}
+})
 
 front_all : (was now : Option (List ℕ)) (x : List ℕ) → Appended was now x → AppendedFront was now x
 front_all was now x w = record { front = x; back = []; whole = sym (append-nil x); written = w }
@@ -259,12 +259,12 @@ feeds_more_part s m text more mid was then now a one two = record {
 }
 
 pub feeds_none : (s : SessionState) (w : Option (List ℕ)) → FeedsOn s [] w w [] s 0
-feeds_none s w = feeds_on s s [] [] w w 0 (so_far_none s [] w) (All-nil (λ b. b ≡ 10 → ⊥))
+feeds_none s w = feeds_on s s [] [] w w 0 (so_far_none s [] w 0 refl) (All-nil (λ b. b ≡ 10 → ⊥))
 
 -- there is no last line
-pub finishes_none : (s : SessionState) (line : List ℕ) (w : Option (List ℕ)) → length line ≡ 0 → FinishesAll s line w w s 0
-finishes_none s [] w e = record { replies = []; run = (refl, refl, refl); last = inl (All-nil GoesOn); written = appended_nothing w }
-finishes_none s (b ∷ bs) w e = absurd (omega (arith, e))
+pub finishes_none : (s : SessionState) (line : List ℕ) (w : Option (List ℕ)) (n : ℕ) → n ≡ 0 → length line ≡ 0 → FinishesAll s line w w s n
+finishes_none s [] w n none e = record { replies = []; run = (refl, refl, none); last = inl (All-nil GoesOn); written = appended_nothing w }
+finishes_none s (b ∷ bs) w n none e = absurd (omega (arith, e))
 
 finishes_line : (s t : SessionState) (b : ℕ) (bs : List ℕ) (was now : Option (List ℕ)) (going : Going) (asked : ℕ)
     → AnswersLine s (without_return (b ∷ bs)) was now going t asked → FinishesAll s (b ∷ bs) was now t asked

@@ -409,26 +409,30 @@ module _ (s : SessionState) (kept piece : List ℕ) (end : ℕ) (none : HasNoFee
         written = a.written;
       })
 
-  pub first_more : (m : SessionState) (was mid now : Option (List ℕ)) (after : View) (n k : ℕ) (result : Result Going Stop)
+  first_then : (m : SessionState) (was mid now : Option (List ℕ)) (after : View) (n k : ℕ) (result : Result Going Stop)
       → AnswersLine s (without_return (take MOST_KEPT_BYTES first)) was mid More m n → FeedsText m others mid now after k result → FeedsText s (kept ++ piece) was now after (n + k) result
-  first_more m was mid now after n k (Ok More) one f = record {
+  first_then m was mid now after n k (Ok More) one f = record {
     rest = f.rest;
     feeds = subst (λ (z : List ℕ). FeedsOn s z was now f.rest after.state (n + k)) (sym completes)
         (feeds_more s m after.state (ended first) others [] f.rest was mid now n k (first_on m was mid n one) f.feeds);
     kept = f.kept;
   }
-  first_more m was mid now after n k (Ok Quit) one f =
+  first_then m was mid now after n k (Ok Quit) one f =
       subst (λ (z : List ℕ). FeedsEnd s z was now after.state (n + k)) (sym completes)
       (feeds_more_end s m after.state (ended first) others [] was mid now n k (first_on m was mid n one) f)
-  first_more m was mid now after n k (Err stop) one f =
+  first_then m was mid now after n k (Err stop) one f =
       subst (λ (z : List ℕ). FeedsPart s z was now) (sym completes)
       (feeds_more_part s m (ended first) others [] was mid now n (first_on m was mid n one) f)
 
+  pub first_more : (m : SessionState) (was mid now : Option (List ℕ)) (after : View) (n k i : ℕ) (result : Result Going Stop) → n + k ≡ i
+      → AnswersLine s (without_return (take MOST_KEPT_BYTES first)) was mid More m n → FeedsText m others mid now after k result → FeedsText s (kept ++ piece) was now after i result
+  first_more m was mid now after n k i result e one f = subst (λ (j : ℕ). FeedsText s (kept ++ piece) was now after j result) e (first_then m was mid now after n k result one f)
+
 -- a piece that completes no line
-pub keeps_piece : (s : SessionState) (kept piece more : List ℕ) (w : Option (List ℕ)) → HasNoFeed kept → HasNoFeed piece → more ≡ take MOST_KEPT_BYTES (kept ++ piece)
-    → KeepsRest s (kept ++ piece) w w more s 0
-keeps_piece s kept piece more w none unbroken e = record {
+pub keeps_piece : (s : SessionState) (kept piece more : List ℕ) (w : Option (List ℕ)) (n : ℕ) → n ≡ 0 → HasNoFeed kept → HasNoFeed piece → more ≡ take MOST_KEPT_BYTES (kept ++ piece)
+    → KeepsRest s (kept ++ piece) w w more s n
+keeps_piece s kept piece more w n nothing none unbroken e = record {
   rest = kept ++ piece;
-  feeds = feeds_on s s (kept ++ piece) (kept ++ piece) w w 0 (so_far_none s (kept ++ piece) w) (no_feed_both kept piece none unbroken);
+  feeds = feeds_on s s (kept ++ piece) (kept ++ piece) w w n (so_far_none s (kept ++ piece) w n nothing) (no_feed_both kept piece none unbroken);
   kept = e;
 }

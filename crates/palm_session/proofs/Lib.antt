@@ -2,8 +2,12 @@ pub mod Accepting
 pub mod ActiveLists
 pub mod Asked
 pub mod Deciding
+pub mod Declaring
 pub mod Delivering
+pub mod Emptied
+pub mod Explained
 pub mod FeedLemmas
+pub mod Following
 pub mod Intervals
 pub mod Keeping
 pub mod LawsOfAnswers
@@ -12,10 +16,14 @@ pub mod LawsOfDomains
 pub mod LawsOfLines
 pub mod LawsOfStates
 pub mod LawsOfTexts
+pub mod Logging
 pub mod OneEmpty
+pub mod Presents
 pub mod ReadOnce
 pub mod Retracting
 pub mod Serving
+pub mod Spending
+pub mod Standing
 pub mod Telling
 pub mod Users
 pub mod WellFormed

@@ -1,14 +1,15 @@
 -- What is served, by the tests that it passed.
-use Rattle.std.proofs.Common.{◌≡◌, ◌≢◌, ◌<◌, ℕ, ℤ, Bool, true, false, List, length, get_or, All, Any, Contains, ◌⊎◌, None, Some, refl, sym, ap, ◌∙◌, subst, inl, inr, []}
-use Rattle.std.proofs.lemmas.Bool.{cases_Bool}
+use Rattle.std.proofs.Common.{◌≡◌, ◌≢◌, ◌<◌, ℕ, ℤ, Bool, true, false, List, length, get_or, All, Any, Contains, ◌⊎◌, None, Some, refl, sym, ap, ◌∙◌, subst, inl, inr, [], ◌≤◌, arith}
+use Rattle.std.proofs.lemmas.Bool.{cases_Bool, false≢true}
 use Rattle.std.specs.Prelude.{slice_get}
 use Rattle.std.proofs.lemmas.List.Elements.{Contains-get_or}
-use Rattle.palm_model.specs.Domains.{Domains, Has, values_of}
-use Rattle.palm_model.specs.State.{EngineState, HasEmpty, present}
+use Rattle.palm_base.specs.declared.limits.TheConstants.{LAST_COUNT}
+use Rattle.palm_model.specs.Domains.{Domains, values_of}
+use Rattle.palm_model.specs.State.{HasEmpty, present}
 use Rattle.palm_read.specs.Limits.{IsBeyond}
 use Rattle.palm_read.specs.declared.line.Line.{Line}
-use Rattle.palm_read.specs.declared.line.Line.TheVariants.{Comment, Domains as DomainsLine, Domain, List as ListLine, Log, Why, Conflict, Pause, Quit}
-use Rattle.palm_lang.specs.Reply.{fixed_text, refusal_text, domain_line}
+use Rattle.palm_read.specs.declared.line.Line.TheVariants.{Comment, Relax, Enforce, Retract, Domains as DomainsLine, Domain, List as ListLine, Log, Why, Conflict, Pause, Resume, Step, Quit}
+use Rattle.palm_lang.specs.Reply.{fixed_text, refusal_text, ran_text, domain_line}
 use Rattle.palm_lang.specs.declared.reply.Fixed.TheVariants.{Done, Paused, Consistent, Bye}
 use Rattle.palm_lang.specs.declared.reply.Lead.TheVariants.{Conflict as ConflictLead}
 use Rattle.palm_lang.specs.declared.reply.Refusal.TheVariants.{E4, E5, E7, E10, E12}
@@ -17,12 +18,12 @@ use Rattle.palm_book.specs.Book.{Entry, name_of}
 use Rattle.palm_book.specs.declared.book.BookCon.{BookCon}
 use Rattle.palm_book.proofs.Any.{any_member}
 use Rattle.palm_session.specs.Answers.{HasConflict, waits, SaysWhy, domains_text, list_text, log_text, users_text}
-use Rattle.palm_session.specs.Effects.{Effect, Nothing, IsNamed}
-use Rattle.palm_session.specs.Refusals.{IsBuilt, TakesName, NamesNone, NamesNoConstraint, HasNoRoom, HasActive, AsksUndeclared, IsInWrongState, Meets, IsNone, in_order}
-use Rattle.palm_session.specs.Serving.{Serves, refuses, accepts, StandsAt, TellsOpenly, TellsUnlessPaused}
-use Rattle.palm_session.specs.State.{SessionState, HasConstraint, IsState, has_empty}
+use Rattle.palm_session.specs.Effects.{Nothing, Settled}
+use Rattle.palm_session.specs.Refusals.{IsBuilt, TakesName, NamesNone, NamesNoConstraint, HasNoRoom, AsksUndeclared, IsInWrongState, Meets, IsNone, in_order}
+use Rattle.palm_session.specs.Serving.{AsksFor, asks_after, Ran, Serves, refuses, accepts, TellsOpenly, TellsUnlessPaused}
+use Rattle.palm_session.specs.State.{SessionState, IsHeld, IsState, has_empty}
 use Rattle.palm_session.proofs.Accepting.{accepts_quietly, accepts_openly, accepts_unless_paused, awake_goes}
-use Rattle.palm_session.proofs.ActiveLists.{split_place}
+use Rattle.palm_session.proofs.Standing.{has_active, has_constraint, not_active}
 use Rattle.palm_session.proofs.LawsOfDomains.{present_domains, domains_empty, printed_domains, empty_at}
 use Rattle.palm_session.proofs.LawsOfStates.{domains_exist}
 
@@ -80,7 +81,7 @@ pub serves_domains : (s : SessionState) (text : List ℕ) → IsState s → Tell
 serves_domains s text is told =
     accepts (free_of_refusals s DomainsLine tt (λ h. h) (λ h. h) (λ h. h) (λ h. h) (λ h. h) (λ h. h) (λ h. h))
     (accepts_openly s DomainsLine (λ (x : List ℕ). x ≡ domains_text s.book.variables (present s.engine)) text tt tt (s, refl, refl)
-    (λ open x e. (present s.engine, printed_domains s is open.0 open.1, e)) told)
+    (λ known x e. (present s.engine, printed_domains s is known.0 known.1, e)) told)
 
 -- ---- questions that name a variable
 
@@ -97,14 +98,14 @@ module _ (s : SessionState) (name : List ℕ) (x : ℕ) (lt : x < length s.book.
   serves_domain text state told =
       accepts (free_of_refusals s (Domain name) tt (λ h. h) (λ none. none (some_named s.book.variables x name lt is)) (λ h. h) (λ h. h) (λ h. h) (λ h. h) (λ h. h))
       (accepts_openly s (Domain name) (λ (y : List ℕ). y ≡ domain_line (name_of s.book.variables x) (values_of (present s.engine) x)) text tt tt (s, refl, refl)
-      (λ open y e. (present s.engine, x, printed_domains s state open.0 open.1, lt, is, e ∙ ap (λ (n : List ℕ). domain_line n (values_of (present s.engine) x)) is)) told)
+      (λ known y e. (present s.engine, x, printed_domains s state known.0 known.1, lt, is, e ∙ ap (λ (n : List ℕ). domain_line n (values_of (present s.engine) x)) is)) told)
 
   module _ (value : ℤ) (declared : AsksUndeclared s (Why name value) → ⊥) where
     pub serves_why : (text : List ℕ) → IsState s → TellsOpenly s (SaysWhy s (present s.engine) x value) text → Serves s (Why name value) text s
     serves_why text state told =
         accepts (free_of_refusals s (Why name value) tt (λ h. h) (λ none. none (some_named s.book.variables x name lt is)) (λ h. h) (λ h. h) (λ h. h) declared (λ h. h))
         (accepts_openly s (Why name value) (SaysWhy s (present s.engine) x value) text tt tt (s, refl, refl)
-        (λ open y said. (present s.engine, x, printed_domains s state open.0 open.1, lt, is, said)) told)
+        (λ known y said. (present s.engine, x, printed_domains s state known.0 known.1, lt, is, said)) told)
 
 -- ---- conflicts
 
@@ -143,3 +144,58 @@ pauses s awake =
 
 pub no_constraint : (cs : List BookCon) (name : List ℕ) → All (λ c. c.name ≢ name) cs → Any (λ c. c.name ≡ name) cs → ⊥
 no_constraint cs name h a = h a.0 a.1 a.2 (subst (λ (c : BookCon). c.name ≡ name) (sym a.3) a.4)
+
+pub relax_unrefused : (s : SessionState) → IsHeld s → (name : List ℕ) (place : ℕ) (c : BookCon) → slice_get s.book.constraints place ≡ Some c → c.name ≡ name → c.active ≡ true → IsNone (Meets s (Relax name)) in_order
+relax_unrefused s is name place c at named on =
+    free_of_refusals s (Relax name) tt (λ h. h) (λ h. h) (λ none. none (has_constraint s name place c at named)) (λ h. h) (λ h. h) (λ h. h)
+    (not_active s is name place c at named false (λ off. false≢true (sym off ∙ on)))
+
+pub enforce_unrefused : (s : SessionState) → IsHeld s → (name : List ℕ) (place : ℕ) (c : BookCon) → slice_get s.book.constraints place ≡ Some c → c.name ≡ name → c.active ≡ false → IsNone (Meets s (Enforce name)) in_order
+enforce_unrefused s is name place c at named off =
+    free_of_refusals s (Enforce name) tt (λ h. h) (λ h. h) (λ none. none (has_constraint s name place c at named)) (λ h. h) (λ h. h) (λ h. h)
+    (not_active s is name place c at named true (λ on. false≢true (sym off ∙ on)))
+
+pub retract_unrefused : (s : SessionState) (name : List ℕ) (place : ℕ) (c : BookCon) → slice_get s.book.constraints place ≡ Some c → c.name ≡ name → IsNone (Meets s (Retract name)) in_order
+retract_unrefused s name place c at named =
+    free_of_refusals s (Retract name) tt (λ h. h) (λ h. h) (λ none. none (has_constraint s name place c at named)) (λ h. h) (λ h. h) (λ h. h) (λ h. h)
+
+pub relaxed_already : (s : SessionState) (name : List ℕ) (place : ℕ) (c : BookCon) → slice_get s.book.constraints place ≡ Some c → c.name ≡ name → c.active ≡ false → Serves s (Relax name) (refusal_text E10) s
+relaxed_already s name place c at named off =
+    wrong_refused s (Relax name) tt (λ h. h) (λ h. h) (λ none. none (has_constraint s name place c at named)) (λ m. elim m [ inl h ↦ h | inr h ↦ h ]) (λ h. h)
+    (has_active s name place c at named false off)
+
+pub active_already : (s : SessionState) (name : List ℕ) (place : ℕ) (c : BookCon) → slice_get s.book.constraints place ≡ Some c → c.name ≡ name → c.active ≡ true → Serves s (Enforce name) (refusal_text E10) s
+active_already s name place c at named on =
+    wrong_refused s (Enforce name) tt (λ h. h) (λ h. h) (λ none. none (has_constraint s name place c at named)) (λ m. elim m [ inl h ↦ h | inr h ↦ h ]) (λ h. h)
+    (has_active s name place c at named true on)
+
+-- ---- lines that end the waiting, or go on in it
+
+pub awake_already : (s : SessionState) → s.paused ≡ false → Serves s Resume (refusal_text E10) s
+awake_already s awake = wrong_refused s Resume tt (λ h. h) (λ h. h) (λ h. h) (λ m. elim m [ inl h ↦ h | inr h ↦ h ]) (λ h. h) awake
+
+pub resume_unrefused : (s : SessionState) → s.paused ≡ true → IsNone (Meets s Resume) in_order
+resume_unrefused s paused =
+    free_of_refusals s Resume tt (λ h. h) (λ h. h) (λ h. h) (λ h. h) (λ h. h) (λ h. h) (λ (h : s.paused ≡ false). false≢true (sym h ∙ paused))
+
+pub nothing_waits : (s : SessionState) (count : ℕ) → s.paused ≡ false → Serves s (Step count) (refusal_text E10) s
+nothing_waits s count awake = wrong_refused s (Step count) tt (λ h. h) (λ h. h) (λ h. h) (λ m. elim m [ inl h ↦ h | inr h ↦ h ]) (λ h. h) awake
+
+step_unrefused : (s : SessionState) (count : ℕ) → s.paused ≡ true → IsNone (Meets s (Step count)) in_order
+step_unrefused s count paused =
+    free_of_refusals s (Step count) tt (λ h. h) (λ h. h) (λ h. h) (λ h. h) (λ h. h) (λ h. h) (λ (h : s.paused ≡ false). false≢true (sym h ∙ paused))
+
+-- no more revisions run than the limit says, so as many are told as ran
+steps_told : (s t : SessionState) (limit told asked : ℕ) → limit ≤ LAST_COUNT → (ran : Ran s (Some limit) told t asked) → told ≡ ran.count
+steps_told s t limit told asked few ran =
+    let within : length ran.settles.revisions ≤ limit = ran.settles.settles.within in
+    omega (arith, ran.told_is, ran.settles.counted, within, few)
+
+pub serves_step : (s t : SessionState) (limit told asked : ℕ) → limit ≤ LAST_COUNT → s.paused ≡ true → Ran s (Some limit) told t asked → Serves s (Step limit) (ran_text told) t
+serves_step s t limit told asked few paused ran =
+    let same : told ≡ ran.count = steps_told s t limit told asked few ran in
+    accepts (step_unrefused s limit paused) (accepts_quietly s t (Step limit) (Settled ran.count) (ran_text told) (λ w. w.pausable) (s, refl, (ran.engine, ran.settles, ran.after)) (λ h. h)
+    (ap (λ (n : ℕ). ran_text n) same))
+
+pub asks_step : (s t : SessionState) (limit told asked : ℕ) → s.paused ≡ true → Ran s (Some limit) told t asked → AsksFor s (Step limit) t asked
+asks_step s t limit told asked paused ran = asks_after s (step_unrefused s limit paused) refl ran.asks

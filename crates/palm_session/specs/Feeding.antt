@@ -1,12 +1,13 @@
 -- What feeding bytes to a session does.
 use Rattle.std.specs.Prelude.{◌≡◌, ℕ, Bool, true, false, List, [], ◌∷◌, ◌++◌, ◌⊎◌, All, map, flat_map, ◌≤◌, ◌+◌, min, take, drop, length, Option, Result, Ok, Err}
 use Rattle.palm_base.specs.Streams.{Appended, AppendedFront}
-use Rattle.palm_session.specs.State.{SessionState}
+use Rattle.palm_session.specs.Serving.{DeskView}
+use Rattle.palm_session.specs.State.{SessionState, IsState}
 use Rattle.palm_session.specs.Answers.{Answers}
 use Rattle.palm_base.specs.declared.limits.TheConstants.{LAST_COUNT}
 use Rattle.palm_lang.specs.Reply.{ended}
 use Rattle.palm_session.specs.Asking.{Asks, RunAsking}
-use Rattle.palm_session.specs.Lines.{HasNoFeed, without_return, last_line}
+use Rattle.palm_session.specs.Lines.{HasNoFeed, IsUnfinished, without_return, last_line}
 use Rattle.palm_session.specs.Replies.{Run, Answered, GoesOn, Ends, KeepsOn}
 use Rattle.palm_session.specs.declared.limits.TheConstants.{MOST_KEPT_BYTES}
 use Rattle.palm_session.specs.declared.going.Going.{Going}
@@ -20,6 +21,16 @@ pub record View : Type 0 where
   pub checks : ℕ
   pub unfinished : List ℕ
   pub over : Bool
+
+-- what is seen of the parts of a session
+abbrev pub view_of : DeskView → List ℕ → Bool → View
+view_of desk unfinished over = record { state = desk.state; checks = desk.checks; unfinished = unfinished; over = over }
+
+-- what holds of a session at every moment
+pub record IsSession (v : View) : Type 0 where
+  pub unfinished : IsUnfinished v.unfinished
+  pub state : v.over ≡ false → IsState v.state
+  pub counted : v.checks ≤ LAST_COUNT
 
 -- whether the session goes on is what the line says
 abbrev pub Decides : Going → List ℕ → Type 0

@@ -2,7 +2,7 @@
 use Rattle.std.specs.Prelude.{◌≡◌, ℕ, ℤ, ◌+◌, ◌-◌, ◌≤◌, min, Bool, true, false, List, [], ◌++◌, ◌⊎◌, Option, None, Some, slice_get}
 use Rattle.palm_base.specs.declared.limits.TheConstants.{LAST_COUNT}
 use Rattle.palm_model.specs.Log.{Removal, log_pairs}
-use Rattle.palm_model.specs.State.{EngineState, IsValid}
+use Rattle.palm_model.specs.State.{EngineState}
 use Rattle.palm_engine.specs.Engine.{View}
 use Rattle.palm_engine.specs.Work.{most_questions}
 use Rattle.palm_book.specs.Book.{Contents}
@@ -29,17 +29,12 @@ desk_of book engine accepted paused = record {
   checks = engine.checks;
 }
 
--- what holds of the engine at every moment
-pub record HasEngine (engine : View) : Type 0 where
-  pub valid : IsValid engine.state
-  pub counted : engine.checks ≤ LAST_COUNT
-
 -- ---- questions
 
--- both counts of questions rose by as much, unless the engine's stands at its end
+-- both counts of questions stay, or rise by as much, unless the engine's stands at its end
 pub record Spends (before after : DeskView) (was now : ℕ) : Type 0 where
   pub later : was ≤ now
-  pub checks : after.checks ≡ min (before.checks + (now - was)) LAST_COUNT
+  pub checks : ((now ≡ was) × (after.checks ≡ before.checks)) ⊎ (after.checks ≡ min (before.checks + (now - was)) LAST_COUNT)
 
 -- support was asked for so often on the way from s to t, by what was to be done: not at all, or no more than filtering may
 abbrev pub AsksWithin : EngineState → Next → EngineState → ℕ → Type 0

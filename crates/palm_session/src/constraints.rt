@@ -7,7 +7,7 @@ ghost use Rattle.palm_engine.specs.Engine.{KeepsCounts};
 ghost use Rattle.palm_model.specs.Constraint.{IsWellFormed};
 ghost use Rattle.palm_model.specs.Event.{Posts, Withdraws};
 ghost use Rattle.palm_model.specs.Log.{IsActive};
-ghost use Rattle.palm_model.specs.State.{EngineState};
+ghost use Rattle.palm_model.specs.State.{EngineState, IsValid};
 ghost use Rattle.palm_read.specs.Limits.{IsBeyond};
 ghost use Rattle.palm_read.specs.Name.{IsNameText};
 ghost use Rattle.palm_read.specs.Sound.{IsSound};
@@ -186,9 +186,11 @@ impl Desk {
 
 /// Withdraws a constraint of the book where it is active.
 fn withdraw_active(engine: &mut Engine<Kind>, entry: &BookCon)
-    requires { entry.now.active ≡ true → IsActive engine.old.state.active (Cid.User entry.now.number) }
+    requires active { entry.now.active ≡ true → IsActive engine.old.state.active (Cid.User entry.now.number) }
+    requires valid { IsValid engine.old.state }
     ensures withdraws { WithdrawsActive engine.old.state entry.now engine.new.state }
     ensures counts { KeepsCounts engine.old engine.new }
+    ensures valid { IsValid engine.new.state }
 {
     if entry.active {
         engine.withdraw(Cid::User(entry.number));

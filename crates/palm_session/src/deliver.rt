@@ -4,7 +4,7 @@ ghost use Rattle.palm_book.specs.Book.{AreValues, IsUser, name_of, values_at};
 ghost use Rattle.palm_domain.specs.Rows.{present_of, present_values};
 ghost use Rattle.palm_explain.specs.Explanations.{reasons_of};
 ghost use Rattle.palm_lang.specs.Reply.{fixed_text, refusal_text, ran_text, domain_line, var_line, entry_at, entry_line};
-ghost use Rattle.palm_model.specs.Domains.{values_of};
+ghost use Rattle.palm_model.specs.Domains.{AllAscend, values_of};
 ghost use Rattle.palm_session.specs.Answers.{domains_text, list_text, log_text, users_text};
 ghost use Rattle.palm_session.specs.Logged.{AreLogged, IsNumbered, log_line_at};
 ghost use Rattle.palm_session.specs.ReplyText.{reply_text, ReplyFits};
@@ -91,7 +91,8 @@ fn write_names<K: Sink>(
 
 /// Makes the list the present values of a variable.
 fn collect_values(store: &DomainStore, var: Var, values: &mut Vec<Value>) -> Result<(), NoMemory>
-    requires { var < length store.now }
+    requires variable { var < length store.now }
+    requires ascend { AllAscend (present_of store.now) }
     ensures { OnOk result (values.new.items ≡ present_values store.now var) }
 {
     values.clear();
@@ -114,6 +115,7 @@ fn write_domain<K: Sink>(
 ) -> Result<(), Stop>
     requires variable { var < length book.now.variables }
     requires domain { var < length store.now }
+    requires ascend { AllAscend (present_of store.now) }
     ensures { Delivers (K.state out.old) (K.state out.new) (domain_line (name_of book.now.variables var) (values_of (present_of store.now) var)) result }
 {
     collect_values(store, var, values)?;
@@ -154,7 +156,8 @@ fn write_each_domain<K: Sink>(
     out: &mut K,
     buffer: &mut Vec<u8>,
 ) -> Result<(), Stop>
-    requires { length store.now ≡ length book.now.variables }
+    requires long { length store.now ≡ length book.now.variables }
+    requires ascend { AllAscend (present_of store.now) }
     ensures { Delivers (K.state out.old) (K.state out.new) (domains_text book.now.variables (present_of store.now)) result }
 {
     for index in 0..book.variables() {

@@ -17,13 +17,14 @@ pub struct Desk {
 }
 
 impl Model for Desk {
-    ghost use Rattle.palm_session.specs.Serving.{DeskView, HasEngine, desk_of};
+    ghost use Rattle.palm_model.specs.State.{IsValid};
+    ghost use Rattle.palm_session.specs.Serving.{DeskView, desk_of};
 
     ghost Value = { DeskView };
 
     ghost view = { λ d. desk_of d.book d.engine d.accepted d.paused };
 
-    ghost invariant = { λ d. HasEngine d.engine };
+    ghost invariant = { λ d. IsValid d.engine.state };
 }
 
 impl Desk {

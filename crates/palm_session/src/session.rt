@@ -30,16 +30,13 @@ pub struct Session {
 }
 
 impl Model for Session {
-    ghost use Rattle.std.specs.Prelude.{◌≡◌, false};
-    ghost use Rattle.palm_session.specs.Feeding.{View};
-    ghost use Rattle.palm_session.specs.Lines.{IsUnfinished};
-    ghost use Rattle.palm_session.specs.State.{IsState};
+    ghost use Rattle.palm_session.specs.Feeding.{IsSession, View, view_of};
 
     ghost Value = { View };
 
-    ghost view = { λ s. record { state = s.desk.state; checks = s.desk.checks; unfinished = s.unfinished.items; over = s.over } };
+    ghost view = { λ s. view_of s.desk s.unfinished.items s.over };
 
-    ghost invariant = { λ s. IsUnfinished s.unfinished.items × (s.over ≡ false → IsState s.desk.state) };
+    ghost invariant = { λ s. IsSession (view_of s.desk s.unfinished.items s.over) };
 }
 
 impl Session {

@@ -1,27 +1,9 @@
-use Rattle.std.proofs.Common.{◌<◌, length, arith, []}
-use Rattle.std.proofs.lemmas.Result.{err_from_is_err_and}
-use Rattle.palm_lang.specs.Reply.{domain_line}
-use Rattle.palm_session.proofs.Delivering.{delivers_within, delivers_then, delivers_text, flat_step, pair_read, domains_split, pairs_end}
+use Rattle.std.proofs.Common.{◌∙◌, ap, sym, subst}
+use Rattle.palm_model.specs.Domains.{AllAscend}
+use Rattle.palm_model.specs.State.{present}
+use Rattle.palm_session.proofs.Standing.{present_ascends}
 use Rattle.palm_session.proofs.deliver.write_domains.Goals as goal
 
-pub returns-in_err-write_domain : goal.returns-in_err-write_domain
-returns-in_err-write_domain g c =
-    let p = err_from_is_err_and c.from_residual.result c.from_residual.ensures.1 in
-    let lt : c.loop-index.index < length c.args.book.now.variables = omega (arith, c.loop-index-test.true, c.variables-index-end.ensures.count) in
-    let r = pair_read c.args.book.now.variables c.args.domains.now c.loop-index.index c.requires lt in
-    rw (p.1, p.2)
-    (delivers_within _ _ _ _ _ _ _ tt c.in_err-write_domain.field-0.0
-    (domains_split c.args.book.now.variables c.args.domains.now c.loop-index.index r.0)
-    c.loop-index.invariant (delivers_text _ _ _ _ _ r.1 c.in_err-write_domain.ensures))
-
-pub loop-index-preserved : goal.loop-index-preserved
-loop-index-preserved g c =
-    let lt : c.loop-index.index < length c.args.book.now.variables = omega (arith, c.loop-index-test.true, c.variables-index-end.ensures.count) in
-    let r = pair_read c.args.book.now.variables c.args.domains.now c.loop-index.index c.requires lt in
-    delivers_text _ _ _ _ _ (flat_step (λ q. domain_line q.0.name q.1) _ c.loop-index.index (record { name = []; values = [] }, []) r.0)
-    (delivers_then _ _ _ _ _ tt _ c.loop-index.invariant (delivers_text _ _ _ _ _ r.1 c.in_ok-write_domain.ensures))
-
-pub returns : goal.returns
-returns g c =
-    let all = pairs_end c.args.book.now.variables c.args.domains.now c.loop-index.index c.requires (omega (arith, c.loop-index-test.false, c.variables-index-end.ensures.count)) in
-    delivers_then _ _ _ _ _ tt _ (delivers_text _ _ _ _ _ all c.loop-index.invariant) c.write_word.ensures
+pub write_each_domain-requires-clause-ascend : goal.write_each_domain-requires-clause-ascend
+write_each_domain-requires-clause-ascend g c =
+    subst AllAscend (sym (c.store.ensures.present ∙ ap present c.engine.ensures.state)) (present_ascends c.args.desk.now.state c.requires)

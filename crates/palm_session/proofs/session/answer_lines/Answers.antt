@@ -1,9 +1,10 @@
-use Rattle.std.proofs.Common.{arith, refl, ◌∙◌}
+use Rattle.std.proofs.Common.{arith, inl, refl, ◌∙◌}
 use Rattle.palm_session.proofs.FeedLemmas.{so_far_none, so_far_more, feeds_end, feeds_part}
+use Rattle.palm_session.proofs.Spending.{counts_add, spends_more}
 use Rattle.palm_session.proofs.session.answer_lines.Goals as goal
 
 pub loop-end-init : goal.loop-end-init
-loop-end-init g c = (omega arith, refl, so_far_none _ _ _)
+loop-end-init g c = (omega arith, refl, so_far_none _ _ _ _ (omega arith), record { later = omega arith; checks = inl (refl, refl) }, c.requires)
 
 pub loop-end-preserved : goal.loop-end-preserved
 loop-end-preserved g c =
@@ -11,17 +12,25 @@ loop-end-preserved g c =
     let one = rw (c.in-Ok-More.field-0-is, c.without_return-line.ensures) at c.in-Ok-More.ensures.answers in (
       omega (arith, feed.within),
       c.in-Ok-More.ensures.counted ∙ c.loop-end.invariant.1,
-      so_far_more _ _ _ _ _ _ _ _ _ c.loop-end.invariant.2 feed one,
+      so_far_more _ _ _ _ _ _ _ _ _ _ _ _ (counts_add _ _ _ c.loop-end.invariant.3.later c.in-Ok-More.ensures.spends.later) c.loop-end.invariant.2 feed one,
+      spends_more _ _ _ _ _ _ c.loop-end.invariant.3 c.in-Ok-More.ensures.spends,
+      c.in-Ok-More.ensures.state,
     )
 
 pub returns-in-Ok-Quit-clause-answers : goal.returns-in-Ok-Quit-clause-answers
 returns-in-Ok-Quit-clause-answers g c =
     let feed = c.in-Some.ensures.found in
     let one = rw (c.in-Ok-Quit.field-0-is, c.without_return-line.ensures) at c.in-Ok-Quit.ensures.answers in
-    (omega (arith, feed.within), feeds_end _ _ _ _ _ _ _ _ _ c.loop-end.invariant.2 feed one)
+    (omega (arith, feed.within), feeds_end _ _ _ _ _ _ _ _ _ _ _ _ (counts_add _ _ _ c.loop-end.invariant.3.later c.in-Ok-Quit.ensures.spends.later) c.loop-end.invariant.2 feed one)
+
+pub returns-in-Ok-Quit-clause-spends : goal.returns-in-Ok-Quit-clause-spends
+returns-in-Ok-Quit-clause-spends g c = spends_more _ _ _ _ _ _ c.loop-end.invariant.3 c.in-Ok-Quit.ensures.spends
 
 pub returns-in-Err-clause-answers : goal.returns-in-Err-clause-answers
 returns-in-Err-clause-answers g c =
     let feed = c.in-Some.ensures.found in
     let one = rw c.without_return-line.ensures at c.in-Err.ensures.answers in
-    feeds_part _ _ _ _ _ _ _ _ c.loop-end.invariant.2 feed one
+    feeds_part _ _ _ _ _ _ _ _ _ c.loop-end.invariant.2 feed one
+
+pub returns-in-Err-clause-spends : goal.returns-in-Err-clause-spends
+returns-in-Err-clause-spends g c = spends_more _ _ _ _ _ _ c.loop-end.invariant.3 c.in-Err.ensures.spends

@@ -1,4 +1,6 @@
 use Rattle.std.proofs.Common.{◌≡◌, ◌≤◌, ◌-◌, ◌+◌, drop, length}
+use Rattle.palm_session.specs.Serving.{Spends}
+use Rattle.palm_session.specs.State.{IsState}
 use Rattle.palm_session.proofs.FeedLemmas.{SoFar}
 use Rattle.palm_session.proofs.session.answer_lines.Given as goal
 
@@ -6,7 +8,9 @@ abbrev pub invariant-loop-end : goal.invariant-loop-end
 invariant-loop-end g l =
     (l.start ≤ length l.text)
     × ((g.K.Sink.state l.out).faults ≡ (g.K.Sink.state l.initial.out).faults)
-    × SoFar l.initial.desk l.text (g.K.Sink.state l.initial.out).written (g.K.Sink.state l.out).written (drop l.start l.text) l.desk
+    × SoFar l.initial.desk.state l.text (g.K.Sink.state l.initial.out).written (g.K.Sink.state l.out).written (drop l.start l.text) l.desk.state (l.steps - l.initial.steps)
+    × Spends l.initial.desk l.desk l.initial.steps l.steps
+    × IsState l.desk.state
 
 abbrev pub decreases-loop-end : goal.decreases-loop-end
 decreases-loop-end g l = length l.initial.text + 1 - l.start
