@@ -1,9 +1,7 @@
 -- Accepted lines: what they do, and what is told of domains.
 use Rattle.std.proofs.Common.{◌≡◌, ℕ, Bool, List, true, false, None, Some, Result, Ok, Err, OnOk, IfOk, inl, inr, sym, if◌then◌else◌, subst}
 use Rattle.std.proofs.lemmas.Bool.{cases_Bool}
-
 use Rattle.palm_read.specs.declared.line.Line.{Line}
-
 use Rattle.palm_lang.specs.Reply.{fixed_text}
 use Rattle.palm_lang.specs.declared.reply.Fixed.{Fixed}
 use Rattle.palm_lang.specs.declared.reply.Fixed.TheVariants.{Done, Contradiction, Paused}
