@@ -136,7 +136,14 @@ fn write_one_domain<K: Sink>(
     ensures { Delivers (K.state out.old) (K.state out.new) (reply_text desk.now.state (Reply.Domain var)) result }
 {
     let mut values = Vec::new(desk.alloc);
-    write_domain(desk.book(), desk.engine().store(), var, &mut values, out, buffer)
+    write_domain(
+        desk.book(),
+        desk.engine().store(),
+        var,
+        &mut values,
+        out,
+        buffer,
+    )
 }
 
 /// Writes the values of all variables.

@@ -112,7 +112,13 @@ impl Session {
         ensures later { steps.old ≤ steps.new }
     {
         self.over = true;
-        answer_last(&mut self.desk, &self.unfinished, out, &mut self.buffer, steps)
+        answer_last(
+            &mut self.desk,
+            &self.unfinished,
+            out,
+            &mut self.buffer,
+            steps,
+        )
     }
 
     /// Answers the lines that the piece completes, the first of them by the kept bytes and the piece's first part, and

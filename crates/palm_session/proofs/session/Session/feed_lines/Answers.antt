@@ -27,7 +27,7 @@ pub returns-in-Ok-More-clause-feeds : goal.returns-in-Ok-More-clause-feeds
 returns-in-Ok-More-clause-feeds g c =
     let one = rw (c.in-Ok-More.field-0-is, c.without_return-line.ensures, c.deref.ensures.value, c.in_ok-keep-2.ensures.ok) at c.in-Ok-More.ensures.answers in
     subst (λ (v : View). FeedsText v.state (v.unfinished ++ c.args.piece.now) (g.K.Sink.state c.args.out.now).written (g.K.Sink.state c.feed_text-in-Ok-More.new.out).written c.feed_text-in-Ok-More.new.self
-        (c.feed_text-in-Ok-More.new.steps - c.args.steps.now) c.feed_text-in-Ok-More.result) c.self.view_is
+    (c.feed_text-in-Ok-More.new.steps - c.args.steps.now) c.feed_text-in-Ok-More.result) c.self.view_is
     (first_more c.self.inside.desk.state c.self.inside.unfinished.items c.args.piece.now c.in-Some.end c.self.invariant.unfinished.unbroken c.in-Some.ensures.found _ _ _ _ c.feed_text-in-Ok-More.new.self _ _ _ _
     (counts_add _ _ _ c.in-Ok-More.ensures.spends.later c.feed_text-in-Ok-More.ensures.later) one
     (rw (rest_whole (c.in-Some.end + 1) c.args.piece.now) at c.feed_text-in-Ok-More.ensures.feeds))
