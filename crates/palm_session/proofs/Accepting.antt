@@ -9,7 +9,7 @@ use Rattle.palm_session.specs.Answers.{Accepts, Says, WaitsFor, waits, contradic
 use Rattle.palm_session.specs.Effects.{Effect, Nothing, Does, Changes, Next, Rests, Filters, Follows, next, unless_paused}
 use Rattle.palm_session.specs.Refusals.{IsNone, Meets, in_order}
 use Rattle.palm_session.specs.Serving.{Serves, accepts, AsksFor, asks_after, AsksWithin, Followed, TellsDomains, TellsUnlessPaused, TellsOpenly, tells_word, tells_own, Withholds}
-use Rattle.palm_session.specs.State.{SessionState, IsHeld, IsState, IsContradiction}
+use Rattle.palm_session.specs.State.{SessionState, IsHeld, IsState}
 use Rattle.palm_session.proofs.LawsOfChanges.{rests_paused}
 use Rattle.palm_session.proofs.LawsOfStates.{follows_keeps}
 

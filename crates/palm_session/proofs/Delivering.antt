@@ -1,6 +1,6 @@
 -- Steps of writing.
 use Rattle.std.proofs.Common.{◌≡◌, ℕ, ◌+◌, ◌<◌, ◌≤◌, List, flat_map, get_or, subst, ◌++◌, length, take, drop, refl, sym, ap, ◌∙◌, append_assoc, arith, [], Result, Ok, Err}
-use Rattle.palm_base.proofs.StreamLemmas.{appended_both, appended_nothing}
+use Rattle.palm_base.proofs.StreamLemmas.{appended_both}
 use Rattle.std.proofs.Common.{ℤ, zip, option_to_list, append-nil, slice_get, Some, zero, suc, ◌∷◌}
 use Rattle.std.proofs.lemmas.Option.{get_or_from_slice_get}
 use Rattle.std.proofs.lemmas.Slice.Zip.{get_or-zip, length-zip}
@@ -48,10 +48,6 @@ delivers_front s0 s1 x y stop a = record {
     written = a.err.written;
   };
 }
-
--- nothing was written yet
-pub delivers_nothing : {T : Type 0} (s : SinkState) (t : T) → Delivers {T = T} s s [] (Ok t)
-delivers_nothing s t = record { counted = refl; ok = appended_nothing s.written; err = tt }
 
 -- a failure in a text that stands in the middle of a longer one
 pub delivers_within : {T U V : Type 0} (s0 s1 s2 : SinkState) (whole x y z : List ℕ) (t : T) (stop : Stop)

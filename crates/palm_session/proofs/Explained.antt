@@ -1,5 +1,5 @@
 -- What is told of a value, by what the log says of its pair.
-use Rattle.std.proofs.Common.{◌≡◌, ℕ, ℤ, Bool, true, false, List, Contains, Option, None, Some, MatchOption, inl, inr, refl, sym, subst}
+use Rattle.std.proofs.Common.{◌≡◌, ℕ, ℤ, Bool, true, false, List, Contains, Option, None, Some, MatchOption, inl, inr, refl}
 use Rattle.std.specs.Prelude.{is_some, not, slice_get}
 use Rattle.palm_base.specs.declared.terms.Pair.{Pair}
 use Rattle.palm_base.specs.declared.terms.Cid.{Cid}

@@ -9,7 +9,7 @@ use Rattle.palm_lang.specs.Reply.{ended}
 use Rattle.palm_read.specs.declared.line.Line.TheVariants.{Quit as QuitLine}
 use Rattle.palm_session.specs.State.{SessionState, IsState}
 use Rattle.palm_session.specs.Answers.{Answers}
-use Rattle.palm_session.specs.Lines.{HasNoFeed, IsNextFeed, IsUnfinished, without_return, last_line}
+use Rattle.palm_session.specs.Lines.{HasNoFeed, IsNextFeed, without_return, last_line}
 use Rattle.palm_session.specs.Replies.{Run, Answered, GoesOn, Ends, KeepsOn}
 use Rattle.palm_session.specs.Asking.{Asks, asks_none, asks_settling, RunAsking}
 use Rattle.palm_session.specs.Feeding.{View, AnswersLine, AnswersFront, Served, Decides, FeedsOn, FeedsEnd, FeedsPart, FeedsText, KeepsRest, FinishesAll, FinishesPart}
@@ -27,9 +27,6 @@ kept_of line = take MOST_KEPT_BYTES line
 
 -- ---- what is kept of a line
 
-pub unfinished_none : IsUnfinished []
-unfinished_none = record { few = omega arith; unbroken = All-nil (λ b. b ≡ 10 → ⊥) }
-
 no_feed_both : (xs ys : List ℕ) → HasNoFeed xs → HasNoFeed ys → HasNoFeed (xs ++ ys)
 no_feed_both xs ys a b = All-append (λ (b : ℕ). b ≡ 10 → ⊥) xs ys a b
 
@@ -38,13 +35,6 @@ no_feed_back xs ys a = all_right (λ (b : ℕ). b ≡ 10 → ⊥) xs ys a
 
 no_feed_front : (n : ℕ) (xs : List ℕ) → HasNoFeed xs → HasNoFeed (take n xs)
 no_feed_front n xs a = All-take (λ (b : ℕ). b ≡ 10 → ⊥) n xs a
-
-pub unfinished_more : (bytes more kept : List ℕ) → IsUnfinished bytes → HasNoFeed more → kept ≡ take MOST_KEPT_BYTES (bytes ++ more) → IsUnfinished kept
-unfinished_more bytes more kept is none e =
-    subst IsUnfinished (sym e) (record {
-      few = omega (arith, length-take MOST_KEPT_BYTES (bytes ++ more));
-      unbroken = no_feed_front MOST_KEPT_BYTES (bytes ++ more) (no_feed_both bytes more is.unbroken none);
-    })
 
 take_least : (n room : ℕ) (xs : List ℕ) → n ≡ min (length xs) room → take n xs ≡ take room xs
 take_least n room xs e = elim (cases_lt (length xs) room) [

@@ -1,5 +1,5 @@
 -- What is served, by the tests that it passed.
-use Rattle.std.proofs.Common.{◌≡◌, ◌≢◌, ◌<◌, ℕ, ℤ, Bool, true, false, List, length, get_or, All, Any, Contains, ◌⊎◌, None, Some, refl, sym, ap, ◌∙◌, subst, inl, inr, [], ◌≤◌, arith}
+use Rattle.std.proofs.Common.{◌≡◌, ◌≢◌, ◌<◌, ℕ, ℤ, true, false, List, length, get_or, All, Any, ◌⊎◌, Some, refl, sym, ap, ◌∙◌, subst, inl, inr, [], ◌≤◌, arith}
 use Rattle.std.proofs.lemmas.Bool.{cases_Bool, false≢true}
 use Rattle.std.specs.Prelude.{slice_get}
 use Rattle.std.proofs.lemmas.List.Elements.{Contains-get_or}

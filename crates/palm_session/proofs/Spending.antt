@@ -1,8 +1,6 @@
 -- How the two counts of questions go together.
-use Rattle.std.proofs.Common.{◌≡◌, ℕ, ◌+◌, ◌-◌, ◌≤◌, min, inl, inr, arith}
-use Rattle.palm_base.specs.declared.limits.TheConstants.{LAST_COUNT}
+use Rattle.std.proofs.Common.{◌≡◌, ℕ, ◌+◌, ◌-◌, ◌≤◌, inl, inr, arith}
 use Rattle.palm_session.specs.Serving.{DeskView, Spends}
-use Rattle.palm_session.specs.Feeding.{View, RaisesChecks}
 
 -- one after another
 pub spends_more : (a b c : DeskView) (i j k : ℕ) → Spends a b i j → Spends b c j k → Spends a c i k
@@ -19,17 +17,6 @@ spends_more a b c i j k one two = record {
     ]
   ];
 }
-
--- as the session tells it
-pub spends_raises : (before after : View) (b a : DeskView) (was now : ℕ) → before.checks ≡ b.checks → after.checks ≡ a.checks → before.checks ≤ LAST_COUNT
-    → Spends b a was now → RaisesChecks before after (now - was)
-spends_raises before after b a was now x y few one = elim one.checks [
-  | inl h ↦ omega (arith, x, y, few, h.0, h.1)
-  | inr h ↦ omega (arith, x, y, h)
-]
-
-pub raises_more : (a b c : View) (i j k : ℕ) → i ≤ j → j ≤ k → RaisesChecks a b (j - i) → RaisesChecks b c (k - j) → RaisesChecks a c (k - i)
-raises_more a b c i j k one two x y = omega (arith, one, two, x, y)
 
 -- the counts of two steps are added up
 pub counts_add : (i j k : ℕ) → i ≤ j → j ≤ k → (j - i) + (k - j) ≡ k - i

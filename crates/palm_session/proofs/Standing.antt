@@ -9,7 +9,7 @@ use Rattle.palm_model.specs.Domains.{AllAscend}
 use Rattle.palm_model.specs.Log.{Active, IsActive, log_pairs}
 use Rattle.palm_model.specs.State.{present}
 use Rattle.palm_model.proofs.Without.{ascend_without}
-use Rattle.palm_book.specs.Book.{user_at, active_of}
+use Rattle.palm_book.specs.Book.{user_at}
 use Rattle.palm_book.specs.declared.book.BookCon.{BookCon}
 use Rattle.palm_book.proofs.Any.{any_member, member_any}
 use Rattle.palm_session.specs.Refusals.{HasActive}

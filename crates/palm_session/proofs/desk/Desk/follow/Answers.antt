@@ -1,4 +1,4 @@
-use Rattle.std.proofs.Common.{◌≡◌, false, true, subst}
+use Rattle.std.proofs.Common.{◌≡◌, false, subst}
 use Rattle.palm_session.specs.Serving.{DeskView}
 use Rattle.palm_session.proofs.Following.{ran_followed}
 use Rattle.palm_session.proofs.desk.Desk.follow.Goals as goal

@@ -1,4 +1,4 @@
-use Rattle.std.proofs.Common.{◌≡◌, ◌≢◌, ◌<◌, ℕ, All, length, subst}
+use Rattle.std.proofs.Common.{◌≡◌, ◌≢◌, ◌<◌, All, length, subst}
 use Rattle.palm_book.specs.Book.{Entry, name_of}
 use Rattle.palm_read.specs.declared.line.Line.TheVariants.{Domain}
 use Rattle.palm_session.specs.Serving.{DeskView}

@@ -1,4 +1,4 @@
-use Rattle.std.proofs.Common.{◌≡◌, ◌≢◌, ◌<◌, All, IfSome, Some, length, refl, rules, subst}
+use Rattle.std.proofs.Common.{◌≡◌, ◌≢◌, ◌<◌, All, IfSome, length, refl, rules, subst}
 use Rattle.std.specs.Prelude.{slice_get}
 use Rattle.palm_book.specs.declared.book.BookCon.{BookCon}
 use Rattle.palm_read.specs.declared.line.Line.TheVariants.{Retract}

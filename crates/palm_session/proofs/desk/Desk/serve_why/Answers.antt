@@ -1,4 +1,4 @@
-use Rattle.std.proofs.Common.{◌≡◌, ◌≢◌, ◌<◌, ◌∙◌, ℕ, List, All, IfOk, inl, inr, length, refl, rules, ap, subst}
+use Rattle.std.proofs.Common.{◌≡◌, ◌≢◌, ◌<◌, ◌∙◌, All, inl, inr, length, refl, rules, ap, subst}
 use Rattle.std.proofs.lemmas.Result.{IfOk-weaker}
 use Rattle.palm_base.specs.Tells.{Tells}
 use Rattle.palm_base.proofs.Telling.{tells_false, tells_true}
