@@ -35,20 +35,31 @@ fn has_forbidden(alloc: Global, engine: &mut Engine<Kind>) -> Result<bool, NoMem
     )
 }
 
+/// Whether a negation stands for its justification, and is the least one.
+fn stands_for_decision(alloc: Global, engine: &Engine<Kind>) -> Result<bool, NoMemory> {
+    let names = [Cid::Not(forbidden()), Cid::User(1)];
+    Ok(
+        is_flat(alloc, engine, &names, &[decision(), Cid::User(1)])?
+            && engine.first_negation() == Some(forbidden()),
+    )
+}
+
+/// Whether the decision and the negation are active.
+fn are_active(engine: &Engine<Kind>) -> (bool, bool) {
+    (
+        engine.is_active(decision()),
+        engine.is_active(Cid::Not(forbidden())),
+    )
+}
+
 #[test]
 fn a_negation_goes_with_its_decision(rt: HostRuntime) -> Result<(), Fail> {
-    let alloc = rt.alloc();
-    let negation = Cid::Not(forbidden());
-    let mut engine = engine_of(alloc, 2)?;
-    assert!(rt; has_forbidden(alloc, &mut engine)?);
-    let names = [Cid::Not(forbidden()), Cid::User(1)];
-    assert!(rt; is_flat(alloc, &engine, &names, &[decision(), Cid::User(1)])?);
-    assert_eq!(rt; engine.first_negation(), Some(forbidden()));
-    assert!(rt; engine.is_active(decision()));
-    assert!(rt; engine.is_active(negation));
+    let mut engine = engine_of(rt.alloc(), 2)?;
+    assert!(rt; has_forbidden(rt.alloc(), &mut engine)?);
+    assert!(rt; stands_for_decision(rt.alloc(), &engine)?);
+    assert_eq!(rt; are_active(&engine), (true, true));
     assert!(rt; withdraw(&mut engine, &decision()));
-    assert!(rt; !engine.is_active(decision()));
-    assert!(rt; !engine.is_active(Cid::Not(forbidden())));
+    assert_eq!(rt; are_active(&engine), (false, false));
     assert_eq!(rt; engine.first_negation(), None);
     let left = [Removal {
         pair: pair(Y, 1),

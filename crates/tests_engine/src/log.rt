@@ -62,42 +62,74 @@ fn is_named(log: &ExplainStore, pair: &Pair, cid: &Cid) -> bool {
     is_removed(log, pair) && log.names(*pair, *cid)
 }
 
-#[test]
-fn a_withdrawal_takes_what_rests_on_the_constraint(rt: HostRuntime) -> Result<(), Fail> {
-    let alloc = rt.alloc();
-    let [x, y, z] = [pair(0, 2), pair(1, 2), pair(2, 2)];
-    let reasons = [pair(0, 2)];
-    let removals = [
-        Removal {
+/// Takes 2 out of x by the first constraint, out of y by the second for that, and out of z by the third.
+fn remove_three(store: &mut DomainStore, log: &mut ExplainStore) -> Result<(), NoMemory>
+    requires { LacksExactly store.old (log_pairs log.old.log) }
+    ensures { LacksExactly store.new (log_pairs log.new.log) }
+{
+    let x = [pair(0, 2)];
+    remove(
+        store,
+        log,
+        &Removal {
             pair: pair(0, 2),
             by: Cid::User(1),
             reasons: &[],
         },
-        Removal {
+    )?;
+    remove(
+        store,
+        log,
+        &Removal {
             pair: pair(1, 2),
             by: Cid::User(2),
-            reasons: &reasons,
+            reasons: &x,
         },
-        Removal {
+    )?;
+    remove(
+        store,
+        log,
+        &Removal {
             pair: pair(2, 2),
             by: Cid::User(3),
             reasons: &[],
         },
-    ];
-    let mut store = three_variables(alloc)?;
-    let mut log = ExplainStore::new(alloc);
-    for removal in &removals {
-        remove(&mut store, &mut log, removal)?;
-    }
-    assert!(rt; has_removals(&log, &removals));
-    assert!(rt; is_named(&log, &y, &Cid::User(1)));
-    assert!(rt; !is_named(&log, &x, &Cid::User(2)));
-    assert!(rt; is_explained(alloc, &log, &y, &[Cid::User(1), Cid::User(2)])?);
+    )
+}
+
+/// Whether the log explains the three removals.
+fn explains_three(alloc: Global, log: &ExplainStore) -> Result<bool, NoMemory> {
+    let (x, y) = (pair(0, 2), pair(1, 2));
+    Ok(
+        log.removals() == 3
+            && is_named(log, &y, &Cid::User(1))
+            && !is_named(log, &x, &Cid::User(2))
+            && is_explained(alloc, log, &y, &[Cid::User(1), Cid::User(2)])?,
+    )
+}
+
+/// Whether the log has the removal of z alone, and put values of x and y back.
+fn has_last(log: &ExplainStore) -> bool {
+    let last = [Removal {
+        pair: pair(2, 2),
+        by: Cid::User(3),
+        reasons: &[],
+    }];
+    let restored = log.restored();
+    has_removals(log, &last)
+        && restored.len() == 2
+        && restored.contains(&Var(0))
+        && restored.contains(&Var(1))
+}
+
+#[test]
+fn a_withdrawal_takes_what_rests_on_the_constraint(rt: HostRuntime) -> Result<(), Fail> {
+    let mut store = three_variables(rt.alloc())?;
+    let mut log = ExplainStore::new(rt.alloc());
+    remove_three(&mut store, &mut log)?;
+    assert!(rt; explains_three(rt.alloc(), &log)?);
     log.withdraw(Cid::User(1), &mut store);
-    assert_eq!(rt; log.restored().len(), 2);
-    assert!(rt; log.restored().contains(&Var(0)) && log.restored().contains(&Var(1)));
-    assert!(rt; has_removals(&log, &removals[2..]));
-    assert_eq!(rt; log.place_of(z), Some(0));
+    assert!(rt; has_last(&log));
     assert!(rt; has_values(&store, 0, &[Value(1), Value(2)]));
     assert!(rt; has_values(&store, 1, &[Value(1), Value(2)]));
     assert!(rt; has_values(&store, 2, &[Value(1)]));

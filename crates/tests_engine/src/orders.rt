@@ -16,33 +16,39 @@ const Y: u32 = 1;
 
 const Z: u32 = 2;
 
+/// Whether x, y and z have these values.
+fn have_values(engine: &Engine<Kind>, x: &[Value], y: &[Value], z: &[Value]) -> bool {
+    has_values(engine.store(), X, x)
+        && has_values(engine.store(), Y, y)
+        && has_values(engine.store(), Z, z)
+}
+
 /// Whether `x < y` and `y < z` leave one value each, and without the first of them y and z have two.
-fn are_settled(alloc: Global, choice: &Choice) -> Result<bool, NoMemory> {
-    let mut engine = engine_of(alloc, 3)?;
+fn are_settled(
+    alloc: Global,
+    engine: &mut Engine<Kind>,
+    choice: &Choice,
+) -> Result<bool, NoMemory> {
     let first = [
         Call::Post(1, Comparison::Less(X, Y)),
         Call::Post(2, Comparison::Less(Y, Z)),
         Call::Settle,
     ];
     let second = [Call::Withdraw(1), Call::Settle];
+    let (one, two) = ([Value(1)], [Value(2)]);
+    let (up, all) = ([Value(1), Value(2)], [Value(1), Value(2), Value(3)]);
     Ok(
-        are_answered(alloc, &mut engine, choice, &first)?
-            && have_values(&engine, &[Value(1)], &[Value(2)], &[Value(3)])
-            && are_answered(alloc, &mut engine, choice, &second)?
-            && have_values(
-                &engine,
-                &[Value(1), Value(2), Value(3)],
-                &[Value(1), Value(2)],
-                &[Value(2), Value(3)],
-            ),
+        are_answered(alloc, engine, choice, &first)?
+            && have_values(engine, &one, &two, &[Value(3)])
+            && are_answered(alloc, engine, choice, &second)?
+            && have_values(engine, &all, &up, &[Value(2), Value(3)]),
     )
 }
 
-/// Whether x, y and z have these values.
-fn have_values(engine: &Engine<Kind>, x: &[Value], y: &[Value], z: &[Value]) -> bool {
-    has_values(engine.store(), X, x)
-        && has_values(engine.store(), Y, y)
-        && has_values(engine.store(), Z, z)
+/// The same, from nothing.
+fn are_settled_anew(alloc: Global, choice: &Choice) -> Result<bool, NoMemory> {
+    let mut engine = engine_of(alloc, 3)?;
+    are_settled(alloc, &mut engine, choice)
 }
 
 /// Whether `x != 2`, `x = y` and `y != 2`, posted together, are settled by so many revisions and leave this log.
@@ -69,9 +75,9 @@ fn has_logged(
 #[test]
 fn domains_do_not_depend_on_the_order(rt: HostRuntime) -> Result<(), Fail> {
     let alloc = rt.alloc();
-    assert!(rt; are_settled(alloc, &Choice::Least)?);
-    assert!(rt; are_settled(alloc, &Choice::Last)?);
-    assert!(rt; are_settled(alloc, &Choice::Rotate)?);
+    assert!(rt; are_settled_anew(alloc, &Choice::Least)?);
+    assert!(rt; are_settled_anew(alloc, &Choice::Last)?);
+    assert!(rt; are_settled_anew(alloc, &Choice::Rotate)?);
     Ok(())
 }
 
