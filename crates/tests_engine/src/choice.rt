@@ -1,0 +1,87 @@
+//! Settlings, each with an order object of its own.
+ghost use Rattle.std.specs.Prelude.{◌≡◌, ◌<◌};
+
+use palm_agenda::{LastOrder, Order, RotateOrder};
+use palm_base::{Cid, NoMemory, Steps};
+use palm_engine::{Engine, Settle};
+use palm_filter::Filter;
+use std::alloc::Global;
+use std::marker::{Brand, Model};
+use std::sync::ledger::{Blank, Ledger};
+
+/// Which object chooses what is revised next.
+#[derive(Clone, Copy, Debug)]
+pub enum Choice {
+    /// None.
+    Least,
+    /// One that answers the last index.
+    Last,
+    /// One that goes round.
+    Rotate,
+    /// One that answers 1 until it is told of a revision, and 0 from then on.
+    SecondOnce,
+}
+
+/// Answers 1 until it is told of a revision, and 0 from then on.
+#[derive(Debug, Drop)]
+struct SecondOnce {
+    index: usize,
+}
+
+impl Model for SecondOnce {
+    ghost use Rattle.std.specs.Prelude.{ℕ};
+
+    ghost Value = { ℕ };
+
+    ghost view = { λ order. order.index };
+}
+
+impl Order for SecondOnce {
+    ghost use Rattle.std.specs.Prelude.{◌≡◌, [], ◌∷◌};
+
+    ghost state = { λ index. index ∷ [] };
+
+    ghost answers = { λ index pending answer after. (answer ≡ index) × (after ≡ index ∷ []) };
+
+    ghost hears = { λ index cid removed after. after ≡ 0 ∷ [] };
+
+    fn next(&mut self, _pending: &[Cid]) -> usize {
+        self.index
+    }
+
+    fn ran(&mut self, _cid: Cid, _removed: u32) {
+        self.index = 0;
+    }
+}
+
+/// A settling that is counted from nothing.
+fn settle_counted<F: Filter, L: Ledger>(
+    alloc: Global,
+    engine: &mut Engine<F>,
+    choice: &Choice,
+    limit: Option<u64>,
+    blank: Blank,
+) -> Result<Settle, NoMemory>
+    requires named { blank.name ≡ L.name }
+    requires parts { blank.parts ≡ L.parts }
+    requires shared { 0 < L.parts }
+{
+    let mut steps = Steps::<L>::start(blank);
+    let mut order: Option<Box<dyn Order>> = match choice {
+        Choice::Least => None,
+        Choice::Last => Some(Box::new(alloc, LastOrder::new())?),
+        Choice::Rotate => Some(Box::new(alloc, RotateOrder::new())?),
+        Choice::SecondOnce => Some(Box::new(alloc, SecondOnce { index: 1 })?),
+    };
+    engine.settle(&mut order, limit, &mut steps)
+}
+
+/// A settling, with a counter and an order object of its own.
+pub fn run_settling<F: Filter>(
+    alloc: Global,
+    engine: &mut Engine<F>,
+    choice: &Choice,
+    limit: Option<u64>,
+) -> Result<Settle, NoMemory> {
+    settle_counted::<F, Brand>(alloc, engine, choice, limit, Blank::new(1))
+}

@@ -1,0 +1,17 @@
+//! Tests of the engine, of its log and of its orders, over public calls.
+#![tactic(auto)]
+
+pub mod calls;
+pub mod choice;
+pub mod comparison;
+#[cfg(test)]
+mod decisions;
+#[cfg(test)]
+mod log;
+#[cfg(test)]
+mod orders;
+#[cfg(test)]
+mod questions;
+pub mod removals;
+#[cfg(test)]
+mod withdrawals;
