@@ -1,0 +1,6 @@
+pub mod Blocking
+pub mod Counting
+pub mod Ending
+pub mod Forcing
+pub mod Refuting
+pub mod Repairing

@@ -43,11 +43,11 @@ no_guide Nothing fits = absurd fits
 no_guide (Asked q) fits = absurd fits
 
 -- a turn, and where it leads
-record IsSameTurn (turn : Turn) (t : SearchState) (other : Turn) (u : SearchState) : Type 0 where
-  same : turn ≡ other
-  state : t ≡ u
+pub record IsSameTurn (turn : Turn) (t : SearchState) (other : Turn) (u : SearchState) : Type 0 where
+  pub same : turn ≡ other
+  pub state : t ≡ u
 
-decides_same : (s : SearchState) (p : Pair) (pick : Pick) (t : SearchState) (q : Pair) (other : Pick) (u : SearchState) → Decides false s p pick t → Decides false s q other u → IsSameTurn (TurnDecide p pick) t (TurnDecide q other) u
+pub decides_same : (s : SearchState) (p : Pair) (pick : Pick) (t : SearchState) (q : Pair) (other : Pick) (u : SearchState) → Decides false s p pick t → Decides false s q other u → IsSameTurn (TurnDecide p pick) t (TurnDecide q other) u
 decides_same s p pick t q other u one two =
     let d = present s.engine in
     let none = no_guide pick one.fits in
@@ -76,13 +76,13 @@ record IsSameLatest (g : Pair) (e l : List Pair) (g' : Pair) (e' l' : List Pair)
   gone : g ≡ g'
   others : e ++ l ≡ e' ++ l'
 
-head_same : (x y : Pair) (xs ys : List Pair) → x ∷ xs ≡ y ∷ ys → x ≡ y
+pub head_same : (x y : Pair) (xs ys : List Pair) → x ∷ xs ≡ y ∷ ys → x ≡ y
 head_same x y xs ys e = cc
 
-tail_same : (x y : Pair) (xs ys : List Pair) → x ∷ xs ≡ y ∷ ys → xs ≡ ys
+pub tail_same : (x y : Pair) (xs ys : List Pair) → x ∷ xs ≡ y ∷ ys → xs ≡ ys
 tail_same x y xs ys e = cc
 
-later_member : (e : List Pair) (g : Pair) (l : List Pair) → Contains (e ++ g ∷ l) g
+pub later_member : (e : List Pair) (g : Pair) (l : List Pair) → Contains (e ++ g ∷ l) g
 later_member e g l = Contains-append_right e (g ∷ l) g (member_here g l)
 
 latest_same : (names : List Cid) (e : List Pair) (g : Pair) (l e' : List Pair) (g' : Pair) (l' : List Pair) → e ++ g ∷ l ≡ e' ++ g' ∷ l'
@@ -119,7 +119,7 @@ undoes_same s g c t g' c' u one two =
 
 -- ---- turns
 
-has_empty : (s : EngineState) (c : List Cid) → HasFlatConflict s c → HasEmpty (present s)
+pub has_empty : (s : EngineState) (c : List Cid) → HasFlatConflict s c → HasEmpty (present s)
 has_empty s c flat = (flat.var, flat.empty)
 
 takes_same : (s : SearchState) → (turn : Turn) (t : SearchState) (other : Turn) (u : SearchState) → Takes false s turn t → Takes false s other u → IsSameTurn turn t other u
@@ -128,7 +128,7 @@ takes_same s (TurnDecide p pick) t (TurnUndo g c) u one two = absurd (not_empty 
 takes_same s (TurnUndo g c) t (TurnDecide q k) u one two = absurd (not_empty (present s.engine) two.filled (has_empty s.engine c one.flat))
 takes_same s (TurnUndo g c) t (TurnUndo g' c') u one two = undoes_same s g c t g' c' u one two
 
-settles_same : (s t u : SearchState) → IsValid s.engine → SettlesAfter false s t → SettlesAfter false s u → t ≡ u
+pub settles_same : (s t u : SearchState) → IsValid s.engine → SettlesAfter false s t → SettlesAfter false s u → t ≡ u
 settles_same s t u valid one two =
     let same = plainly_same None s.engine one.revisions t.engine two.revisions u.engine valid one.fits two.fits one.settles two.settles in
     let lists : t.decisions ≡ u.decisions = one.decisions ∙ sym two.decisions in
@@ -156,7 +156,7 @@ found_not_open d values x found is_open =
     let two = subst (λ e. 2 ≤ length (values_of e x)) found is_open.two in
     omega (arith, k, two)
 
-decided_open : (d : Domains) (pick : Pick) (p : Pair) → IsDecided d pick p → IsOpen d p.var
+pub decided_open : (d : Domains) (pick : Pick) (p : Pair) → IsDecided d pick p → IsOpen d p.var
 decided_open d NoGuide p decided = decided.is_open
 decided_open d Nothing p decided = decided.is_open
 decided_open d (Asked q) p decided = elim decided [
@@ -185,18 +185,18 @@ none_held s users none conflict x flat held =
     let same = flat_same s conflict none.conflict flat none.flat in
     member_nil x (subst (λ l. Contains l x) none.undecided (decided_member none.conflict x (subst (λ l. Contains l (Decide x)) same held)))
 
-goes_not_unsolved : (s : EngineState) → (users : List Cid) → HasNoSolution s users → GoesOn s → ⊥
+pub goes_not_unsolved : (s : EngineState) → (users : List Cid) → HasNoSolution s users → GoesOn s → ⊥
 goes_not_unsolved s users none (could_decide x filled is_open) = not_empty (present s) filled (has_empty s none.conflict none.flat)
 goes_not_unsolved s users none (could_undo x conflict flat held) = none_held s users none conflict x flat held
 
-goes_not_found : (s : EngineState) (values : List ℤ) → IsFound (present s) values → GoesOn s → ⊥
+pub goes_not_found : (s : EngineState) (values : List ℤ) → IsFound (present s) values → GoesOn s → ⊥
 goes_not_found s values found (could_decide x filled is_open) = found_not_open (present s) values x found is_open
 goes_not_found s values found (could_undo x conflict flat held) = found_filled values (subst HasEmpty found (has_empty s conflict flat))
 
 unsolved_not_found : (s : EngineState) (users : List Cid) (values : List ℤ) → HasNoSolution s users → IsFound (present s) values → ⊥
 unsolved_not_found s users values none found = found_filled values (subst HasEmpty found (has_empty s none.conflict none.flat))
 
-ends_same : (budget count : ℕ) (s : EngineState) → (end other : SearchEnd) → EndsWith budget count s end → EndsWith budget count s other → end ≡ other
+pub ends_same : (budget count : ℕ) (s : EngineState) → (end other : SearchEnd) → EndsWith budget count s end → EndsWith budget count s other → end ≡ other
 ends_same budget count s (NoSolution users) (NoSolution users') one two =
     ap NoSolution (one.are ∙ ap (λ l. filter is_user l) (flat_same s one.conflict two.conflict one.flat two.flat) ∙ sym two.are)
 ends_same budget count s (NoSolution users) (Found values) one two = absurd (unsolved_not_found s users values one two)

@@ -48,11 +48,11 @@ order_fits false rs fits = fits
 order_fits true rs fits = tt
 
 -- a settling after a state
-record SettlesTo (ordered : Bool) (s : SearchState) : Type 0 where
-  state : SearchState
-  settles : SettlesAfter ordered s state
+pub record SettlesTo (ordered : Bool) (s : SearchState) : Type 0 where
+  pub state : SearchState
+  pub settles : SettlesAfter ordered s state
 
-settle_exists : (ordered : Bool) (s : SearchState) → IsValid s.engine → SettlesTo ordered s
+pub settle_exists : (ordered : Bool) (s : SearchState) → IsValid s.engine → SettlesTo ordered s
 settle_exists ordered s valid =
     let r = plainly_exists None s.engine valid in
     record {
@@ -84,7 +84,7 @@ negation_con n active (User k) con because p e form = absurd (apart k p e)
     apart k p e = cc
 
 -- a present pair has no active negation there
-quiet_negated : (s : EngineState) → IsValid s → s.pending ≡ [] → (p : Pair) → Has (present s) p.var p.value → IsActive s.active (Not p) → ⊥
+pub quiet_negated : (s : EngineState) → IsValid s → s.pending ≡ [] → (p : Pair) → Has (present s) p.var p.value → IsActive s.active (Not p) → ⊥
 quiet_negated s valid quiet p has is =
     let a = is.owner in
     let con = negation_con (length s.initial) s.active a.cid a.con a.because p is.named (valid.formed a is.posted).form in
@@ -101,7 +101,7 @@ two_values (v ∷ w ∷ vs) ascends two =
     (v, w, member_here v (w ∷ vs), member_there v (w ∷ vs) w (member_here w vs), All-contains (λ u. v <ℤ u) (w ∷ vs) w ascends.0 (member_here w vs))
 
 -- a variable with two values has no active decision
-open_undecided : (s : SearchState) → IsSearching s → s.engine.pending ≡ [] → (x : ℕ) → IsOpen (present s.engine) x → IsActive s.engine.active (Decide x) → ⊥
+pub open_undecided : (s : SearchState) → IsSearching s → s.engine.pending ≡ [] → (x : ℕ) → IsOpen (present s.engine) x → IsActive s.engine.active (Decide x) → ⊥
 open_undecided s searching quiet x is_open is =
     let r = searching.decisions.taken is.owner x is.posted is.named in
     let var : r.0.var ≡ x = same r.0.var x (sym (ap (λ (a : Active). a.cid) r.2) ∙ is.named) in
@@ -138,7 +138,7 @@ lowest_from d (suc n) = elim (lowest_from d n) [
     two_or_not (suc (suc k)) = inl (omega arith)
 
 -- some variable has two values, or none has
-open_or_not : (d : Domains) → ((x : ℕ) × IsOpen d x × ((y : ℕ) → IsOpen d y → x ≤ y)) ⊎ ((x : ℕ) → x < length d → length (values_of d x) < 2)
+pub open_or_not : (d : Domains) → ((x : ℕ) × IsOpen d x × ((y : ℕ) → IsOpen d y → x ≤ y)) ⊎ ((x : ℕ) → x < length d → length (values_of d x) < 2)
 open_or_not d = elim (lowest_from d (length d)) [
   | inr few ↦ inr few
   | inl r ↦ inl (r.0, record { exists = r.1; two = r.2 }, λ y is_open. not_below r.0 y (λ lt. let a = r.3 y lt in let b = is_open.two in omega (arith, a, b)))
@@ -158,7 +158,7 @@ least_value (v ∷ vs) ascends two = (
   ],
 )
 
-default_exists : (d : Domains) (x : ℕ) → AllAscend d → IsOpen d x → ((y : ℕ) → IsOpen d y → x ≤ y) → (p : Pair) × IsDefault d p
+pub default_exists : (d : Domains) (x : ℕ) → AllAscend d → IsOpen d x → ((y : ℕ) → IsOpen d y → x ≤ y) → (p : Pair) × IsDefault d p
 default_exists d x ascend is_open lowest =
     let v = least_value (values_of d x) (ascends_at d x ascend) is_open.two in
     (record { var = x; value = v.0 }, record { is_open = is_open; lowest = lowest; has = v.1; least = v.2 })
@@ -180,12 +180,12 @@ lawful_or_not d q = elim (below_known q.var (length d)) [
   ]
 ]
 
-decided_exists : (d : Domains) (pick : Pick) (p : Pair) → IsDefault d p → (q : Pair) × IsDecided d pick q
+pub decided_exists : (d : Domains) (pick : Pick) (p : Pair) → IsDefault d p → (q : Pair) × IsDecided d pick q
 decided_exists d NoGuide p default = (p, default)
 decided_exists d Nothing p default = (p, default)
 decided_exists d (Asked q) p default = elim (lawful_or_not d q) [ inl l ↦ (q, inl (l, refl)) | inr n ↦ (p, inr (n, default)) ]
 
-decided_lawful : (d : Domains) (pick : Pick) (p : Pair) → IsDecided d pick p → IsLawful d p
+pub decided_lawful : (d : Domains) (pick : Pick) (p : Pair) → IsDecided d pick p → IsLawful d p
 decided_lawful d NoGuide p decided = record { is_open = decided.is_open; has = decided.has }
 decided_lawful d Nothing p decided = record { is_open = decided.is_open; has = decided.has }
 decided_lawful d (Asked q) p decided = elim decided [
@@ -207,11 +207,11 @@ abbrev pub picks_after : Turn → (ℕ → Pick) → ℕ → Pick
 picks_after (TurnDecide pair asked) f k = f (suc k)
 picks_after (TurnUndo gone conflict) f k = f k
 
-picked_more : (f : ℕ → Pick) (turn : Turn) (turns : List Turn) → IsPickedBy (f 0) turn → IsPicked (picks_after turn f) turns → IsPicked f (turn ∷ turns)
+pub picked_more : (f : ℕ → Pick) (turn : Turn) (turns : List Turn) → IsPickedBy (f 0) turn → IsPicked (picks_after turn f) turns → IsPicked f (turn ∷ turns)
 picked_more f (TurnDecide pair asked) turns first rest = (first, rest)
 picked_more f (TurnUndo gone conflict) turns first rest = rest
 
-fits_after : (guided : Bool) (f : ℕ → Pick) (turn : Turn) → ((k : ℕ) → FitsGuide guided (f k)) → (k : ℕ) → FitsGuide guided (picks_after turn f k)
+pub fits_after : (guided : Bool) (f : ℕ → Pick) (turn : Turn) → ((k : ℕ) → FitsGuide guided (f k)) → (k : ℕ) → FitsGuide guided (picks_after turn f k)
 fits_after guided f (TurnDecide pair asked) fits k = fits (suc k)
 fits_after guided f (TurnUndo gone conflict) fits k = fits k
 
@@ -262,7 +262,7 @@ decide_exists guided pick s fits searching none quiet filled x is_open lowest =
 
 -- ---- an undoing
 
-vars_member : (names : List Cid) (x : ℕ) → Contains (decided_vars names) x → Contains names (Decide x)
+pub vars_member : (names : List Cid) (x : ℕ) → Contains (decided_vars names) x → Contains names (Decide x)
 vars_member [] x m = absurd (member_nil x m)
 vars_member (Decide y ∷ names) x m = elim (member_cases y (decided_vars names) x m) [
   | inl e ↦ member_same (Decide y ∷ names) (Decide y) (Decide x) (ap Decide e) (member_here (Decide y) names)
@@ -312,7 +312,7 @@ latest_exists (q ∷ decisions) names p m held = elim (any_known (λ (r : Pair).
   }
 ]
 
-decided_form : (n : ℕ) (active : List Active) (p : Pair) → FitsName n active (decision_of p) → p.var < n
+pub decided_form : (n : ℕ) (active : List Active) (p : Pair) → FitsName n active (decision_of p) → p.var < n
 decided_form n active p formed = let lt = formed.form.2 in lt
 
 others_decided : (decisions : List Pair) (names : List Cid) (gone : Pair) (left : List Pair) → IsLatest decisions names gone left → (p : Pair) → Contains left p → Contains decisions p
@@ -398,7 +398,7 @@ undo_exists guided pick s searching none conflict x flat held =
 
 -- ---- ends
 
-found_exists : (d : Domains) → AllFilled d → ((x : ℕ) → x < length d → length (values_of d x) < 2) → (values : List ℤ) × IsFound d values
+pub found_exists : (d : Domains) → AllFilled d → ((x : ℕ) → x < length d → length (values_of d x) < 2) → (values : List ℤ) × IsFound d values
 found_exists [] filled few = ([], refl)
 found_exists (vs ∷ d) filled few =
     let v = only_value vs (filled 0 (omega arith)) (few 0 (omega arith)) in
@@ -434,7 +434,7 @@ lowest_empty_from d (suc n) = elim (lowest_empty_from d n) [
       | inl lt ↦ elim (list_empty (values_of d x)) [ inl e ↦ inl (record { exists = lt; empty = e }) | inr n ↦ inr (λ e. n e.empty) ]
     ]
 
-lowest_empty : (d : Domains) (x : ℕ) → IsEmptyAt d x → (y : ℕ) × IsEmptyAt d y × ((z : ℕ) → IsEmptyAt d z → y ≤ z)
+pub lowest_empty : (d : Domains) (x : ℕ) → IsEmptyAt d x → (y : ℕ) × IsEmptyAt d y × ((z : ℕ) → IsEmptyAt d z → y ≤ z)
 lowest_empty d x e = elim (lowest_empty_from d (suc x)) [ inl r ↦ r | inr none ↦ absurd (none x (omega arith) e) ]
 
 -- a run has ended here, or a turn can be taken

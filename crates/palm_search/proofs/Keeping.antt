@@ -79,10 +79,10 @@ decides_keep guided s p pick t turn searching = record {
 
 -- ---- undoing
 
-satisfies_decision : (b : Assignment) (p : Pair) → b p.var ≡ p.value → Satisfies b (CompareConst p.var Eq p.value)
+pub satisfies_decision : (b : Assignment) (p : Pair) → b p.var ≡ p.value → Satisfies b (CompareConst p.var Eq p.value)
 satisfies_decision b p e part m = subst (λ q. Holds q b) (member_single (CompareConstPart p.var Eq p.value) part m) e
 
-satisfies_negation : (b : Assignment) (p : Pair) → (b p.var ≡ p.value → ⊥) → Satisfies b (CompareConst p.var Ne p.value)
+pub satisfies_negation : (b : Assignment) (p : Pair) → (b p.var ≡ p.value → ⊥) → Satisfies b (CompareConst p.var Ne p.value)
 satisfies_negation b p n part m = subst (λ q. Holds q b) (member_single (CompareConstPart p.var Ne p.value) part m) n
 
 -- what satisfies the rest of the flat conflict and the decision satisfies all of it

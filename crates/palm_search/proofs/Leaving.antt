@@ -38,13 +38,13 @@ pub record Searched (s m : EngineState) : Type 0 where
   pub later : (a : Active) → Contains m.active a → IsActive s.active a.cid ⊎ (is_user a.cid ≡ false)
 
 -- what is no user's is later than a state with users alone
-searcher_later : (s : EngineState) → HasOnlyUsers s → (c : Cid) → is_user c ≡ false → IsNew s c
+pub searcher_later : (s : EngineState) → HasOnlyUsers s → (c : Cid) → is_user c ≡ false → IsNew s c
 searcher_later s users c f is = false≢true (sym f ∙ subst (λ d. is_user d ≡ true) is.named (users is.owner is.posted))
 
 pub searched_none : (s : EngineState) → IsValid s → Searched s s
 searched_none s valid = record { valid = valid; carries = carries_none s; initial = refl; later = λ a m. inl (record { owner = a; posted = m; named = refl }) }
 
-searched_posted : (s m : EngineState) (a : Active) (t : EngineState) → is_user a.cid ≡ false → Posts m a t → Searched s m → Searched s t
+pub searched_posted : (s m : EngineState) (a : Active) (t : EngineState) → is_user a.cid ≡ false → Posts m a t → Searched s m → Searched s t
 searched_posted s m a t f posts searched = record {
   valid = posts_valid m t a posts searched.valid;
   carries = carries_posted s m a t posts searched.carries;
@@ -55,7 +55,7 @@ searched_posted s m a t f posts searched = record {
   ];
 }
 
-searched_withdrawn : (s m : EngineState) (gone : List Cid) (t : EngineState) → KeepsGrounds m.active gone → AreNew s gone → WithdrawsAll m gone t → IsValid s → Searched s m → Searched s t
+pub searched_withdrawn : (s m : EngineState) (gone : List Cid) (t : EngineState) → KeepsGrounds m.active gone → AreNew s gone → WithdrawsAll m gone t → IsValid s → Searched s m → Searched s t
 searched_withdrawn s m gone t keeps later withdraws valid searched = record {
   valid = withdraws_all_valid m t gone keeps withdraws searched.valid;
   carries = carries_withdrawn s m gone t withdraws later valid searched.valid searched.carries;
@@ -63,7 +63,7 @@ searched_withdrawn s m gone t keeps later withdraws valid searched = record {
   later = λ b k. searched.later b (without_names_member gone m.active b (subst (λ (z : EngineState). Contains z.active b) withdraws.after k)).0;
 }
 
-searched_filtered : ReasonsAreRight → (s m t : EngineState) → Filters m t → IsValid s → IsStill s → Searched s m → Searched s t
+pub searched_filtered : ReasonsAreRight → (s m t : EngineState) → Filters m t → IsValid s → IsStill s → Searched s m → Searched s t
 searched_filtered right s m t filters valid still searched = record {
   valid = filters_valid right m t filters searched.valid;
   carries = run_carries right s m filters.steps t filters.run valid still searched.valid (withdraws_none s filters.steps filters.filtering) searched.carries;
@@ -85,7 +85,7 @@ searched_takes guided s m (TurnUndo gone conflict) t users valid takes searched 
     (gone_grounds (length m.engine.initial) m.engine.active cid searched.valid.formed) (gone_later s m.engine cid searched.carries valid searched.valid later) takes.withdraws valid searched in
     searched_posted s takes.middle (negation_of gone _) t.engine refl takes.posts middle
 
-searched_settles : ReasonsAreRight → (ordered : Bool) (s : EngineState) (m t : SearchState) → SettlesAfter ordered m t → IsValid s → IsStill s → Searched s m.engine → Searched s t.engine
+pub searched_settles : ReasonsAreRight → (ordered : Bool) (s : EngineState) (m t : SearchState) → SettlesAfter ordered m t → IsValid s → IsStill s → Searched s m.engine → Searched s t.engine
 searched_settles right ordered s m t settles valid still searched =
     searched_filtered right s m.engine t.engine (settling_filters None m.engine settles.revisions t.engine settles.settles) valid still searched
 
@@ -111,7 +111,7 @@ stays_user active a m n = elim (cases_Bool (is_user a.cid)) [
   | inr f ↦ absurd (n (member_map (λ (b : Active). b.cid) (filter (λ b. not (is_user b.cid)) active) a (member_filter (λ (b : Active). not (is_user b.cid)) active a m (ap not f))))
 ]
 
-user_ground : (c : Cid) → is_user c ≡ true → IsGround c
+pub user_ground : (c : Cid) → is_user c ≡ true → IsGround c
 user_ground (Decide x) t = tt
 user_ground (Not p) t = false≢true t
 user_ground (User n) t = tt
@@ -159,7 +159,7 @@ pub record Remembers (s m : EngineState) : Type 0 where
   pub active : (a : Active) → Contains s.active a → Contains m.active a
   pub users : (a : Active) → Contains m.active a → is_user a.cid ≡ true → IsActive s.active a.cid
 
-remembers_posted : (s m : EngineState) (a : Active) (t : EngineState) → is_user a.cid ≡ false → Posts m a t → Remembers s m → Remembers s t
+pub remembers_posted : (s m : EngineState) (a : Active) (t : EngineState) → is_user a.cid ≡ false → Posts m a t → Remembers s m → Remembers s t
 remembers_posted s m a t f posts old = record {
   initial = ap (λ (z : EngineState). z.initial) posts.after ∙ old.initial;
   active = λ b k. subst (λ (z : EngineState). Contains z.active b) (sym posts.after) (member_with_posted a m.active b posts.inactive (old.active b k));
@@ -169,7 +169,7 @@ remembers_posted s m a t f posts old = record {
   ];
 }
 
-remembers_withdrawn : (s m : EngineState) (gone : List Cid) (t : EngineState) → AreNew s gone → WithdrawsAll m gone t → Remembers s m → Remembers s t
+pub remembers_withdrawn : (s m : EngineState) (gone : List Cid) (t : EngineState) → AreNew s gone → WithdrawsAll m gone t → Remembers s m → Remembers s t
 remembers_withdrawn s m gone t later withdraws old = record {
   initial = ap (λ (z : EngineState). z.initial) withdraws.after ∙ old.initial;
   active = λ b k. subst (λ (z : EngineState). Contains z.active b) (sym withdraws.after)
@@ -177,7 +177,7 @@ remembers_withdrawn s m gone t later withdraws old = record {
   users = λ b k user. old.users b (without_names_member gone m.active b (subst (λ (z : EngineState). Contains z.active b) withdraws.after k)).0 user;
 }
 
-remembers_filtered : (s m t : EngineState) → Filters m t → Remembers s m → Remembers s t
+pub remembers_filtered : (s m t : EngineState) → Filters m t → Remembers s m → Remembers s t
 remembers_filtered s m t filters old = record {
   initial = filters.initial ∙ old.initial;
   active = λ b k. subst (λ l. Contains l b) (sym filters.active) (old.active b k);
@@ -185,13 +185,13 @@ remembers_filtered s m t filters old = record {
 }
 
 -- what goes with a decision is no user
-gone_no_user : (n : ℕ) (active : List Active) (x : ℕ) → ((a : Active) → Contains active a → FitsName n active a) → (c : Cid) → Contains (gone_with active (Decide x)) c → is_user c ≡ true → ⊥
+pub gone_no_user : (n : ℕ) (active : List Active) (x : ℕ) → ((a : Active) → Contains active a → FitsName n active a) → (c : Cid) → Contains (gone_with active (Decide x)) c → is_user c ≡ true → ⊥
 gone_no_user n active x formed c m user = ground_stays n active (Decide x) formed c (user_ground c user) (not_decision c x user) m
   where
     not_decision : (c : Cid) (x : ℕ) → is_user c ≡ true → c ≡ Decide x → ⊥
     not_decision c x user e = false≢true (subst (λ d. is_user d ≡ true) e user)
 
-users_later : (s : EngineState) → HasOnlyUsers s → (gone : List Cid) → ((c : Cid) → Contains gone c → is_user c ≡ true → ⊥) → AreNew s gone
+pub users_later : (s : EngineState) → HasOnlyUsers s → (gone : List Cid) → ((c : Cid) → Contains gone c → is_user c ≡ true → ⊥) → AreNew s gone
 users_later s users gone none c m is = none c m (subst (λ d. is_user d ≡ true) is.named (users is.owner is.posted))
 
 remembers_takes : (guided : Bool) (s : EngineState) (m : SearchState) (turn : Turn) (t : SearchState) → HasOnlyUsers s → IsValid m.engine → Takes guided m turn t → Remembers s m.engine → Remembers s t.engine
@@ -201,7 +201,7 @@ remembers_takes guided s m (TurnUndo gone conflict) t users valid takes old =
     let later = users_later s users names (gone_no_user (length m.engine.initial) m.engine.active gone.var valid.formed) in
     remembers_posted s takes.middle (negation_of gone _) t.engine refl takes.posts (remembers_withdrawn s m.engine names takes.middle later takes.withdraws old)
 
-remembers_settles : (ordered : Bool) (s : EngineState) (m t : SearchState) → SettlesAfter ordered m t → Remembers s m.engine → Remembers s t.engine
+pub remembers_settles : (ordered : Bool) (s : EngineState) (m t : SearchState) → SettlesAfter ordered m t → Remembers s m.engine → Remembers s t.engine
 remembers_settles ordered s m t settles old = remembers_filtered s m.engine t.engine (settling_filters None m.engine settles.revisions t.engine settles.settles) old
 
 remembers_turns : ReasonsAreRight → (guided ordered : Bool) (s : EngineState) (m : SearchState) (turns : List Turn) (t : SearchState) → HasOnlyUsers s → IsSearching m → Turns guided ordered m turns t → Remembers s m.engine → Remembers s t.engine
@@ -268,23 +268,25 @@ run_users s t users ended none c m =
 -- ---- what is left after a search
 
 -- the constraints and the declared values are those from before, and nothing is pending or a domain is empty
-pub search_rests : ReasonsAreRight → (guided ordered : Bool) (budget : ℕ) (s : EngineState) (turns : List Turn) (end : SearchEnd) (t : EngineState) → HasOnlyUsers s → IsValid s → Searches guided ordered budget s turns end t → Rests s t
-search_rests right guided ordered budget s turns end t users valid searches =
-    let ended = run_ended right guided ordered budget s turns end searches.last users valid searches.run in
-    let m = searches.last.engine in
-    let closes = searches.closes in
+pub ended_rests : ReasonsAreRight → (ordered : Bool) (s : EngineState) (last : SearchState) (t : EngineState) → HasOnlyUsers s → IsValid s → Ended s last → Closes ordered last.engine t → Rests s t
+ended_rests right ordered s last t users valid ended closes =
+    let m = last.engine in
     let later = users_later s users (search_cids m.active) (λ c k user. false≢true (sym (search_member m.active c k) ∙ user)) in
     let closed = remembers_withdrawn s m (search_cids m.active) closes.middle later closes.withdraws ended.remembers in
     let filters = settling_filters None closes.middle closes.revisions t closes.settles in
-    let last = remembers_filtered s closes.middle t filters closed in
+    let kept = remembers_filtered s closes.middle t filters closed in
     let valid' = withdraws_all_valid m closes.middle (search_cids m.active) (closing_keeps m ended.searching.valid) closes.withdraws ended.searching.valid in
     let valid_t = filters_valid right closes.middle t filters valid' in
     let back : (a : Active) → Contains t.active a → Contains s.active a = λ a k.
     let r = without_names_member (search_cids m.active) m.active a (subst (λ (z : EngineState). Contains z.active a) closes.withdraws.after (subst (λ l. Contains l a) filters.active k)) in
-    user_before s searches.last ended a r.0 (stays_user m.active a r.0 r.1) in
+    user_before s last ended a r.0 (stays_user m.active a r.0 r.1) in
     record {
       valid = valid_t;
-      active = active_same t.active s.active valid_t.rising valid.rising back last.active;
-      initial = last.initial;
+      active = active_same t.active s.active valid_t.rising valid.rising back kept.active;
+      initial = kept.initial;
       still = settling_still closes.middle closes.revisions t closes.settles;
     }
+
+pub search_rests : ReasonsAreRight → (guided ordered : Bool) (budget : ℕ) (s : EngineState) (turns : List Turn) (end : SearchEnd) (t : EngineState) → HasOnlyUsers s → IsValid s → Searches guided ordered budget s turns end t → Rests s t
+search_rests right guided ordered budget s turns end t users valid searches =
+    ended_rests right ordered s searches.last t users valid (run_ended right guided ordered budget s turns end searches.last users valid searches.run) searches.closes
