@@ -288,12 +288,12 @@ posts_from_leaves s number (nogood ∷ left) t posts =
     leaves_then s posts.0 t (posts_for_leaves s number nogood (undecided s.search.decisions nogood) posts.0 posts.1) (posts_from_leaves posts.0 (number + 1) left t posts.2)
 
 -- so many nogoods of the list were walked, and these are left
-record IsWalked (s : RepairState) (number : ℕ) (left : List Nogood) : Type 0 where
-  earlier : List Nogood
-  are : s.nogoods ≡ earlier ++ left
-  counts : number ≡ s.dropped + length earlier
+pub record IsWalked (s : RepairState) (number : ℕ) (left : List Nogood) : Type 0 where
+  pub earlier : List Nogood
+  pub are : s.nogoods ≡ earlier ++ left
+  pub counts : number ≡ s.dropped + length earlier
 
-walked_more : (s t : RepairState) (number : ℕ) (nogood : Nogood) (left : List Nogood) → Leaves s t → IsWalked s number (nogood ∷ left) → IsWalked t (number + 1) left
+pub walked_more : (s t : RepairState) (number : ℕ) (nogood : Nogood) (left : List Nogood) → Leaves s t → IsWalked s number (nogood ∷ left) → IsWalked t (number + 1) left
 walked_more s t number nogood left leaves walked = record {
   earlier = walked.earlier ++ nogood ∷ [];
   are = leaves.nogoods ∙ walked.are ∙ sym (append_assoc walked.earlier (nogood ∷ []) left);
@@ -313,11 +313,15 @@ posts_from_keeps s number (nogood ∷ left) t posts walked repairing =
     posts_from_keeps m (number + 1) left t posts.2 (walked_more s m number nogood left leaves walked)
     (posts_for_keeps s number nogood (undecided s.search.decisions nogood) m refl posts.1 numbered repairing)
 
-pub posting_keeps : (s t : RepairState) → PostsAll s t → IsRepairing s → IsRepairing t
-posting_keeps s t posts repairing = posts_from_keeps s s.dropped s.nogoods t posts (record { earlier = []; are = refl; counts = plus_none s.dropped }) repairing
+-- before the walk all are left
+pub none_walked : (s : RepairState) → IsWalked s s.dropped s.nogoods
+none_walked s = record { earlier = []; are = refl; counts = plus_none s.dropped }
   where
     plus_none : (n : ℕ) → n ≡ n + 0
     plus_none n = omega arith
+
+pub posting_keeps : (s t : RepairState) → PostsAll s t → IsRepairing s → IsRepairing t
+posting_keeps s t posts repairing = posts_from_keeps s s.dropped s.nogoods t posts (none_walked s) repairing
 
 -- ---- what the walk forces
 

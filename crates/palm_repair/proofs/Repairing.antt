@@ -23,13 +23,13 @@ use Rattle.palm_engine.proofs.Settled.{settling_filters}
 use Rattle.palm_search.specs.declared.turn.Pick.{Pick}
 use Rattle.palm_search.specs.declared.turn.Turn.{Turn}
 use Rattle.palm_search.specs.declared.turn.Turn.TheVariants.{Decide as TurnDecide, Undo as TurnUndo}
-use Rattle.palm_search.specs.Turns.{SearchState, decision_of, decided_vars}
+use Rattle.palm_search.specs.Turns.{SearchState, Decides, HasFlatConflict, decision_of, decided_vars}
 use Rattle.palm_search.specs.Kept.{HasOnlyUsers, IsSearching}
 use Rattle.palm_search.proofs.Deciding.{withdrawn_has, others_taken}
-use Rattle.palm_search.proofs.Keeping.{begins, takes_keep, settles_keep}
+use Rattle.palm_search.proofs.Keeping.{begins, user_not, takes_keep, settles_keep}
 use Rattle.palm_search.proofs.Leaving.{gone_no_user}
 use Rattle.palm_repair.specs.Posting.{Nogood, Origin, RepairState, nogood_of, active_origins}
-use Rattle.palm_repair.specs.Repair.{RepairDecides, Drops, MakesRoom, RepairUndoes, RepairTakes, RepairSettles, RepairFollows, RepairTurns, raised_from, raised, negations_from, forced_by, repair_begun}
+use Rattle.palm_repair.specs.Repair.{RepairDecides, IsHeaviest, Drops, MakesRoom, RepairUndoes, RepairTakes, RepairSettles, RepairFollows, RepairTurns, raised_from, raised, negations_from, forced_by, repair_begun}
 use Rattle.palm_repair.specs.Kept.{IsNogood, IsNumbered, HasOrigins, IsRepairing}
 use Rattle.palm_repair.proofs.Refuting.{KeepsUsers, users_posted, users_withdrawn, users_filtered, users_then, nogood_kept, flat_nogood}
 use Rattle.palm_repair.proofs.Forcing.{comes_same, posting_keeps}
@@ -68,22 +68,25 @@ origins_fewer s search weights old origins =
 not_negation : (x : ℕ) (p : Pair) → Decide x ≡ Not p → ⊥
 not_negation x p e = cc
 
-pub decides_keep : (guided : Bool) (s : RepairState) (p : Pair) (pick : Pick) (t : RepairState) → RepairDecides guided s p pick t → IsRepairing s → IsRepairing t
-decides_keep guided s p pick t turn repairing =
-    let middle = turn.middle in
-    let posts = turn.decides.posts in
+-- after the decision, before the negations that follow
+pub decided_repairing : (guided : Bool) (s : RepairState) (p : Pair) (pick : Pick) (middle : SearchState) → Decides guided s.search p pick middle → IsRepairing s → IsRepairing (record s { search = middle })
+decided_repairing guided s p pick middle decides repairing =
+    let posts = decides.posts in
     let a = decision_of p in
     let ea : middle.engine.active ≡ with_posted a s.search.engine.active = ap (λ (z : EngineState). z.active) posts.after in
     let keeps = users_posted s.search.engine a middle.engine posts in
-    posting_keeps (record s { search = middle }) t turn.posts (record {
-      searching = takes_keep guided s.search (TurnDecide p pick) middle turn.decides repairing.searching;
+    record {
+      searching = takes_keep guided s.search (TurnDecide p pick) middle decides repairing.searching;
       nogoods = λ n m. nogood_kept s.search.engine middle.engine n keeps (repairing.nogoods n m);
       origins = origins_moved s middle (λ b q m named. elim (with_posted_cases a s.search.engine.active b (subst (λ l. Contains l b) ea m)) [
         | inl e ↦ absurd (not_negation p.var q (ap (λ (c : Active). c.cid) e ∙ named))
         | inr k ↦ k
       ]) (λ b m. subst (λ l. Contains l b) (sym ea) (member_with_posted a s.search.engine.active b posts.inactive m)) repairing.origins;
       weighed = repairing.weighed ∙ ap length (sym keeps.initial);
-    })
+    }
+
+pub decides_keep : (guided : Bool) (s : RepairState) (p : Pair) (pick : Pick) (t : RepairState) → RepairDecides guided s p pick t → IsRepairing s → IsRepairing t
+decides_keep guided s p pick t turn repairing = posting_keeps (record s { search = turn.middle }) t turn.posts (decided_repairing guided s p pick turn.middle turn.decides repairing)
 
 -- ---- withdrawing
 
@@ -175,7 +178,7 @@ roomy_searching s number origins engine withdraws searching =
       };
     }
 
-tail_of : (x y : Nogood) (xs ys : List Nogood) → x ∷ xs ≡ y ∷ ys → xs ≡ ys
+pub tail_of : (x y : Nogood) (xs ys : List Nogood) → x ∷ xs ≡ y ∷ ys → xs ≡ ys
 tail_of x y xs ys e = cc
 
 -- a listed nogood other than the oldest one keeps its number
@@ -283,30 +286,30 @@ appended_repairing s nogood is repairing = record {
   weighed = repairing.weighed;
 }
 
--- what is known between the withdrawals and the posting of an undoing
-pub record Undone (tabu : ℕ) (s : RepairState) (gone : Pair) (conflict : List Cid) (t : RepairState) (turn : RepairUndoes tabu s gone conflict t) : Type 0 where
-  pub withdrawn : IsRepairing (undone s turn.engine turn.left (decided_vars conflict))
-  pub roomy : IsRepairing turn.roomy
-  pub appended : IsRepairing (record turn.roomy { nogoods = turn.roomy.nogoods ++ nogood_of s.search.decisions conflict ∷ [] })
+-- after the withdrawal, whichever decision was the heaviest
+pub withdrawn_repairing : (s : RepairState) (gone : Pair) (conflict : List Cid) (left : List Pair) (engine : EngineState) → IsHeaviest (raised s.weights (decided_vars conflict)) s.search.decisions conflict gone left
+    → Withdraws s.search.engine (Decide gone.var) engine → IsRepairing s → IsRepairing (undone s engine left (decided_vars conflict))
+withdrawn_repairing s gone conflict left engine heaviest withdraws repairing =
+    subst (λ l. IsRepairing (undone s engine l (decided_vars conflict))) (sym heaviest.others)
+    (undone_repairing s gone heaviest.earlier heaviest.later engine (decided_vars conflict) heaviest.are withdraws repairing)
 
-pub undoes_known : (tabu : ℕ) (s : RepairState) (gone : Pair) (conflict : List Cid) (t : RepairState) (turn : RepairUndoes tabu s gone conflict t) → IsRepairing s → Undone tabu s gone conflict t turn
-undoes_known tabu s gone conflict t turn repairing =
-    let heaviest = turn.heaviest in
-    let engine = turn.engine in
-    let vars = decided_vars conflict in
+-- with room made and the nogood of the flat conflict appended
+pub roomy_repairing : (tabu : ℕ) (s : RepairState) (gone : Pair) (conflict : List Cid) (left : List Pair) (engine : EngineState) (roomy : RepairState) → HasFlatConflict s.search.engine conflict
+    → IsHeaviest (raised s.weights (decided_vars conflict)) s.search.decisions conflict gone left → Withdraws s.search.engine (Decide gone.var) engine → MakesRoom tabu (undone s engine left (decided_vars conflict)) roomy
+    → IsRepairing s → IsRepairing (record roomy { nogoods = roomy.nogoods ++ nogood_of s.search.decisions conflict ∷ [] })
+roomy_repairing tabu s gone conflict left engine roomy flat heaviest withdraws room repairing =
+    let m : RepairState = undone s engine left (decided_vars conflict) in
     let nogood = nogood_of s.search.decisions conflict in
-    let withdrawn : IsRepairing (undone s engine turn.left vars) = subst (λ l. IsRepairing (undone s engine l vars)) (sym heaviest.others)
-    (undone_repairing s gone heaviest.earlier heaviest.later engine vars heaviest.are turn.withdraws repairing) in
-    let roomy = room_keeps tabu (undone s engine turn.left vars) turn.roomy turn.makes_room withdrawn in
-    let keeps = users_then s.search.engine engine turn.roomy.search.engine
-    (users_withdrawn s.search.engine (gone_with s.search.engine.active (Decide gone.var)) engine (decision_no_user s.search.engine repairing.searching.valid gone.var) turn.withdraws)
-    (room_users tabu (undone s engine turn.left vars) turn.roomy turn.makes_room) in
-    let is = nogood_kept s.search.engine turn.roomy.search.engine nogood keeps (flat_nogood s.search conflict repairing.searching turn.flat) in
-    record { withdrawn = withdrawn; roomy = roomy; appended = appended_repairing turn.roomy nogood is roomy }
+    let keeps = users_then s.search.engine engine roomy.search.engine
+    (users_withdrawn s.search.engine (gone_with s.search.engine.active (Decide gone.var)) engine (decision_no_user s.search.engine repairing.searching.valid gone.var) withdraws) (room_users tabu m roomy room) in
+    let is = nogood_kept s.search.engine roomy.search.engine nogood keeps (flat_nogood s.search conflict repairing.searching flat) in
+    appended_repairing roomy nogood is (room_keeps tabu m roomy room (withdrawn_repairing s gone conflict left engine heaviest withdraws repairing))
 
 pub undoes_keep : (tabu : ℕ) (s : RepairState) (gone : Pair) (conflict : List Cid) (t : RepairState) → RepairUndoes tabu s gone conflict t → IsRepairing s → IsRepairing t
 undoes_keep tabu s gone conflict t turn repairing =
-    posting_keeps (record turn.roomy { nogoods = turn.roomy.nogoods ++ nogood_of s.search.decisions conflict ∷ [] }) t turn.posts (undoes_known tabu s gone conflict t turn repairing).appended
+    let roomy = turn.roomy in
+    posting_keeps (record roomy { nogoods = roomy.nogoods ++ nogood_of s.search.decisions conflict ∷ [] }) t turn.posts
+    (roomy_repairing tabu s gone conflict turn.left turn.engine roomy turn.flat turn.heaviest turn.withdraws turn.makes_room repairing)
 
 -- ---- turns
 
@@ -335,9 +338,6 @@ repair_turns_keep right guided ordered tabu s (turn ∷ turns) t run repairing =
     repair_turns_keep right guided ordered tabu run.0 turns t run.2 (repair_follows_keep right guided ordered tabu s turn run.0 run.1 repairing)
 
 -- ---- the beginning
-
-user_not : (c : Cid) (p : Pair) → is_user c ≡ true → c ≡ Not p → ⊥
-user_not c p t e = false≢true (subst (λ d. is_user d ≡ true) e t)
 
 pub repair_begins : (s : EngineState) → IsValid s → HasOnlyUsers s → IsRepairing (repair_begun s)
 repair_begins s valid users = record {

@@ -1,5 +1,5 @@
 //! Laws on repairs. In each of them all active negations are justified, each by a listed nogood (`IsRepairing`).
-ghost use Rattle.std.specs.Prelude.{◌≡◌, ℕ, ℤ, Bool, List, Contains};
+ghost use Rattle.std.specs.Prelude.{◌≡◌, ℕ, ℤ, ◌<◌, ◌≤◌, Bool, false, List, length, Contains};
 ghost use Rattle.palm_base.specs.declared.terms.Pair.{Pair};
 ghost use Rattle.palm_base.specs.declared.terms.Cid.{Cid};
 ghost use Rattle.palm_base.specs.declared.terms.Cid.TheVariants.{Not};
@@ -10,12 +10,14 @@ ghost use Rattle.palm_model.specs.Log.{Active, IsActive, Named, cons_of};
 ghost use Rattle.palm_model.specs.State.{EngineState, IsValid};
 ghost use Rattle.palm_model.specs.Conflict.{IsJustified};
 ghost use Rattle.palm_events.specs.Along.{IsStill};
+ghost use Rattle.palm_search.specs.declared.turn.Pick.{Pick};
 ghost use Rattle.palm_search.specs.declared.turn.Turn.{Turn};
+ghost use Rattle.palm_search.specs.Turns.{FitsGuide};
 ghost use Rattle.palm_search.specs.Search.{SearchEnd};
 ghost use Rattle.palm_search.specs.Search.SearchEnd.{Found, NoSolution};
 ghost use Rattle.palm_search.specs.Kept.{HasOnlyUsers, Rests};
 ghost use Rattle.palm_repair.specs.Posting.{RepairState, PostsAll};
-ghost use Rattle.palm_repair.specs.Repair.{MakesRoom, RepairTakes, RepairSettles, RepairTurns, Repairs, repair_begun};
+ghost use Rattle.palm_repair.specs.Repair.{MakesRoom, RepairTakes, RepairSettles, RepairTurns, Repairs, RepairsTo, IsSameRepair, repair_begun};
 ghost use Rattle.palm_repair.specs.Kept.{ComesFrom, IsRepairing, HasNoneWhole, IsPosted, IsAtTurn};
 
 /// A valid state in which no decision and no negation is active begins a repair.
@@ -100,4 +102,24 @@ pub fn repairs_leave_the_log()
     ensures { (guided ordered : Bool) (tabu budget dropped : ℕ) (s t : EngineState) (turns : List Turn) (end : SearchEnd)
         → HasOnlyUsers s → IsValid s → IsStill s → Repairs guided ordered tabu budget s turns end dropped t
         → t.log ≡ s.log }
+{}
+
+/// No more nogoods are listed than the tabu length says.
+pub fn listed_nogoods_are_few()
+    ensures { (guided : Bool) (tabu : ℕ) (s t : RepairState) (turn : Turn)
+        → RepairTakes guided tabu s turn t → length s.nogoods ≤ tabu → length t.nogoods ≤ tabu }
+{}
+
+/// Whatever a guide picks, there is a repair with these picks for every budget and every tabu length above 0.
+pub fn repairs_exist()
+    ensures { (guided ordered : Bool) (tabu : ℕ) (f : ℕ → Pick) → ((k : ℕ) → FitsGuide guided (f k))
+        → (budget : ℕ) (s : EngineState) → 0 < tabu → IsValid s → HasOnlyUsers s
+        → RepairsTo guided ordered tabu f budget s }
+{}
+
+/// Without guide and order there is no other one.
+pub fn repairs_without_guide_and_order_are_unique()
+    ensures { (tabu budget : ℕ) (s t u : EngineState) (turns others : List Turn) (end other : SearchEnd) (dropped lost : ℕ)
+        → IsValid s → HasOnlyUsers s → Repairs false false tabu budget s turns end dropped t
+        → Repairs false false tabu budget s others other lost u → IsSameRepair turns end dropped t others other lost u }
 {}

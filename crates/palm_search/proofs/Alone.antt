@@ -185,11 +185,11 @@ none_held s users none conflict x flat held =
     let same = flat_same s conflict none.conflict flat none.flat in
     member_nil x (subst (λ l. Contains l x) none.undecided (decided_member none.conflict x (subst (λ l. Contains l (Decide x)) same held)))
 
-pub goes_not_unsolved : (s : EngineState) → (users : List Cid) → HasNoSolution s users → GoesOn s → ⊥
+goes_not_unsolved : (s : EngineState) → (users : List Cid) → HasNoSolution s users → GoesOn s → ⊥
 goes_not_unsolved s users none (could_decide x filled is_open) = not_empty (present s) filled (has_empty s none.conflict none.flat)
 goes_not_unsolved s users none (could_undo x conflict flat held) = none_held s users none conflict x flat held
 
-pub goes_not_found : (s : EngineState) (values : List ℤ) → IsFound (present s) values → GoesOn s → ⊥
+goes_not_found : (s : EngineState) (values : List ℤ) → IsFound (present s) values → GoesOn s → ⊥
 goes_not_found s values found (could_decide x filled is_open) = found_not_open (present s) values x found is_open
 goes_not_found s values found (could_undo x conflict flat held) = found_filled values (subst HasEmpty found (has_empty s conflict flat))
 
@@ -213,11 +213,11 @@ takes_goes : (guided : Bool) (s : SearchState) (turn : Turn) (t : SearchState) �
 takes_goes guided s (TurnDecide p pick) t takes = could_decide p.var takes.filled (decided_open (present s.engine) pick p takes.decided)
 takes_goes guided s (TurnUndo g c) t takes = could_undo g.var c takes.flat takes.latest.held
 
--- a run that has ended takes no turn
-end_stops : (guided : Bool) (budget count more : ℕ) (s : SearchState) → (end : SearchEnd) (turn : Turn) (t : SearchState) → EndsWith budget count s.engine end → count + suc more ≤ budget → Takes guided s turn t → ⊥
-end_stops guided budget count more s (NoSolution users) turn t ends le takes = goes_not_unsolved s.engine users ends (takes_goes guided s turn t takes)
-end_stops guided budget count more s (Found values) turn t ends le takes = goes_not_found s.engine values ends (takes_goes guided s turn t takes)
-end_stops guided budget count more s (Spent turns) turn t ends le takes = let e = ends.1 in omega (arith, e)
+-- a run that has ended does not go on
+pub end_stops : (budget count more : ℕ) (s : EngineState) → (end : SearchEnd) → EndsWith budget count s end → count + suc more ≤ budget → GoesOn s → ⊥
+end_stops budget count more s (NoSolution users) ends le goes = goes_not_unsolved s users ends goes
+end_stops budget count more s (Found values) ends le goes = goes_not_found s values ends goes
+end_stops budget count more s (Spent turns) ends le goes = let e = ends.1 in omega (arith, e)
 
 -- ---- runs
 
@@ -235,9 +235,9 @@ turns_same right budget n s searching [] end t [] end' u one two wt wu et eu = r
   state = one ∙ sym two;
 }
 turns_same right budget n s searching [] end t (turn ∷ turns') end' u one two wt wu et eu =
-    absurd (end_stops false budget (n + 0) (length turns') s end turn two.1.middle (subst (λ (z : SearchState). EndsWith budget (n + 0) z.engine end) one et) (omega arith) two.1.takes)
+    absurd (end_stops budget (n + 0) (length turns') s.engine end (subst (λ (z : SearchState). EndsWith budget (n + 0) z.engine end) one et) (omega arith) (takes_goes false s turn two.1.middle two.1.takes))
 turns_same right budget n s searching (turn ∷ turns) end t [] end' u one two wt wu et eu =
-    absurd (end_stops false budget (n + 0) (length turns) s end' turn one.1.middle (subst (λ (z : SearchState). EndsWith budget (n + 0) z.engine end') two eu) (omega arith) one.1.takes)
+    absurd (end_stops budget (n + 0) (length turns) s.engine end' (subst (λ (z : SearchState). EndsWith budget (n + 0) z.engine end') two eu) (omega arith) (takes_goes false s turn one.1.middle one.1.takes))
 turns_same right budget n s searching (turn ∷ turns) end t (other ∷ turns') end' u one two wt wu et eu =
     let first = follows_same s searching turn one.0 other two.0 one.1 two.1 in
     let searching' = settles_keep right false one.1.middle one.0 one.1.settles (takes_keep false s turn one.1.middle one.1.takes searching) in

@@ -32,7 +32,7 @@ use Rattle.palm_search.specs.declared.turn.Pick.TheVariants.{NoGuide, Nothing, A
 use Rattle.palm_search.specs.declared.turn.Turn.{Turn}
 use Rattle.palm_search.specs.declared.turn.Turn.TheVariants.{Decide as TurnDecide, Undo as TurnUndo}
 use Rattle.palm_search.specs.Turns.IsUnlawful.{no_variable, few_values, no_value}
-use Rattle.palm_search.specs.Turns.{SearchState, IsOpen, IsLawful, IsUnlawful, IsDefault, IsDecided, FitsGuide, HasFlatConflict, IsLatest, Takes, SettlesAfter, Follows, Turns, decision_of, negation_of, decided_vars}
+use Rattle.palm_search.specs.Turns.{SearchState, IsOpen, IsLawful, IsUnlawful, IsDefault, IsDecided, FitsGuide, Decides, HasFlatConflict, IsLatest, Takes, SettlesAfter, Follows, Turns, decision_of, negation_of, decided_vars}
 use Rattle.palm_search.specs.Search.{SearchEnd, IsFound, GoesOn, EndsWith, SearchRun, IsPicked, begun}
 use Rattle.palm_search.specs.Search.SearchEnd.{Found, NoSolution, Spent}
 use Rattle.palm_search.specs.Search.GoesOn.{could_decide, could_undo}
@@ -101,15 +101,15 @@ two_values (v ∷ w ∷ vs) ascends two =
     (v, w, member_here v (w ∷ vs), member_there v (w ∷ vs) w (member_here w vs), All-contains (λ u. v <ℤ u) (w ∷ vs) w ascends.0 (member_here w vs))
 
 -- a variable with two values has no active decision
-pub open_undecided : (s : SearchState) → IsSearching s → s.engine.pending ≡ [] → (x : ℕ) → IsOpen (present s.engine) x → IsActive s.engine.active (Decide x) → ⊥
-open_undecided s searching quiet x is_open is =
-    let r = searching.decisions.taken is.owner x is.posted is.named in
+pub open_undecided : (s : SearchState) → IsValid s.engine → HasDecisions s → s.engine.pending ≡ [] → (x : ℕ) → IsOpen (present s.engine) x → IsActive s.engine.active (Decide x) → ⊥
+open_undecided s valid has quiet x is_open is =
+    let r = has.taken is.owner x is.posted is.named in
     let var : r.0.var ≡ x = same r.0.var x (sym (ap (λ (a : Active). a.cid) r.2) ∙ is.named) in
-    let m = searching.decisions.active r.0 r.1 in
-    let ascends = ascends_at (present s.engine) x (ascend_without s.engine.initial (log_pairs s.engine.log) searching.valid.ascend) in
+    let m = has.active r.0 r.1 in
+    let ascends = ascends_at (present s.engine) x (ascend_without s.engine.initial (log_pairs s.engine.log) valid.ascend) in
     let two = two_values (values_of (present s.engine) x) ascends is_open.two in
-    let a = quiet_decided s.engine searching.valid quiet r.0 m two.0 (subst (λ y. Has (present s.engine) y two.0) (sym var) two.2) in
-    let b = quiet_decided s.engine searching.valid quiet r.0 m two.1 (subst (λ y. Has (present s.engine) y two.1) (sym var) two.3) in
+    let a = quiet_decided s.engine valid quiet r.0 m two.0 (subst (λ y. Has (present s.engine) y two.0) (sym var) two.2) in
+    let b = quiet_decided s.engine valid quiet r.0 m two.1 (subst (λ y. Has (present s.engine) y two.1) (sym var) two.3) in
     let lt = two.4 in
     omega (arith, ints, lt, a, b)
   where
@@ -138,7 +138,7 @@ lowest_from d (suc n) = elim (lowest_from d n) [
     two_or_not (suc (suc k)) = inl (omega arith)
 
 -- some variable has two values, or none has
-pub open_or_not : (d : Domains) → ((x : ℕ) × IsOpen d x × ((y : ℕ) → IsOpen d y → x ≤ y)) ⊎ ((x : ℕ) → x < length d → length (values_of d x) < 2)
+open_or_not : (d : Domains) → ((x : ℕ) × IsOpen d x × ((y : ℕ) → IsOpen d y → x ≤ y)) ⊎ ((x : ℕ) → x < length d → length (values_of d x) < 2)
 open_or_not d = elim (lowest_from d (length d)) [
   | inr few ↦ inr few
   | inl r ↦ inl (r.0, record { exists = r.1; two = r.2 }, λ y is_open. not_below r.0 y (λ lt. let a = r.3 y lt in let b = is_open.two in omega (arith, a, b)))
@@ -158,7 +158,7 @@ least_value (v ∷ vs) ascends two = (
   ],
 )
 
-pub default_exists : (d : Domains) (x : ℕ) → AllAscend d → IsOpen d x → ((y : ℕ) → IsOpen d y → x ≤ y) → (p : Pair) × IsDefault d p
+default_exists : (d : Domains) (x : ℕ) → AllAscend d → IsOpen d x → ((y : ℕ) → IsOpen d y → x ≤ y) → (p : Pair) × IsDefault d p
 default_exists d x ascend is_open lowest =
     let v = least_value (values_of d x) (ascends_at d x ascend) is_open.two in
     (record { var = x; value = v.0 }, record { is_open = is_open; lowest = lowest; has = v.1; least = v.2 })
@@ -180,7 +180,7 @@ lawful_or_not d q = elim (below_known q.var (length d)) [
   ]
 ]
 
-pub decided_exists : (d : Domains) (pick : Pick) (p : Pair) → IsDefault d p → (q : Pair) × IsDecided d pick q
+decided_exists : (d : Domains) (pick : Pick) (p : Pair) → IsDefault d p → (q : Pair) × IsDecided d pick q
 decided_exists d NoGuide p default = (p, default)
 decided_exists d Nothing p default = (p, default)
 decided_exists d (Asked q) p default = elim (lawful_or_not d q) [ inl l ↦ (q, inl (l, refl)) | inr n ↦ (p, inr (n, default)) ]
@@ -226,9 +226,15 @@ record TakesSome (guided : Bool) (pick : Pick) (s : SearchState) : Type 0 where
 not_decided : (x : ℕ) (p : Pair) → Decide x ≡ Not p → ⊥
 not_decided x p e = cc
 
-decide_exists : (guided : Bool) (pick : Pick) (s : SearchState) → FitsGuide guided pick → IsSearching s → HasNoneNegated s → s.engine.pending ≡ [] → AllFilled (present s.engine)
-    → (x : ℕ) → IsOpen (present s.engine) x → ((y : ℕ) → IsOpen (present s.engine) y → x ≤ y) → TakesSome guided pick s
-decide_exists guided pick s fits searching none quiet filled x is_open lowest =
+-- a decision after the pick, and where it leads
+pub record DecidesSome (guided : Bool) (pick : Pick) (s : SearchState) : Type 0 where
+  pub pair : Pair
+  pub state : SearchState
+  pub decides : Decides guided s pair pick state
+
+pub decides_some : (guided : Bool) (pick : Pick) (s : SearchState) → FitsGuide guided pick → IsSearching s → s.engine.pending ≡ [] → AllFilled (present s.engine)
+    → (x : ℕ) → IsOpen (present s.engine) x → ((y : ℕ) → IsOpen (present s.engine) y → x ≤ y) → DecidesSome guided pick s
+decides_some guided pick s fits searching quiet filled x is_open lowest =
     let d = present s.engine in
     let ascend = ascend_without s.engine.initial (log_pairs s.engine.log) searching.valid.ascend in
     let default = default_exists d x ascend is_open lowest in
@@ -237,32 +243,48 @@ decide_exists guided pick s fits searching none quiet filled x is_open lowest =
     let lawful = decided_lawful d pick p choice.1 in
     let exists : p.var < length s.engine.initial = subst (λ n. p.var < n) (length_without s.engine.initial (log_pairs s.engine.log)) lawful.is_open.exists in
     record {
-      turn = TurnDecide p pick;
+      pair = p;
       state = record { engine = posted s.engine (decision_of p); decisions = s.decisions ++ p ∷ [] };
-      takes = record {
+      decides = record {
         filled = filled;
         fits = fits;
         decided = choice.1;
         posts = record {
-          inactive = open_undecided s searching quiet p.var lawful.is_open;
+          inactive = open_undecided s searching.valid searching.decisions quiet p.var lawful.is_open;
           formed = record { form = (p.value, refl, exists, refl) };
           after = refl;
         };
         decisions = refl;
       };
-      none_negated = λ q m is. elim (with_posted_cases (decision_of p) s.engine.active is.owner is.posted) [
-        | inl e ↦ not_decided p.var q (ap (λ (a : Active). a.cid) e ∙ is.named)
-        | inr k ↦ elim (Contains-push_cases s.decisions p q m) [
-          | inl j ↦ none q j (record { owner = is.owner; posted = k; named = is.named })
-          | inr e ↦ quiet_negated s.engine searching.valid quiet p lawful.has (record { owner = is.owner; posted = k; named = is.named ∙ ap Not (sym e) })
-        ]
-      ];
+    }
+
+-- a decided pair has no active negation where the decision was taken in a quiet state
+decision_unnegated : (guided : Bool) (pick : Pick) (s : SearchState) (p : Pair) (t : SearchState) → Decides guided s p pick t → IsSearching s → HasNoneNegated s → s.engine.pending ≡ [] → HasNoneNegated t
+decision_unnegated guided pick s p t decides searching none quiet q m is =
+    elim (with_posted_cases (decision_of p) s.engine.active is.owner (subst (λ (z : EngineState). Contains z.active is.owner) decides.posts.after is.posted)) [
+      | inl e ↦ not_decided p.var q (ap (λ (a : Active). a.cid) e ∙ is.named)
+      | inr k ↦ elim (Contains-push_cases s.decisions p q (subst (λ l. Contains l q) decides.decisions m)) [
+        | inl j ↦ none q j (record { owner = is.owner; posted = k; named = is.named })
+        | inr e ↦ quiet_negated s.engine searching.valid quiet p (decided_lawful (present s.engine) pick p decides.decided).has
+            (record { owner = is.owner; posted = k; named = is.named ∙ ap Not (sym e) })
+      ]
+    ]
+
+decide_exists : (guided : Bool) (pick : Pick) (s : SearchState) → FitsGuide guided pick → IsSearching s → HasNoneNegated s → s.engine.pending ≡ [] → AllFilled (present s.engine)
+    → (x : ℕ) → IsOpen (present s.engine) x → ((y : ℕ) → IsOpen (present s.engine) y → x ≤ y) → TakesSome guided pick s
+decide_exists guided pick s fits searching none quiet filled x is_open lowest =
+    let some = decides_some guided pick s fits searching quiet filled x is_open lowest in
+    record {
+      turn = TurnDecide some.pair pick;
+      state = some.state;
+      takes = some.decides;
+      none_negated = decision_unnegated guided pick s some.pair some.state some.decides searching none quiet;
       picked = refl;
     }
 
 -- ---- an undoing
 
-pub vars_member : (names : List Cid) (x : ℕ) → Contains (decided_vars names) x → Contains names (Decide x)
+vars_member : (names : List Cid) (x : ℕ) → Contains (decided_vars names) x → Contains names (Decide x)
 vars_member [] x m = absurd (member_nil x m)
 vars_member (Decide y ∷ names) x m = elim (member_cases y (decided_vars names) x m) [
   | inl e ↦ member_same (Decide y ∷ names) (Decide y) (Decide x) (ap Decide e) (member_here (Decide y) names)
@@ -312,7 +334,7 @@ latest_exists (q ∷ decisions) names p m held = elim (any_known (λ (r : Pair).
   }
 ]
 
-pub decided_form : (n : ℕ) (active : List Active) (p : Pair) → FitsName n active (decision_of p) → p.var < n
+decided_form : (n : ℕ) (active : List Active) (p : Pair) → FitsName n active (decision_of p) → p.var < n
 decided_form n active p formed = let lt = formed.form.2 in lt
 
 others_decided : (decisions : List Pair) (names : List Cid) (gone : Pair) (left : List Pair) → IsLatest decisions names gone left → (p : Pair) → Contains left p → Contains decisions p
@@ -398,7 +420,7 @@ undo_exists guided pick s searching none conflict x flat held =
 
 -- ---- ends
 
-pub found_exists : (d : Domains) → AllFilled d → ((x : ℕ) → x < length d → length (values_of d x) < 2) → (values : List ℤ) × IsFound d values
+found_exists : (d : Domains) → AllFilled d → ((x : ℕ) → x < length d → length (values_of d x) < 2) → (values : List ℤ) × IsFound d values
 found_exists [] filled few = ([], refl)
 found_exists (vs ∷ d) filled few =
     let v = only_value vs (filled 0 (omega arith)) (few 0 (omega arith)) in
@@ -434,8 +456,34 @@ lowest_empty_from d (suc n) = elim (lowest_empty_from d n) [
       | inl lt ↦ elim (list_empty (values_of d x)) [ inl e ↦ inl (record { exists = lt; empty = e }) | inr n ↦ inr (λ e. n e.empty) ]
     ]
 
-pub lowest_empty : (d : Domains) (x : ℕ) → IsEmptyAt d x → (y : ℕ) × IsEmptyAt d y × ((z : ℕ) → IsEmptyAt d z → y ≤ z)
+lowest_empty : (d : Domains) (x : ℕ) → IsEmptyAt d x → (y : ℕ) × IsEmptyAt d y × ((z : ℕ) → IsEmptyAt d z → y ≤ z)
 lowest_empty d x e = elim (lowest_empty_from d (suc x)) [ inl r ↦ r | inr none ↦ absurd (none x (omega arith) e) ]
+
+-- a run has ended here, or a decision can be taken, or one of the flat conflict undone
+pub data TurnOrEnd (s : EngineState) : Type 0 where
+  run_is_over : (end : SearchEnd) → ((budget count : ℕ) → EndsWith budget count s end) → TurnOrEnd s
+  run_may_decide : s.pending ≡ [] → AllFilled (present s) → (x : ℕ) → IsOpen (present s) x → ((y : ℕ) → IsOpen (present s) y → x ≤ y) → TurnOrEnd s
+  run_may_undo : (conflict : List Cid) (x : ℕ) → HasFlatConflict s conflict → Contains conflict (Decide x) → TurnOrEnd s
+
+pub turn_or_end : (s : EngineState) → IsValid s → IsStill s → TurnOrEnd s
+turn_or_end s valid still = elim (empty_or_filled (present s)) [
+  | inl empty ↦
+      let first = lowest_empty (present s) empty.0 empty.1 in
+      let conflict = flat_listed s valid first.0 in
+      let flat : HasFlatConflict s conflict.0 = record { var = first.0; empty = first.1; lowest = first.2; is = conflict.1 } in
+      in_conflict s conflict.0 flat (decided_vars conflict.0) refl
+  | inr filled ↦ elim still [
+    | inr empty ↦ absurd (not_empty (present s) filled empty)
+    | inl quiet ↦ elim (open_or_not (present s)) [
+      | inl r ↦ run_may_decide quiet filled r.0 r.1 r.2
+      | inr few ↦ let f = found_exists (present s) filled few in run_is_over (Found f.0) (λ budget count. f.1)
+    ]
+  ]
+]
+  where
+    in_conflict : (s : EngineState) (conflict : List Cid) → HasFlatConflict s conflict → (vars : List ℕ) → decided_vars conflict ≡ vars → TurnOrEnd s
+    in_conflict s conflict flat [] e = run_is_over (NoSolution (filter is_user conflict)) (λ budget count. record { conflict = conflict; flat = flat; undecided = e; are = refl })
+    in_conflict s conflict flat (x ∷ vars) e = run_may_undo conflict x flat (vars_member conflict x (subst (λ l. Contains l x) (sym e) (member_here x vars)))
 
 -- a run has ended here, or a turn can be taken
 data Stands (guided : Bool) (pick : Pick) (s : SearchState) : Type 0 where
@@ -443,26 +491,11 @@ data Stands (guided : Bool) (pick : Pick) (s : SearchState) : Type 0 where
   may_go : GoesOn s.engine → TakesSome guided pick s → Stands guided pick s
 
 stands : (guided : Bool) (pick : Pick) (s : SearchState) → FitsGuide guided pick → IsSearching s → HasNoneNegated s → IsStill s.engine → Stands guided pick s
-stands guided pick s fits searching none still = elim (empty_or_filled (present s.engine)) [
-  | inl empty ↦
-      let first = lowest_empty (present s.engine) empty.0 empty.1 in
-      let conflict = flat_listed s.engine searching.valid first.0 in
-      let flat : HasFlatConflict s.engine conflict.0 = record { var = first.0; empty = first.1; lowest = first.2; is = conflict.1 } in
-      in_conflict guided pick s searching none conflict.0 flat (decided_vars conflict.0) refl
-  | inr filled ↦ elim still [
-    | inr empty ↦ absurd (not_empty (present s.engine) filled empty)
-    | inl quiet ↦ elim (open_or_not (present s.engine)) [
-      | inl r ↦ may_go (could_decide r.0 filled r.1) (decide_exists guided pick s fits searching none quiet filled r.0 r.1 r.2)
-      | inr few ↦ let f = found_exists (present s.engine) filled few in has_ended (Found f.0) (λ budget count. f.1)
-    ]
-  ]
+stands guided pick s fits searching none still = elim (turn_or_end s.engine searching.valid still) [
+  | run_is_over end ends ↦ has_ended end ends
+  | run_may_decide quiet filled x is_open lowest ↦ may_go (could_decide x filled is_open) (decide_exists guided pick s fits searching none quiet filled x is_open lowest)
+  | run_may_undo conflict x flat held ↦ may_go (could_undo x conflict flat held) (undo_exists guided pick s searching none conflict x flat held)
 ]
-  where
-    in_conflict : (guided : Bool) (pick : Pick) (s : SearchState) → IsSearching s → HasNoneNegated s → (conflict : List Cid) → HasFlatConflict s.engine conflict → (vars : List ℕ) → decided_vars conflict ≡ vars → Stands guided pick s
-    in_conflict guided pick s searching none conflict flat [] e = has_ended (NoSolution (filter is_user conflict)) (λ budget count. record { conflict = conflict; flat = flat; undecided = e; are = refl })
-    in_conflict guided pick s searching none conflict flat (x ∷ vars) e =
-        let held = vars_member conflict x (subst (λ l. Contains l x) (sym e) (member_here x vars)) in
-        may_go (could_undo x conflict flat held) (undo_exists guided pick s searching none conflict x flat held)
 
 -- ---- runs
 

@@ -27,6 +27,10 @@ user_no_decision c x t e = false≢true (subst (λ d. is_user d ≡ true) e t)
 user_no_negation : (c : Cid) (p : Pair) → is_user c ≡ true → c ≡ Not p → ⊥
 user_no_negation c p t e = false≢true (subst (λ d. is_user d ≡ true) e t)
 
+joined_decisions : (s : SearchState) (a : Active) (t : SearchState) → is_user a.cid ≡ true → Posts s.engine a t.engine → t.decisions ≡ s.decisions → HasDecisions s → HasDecisions t
+joined_decisions s a t user posts same has =
+    subst HasDecisions (same_state t s.decisions same) (posted_has s a t.engine (ap (λ (z : EngineState). z.active) posts.after) posts.inactive (λ x. user_no_decision a.cid x user) has)
+
 joined_declared : (s : SearchState) (a : Active) (t : SearchState) → is_user a.cid ≡ true → Posts s.engine a t.engine → t.decisions ≡ s.decisions → HasDeclared s → HasDeclared t
 joined_declared s a t user posts same declared =
     let ei : t.engine.initial ≡ s.engine.initial = ap (λ (z : EngineState). z.initial) posts.after in
@@ -42,8 +46,7 @@ pub joined_searching : (s : SearchState) (a : Active) (t : SearchState) → is_u
 joined_searching s a t user posts same searching = record {
   valid = posts_valid s.engine t.engine a posts searching.valid;
   justified = step_justified s.engine (Happens (Post a)) t.engine posts searching.valid (λ p e. absurd (user_no_negation a.cid p user e)) searching.justified;
-  decisions = subst HasDecisions (same_state t s.decisions same)
-      (posted_has s a t.engine (ap (λ (z : EngineState). z.active) posts.after) posts.inactive (λ x e. user_no_decision a.cid x user e) searching.decisions);
+  decisions = joined_decisions s a t user posts same searching.decisions;
   declared = joined_declared s a t user posts same searching.declared;
 }
 

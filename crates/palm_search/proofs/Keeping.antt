@@ -143,7 +143,7 @@ turns_keep right guided ordered s [] t run searching = subst IsSearching (sym ru
 turns_keep right guided ordered s (turn ∷ turns) t run searching = turns_keep right guided ordered run.0 turns t run.2 (follows_keep right guided ordered s turn run.0 run.1 searching)
 
 -- a valid state without decisions and negations begins a search
-user_not : (c : Cid) (p : Pair) → is_user c ≡ true → c ≡ Not p → ⊥
+pub user_not : (c : Cid) (p : Pair) → is_user c ≡ true → c ≡ Not p → ⊥
 user_not c p t e = false≢true (subst (λ d. is_user d ≡ true) e t)
 
 user_not_decision : (c : Cid) (x : ℕ) → is_user c ≡ true → c ≡ Decide x → ⊥
