@@ -21,7 +21,8 @@ pub record IsNogood (s : EngineState) (nogood : Nogood) : Type 0 where
   pub users : (c : Cid) → Contains nogood.users c → (is_user c ≡ true) × IsActive s.active c
   pub declared : (p : Pair) → Contains nogood.pairs p → Has s.initial p.var p.value
   pub distinct : Distinct (vars_of nogood.pairs)
-  pub refuted : (a : Assignment) → IsSolution s.initial (Named s.active (Contains nogood.users)) a → ((p : Pair) → Contains nogood.pairs p → a p.var ≡ p.value) → ⊥
+  pub refuted : (a : Assignment) → IsSolution s.initial (Named s.active (Contains nogood.users)) a
+      → ((p : Pair) → Contains nogood.pairs p → a p.var ≡ p.value) → ⊥
 
 -- the listed nogood has this number: as many were dropped or are older
 pub record IsNumbered (s : RepairState) (number : ℕ) (nogood : Nogood) : Type 0 where
@@ -69,7 +70,8 @@ HasNoneWhole s = (nogood : Nogood) → Contains s.nogoods nogood → HasUndecide
 -- is active
 pub record IsPosted (s : RepairState) : Type 0 where
   pub none_whole : HasNoneWhole s
-  pub forced : (nogood : Nogood) (p : Pair) → Contains s.nogoods nogood → undecided s.search.decisions nogood ≡ p ∷ [] → IsActive s.search.engine.active (Not p)
+  pub forced : (nogood : Nogood) (p : Pair) → Contains s.nogoods nogood → undecided s.search.decisions nogood ≡ p ∷ []
+      → IsActive s.search.engine.active (Not p)
 
 -- what holds between two turns; nothing is pending then, or a domain is empty
 pub record IsAtTurn (s : RepairState) : Type 0 where

@@ -13,17 +13,19 @@ ghost use Rattle.palm_repair.specs.Repair.{RepairTurns, Repairs};
 ghost use Rattle.palm_repair.specs.Kept.{IsAtTurn};
 ghost use Rattle.palm_repair.specs.Sets.{most_turns};
 
-/// While nothing is dropped, no later state between two turns has all the decisions that stood at an undoing: some pair of
-/// them is decided no more. So no two undoings happen at the same set of decisions.
+/// While nothing is dropped, no later turn begins with all the decisions that stood at an undoing: some pair of them is
+/// decided no more. So no two undoings happen at the same set of decisions.
 pub fn undos_differ()
-    ensures { (guided ordered : Bool) (tabu : ℕ) (s t : RepairState) (gone : Pair) (conflict : List Cid) (turns : List Turn)
+    ensures { (guided ordered : Bool) (tabu : ℕ) (s t : RepairState) (gone : Pair) (conflict : List Cid)
+        (turns : List Turn)
         → IsAtTurn s → RepairTurns guided ordered tabu s (Undo gone conflict ∷ turns) t → t.dropped ≡ s.dropped
         → (p : Pair) × Contains s.search.decisions p × (Contains t.search.decisions p → ⊥) }
 {}
 
 /// So a repair in which nothing was dropped has fewer turns than this, whatever the guide and the order.
 pub fn repairs_are_bounded()
-    ensures { (guided ordered : Bool) (tabu budget dropped : ℕ) (s t : EngineState) (turns : List Turn) (end : SearchEnd)
+    ensures { (guided ordered : Bool) (tabu budget dropped : ℕ) (s t : EngineState) (turns : List Turn)
+        (end : SearchEnd)
         → HasOnlyUsers s → IsValid s → Repairs guided ordered tabu budget s turns end dropped t → dropped ≡ 0
         → length turns < most_turns s.initial }
 {}

@@ -17,7 +17,8 @@ ghost use Rattle.palm_search.specs.Search.{SearchEnd};
 ghost use Rattle.palm_search.specs.Search.SearchEnd.{Found, NoSolution};
 ghost use Rattle.palm_search.specs.Kept.{HasOnlyUsers, Rests};
 ghost use Rattle.palm_repair.specs.Posting.{RepairState, PostsAll};
-ghost use Rattle.palm_repair.specs.Repair.{MakesRoom, RepairTakes, RepairSettles, RepairTurns, Repairs, RepairsTo, IsSameRepair, repair_begun};
+ghost use Rattle.palm_repair.specs.Repair.{MakesRoom, RepairTakes, RepairSettles, RepairTurns};
+ghost use Rattle.palm_repair.specs.Repair.{Repairs, RepairsTo, IsSameRepair, repair_begun};
 ghost use Rattle.palm_repair.specs.Kept.{ComesFrom, IsRepairing, HasNoneWhole, IsPosted, IsAtTurn};
 
 /// A valid state in which no decision and no negation is active begins a repair.
@@ -52,8 +53,8 @@ pub fn turns_with_settlings_keep_repairing()
         → RepairTurns guided ordered tabu s turns t → IsRepairing s → IsRepairing t }
 {}
 
-/// Each active negation came from a listed nogood that holds its pair, and its justification is that of this nogood: the
-/// decisions of the other pairs and the users. Whatever satisfies these satisfies the negation.
+/// Each active negation came from a listed nogood that holds its pair, and its justification is that of this nogood:
+/// the decisions of the other pairs and the users. Whatever satisfies these satisfies the negation.
 pub fn posted_negations_are_justified()
     ensures by_nogood { (s : RepairState) (a : Active) (p : Pair)
         → IsRepairing s → Contains s.search.engine.active a → a.cid ≡ Not p → ComesFrom s p a.because }
@@ -62,8 +63,8 @@ pub fn posted_negations_are_justified()
         → IsJustified s.search.engine.initial s.search.engine.active a }
 {}
 
-/// After posting no listed nogood has all its pairs decided, at any moment of a repair: not after a turn, and not after a
-/// settling.
+/// After posting no listed nogood has all its pairs decided, and where one pair alone is left, its negation is active:
+/// so it is after each turn, and after the settling that follows it.
 pub fn no_nogood_is_whole()
     ensures posting { (s t : RepairState) → PostsAll s t → HasNoneWhole s → IsPosted t }
     ensures turns { (guided : Bool) (tabu : ℕ) (s t : RepairState) (turn : Turn)
@@ -76,30 +77,35 @@ pub fn no_nogood_is_whole()
 
 /// Where a repair has found values, they satisfy all constraints that were active before it.
 pub fn found_values_are_a_solution()
-    ensures { (guided ordered : Bool) (tabu budget dropped : ℕ) (s t : EngineState) (turns : List Turn) (values : List ℤ)
+    ensures { (guided ordered : Bool) (tabu budget dropped : ℕ) (s t : EngineState) (turns : List Turn)
+        (values : List ℤ)
         → HasOnlyUsers s → IsValid s → Repairs guided ordered tabu budget s turns (Found values) dropped t
         → IsSolution s.initial (Contains (cons_of s.active)) (listed values) }
 {}
 
 /// Where a repair ends without a solution, the users that it tells were active before it, and have none in common.
 pub fn users_of_no_solution_have_none()
-    ensures unsolved { (guided ordered : Bool) (tabu budget dropped : ℕ) (s t : EngineState) (turns : List Turn) (users : List Cid)
+    ensures unsolved { (guided ordered : Bool) (tabu budget dropped : ℕ) (s t : EngineState) (turns : List Turn)
+        (users : List Cid)
         → HasOnlyUsers s → IsValid s → Repairs guided ordered tabu budget s turns (NoSolution users) dropped t
         → (a : Assignment) → IsSolution s.initial (Named s.active (Contains users)) a → ⊥ }
-    ensures active { (guided ordered : Bool) (tabu budget dropped : ℕ) (s t : EngineState) (turns : List Turn) (users : List Cid)
+    ensures active { (guided ordered : Bool) (tabu budget dropped : ℕ) (s t : EngineState) (turns : List Turn)
+        (users : List Cid)
         → HasOnlyUsers s → IsValid s → Repairs guided ordered tabu budget s turns (NoSolution users) dropped t
         → (c : Cid) → Contains users c → IsActive s.active c }
 {}
 
 /// After a repair no decision and no negation is active: the constraints are those from before, and they are at rest.
 pub fn repairs_leave_the_constraints()
-    ensures { (guided ordered : Bool) (tabu budget dropped : ℕ) (s t : EngineState) (turns : List Turn) (end : SearchEnd)
+    ensures { (guided ordered : Bool) (tabu budget dropped : ℕ) (s t : EngineState) (turns : List Turn)
+        (end : SearchEnd)
         → HasOnlyUsers s → IsValid s → Repairs guided ordered tabu budget s turns end dropped t → Rests s t }
 {}
 
 /// After a repair from a settled state or a contradiction the log is the log from before, whatever its end.
 pub fn repairs_leave_the_log()
-    ensures { (guided ordered : Bool) (tabu budget dropped : ℕ) (s t : EngineState) (turns : List Turn) (end : SearchEnd)
+    ensures { (guided ordered : Bool) (tabu budget dropped : ℕ) (s t : EngineState) (turns : List Turn)
+        (end : SearchEnd)
         → HasOnlyUsers s → IsValid s → IsStill s → Repairs guided ordered tabu budget s turns end dropped t
         → t.log ≡ s.log }
 {}
@@ -119,7 +125,8 @@ pub fn repairs_exist()
 
 /// Without guide and order there is no other one.
 pub fn repairs_without_guide_and_order_are_unique()
-    ensures { (tabu budget : ℕ) (s t u : EngineState) (turns others : List Turn) (end other : SearchEnd) (dropped lost : ℕ)
+    ensures { (tabu budget : ℕ) (s t u : EngineState) (turns others : List Turn) (end other : SearchEnd)
+        (dropped lost : ℕ)
         → IsValid s → HasOnlyUsers s → Repairs false false tabu budget s turns end dropped t
         → Repairs false false tabu budget s others other lost u → IsSameRepair turns end dropped t others other lost u }
 {}
