@@ -104,8 +104,8 @@ one_under (q ∷ decisions) x distinct = elim (cases_Bool (nat_eq q.var x)) [
 ]
 
 -- pairs of one decision before pairs of others
-distinct_more : (front back : List Pair) (c : Cid) → (front ≡ []) ⊎ ((p : Pair) × (front ≡ p ∷ [])) → ((p : Pair) → Contains front p → Contains (vars_of back) p.var → ⊥) → Distinct (vars_of back) → Distinct (vars_of (front ++ back))
-distinct_more front back c few apart distinct = elim few [
+distinct_more : (front back : List Pair) → (front ≡ []) ⊎ ((p : Pair) × (front ≡ p ∷ [])) → ((p : Pair) → Contains front p → Contains (vars_of back) p.var → ⊥) → Distinct (vars_of back) → Distinct (vars_of (front ++ back))
+distinct_more front back few apart distinct = elim few [
   | inl e ↦ subst (λ l. Distinct (vars_of (l ++ back))) (sym e) distinct
   | inr r ↦ subst (λ l. Distinct (vars_of (l ++ back))) (sym r.1) (apart r.0 (subst (λ l. Contains l r.0) (sym r.1) (member_here r.0 [])), distinct)
 ]
@@ -119,7 +119,7 @@ nogood_distinct : (decisions : List Pair) (conflict : List Cid) → Distinct (va
 nogood_distinct decisions [] distinct rises = tt
 nogood_distinct decisions (c ∷ conflict) distinct rises =
     let back = flat_map (pairs_under decisions) conflict in
-    distinct_more (pairs_under decisions c) back c (few_under decisions c distinct)
+    distinct_more (pairs_under decisions c) back (few_under decisions c distinct)
     (λ p m k.
     let r = member_unmap (λ (q : Pair). q.var) back p.var k in
     let here = under_member decisions c p m in
