@@ -101,15 +101,15 @@ two_values (v ∷ w ∷ vs) ascends two =
     (v, w, member_here v (w ∷ vs), member_there v (w ∷ vs) w (member_here w vs), All-contains (λ u. v <ℤ u) (w ∷ vs) w ascends.0 (member_here w vs))
 
 -- a variable with two values has no active decision
-open_undecided : (s : SearchState) → IsSearching s → s.engine.pending ≡ [] → (x : ℕ) → IsOpen (present s.engine) x → IsActive s.engine.active (Decide x) → ⊥
-open_undecided s searching quiet x is_open is =
-    let r = searching.decisions.taken is.owner x is.posted is.named in
+pub open_undecided : (s : SearchState) → IsValid s.engine → HasDecisions s → s.engine.pending ≡ [] → (x : ℕ) → IsOpen (present s.engine) x → IsActive s.engine.active (Decide x) → ⊥
+open_undecided s valid has quiet x is_open is =
+    let r = has.taken is.owner x is.posted is.named in
     let var : r.0.var ≡ x = same r.0.var x (sym (ap (λ (a : Active). a.cid) r.2) ∙ is.named) in
-    let m = searching.decisions.active r.0 r.1 in
-    let ascends = ascends_at (present s.engine) x (ascend_without s.engine.initial (log_pairs s.engine.log) searching.valid.ascend) in
+    let m = has.active r.0 r.1 in
+    let ascends = ascends_at (present s.engine) x (ascend_without s.engine.initial (log_pairs s.engine.log) valid.ascend) in
     let two = two_values (values_of (present s.engine) x) ascends is_open.two in
-    let a = quiet_decided s.engine searching.valid quiet r.0 m two.0 (subst (λ y. Has (present s.engine) y two.0) (sym var) two.2) in
-    let b = quiet_decided s.engine searching.valid quiet r.0 m two.1 (subst (λ y. Has (present s.engine) y two.1) (sym var) two.3) in
+    let a = quiet_decided s.engine valid quiet r.0 m two.0 (subst (λ y. Has (present s.engine) y two.0) (sym var) two.2) in
+    let b = quiet_decided s.engine valid quiet r.0 m two.1 (subst (λ y. Has (present s.engine) y two.1) (sym var) two.3) in
     let lt = two.4 in
     omega (arith, ints, lt, a, b)
   where
@@ -185,7 +185,7 @@ decided_exists d NoGuide p default = (p, default)
 decided_exists d Nothing p default = (p, default)
 decided_exists d (Asked q) p default = elim (lawful_or_not d q) [ inl l ↦ (q, inl (l, refl)) | inr n ↦ (p, inr (n, default)) ]
 
-decided_lawful : (d : Domains) (pick : Pick) (p : Pair) → IsDecided d pick p → IsLawful d p
+pub decided_lawful : (d : Domains) (pick : Pick) (p : Pair) → IsDecided d pick p → IsLawful d p
 decided_lawful d NoGuide p decided = record { is_open = decided.is_open; has = decided.has }
 decided_lawful d Nothing p decided = record { is_open = decided.is_open; has = decided.has }
 decided_lawful d (Asked q) p decided = elim decided [
@@ -244,7 +244,7 @@ decide_exists guided pick s fits searching none quiet filled x is_open lowest =
         fits = fits;
         decided = choice.1;
         posts = record {
-          inactive = open_undecided s searching quiet p.var lawful.is_open;
+          inactive = open_undecided s searching.valid searching.decisions quiet p.var lawful.is_open;
           formed = record { form = (p.value, refl, exists, refl) };
           after = refl;
         };

@@ -99,19 +99,19 @@ searched_turns right guided ordered s m (turn ∷ turns) t users valid still run
 -- ---- closing
 
 -- the decisions and negations among the active constraints
-search_member : (active : List Active) (c : Cid) → Contains (search_cids active) c → is_user c ≡ false
+pub search_member : (active : List Active) (c : Cid) → Contains (search_cids active) c → is_user c ≡ false
 search_member active c m =
     let r = member_unmap (λ (a : Active). a.cid) (filter (λ a. not (is_user a.cid)) active) c m in
     let f = filter_member (λ (a : Active). not (is_user a.cid)) active r.0 r.1 in
     subst (λ d. is_user d ≡ false) r.2 (not-true (is_user r.0.cid) f.1)
 
-stays_user : (active : List Active) (a : Active) → Contains active a → (Contains (search_cids active) a.cid → ⊥) → is_user a.cid ≡ true
+pub stays_user : (active : List Active) (a : Active) → Contains active a → (Contains (search_cids active) a.cid → ⊥) → is_user a.cid ≡ true
 stays_user active a m n = elim (cases_Bool (is_user a.cid)) [
   | inl t ↦ t
   | inr f ↦ absurd (n (member_map (λ (b : Active). b.cid) (filter (λ b. not (is_user b.cid)) active) a (member_filter (λ (b : Active). not (is_user b.cid)) active a m (ap not f))))
 ]
 
-user_ground : (c : Cid) → is_user c ≡ true → IsGround c
+pub user_ground : (c : Cid) → is_user c ≡ true → IsGround c
 user_ground (Decide x) t = tt
 user_ground (Not p) t = false≢true t
 user_ground (User n) t = tt
