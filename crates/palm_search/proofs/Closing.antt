@@ -1,26 +1,26 @@
 -- The decisions and negations are withdrawn one after another, until none is left.
-use Rattle.std.proofs.Common.{◌≡◌, ℕ, ◌+◌, ◌<◌, ◌≤◌, Bool, true, false, not, cond, List, [], ◌∷◌, ◌++◌, length, filter, Contains, inl, inr, refl, sym, ap, ◌∙◌, subst, arith}
+use Rattle.std.proofs.Common.{◌≡◌, ℕ, ◌<◌, ◌≤◌, Bool, true, false, not, cond, List, [], ◌∷◌, ◌++◌, length, filter, Contains, inl, inr, refl, sym, ap, ◌∙◌, subst, arith}
 use Rattle.std.proofs.lemmas.Bool.{cases_Bool, false≢true, not-true}
 use Rattle.std.proofs.lemmas.List.Elements.{Contains-append_cases}
 use Rattle.palm_base.specs.declared.terms.Pair.{Pair}
 use Rattle.palm_base.specs.declared.terms.Cid.{Cid}
 use Rattle.palm_base.specs.declared.terms.Cid.TheVariants.{Decide, Not, User}
-use Rattle.palm_base.proofs.Members.{member_nil, member_cases, member_same, member_map, member_unmap, member_filter, filter_member, filter_agree_members}
-use Rattle.palm_model.specs.Log.{Active, IsActive, Removal, Loses, NamesSome, cids_of, is_named}
+use Rattle.palm_base.proofs.Members.{member_nil, member_here, member_cases, member_same, member_map, member_unmap, member_filter, filter_member, filter_agree_members}
+use Rattle.palm_model.specs.Log.{Active, IsActive, Removal, Loses, cids_of, is_named}
 use Rattle.palm_model.specs.Log.Loses.{none_left, is_lost, is_kept}
 use Rattle.palm_model.specs.State.{EngineState, IsValid, is_user, woken}
-use Rattle.palm_model.specs.Event.{Withdraws, WithdrawsAll, gone_with, lost_pairs, vars_of, without_names, withdrawn}
+use Rattle.palm_model.specs.Event.{Withdraws, WithdrawsAll, gone_with, lost_pairs, vars_of, without_names}
 use Rattle.palm_events.proofs.Names.{named_member, member_named}
 use Rattle.palm_events.proofs.States.{without_names_member, member_without_names, held_not_ground}
 use Rattle.palm_engine.proofs.Withdrawing.{loses_none, without_none, none_lost, withdraws_then}
 use Rattle.palm_search.specs.Calls.{LetsGo}
 use Rattle.palm_search.specs.Search.{search_cids}
 use Rattle.palm_search.proofs.Deciding.{gone_itself}
-use Rattle.palm_search.proofs.Leaving.{search_member, stays_user, user_ground}
+use Rattle.palm_search.proofs.Leaving.{user_ground}
 
 no_members : {X : Type 0} (xs : List X) → ((x : X) → Contains xs x → ⊥) → xs ≡ []
 no_members [] none = refl
-no_members (x ∷ xs) none = absurd (none x (0, refl))
+no_members (x ∷ xs) none = absurd (none x (member_here x xs))
 
 agree : (b c : Bool) → (b ≡ true → c ≡ true) → (c ≡ true → b ≡ true) → b ≡ c
 agree true c to from = sym (to refl)
@@ -94,9 +94,9 @@ pub gone_all : (s t : EngineState) → LetsGo s t → ((a : Active) → Contains
 gone_all s t goes users =
     let went = λ (a : Active) (m : Contains s.active a) (f : is_user a.cid ≡ false). member_gone s t goes users a m f in
     let from : (c : Cid) → Contains (search_cids s.active) c → Contains goes.gone c = λ c k.
-        let r = member_unmap (λ (b : Active). b.cid) (filter (λ b. not (is_user b.cid)) s.active) c k in
-        let f = filter_member (λ (b : Active). not (is_user b.cid)) s.active r.0 r.1 in
-        member_same goes.gone r.0.cid c r.2 (went r.0 f.0 (not-true (is_user r.0.cid) f.1)) in
+    let r = member_unmap (λ (b : Active). b.cid) (filter (λ b. not (is_user b.cid)) s.active) c k in
+    let f = filter_member (λ (b : Active). not (is_user b.cid)) s.active r.0 r.1 in
+    member_same goes.gone r.0.cid c r.2 (went r.0 f.0 (not-true (is_user r.0.cid) f.1)) in
     let left = goes.withdraws.left in
     let active : without_names goes.gone s.active ≡ without_names (search_cids s.active) s.active =
     filter_agree_members (λ (a : Active). not (is_named goes.gone a.cid)) (λ (a : Active). not (is_named (search_cids s.active) a.cid)) s.active
@@ -117,8 +117,8 @@ gone_all s t goes users =
     ]
 
 -- where no decision and no negation is active, only users are
-pub users_left : (s m t : EngineState) → LetsGo m t → ((x : ℕ) → IsActive m.active (Decide x) → ⊥) → ((p : Pair) → IsActive t.active (Not p) → ⊥) → (a : Active) → Contains t.active a → is_user a.cid ≡ true
-users_left s m t goes decided negated a k = by_name a.cid refl
+pub users_left : (m t : EngineState) → LetsGo m t → ((x : ℕ) → IsActive m.active (Decide x) → ⊥) → ((p : Pair) → IsActive t.active (Not p) → ⊥) → (a : Active) → Contains t.active a → is_user a.cid ≡ true
+users_left m t goes decided negated a k = by_name a.cid refl
   where
     by_name : (c : Cid) → a.cid ≡ c → is_user a.cid ≡ true
     by_name (Decide x) e = absurd (decided x (record { owner = a; posted = (left_active m t goes a k).0; named = e }))

@@ -5,17 +5,16 @@ use Rattle.palm_base.specs.declared.terms.Pair.{Pair}
 use Rattle.palm_base.specs.declared.terms.Cid.{Cid}
 use Rattle.palm_base.specs.declared.terms.Cid.TheVariants.{Decide, Not}
 use Rattle.palm_model.specs.Domains.{Domains, Has}
-use Rattle.palm_model.specs.Constraint.{Distinct}
 use Rattle.palm_model.specs.Trial.{value_count}
 use Rattle.palm_model.specs.Log.{Active}
 use Rattle.palm_model.specs.State.{EngineState, is_user}
-use Rattle.palm_model.specs.Event.{Posts, with_posted, vars_of}
+use Rattle.palm_model.specs.Event.{Posts, with_posted}
 use Rattle.palm_model.specs.Event.Event.{Post}
 use Rattle.palm_model.specs.Event.Step.{Happens}
-use Rattle.palm_events.proofs.States.{with_posted_cases, member_with_posted}
+use Rattle.palm_events.proofs.States.{with_posted_cases}
 use Rattle.palm_events.proofs.Valid.{posts_valid}
 use Rattle.palm_events.proofs.Conflicts.{step_justified}
-use Rattle.palm_search.specs.Turns.{SearchState, decision_of}
+use Rattle.palm_search.specs.Turns.{SearchState}
 use Rattle.palm_search.specs.Kept.{HasDecisions, HasDeclared, IsSearching}
 use Rattle.palm_search.specs.Measure.{negations_within, weighed, measure}
 use Rattle.palm_search.proofs.Deciding.{posted_has, same_state}

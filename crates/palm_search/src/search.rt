@@ -1,7 +1,6 @@
 //! The search machine: decisions that are taken and undone one at a time, and the journal of its turns.
-ghost use Rattle.std.specs.Prelude.{◌≡◌, ◌≢◌, ℕ, ◌<◌, ◌+◌, [], ◌∷◌, ◌++◌, length, Contains, IfOk, OnErr, OnOk, vec_capacity, is_some, ◌⊎◌};
+ghost use Rattle.std.specs.Prelude.{◌≡◌, ℕ, ◌<◌, ◌⊎◌, [], ◌∷◌, ◌++◌, length, IfOk, OnErr, OnOk, is_some, vec_capacity};
 ghost use Rattle.palm_base.specs.declared.terms.Pair.{Pair as PairTerm};
-ghost use Rattle.palm_base.specs.declared.terms.Cid.{Cid as CidTerm};
 ghost use Rattle.palm_domain.specs.Rows.{present_of};
 ghost use Rattle.palm_model.specs.Event.{WithdrawsAll};
 ghost use Rattle.palm_model.specs.Log.{IsActive};
@@ -82,7 +81,13 @@ impl Search {
         let pair = decided_pair(engine.store(), &pick);
         engine.assume(copy_of(&pair))?;
         append(&mut self.decisions, copy_of(&pair));
-        append(&mut self.journal, Turn::Decide { pair: copy_of(&pair), pick });
+        append(
+            &mut self.journal,
+            Turn::Decide {
+                pair: copy_of(&pair),
+                pick,
+            },
+        );
         Ok(pair)
     }
 
@@ -104,6 +109,8 @@ impl Search {
         ensures counts { KeepsCounts engine.old engine.new }
         ensures valid { IsValid engine.new.state }
     {
+        // What holds of every engine is known once its store is read.
+        let _store = engine.store();
         self.journal.reserve(1)?;
         let conflict = conflict.copy()?;
         let gone = self.decisions.remove(index);
@@ -183,8 +190,11 @@ fn withdraw_decisions<F: Filter>(decisions: &mut Vec<Pair>, engine: &mut Engine<
     ensures none { (x : ℕ) → IsActive engine.new.state.active (Cid.Decide x) → ⊥ }
     ensures decisions { decisions.new.items ≡ [] }
     ensures counts { KeepsCounts engine.old engine.new }
+    ensures before { IsValid engine.old.state }
     ensures valid { IsValid engine.new.state }
 {
+    // What holds of every engine is known once its store is read.
+    let _store = engine.store();
     while let Some(pair) = decisions.pop() {
         engine.withdraw(Cid::Decide(pair.var));
     }
@@ -195,8 +205,11 @@ fn withdraw_negations<F: Filter>(engine: &mut Engine<F>)
     ensures gone { LetsGo engine.old.state engine.new.state }
     ensures none { (p : PairTerm) → IsActive engine.new.state.active (Cid.Not p) → ⊥ }
     ensures counts { KeepsCounts engine.old engine.new }
+    ensures before { IsValid engine.old.state }
     ensures valid { IsValid engine.new.state }
 {
+    // What holds of every engine is known once its store is read.
+    let _store = engine.store();
     while let Some(pair) = engine.first_negation() {
         engine.withdraw(Cid::Not(pair));
     }
