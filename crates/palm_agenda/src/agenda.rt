@@ -222,10 +222,10 @@ impl Agenda {
 
     /// The constraint that is revised next, which is pending no longer: the first one without an order, and with one
     /// the one that it answers when it is asked once. It is not asked where none is pending.
-    pub fn take(&mut self, order: &mut Option<Box<dyn Order>>) -> Option<Cid>
+    pub fn take<O: Order>(&mut self, order: &mut Option<O>) -> Option<Cid>
         ensures none { IfNone result ((self.old.pending ≡ []) × (self.new ≡ self.old) × (order.new ≡ order.old)) }
         ensures some { IfSome result (λ c. (answer : ℕ) × Takes self.old.pending self.new.pending answer c
-            × MatchOption order.old (answer ≡ 0) (λ before. IsSomeAnd order.new (λ after. answers before self.old.pending answer (state after)))) }
+            × MatchOption order.old (answer ≡ 0) (λ before. IsSomeAnd order.new (λ after. O.answers before self.old.pending answer (O.state after)))) }
         ensures connected { self.new.connected ≡ self.old.connected }
         ensures stays { is_some order.new ≡ is_some order.old }
     {
@@ -234,12 +234,12 @@ impl Agenda {
         }
         match order {
             None => self.take_first(),
-            Some(order) => self.take_answered(&mut **order),
+            Some(order) => self.take_answered(order),
         }
     }
 
     /// The first pending constraint, which is pending no longer.
-    pub fn take_first(&mut self) -> Option<Cid>
+    fn take_first(&mut self) -> Option<Cid>
         ensures none { IfNone result ((self.old.pending ≡ []) × (self.new ≡ self.old)) }
         ensures some { IfSome result (λ c. Takes self.old.pending self.new.pending 0 c) }
         ensures connected { self.new.connected ≡ self.old.connected }
@@ -249,9 +249,9 @@ impl Agenda {
 
     /// The pending constraint that the order answers when it is asked once, which is pending no longer. The order is not
     /// asked where none is pending.
-    pub fn take_answered(&mut self, order: &mut dyn Order) -> Option<Cid>
+    fn take_answered<O: Order>(&mut self, order: &mut O) -> Option<Cid>
         ensures none { IfNone result ((self.old.pending ≡ []) × (self.new ≡ self.old) × (order.new ≡ order.old)) }
-        ensures some { IfSome result (λ c. (answer : ℕ) × Takes self.old.pending self.new.pending answer c × answers order.old self.old.pending answer (state order.new)) }
+        ensures some { IfSome result (λ c. (answer : ℕ) × Takes self.old.pending self.new.pending answer c × O.answers order.old self.old.pending answer (O.state order.new)) }
         ensures connected { self.new.connected ≡ self.old.connected }
     {
         let count = self.pending.len();

@@ -27,6 +27,23 @@ pub trait Order: Drop {
         ensures { hears self.old cid removed (state self.new) };
 }
 
+/// A boxed order is asked and told as the object in the box.
+impl Order for Box<dyn Order> {
+    ghost state = { λ order. (Order-box order).state order.value };
+
+    ghost answers = { λ order. (Order-box order).answers order.value };
+
+    ghost hears = { λ order. (Order-box order).hears order.value };
+
+    fn next(&mut self, pending: &[Cid]) -> usize {
+        (**self).next(pending)
+    }
+
+    fn ran(&mut self, cid: Cid, removed: u32) {
+        (**self).ran(cid, removed)
+    }
+}
+
 /// Answers the last of the pending constraints.
 #[derive(Debug, Drop)]
 pub struct LastOrder;

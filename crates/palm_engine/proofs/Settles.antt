@@ -178,6 +178,10 @@ pub none_of : {A : Type 0} (o : Option A) → is_some o ≡ false → o ≡ None
 none_of (Some a) t = absurd (false≢true (sym t))
 none_of None t = refl
 
+pub none_told : {A : Type 0} (P : Type 0) (Q : A → Type 0) (o : Option A) → MatchOption o P Q → is_some o ≡ false → P
+none_told P Q None told t = told
+none_told P Q (Some a) told t = absurd (false≢true (sym t))
+
 pub log_grows : (f g : Filtering) (active : List Active) (owner : Active) (pairs : List Pair) (before after : ℕ) → Walked active owner pairs f g → before ≡ length f.log.log → after ≡ length g.log.log → before ≤ after
 log_grows f g active owner pairs before after w b a =
     let k = walk_logged owner pairs (state_in_revision f active owner.cid) w.removed (state_in_revision g active owner.cid) w.walk in

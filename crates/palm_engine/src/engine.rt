@@ -130,9 +130,9 @@ impl<F: Filter> Engine<F> {
 
     /// Runs revisions until a domain is empty, nothing is pending, or as many ran as the limit says. After want of memory
     /// the interrupted constraint is pending, and the call may be made again.
-    pub fn settle<L: Ledger>(
+    pub fn settle<O: Order, L: Ledger>(
         &mut self,
-        order: &mut Option<Box<dyn Order>>,
+        order: &mut Option<O>,
         limit: Option<u64>,
         steps: &mut Steps<L>,
     ) -> Result<Settle, NoMemory>

@@ -40,24 +40,10 @@ fn is_reached(limit: Option<u64>, ran: u64) -> bool
     }
 }
 
-/// Takes the pending constraint that the order answers, and the first one without an order.
-fn take(agenda: &mut Agenda, order: &mut Option<Box<dyn Order>>) -> Option<Cid>
-    ensures none { IfNone result ((agenda.old.pending ≡ []) × (agenda.new ≡ agenda.old)) }
-    ensures some { IfSome result (λ c. (answer : ℕ) × Takes agenda.old.pending agenda.new.pending answer c
-        × (is_some order.old ≡ false → answer ≡ 0)) }
-    ensures connected { agenda.new.connected ≡ agenda.old.connected }
-    ensures stays { is_some order.new ≡ is_some order.old }
-{
-    match order {
-        None => agenda.take_first(),
-        Some(order) => agenda.take_answered(&mut **order),
-    }
-}
-
 /// Takes the constraint that is revised next, while no domain is empty and the limit is not reached.
-pub(crate) fn take_next(
+pub(crate) fn take_next<O: Order>(
     filtering: &mut Filtering,
-    order: &mut Option<Box<dyn Order>>,
+    order: &mut Option<O>,
     limit: Option<u64>,
     ran: u64,
 ) -> Option<Cid>
@@ -68,11 +54,11 @@ pub(crate) fn take_next(
     if filtering.empty.is_some() || is_reached(limit, ran) {
         return None;
     }
-    take(&mut filtering.agenda, order)
+    filtering.agenda.take(order)
 }
 
 /// Tells the order, where there is one, what the revision took out.
-pub(crate) fn tell(order: &mut Option<Box<dyn Order>>, cid: &Cid, removed: usize)
+pub(crate) fn tell<O: Order>(order: &mut Option<O>, cid: &Cid, removed: usize)
     ensures { is_some order.new ≡ is_some order.old }
 {
     if let Some(order) = order {

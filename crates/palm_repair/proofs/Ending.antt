@@ -1,5 +1,5 @@
 -- What the ends of a repair say, and what is left after it.
-use Rattle.std.proofs.Common.{◌≡◌, ℕ, Bool, true, false, List, [], ◌∷◌, ◌++◌, length, Contains, inl, inr, refl, sym, subst}
+use Rattle.std.proofs.Common.{◌≡◌, ℕ, Bool, true, false, None, List, [], ◌∷◌, ◌++◌, length, Contains, inl, inr, refl, sym, subst}
 use Rattle.palm_base.specs.declared.terms.Cid.{Cid}
 use Rattle.palm_base.specs.declared.terms.Cid.TheVariants.{Decide}
 use Rattle.palm_model.specs.Log.{Active}
@@ -8,12 +8,13 @@ use Rattle.palm_model.specs.Event.{Posts, WithdrawsAll, gone_with}
 use Rattle.palm_events.specs.Along.{IsStill, KeepsGrounds}
 use Rattle.palm_events.specs.Reasons.{ReasonsAreRight}
 use Rattle.palm_events.proofs.States.{gone_grounds}
+use Rattle.palm_engine.proofs.Settled.{settling_filters}
 use Rattle.palm_search.specs.declared.turn.Turn.{Turn}
 use Rattle.palm_search.specs.declared.turn.Turn.TheVariants.{Decide as TurnDecide, Undo as TurnUndo}
 use Rattle.palm_search.specs.Turns.{decision_of, negation_of, decided_vars}
 use Rattle.palm_search.specs.Search.{SearchEnd, begun}
 use Rattle.palm_search.specs.Kept.{HasOnlyUsers, Rests}
-use Rattle.palm_search.proofs.Leaving.{Searched, searched_none, searched_posted, searched_withdrawn, searched_settles, closing_leaves, Remembers, remembers_posted, remembers_withdrawn, remembers_settles, users_later, Ended, ended_rests}
+use Rattle.palm_search.proofs.Leaving.{Searched, searched_none, searched_posted, searched_withdrawn, searched_settles, closing_leaves, Remembers, remembers_none, remembers_posted, remembers_withdrawn, remembers_settles, users_later, Ended, ended_rests}
 use Rattle.palm_repair.specs.Posting.{RepairState, nogood_of}
 use Rattle.palm_repair.specs.Repair.{MakesRoom, RepairTakes, RepairTurns, RepairRun, Repairs, forced_by}
 use Rattle.palm_repair.specs.Kept.{IsRepairing}
@@ -83,7 +84,8 @@ repair_leaves right guided ordered tabu budget s turns end dropped t users valid
     let run = repairs.run in
     let start = searched_settles right ordered s (begun s) run.start.search run.settles.settles valid still (searched_none s valid) in
     let last = searched_turns right guided ordered tabu s run.start turns repairs.last users valid still run.taken start in
-    closing_leaves right ordered s repairs.last.search.engine t users valid still last repairs.closes
+    let closes = repairs.closes in
+    closing_leaves right s repairs.last.search.engine closes.middle t users valid still last closes.withdraws (settling_filters None closes.middle closes.revisions t closes.settles)
 
 -- ---- the constraints
 
@@ -108,8 +110,7 @@ pub repair_ended : ReasonsAreRight → (guided ordered : Bool) (tabu budget : �
 repair_ended right guided ordered tabu budget s turns end dropped t users valid run =
     let start = starts_at_turn right ordered s run.start valid users run.settles in
     let last = turns_at_turn right guided ordered tabu run.start turns t run.taken start in
-    let none : Remembers s s = record { initial = refl; active = λ a m. m; users = λ a m user. record { owner = a; posted = m; named = refl } } in
-    let first = remembers_settles ordered s (begun s) run.start.search run.settles.settles none in
+    let first = remembers_settles ordered s (begun s) run.start.search run.settles.settles (remembers_none s) in
     record {
       searching = last.repairing.searching;
       still = last.still;

@@ -65,7 +65,7 @@ no_decision s has x inactive m =
     let r = member_unmap (λ (p : Pair). p.var) s.decisions x m in
     inactive (record { owner = decision_of r.0; posted = has.active r.0 r.1; named = ap Decide r.2 })
 
-decided_has : (s : SearchState) (p : Pair) (engine : EngineState) → engine.active ≡ with_posted (decision_of p) s.engine.active → (IsActive s.engine.active (Decide p.var) → ⊥)
+pub decided_has : (s : SearchState) (p : Pair) (engine : EngineState) → engine.active ≡ with_posted (decision_of p) s.engine.active → (IsActive s.engine.active (Decide p.var) → ⊥)
     → HasDecisions s → HasDecisions (record { engine = engine; decisions = s.decisions ++ p ∷ [] })
 decided_has s p engine e inactive has = record {
   active = λ q m. subst (λ l. Contains l (decision_of q)) (sym e) (elim (Contains-push_cases s.decisions p q m) [

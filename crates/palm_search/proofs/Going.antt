@@ -10,7 +10,7 @@ use Rattle.palm_base.proofs.Members.{Known, member_nil, member_here, member_ther
 use Rattle.palm_model.specs.Domains.{Domains, Has, Ascends, AllAscend, values_of}
 use Rattle.palm_model.specs.Part.{parts}
 use Rattle.palm_model.specs.Log.{Active, IsActive, log_pairs}
-use Rattle.palm_model.specs.State.{EngineState, IsValid, IsEmptyAt, AllFilled, IsGround, FitsName, IsOfForm, present, without_cid, is_user}
+use Rattle.palm_model.specs.State.{EngineState, IsValid, IsEmptyAt, AllFilled, FitsName, IsOfForm, AreGrounds, present, without_cid, is_user}
 use Rattle.palm_model.specs.Event.{gone_with, posted, without_names, vars_of}
 use Rattle.palm_model.specs.declared.constraint.Con.{Con}
 use Rattle.palm_model.specs.declared.constraint.Con.TheVariants.{CompareConst}
@@ -32,11 +32,11 @@ use Rattle.palm_search.specs.declared.turn.Pick.TheVariants.{NoGuide, Nothing, A
 use Rattle.palm_search.specs.declared.turn.Turn.{Turn}
 use Rattle.palm_search.specs.declared.turn.Turn.TheVariants.{Decide as TurnDecide, Undo as TurnUndo}
 use Rattle.palm_search.specs.Turns.IsUnlawful.{no_variable, few_values, no_value}
-use Rattle.palm_search.specs.Turns.{SearchState, IsOpen, IsLawful, IsUnlawful, IsDefault, IsDecided, FitsGuide, Decides, HasFlatConflict, IsLatest, Takes, SettlesAfter, Follows, Turns, decision_of, negation_of, decided_vars}
+use Rattle.palm_search.specs.Turns.{SearchState, IsOpen, IsLawful, IsUnlawful, IsDefault, IsDecided, FitsGuide, HasFlatConflict, IsLatest, Decides, Undoes, Takes, SettlesAfter, Follows, Turns, decision_of, negation_of, decided_vars}
 use Rattle.palm_search.specs.Search.{SearchEnd, IsFound, GoesOn, EndsWith, SearchRun, IsPicked, begun}
 use Rattle.palm_search.specs.Search.SearchEnd.{Found, NoSolution, Spent}
 use Rattle.palm_search.specs.Search.GoesOn.{could_decide, could_undo}
-use Rattle.palm_search.specs.Kept.{HasDecisions, HasOnlyUsers, IsSearching}
+use Rattle.palm_search.specs.Kept.{HasDecisions, HasNoneNegated, HasOnlyUsers, IsSearching}
 use Rattle.palm_search.proofs.Deciding.{ground_stays, latest_vars, others_taken}
 use Rattle.palm_search.proofs.Keeping.{begins, takes_keep, settles_keep}
 use Rattle.palm_search.proofs.Leaving.{settles_still}
@@ -193,10 +193,6 @@ decided_lawful d (Asked q) p decided = elim decided [
   | inr r ↦ record { is_open = r.1.is_open; has = r.1.has }
 ]
 
--- no decided pair has an active negation
-abbrev pub HasNoneNegated : SearchState → Type 0
-HasNoneNegated s = (p : Pair) → Contains s.decisions p → IsActive s.engine.active (Not p) → ⊥
-
 -- a decision was taken after the pick
 abbrev pub IsPickedBy : Pick → Turn → Type 0
 IsPickedBy pick (TurnDecide pair asked) = asked ≡ pick
@@ -225,6 +221,17 @@ record TakesSome (guided : Bool) (pick : Pick) (s : SearchState) : Type 0 where
 
 not_decided : (x : ℕ) (p : Pair) → Decide x ≡ Not p → ⊥
 not_decided x p e = cc
+
+-- a decision in a quiet state keeps the decided pairs from being negated
+pub decides_unnegated : (guided : Bool) (s : SearchState) (p : Pair) (pick : Pick) (t : SearchState) → Decides guided s p pick t → IsValid s.engine → s.engine.pending ≡ [] → HasNoneNegated s → HasNoneNegated t
+decides_unnegated guided s p pick t turn valid quiet none q m is =
+    elim (with_posted_cases (decision_of p) s.engine.active is.owner (subst (λ (z : EngineState). Contains z.active is.owner) turn.posts.after is.posted)) [
+      | inl e ↦ not_decided p.var q (ap (λ (a : Active). a.cid) e ∙ is.named)
+      | inr k ↦ elim (Contains-push_cases s.decisions p q (subst (λ l. Contains l q) turn.decisions m)) [
+        | inl j ↦ none q j (record { owner = is.owner; posted = k; named = is.named })
+        | inr e ↦ quiet_negated s.engine valid quiet p (decided_lawful (present s.engine) pick p turn.decided).has (record { owner = is.owner; posted = k; named = is.named ∙ ap Not (sym e) })
+      ]
+    ]
 
 -- a decision after the pick, and where it leads
 pub record DecidesSome (guided : Bool) (pick : Pick) (s : SearchState) : Type 0 where
@@ -258,18 +265,6 @@ decides_some guided pick s fits searching quiet filled x is_open lowest =
       };
     }
 
--- a decided pair has no active negation where the decision was taken in a quiet state
-decision_unnegated : (guided : Bool) (pick : Pick) (s : SearchState) (p : Pair) (t : SearchState) → Decides guided s p pick t → IsSearching s → HasNoneNegated s → s.engine.pending ≡ [] → HasNoneNegated t
-decision_unnegated guided pick s p t decides searching none quiet q m is =
-    elim (with_posted_cases (decision_of p) s.engine.active is.owner (subst (λ (z : EngineState). Contains z.active is.owner) decides.posts.after is.posted)) [
-      | inl e ↦ not_decided p.var q (ap (λ (a : Active). a.cid) e ∙ is.named)
-      | inr k ↦ elim (Contains-push_cases s.decisions p q (subst (λ l. Contains l q) decides.decisions m)) [
-        | inl j ↦ none q j (record { owner = is.owner; posted = k; named = is.named })
-        | inr e ↦ quiet_negated s.engine searching.valid quiet p (decided_lawful (present s.engine) pick p decides.decided).has
-            (record { owner = is.owner; posted = k; named = is.named ∙ ap Not (sym e) })
-      ]
-    ]
-
 decide_exists : (guided : Bool) (pick : Pick) (s : SearchState) → FitsGuide guided pick → IsSearching s → HasNoneNegated s → s.engine.pending ≡ [] → AllFilled (present s.engine)
     → (x : ℕ) → IsOpen (present s.engine) x → ((y : ℕ) → IsOpen (present s.engine) y → x ≤ y) → TakesSome guided pick s
 decide_exists guided pick s fits searching none quiet filled x is_open lowest =
@@ -278,7 +273,7 @@ decide_exists guided pick s fits searching none quiet filled x is_open lowest =
       turn = TurnDecide some.pair pick;
       state = some.state;
       takes = some.decides;
-      none_negated = decision_unnegated guided pick s some.pair some.state some.decides searching none quiet;
+      none_negated = decides_unnegated guided s some.pair pick some.state some.decides searching.valid quiet none;
       picked = refl;
     }
 
@@ -348,6 +343,43 @@ others_apart s has names gone left latest p m e =
     (member_same (vars_of (latest.earlier ++ latest.later)) p.var gone.var (sym (ap (λ (q : Pair). q.var) e))
     (member_map (λ (q : Pair). q.var) (latest.earlier ++ latest.later) p (subst (λ l. Contains l p) latest.others m))))
 
+-- a negation that is active after the withdrawal was so before it
+pub negation_before : (s : SearchState) (gone : Pair) (middle : EngineState) → middle.active ≡ without_names (gone_with s.engine.active (Decide gone.var)) s.engine.active → (p : Pair) → IsActive middle.active (Not p) → IsActive s.engine.active (Not p)
+negation_before s gone middle same p is = record {
+  owner = is.owner;
+  posted = (without_names_member (gone_with s.engine.active (Decide gone.var)) s.engine.active is.owner (subst (λ l. Contains l is.owner) same is.posted)).0;
+  named = is.named;
+}
+
+-- the rest of the flat conflict is active after the withdrawal
+pub rest_grounds : (s : SearchState) → IsValid s.engine → (gone : Pair) (conflict : List Cid) → HasFlatConflict s.engine conflict → (middle : EngineState) → middle.active ≡ without_names (gone_with s.engine.active (Decide gone.var)) s.engine.active
+    → AreGrounds middle.active (without_cid (Decide gone.var) conflict)
+rest_grounds s valid gone conflict flat middle same c m =
+    let r = without_cid_member (Decide gone.var) conflict c m in
+    let g = flat_grounds s.engine valid flat.var c (flat.is.sound c r.0) in
+    let stays = ground_stays (length s.engine.initial) s.engine.active (Decide gone.var) valid.formed c g.0 r.1 in
+    let o = g.1 in (
+      g.0,
+      record {
+        owner = o.owner;
+        posted = subst (λ l. Contains l o.owner) (sym same) (member_without_names (gone_with s.engine.active (Decide gone.var)) s.engine.active o.owner o.posted (λ k. stays (member_same (gone_with s.engine.active (Decide gone.var)) o.owner.cid c o.named k)));
+        named = o.named;
+      },
+    )
+
+-- an undoing negates a pair that is decided no longer
+pub undoes_unnegated : (s : SearchState) (gone : Pair) (conflict : List Cid) (t : SearchState) → Undoes s gone conflict t → HasDecisions s → HasNoneNegated s → HasNoneNegated t
+undoes_unnegated s gone conflict t turn has none p m is =
+    let because = without_cid (Decide gone.var) conflict in
+    let same : turn.middle.active ≡ without_names (gone_with s.engine.active (Decide gone.var)) s.engine.active = ap (λ (z : EngineState). z.active) turn.withdraws.after in
+    elim (with_posted_cases (negation_of gone because) turn.middle.active is.owner (subst (λ (z : EngineState). Contains z.active is.owner) turn.posts.after is.posted)) [
+      | inl e ↦ others_apart s has conflict gone t.decisions turn.latest p m (same_negated gone p (ap (λ (a : Active). a.cid) e ∙ is.named))
+      | inr k ↦ none p (others_decided s.decisions conflict gone t.decisions turn.latest p m) (negation_before s gone turn.middle same p (record { owner = is.owner; posted = k; named = is.named }))
+    ]
+  where
+    same_negated : (q p : Pair) → Not q ≡ Not p → q ≡ p
+    same_negated q p e = cc
+
 undo_exists : (guided : Bool) (pick : Pick) (s : SearchState) → IsSearching s → HasNoneNegated s → (conflict : List Cid) (x : ℕ) → HasFlatConflict s.engine conflict → Contains conflict (Decide x) → TakesSome guided pick s
 undo_exists guided pick s searching none conflict x flat held =
     let valid = searching.valid in
@@ -362,61 +394,28 @@ undo_exists guided pick s searching none conflict x flat held =
     let same : middle.active ≡ without_names (gone_with s.engine.active (Decide gone.var)) s.engine.active = ap (λ (z : EngineState). z.active) w.1.after in
     let initial : middle.initial ≡ s.engine.initial = ap (λ (z : EngineState). z.initial) w.1.after in
     let because = without_cid (Decide gone.var) conflict in
-    let before = λ (p : Pair) (is : IsActive middle.active (Not p)). was_active s gone middle same p is in
-    record {
-      turn = TurnUndo gone conflict;
-      state = record { engine = posted middle (negation_of gone because); decisions = found.left };
-      takes = record {
-        flat = flat;
-        latest = found.latest;
-        middle = middle;
-        withdraws = w.1;
-        posts = record {
-          inactive = λ is. none gone in_decisions (before gone is);
-          formed = record {
-            form = (
-              refl,
-              subst (λ d. gone.var < length d) (sym initial) (decided_form (length s.engine.initial) s.engine.active gone (valid.formed (decision_of gone) (searching.decisions.active gone in_decisions))),
-              λ c m. rest_grounds s valid gone conflict flat middle same c m,
-            );
-          };
-          after = refl;
+    let t : SearchState = record { engine = posted middle (negation_of gone because); decisions = found.left } in
+    let undoes : Undoes s gone conflict t = record {
+      flat = flat;
+      latest = found.latest;
+      middle = middle;
+      withdraws = w.1;
+      posts = record {
+        inactive = λ is. none gone in_decisions (negation_before s gone middle same gone is);
+        formed = record {
+          form = (
+            refl,
+            subst (λ d. gone.var < length d) (sym initial) (decided_form (length s.engine.initial) s.engine.active gone (valid.formed (decision_of gone) (searching.decisions.active gone in_decisions))),
+            rest_grounds s valid gone conflict flat middle same,
+          );
         };
+        after = refl;
       };
-      none_negated = λ p m is. elim (with_posted_cases (negation_of gone because) middle.active is.owner is.posted) [
-        | inl e ↦ others_apart s searching.decisions conflict gone found.left found.latest p m (same_negated gone p (ap (λ (a : Active). a.cid) e ∙ is.named))
-        | inr k ↦ none p (others_decided s.decisions conflict gone found.left found.latest p m) (before p (record { owner = is.owner; posted = k; named = is.named }))
-      ];
-      picked = tt;
-    }
+    } in
+    record { turn = TurnUndo gone conflict; state = t; takes = undoes; none_negated = undoes_unnegated s gone conflict t undoes searching.decisions none; picked = tt }
   where
     gone_taken : (earlier later : List Pair) (gone : Pair) → Contains (earlier ++ gone ∷ later) gone
     gone_taken earlier later gone = Contains-append_right earlier (gone ∷ later) gone (member_here gone later)
-
-    same_negated : (q p : Pair) → Not q ≡ Not p → q ≡ p
-    same_negated q p e = cc
-
-    was_active : (s : SearchState) (gone : Pair) (middle : EngineState) → middle.active ≡ without_names (gone_with s.engine.active (Decide gone.var)) s.engine.active → (p : Pair) → IsActive middle.active (Not p) → IsActive s.engine.active (Not p)
-    was_active s gone middle same p is = record {
-      owner = is.owner;
-      posted = (without_names_member (gone_with s.engine.active (Decide gone.var)) s.engine.active is.owner (subst (λ l. Contains l is.owner) same is.posted)).0;
-      named = is.named;
-    }
-
-    rest_grounds : (s : SearchState) → IsValid s.engine → (gone : Pair) (conflict : List Cid) → HasFlatConflict s.engine conflict → (middle : EngineState) → middle.active ≡ without_names (gone_with s.engine.active (Decide gone.var)) s.engine.active
-        → (c : Cid) → Contains (without_cid (Decide gone.var) conflict) c → IsGround c × IsActive middle.active c
-    rest_grounds s valid gone conflict flat middle same c m =
-        let r = without_cid_member (Decide gone.var) conflict c m in
-        let g = flat_grounds s.engine valid flat.var c (flat.is.sound c r.0) in
-        let stays = ground_stays (length s.engine.initial) s.engine.active (Decide gone.var) valid.formed c g.0 r.1 in
-        let o = g.1 in (
-          g.0,
-          record {
-            owner = o.owner;
-            posted = subst (λ l. Contains l o.owner) (sym same) (member_without_names (gone_with s.engine.active (Decide gone.var)) s.engine.active o.owner o.posted (λ k. stays (member_same (gone_with s.engine.active (Decide gone.var)) o.owner.cid c o.named k)));
-            named = o.named;
-          },
-        )
 
 -- ---- ends
 

@@ -76,7 +76,7 @@ searched_filtered right s m t filters valid still searched = record {
 
 -- ---- turns
 
-searched_takes : (guided : Bool) (s : EngineState) (m : SearchState) (turn : Turn) (t : SearchState) → HasOnlyUsers s → IsValid s → Takes guided m turn t → Searched s m.engine → Searched s t.engine
+pub searched_takes : (guided : Bool) (s : EngineState) (m : SearchState) (turn : Turn) (t : SearchState) → HasOnlyUsers s → IsValid s → Takes guided m turn t → Searched s m.engine → Searched s t.engine
 searched_takes guided s m (TurnDecide pair pick) t users valid takes searched = searched_posted s m.engine (decision_of pair) t.engine refl takes.posts searched
 searched_takes guided s m (TurnUndo gone conflict) t users valid takes searched =
     let cid : Cid = Decide gone.var in
@@ -129,20 +129,27 @@ closed_alone s m t withdraws searched a k =
       | inr f ↦ absurd (false≢true (sym f ∙ stays_user m.active a r.0 r.1))
     ]
 
-pub closing_leaves : ReasonsAreRight → (ordered : Bool) (s m t : EngineState) → HasOnlyUsers s → IsValid s → IsStill s → Searched s m → Closes ordered m t → t.log ≡ s.log
-closing_leaves right ordered s m t users valid still searched closes =
-    let closed = searched_withdrawn s m (search_cids m.active) closes.middle (closing_keeps m searched.valid)
-    (λ c k. searcher_later s users c (search_member m.active c k)) closes.withdraws valid searched in
-    let filters = settling_filters None closes.middle closes.revisions t closes.settles in
-    let last = searched_filtered right s closes.middle t filters valid still closed in
-    carried_log s t last.valid last.carries (λ a k. closed_alone s m closes.middle closes.withdraws searched a (subst (λ l. Contains l a) filters.active k))
+-- the decisions and negations of m go, and filtering may follow: the log is the one from before
+pub closing_leaves : ReasonsAreRight → (s m n t : EngineState) → HasOnlyUsers s → IsValid s → IsStill s → Searched s m → WithdrawsAll m (search_cids m.active) n → Filters n t → t.log ≡ s.log
+closing_leaves right s m n t users valid still searched withdraws filters =
+    let closed = searched_withdrawn s m (search_cids m.active) n (closing_keeps m searched.valid)
+    (λ c k. searcher_later s users c (search_member m.active c k)) withdraws valid searched in
+    let last = searched_filtered right s n t filters valid still closed in
+    carried_log s t last.valid last.carries (λ a k. closed_alone s m n withdraws searched a (subst (λ l. Contains l a) filters.active k))
+
+-- a settling and turns lead from s to m
+pub turned_searched : ReasonsAreRight → (guided ordered : Bool) (s : EngineState) (start : SearchState) (turns : List Turn) (m : SearchState) → HasOnlyUsers s → IsValid s → IsStill s
+    → SettlesAfter ordered (begun s) start → Turns guided ordered start turns m → Searched s m.engine
+turned_searched right guided ordered s start turns m users valid still settles taken =
+    searched_turns right guided ordered s start turns m users valid still taken (searched_settles right ordered s (begun s) start settles valid still (searched_none s valid))
 
 pub search_leaves : ReasonsAreRight → (guided ordered : Bool) (budget : ℕ) (s : EngineState) (turns : List Turn) (end : SearchEnd) (t : EngineState) → HasOnlyUsers s → IsValid s → IsStill s → Searches guided ordered budget s turns end t → t.log ≡ s.log
 search_leaves right guided ordered budget s turns end t users valid still searches =
     let run = searches.run in
-    let start = searched_settles right ordered s (begun s) run.start run.settles valid still (searched_none s valid) in
-    let last = searched_turns right guided ordered s run.start turns searches.last users valid still run.taken start in
-    closing_leaves right ordered s searches.last.engine t users valid still last searches.closes
+    let closes = searches.closes in
+    closing_leaves right s searches.last.engine closes.middle t users valid still
+    (turned_searched right guided ordered s run.start turns searches.last users valid still run.settles run.taken)
+    closes.withdraws (settling_filters None closes.middle closes.revisions t closes.settles)
 
 -- ---- whole searches
 
@@ -158,6 +165,9 @@ pub record Remembers (s m : EngineState) : Type 0 where
   pub initial : m.initial ≡ s.initial
   pub active : (a : Active) → Contains s.active a → Contains m.active a
   pub users : (a : Active) → Contains m.active a → is_user a.cid ≡ true → IsActive s.active a.cid
+
+pub remembers_none : (s : EngineState) → Remembers s s
+remembers_none s = record { initial = refl; active = λ a m. m; users = λ a m user. record { owner = a; posted = m; named = refl } }
 
 pub remembers_posted : (s m : EngineState) (a : Active) (t : EngineState) → is_user a.cid ≡ false → Posts m a t → Remembers s m → Remembers s t
 remembers_posted s m a t f posts old = record {
@@ -194,7 +204,7 @@ gone_no_user n active x formed c m user = ground_stays n active (Decide x) forme
 pub users_later : (s : EngineState) → HasOnlyUsers s → (gone : List Cid) → ((c : Cid) → Contains gone c → is_user c ≡ true → ⊥) → AreNew s gone
 users_later s users gone none c m is = none c m (subst (λ d. is_user d ≡ true) is.named (users is.owner is.posted))
 
-remembers_takes : (guided : Bool) (s : EngineState) (m : SearchState) (turn : Turn) (t : SearchState) → HasOnlyUsers s → IsValid m.engine → Takes guided m turn t → Remembers s m.engine → Remembers s t.engine
+pub remembers_takes : (guided : Bool) (s : EngineState) (m : SearchState) (turn : Turn) (t : SearchState) → HasOnlyUsers s → IsValid m.engine → Takes guided m turn t → Remembers s m.engine → Remembers s t.engine
 remembers_takes guided s m (TurnDecide pair pick) t users valid takes old = remembers_posted s m.engine (decision_of pair) t.engine refl takes.posts old
 remembers_takes guided s m (TurnUndo gone conflict) t users valid takes old =
     let names = gone_with m.engine.active (Decide gone.var) in
@@ -217,23 +227,25 @@ pub record Ended (s : EngineState) (t : SearchState) : Type 0 where
   pub still : IsStill t.engine
   pub remembers : Remembers s t.engine
 
-pub run_ended : ReasonsAreRight → (guided ordered : Bool) (budget : ℕ) (s : EngineState) (turns : List Turn) (end : SearchEnd) (t : SearchState) → HasOnlyUsers s → IsValid s → SearchRun guided ordered budget s turns end t → Ended s t
-run_ended right guided ordered budget s turns end t users valid run =
-    let start = settles_keep right ordered (begun s) run.start run.settles (begins s valid users) in
-    let none : Remembers s s = record { initial = refl; active = λ a m. m; users = λ a m user. record { owner = a; posted = m; named = refl } } in
-    let first = remembers_settles ordered s (begun s) run.start run.settles none in
+pub turned_ended : ReasonsAreRight → (guided ordered : Bool) (s : EngineState) (start : SearchState) (turns : List Turn) (t : SearchState) → HasOnlyUsers s → IsValid s
+    → SettlesAfter ordered (begun s) start → Turns guided ordered start turns t → Ended s t
+turned_ended right guided ordered s start turns t users valid settles taken =
+    let searching = settles_keep right ordered (begun s) start settles (begins s valid users) in
+    let first = remembers_settles ordered s (begun s) start settles (remembers_none s) in
     record {
-      searching = turns_keep right guided ordered run.start turns t run.taken start;
-      still = turns_still guided ordered run.start turns t (settles_still ordered (begun s) run.start run.settles) run.taken;
-      remembers = remembers_turns right guided ordered s run.start turns t users start run.taken first;
+      searching = turns_keep right guided ordered start turns t taken searching;
+      still = turns_still guided ordered start turns t (settles_still ordered (begun s) start settles) taken;
+      remembers = remembers_turns right guided ordered s start turns t users searching taken first;
     }
 
+pub run_ended : ReasonsAreRight → (guided ordered : Bool) (budget : ℕ) (s : EngineState) (turns : List Turn) (end : SearchEnd) (t : SearchState) → HasOnlyUsers s → IsValid s → SearchRun guided ordered budget s turns end t → Ended s t
+run_ended right guided ordered budget s turns end t users valid run = turned_ended right guided ordered s run.start turns t users valid run.settles run.taken
+
 -- a user's constraint of the last state is one of the first
-user_before : (s : EngineState) (t : SearchState) → Ended s t → (a : Active) → Contains t.engine.active a → is_user a.cid ≡ true → Contains s.active a
-user_before s t ended a m user =
-    let is = ended.remembers.users a m user in
-    subst (λ b. Contains s.active b)
-    (single t.engine.active ended.searching.valid.rising is.owner a (ended.remembers.active is.owner is.posted) m is.named) is.posted
+user_before : (s m : EngineState) → IsValid m → Remembers s m → (a : Active) → Contains m.active a → is_user a.cid ≡ true → Contains s.active a
+user_before s m valid old a k user =
+    let is = old.users a k user in
+    subst (λ b. Contains s.active b) (single m.active valid.rising is.owner a (old.active is.owner is.posted) k is.named) is.posted
 
 pub run_found : (s : EngineState) (t : SearchState) (values : List ℤ) → Ended s t → IsFound (present t.engine) values → IsSolution s.initial (Contains (cons_of s.active)) (listed values)
 run_found s t values ended found =
@@ -250,7 +262,7 @@ run_unsolved s t users ended none b solution = users_unsolved t ended.searching 
   within = subst (λ d. (x : ℕ) → x < length d → Has d x (b x)) (sym ended.remembers.initial) solution.within;
   satisfies = λ c named. solution.satisfies c (record {
     owner = named.owner;
-    posted = user_before s t ended named.owner named.posted (users_active t ended.searching users none named.owner.cid named.named).1;
+    posted = user_before s t.engine ended.searching.valid ended.remembers named.owner named.posted (users_active t ended.searching users none named.owner.cid named.named).1;
     is = named.is;
     named = named.named;
   });
@@ -261,31 +273,33 @@ run_users s t users ended none c m =
     let r = users_active t ended.searching users none c m in
     record {
       owner = r.0.owner;
-      posted = user_before s t ended r.0.owner r.0.posted (subst (λ d. is_user d ≡ true) (sym r.0.named) r.1);
+      posted = user_before s t.engine ended.searching.valid ended.remembers r.0.owner r.0.posted (subst (λ d. is_user d ≡ true) (sym r.0.named) r.1);
       named = r.0.named;
     }
 
 -- ---- what is left after a search
 
--- the constraints and the declared values are those from before, and nothing is pending or a domain is empty
+-- the constraints and the declared values are those from before
+pub record Returns (s t : EngineState) : Type 0 where
+  pub valid : IsValid t
+  pub active : t.active ≡ s.active
+  pub initial : t.initial ≡ s.initial
+
+pub closing_returns : ReasonsAreRight → (s m n t : EngineState) → HasOnlyUsers s → IsValid s → IsValid m → Remembers s m → WithdrawsAll m (search_cids m.active) n → Filters n t → Returns s t
+closing_returns right s m n t users valid valid_m old withdraws filters =
+    let later = users_later s users (search_cids m.active) (λ c k user. false≢true (sym (search_member m.active c k) ∙ user)) in
+    let last = remembers_filtered s n t filters (remembers_withdrawn s m (search_cids m.active) n later withdraws old) in
+    let valid_t = filters_valid right n t filters (withdraws_all_valid m n (search_cids m.active) (closing_keeps m valid_m) withdraws valid_m) in
+    let back : (a : Active) → Contains t.active a → Contains s.active a = λ a k.
+    let r = without_names_member (search_cids m.active) m.active a (subst (λ (z : EngineState). Contains z.active a) withdraws.after (subst (λ l. Contains l a) filters.active k)) in
+    user_before s m valid_m old a r.0 (stays_user m.active a r.0 r.1) in
+    record { valid = valid_t; active = active_same t.active s.active valid_t.rising valid.rising back last.active; initial = last.initial }
+
+-- after a whole search nothing is pending or a domain is empty
 pub ended_rests : ReasonsAreRight → (ordered : Bool) (s : EngineState) (last : SearchState) (t : EngineState) → HasOnlyUsers s → IsValid s → Ended s last → Closes ordered last.engine t → Rests s t
 ended_rests right ordered s last t users valid ended closes =
-    let m = last.engine in
-    let later = users_later s users (search_cids m.active) (λ c k user. false≢true (sym (search_member m.active c k) ∙ user)) in
-    let closed = remembers_withdrawn s m (search_cids m.active) closes.middle later closes.withdraws ended.remembers in
-    let filters = settling_filters None closes.middle closes.revisions t closes.settles in
-    let kept = remembers_filtered s closes.middle t filters closed in
-    let valid' = withdraws_all_valid m closes.middle (search_cids m.active) (closing_keeps m ended.searching.valid) closes.withdraws ended.searching.valid in
-    let valid_t = filters_valid right closes.middle t filters valid' in
-    let back : (a : Active) → Contains t.active a → Contains s.active a = λ a k.
-    let r = without_names_member (search_cids m.active) m.active a (subst (λ (z : EngineState). Contains z.active a) closes.withdraws.after (subst (λ l. Contains l a) filters.active k)) in
-    user_before s last ended a r.0 (stays_user m.active a r.0 r.1) in
-    record {
-      valid = valid_t;
-      active = active_same t.active s.active valid_t.rising valid.rising back kept.active;
-      initial = kept.initial;
-      still = settling_still closes.middle closes.revisions t closes.settles;
-    }
+    let returns = closing_returns right s last.engine closes.middle t users valid ended.searching.valid ended.remembers closes.withdraws (settling_filters None closes.middle closes.revisions t closes.settles) in
+    record { valid = returns.valid; active = returns.active; initial = returns.initial; still = settling_still closes.middle closes.revisions t closes.settles }
 
 pub search_rests : ReasonsAreRight → (guided ordered : Bool) (budget : ℕ) (s : EngineState) (turns : List Turn) (end : SearchEnd) (t : EngineState) → HasOnlyUsers s → IsValid s → Searches guided ordered budget s turns end t → Rests s t
 search_rests right guided ordered budget s turns end t users valid searches =

@@ -9,6 +9,7 @@ ghost use Rattle.palm_session.specs.State.{IsContradiction, IsHeld, IsState};
 
 use crate::desk::Desk;
 use crate::reply::Reply;
+use palm_agenda::Order;
 use palm_base::{NoMemory, Steps};
 use palm_lang::Fixed;
 use std::sync::ledger::Ledger;
@@ -24,7 +25,7 @@ impl Desk {
         ensures ran { IfOk result (λ told. Ran self.old.state limit told self.new.state (steps.new - steps.old)) }
         ensures spends { Spends self.old self.new steps.old steps.new }
     {
-        let mut order = None;
+        let mut order: Option<Box<dyn Order>> = None;
         self.engine.settle(&mut order, limit, steps)?;
         Ok(self.engine.revisions())
     }
