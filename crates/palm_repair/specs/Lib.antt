@@ -1,2 +1,4 @@
+pub mod Kept
 pub mod Posting
 pub mod Repair
+pub mod Sets

@@ -11,7 +11,7 @@ use Rattle.palm_search.specs.declared.turn.Pick.{Pick}
 use Rattle.palm_search.specs.declared.turn.Turn.{Turn}
 use Rattle.palm_search.specs.declared.turn.Turn.TheVariants.{Decide as TurnDecide, Undo as TurnUndo}
 use Rattle.palm_search.specs.Turns.{SearchState, HasFlatConflict, Decides, SettlesAfter, decided_vars}
-use Rattle.palm_search.specs.Search.{SearchEnd, EndsWith, Closes, begun}
+use Rattle.palm_search.specs.Search.{SearchEnd, EndsWith, Closes, IsPicked, begun}
 use Rattle.palm_repair.specs.Posting.{Nogood, Origin, RepairState, PostsAll, nogood_of, active_origins}
 
 -- ---- decisions
@@ -134,3 +134,19 @@ pub record Repairs (guided ordered : Bool) (tabu budget : ℕ) (s : EngineState)
   pub last : RepairState
   pub run : RepairRun guided ordered tabu budget s turns end dropped last
   pub closes : Closes ordered last.search.engine t
+
+-- a repair from s with these picks, and how it ends
+pub record RepairsTo (guided ordered : Bool) (tabu : ℕ) (f : ℕ → Pick) (budget : ℕ) (s : EngineState) : Type 0 where
+  pub turns : List Turn
+  pub end : SearchEnd
+  pub dropped : ℕ
+  pub state : EngineState
+  pub repairs : Repairs guided ordered tabu budget s turns end dropped state
+  pub picked : IsPicked f turns
+
+-- two repairs are one
+pub record IsSameRepair (turns : List Turn) (end : SearchEnd) (dropped : ℕ) (t : EngineState) (others : List Turn) (other : SearchEnd) (lost : ℕ) (u : EngineState) : Type 0 where
+  pub turns_same : turns ≡ others
+  pub end_same : end ≡ other
+  pub dropped_same : dropped ≡ lost
+  pub state_same : t ≡ u

@@ -1,2 +1,14 @@
-//! The run of decision-repair: nogoods, weights, and the negations that the nogoods force.
+//! The run of decision-repair: nogoods, weights, and the negations that the nogoods force; and the laws on it.
 #![tactic(auto)]
+
+pub mod bound;
+pub mod laws;
+
+pub use bound::{repairs_are_bounded, spent_budgets_are_small, undos_differ};
+pub use laws::{
+    found_values_are_a_solution, listed_nogoods_are_few, making_room_keeps_repairing,
+    no_nogood_is_whole, posted_negations_are_justified, posting_keeps_repairing, repairs_begin,
+    repairs_exist, repairs_leave_the_constraints, repairs_leave_the_log,
+    repairs_without_guide_and_order_are_unique, settlings_keep_repairing, turns_keep_repairing,
+    turns_with_settlings_keep_repairing, users_of_no_solution_have_none,
+};

@@ -43,11 +43,11 @@ no_guide Nothing fits = absurd fits
 no_guide (Asked q) fits = absurd fits
 
 -- a turn, and where it leads
-record IsSameTurn (turn : Turn) (t : SearchState) (other : Turn) (u : SearchState) : Type 0 where
-  same : turn ≡ other
-  state : t ≡ u
+pub record IsSameTurn (turn : Turn) (t : SearchState) (other : Turn) (u : SearchState) : Type 0 where
+  pub same : turn ≡ other
+  pub state : t ≡ u
 
-decides_same : (s : SearchState) (p : Pair) (pick : Pick) (t : SearchState) (q : Pair) (other : Pick) (u : SearchState) → Decides false s p pick t → Decides false s q other u → IsSameTurn (TurnDecide p pick) t (TurnDecide q other) u
+pub decides_same : (s : SearchState) (p : Pair) (pick : Pick) (t : SearchState) (q : Pair) (other : Pick) (u : SearchState) → Decides false s p pick t → Decides false s q other u → IsSameTurn (TurnDecide p pick) t (TurnDecide q other) u
 decides_same s p pick t q other u one two =
     let d = present s.engine in
     let none = no_guide pick one.fits in
@@ -76,13 +76,13 @@ record IsSameLatest (g : Pair) (e l : List Pair) (g' : Pair) (e' l' : List Pair)
   gone : g ≡ g'
   others : e ++ l ≡ e' ++ l'
 
-head_same : (x y : Pair) (xs ys : List Pair) → x ∷ xs ≡ y ∷ ys → x ≡ y
+pub head_same : (x y : Pair) (xs ys : List Pair) → x ∷ xs ≡ y ∷ ys → x ≡ y
 head_same x y xs ys e = cc
 
-tail_same : (x y : Pair) (xs ys : List Pair) → x ∷ xs ≡ y ∷ ys → xs ≡ ys
+pub tail_same : (x y : Pair) (xs ys : List Pair) → x ∷ xs ≡ y ∷ ys → xs ≡ ys
 tail_same x y xs ys e = cc
 
-later_member : (e : List Pair) (g : Pair) (l : List Pair) → Contains (e ++ g ∷ l) g
+pub later_member : (e : List Pair) (g : Pair) (l : List Pair) → Contains (e ++ g ∷ l) g
 later_member e g l = Contains-append_right e (g ∷ l) g (member_here g l)
 
 latest_same : (names : List Cid) (e : List Pair) (g : Pair) (l e' : List Pair) (g' : Pair) (l' : List Pair) → e ++ g ∷ l ≡ e' ++ g' ∷ l'
@@ -119,7 +119,7 @@ undoes_same s g c t g' c' u one two =
 
 -- ---- turns
 
-has_empty : (s : EngineState) (c : List Cid) → HasFlatConflict s c → HasEmpty (present s)
+pub has_empty : (s : EngineState) (c : List Cid) → HasFlatConflict s c → HasEmpty (present s)
 has_empty s c flat = (flat.var, flat.empty)
 
 takes_same : (s : SearchState) → (turn : Turn) (t : SearchState) (other : Turn) (u : SearchState) → Takes false s turn t → Takes false s other u → IsSameTurn turn t other u
@@ -128,7 +128,7 @@ takes_same s (TurnDecide p pick) t (TurnUndo g c) u one two = absurd (not_empty 
 takes_same s (TurnUndo g c) t (TurnDecide q k) u one two = absurd (not_empty (present s.engine) two.filled (has_empty s.engine c one.flat))
 takes_same s (TurnUndo g c) t (TurnUndo g' c') u one two = undoes_same s g c t g' c' u one two
 
-settles_same : (s t u : SearchState) → IsValid s.engine → SettlesAfter false s t → SettlesAfter false s u → t ≡ u
+pub settles_same : (s t u : SearchState) → IsValid s.engine → SettlesAfter false s t → SettlesAfter false s u → t ≡ u
 settles_same s t u valid one two =
     let same = plainly_same None s.engine one.revisions t.engine two.revisions u.engine valid one.fits two.fits one.settles two.settles in
     let lists : t.decisions ≡ u.decisions = one.decisions ∙ sym two.decisions in
@@ -156,7 +156,7 @@ found_not_open d values x found is_open =
     let two = subst (λ e. 2 ≤ length (values_of e x)) found is_open.two in
     omega (arith, k, two)
 
-decided_open : (d : Domains) (pick : Pick) (p : Pair) → IsDecided d pick p → IsOpen d p.var
+pub decided_open : (d : Domains) (pick : Pick) (p : Pair) → IsDecided d pick p → IsOpen d p.var
 decided_open d NoGuide p decided = decided.is_open
 decided_open d Nothing p decided = decided.is_open
 decided_open d (Asked q) p decided = elim decided [
@@ -196,7 +196,7 @@ goes_not_found s values found (could_undo x conflict flat held) = found_filled v
 unsolved_not_found : (s : EngineState) (users : List Cid) (values : List ℤ) → HasNoSolution s users → IsFound (present s) values → ⊥
 unsolved_not_found s users values none found = found_filled values (subst HasEmpty found (has_empty s none.conflict none.flat))
 
-ends_same : (budget count : ℕ) (s : EngineState) → (end other : SearchEnd) → EndsWith budget count s end → EndsWith budget count s other → end ≡ other
+pub ends_same : (budget count : ℕ) (s : EngineState) → (end other : SearchEnd) → EndsWith budget count s end → EndsWith budget count s other → end ≡ other
 ends_same budget count s (NoSolution users) (NoSolution users') one two =
     ap NoSolution (one.are ∙ ap (λ l. filter is_user l) (flat_same s one.conflict two.conflict one.flat two.flat) ∙ sym two.are)
 ends_same budget count s (NoSolution users) (Found values) one two = absurd (unsolved_not_found s users values one two)
@@ -213,11 +213,11 @@ takes_goes : (guided : Bool) (s : SearchState) (turn : Turn) (t : SearchState) �
 takes_goes guided s (TurnDecide p pick) t takes = could_decide p.var takes.filled (decided_open (present s.engine) pick p takes.decided)
 takes_goes guided s (TurnUndo g c) t takes = could_undo g.var c takes.flat takes.latest.held
 
--- a run that has ended takes no turn
-end_stops : (guided : Bool) (budget count more : ℕ) (s : SearchState) → (end : SearchEnd) (turn : Turn) (t : SearchState) → EndsWith budget count s.engine end → count + suc more ≤ budget → Takes guided s turn t → ⊥
-end_stops guided budget count more s (NoSolution users) turn t ends le takes = goes_not_unsolved s.engine users ends (takes_goes guided s turn t takes)
-end_stops guided budget count more s (Found values) turn t ends le takes = goes_not_found s.engine values ends (takes_goes guided s turn t takes)
-end_stops guided budget count more s (Spent turns) turn t ends le takes = let e = ends.1 in omega (arith, e)
+-- a run that has ended does not go on
+pub end_stops : (budget count more : ℕ) (s : EngineState) → (end : SearchEnd) → EndsWith budget count s end → count + suc more ≤ budget → GoesOn s → ⊥
+end_stops budget count more s (NoSolution users) ends le goes = goes_not_unsolved s users ends goes
+end_stops budget count more s (Found values) ends le goes = goes_not_found s values ends goes
+end_stops budget count more s (Spent turns) ends le goes = let e = ends.1 in omega (arith, e)
 
 -- ---- runs
 
@@ -235,9 +235,9 @@ turns_same right budget n s searching [] end t [] end' u one two wt wu et eu = r
   state = one ∙ sym two;
 }
 turns_same right budget n s searching [] end t (turn ∷ turns') end' u one two wt wu et eu =
-    absurd (end_stops false budget (n + 0) (length turns') s end turn two.1.middle (subst (λ (z : SearchState). EndsWith budget (n + 0) z.engine end) one et) (omega arith) two.1.takes)
+    absurd (end_stops budget (n + 0) (length turns') s.engine end (subst (λ (z : SearchState). EndsWith budget (n + 0) z.engine end) one et) (omega arith) (takes_goes false s turn two.1.middle two.1.takes))
 turns_same right budget n s searching (turn ∷ turns) end t [] end' u one two wt wu et eu =
-    absurd (end_stops false budget (n + 0) (length turns) s end' turn one.1.middle (subst (λ (z : SearchState). EndsWith budget (n + 0) z.engine end') two eu) (omega arith) one.1.takes)
+    absurd (end_stops budget (n + 0) (length turns) s.engine end' (subst (λ (z : SearchState). EndsWith budget (n + 0) z.engine end') two eu) (omega arith) (takes_goes false s turn one.1.middle one.1.takes))
 turns_same right budget n s searching (turn ∷ turns) end t (other ∷ turns') end' u one two wt wu et eu =
     let first = follows_same s searching turn one.0 other two.0 one.1 two.1 in
     let searching' = settles_keep right false one.1.middle one.0 one.1.settles (takes_keep false s turn one.1.middle one.1.takes searching) in

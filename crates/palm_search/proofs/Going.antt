@@ -10,7 +10,7 @@ use Rattle.palm_base.proofs.Members.{Known, member_nil, member_here, member_ther
 use Rattle.palm_model.specs.Domains.{Domains, Has, Ascends, AllAscend, values_of}
 use Rattle.palm_model.specs.Part.{parts}
 use Rattle.palm_model.specs.Log.{Active, IsActive, log_pairs}
-use Rattle.palm_model.specs.State.{EngineState, IsValid, IsEmptyAt, AllFilled, IsGround, FitsName, IsOfForm, present, without_cid, is_user}
+use Rattle.palm_model.specs.State.{EngineState, IsValid, IsEmptyAt, AllFilled, FitsName, IsOfForm, AreGrounds, present, without_cid, is_user}
 use Rattle.palm_model.specs.Event.{gone_with, posted, without_names, vars_of}
 use Rattle.palm_model.specs.declared.constraint.Con.{Con}
 use Rattle.palm_model.specs.declared.constraint.Con.TheVariants.{CompareConst}
@@ -32,11 +32,11 @@ use Rattle.palm_search.specs.declared.turn.Pick.TheVariants.{NoGuide, Nothing, A
 use Rattle.palm_search.specs.declared.turn.Turn.{Turn}
 use Rattle.palm_search.specs.declared.turn.Turn.TheVariants.{Decide as TurnDecide, Undo as TurnUndo}
 use Rattle.palm_search.specs.Turns.IsUnlawful.{no_variable, few_values, no_value}
-use Rattle.palm_search.specs.Turns.{SearchState, IsOpen, IsLawful, IsUnlawful, IsDefault, IsDecided, FitsGuide, HasFlatConflict, IsLatest, Takes, SettlesAfter, Follows, Turns, decision_of, negation_of, decided_vars}
+use Rattle.palm_search.specs.Turns.{SearchState, IsOpen, IsLawful, IsUnlawful, IsDefault, IsDecided, FitsGuide, HasFlatConflict, IsLatest, Decides, Undoes, Takes, SettlesAfter, Follows, Turns, decision_of, negation_of, decided_vars}
 use Rattle.palm_search.specs.Search.{SearchEnd, IsFound, GoesOn, EndsWith, SearchRun, IsPicked, begun}
 use Rattle.palm_search.specs.Search.SearchEnd.{Found, NoSolution, Spent}
 use Rattle.palm_search.specs.Search.GoesOn.{could_decide, could_undo}
-use Rattle.palm_search.specs.Kept.{HasDecisions, HasOnlyUsers, IsSearching}
+use Rattle.palm_search.specs.Kept.{HasDecisions, HasNoneNegated, HasOnlyUsers, IsSearching}
 use Rattle.palm_search.proofs.Deciding.{ground_stays, latest_vars, others_taken}
 use Rattle.palm_search.proofs.Keeping.{begins, takes_keep, settles_keep}
 use Rattle.palm_search.proofs.Leaving.{settles_still}
@@ -48,11 +48,11 @@ order_fits false rs fits = fits
 order_fits true rs fits = tt
 
 -- a settling after a state
-record SettlesTo (ordered : Bool) (s : SearchState) : Type 0 where
-  state : SearchState
-  settles : SettlesAfter ordered s state
+pub record SettlesTo (ordered : Bool) (s : SearchState) : Type 0 where
+  pub state : SearchState
+  pub settles : SettlesAfter ordered s state
 
-settle_exists : (ordered : Bool) (s : SearchState) → IsValid s.engine → SettlesTo ordered s
+pub settle_exists : (ordered : Bool) (s : SearchState) → IsValid s.engine → SettlesTo ordered s
 settle_exists ordered s valid =
     let r = plainly_exists None s.engine valid in
     record {
@@ -84,7 +84,7 @@ negation_con n active (User k) con because p e form = absurd (apart k p e)
     apart k p e = cc
 
 -- a present pair has no active negation there
-quiet_negated : (s : EngineState) → IsValid s → s.pending ≡ [] → (p : Pair) → Has (present s) p.var p.value → IsActive s.active (Not p) → ⊥
+pub quiet_negated : (s : EngineState) → IsValid s → s.pending ≡ [] → (p : Pair) → Has (present s) p.var p.value → IsActive s.active (Not p) → ⊥
 quiet_negated s valid quiet p has is =
     let a = is.owner in
     let con = negation_con (length s.initial) s.active a.cid a.con a.because p is.named (valid.formed a is.posted).form in
@@ -101,15 +101,15 @@ two_values (v ∷ w ∷ vs) ascends two =
     (v, w, member_here v (w ∷ vs), member_there v (w ∷ vs) w (member_here w vs), All-contains (λ u. v <ℤ u) (w ∷ vs) w ascends.0 (member_here w vs))
 
 -- a variable with two values has no active decision
-open_undecided : (s : SearchState) → IsSearching s → s.engine.pending ≡ [] → (x : ℕ) → IsOpen (present s.engine) x → IsActive s.engine.active (Decide x) → ⊥
-open_undecided s searching quiet x is_open is =
-    let r = searching.decisions.taken is.owner x is.posted is.named in
+pub open_undecided : (s : SearchState) → IsValid s.engine → HasDecisions s → s.engine.pending ≡ [] → (x : ℕ) → IsOpen (present s.engine) x → IsActive s.engine.active (Decide x) → ⊥
+open_undecided s valid has quiet x is_open is =
+    let r = has.taken is.owner x is.posted is.named in
     let var : r.0.var ≡ x = same r.0.var x (sym (ap (λ (a : Active). a.cid) r.2) ∙ is.named) in
-    let m = searching.decisions.active r.0 r.1 in
-    let ascends = ascends_at (present s.engine) x (ascend_without s.engine.initial (log_pairs s.engine.log) searching.valid.ascend) in
+    let m = has.active r.0 r.1 in
+    let ascends = ascends_at (present s.engine) x (ascend_without s.engine.initial (log_pairs s.engine.log) valid.ascend) in
     let two = two_values (values_of (present s.engine) x) ascends is_open.two in
-    let a = quiet_decided s.engine searching.valid quiet r.0 m two.0 (subst (λ y. Has (present s.engine) y two.0) (sym var) two.2) in
-    let b = quiet_decided s.engine searching.valid quiet r.0 m two.1 (subst (λ y. Has (present s.engine) y two.1) (sym var) two.3) in
+    let a = quiet_decided s.engine valid quiet r.0 m two.0 (subst (λ y. Has (present s.engine) y two.0) (sym var) two.2) in
+    let b = quiet_decided s.engine valid quiet r.0 m two.1 (subst (λ y. Has (present s.engine) y two.1) (sym var) two.3) in
     let lt = two.4 in
     omega (arith, ints, lt, a, b)
   where
@@ -185,17 +185,13 @@ decided_exists d NoGuide p default = (p, default)
 decided_exists d Nothing p default = (p, default)
 decided_exists d (Asked q) p default = elim (lawful_or_not d q) [ inl l ↦ (q, inl (l, refl)) | inr n ↦ (p, inr (n, default)) ]
 
-decided_lawful : (d : Domains) (pick : Pick) (p : Pair) → IsDecided d pick p → IsLawful d p
+pub decided_lawful : (d : Domains) (pick : Pick) (p : Pair) → IsDecided d pick p → IsLawful d p
 decided_lawful d NoGuide p decided = record { is_open = decided.is_open; has = decided.has }
 decided_lawful d Nothing p decided = record { is_open = decided.is_open; has = decided.has }
 decided_lawful d (Asked q) p decided = elim decided [
   | inl r ↦ subst (λ z. IsLawful d z) (sym r.1) r.0
   | inr r ↦ record { is_open = r.1.is_open; has = r.1.has }
 ]
-
--- no decided pair has an active negation
-abbrev pub HasNoneNegated : SearchState → Type 0
-HasNoneNegated s = (p : Pair) → Contains s.decisions p → IsActive s.engine.active (Not p) → ⊥
 
 -- a decision was taken after the pick
 abbrev pub IsPickedBy : Pick → Turn → Type 0
@@ -207,11 +203,11 @@ abbrev pub picks_after : Turn → (ℕ → Pick) → ℕ → Pick
 picks_after (TurnDecide pair asked) f k = f (suc k)
 picks_after (TurnUndo gone conflict) f k = f k
 
-picked_more : (f : ℕ → Pick) (turn : Turn) (turns : List Turn) → IsPickedBy (f 0) turn → IsPicked (picks_after turn f) turns → IsPicked f (turn ∷ turns)
+pub picked_more : (f : ℕ → Pick) (turn : Turn) (turns : List Turn) → IsPickedBy (f 0) turn → IsPicked (picks_after turn f) turns → IsPicked f (turn ∷ turns)
 picked_more f (TurnDecide pair asked) turns first rest = (first, rest)
 picked_more f (TurnUndo gone conflict) turns first rest = rest
 
-fits_after : (guided : Bool) (f : ℕ → Pick) (turn : Turn) → ((k : ℕ) → FitsGuide guided (f k)) → (k : ℕ) → FitsGuide guided (picks_after turn f k)
+pub fits_after : (guided : Bool) (f : ℕ → Pick) (turn : Turn) → ((k : ℕ) → FitsGuide guided (f k)) → (k : ℕ) → FitsGuide guided (picks_after turn f k)
 fits_after guided f (TurnDecide pair asked) fits k = fits (suc k)
 fits_after guided f (TurnUndo gone conflict) fits k = fits k
 
@@ -226,9 +222,26 @@ record TakesSome (guided : Bool) (pick : Pick) (s : SearchState) : Type 0 where
 not_decided : (x : ℕ) (p : Pair) → Decide x ≡ Not p → ⊥
 not_decided x p e = cc
 
-decide_exists : (guided : Bool) (pick : Pick) (s : SearchState) → FitsGuide guided pick → IsSearching s → HasNoneNegated s → s.engine.pending ≡ [] → AllFilled (present s.engine)
-    → (x : ℕ) → IsOpen (present s.engine) x → ((y : ℕ) → IsOpen (present s.engine) y → x ≤ y) → TakesSome guided pick s
-decide_exists guided pick s fits searching none quiet filled x is_open lowest =
+-- a decision in a quiet state keeps the decided pairs from being negated
+pub decides_unnegated : (guided : Bool) (s : SearchState) (p : Pair) (pick : Pick) (t : SearchState) → Decides guided s p pick t → IsValid s.engine → s.engine.pending ≡ [] → HasNoneNegated s → HasNoneNegated t
+decides_unnegated guided s p pick t turn valid quiet none q m is =
+    elim (with_posted_cases (decision_of p) s.engine.active is.owner (subst (λ (z : EngineState). Contains z.active is.owner) turn.posts.after is.posted)) [
+      | inl e ↦ not_decided p.var q (ap (λ (a : Active). a.cid) e ∙ is.named)
+      | inr k ↦ elim (Contains-push_cases s.decisions p q (subst (λ l. Contains l q) turn.decisions m)) [
+        | inl j ↦ none q j (record { owner = is.owner; posted = k; named = is.named })
+        | inr e ↦ quiet_negated s.engine valid quiet p (decided_lawful (present s.engine) pick p turn.decided).has (record { owner = is.owner; posted = k; named = is.named ∙ ap Not (sym e) })
+      ]
+    ]
+
+-- a decision after the pick, and where it leads
+pub record DecidesSome (guided : Bool) (pick : Pick) (s : SearchState) : Type 0 where
+  pub pair : Pair
+  pub state : SearchState
+  pub decides : Decides guided s pair pick state
+
+pub decides_some : (guided : Bool) (pick : Pick) (s : SearchState) → FitsGuide guided pick → IsSearching s → s.engine.pending ≡ [] → AllFilled (present s.engine)
+    → (x : ℕ) → IsOpen (present s.engine) x → ((y : ℕ) → IsOpen (present s.engine) y → x ≤ y) → DecidesSome guided pick s
+decides_some guided pick s fits searching quiet filled x is_open lowest =
     let d = present s.engine in
     let ascend = ascend_without s.engine.initial (log_pairs s.engine.log) searching.valid.ascend in
     let default = default_exists d x ascend is_open lowest in
@@ -237,26 +250,30 @@ decide_exists guided pick s fits searching none quiet filled x is_open lowest =
     let lawful = decided_lawful d pick p choice.1 in
     let exists : p.var < length s.engine.initial = subst (λ n. p.var < n) (length_without s.engine.initial (log_pairs s.engine.log)) lawful.is_open.exists in
     record {
-      turn = TurnDecide p pick;
+      pair = p;
       state = record { engine = posted s.engine (decision_of p); decisions = s.decisions ++ p ∷ [] };
-      takes = record {
+      decides = record {
         filled = filled;
         fits = fits;
         decided = choice.1;
         posts = record {
-          inactive = open_undecided s searching quiet p.var lawful.is_open;
+          inactive = open_undecided s searching.valid searching.decisions quiet p.var lawful.is_open;
           formed = record { form = (p.value, refl, exists, refl) };
           after = refl;
         };
         decisions = refl;
       };
-      none_negated = λ q m is. elim (with_posted_cases (decision_of p) s.engine.active is.owner is.posted) [
-        | inl e ↦ not_decided p.var q (ap (λ (a : Active). a.cid) e ∙ is.named)
-        | inr k ↦ elim (Contains-push_cases s.decisions p q m) [
-          | inl j ↦ none q j (record { owner = is.owner; posted = k; named = is.named })
-          | inr e ↦ quiet_negated s.engine searching.valid quiet p lawful.has (record { owner = is.owner; posted = k; named = is.named ∙ ap Not (sym e) })
-        ]
-      ];
+    }
+
+decide_exists : (guided : Bool) (pick : Pick) (s : SearchState) → FitsGuide guided pick → IsSearching s → HasNoneNegated s → s.engine.pending ≡ [] → AllFilled (present s.engine)
+    → (x : ℕ) → IsOpen (present s.engine) x → ((y : ℕ) → IsOpen (present s.engine) y → x ≤ y) → TakesSome guided pick s
+decide_exists guided pick s fits searching none quiet filled x is_open lowest =
+    let some = decides_some guided pick s fits searching quiet filled x is_open lowest in
+    record {
+      turn = TurnDecide some.pair pick;
+      state = some.state;
+      takes = some.decides;
+      none_negated = decides_unnegated guided s some.pair pick some.state some.decides searching.valid quiet none;
       picked = refl;
     }
 
@@ -326,6 +343,43 @@ others_apart s has names gone left latest p m e =
     (member_same (vars_of (latest.earlier ++ latest.later)) p.var gone.var (sym (ap (λ (q : Pair). q.var) e))
     (member_map (λ (q : Pair). q.var) (latest.earlier ++ latest.later) p (subst (λ l. Contains l p) latest.others m))))
 
+-- a negation that is active after the withdrawal was so before it
+pub negation_before : (s : SearchState) (gone : Pair) (middle : EngineState) → middle.active ≡ without_names (gone_with s.engine.active (Decide gone.var)) s.engine.active → (p : Pair) → IsActive middle.active (Not p) → IsActive s.engine.active (Not p)
+negation_before s gone middle same p is = record {
+  owner = is.owner;
+  posted = (without_names_member (gone_with s.engine.active (Decide gone.var)) s.engine.active is.owner (subst (λ l. Contains l is.owner) same is.posted)).0;
+  named = is.named;
+}
+
+-- the rest of the flat conflict is active after the withdrawal
+pub rest_grounds : (s : SearchState) → IsValid s.engine → (gone : Pair) (conflict : List Cid) → HasFlatConflict s.engine conflict → (middle : EngineState) → middle.active ≡ without_names (gone_with s.engine.active (Decide gone.var)) s.engine.active
+    → AreGrounds middle.active (without_cid (Decide gone.var) conflict)
+rest_grounds s valid gone conflict flat middle same c m =
+    let r = without_cid_member (Decide gone.var) conflict c m in
+    let g = flat_grounds s.engine valid flat.var c (flat.is.sound c r.0) in
+    let stays = ground_stays (length s.engine.initial) s.engine.active (Decide gone.var) valid.formed c g.0 r.1 in
+    let o = g.1 in (
+      g.0,
+      record {
+        owner = o.owner;
+        posted = subst (λ l. Contains l o.owner) (sym same) (member_without_names (gone_with s.engine.active (Decide gone.var)) s.engine.active o.owner o.posted (λ k. stays (member_same (gone_with s.engine.active (Decide gone.var)) o.owner.cid c o.named k)));
+        named = o.named;
+      },
+    )
+
+-- an undoing negates a pair that is decided no longer
+pub undoes_unnegated : (s : SearchState) (gone : Pair) (conflict : List Cid) (t : SearchState) → Undoes s gone conflict t → HasDecisions s → HasNoneNegated s → HasNoneNegated t
+undoes_unnegated s gone conflict t turn has none p m is =
+    let because = without_cid (Decide gone.var) conflict in
+    let same : turn.middle.active ≡ without_names (gone_with s.engine.active (Decide gone.var)) s.engine.active = ap (λ (z : EngineState). z.active) turn.withdraws.after in
+    elim (with_posted_cases (negation_of gone because) turn.middle.active is.owner (subst (λ (z : EngineState). Contains z.active is.owner) turn.posts.after is.posted)) [
+      | inl e ↦ others_apart s has conflict gone t.decisions turn.latest p m (same_negated gone p (ap (λ (a : Active). a.cid) e ∙ is.named))
+      | inr k ↦ none p (others_decided s.decisions conflict gone t.decisions turn.latest p m) (negation_before s gone turn.middle same p (record { owner = is.owner; posted = k; named = is.named }))
+    ]
+  where
+    same_negated : (q p : Pair) → Not q ≡ Not p → q ≡ p
+    same_negated q p e = cc
+
 undo_exists : (guided : Bool) (pick : Pick) (s : SearchState) → IsSearching s → HasNoneNegated s → (conflict : List Cid) (x : ℕ) → HasFlatConflict s.engine conflict → Contains conflict (Decide x) → TakesSome guided pick s
 undo_exists guided pick s searching none conflict x flat held =
     let valid = searching.valid in
@@ -340,61 +394,28 @@ undo_exists guided pick s searching none conflict x flat held =
     let same : middle.active ≡ without_names (gone_with s.engine.active (Decide gone.var)) s.engine.active = ap (λ (z : EngineState). z.active) w.1.after in
     let initial : middle.initial ≡ s.engine.initial = ap (λ (z : EngineState). z.initial) w.1.after in
     let because = without_cid (Decide gone.var) conflict in
-    let before = λ (p : Pair) (is : IsActive middle.active (Not p)). was_active s gone middle same p is in
-    record {
-      turn = TurnUndo gone conflict;
-      state = record { engine = posted middle (negation_of gone because); decisions = found.left };
-      takes = record {
-        flat = flat;
-        latest = found.latest;
-        middle = middle;
-        withdraws = w.1;
-        posts = record {
-          inactive = λ is. none gone in_decisions (before gone is);
-          formed = record {
-            form = (
-              refl,
-              subst (λ d. gone.var < length d) (sym initial) (decided_form (length s.engine.initial) s.engine.active gone (valid.formed (decision_of gone) (searching.decisions.active gone in_decisions))),
-              λ c m. rest_grounds s valid gone conflict flat middle same c m,
-            );
-          };
-          after = refl;
+    let t : SearchState = record { engine = posted middle (negation_of gone because); decisions = found.left } in
+    let undoes : Undoes s gone conflict t = record {
+      flat = flat;
+      latest = found.latest;
+      middle = middle;
+      withdraws = w.1;
+      posts = record {
+        inactive = λ is. none gone in_decisions (negation_before s gone middle same gone is);
+        formed = record {
+          form = (
+            refl,
+            subst (λ d. gone.var < length d) (sym initial) (decided_form (length s.engine.initial) s.engine.active gone (valid.formed (decision_of gone) (searching.decisions.active gone in_decisions))),
+            rest_grounds s valid gone conflict flat middle same,
+          );
         };
+        after = refl;
       };
-      none_negated = λ p m is. elim (with_posted_cases (negation_of gone because) middle.active is.owner is.posted) [
-        | inl e ↦ others_apart s searching.decisions conflict gone found.left found.latest p m (same_negated gone p (ap (λ (a : Active). a.cid) e ∙ is.named))
-        | inr k ↦ none p (others_decided s.decisions conflict gone found.left found.latest p m) (before p (record { owner = is.owner; posted = k; named = is.named }))
-      ];
-      picked = tt;
-    }
+    } in
+    record { turn = TurnUndo gone conflict; state = t; takes = undoes; none_negated = undoes_unnegated s gone conflict t undoes searching.decisions none; picked = tt }
   where
     gone_taken : (earlier later : List Pair) (gone : Pair) → Contains (earlier ++ gone ∷ later) gone
     gone_taken earlier later gone = Contains-append_right earlier (gone ∷ later) gone (member_here gone later)
-
-    same_negated : (q p : Pair) → Not q ≡ Not p → q ≡ p
-    same_negated q p e = cc
-
-    was_active : (s : SearchState) (gone : Pair) (middle : EngineState) → middle.active ≡ without_names (gone_with s.engine.active (Decide gone.var)) s.engine.active → (p : Pair) → IsActive middle.active (Not p) → IsActive s.engine.active (Not p)
-    was_active s gone middle same p is = record {
-      owner = is.owner;
-      posted = (without_names_member (gone_with s.engine.active (Decide gone.var)) s.engine.active is.owner (subst (λ l. Contains l is.owner) same is.posted)).0;
-      named = is.named;
-    }
-
-    rest_grounds : (s : SearchState) → IsValid s.engine → (gone : Pair) (conflict : List Cid) → HasFlatConflict s.engine conflict → (middle : EngineState) → middle.active ≡ without_names (gone_with s.engine.active (Decide gone.var)) s.engine.active
-        → (c : Cid) → Contains (without_cid (Decide gone.var) conflict) c → IsGround c × IsActive middle.active c
-    rest_grounds s valid gone conflict flat middle same c m =
-        let r = without_cid_member (Decide gone.var) conflict c m in
-        let g = flat_grounds s.engine valid flat.var c (flat.is.sound c r.0) in
-        let stays = ground_stays (length s.engine.initial) s.engine.active (Decide gone.var) valid.formed c g.0 r.1 in
-        let o = g.1 in (
-          g.0,
-          record {
-            owner = o.owner;
-            posted = subst (λ l. Contains l o.owner) (sym same) (member_without_names (gone_with s.engine.active (Decide gone.var)) s.engine.active o.owner o.posted (λ k. stays (member_same (gone_with s.engine.active (Decide gone.var)) o.owner.cid c o.named k)));
-            named = o.named;
-          },
-        )
 
 -- ---- ends
 
@@ -437,32 +458,43 @@ lowest_empty_from d (suc n) = elim (lowest_empty_from d n) [
 lowest_empty : (d : Domains) (x : ℕ) → IsEmptyAt d x → (y : ℕ) × IsEmptyAt d y × ((z : ℕ) → IsEmptyAt d z → y ≤ z)
 lowest_empty d x e = elim (lowest_empty_from d (suc x)) [ inl r ↦ r | inr none ↦ absurd (none x (omega arith) e) ]
 
+-- a run has ended here, or a decision can be taken, or one of the flat conflict undone
+pub data TurnOrEnd (s : EngineState) : Type 0 where
+  run_is_over : (end : SearchEnd) → ((budget count : ℕ) → EndsWith budget count s end) → TurnOrEnd s
+  run_may_decide : s.pending ≡ [] → AllFilled (present s) → (x : ℕ) → IsOpen (present s) x → ((y : ℕ) → IsOpen (present s) y → x ≤ y) → TurnOrEnd s
+  run_may_undo : (conflict : List Cid) (x : ℕ) → HasFlatConflict s conflict → Contains conflict (Decide x) → TurnOrEnd s
+
+pub turn_or_end : (s : EngineState) → IsValid s → IsStill s → TurnOrEnd s
+turn_or_end s valid still = elim (empty_or_filled (present s)) [
+  | inl empty ↦
+      let first = lowest_empty (present s) empty.0 empty.1 in
+      let conflict = flat_listed s valid first.0 in
+      let flat : HasFlatConflict s conflict.0 = record { var = first.0; empty = first.1; lowest = first.2; is = conflict.1 } in
+      in_conflict s conflict.0 flat (decided_vars conflict.0) refl
+  | inr filled ↦ elim still [
+    | inr empty ↦ absurd (not_empty (present s) filled empty)
+    | inl quiet ↦ elim (open_or_not (present s)) [
+      | inl r ↦ run_may_decide quiet filled r.0 r.1 r.2
+      | inr few ↦ let f = found_exists (present s) filled few in run_is_over (Found f.0) (λ budget count. f.1)
+    ]
+  ]
+]
+  where
+    in_conflict : (s : EngineState) (conflict : List Cid) → HasFlatConflict s conflict → (vars : List ℕ) → decided_vars conflict ≡ vars → TurnOrEnd s
+    in_conflict s conflict flat [] e = run_is_over (NoSolution (filter is_user conflict)) (λ budget count. record { conflict = conflict; flat = flat; undecided = e; are = refl })
+    in_conflict s conflict flat (x ∷ vars) e = run_may_undo conflict x flat (vars_member conflict x (subst (λ l. Contains l x) (sym e) (member_here x vars)))
+
 -- a run has ended here, or a turn can be taken
 data Stands (guided : Bool) (pick : Pick) (s : SearchState) : Type 0 where
   has_ended : (end : SearchEnd) → ((budget count : ℕ) → EndsWith budget count s.engine end) → Stands guided pick s
   may_go : GoesOn s.engine → TakesSome guided pick s → Stands guided pick s
 
 stands : (guided : Bool) (pick : Pick) (s : SearchState) → FitsGuide guided pick → IsSearching s → HasNoneNegated s → IsStill s.engine → Stands guided pick s
-stands guided pick s fits searching none still = elim (empty_or_filled (present s.engine)) [
-  | inl empty ↦
-      let first = lowest_empty (present s.engine) empty.0 empty.1 in
-      let conflict = flat_listed s.engine searching.valid first.0 in
-      let flat : HasFlatConflict s.engine conflict.0 = record { var = first.0; empty = first.1; lowest = first.2; is = conflict.1 } in
-      in_conflict guided pick s searching none conflict.0 flat (decided_vars conflict.0) refl
-  | inr filled ↦ elim still [
-    | inr empty ↦ absurd (not_empty (present s.engine) filled empty)
-    | inl quiet ↦ elim (open_or_not (present s.engine)) [
-      | inl r ↦ may_go (could_decide r.0 filled r.1) (decide_exists guided pick s fits searching none quiet filled r.0 r.1 r.2)
-      | inr few ↦ let f = found_exists (present s.engine) filled few in has_ended (Found f.0) (λ budget count. f.1)
-    ]
-  ]
+stands guided pick s fits searching none still = elim (turn_or_end s.engine searching.valid still) [
+  | run_is_over end ends ↦ has_ended end ends
+  | run_may_decide quiet filled x is_open lowest ↦ may_go (could_decide x filled is_open) (decide_exists guided pick s fits searching none quiet filled x is_open lowest)
+  | run_may_undo conflict x flat held ↦ may_go (could_undo x conflict flat held) (undo_exists guided pick s searching none conflict x flat held)
 ]
-  where
-    in_conflict : (guided : Bool) (pick : Pick) (s : SearchState) → IsSearching s → HasNoneNegated s → (conflict : List Cid) → HasFlatConflict s.engine conflict → (vars : List ℕ) → decided_vars conflict ≡ vars → Stands guided pick s
-    in_conflict guided pick s searching none conflict flat [] e = has_ended (NoSolution (filter is_user conflict)) (λ budget count. record { conflict = conflict; flat = flat; undecided = e; are = refl })
-    in_conflict guided pick s searching none conflict flat (x ∷ vars) e =
-        let held = vars_member conflict x (subst (λ l. Contains l x) (sym e) (member_here x vars)) in
-        may_go (could_undo x conflict flat held) (undo_exists guided pick s searching none conflict x flat held)
 
 -- ---- runs
 

@@ -79,10 +79,10 @@ decides_keep guided s p pick t turn searching = record {
 
 -- ---- undoing
 
-satisfies_decision : (b : Assignment) (p : Pair) → b p.var ≡ p.value → Satisfies b (CompareConst p.var Eq p.value)
+pub satisfies_decision : (b : Assignment) (p : Pair) → b p.var ≡ p.value → Satisfies b (CompareConst p.var Eq p.value)
 satisfies_decision b p e part m = subst (λ q. Holds q b) (member_single (CompareConstPart p.var Eq p.value) part m) e
 
-satisfies_negation : (b : Assignment) (p : Pair) → (b p.var ≡ p.value → ⊥) → Satisfies b (CompareConst p.var Ne p.value)
+pub satisfies_negation : (b : Assignment) (p : Pair) → (b p.var ≡ p.value → ⊥) → Satisfies b (CompareConst p.var Ne p.value)
 satisfies_negation b p n part m = subst (λ q. Holds q b) (member_single (CompareConstPart p.var Ne p.value) part m) n
 
 -- what satisfies the rest of the flat conflict and the decision satisfies all of it
@@ -143,7 +143,7 @@ turns_keep right guided ordered s [] t run searching = subst IsSearching (sym ru
 turns_keep right guided ordered s (turn ∷ turns) t run searching = turns_keep right guided ordered run.0 turns t run.2 (follows_keep right guided ordered s turn run.0 run.1 searching)
 
 -- a valid state without decisions and negations begins a search
-user_not : (c : Cid) (p : Pair) → is_user c ≡ true → c ≡ Not p → ⊥
+pub user_not : (c : Cid) (p : Pair) → is_user c ≡ true → c ≡ Not p → ⊥
 user_not c p t e = false≢true (subst (λ d. is_user d ≡ true) e t)
 
 user_not_decision : (c : Cid) (x : ℕ) → is_user c ≡ true → c ≡ Decide x → ⊥

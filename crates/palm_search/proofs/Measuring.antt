@@ -385,11 +385,23 @@ undoes_in [] = 0
 undoes_in (TurnDecide pair pick ∷ turns) = undoes_in turns
 undoes_in (TurnUndo gone conflict ∷ turns) = suc (undoes_in turns)
 
-turns_counted : (turns : List Turn) → length turns ≡ decides_in turns + undoes_in turns
+pub turns_counted : (turns : List Turn) → length turns ≡ decides_in turns + undoes_in turns
 unfolding decides_in undoes_in
 turns_counted [] = refl
 turns_counted (TurnDecide pair pick ∷ turns) = let e = turns_counted turns in omega (arith, e)
 turns_counted (TurnUndo gone conflict ∷ turns) = let e = turns_counted turns in omega (arith, e)
+
+pub none_counted : (undoes_in [] ≡ 0) × (decides_in [] ≡ 0)
+unfolding decides_in undoes_in
+none_counted = (refl, refl)
+
+pub decide_counted : (pair : Pair) (pick : Pick) (turns : List Turn) → (undoes_in (TurnDecide pair pick ∷ turns) ≡ undoes_in turns) × (decides_in (TurnDecide pair pick ∷ turns) ≡ suc (decides_in turns))
+unfolding decides_in undoes_in
+decide_counted pair pick turns = (refl, refl)
+
+pub undo_counted : (gone : Pair) (conflict : List Cid) (turns : List Turn) → (undoes_in (TurnUndo gone conflict ∷ turns) ≡ suc (undoes_in turns)) × (decides_in (TurnUndo gone conflict ∷ turns) ≡ decides_in turns)
+unfolding decides_in undoes_in
+undo_counted gone conflict turns = (refl, refl)
 
 -- the measure rises by the undoings at least, and the decisions grow by those taken and shrink by those undone
 record Weighs (s : SearchState) (turns : List Turn) (t : SearchState) : Type 0 where

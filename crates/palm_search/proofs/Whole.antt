@@ -24,13 +24,13 @@ run_searching right guided ordered budget s turns end t valid users run =
 closed_valid : (m t : EngineState) → IsValid m → WithdrawsAll m (search_cids m.active) t → IsValid t
 closed_valid m t valid withdraws = withdraws_all_valid m t (search_cids m.active) (closing_keeps m valid) withdraws valid
 
-closes_exist : (ordered : Bool) (m : EngineState) → IsValid m → (t : EngineState) × Closes ordered m t
+pub closes_exist : (ordered : Bool) (m : EngineState) → IsValid m → (t : EngineState) × Closes ordered m t
 closes_exist ordered m valid =
     let w = withdrawal_exists m (search_cids m.active) valid in
     let r = plainly_exists None w.0 (closed_valid m w.0 valid w.1) in
     (r.state, record { middle = w.0; withdraws = w.1; revisions = r.revisions; fits = order_fits ordered r.revisions r.fits; settles = r.settles })
 
-closes_same : (m t u : EngineState) → IsValid m → Closes false m t → Closes false m u → t ≡ u
+pub closes_same : (m t u : EngineState) → IsValid m → Closes false m t → Closes false m u → t ≡ u
 closes_same m t u valid one two =
     let middle : one.middle ≡ two.middle = withdrawal_same m (search_cids m.active) one.middle two.middle one.withdraws two.withdraws in
     (plainly_same None two.middle one.revisions t two.revisions u (closed_valid m two.middle valid two.withdraws) one.fits two.fits (subst (λ z. Settles None z one.revisions t) middle one.settles) two.settles).state

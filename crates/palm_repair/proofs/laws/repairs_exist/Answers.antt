@@ -1,0 +1,6 @@
+use Rattle.palm_events.proofs.Reasons.{reasons_right}
+use Rattle.palm_repair.proofs.Existing.{repair_exists}
+use Rattle.palm_repair.proofs.laws.repairs_exist.Goals as goal
+
+pub returns : goal.returns
+returns c = λ guided ordered tabu f fits budget s positive valid users. repair_exists reasons_right guided ordered tabu f fits budget s positive valid users

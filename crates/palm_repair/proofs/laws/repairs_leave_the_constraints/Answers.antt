@@ -1,0 +1,6 @@
+use Rattle.palm_events.proofs.Reasons.{reasons_right}
+use Rattle.palm_repair.proofs.Ending.{repair_rests}
+use Rattle.palm_repair.proofs.laws.repairs_leave_the_constraints.Goals as goal
+
+pub returns : goal.returns
+returns c = λ guided ordered tabu budget dropped s t turns end users valid repairs. repair_rests reasons_right guided ordered tabu budget s turns end dropped t users valid repairs

@@ -1,0 +1,12 @@
+use Rattle.palm_events.proofs.Reasons.{reasons_right}
+use Rattle.palm_search.proofs.Leaving.{run_unsolved, run_users}
+use Rattle.palm_repair.proofs.Ending.{repair_ended}
+use Rattle.palm_repair.proofs.laws.users_of_no_solution_have_none.Goals as goal
+
+pub returns : goal.returns
+returns c = record {
+  unsolved = λ guided ordered tabu budget dropped s t turns users only valid repairs a solution.
+      run_unsolved s repairs.last.search users (repair_ended reasons_right guided ordered tabu budget s turns _ dropped repairs.last only valid repairs.run) repairs.run.ends a solution;
+  active = λ guided ordered tabu budget dropped s t turns users only valid repairs name m.
+      run_users s repairs.last.search users (repair_ended reasons_right guided ordered tabu budget s turns _ dropped repairs.last only valid repairs.run) repairs.run.ends name m;
+}
