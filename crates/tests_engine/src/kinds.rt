@@ -139,22 +139,21 @@ fn a_conflict_names_what_was_there_first(rt: HostRuntime) -> Result<(), Fail> {
     Ok(())
 }
 
-/// Four times the values 1 to 3.
-fn four_domains(alloc: Global) -> Result<DomainList, NoMemory>
-    ensures { IfOk result (λ list. list ≡ (1 ∷ 2 ∷ 3 ∷ []) ∷ (1 ∷ 2 ∷ 3 ∷ []) ∷ (1 ∷ 2 ∷ 3 ∷ []) ∷ (1 ∷ 2 ∷ 3 ∷ []) ∷ []) }
+/// Four times the same values.
+fn four_domains(alloc: Global, values: &[Value]) -> Result<DomainList, NoMemory>
+    ensures { IfOk result (λ list. list ≡ values.now ∷ values.now ∷ values.now ∷ values.now ∷ []) }
 {
-    let values = [Value(1), Value(2), Value(3)];
     let mut list = DomainList::new(alloc);
-    list.push(ValueList::from_slice(alloc, &values)?)?;
-    list.push(ValueList::from_slice(alloc, &values)?)?;
-    list.push(ValueList::from_slice(alloc, &values)?)?;
-    list.push(ValueList::from_slice(alloc, &values)?)?;
+    list.push(ValueList::from_slice(alloc, values)?)?;
+    list.push(ValueList::from_slice(alloc, values)?)?;
+    list.push(ValueList::from_slice(alloc, values)?)?;
+    list.push(ValueList::from_slice(alloc, values)?)?;
     Ok(list)
 }
 
 /// What the slow way leaves of four times the values 1 to 3.
 fn slow_domains(alloc: Global, samples: &[Sample]) -> Result<DomainList, NoMemory> {
-    let initial = four_domains(alloc)?;
+    let initial = four_domains(alloc, &[Value(1), Value(2), Value(3)])?;
     let constraints = cons_of(alloc, samples)?;
     scratch(alloc, &initial, &constraints)
 }
