@@ -1,6 +1,6 @@
 //! Searches by mac-dbt.
 use crate::guides::{Counting, Fixed};
-use crate::journal::{End, Wanted};
+use crate::journal::{Conflict, End, Wanted};
 use crate::problems::Problem;
 use crate::searches::{Case, is_searched};
 use palm_base::{Cid, NoMemory, Pair, Value, Var};
@@ -20,17 +20,17 @@ fn pair(var: u32, value: i32) -> Pair {
 }
 
 /// A decision without a guide.
-fn decide(var: u32, value: i32) -> Wanted<'static> {
+fn decide(var: u32, value: i32) -> Wanted {
     Wanted::Decide(pair(var, value), Pick::NoGuide)
 }
 
 /// A decision after a guide had nothing to propose.
-fn decide_by_default(var: u32, value: i32) -> Wanted<'static> {
+fn decide_by_default(var: u32, value: i32) -> Wanted {
     Wanted::Decide(pair(var, value), Pick::Nothing)
 }
 
 /// A decision after a guide proposed the pair.
-fn decide_asked(var: u32, value: i32, asked: Pair) -> Wanted<'static> {
+fn decide_asked(var: u32, value: i32, asked: Pair) -> Wanted {
     Wanted::Decide(pair(var, value), Pick::Asked(asked))
 }
 
@@ -50,21 +50,18 @@ fn is_guided(alloc: Global, case: &Case<'_>, pick: Option<Pair>) -> Result<bool,
 #[test]
 fn one_decision_of_a_conflict_is_undone(rt: HostRuntime) -> Result<(), Fail> {
     let alloc = rt.alloc();
-    let x = [Cid::Decide(Var(0)), FIRST];
-    let y = [Cid::Decide(Var(2)), FIRST];
-    let both = [Cid::Decide(Var(0)), Cid::Decide(Var(2)), FIRST];
     let turns = [
         decide(0, 1),
         decide(1, 1),
         decide(2, 2),
-        Wanted::Undo(pair(2, 2), &both),
-        Wanted::Undo(pair(0, 1), &x),
+        Wanted::Undo(pair(2, 2), Conflict::Two(Var(0), Var(2))),
+        Wanted::Undo(pair(0, 1), Conflict::One(Var(0))),
         decide(0, 2),
         decide(2, 1),
-        Wanted::Undo(pair(2, 1), &both),
-        Wanted::Undo(pair(0, 2), &x),
+        Wanted::Undo(pair(2, 1), Conflict::Two(Var(0), Var(2))),
+        Wanted::Undo(pair(0, 2), Conflict::One(Var(0))),
         decide(2, 1),
-        Wanted::Undo(pair(2, 1), &y),
+        Wanted::Undo(pair(2, 1), Conflict::One(Var(2))),
     ];
     let whole = Case {
         problem: Problem::Four,
@@ -93,8 +90,10 @@ fn searches_end_without_a_solution(rt: HostRuntime) -> Result<(), Fail> {
         turns: Some(&[]),
     };
     assert!(rt; is_plain(alloc, &circle)?);
-    let x = [Cid::Decide(Var(0)), FIRST];
-    let turns = [decide(0, 1), Wanted::Undo(pair(0, 1), &x)];
+    let turns = [
+        decide(0, 1),
+        Wanted::Undo(pair(0, 1), Conflict::One(Var(0))),
+    ];
     let three = Case {
         problem: Problem::Three,
         budget: 2,
@@ -139,7 +138,7 @@ fn values_are_found(rt: HostRuntime) -> Result<(), Fail> {
 fn is_found_with(
     alloc: Global,
     values: &[Value],
-    turns: &[Wanted<'_>],
+    turns: &[Wanted],
     pick: Option<Pair>,
 ) -> Result<bool, NoMemory> {
     let case = Case {
@@ -204,8 +203,7 @@ fn a_lawful_pick_is_taken(rt: HostRuntime) -> Result<(), Fail> {
         end: End::Found(&[Value(1), Value(2)]),
         turns: Some(&turns),
     };
-    let mut guide: Option<Box<dyn Guide>> =
-        Some(Box::new(alloc, MostConflicts::new(alloc, 64)?)?);
+    let mut guide: Option<Box<dyn Guide>> = Some(Box::new(alloc, MostConflicts::new(alloc, 64)?)?);
     assert!(rt; is_searched(alloc, &case, &mut guide)?);
     Ok(())
 }
@@ -214,21 +212,18 @@ fn a_lawful_pick_is_taken(rt: HostRuntime) -> Result<(), Fail> {
 #[test]
 fn guides_are_told_the_conflicts(rt: HostRuntime) -> Result<(), Fail> {
     let alloc = rt.alloc();
-    let x = [Cid::Decide(Var(0)), FIRST];
-    let y = [Cid::Decide(Var(2)), FIRST];
-    let both = [Cid::Decide(Var(0)), Cid::Decide(Var(2)), FIRST];
     let turns = [
         decide_by_default(0, 1),
         decide_by_default(1, 1),
         decide_by_default(2, 2),
-        Wanted::Undo(pair(2, 2), &both),
-        Wanted::Undo(pair(0, 1), &x),
+        Wanted::Undo(pair(2, 2), Conflict::Two(Var(0), Var(2))),
+        Wanted::Undo(pair(0, 1), Conflict::One(Var(0))),
         decide_asked(0, 2, pair(1003, 1)),
         decide_asked(2, 1, pair(1003, 1)),
-        Wanted::Undo(pair(2, 1), &both),
-        Wanted::Undo(pair(0, 2), &x),
+        Wanted::Undo(pair(2, 1), Conflict::Two(Var(0), Var(2))),
+        Wanted::Undo(pair(0, 2), Conflict::One(Var(0))),
         decide_asked(2, 1, pair(1006, 1)),
-        Wanted::Undo(pair(2, 1), &y),
+        Wanted::Undo(pair(2, 1), Conflict::One(Var(2))),
     ];
     let case = Case {
         problem: Problem::Four,

@@ -158,12 +158,7 @@ fn are_variables<F: Filter>(engine: &Engine<F>, vars: &[Var]) -> bool
 }
 
 /// Posts the constraint of the rule under the number, where its variables are declared and no other has the number.
-fn post(
-    alloc: Global,
-    engine: &mut Engine<Kind>,
-    number: u32,
-    rule: &Rule,
-) -> Result<(), NoMemory>
+fn post(alloc: Global, engine: &mut Engine<Kind>, number: u32, rule: &Rule) -> Result<(), NoMemory>
     requires { HasOnlyUsers engine.old.state }
     ensures { HasOnlyUsers engine.new.state }
 {

@@ -68,11 +68,11 @@ pub struct Case<'a> {
     pub problem: Problem,
     pub budget: u64,
     pub end: End<'a>,
-    pub turns: Option<&'a [Wanted<'a>]>,
+    pub turns: Option<&'a [Wanted]>,
 }
 
 /// Whether the journal has these turns.
-fn is_journal(search: &Search, turns: Option<&[Wanted<'_>]>) -> bool {
+fn is_journal(search: &Search, turns: Option<&[Wanted]>) -> bool {
     match turns {
         Some(wanted) => are_turns(search.journal(), wanted),
         None => true,
