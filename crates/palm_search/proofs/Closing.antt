@@ -18,7 +18,7 @@ use Rattle.palm_search.specs.Search.{search_cids}
 use Rattle.palm_search.proofs.Deciding.{gone_itself}
 use Rattle.palm_search.proofs.Leaving.{user_ground}
 
-no_members : {X : Type 0} (xs : List X) → ((x : X) → Contains xs x → ⊥) → xs ≡ []
+pub no_members : {X : Type 0} (xs : List X) → ((x : X) → Contains xs x → ⊥) → xs ≡ []
 no_members [] none = refl
 no_members (x ∷ xs) none = absurd (none x (member_here x xs))
 

@@ -279,7 +279,7 @@ decide_exists guided pick s fits searching none quiet filled x is_open lowest =
 
 -- ---- an undoing
 
-vars_member : (names : List Cid) (x : ℕ) → Contains (decided_vars names) x → Contains names (Decide x)
+pub vars_member : (names : List Cid) (x : ℕ) → Contains (decided_vars names) x → Contains names (Decide x)
 vars_member [] x m = absurd (member_nil x m)
 vars_member (Decide y ∷ names) x m = elim (member_cases y (decided_vars names) x m) [
   | inl e ↦ member_same (Decide y ∷ names) (Decide y) (Decide x) (ap Decide e) (member_here (Decide y) names)

@@ -3,6 +3,7 @@ use Rattle.std.proofs.Common.{◌≡◌, ℕ, ◌<◌, Bool, true, false, not, N
 use Rattle.std.proofs.lemmas.Bool.{cases_Bool, false≢true, not-true}
 use Rattle.std.proofs.lemmas.List.Elements.{All-contains}
 use Rattle.palm_base.specs.declared.terms.Cid.{Cid}
+use Rattle.palm_base.specs.declared.terms.Pair.{Pair}
 use Rattle.palm_base.specs.declared.terms.Cid.TheVariants.{Decide, Not, User}
 use Rattle.palm_base.proofs.Members.{member_map, member_unmap, member_filter, filter_member}
 use Rattle.palm_model.specs.Domains.{Assignment, Has}
@@ -23,7 +24,7 @@ use Rattle.palm_engine.specs.Settling.{Filters}
 use Rattle.palm_engine.proofs.Settled.{settling_filters, filters_valid, settling_still}
 use Rattle.palm_search.specs.declared.turn.Turn.{Turn}
 use Rattle.palm_search.specs.declared.turn.Turn.TheVariants.{Decide as TurnDecide, Undo as TurnUndo}
-use Rattle.palm_search.specs.Turns.{SearchState, Takes, SettlesAfter, Turns, decision_of, negation_of}
+use Rattle.palm_search.specs.Turns.{SearchState, Takes, Undoes, SettlesAfter, Turns, decision_of, negation_of}
 use Rattle.palm_search.specs.Search.{SearchEnd, SearchRun, Closes, Searches, HasNoSolution, IsFound, begun, search_cids}
 use Rattle.palm_search.specs.Kept.{HasOnlyUsers, IsSearching, Rests}
 use Rattle.palm_search.proofs.Deciding.{ground_stays}
@@ -76,14 +77,18 @@ searched_filtered right s m t filters valid still searched = record {
 
 -- ---- turns
 
+-- in an undoing, before the negation is posted
+pub searched_undone : (s : EngineState) (m : SearchState) (gone : Pair) (conflict : List Cid) (t : SearchState) (undoes : Undoes m gone conflict t) → HasOnlyUsers s → IsValid s → Searched s m.engine → Searched s undoes.middle
+searched_undone s m gone conflict t undoes users valid searched =
+    let cid : Cid = Decide gone.var in
+    let later = searcher_later s users cid refl in
+    searched_withdrawn s m.engine (gone_with m.engine.active cid) undoes.middle
+    (gone_grounds (length m.engine.initial) m.engine.active cid searched.valid.formed) (gone_later s m.engine cid searched.carries valid searched.valid later) undoes.withdraws valid searched
+
 pub searched_takes : (guided : Bool) (s : EngineState) (m : SearchState) (turn : Turn) (t : SearchState) → HasOnlyUsers s → IsValid s → Takes guided m turn t → Searched s m.engine → Searched s t.engine
 searched_takes guided s m (TurnDecide pair pick) t users valid takes searched = searched_posted s m.engine (decision_of pair) t.engine refl takes.posts searched
 searched_takes guided s m (TurnUndo gone conflict) t users valid takes searched =
-    let cid : Cid = Decide gone.var in
-    let later = searcher_later s users cid refl in
-    let middle : Searched s takes.middle = searched_withdrawn s m.engine (gone_with m.engine.active cid) takes.middle
-    (gone_grounds (length m.engine.initial) m.engine.active cid searched.valid.formed) (gone_later s m.engine cid searched.carries valid searched.valid later) takes.withdraws valid searched in
-    searched_posted s takes.middle (negation_of gone _) t.engine refl takes.posts middle
+    searched_posted s takes.middle (negation_of gone _) t.engine refl takes.posts (searched_undone s m gone conflict t takes users valid searched)
 
 pub searched_settles : ReasonsAreRight → (ordered : Bool) (s : EngineState) (m t : SearchState) → SettlesAfter ordered m t → IsValid s → IsStill s → Searched s m.engine → Searched s t.engine
 searched_settles right ordered s m t settles valid still searched =
@@ -204,12 +209,15 @@ gone_no_user n active x formed c m user = ground_stays n active (Decide x) forme
 pub users_later : (s : EngineState) → HasOnlyUsers s → (gone : List Cid) → ((c : Cid) → Contains gone c → is_user c ≡ true → ⊥) → AreNew s gone
 users_later s users gone none c m is = none c m (subst (λ d. is_user d ≡ true) is.named (users is.owner is.posted))
 
+pub remembers_undone : (s : EngineState) (m : SearchState) (gone : Pair) (conflict : List Cid) (t : SearchState) (undoes : Undoes m gone conflict t) → HasOnlyUsers s → IsValid m.engine → Remembers s m.engine → Remembers s undoes.middle
+remembers_undone s m gone conflict t undoes users valid old =
+    let names = gone_with m.engine.active (Decide gone.var) in
+    remembers_withdrawn s m.engine names undoes.middle (users_later s users names (gone_no_user (length m.engine.initial) m.engine.active gone.var valid.formed)) undoes.withdraws old
+
 pub remembers_takes : (guided : Bool) (s : EngineState) (m : SearchState) (turn : Turn) (t : SearchState) → HasOnlyUsers s → IsValid m.engine → Takes guided m turn t → Remembers s m.engine → Remembers s t.engine
 remembers_takes guided s m (TurnDecide pair pick) t users valid takes old = remembers_posted s m.engine (decision_of pair) t.engine refl takes.posts old
 remembers_takes guided s m (TurnUndo gone conflict) t users valid takes old =
-    let names = gone_with m.engine.active (Decide gone.var) in
-    let later = users_later s users names (gone_no_user (length m.engine.initial) m.engine.active gone.var valid.formed) in
-    remembers_posted s takes.middle (negation_of gone _) t.engine refl takes.posts (remembers_withdrawn s m.engine names takes.middle later takes.withdraws old)
+    remembers_posted s takes.middle (negation_of gone _) t.engine refl takes.posts (remembers_undone s m gone conflict t takes users valid old)
 
 pub remembers_settles : (ordered : Bool) (s : EngineState) (m t : SearchState) → SettlesAfter ordered m t → Remembers s m.engine → Remembers s t.engine
 remembers_settles ordered s m t settles old = remembers_filtered s m.engine t.engine (settling_filters None m.engine settles.revisions t.engine settles.settles) old
