@@ -2,7 +2,7 @@
 use Rattle.std.proofs.Common.{◌≡◌, ℕ, zero, suc, ◌+◌, ◌<◌, ◌≤◌, Bool, true, false, not, ◌||◌, cond, Option, None, Some, List, [], ◌∷◌, ◌++◌, filter, length, map, slice_set, get_or, take, drop, remove, replicate, Contains, ℤ, ◌⊎◌, inl, inr, refl, sym, ap, ◌∙◌, subst, arith, nat_eq, eq-eqb, eqb-true, take_all}
 use Rattle.std.specs.List.{list_any}
 use Rattle.std.proofs.lemmas.Bool.{cases_Bool, cases_eq, false≢true, not-true}
-use Rattle.std.proofs.lemmas.List.{take_more, map-append, append-nil}
+use Rattle.std.proofs.lemmas.List.{take_more, length-map}
 use Rattle.std.proofs.lemmas.List.Elements.{Contains-append_cases, Contains-append_left, Contains-append_right, filter-append}
 use Rattle.palm_base.specs.declared.terms.Pair.{Pair}
 use Rattle.palm_base.specs.declared.terms.Cid.{Cid}
@@ -19,7 +19,11 @@ use Rattle.palm_events.proofs.Names.{named_member, member_named, pair_same}
 use Rattle.palm_events.proofs.States.{active_cid, cid_active, form_grounds, member_without_names, without_names_member}
 use Rattle.palm_engine.specs.Engine.{View, KeepsCounts}
 
+use Rattle.palm_domain.specs.Rows.{Row, initial_of}
+use Rattle.palm_search.specs.Calls.{SearchView, search_state}
+use Rattle.palm_search.specs.Kept.{HasDecisions}
 use Rattle.palm_search.specs.Turns.{negation_of}
+use Rattle.palm_search.proofs.Deciding.{posted_has}
 
 use Rattle.palm_repair.specs.Posting.{Nogood, Origin, RepairState, PostsNegation, PostsFor, PostsFrom, PostsAll, undecided, justification, with_origin, active_origins}
 use Rattle.palm_repair.specs.Repair.{Drops, MakesRoom, raised, raised_from, weight_of, negations_from, forced_by}
@@ -252,3 +256,26 @@ pub posting_ends : (decisions : List Pair) (start : View) (first : LearnedView) 
     → PostsAll (repair_state start.state decisions first) (repair_state engine.state decisions learned)
 posting_ends decisions start first index engine learned le posting =
     subst (λ l. PostsFrom (repair_state start.state decisions first) first.dropped l (repair_state engine.state decisions learned)) (take_all index first.nogoods le) posting.posts
+
+-- ---- what one posting leaves
+
+pub rows_length : (rows : List Row) (initial : Domains) → initial_of rows ≡ initial → length rows ≡ length initial
+rows_length rows initial e = sym (length-map rows (λ (r : Row). r.initial)) ∙ ap length e
+
+pub forced_moves : (s m t : EngineState) (nogood : Nogood) (left : List Pair) (p : Pair) → Forces nogood left m t (Some p) → Moves s m → Moves s t
+forced_moves s m t nogood left p forces moves = moves_posted m (negation_of p (justification nogood p)) t moves refl forces.1
+
+pub forced_has : (m t : EngineState) (search : SearchView) (nogood : Nogood) (left : List Pair) (p : Pair) → Forces nogood left m t (Some p) → HasDecisions (search_state m search) → HasDecisions (search_state t search)
+forced_has m t search nogood left p forces has =
+    posted_has (search_state m search) (negation_of p (justification nogood p)) t (ap (λ (z : EngineState). z.active) forces.1.after) forces.1.inactive (λ x e. other p x e) has
+  where
+    other : (p : Pair) (x : ℕ) → Not p ≡ Decide x → ⊥
+    other p x e = cc
+
+pub none_forced : (nogood : Nogood) (left : List Pair) (s t : EngineState) (posted : Option Pair) → ((p : Pair) → posted ≡ Some p → ⊥) → Forces nogood left s t posted → Forces nogood left s t None
+none_forced nogood left s t None none forces = forces
+none_forced nogood left s t (Some p) none forces = absurd (none p refl)
+
+pub raised_none : (x : ℕ) (weights : List ℕ) → raised_from x weights [] ≡ weights
+raised_none x [] = refl
+raised_none x (w ∷ weights) = ap (λ l. w ∷ l) (raised_none (x + 1) weights)

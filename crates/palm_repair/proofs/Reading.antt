@@ -3,7 +3,7 @@ use Rattle.std.proofs.Common.{◌≡◌, ℕ, zero, suc, ◌+◌, ◌<◌, ◌�
 use Rattle.std.specs.Prelude.{OnErr, Result, Ok, Err, is_some}
 use Rattle.std.proofs.lemmas.Bool.{cases_eq}
 use Rattle.std.proofs.lemmas.Bool.Decides.{Decides-int_eq}
-use Rattle.std.proofs.lemmas.List.{take_more}
+use Rattle.std.proofs.lemmas.List.{take_more, map-append, append-nil}
 use Rattle.std.proofs.lemmas.List.Elements.{Contains-append_left, Contains-append_right, filter-append}
 use Rattle.palm_base.specs.declared.terms.Pair.{Pair}
 use Rattle.palm_base.specs.declared.terms.Cid.{Cid}
@@ -13,7 +13,7 @@ use Rattle.palm_model.specs.Conflict.{InConflict, InFlat, IsKeptConflict}
 use Rattle.palm_model.specs.Conflict.InFlat.{as_it_is, in_place}
 use Rattle.palm_model.specs.Constraint.{Distinct}
 use Rattle.palm_model.specs.Event.{vars_of}
-use Rattle.palm_model.specs.Log.{Active, IsActive, IsListOf}
+use Rattle.palm_model.specs.Log.{Active, IsActive, IsListOf, same_pair}
 use Rattle.palm_model.specs.State.{EngineState, IsValid, present}
 use Rattle.palm_events.proofs.Conflicts.{conflict_active}
 use Rattle.palm_search.specs.Turns.{HasFlatConflict, decided_vars}
@@ -182,3 +182,22 @@ two_open values pairs i x (Some q) lt is inv some shown p e =
     let split = ap (filter test) (split_at pairs i x lt is) ∙ filter-append test (take i pairs) (x ∷ drop (suc i) pairs) in
     let here : filter test (x ∷ drop (suc i) pairs) ≡ x ∷ filter test (drop (suc i) pairs) = ap (λ b. cond (not b) (x ∷ filter test (drop (suc i) pairs)) (filter test (drop (suc i) pairs))) shown in
     two_listed q x p (filter test (drop (suc i) pairs)) (ap (λ l. l ++ x ∷ filter test (drop (suc i) pairs)) inv ∙ ap (λ l. filter test (take i pairs) ++ l) (sym here) ∙ sym split ∙ e)
+
+-- one pair more of a justification
+others_here : (pairs : List Pair) (i : ℕ) (x p : Pair) (rest : List Pair) → i < length pairs → x ≡ get_or pairs i x → filter (λ q. not (same_pair q p)) (x ∷ []) ≡ rest
+    → map (λ (q : Pair). Decide q.var) (filter (λ q. not (same_pair q p)) (take (i + 1) pairs)) ≡ map (λ (q : Pair). Decide q.var) (filter (λ q. not (same_pair q p)) (take i pairs)) ++ map (λ (q : Pair). Decide q.var) rest
+others_here pairs i x p rest lt is e =
+    let test = λ (q : Pair). not (same_pair q p) in
+    let name = λ (q : Pair). Decide q.var in
+    let taken = take_more pairs i x lt ∙ ap (λ z. take i pairs ++ z ∷ []) (sym is) in
+    ap (λ l. map name (filter test l)) taken ∙ ap (map name) (filter-append test (take i pairs) (x ∷ []) ∙ ap (λ l. filter test (take i pairs) ++ l) e) ∙ map-append name (filter test (take i pairs)) rest
+
+pub others_more : (pairs : List Pair) (i : ℕ) (x p : Pair) (names now : List Cid) → i < length pairs → x ≡ get_or pairs i x → same_pair x p ≡ false
+    → names ≡ map (λ (q : Pair). Decide q.var) (filter (λ q. not (same_pair q p)) (take i pairs)) → now ≡ names ++ Decide x.var ∷ [] → now ≡ map (λ (q : Pair). Decide q.var) (filter (λ q. not (same_pair q p)) (take (i + 1) pairs))
+others_more pairs i x p names now lt is other inv e =
+    e ∙ ap (λ l. l ++ Decide x.var ∷ []) inv ∙ sym (others_here pairs i x p (x ∷ []) lt is (ap (λ b. cond (not b) (x ∷ []) []) other))
+
+pub others_same : (pairs : List Pair) (i : ℕ) (x p : Pair) (names now : List Cid) → i < length pairs → x ≡ get_or pairs i x → same_pair x p ≡ true
+    → names ≡ map (λ (q : Pair). Decide q.var) (filter (λ q. not (same_pair q p)) (take i pairs)) → now ≡ names → now ≡ map (λ (q : Pair). Decide q.var) (filter (λ q. not (same_pair q p)) (take (i + 1) pairs))
+others_same pairs i x p names now lt is other inv e =
+    e ∙ inv ∙ sym (append-nil (map (λ (q : Pair). Decide q.var) (filter (λ q. not (same_pair q p)) (take i pairs)))) ∙ sym (others_here pairs i x p [] lt is (ap (λ b. cond (not b) (x ∷ []) []) other))

@@ -1,7 +1,7 @@
 -- A turn of a repair, and one after another.
 use Rattle.std.proofs.Common.{◌≡◌, ℕ, zero, suc, ◌+◌, ◌-◌, ◌<◌, ◌≤◌, Bool, true, false, cond, nat_eq, Option, None, Some, List, [], ◌∷◌, ◌++◌, length, min, slice_get, take, drop, Contains, ◌⊎◌, inl, inr, refl, sym, ap, ◌∙◌, subst, arith, length-append}
 use Rattle.std.specs.List.{list_any}
-use Rattle.std.specs.Prelude.{MatchOption, remove, is_some}
+use Rattle.std.specs.Prelude.{MatchOption, OnErr, OnOk, Result, Ok, Err, remove, is_some}
 use Rattle.std.proofs.lemmas.List.Elements.{All-contains}
 use Rattle.palm_base.specs.declared.terms.Pair.{Pair}
 use Rattle.palm_base.specs.declared.terms.Cid.{Cid}
@@ -62,7 +62,29 @@ pub moves_undone : (s t : EngineState) (x : ℕ) → IsValid s → Withdraws s (
 moves_undone s t x valid withdraws =
     moves_withdrawn s (gone_with s.active (Decide x)) t (moves_none s refl) (gone_grounds (length s.initial) s.active (Decide x) valid.formed) (decision_no_user s valid x) withdraws
 
+pub on_ok : {T E : Type 0} (P Q : Type 0) (result : Result T E) → (P → Q) → OnOk result P → OnOk result Q
+on_ok P Q (Ok x) to p = to p
+on_ok P Q (Err e) to p = tt
+
+pub on_err : {T E : Type 0} (P : Type 0) (result : Result T E) → P → OnErr result P
+on_err P (Ok x) p = tt
+on_err P (Err e) p = p
+
 -- ---- how many there are
+
+-- room is made, and a nogood appended: no more than one more were ever listed
+pub room_sum : (tabu : ℕ) (s roomy : RepairState) (nogood : Nogood) (most : ℕ) (learned : LearnedView) → {engine : EngineState} {decisions : List Pair} → MakesRoom tabu s roomy
+    → repair_state engine decisions learned ≡ record roomy { nogoods = roomy.nogoods ++ nogood ∷ [] } → s.dropped + length s.nogoods < most → learned.dropped + length learned.nogoods ≤ most
+room_sum tabu s roomy nogood most learned room e lt =
+    let sum = ap (λ (z : RepairState). z.dropped + length z.nogoods) e in
+    let more = length-append roomy.nogoods (nogood ∷ []) in
+    elim room [
+      | inr r ↦ let same = ap (λ (z : RepairState). z.dropped + length z.nogoods) r.1 in omega (arith, sum, more, same, lt)
+      | inl r ↦
+          let are = ap length r.1.are in
+          let after = ap (λ (z : RepairState). z.dropped + length z.nogoods) r.1.after in
+          omega (arith, sum, more, are, after, lt)
+    ]
 
 raised_bound : (x : ℕ) (weights vars : List ℕ) (n : ℕ) → ((w : ℕ) → Contains weights w → w ≤ n) → (w : ℕ) → Contains (raised_from x weights vars) w → w ≤ n + 1
 raised_bound x [] vars n small w m = absurd (member_nil w m)
@@ -165,7 +187,7 @@ decided_cut guided tabu e m before after learned p pick taken repairing =
 
 rising_vars : (names : List Cid) → Rises names → Distinct (decided_vars names)
 rising_vars [] rises = tt
-rising_vars (Decide x ∷ names) rises = (λ m. not_before_itself (Decide x) (All-contains rises.0 (vars_member names x m)), rising_vars names rises.1)
+rising_vars (Decide x ∷ names) rises = (λ m. not_before_itself (Decide x) (All-contains (λ d. cid_before (Decide x) d ≡ true) names (Decide x) rises.0 (vars_member names x m)), rising_vars names rises.1)
 rising_vars (Not p ∷ names) rises = rising_vars names rises.1
 rising_vars (User n ∷ names) rises = rising_vars names rises.1
 

@@ -7,6 +7,7 @@ use Rattle.palm_base.specs.declared.terms.Pair.{Pair}
 use Rattle.palm_base.specs.declared.terms.Cid.{Cid}
 use Rattle.palm_base.specs.declared.terms.Cid.TheVariants.{Decide, Not}
 use Rattle.palm_base.proofs.Members.{member_nil, member_here, member_there, member_cases, member_same, member_single, member_map, member_unmap, member_filter, filter_member, filter_agree_members}
+use Rattle.palm_base.specs.Tells.{Tells}
 use Rattle.palm_model.specs.Event.{Withdraws, WithdrawsAll, gone_with, lost_pairs, vars_of, without_names}
 use Rattle.palm_model.specs.Log.{Active, IsActive, Removal, Loses, cids_of, is_named}
 use Rattle.palm_model.specs.Log.Loses.{none_left, is_lost, is_kept}
@@ -218,3 +219,11 @@ room_made tabu s t decisions before after some full withdraws e = inl (full, by_
 
 pub room_left : (tabu : ℕ) (s : EngineState) (decisions : List Pair) (before : LearnedView) → length before.nogoods ≤ tabu → (length before.nogoods ≡ tabu → ⊥) → MakesRoom tabu (repair_state s decisions before) (repair_state s decisions before)
 room_left tabu s decisions before few other = inr (omega (arith, few, other), refl)
+
+-- a test for an active name is the one for a name among those of the active constraints
+pub named_tells : (active : List Active) (cid : Cid) (b : Bool) → Tells b (IsActive active cid) → b ≡ is_named (cids_of active) cid
+named_tells active cid true is = sym (member_named (cids_of active) cid (member_same (cids_of active) is.owner.cid cid is.named (cid_active active is.owner is.posted)))
+named_tells active cid false none = elim (cases_Bool (is_named (cids_of active) cid)) [
+  | inl t ↦ absurd (none (active_cid active cid (named_member (cids_of active) cid t)))
+  | inr f ↦ sym f
+]

@@ -1,5 +1,5 @@
 //! What a repair keeps beside the search: its nogoods, where the negations come from, and the weights.
-ghost use Rattle.std.specs.Prelude.{◌≡◌, ℕ, ℤ, ◌+◌, ◌<◌, ◌≤◌, ◌++◌, ◌∷◌, [], List, Contains, IfOk, OnErr, OnOk, length, map, slice_set};
+ghost use Rattle.std.specs.Prelude.{◌≡◌, ℕ, ℤ, ◌+◌, ◌<◌, ◌≤◌, ◌++◌, ◌∷◌, [], List, Contains, IfOk, OnErr, OnOk, Some, length, map, remove, replicate, slice_get, slice_set};
 ghost use Rattle.palm_base.specs.declared.limits.TheConstants.{LAST_COUNT};
 ghost use Rattle.palm_base.specs.declared.terms.Cid.{Cid as CidTerm};
 ghost use Rattle.palm_base.specs.declared.terms.Pair.{Pair as PairTerm};
@@ -64,8 +64,7 @@ impl Learned {
         ensures { IfOk result (λ learned. (d : List (List ℤ)) → length d ≡ variables
             → learned ≡ record { nogoods = []; origins = []; weights = map (λ vs. 0) d; dropped = 0 }) }
     {
-        let mut weights = Vec::new(alloc);
-        weights.resize(variables as usize, 0)?;
+        let weights = zeros(alloc, variables)?;
         Ok(Learned {
             nogoods: Vec::new(alloc),
             origins: Vec::new(alloc),
@@ -79,6 +78,28 @@ impl Learned {
         ensures { result.now ≡ self.now.weights }
     {
         self.weights.as_slice()
+    }
+
+    /// How many nogoods are listed.
+    fn listed(&self) -> usize
+        ensures { result ≡ length self.now.nogoods }
+    {
+        self.nogoods.len()
+    }
+
+    /// The nogood at the place.
+    fn nogood(&self, index: usize) -> &Nogood
+        requires { index < length self.now.nogoods }
+        ensures { slice_get self.now.nogoods index ≡ Some result.now }
+    {
+        &self.nogoods[index]
+    }
+
+    /// Where the active negations come from.
+    fn origins(&self) -> &[Origin]
+        ensures { result.now ≡ self.now.origins }
+    {
+        self.origins.as_slice()
     }
 
     /// How many nogoods were dropped.
@@ -122,12 +143,21 @@ impl Learned {
     {
         // What holds of every engine is known once its store is read.
         let _store = engine.store();
-        if self.nogoods.len() == tabu as usize {
-            withdraw_forced(engine, &self.origins, self.dropped);
+        if self.listed() == tabu as usize {
+            withdraw_forced(engine, self.origins(), self.dropped());
             self.keep_active(engine);
-            self.nogoods.remove(0);
-            self.dropped += 1;
+            self.forget();
         }
+    }
+
+    /// Takes the oldest nogood out.
+    fn forget(&mut self)
+        requires some { 0 < length self.old.nogoods }
+        requires small { self.old.dropped < LAST_COUNT }
+        ensures { self.new ≡ record self.old { nogoods = remove self.old.nogoods 0; dropped = self.old.dropped + 1 } }
+    {
+        self.nogoods.remove(0);
+        self.dropped += 1;
     }
 
     /// Makes room for the nogood of a flat conflict, appends it, and posts negations; it comes after a withdrawal.
@@ -194,14 +224,23 @@ impl Learned {
         ensures counts { KeepsCounts engine.old engine.new }
     {
         let values = decided_values(alloc, engine.store().variables(), search.decisions())?;
-        for index in 0..self.nogoods.len() {
-            let posted = force(alloc, engine, &self.nogoods[index], &values)?;
+        for index in 0..self.listed() {
+            let posted = force(alloc, engine, self.nogood(index), &values)?;
             if let Some(pair) = posted {
                 self.note(pair, self.dropped + index as u64)?;
             }
         }
         Ok(())
     }
+}
+
+/// So many weights that have not risen.
+fn zeros(alloc: Global, variables: u32) -> Result<Vec<u64>, NoMemory>
+    ensures { IfOk result (λ weights. weights.items ≡ replicate variables 0) }
+{
+    let mut weights = Vec::new(alloc);
+    weights.resize(variables as usize, 0)?;
+    Ok(weights)
 }
 
 /// Raises the weight of the variable by one.

@@ -1,30 +1,54 @@
-use Rattle.std.proofs.Common.{rules, ◌≡◌, ℕ, ℤ, ◌+◌, ◌<◌, ◌≤◌, ◌++◌, ◌∷◌, [], List, Contains, IfOk, OnErr, OnOk, length, map, slice_set, ◌-◌, ◌*◌, ◌/◌, ◌%◌, Bool, true, false, nat_eq, nat_lt, slice_index_or, bit_and, bit_or, Fits, w8, w32, w64, Bor, MutBor}
-use Rattle.palm_base.specs.declared.limits.TheConstants.{LAST_COUNT}
-use Rattle.palm_base.specs.declared.terms.Cid.{Cid as CidTerm}
-use Rattle.palm_base.specs.declared.terms.Pair.{Pair as PairTerm}
-use Rattle.palm_engine.specs.Engine.{KeepsCounts}
-use Rattle.palm_model.specs.Constraint.{Distinct}
-use Rattle.palm_model.specs.Event.{WithdrawsAll}
-use Rattle.palm_model.specs.Log.{IsActive, cids_of, is_named}
+use Rattle.std.proofs.Common.{◌≡◌, ◌+◌, take, refl, sym, ap, ◌∙◌, subst}
+use Rattle.palm_base.specs.declared.terms.Cid.TheVariants.{Not}
+use Rattle.palm_base.specs.declared.terms.Pair.{Pair}
+use Rattle.palm_base.proofs.Telling.{tells_false}
+use Rattle.palm_engine.specs.Engine.{KeepsCounts, View}
+use Rattle.palm_model.specs.Event.{Withdraws}
+use Rattle.palm_model.specs.Log.{IsActive}
 use Rattle.palm_model.specs.State.{IsValid}
-use Rattle.palm_search.specs.Calls.{search_state}
-use Rattle.palm_search.specs.Kept.{HasDecisions}
-use Rattle.palm_repair.specs.Posting.{Origin as OriginTerm}
-use Rattle.palm_repair.specs.Posting.{PostsAll, active_origins}
-use Rattle.palm_repair.specs.Repair.{MakesRoom, forced_by, raised, weight_of}
-use Rattle.palm_repair.specs.Kept.{IsNogood, IsRepairing}
-use Rattle.palm_repair.specs.Learned.{repair_state}
-use Rattle.palm_repair.specs.Turning.{Learns, Moves, filtered}
+use Rattle.palm_repair.specs.Posting.{Origin}
+use Rattle.palm_repair.proofs.Learning.{counts_same}
+use Rattle.palm_repair.proofs.Taking.{IsTaking, taken_all, taken_next, taken_past, taking_starts}
 use Rattle.palm_repair.proofs.learned.withdraw_forced.Goals as goal
+use Rattle.palm_repair.proofs.learned.withdraw_forced.Goals.{then-origin-number+then-is_active, else-origin-number, else-origin-number-via-then-origin-number+else-is_active, else-origin-number-via-else-origin-number}
 
--- src/learned.rt:237:5
 pub loop-origin-init : goal.loop-origin-init
-loop-origin-init g c = ?
+loop-origin-init g c =
+    let valid = c.store-store.ensures.valid in
+    (taking_starts c.args.number c.args.engine.now.state valid, record { revisions = refl; checks = refl }, valid)
 
--- src/learned.rt:237:5
 pub loop-origin-preserved : goal.loop-origin-preserved
-loop-origin-preserved g c = ?
+loop-origin-preserved g c =
+    let start = c.args.engine.now in
+    let now = c.loop-origin.engine in
+    let number = c.args.number in
+    let origins = c.args.origins.now in
+    let i = c.loop-origin.origin-index in
+    let o = c.origin-item.result in
+    let lt = c.loop-origin-test.true in
+    let is = c.origin-item.is in
+    let inv = c.loop-origin.invariant in
+    let pair = ap (λ (q : Origin). q.pair) c.origin.view_is in
+    let nogood = ap (λ (q : Origin). q.nogood) c.origin.view_is in
+    let holds = λ (v : View). IsTaking number (take (i + 1) origins) start.state v.state × KeepsCounts start v × IsValid v.state in
+    elim c.if-origin-number.branch [
+      | then-origin-number+then-is_active w ↦ subst holds (sym w.engine-is) (
+        taken_next number origins i o start.state now.state w.withdraw.new.self.state lt is c.store-store.ensures.valid inv.2 (sym nogood ∙ w.if-origin-number.true) c.requires.active
+        (subst (λ (p : Pair). Withdraws now.state (Not p) w.withdraw.new.self.state) pair w.withdraw.ensures.withdraws) inv.0,
+        counts_same start now w.withdraw.new.self inv.1 w.withdraw.ensures.counts,
+        w.withdraw.ensures.valid,
+      )
+      | else-origin-number w ↦ subst holds (sym w.engine-is) (
+        taken_past number origins i o start.state now.state lt is (λ e active. elim w.else-origin-number.branch [
+          | else-origin-number-via-then-origin-number+else-is_active w' ↦
+              tells_false _ w'.is_active.result w'.is_active.ensures w'.if-is_active.false (subst (λ (p : Pair). IsActive now.state.active (Not p)) (sym pair) active)
+          | else-origin-number-via-else-origin-number w' ↦ w'.if-origin-number.false (nogood ∙ e)
+        ]) inv.0,
+        inv.1,
+        inv.2,
+      )
+    ]
 
--- src/learned.rt:229:1
 pub returns-clause-withdraws : goal.returns-clause-withdraws
-returns-clause-withdraws g c = ?
+returns-clause-withdraws g c =
+    taken_all c.args.number c.args.origins.now c.loop-origin.origin-index c.args.engine.now.state c.loop-origin.engine.state c.loop-origin-test.false c.loop-origin.invariant.0

@@ -1,174 +1,116 @@
-use Rattle.std.proofs.Common.{rules, ◌≡◌, ℕ, ℤ, ◌+◌, ◌<◌, ◌≤◌, ◌++◌, ◌∷◌, [], List, Contains, IfOk, OnErr, OnOk, length, map, slice_set, ◌-◌, ◌*◌, ◌/◌, ◌%◌, Bool, true, false, nat_eq, nat_lt, slice_index_or, bit_and, bit_or, Fits, w8, w32, w64, Bor, MutBor}
-use Rattle.palm_base.specs.declared.limits.TheConstants.{LAST_COUNT}
-use Rattle.palm_base.specs.declared.terms.Cid.{Cid as CidTerm}
-use Rattle.palm_base.specs.declared.terms.Pair.{Pair as PairTerm}
-use Rattle.palm_engine.specs.Engine.{KeepsCounts}
+use Rattle.std.proofs.Common.{◌≡◌, ◌+◌, ◌<◌, ◌≤◌, length, Contains, refl, sym, ap, ◌∙◌, subst, arith}
+use Rattle.std.proofs.lemmas.Option.{get_or_from_slice_get}
+use Rattle.palm_base.proofs.Members.{member_get}
 use Rattle.palm_model.specs.Constraint.{Distinct}
-use Rattle.palm_model.specs.Event.{WithdrawsAll}
-use Rattle.palm_model.specs.Log.{IsActive, cids_of, is_named}
-use Rattle.palm_model.specs.State.{IsValid}
+use Rattle.palm_model.specs.Event.{vars_of}
+use Rattle.palm_model.specs.State.{EngineState}
+use Rattle.palm_model.proofs.Narrowing.{has_declared}
 use Rattle.palm_search.specs.Calls.{search_state}
 use Rattle.palm_search.specs.Kept.{HasDecisions}
-use Rattle.palm_repair.specs.Posting.{Origin as OriginTerm}
-use Rattle.palm_repair.specs.Posting.{PostsAll, active_origins}
-use Rattle.palm_repair.specs.Repair.{MakesRoom, forced_by, raised, weight_of}
-use Rattle.palm_repair.specs.Kept.{IsNogood, IsRepairing}
-use Rattle.palm_repair.specs.Learned.{repair_state}
-use Rattle.palm_repair.specs.Turning.{Learns, Moves, filtered}
+use Rattle.palm_repair.specs.Learned.{Forces, LearnedView, ShowsDecisions, left_open}
+use Rattle.palm_repair.specs.Turning.{Moves}
+use Rattle.palm_repair.specs.Turning.Moves.{moves_none}
+use Rattle.palm_repair.proofs.Learning.{IsPosting, forced_has, forced_moves, listed_forced, none_forced, posting_ends, posting_kept, posting_more, posting_starts, rows_length}
 use Rattle.palm_repair.proofs.learned.Learned.post.Goals as goal
+use Rattle.palm_repair.proofs.learned.Learned.post.Goals.{in-Some+in_ok-note, in_default}
 
--- src/learned.rt:196:44
-pub store-requires : goal.store-requires
-store-requires g c κs = ?
-
--- src/learned.rt:196:44
-pub variables-requires : goal.variables-requires
-variables-requires g c = ?
-
--- src/learned.rt:196:72
-pub decisions-requires : goal.decisions-requires
-decisions-requires g c = ?
-
--- src/learned.rt:196:22
 pub decided_values-requires-clause-within : goal.decided_values-requires-clause-within
-decided_values-requires-clause-within g c = ?
+decided_values-requires-clause-within g c = λ p m.
+    let has = c.requires.repairing.searching.declared.decided p (subst (λ l. Contains l p) c.decisions.ensures m) in
+    let lt = has_declared c.args.engine.now.state.initial p.var p.value has in
+    let count = c.variables.ensures.count in
+    let rows = rows_length c.store.result.now c.args.engine.now.state.initial c.store.ensures.initial in
+    omega (arith, lt, count, rows)
 
--- src/learned.rt:196:22
 pub decided_values-requires-clause-distinct : goal.decided_values-requires-clause-distinct
-decided_values-requires-clause-distinct g c = ?
+decided_values-requires-clause-distinct g c = subst (λ l. Distinct (vars_of l)) (sym c.decisions.ensures) c.requires.repairing.searching.decisions.distinct
 
--- src/learned.rt:196:22
-pub branch-values-requires : goal.branch-values-requires
-branch-values-requires g c κs = ?
-
--- src/learned.rt:196:22
-pub from_residual-requires : goal.from_residual-requires
-from_residual-requires g c κs = ?
-
--- src/learned.rt:196:22
-pub returns-in_err-values-clause-ok : goal.returns-in_err-values-clause-ok
-returns-in_err-values-clause-ok g c = ?
-
--- src/learned.rt:196:22
 pub returns-in_err-values-clause-moves : goal.returns-in_err-values-clause-moves
-returns-in_err-values-clause-moves g c = ?
+returns-in_err-values-clause-moves g c = moves_none c.args.engine.now.state refl
 
--- src/learned.rt:196:22
 pub returns-in_err-values-clause-decisions : goal.returns-in_err-values-clause-decisions
-returns-in_err-values-clause-decisions g c = ?
+returns-in_err-values-clause-decisions g c = c.requires.repairing.searching.decisions
 
--- src/learned.rt:196:22
-pub returns-in_err-values-clause-counts : goal.returns-in_err-values-clause-counts
-returns-in_err-values-clause-counts g c = ?
-
--- src/learned.rt:197:25
-pub len-index-end-requires : goal.len-index-end-requires
-len-index-end-requires g c κs = ?
-
--- src/learned.rt:197:9
 pub loop-index-init : goal.loop-index-init
-loop-index-init g c = ?
+loop-index-init g c = posting_starts c.args.search.now.decisions c.args.engine.now c.args.self.now c.requires.repairing
 
--- src/learned.rt:198:48
-pub index-requires : goal.index-requires
-index-requires g c = ?
+pub nogood-requires : goal.nogood-requires
+nogood-requires g c =
+    let same = ap length c.loop-index.invariant.leaves.nogoods in
+    let lt = c.loop-index-test.true in
+    let end = c.listed-index-end.ensures in
+    omega (arith, same, lt, end)
 
--- src/learned.rt:198:69
-pub deref-requires : goal.deref-requires
-deref-requires g c κs = ?
-
--- src/learned.rt:198:26
 pub force-requires : goal.force-requires
-force-requires g c = ?
+force-requires g c = λ p one.
+    let decisions = c.args.search.now.decisions in
+    let values = c.deref.result.now in
+    let nogood = c.nogood.result.now in
+    let shows = subst (ShowsDecisions decisions) (sym c.deref.ensures.value) (subst (λ l. ShowsDecisions l c.in_ok-values.values.items) c.decisions.ensures c.in_ok-values.ensures) in
+    listed_forced decisions c.loop-index.engine.state c.loop-index.self values nogood p c.loop-index.invariant.repairing shows
+    (member_get c.loop-index.self.nogoods c.loop-index.index nogood c.nogood.ensures) one
 
--- src/learned.rt:198:26
-pub branch-posted-requires : goal.branch-posted-requires
-branch-posted-requires g c κs = ?
-
--- src/learned.rt:198:26
-pub from_residual-requires-in_err-posted : goal.from_residual-requires-in_err-posted
-from_residual-requires-in_err-posted g c κs = ?
-
--- src/learned.rt:196:13
-pub drop-values-requires : goal.drop-values-requires
-drop-values-requires g c κs = ?
-
--- src/learned.rt:198:26
-pub returns-in_err-posted-clause-ok : goal.returns-in_err-posted-clause-ok
-returns-in_err-posted-clause-ok g c = ?
-
--- src/learned.rt:198:26
 pub returns-in_err-posted-clause-moves : goal.returns-in_err-posted-clause-moves
-returns-in_err-posted-clause-moves g c = ?
+returns-in_err-posted-clause-moves g c = subst (Moves c.args.engine.now.state) (sym c.in_err-posted.ensures.err) c.loop-index.invariant.moves
 
--- src/learned.rt:198:26
 pub returns-in_err-posted-clause-decisions : goal.returns-in_err-posted-clause-decisions
-returns-in_err-posted-clause-decisions g c = ?
+returns-in_err-posted-clause-decisions g c =
+    subst (λ (z : EngineState). HasDecisions (search_state z c.args.search.now)) (sym c.in_err-posted.ensures.err) c.loop-index.invariant.repairing.searching.decisions
 
--- src/learned.rt:198:26
-pub returns-in_err-posted-clause-counts : goal.returns-in_err-posted-clause-counts
-returns-in_err-posted-clause-counts g c = ?
-
--- src/learned.rt:200:33
-pub overflow_add-self : goal.overflow_add-self
-overflow_add-self g c = ?
-
--- src/learned.rt:200:17
-pub note-requires : goal.note-requires
-note-requires g c = ?
-
--- src/learned.rt:200:17
-pub branch-note-requires : goal.branch-note-requires
-branch-note-requires g c κs = ?
-
--- src/learned.rt:200:17
-pub from_residual-requires-in_err-note : goal.from_residual-requires-in_err-note
-from_residual-requires-in_err-note g c κs = ?
-
--- src/learned.rt:196:13
-pub drop-values-requires-in_err-note : goal.drop-values-requires-in_err-note
-drop-values-requires-in_err-note g c κs = ?
-
--- src/learned.rt:200:17
-pub returns-in_err-note-clause-ok : goal.returns-in_err-note-clause-ok
-returns-in_err-note-clause-ok g c = ?
-
--- src/learned.rt:200:17
 pub returns-in_err-note-clause-moves : goal.returns-in_err-note-clause-moves
-returns-in_err-note-clause-moves g c = ?
+returns-in_err-note-clause-moves g c =
+    let nogood = c.nogood.result.now in
+    let left = left_open c.deref.result.now nogood in
+    let m = c.loop-index.engine.state in
+    let t = c.force.new.engine.state in
+    forced_moves c.args.engine.now.state m t nogood left c.in-Some.pair (subst (Forces nogood left m t) c.in-Some.is c.in_ok-posted.ensures.ok) c.loop-index.invariant.moves
 
--- src/learned.rt:200:17
 pub returns-in_err-note-clause-decisions : goal.returns-in_err-note-clause-decisions
-returns-in_err-note-clause-decisions g c = ?
+returns-in_err-note-clause-decisions g c =
+    let nogood = c.nogood.result.now in
+    let left = left_open c.deref.result.now nogood in
+    let m = c.loop-index.engine.state in
+    let t = c.force.new.engine.state in
+    forced_has m t c.args.search.now nogood left c.in-Some.pair (subst (Forces nogood left m t) c.in-Some.is c.in_ok-posted.ensures.ok) c.loop-index.invariant.repairing.searching.decisions
 
--- src/learned.rt:200:17
-pub returns-in_err-note-clause-counts : goal.returns-in_err-note-clause-counts
-returns-in_err-note-clause-counts g c = ?
-
--- src/learned.rt:197:9
-pub loop-index-smaller : goal.loop-index-smaller
-loop-index-smaller g c = ?
-
--- src/learned.rt:197:9
 pub loop-index-preserved : goal.loop-index-preserved
-loop-index-preserved g c = ?
+loop-index-preserved g c =
+    let decisions = c.args.search.now.decisions in
+    let start = c.args.engine.now in
+    let first = c.args.self.now in
+    let index = c.loop-index.index in
+    let engine = c.loop-index.engine in
+    let next = c.force.new.engine in
+    let learned = c.loop-index.self in
+    let values = c.deref.result.now in
+    let nogood = c.nogood.result.now in
+    let left = left_open values nogood in
+    let posting = c.loop-index.invariant in
+    let shows = subst (ShowsDecisions decisions) (sym c.deref.ensures.value) (subst (λ l. ShowsDecisions l c.in_ok-values.values.items) c.decisions.ensures c.in_ok-values.ensures) in
+    let test = c.loop-index-test.true in
+    let end = c.listed-index-end.ensures in
+    let lt : index < length first.nogoods = omega (arith, test, end) in
+    let is = sym (get_or_from_slice_get learned.nogoods index nogood nogood c.nogood.ensures) in
+    elim c.match-posted.branch [
+      | in-Some+in_ok-note w ↦
+          let dropped = ap (λ (v : LearnedView). v.dropped) w.note.view_is in
+          posting_more decisions start first index engine next learned c.match-posted.self values nogood w.in-Some.pair (w.note.inside.dropped + index) lt is shows
+          (subst (Forces nogood left engine.state next.state) w.in-Some.is c.in_ok-posted.ensures.ok) c.force.ensures.counts (ap (λ k. k + index) dropped) (w.self-is ∙ w.in_ok-note.ensures.ok) posting
+      | in_default w ↦
+          subst (IsPosting decisions start first (index + 1) next) (sym w.self-is)
+          (posting_kept decisions start first index engine next learned values nogood lt is shows
+          (none_forced nogood left engine.state next.state c.in_ok-posted.posted w.in_default.not-Some c.in_ok-posted.ensures.ok) c.force.ensures.counts posting)
+    ]
 
--- src/learned.rt:196:13
-pub drop-values-requires-2 : goal.drop-values-requires-2
-drop-values-requires-2 g c κs = ?
-
--- src/learned.rt:183:5
 pub returns-clause-ok : goal.returns-clause-ok
-returns-clause-ok g c = ?
+returns-clause-ok g c =
+    let test = c.loop-index-test.false in
+    let end = c.listed-index-end.ensures in
+    let le : length c.args.self.now.nogoods ≤ c.loop-index.index = omega (arith, test, end) in
+    posting_ends c.args.search.now.decisions c.args.engine.now c.args.self.now c.loop-index.index c.loop-index.engine c.loop-index.self le c.loop-index.invariant
 
--- src/learned.rt:183:5
 pub returns-clause-moves : goal.returns-clause-moves
-returns-clause-moves g c = ?
+returns-clause-moves g c = c.loop-index.invariant.moves
 
--- src/learned.rt:183:5
 pub returns-clause-decisions : goal.returns-clause-decisions
-returns-clause-decisions g c = ?
-
--- src/learned.rt:183:5
-pub returns-clause-counts : goal.returns-clause-counts
-returns-clause-counts g c = ?
+returns-clause-decisions g c = c.loop-index.invariant.repairing.searching.decisions
