@@ -11,3 +11,4 @@ pub mod Reading
 pub mod Learning
 pub mod Taking
 pub mod Stepping
+pub mod Running

@@ -70,6 +70,10 @@ pub on_err : {T E : Type 0} (P : Type 0) (result : Result T E) → P → OnErr r
 on_err P (Ok x) p = tt
 on_err P (Err e) p = p
 
+pub on_err_to : {T E : Type 0} (P Q : Type 0) (result : Result T E) → (P → Q) → OnErr result P → OnErr result Q
+on_err_to P Q (Ok x) to p = tt
+on_err_to P Q (Err e) to p = to p
+
 -- ---- how many there are
 
 -- room is made, and a nogood appended: no more than one more were ever listed
@@ -225,12 +229,13 @@ raised_weighed s vars p repairing m = let lt = decision_weighed s p repairing m 
     raised_long x (w ∷ weights) vars = ap suc (raised_long (x + 1) weights vars)
 
 -- so the heaviest decision is found
-pub heaviest_found : (s : RepairState) (weights : List ℕ) (conflict : List Cid) (x : ℕ) (place : Option ℕ) → IsRepairing s → HasFlatConflict s.search.engine conflict → Contains conflict (Decide x)
-    → MatchOption place ((p : Pair) → Contains s.search.decisions p → Contains conflict (Decide p.var) → ⊥) (IsHeaviestAt weights s.search.decisions conflict) → is_some place ≡ true
-heaviest_found s weights conflict x None repairing flat held found =
+pub heaviest_found : (s : RepairState) (weights : List ℕ) (conflict : List Cid) (x : ℕ) (place : Option ℕ) (decisions : List Pair) (names : List Cid) → IsRepairing s → HasFlatConflict s.search.engine conflict → Contains conflict (Decide x)
+    → decisions ≡ s.search.decisions → names ≡ conflict
+    → MatchOption place ((p : Pair) → Contains decisions p → Contains names (Decide p.var) → ⊥) (IsHeaviestAt weights decisions names) → is_some place ≡ true
+heaviest_found s weights conflict x None decisions names repairing flat held ed en found =
     let d = conflict_decision s conflict x repairing flat held in
-    absurd (found d.0 d.1 (member_same conflict (Decide x) (Decide d.0.var) (ap Decide (sym d.2)) held))
-heaviest_found s weights conflict x (Some place) repairing flat held found = refl
+    absurd (found d.0 (subst (λ l. Contains l d.0) (sym ed) d.1) (subst (λ l. Contains l (Decide d.0.var)) (sym en) (member_same conflict (Decide x) (Decide d.0.var) (ap Decide (sym d.2)) held)))
+heaviest_found s weights conflict x (Some place) decisions names repairing flat held ed en found = refl
 
 some_same : {X : Type 0} (x y : X) → Some x ≡ Some y → x ≡ y
 some_same x y e = cc
@@ -320,3 +325,15 @@ undone_here tabu count e m before after learned conflict k back some ready flat 
       });
       journal = back.journal;
     }
+
+-- the same, from what the calls told
+pub undone_by : (tabu : ℕ) (e m : EngineState) (before after : SearchView) (learned : LearnedView) (conflict : List Cid) (found : Option ℕ) (k : ℕ) (weights : List ℕ) (decisions : List Pair) (names : List Cid)
+    → weights ≡ raised learned.weights (decided_vars conflict) → decisions ≡ before.decisions → names ≡ conflict
+    → MatchOption found ((p : Pair) → Contains decisions p → Contains names (Decide p.var) → ⊥) (IsHeaviestAt weights decisions names) → found ≡ Some k → (back : TakesBack conflict k e before m after) → 0 < tabu
+    → IsReady tabu (length before.journal) (repair_state e before.decisions learned) → HasFlatConflict e conflict → IsUndone tabu e m before after learned conflict back.gone
+undone_by tabu e m before after learned conflict found k weights decisions names ew ed en told is back some ready flat =
+    let here : IsHeaviestAt weights decisions names k =
+    subst (λ o. MatchOption o ((p : Pair) → Contains decisions p → Contains names (Decide p.var) → ⊥) (IsHeaviestAt weights decisions names)) is told in
+    undone_here tabu (length before.journal) e m before after learned conflict k back some ready flat
+    (subst (λ l. IsHeaviestAt (raised learned.weights (decided_vars conflict)) before.decisions l k) en
+    (subst (λ l. IsHeaviestAt (raised learned.weights (decided_vars conflict)) l names k) ed (subst (λ l. IsHeaviestAt l decisions names k) ew here)))

@@ -44,8 +44,10 @@ fn run<F: Filter, G: Guide, O: Order, L: Ledger>(
     ensures order { is_some order.new ≡ is_some order.old }
     ensures before { IsValid engine.old.state }
 {
-    let mut learned = Learned::new(alloc, engine.store().variables())?;
+    // What holds of every engine is known once its store is read.
+    let _store = engine.store();
     engine.settle(order, None, steps)?;
+    let mut learned = Learned::new(alloc, engine.store().variables())?;
     loop {
         if let Some(answer) = advance(alloc, engine, search, guide, &mut learned, tabu, budget)? {
             return Ok(answer);
