@@ -18,13 +18,11 @@ use Rattle.palm_model.proofs.Supports.{not_true}
 use Rattle.palm_events.proofs.Names.{named_member, member_named, pair_same}
 use Rattle.palm_events.proofs.States.{active_cid, cid_active, form_grounds, member_without_names, without_names_member}
 use Rattle.palm_engine.specs.Engine.{View, KeepsCounts}
-
 use Rattle.palm_domain.specs.Rows.{Row, initial_of}
 use Rattle.palm_search.specs.Calls.{SearchView, search_state}
 use Rattle.palm_search.specs.Kept.{HasDecisions}
 use Rattle.palm_search.specs.Turns.{negation_of}
 use Rattle.palm_search.proofs.Deciding.{posted_has}
-
 use Rattle.palm_repair.specs.Posting.{Nogood, Origin, RepairState, PostsNegation, PostsFor, PostsFrom, PostsAll, undecided, justification, with_origin, active_origins}
 use Rattle.palm_repair.specs.Repair.{Drops, MakesRoom, raised, raised_from, weight_of, negations_from, forced_by}
 use Rattle.palm_repair.specs.Kept.{HasOrigins, IsNogood, IsNumbered, IsRepairing}
@@ -173,6 +171,7 @@ origin_more s p number has inactive = ap (λ l. record { pair = p; nogood = numb
   where
     kept : (o : Origin) → Contains s.origins o → not (same_pair o.pair p) ≡ true
     kept o m = not_true (same_pair o.pair p) (λ t. inactive (subst (λ q. IsActive s.search.engine.active (Not q)) (pair_same o.pair p t) (has.active o m)))
+
     all_kept : (origins : List Origin) → ((o : Origin) → Contains origins o → Contains s.origins o) → filter (λ o. not (same_pair o.pair p)) origins ≡ origins
     all_kept [] sub = refl
     all_kept (o ∷ origins) sub =
@@ -227,6 +226,7 @@ posting_kept decisions start first index engine next learned values nogood lt is
   where
     same : repair_state next.state decisions learned ≡ repair_state engine.state decisions learned
     same = ap (λ z. repair_state z decisions learned) forces.1
+
     by_left : (left : List Pair) → ((p : Pair) → left ≡ p ∷ [] → IsActive engine.state.active (Not p)) → PostsFor (repair_state engine.state decisions learned) (first.dropped + index) nogood left (repair_state next.state decisions learned)
     by_left [] active = same
     by_left (p ∷ []) active = inl (active p refl, same)

@@ -313,16 +313,19 @@ undone_here tabu count e m before after learned conflict k back some ready flat 
         makes_room = learns.makes_room;
         posts = learns.posts;
       };
-      cut = (posting.0, record {
-        flat = flat;
-        left = after.decisions;
-        heaviest = heaviest;
-        engine = m;
-        withdraws = back.withdraws;
-        roomy = room.0;
-        makes_room = room.1;
-        posts = posting.1;
-      });
+      cut = (
+        posting.0,
+        record {
+          flat = flat;
+          left = after.decisions;
+          heaviest = heaviest;
+          engine = m;
+          withdraws = back.withdraws;
+          roomy = room.0;
+          makes_room = room.1;
+          posts = posting.1;
+        },
+      );
       journal = back.journal;
     }
 

@@ -74,10 +74,7 @@ fn extend<F: Filter, G: Guide>(
     ensures stays { is_some guide.new ≡ is_some guide.old }
 {
     let Some(_) = open_variable(engine.store()) else {
-        return Ok(Some(RepairAnswer::Found(only_values(
-            alloc,
-            engine.store(),
-        )?)));
+        return Ok(Some(RepairAnswer::Found(only_values(alloc, engine.store())?)));
     };
     if is_spent(search, budget) {
         return Ok(Some(RepairAnswer::Spent {

@@ -34,7 +34,7 @@ loop-origin-preserved g c =
     elim c.if-origin-number.branch [
       | then-origin-number+then-is_active w ↦ subst holds (sym w.engine-is) (
         taken_next number origins i o start.state now.state w.withdraw.new.self.state lt is c.store-store.ensures.valid inv.2 (sym nogood ∙ w.if-origin-number.true) c.requires.active
-        (subst (λ (p : Pair). Withdraws now.state (Not p) w.withdraw.new.self.state) pair w.withdraw.ensures.withdraws) inv.0,
+            (subst (λ (p : Pair). Withdraws now.state (Not p) w.withdraw.new.self.state) pair w.withdraw.ensures.withdraws) inv.0,
         counts_same start now w.withdraw.new.self inv.1 w.withdraw.ensures.counts,
         w.withdraw.ensures.valid,
       )

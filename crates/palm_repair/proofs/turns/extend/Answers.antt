@@ -34,7 +34,7 @@ pub returns-in_err-post-clause-err : goal.returns-in_err-post-clause-err
 returns-in_err-post-clause-err g c =
     let turn = c.in_ok-decide.ensures.ok in
     on_err _ c.from_residual-in_err-post.result (λ tabu.
-        decided_cut (is_some c.args.guide.now) tabu c.args.engine.now.state c.decide.new.engine.state c.args.search.now c.decide.new.self c.args.learned.now c.in_ok-decide.field-0 turn.0 turn.2 c.requires.at.repairing)
+    decided_cut (is_some c.args.guide.now) tabu c.args.engine.now.state c.decide.new.engine.state c.args.search.now c.decide.new.self c.args.learned.now c.in_ok-decide.field-0 turn.0 turn.2 c.requires.at.repairing)
 
 pub returns-in_err-post-clause-moves : goal.returns-in_err-post-clause-moves
 returns-in_err-post-clause-moves g c =
