@@ -70,7 +70,7 @@ posts_from_exists s number (nogood ∷ left) walked repairing =
     (posts_for_keeps s number nogood (undecided s.search.decisions nogood) m refl first.1 numbered repairing) in
     (rest.0, (m, first.1, rest.1))
 
-posting_exists : (s : RepairState) → IsRepairing s → (t : RepairState) × PostsAll s t
+pub posting_exists : (s : RepairState) → IsRepairing s → (t : RepairState) × PostsAll s t
 posting_exists s repairing = posts_from_exists s s.dropped s.nogoods (none_walked s) repairing
 
 -- ---- the heaviest decision
@@ -168,7 +168,7 @@ heaviest_exists weights (q ∷ decisions) names p m held = elim (any_known (λ (
 
 -- ---- room
 
-room_exists : (tabu : ℕ) (s : RepairState) → 0 < tabu → length s.nogoods ≤ tabu → IsRepairing s → (t : RepairState) × MakesRoom tabu s t
+pub room_exists : (tabu : ℕ) (s : RepairState) → 0 < tabu → length s.nogoods ≤ tabu → IsRepairing s → (t : RepairState) × MakesRoom tabu s t
 room_exists tabu s some few repairing = elim (nat_known (length s.nogoods) tabu) [
   | inr ne ↦ (s, inr (omega (arith, few, ne), refl))
   | inl e ↦
@@ -269,7 +269,7 @@ stands guided tabu pick s fits some few at = elim (turn_or_end s.search.engine a
 
 -- ---- runs
 
-settled_exists : (ordered : Bool) (s : RepairState) → IsValid s.search.engine → (t : RepairState) × RepairSettles ordered s t
+pub settled_exists : (ordered : Bool) (s : RepairState) → IsValid s.search.engine → (t : RepairState) × RepairSettles ordered s t
 settled_exists ordered s valid =
     let r = settle_exists ordered s.search valid in
     (record s { search = r.state }, record { settles = r.settles; after = refl })

@@ -6,3 +6,9 @@ pub mod Existing
 pub mod Forcing
 pub mod Refuting
 pub mod Repairing
+pub mod Choosing
+pub mod Reading
+pub mod Learning
+pub mod Taking
+pub mod Stepping
+pub mod Running

@@ -1,4 +1,7 @@
+pub mod Answers
 pub mod Kept
+pub mod Learned
 pub mod Posting
 pub mod Repair
 pub mod Sets
+pub mod Turning

@@ -1,9 +1,17 @@
-//! The run of decision-repair: nogoods, weights, and the negations that the nogoods force; and the laws on it.
+//! Decision-repair: a set of decisions that is repaired at each conflict, guided by weights and a list of nogoods; and the
+//! laws on its run.
 #![tactic(auto)]
 
+mod answer;
 pub mod bound;
+mod conflict;
 pub mod laws;
+mod learned;
+mod nogood;
+mod turns;
+mod whole;
 
+pub use answer::RepairAnswer;
 pub use bound::{repairs_are_bounded, spent_budgets_are_small, undos_differ};
 pub use laws::{
     found_values_are_a_solution, listed_nogoods_are_few, making_room_keeps_repairing,
@@ -12,3 +20,4 @@ pub use laws::{
     repairs_without_guide_and_order_are_unique, settlings_keep_repairing, turns_keep_repairing,
     turns_with_settlings_keep_repairing, users_of_no_solution_have_none,
 };
+pub use whole::repair;

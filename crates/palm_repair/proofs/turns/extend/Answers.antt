@@ -1,0 +1,47 @@
+use Rattle.std.proofs.Common.{refl, sym, ap, subst}
+use Rattle.std.specs.Prelude.{is_some}
+use Rattle.palm_engine.specs.Engine.{View}
+use Rattle.palm_search.specs.Search.GoesOn.{could_decide}
+use Rattle.palm_search.specs.Turns.{IsOpen}
+use Rattle.palm_repair.specs.Turning.Moves.{moves_none}
+use Rattle.palm_repair.proofs.Stepping.{decided_cut, decided_ready, moves_decided, moves_then, on_err}
+use Rattle.palm_repair.proofs.turns.extend.Goals as goal
+
+pub returns-in_err-only_values-clause-moves : goal.returns-in_err-only_values-clause-moves
+returns-in_err-only_values-clause-moves g c = moves_none c.args.engine.now.state refl
+
+pub returns-in_default-clause-moves : goal.returns-in_default-clause-moves
+returns-in_default-clause-moves g c = moves_none c.args.engine.now.state refl
+
+pub returns-then-is_spent-clause-ok : goal.returns-then-is_spent-clause-ok
+returns-then-is_spent-clause-ok g c = λ tabu.
+    let x = c.in-Some.field-0 in
+    let spent = c.if-is_spent.ensures in
+    ((sym spent, spent, could_decide x c.requires.filled (subst (λ d. IsOpen d x) c.store.ensures.present c.in-Some.ensures.is_open)), c.dropped.ensures, refl, refl)
+
+pub returns-then-is_spent-clause-moves : goal.returns-then-is_spent-clause-moves
+returns-then-is_spent-clause-moves g c = moves_none c.args.engine.now.state refl
+
+pub returns-in_err-decide-clause-moves : goal.returns-in_err-decide-clause-moves
+returns-in_err-decide-clause-moves g c = moves_none c.decide.new.engine.state (ap (λ (v : View). v.state) c.in_err-decide.ensures.err.0)
+
+pub post-requires-clause-repairing : goal.post-requires-clause-repairing
+post-requires-clause-repairing g c =
+    let turn = c.in_ok-decide.ensures.ok in
+    decided_ready (is_some c.args.guide.now) c.args.engine.now.state c.decide.new.engine.state c.args.search.now c.decide.new.self c.args.learned.now c.in_ok-decide.field-0 turn.0 turn.2 c.requires.at.repairing
+
+pub returns-in_err-post-clause-err : goal.returns-in_err-post-clause-err
+returns-in_err-post-clause-err g c =
+    let turn = c.in_ok-decide.ensures.ok in
+    on_err _ c.from_residual-in_err-post.result (λ tabu.
+    decided_cut (is_some c.args.guide.now) tabu c.args.engine.now.state c.decide.new.engine.state c.args.search.now c.decide.new.self c.args.learned.now c.in_ok-decide.field-0 turn.0 turn.2 c.requires.at.repairing)
+
+pub returns-in_err-post-clause-moves : goal.returns-in_err-post-clause-moves
+returns-in_err-post-clause-moves g c =
+    let m = c.decide.new.engine.state in
+    moves_then c.args.engine.now.state m c.post.new.engine.state (moves_decided c.args.engine.now.state m c.in_ok-decide.field-0 c.in_ok-decide.ensures.ok.2.takes.posts) c.post.ensures.moves
+
+pub returns-clause-moves : goal.returns-clause-moves
+returns-clause-moves g c =
+    let m = c.decide.new.engine.state in
+    moves_then c.args.engine.now.state m c.post.new.engine.state (moves_decided c.args.engine.now.state m c.in_ok-decide.field-0 c.in_ok-decide.ensures.ok.2.takes.posts) c.post.ensures.moves

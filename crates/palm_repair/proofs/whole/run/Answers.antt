@@ -1,0 +1,136 @@
+use Rattle.std.proofs.Common.{◌+◌, ◌-◌, None, Some, min, length, refl, sym, ap, ◌∙◌, subst}
+use Rattle.std.specs.Prelude.{is_some}
+use Rattle.palm_base.specs.declared.limits.TheConstants.{LAST_COUNT}
+use Rattle.palm_events.proofs.Reasons.{reasons_right}
+use Rattle.palm_engine.specs.Engine.{HasSettled, IsInterrupted}
+use Rattle.palm_repair.specs.Learned.{repair_state}
+use Rattle.palm_repair.specs.Turning.{Advances, IsCutTurn}
+use Rattle.palm_repair.proofs.Learning.{rows_length}
+use Rattle.palm_repair.proofs.Running.{begins_none, checks_then, cut_begins, filtered_has, fresh_has, interrupted_filters, interrupted_moves, later_then, run_goes_on, run_starts, settled_filters, settled_moves, settling_begins}
+use Rattle.palm_repair.proofs.Stepping.{moves_then, on_err}
+use Rattle.palm_repair.proofs.whole.run.Goals as goal
+
+pub returns-in_err-settle-clause-err : goal.returns-in_err-settle-clause-err
+returns-in_err-settle-clause-err g c =
+    let guided = is_some c.args.guide.now in
+    let ordered = is_some c.args.order.now in
+    let tabu = c.args.tabu in
+    let budget = c.args.budget in
+    let s = c.args.engine.now.state in
+    on_err _ c.from_residual.result (begins_none guided ordered tabu budget s c.args.search.now c.store-store.ensures.valid c.requires.fresh)
+
+pub returns-in_err-settle-clause-moves : goal.returns-in_err-settle-clause-moves
+returns-in_err-settle-clause-moves g c = interrupted_moves (is_some c.args.order.now) c.args.engine.now c.settle.new.self c.in_err-settle.ensures.err
+
+pub returns-in_err-settle-clause-decisions : goal.returns-in_err-settle-clause-decisions
+returns-in_err-settle-clause-decisions g c =
+    filtered_has c.args.engine.now.state c.settle.new.self.state c.args.search.now (interrupted_filters (is_some c.args.order.now) c.args.engine.now c.settle.new.self c.in_err-settle.ensures.err)
+    (fresh_has c.args.engine.now.state c.args.search.now c.store-store.ensures.valid c.requires.users c.requires.fresh)
+
+pub returns-in_err-learned-clause-err : goal.returns-in_err-learned-clause-err
+returns-in_err-learned-clause-err g c =
+    let guided = is_some c.args.guide.now in
+    let ordered = is_some c.args.order.now in
+    let tabu = c.args.tabu in
+    let budget = c.args.budget in
+    let s = c.args.engine.now.state in
+    on_err _ c.from_residual-in_err-learned.result (begins_none guided ordered tabu budget s c.args.search.now c.store-store.ensures.valid c.requires.fresh)
+
+pub returns-in_err-learned-clause-moves : goal.returns-in_err-learned-clause-moves
+returns-in_err-learned-clause-moves g c = settled_moves (is_some c.args.order.now) c.in_ok-settle.field-0 c.args.engine.now c.settle.new.self c.in_ok-settle.ensures.ok
+
+pub returns-in_err-learned-clause-decisions : goal.returns-in_err-learned-clause-decisions
+returns-in_err-learned-clause-decisions g c =
+    filtered_has c.args.engine.now.state c.settle.new.self.state c.args.search.now (settled_filters (is_some c.args.order.now) c.in_ok-settle.field-0 c.args.engine.now c.settle.new.self c.in_ok-settle.ensures.ok)
+    (fresh_has c.args.engine.now.state c.args.search.now c.store-store.ensures.valid c.requires.users c.requires.fresh)
+
+pub loop-learned-init : goal.loop-learned-init
+loop-learned-init g c =
+    let ordered = is_some c.args.order.now in
+    let s = c.args.engine.now in
+    let t = c.settle.new.self in
+    let filters = settled_filters ordered c.in_ok-settle.field-0 s t c.in_ok-settle.ensures.ok in
+    let rows = rows_length c.store.result.now t.state.initial c.store.ensures.initial in
+    let new = c.in_ok-learned.ensures s.state.initial (sym (c.variables.ensures.count ∙ rows ∙ ap length filters.initial)) in (
+      run_starts reasons_right (is_some c.args.guide.now) ordered c.args.tabu c.args.budget c.in_ok-settle.field-0 s t c.args.search.now c.in_ok-learned.learned
+          c.store-store.ensures.valid c.requires.users c.requires.fresh c.in_ok-settle.ensures.ok new,
+      refl,
+      c.settle.ensures.stays,
+      c.settle.ensures.asked.later,
+      c.settle.ensures.checks,
+    )
+
+pub returns-in_err-answer-clause-err : goal.returns-in_err-answer-clause-err
+returns-in_err-answer-clause-err g c =
+    let guided = is_some c.args.guide.now in
+    let ordered = is_some c.args.order.now in
+    let tabu = c.args.tabu in
+    let budget = c.args.budget in
+    let s = c.args.engine.now.state in
+    let m = c.loop-learned.engine.state in
+    let before = c.loop-learned.search in
+    let learned = c.loop-learned.learned in
+    let so_far = c.loop-learned.invariant in
+    let cut = subst (λ b. IsCutTurn b tabu (repair_state m before.decisions learned) before c.advance.new.search) so_far.1 c.in_err-answer.ensures.err in
+    on_err _ c.from_residual-in_err-answer.result (cut_begins guided ordered tabu budget s m before c.advance.new.search learned so_far.0 cut c.advance.ensures.within)
+
+pub returns-in_err-answer-clause-moves : goal.returns-in_err-answer-clause-moves
+returns-in_err-answer-clause-moves g c = moves_then c.args.engine.now.state c.loop-learned.engine.state c.advance.new.engine.state c.loop-learned.invariant.0.moves c.advance.ensures.moves
+
+pub loop-learned-preserved : goal.loop-learned-preserved
+loop-learned-preserved g c =
+    let guided = is_some c.args.guide.now in
+    let ordered = is_some c.args.order.now in
+    let tabu = c.args.tabu in
+    let budget = c.args.budget in
+    let s = c.args.engine.now.state in
+    let m = c.loop-learned.engine in
+    let taken = c.advance.new.engine in
+    let after = c.settle-in-loop-learned.new.self in
+    let so_far = c.loop-learned.invariant in
+    let before = repair_state m.state c.loop-learned.search.decisions c.loop-learned.learned in
+    let turn = subst (λ b. Advances b tabu budget before c.loop-learned.search (repair_state taken.state c.advance.new.search.decisions c.advance.new.learned) c.advance.new.search None) so_far.1
+    (subst (Advances (is_some c.loop-learned.guide) tabu budget before c.loop-learned.search (repair_state taken.state c.advance.new.search.decisions c.advance.new.learned) c.advance.new.search) c.in_default.is c.in_ok-answer.ensures.ok) in
+    let settle = c.settle-in-loop-learned.ensures in
+    let settled = subst (λ b. HasSettled None b c.in_ok-settle-2.field-0 taken after) so_far.2 c.in_ok-settle-2.ensures.ok in
+    let first = c.args.steps.now in
+    let now = c.loop-learned.steps in
+    let then = c.settle-in-loop-learned.new.steps in (
+      run_goes_on reasons_right guided ordered tabu budget s m.state c.loop-learned.search c.loop-learned.learned c.advance.new.learned turn.0 c.in_ok-settle-2.field-0 taken after c.advance.new.search
+          so_far.0 turn.2 c.advance.ensures.within c.advance.ensures.moves settled,
+      c.advance.ensures.stays ∙ so_far.1,
+      settle.stays ∙ so_far.2,
+      later_then first now then so_far.3 settle.asked.later,
+      checks_then c.args.engine.now.checks m.checks after.checks first now then LAST_COUNT so_far.3 settle.asked.later so_far.4
+          (settle.checks ∙ ap (λ n. min (n + (then - now)) LAST_COUNT) c.advance.ensures.counts.checks),
+    )
+
+pub returns-in_err-settle-2-clause-err : goal.returns-in_err-settle-2-clause-err
+returns-in_err-settle-2-clause-err g c =
+    let guided = is_some c.args.guide.now in
+    let ordered = is_some c.args.order.now in
+    let tabu = c.args.tabu in
+    let budget = c.args.budget in
+    let s = c.args.engine.now.state in
+    let m = c.loop-learned.engine in
+    let taken = c.advance.new.engine in
+    let after = c.settle-in-loop-learned.new.self in
+    let so_far = c.loop-learned.invariant in
+    let before = repair_state m.state c.loop-learned.search.decisions c.loop-learned.learned in
+    let turn = subst (λ b. Advances b tabu budget before c.loop-learned.search (repair_state taken.state c.advance.new.search.decisions c.advance.new.learned) c.advance.new.search None) so_far.1
+    (subst (Advances (is_some c.loop-learned.guide) tabu budget before c.loop-learned.search (repair_state taken.state c.advance.new.search.decisions c.advance.new.learned) c.advance.new.search) c.in_default.is c.in_ok-answer.ensures.ok) in
+    on_err _ c.from_residual-in_err-settle-2.result
+    (settling_begins guided ordered tabu budget s m.state c.loop-learned.search c.loop-learned.learned turn.0 (repair_state taken.state c.advance.new.search.decisions c.advance.new.learned) c.advance.new.search so_far.0 turn.2 c.advance.ensures.within)
+
+pub returns-in_err-settle-2-clause-moves : goal.returns-in_err-settle-2-clause-moves
+returns-in_err-settle-2-clause-moves g c =
+    let s = c.args.engine.now.state in
+    let taken = c.advance.new.engine in
+    let after = c.settle-in-loop-learned.new.self in
+    moves_then s taken.state after.state (moves_then s c.loop-learned.engine.state taken.state c.loop-learned.invariant.0.moves c.advance.ensures.moves) (interrupted_moves (is_some c.loop-learned.order) taken after c.in_err-settle-2.ensures.err)
+
+pub returns-in_err-settle-2-clause-decisions : goal.returns-in_err-settle-2-clause-decisions
+returns-in_err-settle-2-clause-decisions g c =
+    let taken = c.advance.new.engine in
+    let after = c.settle-in-loop-learned.new.self in
+    filtered_has taken.state after.state c.advance.new.search (interrupted_filters (is_some c.loop-learned.order) taken after c.in_err-settle-2.ensures.err) c.advance.ensures.decisions

@@ -1,0 +1,45 @@
+-- How a repair ended, and what the answer holds of the constraints that were active before it.
+use Rattle.std.specs.Prelude.{◌≡◌, ℕ, ⊤, ◌<◌, ◌⊎◌, Bool, List, Contains, length}
+use Rattle.palm_base.specs.declared.terms.Cid.{Cid}
+use Rattle.palm_model.specs.Domains.{Assignment}
+use Rattle.palm_model.specs.Closure.{IsSolution}
+use Rattle.palm_model.specs.Log.{IsActive, Named, cons_of}
+use Rattle.palm_model.specs.State.{EngineState}
+use Rattle.palm_model.specs.Trial.{listed}
+use Rattle.palm_search.specs.declared.turn.Turn.{Turn}
+use Rattle.palm_search.specs.Search.{SearchEnd}
+use Rattle.palm_search.specs.Search.SearchEnd.{Found as EndFound, NoSolution as EndNoSolution, Spent as EndSpent}
+use Rattle.palm_repair.specs.declared.answer.RepairAnswer.{RepairAnswer}
+use Rattle.palm_repair.specs.declared.answer.RepairAnswer.TheVariants.{Found, NoSolution, Spent}
+use Rattle.palm_repair.specs.Repair.{Repairs}
+use Rattle.palm_repair.specs.Sets.{most_turns}
+
+-- the end of the run that the answer tells
+abbrev pub end_of : RepairAnswer → SearchEnd
+end_of (Found values) = EndFound values
+end_of (NoSolution users) = EndNoSolution users
+end_of (Spent turns dropped) = EndSpent turns
+
+-- an answer that tells how many nogoods were dropped tells this number
+abbrev pub TellsDropped : RepairAnswer → ℕ → Type 0
+TellsDropped (Found values) number = ⊤
+TellsDropped (NoSolution users) number = ⊤
+TellsDropped (Spent turns dropped) number = dropped ≡ number
+
+-- the turns are those of a repair from s to t, which ended as the answer tells
+pub record HasRepaired (guided ordered : Bool) (tabu budget : ℕ) (s : EngineState) (turns : List Turn) (t : EngineState) (answer : RepairAnswer) : Type 0 where
+  pub dropped : ℕ
+  pub repairs : Repairs guided ordered tabu budget s turns (end_of answer) dropped t
+  pub told : TellsDropped answer dropped
+
+-- the users are active, and have no common solution
+pub record AreUnsolved (s : EngineState) (users : List Cid) : Type 0 where
+  pub active : (c : Cid) → Contains users c → IsActive s.active c
+  pub none : (a : Assignment) → IsSolution s.initial (Named s.active (Contains users)) a → ⊥
+
+-- the values satisfy all active constraints; the users have no common solution; the turns are as many as the budget
+-- allows, and a nogood was dropped or they are below the bound
+abbrev pub IsTrueOf : EngineState → ℕ → RepairAnswer → Type 0
+IsTrueOf s budget (Found values) = IsSolution s.initial (Contains (cons_of s.active)) (listed values)
+IsTrueOf s budget (NoSolution users) = AreUnsolved s users
+IsTrueOf s budget (Spent turns dropped) = (turns ≡ budget) × ((0 < dropped) ⊎ (turns < most_turns s.initial))
