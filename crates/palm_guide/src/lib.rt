@@ -1,6 +1,7 @@
 //! Objects that pick the next decision of a search.
 #![tactic(auto)]
 
+mod boxed;
 mod guide;
 mod laws;
 mod preference;
