@@ -18,12 +18,18 @@ fn one_guide(alloc: Global) -> Result<Vec<FirstGuide>, NoMemory> {
     Ok(guides)
 }
 
-/// The order of the last one, and the one that goes round.
-fn two_orders(alloc: Global) -> Result<Vec<Box<dyn Order>>, NoMemory> {
+/// Whether `run` answers the text by the replies, with these guides, and with two orders in boxes: that of the last one, and
+/// the one that goes round.
+fn answers_with_two_orders<G: Guide>(
+    alloc: Global,
+    text: &[u8],
+    replies: &str,
+    guides: Vec<G>,
+) -> Result<bool, NoMemory> {
     let mut orders: Vec<Box<dyn Order>> = Vec::new(alloc);
     orders.push(Box::new(alloc, LastOrder::new())?)?;
     orders.push(Box::new(alloc, RotateOrder::new())?)?;
-    Ok(orders)
+    answers_with(alloc, text, replies, 7, guides, orders)
 }
 
 #[test]
@@ -67,7 +73,7 @@ fn a_dropped_object_is_gone(rt: HostRuntime) -> Result<(), Fail> {
     Ok(())
 }
 
-/// The lines of a session in which three constraints wait, some lines about orders, and what the session then shows.
+/// A session in which three constraints wait, and some lines about orders come before they are filtered.
 fn waiting(alloc: Global, lines: &str) -> Result<Vec<u8>, NoMemory> {
     let mut text = Vec::new(alloc);
     text.extend_from_slice(
@@ -78,21 +84,23 @@ fn waiting(alloc: Global, lines: &str) -> Result<Vec<u8>, NoMemory> {
     Ok(text)
 }
 
-/// Whether such a session has these replies: `ok` so often, the log, and the domains, which no order changes.
-fn has_log<O: Order>(
-    alloc: Global,
-    lines: &str,
-    accepted: usize,
-    log: &str,
-    orders: Vec<O>,
-) -> Result<bool, NoMemory> {
+/// Its replies: `ok` so often, the log, and the domains, which no order changes.
+fn filtered(alloc: Global, accepted: usize, log: &str) -> Result<String, NoMemory> {
     let mut replies = String::new(alloc);
     for _ in 0..accepted {
         replies.push_str("ok\n")?;
     }
     replies.push_str(log)?;
     replies.push_str("end\nx: 1 3\ny: 1 3\nend\n")?;
-    let text = waiting(alloc, lines)?;
+    Ok(replies)
+}
+
+/// Whether such a session has this log, where one order was handed in and is chosen.
+fn has_log<O: Order>(alloc: Global, order: O, log: &str) -> Result<bool, NoMemory> {
+    let text = waiting(alloc, "order 1\n")?;
+    let replies = filtered(alloc, 8, log)?;
+    let mut orders = Vec::new(alloc);
+    orders.push(order)?;
     answers_with(alloc, &text, &replies, 7, no_guides(alloc), orders)
 }
 
@@ -111,7 +119,9 @@ fn an_order_changes_the_log_and_not_the_domains(rt: HostRuntime) -> Result<(), F
         ("order 1\ndrop order 2\n", 9, LAST),
     ];
     for (lines, accepted, log) in sessions {
-        assert!(rt; has_log(rt.alloc(), lines, accepted, log, two_orders(rt.alloc())?)?);
+        let text = waiting(rt.alloc(), lines)?;
+        let replies = filtered(rt.alloc(), accepted, log)?;
+        assert!(rt; answers_with_two_orders(rt.alloc(), &text, &replies, no_guides(rt.alloc()))?);
     }
     Ok(())
 }
@@ -162,17 +172,13 @@ impl Order for Beyond {
 
 #[test]
 fn an_order_is_told_what_ran(rt: HostRuntime) -> Result<(), Fail> {
-    let mut orders = Vec::new(rt.alloc());
-    orders.push(SecondOnce { index: 1 })?;
-    assert!(rt; has_log(rt.alloc(), "order 1\n", 8, PLAIN, orders)?);
+    assert!(rt; has_log(rt.alloc(), SecondOnce { index: 1 }, PLAIN)?);
     Ok(())
 }
 
 #[test]
 fn an_index_out_of_range_counts_as_the_first(rt: HostRuntime) -> Result<(), Fail> {
-    let mut orders = Vec::new(rt.alloc());
-    orders.push(Beyond)?;
-    assert!(rt; has_log(rt.alloc(), "order 1\n", 8, PLAIN, orders)?);
+    assert!(rt; has_log(rt.alloc(), Beyond, PLAIN)?);
     Ok(())
 }
 
@@ -183,7 +189,8 @@ struct Counted<'a> {
 
 impl Drop for Counted<'_> {
     fn drop(self) {
-        self.dropped.set(self.dropped.get().saturating_add(1));
+        let Self { dropped } = self;
+        dropped.set(dropped.get().saturating_add(1));
     }
 }
 
@@ -242,9 +249,10 @@ fn an_object_is_dropped_at_its_line(rt: HostRuntime) -> Result<(), Fail> {
     let orders = no_orders(rt.alloc());
     let status = top(rt.alloc(), &words, &mut source, &mut sink, guides, orders);
     assert_eq!(rt; status, Status::Done);
-    assert_eq!(rt; sink.seen[0], 0);
-    assert_eq!(rt; sink.seen[2], 1);
-    assert_eq!(rt; sink.seen[3], 1);
+    let [first, _, third, fourth] = sink.seen;
+    assert_eq!(rt; first, 0);
+    assert_eq!(rt; third, 1);
+    assert_eq!(rt; fourth, 1);
     assert_eq!(rt; dropped.get(), 2);
     Ok(())
 }
