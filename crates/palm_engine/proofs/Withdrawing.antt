@@ -125,15 +125,15 @@ withdraws_then s m t first then rises one two =
 
 -- ---- none at all
 
-loses_none : (log rest : List Removal) → Loses log [] rest rest
+pub loses_none : (log rest : List Removal) → Loses log [] rest rest
 loses_none log [] = none_left
 loses_none log (r ∷ rest) = is_kept r rest rest (λ some. member_nil some.cid some.among) (loses_none log rest)
 
-without_none : (active : List Active) → without_names [] active ≡ active
+pub without_none : (active : List Active) → without_names [] active ≡ active
 without_none [] = refl
 without_none (a ∷ active) = ap (λ l. a ∷ l) (without_none active)
 
-none_lost : (log : List Removal) (x : ℕ) → Contains (vars_of (lost_pairs log log)) x → ⊥
+pub none_lost : (log : List Removal) (x : ℕ) → Contains (vars_of (lost_pairs log log)) x → ⊥
 none_lost log x m = let r = var_of (lost_pairs log log) x m in let l = lost_logged log log r.0 r.1 in l.1 l.0
 
 pub withdraws_none : (f : Filtering) (active : List Active) → Rises (cids_of active) → IsKept f active → WithdrawsAll (state_of f active) [] (state_of f active)

@@ -65,7 +65,7 @@ no_decision s has x inactive m =
     let r = member_unmap (λ (p : Pair). p.var) s.decisions x m in
     inactive (record { owner = decision_of r.0; posted = has.active r.0 r.1; named = ap Decide r.2 })
 
-decided_has : (s : SearchState) (p : Pair) (engine : EngineState) → engine.active ≡ with_posted (decision_of p) s.engine.active → (IsActive s.engine.active (Decide p.var) → ⊥)
+pub decided_has : (s : SearchState) (p : Pair) (engine : EngineState) → engine.active ≡ with_posted (decision_of p) s.engine.active → (IsActive s.engine.active (Decide p.var) → ⊥)
     → HasDecisions s → HasDecisions (record { engine = engine; decisions = s.decisions ++ p ∷ [] })
 decided_has s p engine e inactive has = record {
   active = λ q m. subst (λ l. Contains l (decision_of q)) (sym e) (elim (Contains-push_cases s.decisions p q m) [
@@ -115,37 +115,44 @@ taken_others earlier later gone p ne m = elim (Contains-append_cases earlier (go
   ]
 ]
 
-undone_has : (s : SearchState) (gone : Pair) (earlier later : List Pair) (because : List Cid) (middle : List Active) (engine : EngineState) → s.decisions ≡ earlier ++ gone ∷ later
-    → middle ≡ without_names (gone_with s.engine.active (Decide gone.var)) s.engine.active → engine.active ≡ with_posted (negation_of gone because) middle
-    → (IsActive middle (Not gone) → ⊥) → IsValid s.engine → HasDecisions s → HasDecisions (record { engine = engine; decisions = earlier ++ later })
-undone_has s gone earlier later because middle engine e em ee inactive valid has =
+-- without one of its decisions, which is withdrawn, a search has the others
+pub withdrawn_has : (s : SearchState) (gone : Pair) (earlier later : List Pair) (engine : EngineState) → s.decisions ≡ earlier ++ gone ∷ later
+    → engine.active ≡ without_names (gone_with s.engine.active (Decide gone.var)) s.engine.active → IsValid s.engine → HasDecisions s → HasDecisions (record { engine = engine; decisions = earlier ++ later })
+withdrawn_has s gone earlier later engine e ee valid has =
     let vars = latest_vars s earlier later gone e has.distinct in
-    let formed = valid.formed in
     record {
       active = λ q m.
           let taken : Contains s.decisions q = subst (λ l. Contains l q) (sym e) (others_taken earlier later gone q m) in
           let other : Decide q.var ≡ Decide gone.var → ⊥ = λ f. vars.lacks (subst (λ l. Contains l gone.var) (map-append (λ (p : Pair). p.var) earlier later)
           (member_same (vars_of (earlier ++ later)) q.var gone.var (decide_same q.var gone.var f) (member_map (λ (p : Pair). p.var) (earlier ++ later) q m))) in
-          let stays = ground_stays (length s.engine.initial) s.engine.active (Decide gone.var) formed (Decide q.var) tt other in
-          let left : Contains middle (decision_of q) = subst (λ l. Contains l (decision_of q)) (sym em)
-          (member_without_names (gone_with s.engine.active (Decide gone.var)) s.engine.active (decision_of q) (has.active q taken) stays) in
-          subst (λ l. Contains l (decision_of q)) (sym ee) (member_with_posted (negation_of gone because) middle (decision_of q) inactive left);
-      taken = λ a x m named. elim (with_posted_cases (negation_of gone because) middle a (subst (λ l. Contains l a) ee m)) [
-        | inl f ↦ absurd (apart_not gone x (ap (λ (b : Active). b.cid) f ∙ named))
-        | inr k ↦
-            let old = without_names_member (gone_with s.engine.active (Decide gone.var)) s.engine.active a (subst (λ l. Contains l a) em k) in
-            let r = has.taken a x old.0 named in
-            let other : gone ≡ r.0 → ⊥ = λ f. old.1 (member_same (gone_with s.engine.active (Decide gone.var)) (Decide gone.var) a.cid
-            (ap (λ (p : Pair). Decide p.var) f ∙ sym (ap (λ (b : Active). b.cid) r.2)) (gone_itself s.engine.active (Decide gone.var))) in
-            (r.0, taken_others earlier later gone r.0 other (subst (λ l. Contains l r.0) e r.1), r.2)
-      ];
+          let stays = ground_stays (length s.engine.initial) s.engine.active (Decide gone.var) valid.formed (Decide q.var) tt other in
+          subst (λ l. Contains l (decision_of q)) (sym ee)
+          (member_without_names (gone_with s.engine.active (Decide gone.var)) s.engine.active (decision_of q) (has.active q taken) stays);
+      taken = λ a x m named.
+          let old = without_names_member (gone_with s.engine.active (Decide gone.var)) s.engine.active a (subst (λ l. Contains l a) ee m) in
+          let r = has.taken a x old.0 named in
+          let other : gone ≡ r.0 → ⊥ = λ f. old.1 (member_same (gone_with s.engine.active (Decide gone.var)) (Decide gone.var) a.cid
+          (ap (λ (p : Pair). Decide p.var) f ∙ sym (ap (λ (b : Active). b.cid) r.2)) (gone_itself s.engine.active (Decide gone.var))) in
+          (r.0, taken_others earlier later gone r.0 other (subst (λ l. Contains l r.0) e r.1), r.2);
       distinct = subst Distinct (sym (map-append (λ (p : Pair). p.var) earlier later)) vars.distinct;
     }
+
+-- a constraint that is no decision is posted, and the decisions stay
+pub posted_has : (s : SearchState) (a : Active) (engine : EngineState) → engine.active ≡ with_posted a s.engine.active → (IsActive s.engine.active a.cid → ⊥) → ((x : ℕ) → a.cid ≡ Decide x → ⊥)
+    → HasDecisions s → HasDecisions (record { engine = engine; decisions = s.decisions })
+posted_has s a engine e inactive other has = record {
+  active = λ p m. subst (λ l. Contains l (decision_of p)) (sym e) (member_with_posted a s.engine.active (decision_of p) inactive (has.active p m));
+  taken = λ b x m named. elim (with_posted_cases a s.engine.active b (subst (λ l. Contains l b) e m)) [
+    | inl f ↦ absurd (other x (ap (λ (c : Active). c.cid) f ∙ named))
+    | inr k ↦ has.taken b x k named
+  ];
+  distinct = has.distinct;
+}
 
 -- ---- turns
 
 -- a search state by its parts
-same_state : (t : SearchState) (decisions : List Pair) → t.decisions ≡ decisions → record { engine = t.engine; decisions = decisions } ≡ t
+pub same_state : (t : SearchState) (decisions : List Pair) → t.decisions ≡ decisions → record { engine = t.engine; decisions = decisions } ≡ t
 same_state t decisions e = λ i. record { engine = t.engine; decisions = sym e i }
 
 pub decides_has : (guided : Bool) (s : SearchState) (p : Pair) (pick : Pick) (t : SearchState) → Decides guided s p pick t → HasDecisions s → HasDecisions t
@@ -155,8 +162,10 @@ decides_has guided s p pick t turn has = subst HasDecisions (same_state t (s.dec
 pub undoes_has : (s : SearchState) (gone : Pair) (conflict : List Cid) (t : SearchState) → Undoes s gone conflict t → IsValid s.engine → HasDecisions s → HasDecisions t
 undoes_has s gone conflict t turn valid has =
     let latest = turn.latest in
-    subst HasDecisions (same_state t (latest.earlier ++ latest.later) latest.others)
-    (undone_has s gone latest.earlier latest.later _ turn.middle.active t.engine latest.are (ap (λ (z : EngineState). z.active) turn.withdraws.after) (ap (λ (z : EngineState). z.active) turn.posts.after) turn.posts.inactive valid has)
+    let left = latest.earlier ++ latest.later in
+    let middle = withdrawn_has s gone latest.earlier latest.later turn.middle latest.are (ap (λ (z : EngineState). z.active) turn.withdraws.after) valid has in
+    subst HasDecisions (same_state t left latest.others)
+    (posted_has (record { engine = turn.middle; decisions = left }) (negation_of gone _) t.engine (ap (λ (z : EngineState). z.active) turn.posts.after) turn.posts.inactive (λ x. apart_not gone x) middle)
 
 pub settles_has : (s t : SearchState) → t.engine.active ≡ s.engine.active → t.decisions ≡ s.decisions → HasDecisions s → HasDecisions t
 settles_has s t e f has = record {

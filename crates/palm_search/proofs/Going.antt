@@ -10,7 +10,7 @@ use Rattle.palm_base.proofs.Members.{Known, member_nil, member_here, member_ther
 use Rattle.palm_model.specs.Domains.{Domains, Has, Ascends, AllAscend, values_of}
 use Rattle.palm_model.specs.Part.{parts}
 use Rattle.palm_model.specs.Log.{Active, IsActive, log_pairs}
-use Rattle.palm_model.specs.State.{EngineState, IsValid, IsEmptyAt, AllFilled, IsGround, FitsName, IsOfForm, present, without_cid, is_user}
+use Rattle.palm_model.specs.State.{EngineState, IsValid, IsEmptyAt, AllFilled, IsGround, FitsName, IsOfForm, AreGrounds, present, without_cid, is_user}
 use Rattle.palm_model.specs.Event.{gone_with, posted, without_names, vars_of}
 use Rattle.palm_model.specs.declared.constraint.Con.{Con}
 use Rattle.palm_model.specs.declared.constraint.Con.TheVariants.{CompareConst}
@@ -32,11 +32,11 @@ use Rattle.palm_search.specs.declared.turn.Pick.TheVariants.{NoGuide, Nothing, A
 use Rattle.palm_search.specs.declared.turn.Turn.{Turn}
 use Rattle.palm_search.specs.declared.turn.Turn.TheVariants.{Decide as TurnDecide, Undo as TurnUndo}
 use Rattle.palm_search.specs.Turns.IsUnlawful.{no_variable, few_values, no_value}
-use Rattle.palm_search.specs.Turns.{SearchState, IsOpen, IsLawful, IsUnlawful, IsDefault, IsDecided, FitsGuide, HasFlatConflict, IsLatest, Takes, SettlesAfter, Follows, Turns, decision_of, negation_of, decided_vars}
+use Rattle.palm_search.specs.Turns.{SearchState, IsOpen, IsLawful, IsUnlawful, IsDefault, IsDecided, FitsGuide, HasFlatConflict, IsLatest, Decides, Undoes, Takes, SettlesAfter, Follows, Turns, decision_of, negation_of, decided_vars}
 use Rattle.palm_search.specs.Search.{SearchEnd, IsFound, GoesOn, EndsWith, SearchRun, IsPicked, begun}
 use Rattle.palm_search.specs.Search.SearchEnd.{Found, NoSolution, Spent}
 use Rattle.palm_search.specs.Search.GoesOn.{could_decide, could_undo}
-use Rattle.palm_search.specs.Kept.{HasDecisions, HasOnlyUsers, IsSearching}
+use Rattle.palm_search.specs.Kept.{HasDecisions, HasNoneNegated, HasOnlyUsers, IsSearching}
 use Rattle.palm_search.proofs.Deciding.{ground_stays, latest_vars, others_taken}
 use Rattle.palm_search.proofs.Keeping.{begins, takes_keep, settles_keep}
 use Rattle.palm_search.proofs.Leaving.{settles_still}
@@ -101,15 +101,15 @@ two_values (v ∷ w ∷ vs) ascends two =
     (v, w, member_here v (w ∷ vs), member_there v (w ∷ vs) w (member_here w vs), All-contains (λ u. v <ℤ u) (w ∷ vs) w ascends.0 (member_here w vs))
 
 -- a variable with two values has no active decision
-open_undecided : (s : SearchState) → IsSearching s → s.engine.pending ≡ [] → (x : ℕ) → IsOpen (present s.engine) x → IsActive s.engine.active (Decide x) → ⊥
-open_undecided s searching quiet x is_open is =
-    let r = searching.decisions.taken is.owner x is.posted is.named in
+pub open_undecided : (s : SearchState) → IsValid s.engine → HasDecisions s → s.engine.pending ≡ [] → (x : ℕ) → IsOpen (present s.engine) x → IsActive s.engine.active (Decide x) → ⊥
+open_undecided s valid has quiet x is_open is =
+    let r = has.taken is.owner x is.posted is.named in
     let var : r.0.var ≡ x = same r.0.var x (sym (ap (λ (a : Active). a.cid) r.2) ∙ is.named) in
-    let m = searching.decisions.active r.0 r.1 in
-    let ascends = ascends_at (present s.engine) x (ascend_without s.engine.initial (log_pairs s.engine.log) searching.valid.ascend) in
+    let m = has.active r.0 r.1 in
+    let ascends = ascends_at (present s.engine) x (ascend_without s.engine.initial (log_pairs s.engine.log) valid.ascend) in
     let two = two_values (values_of (present s.engine) x) ascends is_open.two in
-    let a = quiet_decided s.engine searching.valid quiet r.0 m two.0 (subst (λ y. Has (present s.engine) y two.0) (sym var) two.2) in
-    let b = quiet_decided s.engine searching.valid quiet r.0 m two.1 (subst (λ y. Has (present s.engine) y two.1) (sym var) two.3) in
+    let a = quiet_decided s.engine valid quiet r.0 m two.0 (subst (λ y. Has (present s.engine) y two.0) (sym var) two.2) in
+    let b = quiet_decided s.engine valid quiet r.0 m two.1 (subst (λ y. Has (present s.engine) y two.1) (sym var) two.3) in
     let lt = two.4 in
     omega (arith, ints, lt, a, b)
   where
@@ -185,17 +185,13 @@ decided_exists d NoGuide p default = (p, default)
 decided_exists d Nothing p default = (p, default)
 decided_exists d (Asked q) p default = elim (lawful_or_not d q) [ inl l ↦ (q, inl (l, refl)) | inr n ↦ (p, inr (n, default)) ]
 
-decided_lawful : (d : Domains) (pick : Pick) (p : Pair) → IsDecided d pick p → IsLawful d p
+pub decided_lawful : (d : Domains) (pick : Pick) (p : Pair) → IsDecided d pick p → IsLawful d p
 decided_lawful d NoGuide p decided = record { is_open = decided.is_open; has = decided.has }
 decided_lawful d Nothing p decided = record { is_open = decided.is_open; has = decided.has }
 decided_lawful d (Asked q) p decided = elim decided [
   | inl r ↦ subst (λ z. IsLawful d z) (sym r.1) r.0
   | inr r ↦ record { is_open = r.1.is_open; has = r.1.has }
 ]
-
--- no decided pair has an active negation
-abbrev pub HasNoneNegated : SearchState → Type 0
-HasNoneNegated s = (p : Pair) → Contains s.decisions p → IsActive s.engine.active (Not p) → ⊥
 
 -- a decision was taken after the pick
 abbrev pub IsPickedBy : Pick → Turn → Type 0
@@ -226,6 +222,17 @@ record TakesSome (guided : Bool) (pick : Pick) (s : SearchState) : Type 0 where
 not_decided : (x : ℕ) (p : Pair) → Decide x ≡ Not p → ⊥
 not_decided x p e = cc
 
+-- a decision in a quiet state keeps the decided pairs from being negated
+pub decides_unnegated : (guided : Bool) (s : SearchState) (p : Pair) (pick : Pick) (t : SearchState) → Decides guided s p pick t → IsValid s.engine → s.engine.pending ≡ [] → HasNoneNegated s → HasNoneNegated t
+decides_unnegated guided s p pick t turn valid quiet none q m is =
+    elim (with_posted_cases (decision_of p) s.engine.active is.owner (subst (λ (z : EngineState). Contains z.active is.owner) turn.posts.after is.posted)) [
+      | inl e ↦ not_decided p.var q (ap (λ (a : Active). a.cid) e ∙ is.named)
+      | inr k ↦ elim (Contains-push_cases s.decisions p q (subst (λ l. Contains l q) turn.decisions m)) [
+        | inl j ↦ none q j (record { owner = is.owner; posted = k; named = is.named })
+        | inr e ↦ quiet_negated s.engine valid quiet p (decided_lawful (present s.engine) pick p turn.decided).has (record { owner = is.owner; posted = k; named = is.named ∙ ap Not (sym e) })
+      ]
+    ]
+
 decide_exists : (guided : Bool) (pick : Pick) (s : SearchState) → FitsGuide guided pick → IsSearching s → HasNoneNegated s → s.engine.pending ≡ [] → AllFilled (present s.engine)
     → (x : ℕ) → IsOpen (present s.engine) x → ((y : ℕ) → IsOpen (present s.engine) y → x ≤ y) → TakesSome guided pick s
 decide_exists guided pick s fits searching none quiet filled x is_open lowest =
@@ -236,33 +243,23 @@ decide_exists guided pick s fits searching none quiet filled x is_open lowest =
     let p = choice.0 in
     let lawful = decided_lawful d pick p choice.1 in
     let exists : p.var < length s.engine.initial = subst (λ n. p.var < n) (length_without s.engine.initial (log_pairs s.engine.log)) lawful.is_open.exists in
-    record {
-      turn = TurnDecide p pick;
-      state = record { engine = posted s.engine (decision_of p); decisions = s.decisions ++ p ∷ [] };
-      takes = record {
-        filled = filled;
-        fits = fits;
-        decided = choice.1;
-        posts = record {
-          inactive = open_undecided s searching quiet p.var lawful.is_open;
-          formed = record { form = (p.value, refl, exists, refl) };
-          after = refl;
-        };
-        decisions = refl;
+    let t : SearchState = record { engine = posted s.engine (decision_of p); decisions = s.decisions ++ p ∷ [] } in
+    let decides : Decides guided s p pick t = record {
+      filled = filled;
+      fits = fits;
+      decided = choice.1;
+      posts = record {
+        inactive = open_undecided s searching.valid searching.decisions quiet p.var lawful.is_open;
+        formed = record { form = (p.value, refl, exists, refl) };
+        after = refl;
       };
-      none_negated = λ q m is. elim (with_posted_cases (decision_of p) s.engine.active is.owner is.posted) [
-        | inl e ↦ not_decided p.var q (ap (λ (a : Active). a.cid) e ∙ is.named)
-        | inr k ↦ elim (Contains-push_cases s.decisions p q m) [
-          | inl j ↦ none q j (record { owner = is.owner; posted = k; named = is.named })
-          | inr e ↦ quiet_negated s.engine searching.valid quiet p lawful.has (record { owner = is.owner; posted = k; named = is.named ∙ ap Not (sym e) })
-        ]
-      ];
-      picked = refl;
-    }
+      decisions = refl;
+    } in
+    record { turn = TurnDecide p pick; state = t; takes = decides; none_negated = decides_unnegated guided s p pick t decides searching.valid quiet none; picked = refl }
 
 -- ---- an undoing
 
-vars_member : (names : List Cid) (x : ℕ) → Contains (decided_vars names) x → Contains names (Decide x)
+pub vars_member : (names : List Cid) (x : ℕ) → Contains (decided_vars names) x → Contains names (Decide x)
 vars_member [] x m = absurd (member_nil x m)
 vars_member (Decide y ∷ names) x m = elim (member_cases y (decided_vars names) x m) [
   | inl e ↦ member_same (Decide y ∷ names) (Decide y) (Decide x) (ap Decide e) (member_here (Decide y) names)
@@ -326,6 +323,43 @@ others_apart s has names gone left latest p m e =
     (member_same (vars_of (latest.earlier ++ latest.later)) p.var gone.var (sym (ap (λ (q : Pair). q.var) e))
     (member_map (λ (q : Pair). q.var) (latest.earlier ++ latest.later) p (subst (λ l. Contains l p) latest.others m))))
 
+-- a negation that is active after the withdrawal was so before it
+pub negation_before : (s : SearchState) (gone : Pair) (middle : EngineState) → middle.active ≡ without_names (gone_with s.engine.active (Decide gone.var)) s.engine.active → (p : Pair) → IsActive middle.active (Not p) → IsActive s.engine.active (Not p)
+negation_before s gone middle same p is = record {
+  owner = is.owner;
+  posted = (without_names_member (gone_with s.engine.active (Decide gone.var)) s.engine.active is.owner (subst (λ l. Contains l is.owner) same is.posted)).0;
+  named = is.named;
+}
+
+-- the rest of the flat conflict is active after the withdrawal
+pub rest_grounds : (s : SearchState) → IsValid s.engine → (gone : Pair) (conflict : List Cid) → HasFlatConflict s.engine conflict → (middle : EngineState) → middle.active ≡ without_names (gone_with s.engine.active (Decide gone.var)) s.engine.active
+    → AreGrounds middle.active (without_cid (Decide gone.var) conflict)
+rest_grounds s valid gone conflict flat middle same c m =
+    let r = without_cid_member (Decide gone.var) conflict c m in
+    let g = flat_grounds s.engine valid flat.var c (flat.is.sound c r.0) in
+    let stays = ground_stays (length s.engine.initial) s.engine.active (Decide gone.var) valid.formed c g.0 r.1 in
+    let o = g.1 in (
+      g.0,
+      record {
+        owner = o.owner;
+        posted = subst (λ l. Contains l o.owner) (sym same) (member_without_names (gone_with s.engine.active (Decide gone.var)) s.engine.active o.owner o.posted (λ k. stays (member_same (gone_with s.engine.active (Decide gone.var)) o.owner.cid c o.named k)));
+        named = o.named;
+      },
+    )
+
+-- an undoing negates a pair that is decided no longer
+pub undoes_unnegated : (s : SearchState) (gone : Pair) (conflict : List Cid) (t : SearchState) → Undoes s gone conflict t → HasDecisions s → HasNoneNegated s → HasNoneNegated t
+undoes_unnegated s gone conflict t turn has none p m is =
+    let because = without_cid (Decide gone.var) conflict in
+    let same : turn.middle.active ≡ without_names (gone_with s.engine.active (Decide gone.var)) s.engine.active = ap (λ (z : EngineState). z.active) turn.withdraws.after in
+    elim (with_posted_cases (negation_of gone because) turn.middle.active is.owner (subst (λ (z : EngineState). Contains z.active is.owner) turn.posts.after is.posted)) [
+      | inl e ↦ others_apart s has conflict gone t.decisions turn.latest p m (same_negated gone p (ap (λ (a : Active). a.cid) e ∙ is.named))
+      | inr k ↦ none p (others_decided s.decisions conflict gone t.decisions turn.latest p m) (negation_before s gone turn.middle same p (record { owner = is.owner; posted = k; named = is.named }))
+    ]
+  where
+    same_negated : (q p : Pair) → Not q ≡ Not p → q ≡ p
+    same_negated q p e = cc
+
 undo_exists : (guided : Bool) (pick : Pick) (s : SearchState) → IsSearching s → HasNoneNegated s → (conflict : List Cid) (x : ℕ) → HasFlatConflict s.engine conflict → Contains conflict (Decide x) → TakesSome guided pick s
 undo_exists guided pick s searching none conflict x flat held =
     let valid = searching.valid in
@@ -340,61 +374,28 @@ undo_exists guided pick s searching none conflict x flat held =
     let same : middle.active ≡ without_names (gone_with s.engine.active (Decide gone.var)) s.engine.active = ap (λ (z : EngineState). z.active) w.1.after in
     let initial : middle.initial ≡ s.engine.initial = ap (λ (z : EngineState). z.initial) w.1.after in
     let because = without_cid (Decide gone.var) conflict in
-    let before = λ (p : Pair) (is : IsActive middle.active (Not p)). was_active s gone middle same p is in
-    record {
-      turn = TurnUndo gone conflict;
-      state = record { engine = posted middle (negation_of gone because); decisions = found.left };
-      takes = record {
-        flat = flat;
-        latest = found.latest;
-        middle = middle;
-        withdraws = w.1;
-        posts = record {
-          inactive = λ is. none gone in_decisions (before gone is);
-          formed = record {
-            form = (
-              refl,
-              subst (λ d. gone.var < length d) (sym initial) (decided_form (length s.engine.initial) s.engine.active gone (valid.formed (decision_of gone) (searching.decisions.active gone in_decisions))),
-              λ c m. rest_grounds s valid gone conflict flat middle same c m,
-            );
-          };
-          after = refl;
+    let t : SearchState = record { engine = posted middle (negation_of gone because); decisions = found.left } in
+    let undoes : Undoes s gone conflict t = record {
+      flat = flat;
+      latest = found.latest;
+      middle = middle;
+      withdraws = w.1;
+      posts = record {
+        inactive = λ is. none gone in_decisions (negation_before s gone middle same gone is);
+        formed = record {
+          form = (
+            refl,
+            subst (λ d. gone.var < length d) (sym initial) (decided_form (length s.engine.initial) s.engine.active gone (valid.formed (decision_of gone) (searching.decisions.active gone in_decisions))),
+            rest_grounds s valid gone conflict flat middle same,
+          );
         };
+        after = refl;
       };
-      none_negated = λ p m is. elim (with_posted_cases (negation_of gone because) middle.active is.owner is.posted) [
-        | inl e ↦ others_apart s searching.decisions conflict gone found.left found.latest p m (same_negated gone p (ap (λ (a : Active). a.cid) e ∙ is.named))
-        | inr k ↦ none p (others_decided s.decisions conflict gone found.left found.latest p m) (before p (record { owner = is.owner; posted = k; named = is.named }))
-      ];
-      picked = tt;
-    }
+    } in
+    record { turn = TurnUndo gone conflict; state = t; takes = undoes; none_negated = undoes_unnegated s gone conflict t undoes searching.decisions none; picked = tt }
   where
     gone_taken : (earlier later : List Pair) (gone : Pair) → Contains (earlier ++ gone ∷ later) gone
     gone_taken earlier later gone = Contains-append_right earlier (gone ∷ later) gone (member_here gone later)
-
-    same_negated : (q p : Pair) → Not q ≡ Not p → q ≡ p
-    same_negated q p e = cc
-
-    was_active : (s : SearchState) (gone : Pair) (middle : EngineState) → middle.active ≡ without_names (gone_with s.engine.active (Decide gone.var)) s.engine.active → (p : Pair) → IsActive middle.active (Not p) → IsActive s.engine.active (Not p)
-    was_active s gone middle same p is = record {
-      owner = is.owner;
-      posted = (without_names_member (gone_with s.engine.active (Decide gone.var)) s.engine.active is.owner (subst (λ l. Contains l is.owner) same is.posted)).0;
-      named = is.named;
-    }
-
-    rest_grounds : (s : SearchState) → IsValid s.engine → (gone : Pair) (conflict : List Cid) → HasFlatConflict s.engine conflict → (middle : EngineState) → middle.active ≡ without_names (gone_with s.engine.active (Decide gone.var)) s.engine.active
-        → (c : Cid) → Contains (without_cid (Decide gone.var) conflict) c → IsGround c × IsActive middle.active c
-    rest_grounds s valid gone conflict flat middle same c m =
-        let r = without_cid_member (Decide gone.var) conflict c m in
-        let g = flat_grounds s.engine valid flat.var c (flat.is.sound c r.0) in
-        let stays = ground_stays (length s.engine.initial) s.engine.active (Decide gone.var) valid.formed c g.0 r.1 in
-        let o = g.1 in (
-          g.0,
-          record {
-            owner = o.owner;
-            posted = subst (λ l. Contains l o.owner) (sym same) (member_without_names (gone_with s.engine.active (Decide gone.var)) s.engine.active o.owner o.posted (λ k. stays (member_same (gone_with s.engine.active (Decide gone.var)) o.owner.cid c o.named k)));
-            named = o.named;
-          },
-        )
 
 -- ---- ends
 

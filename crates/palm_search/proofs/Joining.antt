@@ -5,19 +5,19 @@ use Rattle.palm_base.specs.declared.terms.Pair.{Pair}
 use Rattle.palm_base.specs.declared.terms.Cid.{Cid}
 use Rattle.palm_base.specs.declared.terms.Cid.TheVariants.{Decide, Not}
 use Rattle.palm_model.specs.Domains.{Domains, Has}
-use Rattle.palm_model.specs.Constraint.{Distinct}
 use Rattle.palm_model.specs.Trial.{value_count}
 use Rattle.palm_model.specs.Log.{Active}
 use Rattle.palm_model.specs.State.{EngineState, is_user}
-use Rattle.palm_model.specs.Event.{Posts, with_posted, vars_of}
+use Rattle.palm_model.specs.Event.{Posts, with_posted}
 use Rattle.palm_model.specs.Event.Event.{Post}
 use Rattle.palm_model.specs.Event.Step.{Happens}
-use Rattle.palm_events.proofs.States.{with_posted_cases, member_with_posted}
+use Rattle.palm_events.proofs.States.{with_posted_cases}
 use Rattle.palm_events.proofs.Valid.{posts_valid}
 use Rattle.palm_events.proofs.Conflicts.{step_justified}
-use Rattle.palm_search.specs.Turns.{SearchState, decision_of}
+use Rattle.palm_search.specs.Turns.{SearchState}
 use Rattle.palm_search.specs.Kept.{HasDecisions, HasDeclared, IsSearching}
 use Rattle.palm_search.specs.Measure.{negations_within, weighed, measure}
+use Rattle.palm_search.proofs.Deciding.{posted_has, same_state}
 use Rattle.palm_search.proofs.Measuring.{held, count_posted, weighed_is}
 use Rattle.palm_search.proofs.Weighing.{weighed_more}
 
@@ -28,15 +28,8 @@ user_no_negation : (c : Cid) (p : Pair) → is_user c ≡ true → c ≡ Not p �
 user_no_negation c p t e = false≢true (subst (λ d. is_user d ≡ true) e t)
 
 joined_decisions : (s : SearchState) (a : Active) (t : SearchState) → is_user a.cid ≡ true → Posts s.engine a t.engine → t.decisions ≡ s.decisions → HasDecisions s → HasDecisions t
-joined_decisions s a t user posts same has = record {
-  active = λ p m. subst (λ (z : EngineState). Contains z.active (decision_of p)) (sym posts.after)
-      (member_with_posted a s.engine.active (decision_of p) posts.inactive (has.active p (subst (λ l. Contains l p) same m)));
-  taken = λ b x m named. elim (with_posted_cases a s.engine.active b (subst (λ (z : EngineState). Contains z.active b) posts.after m)) [
-    | inl e ↦ absurd (user_no_decision a.cid x user (ap (λ (c : Active). c.cid) e ∙ named))
-    | inr k ↦ let r = has.taken b x k named in (r.0, subst (λ l. Contains l r.0) (sym same) r.1, r.2)
-  ];
-  distinct = subst (λ l. Distinct (vars_of l)) (sym same) has.distinct;
-}
+joined_decisions s a t user posts same has =
+    subst HasDecisions (same_state t s.decisions same) (posted_has s a t.engine (ap (λ (z : EngineState). z.active) posts.after) posts.inactive (λ x. user_no_decision a.cid x user) has)
 
 joined_declared : (s : SearchState) (a : Active) (t : SearchState) → is_user a.cid ≡ true → Posts s.engine a t.engine → t.decisions ≡ s.decisions → HasDeclared s → HasDeclared t
 joined_declared s a t user posts same declared =

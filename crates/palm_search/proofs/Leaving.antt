@@ -3,6 +3,7 @@ use Rattle.std.proofs.Common.{◌≡◌, ℕ, ◌<◌, Bool, true, false, not, N
 use Rattle.std.proofs.lemmas.Bool.{cases_Bool, false≢true, not-true}
 use Rattle.std.proofs.lemmas.List.Elements.{All-contains}
 use Rattle.palm_base.specs.declared.terms.Cid.{Cid}
+use Rattle.palm_base.specs.declared.terms.Pair.{Pair}
 use Rattle.palm_base.specs.declared.terms.Cid.TheVariants.{Decide, Not, User}
 use Rattle.palm_base.proofs.Members.{member_map, member_unmap, member_filter, filter_member}
 use Rattle.palm_model.specs.Domains.{Assignment, Has}
@@ -23,7 +24,7 @@ use Rattle.palm_engine.specs.Settling.{Filters}
 use Rattle.palm_engine.proofs.Settled.{settling_filters, filters_valid, settling_still}
 use Rattle.palm_search.specs.declared.turn.Turn.{Turn}
 use Rattle.palm_search.specs.declared.turn.Turn.TheVariants.{Decide as TurnDecide, Undo as TurnUndo}
-use Rattle.palm_search.specs.Turns.{SearchState, Takes, SettlesAfter, Turns, decision_of, negation_of}
+use Rattle.palm_search.specs.Turns.{SearchState, Takes, Undoes, SettlesAfter, Turns, decision_of, negation_of}
 use Rattle.palm_search.specs.Search.{SearchEnd, SearchRun, Closes, Searches, HasNoSolution, IsFound, begun, search_cids}
 use Rattle.palm_search.specs.Kept.{HasOnlyUsers, IsSearching, Rests}
 use Rattle.palm_search.proofs.Deciding.{ground_stays}
@@ -38,7 +39,7 @@ pub record Searched (s m : EngineState) : Type 0 where
   pub later : (a : Active) → Contains m.active a → IsActive s.active a.cid ⊎ (is_user a.cid ≡ false)
 
 -- what is no user's is later than a state with users alone
-searcher_later : (s : EngineState) → HasOnlyUsers s → (c : Cid) → is_user c ≡ false → IsNew s c
+pub searcher_later : (s : EngineState) → HasOnlyUsers s → (c : Cid) → is_user c ≡ false → IsNew s c
 searcher_later s users c f is = false≢true (sym f ∙ subst (λ d. is_user d ≡ true) is.named (users is.owner is.posted))
 
 pub searched_none : (s : EngineState) → IsValid s → Searched s s
@@ -55,7 +56,7 @@ searched_posted s m a t f posts searched = record {
   ];
 }
 
-searched_withdrawn : (s m : EngineState) (gone : List Cid) (t : EngineState) → KeepsGrounds m.active gone → AreNew s gone → WithdrawsAll m gone t → IsValid s → Searched s m → Searched s t
+pub searched_withdrawn : (s m : EngineState) (gone : List Cid) (t : EngineState) → KeepsGrounds m.active gone → AreNew s gone → WithdrawsAll m gone t → IsValid s → Searched s m → Searched s t
 searched_withdrawn s m gone t keeps later withdraws valid searched = record {
   valid = withdraws_all_valid m t gone keeps withdraws searched.valid;
   carries = carries_withdrawn s m gone t withdraws later valid searched.valid searched.carries;
@@ -63,7 +64,7 @@ searched_withdrawn s m gone t keeps later withdraws valid searched = record {
   later = λ b k. searched.later b (without_names_member gone m.active b (subst (λ (z : EngineState). Contains z.active b) withdraws.after k)).0;
 }
 
-searched_filtered : ReasonsAreRight → (s m t : EngineState) → Filters m t → IsValid s → IsStill s → Searched s m → Searched s t
+pub searched_filtered : ReasonsAreRight → (s m t : EngineState) → Filters m t → IsValid s → IsStill s → Searched s m → Searched s t
 searched_filtered right s m t filters valid still searched = record {
   valid = filters_valid right m t filters searched.valid;
   carries = run_carries right s m filters.steps t filters.run valid still searched.valid (withdraws_none s filters.steps filters.filtering) searched.carries;
@@ -76,14 +77,18 @@ searched_filtered right s m t filters valid still searched = record {
 
 -- ---- turns
 
-searched_takes : (guided : Bool) (s : EngineState) (m : SearchState) (turn : Turn) (t : SearchState) → HasOnlyUsers s → IsValid s → Takes guided m turn t → Searched s m.engine → Searched s t.engine
-searched_takes guided s m (TurnDecide pair pick) t users valid takes searched = searched_posted s m.engine (decision_of pair) t.engine refl takes.posts searched
-searched_takes guided s m (TurnUndo gone conflict) t users valid takes searched =
+-- in an undoing, before the negation is posted
+pub searched_undone : (s : EngineState) (m : SearchState) (gone : Pair) (conflict : List Cid) (t : SearchState) (undoes : Undoes m gone conflict t) → HasOnlyUsers s → IsValid s → Searched s m.engine → Searched s undoes.middle
+searched_undone s m gone conflict t undoes users valid searched =
     let cid : Cid = Decide gone.var in
     let later = searcher_later s users cid refl in
-    let middle : Searched s takes.middle = searched_withdrawn s m.engine (gone_with m.engine.active cid) takes.middle
-    (gone_grounds (length m.engine.initial) m.engine.active cid searched.valid.formed) (gone_later s m.engine cid searched.carries valid searched.valid later) takes.withdraws valid searched in
-    searched_posted s takes.middle (negation_of gone _) t.engine refl takes.posts middle
+    searched_withdrawn s m.engine (gone_with m.engine.active cid) undoes.middle
+    (gone_grounds (length m.engine.initial) m.engine.active cid searched.valid.formed) (gone_later s m.engine cid searched.carries valid searched.valid later) undoes.withdraws valid searched
+
+pub searched_takes : (guided : Bool) (s : EngineState) (m : SearchState) (turn : Turn) (t : SearchState) → HasOnlyUsers s → IsValid s → Takes guided m turn t → Searched s m.engine → Searched s t.engine
+searched_takes guided s m (TurnDecide pair pick) t users valid takes searched = searched_posted s m.engine (decision_of pair) t.engine refl takes.posts searched
+searched_takes guided s m (TurnUndo gone conflict) t users valid takes searched =
+    searched_posted s takes.middle (negation_of gone _) t.engine refl takes.posts (searched_undone s m gone conflict t takes users valid searched)
 
 searched_settles : ReasonsAreRight → (ordered : Bool) (s : EngineState) (m t : SearchState) → SettlesAfter ordered m t → IsValid s → IsStill s → Searched s m.engine → Searched s t.engine
 searched_settles right ordered s m t settles valid still searched =
@@ -99,19 +104,19 @@ searched_turns right guided ordered s m (turn ∷ turns) t users valid still run
 -- ---- closing
 
 -- the decisions and negations among the active constraints
-search_member : (active : List Active) (c : Cid) → Contains (search_cids active) c → is_user c ≡ false
+pub search_member : (active : List Active) (c : Cid) → Contains (search_cids active) c → is_user c ≡ false
 search_member active c m =
     let r = member_unmap (λ (a : Active). a.cid) (filter (λ a. not (is_user a.cid)) active) c m in
     let f = filter_member (λ (a : Active). not (is_user a.cid)) active r.0 r.1 in
     subst (λ d. is_user d ≡ false) r.2 (not-true (is_user r.0.cid) f.1)
 
-stays_user : (active : List Active) (a : Active) → Contains active a → (Contains (search_cids active) a.cid → ⊥) → is_user a.cid ≡ true
+pub stays_user : (active : List Active) (a : Active) → Contains active a → (Contains (search_cids active) a.cid → ⊥) → is_user a.cid ≡ true
 stays_user active a m n = elim (cases_Bool (is_user a.cid)) [
   | inl t ↦ t
   | inr f ↦ absurd (n (member_map (λ (b : Active). b.cid) (filter (λ b. not (is_user b.cid)) active) a (member_filter (λ (b : Active). not (is_user b.cid)) active a m (ap not f))))
 ]
 
-user_ground : (c : Cid) → is_user c ≡ true → IsGround c
+pub user_ground : (c : Cid) → is_user c ≡ true → IsGround c
 user_ground (Decide x) t = tt
 user_ground (Not p) t = false≢true t
 user_ground (User n) t = tt
@@ -129,20 +134,27 @@ closed_alone s m t withdraws searched a k =
       | inr f ↦ absurd (false≢true (sym f ∙ stays_user m.active a r.0 r.1))
     ]
 
-pub closing_leaves : ReasonsAreRight → (ordered : Bool) (s m t : EngineState) → HasOnlyUsers s → IsValid s → IsStill s → Searched s m → Closes ordered m t → t.log ≡ s.log
-closing_leaves right ordered s m t users valid still searched closes =
-    let closed = searched_withdrawn s m (search_cids m.active) closes.middle (closing_keeps m searched.valid)
-    (λ c k. searcher_later s users c (search_member m.active c k)) closes.withdraws valid searched in
-    let filters = settling_filters None closes.middle closes.revisions t closes.settles in
-    let last = searched_filtered right s closes.middle t filters valid still closed in
-    carried_log s t last.valid last.carries (λ a k. closed_alone s m closes.middle closes.withdraws searched a (subst (λ l. Contains l a) filters.active k))
+-- the decisions and negations of m go, and filtering may follow: the log is the one from before
+pub closing_leaves : ReasonsAreRight → (s m n t : EngineState) → HasOnlyUsers s → IsValid s → IsStill s → Searched s m → WithdrawsAll m (search_cids m.active) n → Filters n t → t.log ≡ s.log
+closing_leaves right s m n t users valid still searched withdraws filters =
+    let closed = searched_withdrawn s m (search_cids m.active) n (closing_keeps m searched.valid)
+    (λ c k. searcher_later s users c (search_member m.active c k)) withdraws valid searched in
+    let last = searched_filtered right s n t filters valid still closed in
+    carried_log s t last.valid last.carries (λ a k. closed_alone s m n withdraws searched a (subst (λ l. Contains l a) filters.active k))
+
+-- a settling and turns lead from s to m
+pub turned_searched : ReasonsAreRight → (guided ordered : Bool) (s : EngineState) (start : SearchState) (turns : List Turn) (m : SearchState) → HasOnlyUsers s → IsValid s → IsStill s
+    → SettlesAfter ordered (begun s) start → Turns guided ordered start turns m → Searched s m.engine
+turned_searched right guided ordered s start turns m users valid still settles taken =
+    searched_turns right guided ordered s start turns m users valid still taken (searched_settles right ordered s (begun s) start settles valid still (searched_none s valid))
 
 pub search_leaves : ReasonsAreRight → (guided ordered : Bool) (budget : ℕ) (s : EngineState) (turns : List Turn) (end : SearchEnd) (t : EngineState) → HasOnlyUsers s → IsValid s → IsStill s → Searches guided ordered budget s turns end t → t.log ≡ s.log
 search_leaves right guided ordered budget s turns end t users valid still searches =
     let run = searches.run in
-    let start = searched_settles right ordered s (begun s) run.start run.settles valid still (searched_none s valid) in
-    let last = searched_turns right guided ordered s run.start turns searches.last users valid still run.taken start in
-    closing_leaves right ordered s searches.last.engine t users valid still last searches.closes
+    let closes = searches.closes in
+    closing_leaves right s searches.last.engine closes.middle t users valid still
+    (turned_searched right guided ordered s run.start turns searches.last users valid still run.settles run.taken)
+    closes.withdraws (settling_filters None closes.middle closes.revisions t closes.settles)
 
 -- ---- whole searches
 
@@ -159,6 +171,9 @@ pub record Remembers (s m : EngineState) : Type 0 where
   pub active : (a : Active) → Contains s.active a → Contains m.active a
   pub users : (a : Active) → Contains m.active a → is_user a.cid ≡ true → IsActive s.active a.cid
 
+pub remembers_none : (s : EngineState) → Remembers s s
+remembers_none s = record { initial = refl; active = λ a m. m; users = λ a m user. record { owner = a; posted = m; named = refl } }
+
 remembers_posted : (s m : EngineState) (a : Active) (t : EngineState) → is_user a.cid ≡ false → Posts m a t → Remembers s m → Remembers s t
 remembers_posted s m a t f posts old = record {
   initial = ap (λ (z : EngineState). z.initial) posts.after ∙ old.initial;
@@ -169,7 +184,7 @@ remembers_posted s m a t f posts old = record {
   ];
 }
 
-remembers_withdrawn : (s m : EngineState) (gone : List Cid) (t : EngineState) → AreNew s gone → WithdrawsAll m gone t → Remembers s m → Remembers s t
+pub remembers_withdrawn : (s m : EngineState) (gone : List Cid) (t : EngineState) → AreNew s gone → WithdrawsAll m gone t → Remembers s m → Remembers s t
 remembers_withdrawn s m gone t later withdraws old = record {
   initial = ap (λ (z : EngineState). z.initial) withdraws.after ∙ old.initial;
   active = λ b k. subst (λ (z : EngineState). Contains z.active b) (sym withdraws.after)
@@ -177,7 +192,7 @@ remembers_withdrawn s m gone t later withdraws old = record {
   users = λ b k user. old.users b (without_names_member gone m.active b (subst (λ (z : EngineState). Contains z.active b) withdraws.after k)).0 user;
 }
 
-remembers_filtered : (s m t : EngineState) → Filters m t → Remembers s m → Remembers s t
+pub remembers_filtered : (s m t : EngineState) → Filters m t → Remembers s m → Remembers s t
 remembers_filtered s m t filters old = record {
   initial = filters.initial ∙ old.initial;
   active = λ b k. subst (λ l. Contains l b) (sym filters.active) (old.active b k);
@@ -185,21 +200,24 @@ remembers_filtered s m t filters old = record {
 }
 
 -- what goes with a decision is no user
-gone_no_user : (n : ℕ) (active : List Active) (x : ℕ) → ((a : Active) → Contains active a → FitsName n active a) → (c : Cid) → Contains (gone_with active (Decide x)) c → is_user c ≡ true → ⊥
+pub gone_no_user : (n : ℕ) (active : List Active) (x : ℕ) → ((a : Active) → Contains active a → FitsName n active a) → (c : Cid) → Contains (gone_with active (Decide x)) c → is_user c ≡ true → ⊥
 gone_no_user n active x formed c m user = ground_stays n active (Decide x) formed c (user_ground c user) (not_decision c x user) m
   where
     not_decision : (c : Cid) (x : ℕ) → is_user c ≡ true → c ≡ Decide x → ⊥
     not_decision c x user e = false≢true (subst (λ d. is_user d ≡ true) e user)
 
-users_later : (s : EngineState) → HasOnlyUsers s → (gone : List Cid) → ((c : Cid) → Contains gone c → is_user c ≡ true → ⊥) → AreNew s gone
+pub users_later : (s : EngineState) → HasOnlyUsers s → (gone : List Cid) → ((c : Cid) → Contains gone c → is_user c ≡ true → ⊥) → AreNew s gone
 users_later s users gone none c m is = none c m (subst (λ d. is_user d ≡ true) is.named (users is.owner is.posted))
 
-remembers_takes : (guided : Bool) (s : EngineState) (m : SearchState) (turn : Turn) (t : SearchState) → HasOnlyUsers s → IsValid m.engine → Takes guided m turn t → Remembers s m.engine → Remembers s t.engine
+pub remembers_undone : (s : EngineState) (m : SearchState) (gone : Pair) (conflict : List Cid) (t : SearchState) (undoes : Undoes m gone conflict t) → HasOnlyUsers s → IsValid m.engine → Remembers s m.engine → Remembers s undoes.middle
+remembers_undone s m gone conflict t undoes users valid old =
+    let names = gone_with m.engine.active (Decide gone.var) in
+    remembers_withdrawn s m.engine names undoes.middle (users_later s users names (gone_no_user (length m.engine.initial) m.engine.active gone.var valid.formed)) undoes.withdraws old
+
+pub remembers_takes : (guided : Bool) (s : EngineState) (m : SearchState) (turn : Turn) (t : SearchState) → HasOnlyUsers s → IsValid m.engine → Takes guided m turn t → Remembers s m.engine → Remembers s t.engine
 remembers_takes guided s m (TurnDecide pair pick) t users valid takes old = remembers_posted s m.engine (decision_of pair) t.engine refl takes.posts old
 remembers_takes guided s m (TurnUndo gone conflict) t users valid takes old =
-    let names = gone_with m.engine.active (Decide gone.var) in
-    let later = users_later s users names (gone_no_user (length m.engine.initial) m.engine.active gone.var valid.formed) in
-    remembers_posted s takes.middle (negation_of gone _) t.engine refl takes.posts (remembers_withdrawn s m.engine names takes.middle later takes.withdraws old)
+    remembers_posted s takes.middle (negation_of gone _) t.engine refl takes.posts (remembers_undone s m gone conflict t takes users valid old)
 
 remembers_settles : (ordered : Bool) (s : EngineState) (m t : SearchState) → SettlesAfter ordered m t → Remembers s m.engine → Remembers s t.engine
 remembers_settles ordered s m t settles old = remembers_filtered s m.engine t.engine (settling_filters None m.engine settles.revisions t.engine settles.settles) old
@@ -217,23 +235,25 @@ pub record Ended (s : EngineState) (t : SearchState) : Type 0 where
   pub still : IsStill t.engine
   pub remembers : Remembers s t.engine
 
-pub run_ended : ReasonsAreRight → (guided ordered : Bool) (budget : ℕ) (s : EngineState) (turns : List Turn) (end : SearchEnd) (t : SearchState) → HasOnlyUsers s → IsValid s → SearchRun guided ordered budget s turns end t → Ended s t
-run_ended right guided ordered budget s turns end t users valid run =
-    let start = settles_keep right ordered (begun s) run.start run.settles (begins s valid users) in
-    let none : Remembers s s = record { initial = refl; active = λ a m. m; users = λ a m user. record { owner = a; posted = m; named = refl } } in
-    let first = remembers_settles ordered s (begun s) run.start run.settles none in
+pub turned_ended : ReasonsAreRight → (guided ordered : Bool) (s : EngineState) (start : SearchState) (turns : List Turn) (t : SearchState) → HasOnlyUsers s → IsValid s
+    → SettlesAfter ordered (begun s) start → Turns guided ordered start turns t → Ended s t
+turned_ended right guided ordered s start turns t users valid settles taken =
+    let searching = settles_keep right ordered (begun s) start settles (begins s valid users) in
+    let first = remembers_settles ordered s (begun s) start settles (remembers_none s) in
     record {
-      searching = turns_keep right guided ordered run.start turns t run.taken start;
-      still = turns_still guided ordered run.start turns t (settles_still ordered (begun s) run.start run.settles) run.taken;
-      remembers = remembers_turns right guided ordered s run.start turns t users start run.taken first;
+      searching = turns_keep right guided ordered start turns t taken searching;
+      still = turns_still guided ordered start turns t (settles_still ordered (begun s) start settles) taken;
+      remembers = remembers_turns right guided ordered s start turns t users searching taken first;
     }
 
+pub run_ended : ReasonsAreRight → (guided ordered : Bool) (budget : ℕ) (s : EngineState) (turns : List Turn) (end : SearchEnd) (t : SearchState) → HasOnlyUsers s → IsValid s → SearchRun guided ordered budget s turns end t → Ended s t
+run_ended right guided ordered budget s turns end t users valid run = turned_ended right guided ordered s run.start turns t users valid run.settles run.taken
+
 -- a user's constraint of the last state is one of the first
-user_before : (s : EngineState) (t : SearchState) → Ended s t → (a : Active) → Contains t.engine.active a → is_user a.cid ≡ true → Contains s.active a
-user_before s t ended a m user =
-    let is = ended.remembers.users a m user in
-    subst (λ b. Contains s.active b)
-    (single t.engine.active ended.searching.valid.rising is.owner a (ended.remembers.active is.owner is.posted) m is.named) is.posted
+user_before : (s m : EngineState) → IsValid m → Remembers s m → (a : Active) → Contains m.active a → is_user a.cid ≡ true → Contains s.active a
+user_before s m valid old a k user =
+    let is = old.users a k user in
+    subst (λ b. Contains s.active b) (single m.active valid.rising is.owner a (old.active is.owner is.posted) k is.named) is.posted
 
 pub run_found : (s : EngineState) (t : SearchState) (values : List ℤ) → Ended s t → IsFound (present t.engine) values → IsSolution s.initial (Contains (cons_of s.active)) (listed values)
 run_found s t values ended found =
@@ -250,7 +270,7 @@ run_unsolved s t users ended none b solution = users_unsolved t ended.searching 
   within = subst (λ d. (x : ℕ) → x < length d → Has d x (b x)) (sym ended.remembers.initial) solution.within;
   satisfies = λ c named. solution.satisfies c (record {
     owner = named.owner;
-    posted = user_before s t ended named.owner named.posted (users_active t ended.searching users none named.owner.cid named.named).1;
+    posted = user_before s t.engine ended.searching.valid ended.remembers named.owner named.posted (users_active t ended.searching users none named.owner.cid named.named).1;
     is = named.is;
     named = named.named;
   });
@@ -261,30 +281,32 @@ run_users s t users ended none c m =
     let r = users_active t ended.searching users none c m in
     record {
       owner = r.0.owner;
-      posted = user_before s t ended r.0.owner r.0.posted (subst (λ d. is_user d ≡ true) (sym r.0.named) r.1);
+      posted = user_before s t.engine ended.searching.valid ended.remembers r.0.owner r.0.posted (subst (λ d. is_user d ≡ true) (sym r.0.named) r.1);
       named = r.0.named;
     }
 
 -- ---- what is left after a search
 
--- the constraints and the declared values are those from before, and nothing is pending or a domain is empty
+-- the constraints and the declared values are those from before
+pub record Returns (s t : EngineState) : Type 0 where
+  pub valid : IsValid t
+  pub active : t.active ≡ s.active
+  pub initial : t.initial ≡ s.initial
+
+pub closing_returns : ReasonsAreRight → (s m n t : EngineState) → HasOnlyUsers s → IsValid s → IsValid m → Remembers s m → WithdrawsAll m (search_cids m.active) n → Filters n t → Returns s t
+closing_returns right s m n t users valid valid_m old withdraws filters =
+    let later = users_later s users (search_cids m.active) (λ c k user. false≢true (sym (search_member m.active c k) ∙ user)) in
+    let last = remembers_filtered s n t filters (remembers_withdrawn s m (search_cids m.active) n later withdraws old) in
+    let valid_t = filters_valid right n t filters (withdraws_all_valid m n (search_cids m.active) (closing_keeps m valid_m) withdraws valid_m) in
+    let back : (a : Active) → Contains t.active a → Contains s.active a = λ a k.
+    let r = without_names_member (search_cids m.active) m.active a (subst (λ (z : EngineState). Contains z.active a) withdraws.after (subst (λ l. Contains l a) filters.active k)) in
+    user_before s m valid_m old a r.0 (stays_user m.active a r.0 r.1) in
+    record { valid = valid_t; active = active_same t.active s.active valid_t.rising valid.rising back last.active; initial = last.initial }
+
+-- after a whole search nothing is pending or a domain is empty
 pub search_rests : ReasonsAreRight → (guided ordered : Bool) (budget : ℕ) (s : EngineState) (turns : List Turn) (end : SearchEnd) (t : EngineState) → HasOnlyUsers s → IsValid s → Searches guided ordered budget s turns end t → Rests s t
 search_rests right guided ordered budget s turns end t users valid searches =
     let ended = run_ended right guided ordered budget s turns end searches.last users valid searches.run in
-    let m = searches.last.engine in
     let closes = searches.closes in
-    let later = users_later s users (search_cids m.active) (λ c k user. false≢true (sym (search_member m.active c k) ∙ user)) in
-    let closed = remembers_withdrawn s m (search_cids m.active) closes.middle later closes.withdraws ended.remembers in
-    let filters = settling_filters None closes.middle closes.revisions t closes.settles in
-    let last = remembers_filtered s closes.middle t filters closed in
-    let valid' = withdraws_all_valid m closes.middle (search_cids m.active) (closing_keeps m ended.searching.valid) closes.withdraws ended.searching.valid in
-    let valid_t = filters_valid right closes.middle t filters valid' in
-    let back : (a : Active) → Contains t.active a → Contains s.active a = λ a k.
-    let r = without_names_member (search_cids m.active) m.active a (subst (λ (z : EngineState). Contains z.active a) closes.withdraws.after (subst (λ l. Contains l a) filters.active k)) in
-    user_before s searches.last ended a r.0 (stays_user m.active a r.0 r.1) in
-    record {
-      valid = valid_t;
-      active = active_same t.active s.active valid_t.rising valid.rising back last.active;
-      initial = last.initial;
-      still = settling_still closes.middle closes.revisions t closes.settles;
-    }
+    let returns = closing_returns right s searches.last.engine closes.middle t users valid ended.searching.valid ended.remembers closes.withdraws (settling_filters None closes.middle closes.revisions t closes.settles) in
+    record { valid = returns.valid; active = returns.active; initial = returns.initial; still = settling_still closes.middle closes.revisions t closes.settles }

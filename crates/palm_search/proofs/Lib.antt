@@ -1,10 +1,13 @@
 pub mod Alone
+pub mod Calling
+pub mod Closing
 pub mod Deciding
 pub mod Going
 pub mod Joining
 pub mod Keeping
 pub mod Leaving
 pub mod Measuring
+pub mod Showing
 pub mod Solving
 pub mod Weighing
 pub mod Whole

@@ -4,7 +4,7 @@ use Rattle.palm_base.specs.declared.terms.Pair.{Pair}
 use Rattle.palm_base.specs.declared.terms.Cid.TheVariants.{Decide, Not}
 use Rattle.palm_model.specs.Domains.{Has}
 use Rattle.palm_model.specs.Constraint.{Distinct}
-use Rattle.palm_model.specs.Log.{Active}
+use Rattle.palm_model.specs.Log.{Active, IsActive}
 use Rattle.palm_model.specs.State.{EngineState, IsValid, is_user}
 use Rattle.palm_model.specs.Event.{vars_of}
 use Rattle.palm_model.specs.Conflict.{AreJustified}
@@ -25,6 +25,10 @@ pub record HasDecisions (s : SearchState) : Type 0 where
 pub record HasDeclared (s : SearchState) : Type 0 where
   pub decided : (p : Pair) → Contains s.decisions p → Has s.engine.initial p.var p.value
   pub negated : (a : Active) (p : Pair) → Contains s.engine.active a → a.cid ≡ Not p → Has s.engine.initial p.var p.value
+
+-- no decided pair has an active negation
+abbrev pub HasNoneNegated : SearchState → Type 0
+HasNoneNegated s = (p : Pair) → Contains s.decisions p → IsActive s.engine.active (Not p) → ⊥
 
 -- the engine is valid, all its negations are justified, its decisions are those of the search, and their pairs and those
 -- of the negations are declared

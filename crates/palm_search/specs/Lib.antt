@@ -1,3 +1,5 @@
+pub mod Asked
+pub mod Calls
 pub mod Kept
 pub mod Measure
 pub mod Search

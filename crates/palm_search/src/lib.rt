@@ -2,17 +2,22 @@
 #![tactic(auto)]
 
 pub mod bound;
+mod choice;
 pub mod laws;
+mod search;
 pub mod turn;
+mod view;
 
 pub use bound::{
     deciding_keeps_the_measure, posting_users_keeps_searching, searches_are_bounded,
     settling_leaves_the_measure, spent_budgets_are_small, the_measure_is_bounded,
     undoing_raises_the_measure,
 };
+pub use choice::open_variable;
 pub use laws::{
     found_values_are_a_solution, searches_begin, searches_exist, searches_leave_the_constraints,
     searches_leave_the_log, searches_without_guide_and_order_are_unique, settlings_keep_searching,
     turns_keep_searching, turns_with_settlings_keep_searching, users_of_no_solution_have_none,
 };
+pub use search::Search;
 pub use turn::{Pick, Turn};

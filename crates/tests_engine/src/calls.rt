@@ -7,7 +7,7 @@ ghost use Rattle.palm_model.specs.Log.{IsActive};
 ghost use Rattle.palm_model.specs.State.{IsGround, present};
 
 use crate::choice::{Choice, run_settling};
-use crate::comparison::{Comparison, kind_of};
+use crate::samples::{Sample, kind_of};
 use palm_base::{Cid, CidList, NoMemory, Pair, Value, Var};
 use palm_domain::DomainStore;
 use palm_engine::{Engine, Settle};
@@ -18,8 +18,8 @@ use std::alloc::Global;
 /// A call, and what it is to answer.
 #[derive(Clone, Copy, Debug)]
 pub enum Call {
-    /// Posts the comparison under the number.
-    Post(u32, Comparison),
+    /// Posts the constraint under the number.
+    Post(u32, Sample),
     /// Withdraws the user's constraint with the number.
     Withdraw(u32),
     /// A settling that ends with nothing pending.
@@ -131,14 +131,14 @@ pub fn post<F: Filter>(engine: &mut Engine<F>, number: u32, filter: F) -> Result
     Ok(true)
 }
 
-/// Posts the comparison under the number, unless a constraint has it.
+/// Posts the constraint under the number, unless a constraint has it.
 pub fn post_kind(
     alloc: Global,
     engine: &mut Engine<Kind>,
     number: u32,
-    comparison: &Comparison,
+    sample: &Sample,
 ) -> Result<bool, NoMemory> {
-    match kind_of(alloc, comparison)? {
+    match kind_of(alloc, sample)? {
         Some(kind) => post(engine, number, kind),
         None => Ok(false),
     }
@@ -188,7 +188,7 @@ fn is_answered(
     call: &Call,
 ) -> Result<bool, NoMemory> {
     match *call {
-        Call::Post(number, ref comparison) => post_kind(alloc, engine, number, comparison),
+        Call::Post(number, ref sample) => post_kind(alloc, engine, number, sample),
         Call::Withdraw(number) => Ok(withdraw(engine, &Cid::User(number))),
         Call::Settle => Ok(run_settling(alloc, engine, choice, None)? == Settle::Settled),
         Call::Empty(var) => Ok(

@@ -1,8 +1,8 @@
 //! Decisions, and negations that rest on them.
 use crate::calls::{assume, engine_of, forbid, is_flat, pair, post_kind, withdraw};
 use crate::choice::{Choice, run_settling};
-use crate::comparison::Comparison;
 use crate::removals::{Removal, has_removals};
+use crate::samples::Sample;
 use palm_base::{Cid, NoMemory, Pair, Var};
 use palm_engine::{Engine, Settle};
 use palm_kind::Kind;
@@ -27,7 +27,7 @@ fn forbidden() -> Pair {
 /// Posts `x < y`, assumes x = 1, settles, forbids y 2 for the decision and settles.
 fn has_forbidden(alloc: Global, engine: &mut Engine<Kind>) -> Result<bool, NoMemory> {
     Ok(
-        post_kind(alloc, engine, 1, &Comparison::Less(X, Y))?
+        post_kind(alloc, engine, 1, &Sample::Less(X, Y))?
             && assume(engine, &pair(X, 1))?
             && run_settling(alloc, engine, &Choice::Least, None)? == Settle::Settled
             && forbid(engine, &forbidden(), &decision())?

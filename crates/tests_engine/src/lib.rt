@@ -3,9 +3,10 @@
 
 pub mod calls;
 pub mod choice;
-pub mod comparison;
 #[cfg(test)]
 mod decisions;
+#[cfg(test)]
+mod kinds;
 #[cfg(test)]
 mod log;
 #[cfg(test)]
@@ -13,5 +14,6 @@ mod orders;
 #[cfg(test)]
 mod questions;
 pub mod removals;
+pub mod samples;
 #[cfg(test)]
 mod withdrawals;

@@ -1,8 +1,8 @@
 //! Objects that choose what is revised next: the domains do not depend on them, and the log does.
 use crate::calls::{Call, are_answered, engine_of, has_values, pair};
 use crate::choice::Choice;
-use crate::comparison::Comparison;
 use crate::removals::{Removal, has_removals};
+use crate::samples::Sample;
 use palm_base::{Cid, NoMemory, Value};
 use palm_engine::Engine;
 use palm_kind::Kind;
@@ -30,8 +30,8 @@ fn are_settled(
     choice: &Choice,
 ) -> Result<bool, NoMemory> {
     let first = [
-        Call::Post(1, Comparison::Less(X, Y)),
-        Call::Post(2, Comparison::Less(Y, Z)),
+        Call::Post(1, Sample::Less(X, Y)),
+        Call::Post(2, Sample::Less(Y, Z)),
         Call::Settle,
     ];
     let second = [Call::Withdraw(1), Call::Settle];
@@ -60,9 +60,9 @@ fn has_logged(
 ) -> Result<bool, NoMemory> {
     let mut engine = engine_of(alloc, 2)?;
     let calls = [
-        Call::Post(1, Comparison::Other(X, 2)),
-        Call::Post(2, Comparison::Same(X, Y)),
-        Call::Post(3, Comparison::Other(Y, 2)),
+        Call::Post(1, Sample::Other(X, 2)),
+        Call::Post(2, Sample::Same(X, Y)),
+        Call::Post(3, Sample::Other(Y, 2)),
         Call::Settle,
     ];
     Ok(

@@ -1,8 +1,8 @@
 //! What a settling asks of the filters: nothing after a withdrawal that leaves no constraint over a restored value.
 use crate::calls::{Call, are_answered, engine_of, pair, post, withdraw};
 use crate::choice::{Choice, run_settling};
-use crate::comparison::{Comparison, kind_of};
 use crate::removals::{Removal, has_removals};
+use crate::samples::{Sample, kind_of};
 use palm_base::{Cid, NoMemory, Pair, VarList};
 use palm_domain::DomainStore;
 use palm_engine::{Engine, Settle};
@@ -63,15 +63,15 @@ impl Filter for Counted<'_> {
     }
 }
 
-/// Posts the comparison by a filter that counts, unless a constraint has the number.
+/// Posts the constraint by a filter that counts, unless a constraint has the number.
 fn post_counted<'a>(
     alloc: Global,
     engine: &mut Engine<Counted<'a>>,
     number: u32,
-    comparison: &Comparison,
+    sample: &Sample,
     asked: &'a Cell<u64>,
 ) -> Result<bool, NoMemory> {
-    match kind_of(alloc, comparison)? {
+    match kind_of(alloc, sample)? {
         Some(kind) => post(engine, number, Counted { kind, asked }),
         None => Ok(false),
     }
@@ -80,8 +80,8 @@ fn post_counted<'a>(
 /// Settles two constraints that share no variable, and then what is left without the first, which asks nothing.
 fn asks_nothing_anew(alloc: Global, engine: &mut Engine<Kind>) -> Result<bool, NoMemory> {
     let first = [
-        Call::Post(1, Comparison::Less(X, Y)),
-        Call::Post(2, Comparison::Less(U, V)),
+        Call::Post(1, Sample::Less(X, Y)),
+        Call::Post(2, Sample::Less(U, V)),
         Call::Settle,
     ];
     let second = [Call::Withdraw(1), Call::Settle];
@@ -111,8 +111,8 @@ fn is_settled_counted<'a>(
     asked: &'a Cell<u64>,
 ) -> Result<bool, NoMemory> {
     Ok(
-        post_counted(alloc, engine, 1, &Comparison::Less(X, Y), asked)?
-            && post_counted(alloc, engine, 2, &Comparison::Less(U, V), asked)?
+        post_counted(alloc, engine, 1, &Sample::Less(X, Y), asked)?
+            && post_counted(alloc, engine, 2, &Sample::Less(U, V), asked)?
             && run_settling(alloc, engine, &Choice::Least, None)? == Settle::Settled
             && engine.checks() == asked.get(),
     )

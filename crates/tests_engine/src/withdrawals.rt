@@ -1,8 +1,8 @@
 //! What a withdrawal gives back, and what is explained otherwise after it.
 use crate::calls::{Call, add_variable, are_answered, engine_of, is_conflict, pair};
 use crate::choice::Choice;
-use crate::comparison::Comparison;
 use crate::removals::{Removal, has_removals, is_explained};
+use crate::samples::Sample;
 use palm_base::{Cid, NoMemory, Value};
 use palm_engine::Engine;
 use palm_kind::Kind;
@@ -19,9 +19,9 @@ const Z: u32 = 2;
 /// Settles `x < y`, and then `y < x` too, which leaves y no value, for the two of them.
 fn has_come_to_conflict(alloc: Global, engine: &mut Engine<Kind>) -> Result<bool, NoMemory> {
     let calls = [
-        Call::Post(1, Comparison::Less(X, Y)),
+        Call::Post(1, Sample::Less(X, Y)),
         Call::Settle,
-        Call::Post(2, Comparison::Less(Y, X)),
+        Call::Post(2, Sample::Less(Y, X)),
         Call::Empty(Y),
     ];
     Ok(
@@ -33,9 +33,9 @@ fn has_come_to_conflict(alloc: Global, engine: &mut Engine<Kind>) -> Result<bool
 /// Posts and withdraws `z != 1` while nothing is filtered, posts `z != 2`, withdraws `x < y` and settles.
 fn has_left_conflict(alloc: Global, engine: &mut Engine<Kind>) -> Result<bool, NoMemory> {
     let calls = [
-        Call::Post(3, Comparison::Other(Z, 1)),
+        Call::Post(3, Sample::Other(Z, 1)),
         Call::Withdraw(3),
-        Call::Post(5, Comparison::Other(Z, 2)),
+        Call::Post(5, Sample::Other(Z, 2)),
         Call::Withdraw(1),
         Call::Settle,
     ];
@@ -71,8 +71,8 @@ fn a_conflict_is_left_by_a_withdrawal(rt: HostRuntime) -> Result<(), Fail> {
 /// Settles `x != 2` and `x = y`: x lost 2 by the first, and y by the second for that.
 fn is_explained_by_first(alloc: Global, engine: &mut Engine<Kind>) -> Result<bool, NoMemory> {
     let calls = [
-        Call::Post(1, Comparison::Other(X, 2)),
-        Call::Post(2, Comparison::Same(X, Y)),
+        Call::Post(1, Sample::Other(X, 2)),
+        Call::Post(2, Sample::Same(X, Y)),
         Call::Settle,
     ];
     let x = [pair(X, 2)];
@@ -98,7 +98,7 @@ fn is_explained_by_first(alloc: Global, engine: &mut Engine<Kind>) -> Result<boo
 /// Settles `y != 2` too, which changes no explanation, and then what is left without `x != 2`: y lost 2 by the third,
 /// and x by the second for that.
 fn is_explained_by_others(alloc: Global, engine: &mut Engine<Kind>) -> Result<bool, NoMemory> {
-    let calls = [Call::Post(3, Comparison::Other(Y, 2)), Call::Settle];
+    let calls = [Call::Post(3, Sample::Other(Y, 2)), Call::Settle];
     if !are_answered(alloc, engine, &Choice::Least, &calls)?
         || !is_explained(alloc, engine.log(), &pair(X, 2), &[Cid::User(1)])?
     {
@@ -142,8 +142,8 @@ fn a_removal_is_explained_anew(rt: HostRuntime) -> Result<(), Fail> {
 /// first.
 fn goes_on(alloc: Global, engine: &mut Engine<Kind>) -> Result<bool, NoMemory> {
     let first = [
-        Call::Post(1, Comparison::Other(X, 2)),
-        Call::Post(2, Comparison::Same(X, Y)),
+        Call::Post(1, Sample::Other(X, 2)),
+        Call::Post(2, Sample::Same(X, Y)),
         Call::Stop(3),
     ];
     let second = [Call::Withdraw(1), Call::Settle];
