@@ -40,16 +40,7 @@ fn numbers_without_an_object(rt: HostRuntime) -> Result<(), Fail> {
         error E11 no such object\nerror E6 number out of range\nerror E6 number out of range\n\
         ok\nok\nok\nerror E11 no such object\nok\n";
     let guides = no_guides(rt.alloc());
-    assert!(rt;
-        answers_with(
-            rt.alloc(),
-            text,
-            replies,
-            7,
-            guides,
-            two_orders(rt.alloc())?
-        )?
-    );
+    assert!(rt; answers_with_two_orders(rt.alloc(), text, replies, guides)?);
     Ok(())
 }
 
@@ -60,16 +51,7 @@ fn a_dropped_object_is_gone(rt: HostRuntime) -> Result<(), Fail> {
     let replies = "ok\nok\nok\nerror E11 no such object\nerror E11 no such object\n\
         ok\nerror E11 no such object\nok\nok\nerror E11 no such object\n";
     let guides = one_guide(rt.alloc())?;
-    assert!(rt;
-        answers_with(
-            rt.alloc(),
-            text,
-            replies,
-            7,
-            guides,
-            two_orders(rt.alloc())?
-        )?
-    );
+    assert!(rt; answers_with_two_orders(rt.alloc(), text, replies, guides)?);
     Ok(())
 }
 
