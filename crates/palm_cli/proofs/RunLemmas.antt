@@ -17,481 +17,491 @@ use Rattle.palm_session.proofs.Keeping.{feeds_long, feeds_long_end, feeds_long_p
 use Rattle.palm_session.specs.declared.limits.TheConstants.{MOST_KEPT_BYTES}
 use Rattle.std.proofs.lemmas.Grind.{flat_map-append}
 use Rattle.palm_cli.specs.Commands.{Streams, IsCalm, FailsToWrite, RunsAll, RunsPart, HasEnd, StopsInTime, IsAll, IsWhole, IsCut, Runs, HasNoFault, TakesAnswerable, TakesTooMuch, first_bytes}
-use Rattle.palm_cli.specs.Serving.{FinishesStatus, FeedsStatus, ReadsPiece, ReadsEnd, PumpsFault, PumpsPiece, Pumps}
+use Rattle.palm_cli.specs.Serving.{IsFresh, FinishesStatus, FeedsStatus, ReadsPiece, ReadsEnd, PumpsFault, PumpsPiece, Pumps}
 use Rattle.palm_cli.proofs.Endings.{no_end}
 use Rattle.palm_cli.specs.declared.limits.TheConstants.{MOST_INPUT_BYTES, PIECE}
 use Rattle.palm_cli.specs.declared.status.Status.{Status}
 use Rattle.palm_cli.specs.declared.status.Status.TheVariants.{Done, Usage, ReadFault, WriteFault, NoMemory, TooLong}
 
 -- the text: what was taken without a fault, of which the session was fed what can be answered
-pub record Served (before now : Streams) (taken : ℕ) (session : View) : Type 0 where
+pub record Served (guides orders : List ℕ) (before now : Streams) (taken : ℕ) (session : View) : Type 0 where
   pub text : List ℕ
   pub rest : List ℕ
   pub long : length text ≡ taken
   pub takes : Consumes before.source.left now.source.left text
   pub in_time : StopsInTime text
   pub asked : ℕ
-  pub feeds : FeedsOn (fresh [] []) (first_bytes text) before.sink.written now.sink.written rest session.state asked
+  pub feeds : FeedsOn (fresh guides orders) (first_bytes text) before.sink.written now.sink.written rest session.state asked
   pub kept : session.unfinished ≡ take MOST_KEPT_BYTES rest
   pub going : session.over ≡ false
   pub calm : IsCalm before now
 
--- a text that has no line that ends the session, and is within the limit, stopped in time
-in_time_whole : (text : List ℕ) → length text ≤ MOST_INPUT_BYTES → (HasEnd text → ⊥) → StopsInTime text
-in_time_whole text le none = record { front = text; piece = []; whole = sym (append-nil text); small = omega arith; within = le; unended = none }
+module _ (guides orders : List ℕ) where
+  -- a text that has no line that ends the session, and is within the limit, stopped in time
+  in_time_whole : (text : List ℕ) → length text ≤ MOST_INPUT_BYTES → (HasEnd text → ⊥) → StopsInTime text
+  in_time_whole text le none = record { front = text; piece = []; whole = sym (append-nil text); small = omega arith; within = le; unended = none }
 
-no_end_nothing : HasEnd [] → ⊥
-no_end_nothing e = no_end (fresh [] []) (fresh [] []) [] [] None None 0 (feeds_none (fresh [] []) None) e
+  no_end_nothing : HasEnd [] → ⊥
+  no_end_nothing e = no_end (fresh guides orders) (fresh guides orders) [] [] None None 0 (feeds_none (fresh guides orders) None) e
 
-in_time_nothing : StopsInTime []
-in_time_nothing = in_time_whole [] (omega arith) no_end_nothing
+  in_time_nothing : StopsInTime []
+  in_time_nothing = in_time_whole [] (omega arith) no_end_nothing
 
-calm_still : (before : Streams) → IsCalm before before
-calm_still before = record { read = refl; write = refl }
+  calm_still : (before : Streams) → IsCalm before before
+  calm_still before = record { read = refl; write = refl }
 
-pub served_start : (before : Streams) (session : View) → session ≡ record { state = (fresh [] []); checks = 0; unfinished = []; over = false } → Served before before 0 session
-served_start before session e =
-    subst (λ (v : View). Served before before 0 v) (sym e)
-    (record {
-      text = [];
-      rest = [];
-      long = refl;
-      takes = consumes_nothing before.source.left;
-      in_time = in_time_nothing;
-      asked = 0;
-      feeds = feeds_none (fresh [] []) before.sink.written;
-      kept = refl;
-      going = refl;
-      calm = calm_still before;
-    })
+  pub served_start : (before : Streams) (session : View) → session ≡ record { state = fresh guides orders; checks = 0; unfinished = []; over = false } → Served guides orders before before 0 session
+  served_start before session e =
+      subst (λ (v : View). Served guides orders before before 0 v) (sym e)
+      (record {
+        text = [];
+        rest = [];
+        long = refl;
+        takes = consumes_nothing before.source.left;
+        in_time = in_time_nothing;
+        asked = 0;
+        feeds = feeds_none (fresh guides orders) before.sink.written;
+        kept = refl;
+        going = refl;
+        calm = calm_still before;
+      })
 
-no_lines : AreLines [] []
-no_lines = record { ended_lines = []; rest = []; cuts = record { whole = refl; unbroken = All-nil HasNoFeed; unfinished = All-nil (λ b. b ≡ 10 → ⊥) }; all = refl }
+  no_lines : AreLines [] []
+  no_lines = record { ended_lines = []; rest = []; cuts = record { whole = refl; unbroken = All-nil HasNoFeed; unfinished = All-nil (λ b. b ≡ 10 → ⊥) }; all = refl }
 
--- nothing was taken and nothing written
-part_nothing : (before : Streams) → RunsPart before before
-part_nothing before = record {
-  text = [];
-  lines = [];
-  others = [];
-  replies = [];
-  state = (fresh [] []);
-  takes = consumes_nothing before.source.left;
-  in_time = in_time_nothing;
-  are_lines = no_lines;
-  keeps_on = tt;
-  run = (refl, refl);
-  written = record { front = []; back = []; whole = refl; written = appended_nothing before.sink.written };
-}
+  -- nothing was taken and nothing written
+  part_nothing : (before : Streams) → RunsPart guides orders before before
+  part_nothing before = record {
+    text = [];
+    lines = [];
+    others = [];
+    replies = [];
+    state = (fresh guides orders);
+    takes = consumes_nothing before.source.left;
+    in_time = in_time_nothing;
+    are_lines = no_lines;
+    keeps_on = tt;
+    run = (refl, refl);
+    written = record { front = []; back = []; whole = refl; written = appended_nothing before.sink.written };
+  }
 
-pub want_at_once : (before : Streams) → Runs before before NoMemory
-want_at_once before = (calm_still before, part_nothing before)
+  pub want_at_once : (before : Streams) → Runs guides orders before before NoMemory
+  want_at_once before = (calm_still before, part_nothing before)
 
--- a text in which the session's bytes are all that was taken
-whole_text : (text : List ℕ) (taken : ℕ) → length text ≡ taken → taken ≤ MOST_INPUT_BYTES → first_bytes text ≡ text
-whole_text text taken e le = take_all MOST_INPUT_BYTES text (omega (arith, e, le))
+  -- a text in which the session's bytes are all that was taken
+  whole_text : (text : List ℕ) (taken : ℕ) → length text ≡ taken → taken ≤ MOST_INPUT_BYTES → first_bytes text ≡ text
+  whole_text text taken e le = take_all MOST_INPUT_BYTES text (omega (arith, e, le))
 
-takes_more_nothing : (a b c : Option (List ℕ)) (x : List ℕ) → Consumes a b x → Consumes b c [] → Consumes a c x
-takes_more_nothing a b c x p q = subst (λ (z : List ℕ). Consumes a c z) (append-nil x) (consumes_both a b c x [] p q)
+  takes_more_nothing : (a b c : Option (List ℕ)) (x : List ℕ) → Consumes a b x → Consumes b c [] → Consumes a c x
+  takes_more_nothing a b c x p q = subst (λ (z : List ℕ). Consumes a c z) (append-nil x) (consumes_both a b c x [] p q)
 
--- what was fed is all that was taken
-whole_feeds : (before now : Streams) (taken : ℕ) (session : View) (s : Served before now taken session) → taken ≤ MOST_INPUT_BYTES
-    → FeedsOn (fresh [] []) s.text before.sink.written now.sink.written s.rest session.state s.asked
-whole_feeds before now taken session s le =
-    subst (λ (z : List ℕ). FeedsOn (fresh [] []) z before.sink.written now.sink.written s.rest session.state s.asked) (whole_text s.text taken s.long le) s.feeds
+  -- what was fed is all that was taken
+  whole_feeds : (before now : Streams) (taken : ℕ) (session : View) (s : Served guides orders before now taken session) → taken ≤ MOST_INPUT_BYTES
+      → FeedsOn (fresh guides orders) s.text before.sink.written now.sink.written s.rest session.state s.asked
+  whole_feeds before now taken session s le =
+      subst (λ (z : List ℕ). FeedsOn (fresh guides orders) z before.sink.written now.sink.written s.rest session.state s.asked) (whole_text s.text taken s.long le) s.feeds
 
-served_unended : (before now : Streams) (taken : ℕ) (session : View) (s : Served before now taken session) → taken ≤ MOST_INPUT_BYTES → HasEnd s.text → ⊥
-served_unended before now taken session s le =
-    no_end (fresh [] []) session.state s.text s.rest before.sink.written now.sink.written s.asked (whole_feeds before now taken session s le)
+  served_unended : (before now : Streams) (taken : ℕ) (session : View) (s : Served guides orders before now taken session) → taken ≤ MOST_INPUT_BYTES → HasEnd s.text → ⊥
+  served_unended before now taken session s le =
+      no_end (fresh guides orders) session.state s.text s.rest before.sink.written now.sink.written s.asked (whole_feeds before now taken session s le)
 
-same_written : (a b : SinkState) (was : Option (List ℕ)) (text rest : List ℕ) (t : SessionState) (n : ℕ) → a ≡ b → FeedsOn (fresh [] []) text was b.written rest t n → FeedsOn (fresh [] []) text was a.written rest t n
-same_written a b was text rest t n e f = subst (λ (k : SinkState). FeedsOn (fresh [] []) text was k.written rest t n) (sym e) f
+  same_written : (a b : SinkState) (was : Option (List ℕ)) (text rest : List ℕ) (t : SessionState) (n : ℕ) → a ≡ b → FeedsOn (fresh guides orders) text was b.written rest t n → FeedsOn (fresh guides orders) text was a.written rest t n
+  same_written a b was text rest t n e f = subst (λ (k : SinkState). FeedsOn (fresh guides orders) text was k.written rest t n) (sym e) f
 
-rose_after : (a b c : ℕ) → b ≡ a → Rose b c → Rose a c
-rose_after a b c e r = subst (λ (n : ℕ). Rose n c) e r
+  rose_after : (a b c : ℕ) → b ≡ a → Rose b c → Rose a c
+  rose_after a b c e r = subst (λ (n : ℕ). Rose n c) e r
 
-fault_runs : (before mid now : Streams) (taken : ℕ) (session : View) → Served before mid taken session → taken ≤ MOST_INPUT_BYTES
-    → PumpsFault mid now ReadFault → Runs before now ReadFault
-fault_runs before mid now taken session s le f = (
-  record {
-    read = rose_after before.source.faults mid.source.faults now.source.faults s.calm.read f.rose;
-    write = ap (λ (k : SinkState). k.faults) f.sink ∙ s.calm.write;
-  },
-  record {
-    text = s.text;
-    rest = s.rest;
-    state = session.state;
-    asked = s.asked;
-    takes = takes_more_nothing before.source.left mid.source.left now.source.left s.text s.takes f.takes;
-    short = omega (arith, s.long, le);
-    feeds = same_written now.sink mid.sink before.sink.written s.text s.rest session.state s.asked f.sink (whole_feeds before mid taken session s le);
-  },
-)
-
--- the bytes that are fed are the first ones of the text
-fed_text : (text piece : List ℕ) (taken : ℕ) → length text ≡ taken → taken ≤ MOST_INPUT_BYTES
-    → take MOST_INPUT_BYTES (text ++ piece) ≡ take MOST_INPUT_BYTES text ++ take (MOST_INPUT_BYTES - taken) piece
-fed_text text piece taken e le =
-    let m : MOST_INPUT_BYTES ≡ length text + (MOST_INPUT_BYTES - taken) = omega (arith, e, le) in
-    ap (λ (k : ℕ). take k (text ++ piece)) m ∙ take-append-add text piece (MOST_INPUT_BYTES - taken)
-    ∙ ap (λ (z : List ℕ). z ++ take (MOST_INPUT_BYTES - taken) piece) (sym (whole_text text taken e le))
-
-take_fewer : (a b : ℕ) (xs : List ℕ) → take a (take b xs) ≡ take (min b a) xs
-take_fewer zero b xs = let m : 0 ≡ min b 0 = omega arith in ap (λ (k : ℕ). take k xs) m
-take_fewer (suc a) zero xs = let m : 0 ≡ min 0 (suc a) = omega arith in ap (λ (k : ℕ). take k xs) m
-take_fewer (suc a) (suc b) [] = sym (take_all (min (suc b) (suc a)) [] (omega arith))
-take_fewer (suc a) (suc b) (x ∷ xs) =
-    let m : suc (min b a) ≡ min (suc b) (suc a) = omega arith in
-    ap (λ (z : List ℕ). x ∷ z) (take_fewer a b xs) ∙ ap (λ (k : ℕ). take k (x ∷ xs)) m
-
--- a piece was read into the front of a buffer, and its first bytes were fed
-pub pumped : (session : View) (room n m : ℕ) (buffer : List ℕ) (before now : Streams) (later : View) (end : Option Status)
-    → m ≡ min n room → (n ≡ 0 → ⊥) → n ≤ length buffer → n ≤ PIECE → Consumes before.source.left now.source.left (take n buffer)
-    → now.source.faults ≡ before.source.faults → FeedsStatus session (take m buffer) before.sink now.sink later end
-    → PumpsPiece session room before later now end
-pumped session room n m buffer before now later end is some fits small takes calm f = record {
-  piece = take n buffer;
-  reads = record { takes = takes; some = omega (arith, length-take n buffer, some, fits); small = omega (arith, length-take n buffer, small, fits); calm = calm };
-  feeds = subst (λ (z : List ℕ). FeedsStatus session z before.sink now.sink later end) (ap (λ (k : ℕ). take k buffer) is ∙ sym (take_fewer room n buffer)) f;
-}
-
-pub pumped_on : (session : View) (room n m : ℕ) (buffer : List ℕ) (before now : Streams) (later : View)
-    → m ≡ min n room → (n ≡ 0 → ⊥) → n ≤ length buffer → n ≤ PIECE → Consumes before.source.left now.source.left (take n buffer)
-    → now.source.faults ≡ before.source.faults → FeedsStatus session (take m buffer) before.sink now.sink later None
-    → Pumps session room before later now (Ok n)
-unfolding pumped
-pumped_on session room n m buffer before now later is some fits small takes calm f = (
-  pumped session room n m buffer before now later None is some fits small takes calm f,
-  omega (arith, length-take n buffer, fits),
-)
-
--- what one more piece adds to the text
-in_time_more : (text piece : List ℕ) → length text ≤ MOST_INPUT_BYTES → (HasEnd text → ⊥) → length piece ≤ PIECE → StopsInTime (text ++ piece)
-in_time_more text piece le none small = record { front = text; piece = piece; whole = refl; small = small; within = le; unended = none }
-
-calm_more : (before mid now : Streams) → IsCalm before mid → now.source.faults ≡ mid.source.faults → now.sink.faults ≡ mid.sink.faults → IsCalm before now
-calm_more before mid now c read write = record { read = read ∙ c.read; write = write ∙ c.write }
-
--- one more piece was read and fed
-pub served_more : (before mid now : Streams) (taken : ℕ) (session later : View) → Served before mid taken session → taken ≤ MOST_INPUT_BYTES
-    → (p : PumpsPiece session (MOST_INPUT_BYTES - taken) mid later now None) → Served before now (taken + length p.piece) later
-served_more before mid now taken session later s le p =
-    let fed : List ℕ = take (MOST_INPUT_BYTES - taken) p.piece in
-    let left = feeds_long session.state session.unfinished s.rest fed mid.sink.written now.sink.written s.kept s.feeds.unfinished later.state p.feeds.1.1.rest p.feeds.1.0 p.feeds.1.1.feeds in
+  fault_runs : (before mid now : Streams) (taken : ℕ) (session : View) → Served guides orders before mid taken session → taken ≤ MOST_INPUT_BYTES
+      → PumpsFault mid now ReadFault → Runs guides orders before now ReadFault
+  fault_runs before mid now taken session s le f = (
     record {
-      text = s.text ++ p.piece;
-      rest = left.0;
-      long = omega (arith, length-append s.text p.piece, s.long);
-      takes = consumes_both before.source.left mid.source.left now.source.left s.text p.piece s.takes p.reads.takes;
-      in_time = in_time_more s.text p.piece (omega (arith, s.long, le)) (served_unended before mid taken session s le) p.reads.small;
-      asked = s.asked + p.feeds.1.0;
-      feeds = subst (λ (z : List ℕ). FeedsOn (fresh [] []) z before.sink.written now.sink.written left.0 later.state (s.asked + p.feeds.1.0)) (sym (fed_text s.text p.piece taken s.long le))
-          (feeds_more (fresh [] []) session.state later.state (first_bytes s.text) fed s.rest left.0 before.sink.written mid.sink.written now.sink.written s.asked p.feeds.1.0 s.feeds left.2);
-      kept = p.feeds.1.1.kept ∙ left.1;
-      going = p.feeds.2;
-      calm = calm_more before mid now s.calm p.reads.calm p.feeds.0;
-    }
-
-pub served_count : (before mid now : Streams) (taken count : ℕ) (session later : View) → Served before mid taken session → taken ≤ MOST_INPUT_BYTES
-    → Pumps session (MOST_INPUT_BYTES - taken) mid later now (Ok count) → Served before now (taken + count) later
-served_count before mid now taken count session later s le p =
-    subst (λ (n : ℕ). Served before now (taken + n) later) (sym p.1) (served_more before mid now taken session later s le p.0)
-
-pub served_over : (before now : Streams) (taken : ℕ) (session : View) → Served before now taken session → MOST_INPUT_BYTES < taken → Runs before now TooLong
-served_over before now taken session s over = (
-  s.calm,
-  record {
-    text = s.text;
-    rest = s.rest;
-    state = session.state;
-    asked = s.asked;
-    takes = s.takes;
-    long = omega (arith, s.long, over);
-    in_time = s.in_time;
-    feeds = s.feeds;
-  },
-)
-
-all_left : (left mid : Option (List ℕ)) (text : List ℕ) → Consumes left mid text → IsAtEnd mid → IsAll left text
-all_left None mid text t e = tt
-all_left (Some l) None text t e = absurd t
-all_left (Some l) (Some n) text t e = t ∙ ap (λ (z : List ℕ). text ++ z) e ∙ append-nil text
-
--- the lines of a text, whole ones and a last one
-lines_of : (text : List ℕ) (lines : List (List ℕ)) (rest : List ℕ) → text ≡ flat_map ended lines ++ rest → All HasNoFeed lines → HasNoFeed rest
-    → AreLines text (map without_return lines ++ last_line rest)
-lines_of text lines rest whole unbroken unfinished = record {
-  ended_lines = lines;
-  rest = rest;
-  cuts = record { whole = whole; unbroken = unbroken; unfinished = unfinished };
-  all = refl;
-}
-
-answered_lines : (lines : List (List ℕ)) (rest : List ℕ) → All GoesOn lines → All GoesOn (last_line rest) ⊎ All Ends (last_line rest) → AreAnswered (lines ++ last_line rest) (lines ++ last_line rest)
-answered_lines lines rest on (inl more) = all (All-append GoesOn lines (last_line rest) on more)
-answered_lines lines [] on (inr ends) = all (All-append GoesOn lines [] on (All-nil GoesOn))
-answered_lines lines (b ∷ bs) on (inr ends) = until lines [] (without_return (b ∷ bs)) on (All-head Ends (without_return (b ∷ bs)) [] ends) refl
-
-keeps_on_all : (xs ys : List (List ℕ)) → All GoesOn xs → KeepsOn ys → KeepsOn (xs ++ ys)
-keeps_on_all [] ys on keeps = keeps
-keeps_on_all (x ∷ []) [] on keeps = tt
-keeps_on_all (x ∷ []) (y ∷ ys) on keeps = (All-head GoesOn x [] on, keeps)
-keeps_on_all (x ∷ z ∷ xs) ys on keeps = (All-head GoesOn x (z ∷ xs) on, keeps_on_all (z ∷ xs) ys (All-tail GoesOn x (z ∷ xs) on) keeps)
-
-keeps_on_last : (rest : List ℕ) → KeepsOn (last_line rest)
-keeps_on_last [] = tt
-keeps_on_last (b ∷ bs) = tt
-
-front_whole : (was now : Option (List ℕ)) (x : List ℕ) → Appended was now x → AppendedFront was now x
-front_whole was now x w = record { front = x; back = []; whole = sym (append-nil x); written = w }
-
-finish_done : (before mid now : Streams) (taken : ℕ) (session : View) (t : SessionState) (n : ℕ) → Served before mid taken session → taken ≤ MOST_INPUT_BYTES
-    → ReadsEnd mid.source now.source → FinishesAll session.state session.unfinished mid.sink.written now.sink.written t n → RunsAll before now
-finish_done before mid now taken session t n s le e short =
-    let fs = whole_feeds before mid taken session s le in
-    let f = finishes_long session.state session.unfinished s.rest mid.sink.written now.sink.written s.kept t n short in
+      read = rose_after before.source.faults mid.source.faults now.source.faults s.calm.read f.rose;
+      write = ap (λ (k : SinkState). k.faults) f.sink ∙ s.calm.write;
+    },
     record {
       text = s.text;
-      output = fs.replies ++ f.replies;
-      takes = takes_more_nothing before.source.left mid.source.left now.source.left s.text s.takes e.takes;
-      in_time = in_time_whole s.text (omega (arith, s.long, le)) (served_unended before mid taken session s le);
-      reach = inl (omega (arith, s.long, le), all_left before.source.left mid.source.left s.text s.takes e.at_end);
-      replies = record {
-        lines = map without_return fs.lines ++ last_line s.rest;
-        answered = map without_return fs.lines ++ last_line s.rest;
-        state = t;
-        are_lines = lines_of s.text fs.lines s.rest fs.answered.whole fs.answered.unbroken fs.unfinished;
-        are_answered = answered_lines (map without_return fs.lines) s.rest fs.goes_on f.last;
-        run = run_of (fresh [] []) (map without_return fs.lines ++ last_line s.rest) (fs.replies ++ f.replies) t (s.asked + n)
-            (run_append (fresh [] []) session.state t (map without_return fs.lines) (last_line s.rest) fs.replies f.replies s.asked n fs.answered.run f.run);
-      };
-      written = appended_both before.sink.written mid.sink.written now.sink.written fs.replies f.replies fs.written f.written;
-    }
+      rest = s.rest;
+      state = session.state;
+      asked = s.asked;
+      takes = takes_more_nothing before.source.left mid.source.left now.source.left s.text s.takes f.takes;
+      short = omega (arith, s.long, le);
+      feeds = same_written now.sink mid.sink before.sink.written s.text s.rest session.state s.asked f.sink (whole_feeds before mid taken session s le);
+    },
+  )
 
-finish_part : (before mid now : Streams) (taken : ℕ) (session : View) → Served before mid taken session → taken ≤ MOST_INPUT_BYTES → ReadsEnd mid.source now.source
-    → FinishesPart session.state session.unfinished mid.sink.written now.sink.written → RunsPart before now
-finish_part before mid now taken session s le e short =
-    let fs = whole_feeds before mid taken session s le in
-    let f = finishes_long_part session.state session.unfinished s.rest mid.sink.written now.sink.written s.kept short in
-    record {
-      text = s.text;
-      lines = map without_return fs.lines ++ last_line s.rest;
-      others = [];
-      replies = fs.replies ++ f.replies;
-      state = f.after;
-      takes = takes_more_nothing before.source.left mid.source.left now.source.left s.text s.takes e.takes;
-      in_time = in_time_whole s.text (omega (arith, s.long, le)) (served_unended before mid taken session s le);
-      are_lines = subst (λ (ls : List (List ℕ)). AreLines s.text ls) (sym (append-nil (map without_return fs.lines ++ last_line s.rest)))
-          (lines_of s.text fs.lines s.rest fs.answered.whole fs.answered.unbroken fs.unfinished);
-      keeps_on = keeps_on_all (map without_return fs.lines) (last_line s.rest) fs.goes_on (keeps_on_last s.rest);
-      run = run_then (fresh [] []) session.state f.after (map without_return fs.lines) (last_line s.rest) fs.replies f.replies
-          (run_of (fresh [] []) (map without_return fs.lines) fs.replies session.state s.asked fs.answered.run) f.run;
-      written = record {
-        front = fs.replies ++ f.written.front;
-        back = f.written.back;
-        whole = ap (λ (z : List ℕ). fs.replies ++ z) f.written.whole ∙ sym (append_assoc fs.replies f.written.front f.written.back);
-        written = appended_both before.sink.written mid.sink.written now.sink.written fs.replies f.written.front fs.written f.written.written;
-      };
-    }
+  -- the bytes that are fed are the first ones of the text
+  fed_text : (text piece : List ℕ) (taken : ℕ) → length text ≡ taken → taken ≤ MOST_INPUT_BYTES
+      → take MOST_INPUT_BYTES (text ++ piece) ≡ take MOST_INPUT_BYTES text ++ take (MOST_INPUT_BYTES - taken) piece
+  fed_text text piece taken e le =
+      let m : MOST_INPUT_BYTES ≡ length text + (MOST_INPUT_BYTES - taken) = omega (arith, e, le) in
+      ap (λ (k : ℕ). take k (text ++ piece)) m ∙ take-append-add text piece (MOST_INPUT_BYTES - taken)
+      ∙ ap (λ (z : List ℕ). z ++ take (MOST_INPUT_BYTES - taken) piece) (sym (whole_text text taken e le))
 
-fails_more : (before mid now : Streams) → IsCalm before mid → now.source.faults ≡ mid.source.faults → Rose mid.sink.faults now.sink.faults → FailsToWrite before now
-fails_more before mid now c read rose = record { read = read ∙ c.read; write = rose_after before.sink.faults mid.sink.faults now.sink.faults c.write rose }
+  take_fewer : (a b : ℕ) (xs : List ℕ) → take a (take b xs) ≡ take (min b a) xs
+  take_fewer zero b xs = let m : 0 ≡ min b 0 = omega arith in ap (λ (k : ℕ). take k xs) m
+  take_fewer (suc a) zero xs = let m : 0 ≡ min 0 (suc a) = omega arith in ap (λ (k : ℕ). take k xs) m
+  take_fewer (suc a) (suc b) [] = sym (take_all (min (suc b) (suc a)) [] (omega arith))
+  take_fewer (suc a) (suc b) (x ∷ xs) =
+      let m : suc (min b a) ≡ min (suc b) (suc a) = omega arith in
+      ap (λ (z : List ℕ). x ∷ z) (take_fewer a b xs) ∙ ap (λ (k : ℕ). take k (x ∷ xs)) m
 
--- the end of the source was reached
-last_runs : (before mid now : Streams) (taken : ℕ) (session : View) (status : Status) → Served before mid taken session → taken ≤ MOST_INPUT_BYTES
-    → ReadsEnd mid.source now.source → FinishesStatus session mid.sink now.sink status → Runs before now status
-last_runs before mid now taken session Done s le e f = (calm_more before mid now s.calm e.calm f.0, finish_done before mid now taken session f.1.0 f.1.1 s le e f.1.2)
-last_runs before mid now taken session WriteFault s le e f = (fails_more before mid now s.calm e.calm f.0, finish_part before mid now taken session s le e f.1)
-last_runs before mid now taken session NoMemory s le e f = (calm_more before mid now s.calm e.calm f.0, finish_part before mid now taken session s le e f.1)
-last_runs before mid now taken session Usage s le e f = f
-last_runs before mid now taken session ReadFault s le e f = absurd f
-last_runs before mid now taken session TooLong s le e f = absurd f
+  -- a piece was read into the front of a buffer, and its first bytes were fed
+  pub pumped : (session : View) (room n m : ℕ) (buffer : List ℕ) (before now : Streams) (later : View) (end : Option Status)
+      → m ≡ min n room → (n ≡ 0 → ⊥) → n ≤ length buffer → n ≤ PIECE → Consumes before.source.left now.source.left (take n buffer)
+      → now.source.faults ≡ before.source.faults → FeedsStatus session (take m buffer) before.sink now.sink later end
+      → PumpsPiece session room before later now end
+  pumped session room n m buffer before now later end is some fits small takes calm f = record {
+    piece = take n buffer;
+    reads = record { takes = takes; some = omega (arith, length-take n buffer, some, fits); small = omega (arith, length-take n buffer, small, fits); calm = calm };
+    feeds = subst (λ (z : List ℕ). FeedsStatus session z before.sink now.sink later end) (ap (λ (k : ℕ). take k buffer) is ∙ sym (take_fewer room n buffer)) f;
+  }
 
--- a byte before the first line of a text
-cut_onto : (b : ℕ) (bytes : List ℕ) (lines : List (List ℕ)) (rest : List ℕ) → (b ≡ 10 → ⊥) → Cuts bytes lines rest → (ls : List (List ℕ)) × (r : List ℕ) × Cuts (b ∷ bytes) ls r
-cut_onto b bytes [] rest other c = (
-  [],
-  b ∷ rest,
-  record {
-    whole = ap (λ (z : List ℕ). b ∷ z) c.whole;
-    unbroken = All-nil HasNoFeed;
-    unfinished = All-cons (λ x. x ≡ 10 → ⊥) b rest other c.unfinished;
-  },
-)
-cut_onto b bytes (l ∷ ls) rest other c = (
-  (b ∷ l) ∷ ls,
-  rest,
-  record {
-    whole = ap (λ (z : List ℕ). b ∷ z) c.whole;
-    unbroken = All-cons HasNoFeed (b ∷ l) ls (All-cons (λ x. x ≡ 10 → ⊥) b l other (All-head HasNoFeed l ls c.unbroken)) (All-tail HasNoFeed l ls c.unbroken);
-    unfinished = c.unfinished;
-  },
-)
+  pub pumped_on : (session : View) (room n m : ℕ) (buffer : List ℕ) (before now : Streams) (later : View)
+      → m ≡ min n room → (n ≡ 0 → ⊥) → n ≤ length buffer → n ≤ PIECE → Consumes before.source.left now.source.left (take n buffer)
+      → now.source.faults ≡ before.source.faults → FeedsStatus session (take m buffer) before.sink now.sink later None
+      → Pumps session room before later now (Ok n)
+  unfolding pumped
+  pumped_on session room n m buffer before now later is some fits small takes calm f = (
+    pumped session room n m buffer before now later None is some fits small takes calm f,
+    omega (arith, length-take n buffer, fits),
+  )
 
-cut_more : (b : ℕ) (bytes : List ℕ) → ((lines : List (List ℕ)) × (rest : List ℕ) × Cuts bytes lines rest) → Known (b ≡ 10) → (lines : List (List ℕ)) × (rest : List ℕ) × Cuts (b ∷ bytes) lines rest
-cut_more b bytes c (inl feed) = (
-  [] ∷ c.0,
-  c.1,
-  record {
-    whole = ap (λ (x : ℕ). x ∷ bytes) feed ∙ ap (λ (z : List ℕ). 10 ∷ z) c.2.whole;
-    unbroken = All-cons HasNoFeed [] c.0 (All-nil (λ x. x ≡ 10 → ⊥)) c.2.unbroken;
-    unfinished = c.2.unfinished;
-  },
-)
-cut_more b bytes c (inr other) = cut_onto b bytes c.0 c.1 other c.2
+  -- what one more piece adds to the text
+  in_time_more : (text piece : List ℕ) → length text ≤ MOST_INPUT_BYTES → (HasEnd text → ⊥) → length piece ≤ PIECE → StopsInTime (text ++ piece)
+  in_time_more text piece le none small = record { front = text; piece = piece; whole = refl; small = small; within = le; unended = none }
 
--- any text can be cut into lines
-pub cut_of : (text : List ℕ) → (lines : List (List ℕ)) × (rest : List ℕ) × Cuts text lines rest
-cut_of [] = ([], [], record { whole = refl; unbroken = All-nil HasNoFeed; unfinished = All-nil (λ b. b ≡ 10 → ⊥) })
-cut_of (b ∷ bytes) = cut_more b bytes (cut_of bytes) (nat_known b 10)
+  calm_more : (before mid now : Streams) → IsCalm before mid → now.source.faults ≡ mid.source.faults → now.sink.faults ≡ mid.sink.faults → IsCalm before now
+  calm_more before mid now c read write = record { read = read ∙ c.read; write = write ∙ c.write }
 
--- the lines of a text whose first lines are known
-text_lines : (text : List ℕ) (lines : List (List ℕ)) (rest : List ℕ) → text ≡ flat_map ended lines ++ rest → All HasNoFeed lines
-    → (others : List (List ℕ)) × AreLines text (map without_return lines ++ others)
-text_lines text lines rest whole unbroken =
-    let c = cut_of rest in (
-      map without_return c.0 ++ last_line c.1,
+  -- one more piece was read and fed
+  pub served_more : (before mid now : Streams) (taken : ℕ) (session later : View) → Served guides orders before mid taken session → taken ≤ MOST_INPUT_BYTES
+      → (p : PumpsPiece session (MOST_INPUT_BYTES - taken) mid later now None) → Served guides orders before now (taken + length p.piece) later
+  served_more before mid now taken session later s le p =
+      let fed : List ℕ = take (MOST_INPUT_BYTES - taken) p.piece in
+      let left = feeds_long session.state session.unfinished s.rest fed mid.sink.written now.sink.written s.kept s.feeds.unfinished later.state p.feeds.1.1.rest p.feeds.1.0 p.feeds.1.1.feeds in
       record {
-        ended_lines = lines ++ c.0;
-        rest = c.1;
-        cuts = record {
-          whole = whole ∙ ap (λ (z : List ℕ). flat_map ended lines ++ z) c.2.whole ∙ sym (append_assoc (flat_map ended lines) (flat_map ended c.0) c.1)
-              ∙ ap (λ (z : List ℕ). z ++ c.1) (sym (flat_map-append ended lines c.0));
-          unbroken = All-append HasNoFeed lines c.0 unbroken c.2.unbroken;
-          unfinished = c.2.unfinished;
+        text = s.text ++ p.piece;
+        rest = left.0;
+        long = omega (arith, length-append s.text p.piece, s.long);
+        takes = consumes_both before.source.left mid.source.left now.source.left s.text p.piece s.takes p.reads.takes;
+        in_time = in_time_more s.text p.piece (omega (arith, s.long, le)) (served_unended before mid taken session s le) p.reads.small;
+        asked = s.asked + p.feeds.1.0;
+        feeds = subst (λ (z : List ℕ). FeedsOn (fresh guides orders) z before.sink.written now.sink.written left.0 later.state (s.asked + p.feeds.1.0)) (sym (fed_text s.text p.piece taken s.long le))
+            (feeds_more (fresh guides orders) session.state later.state (first_bytes s.text) fed s.rest left.0 before.sink.written mid.sink.written now.sink.written s.asked p.feeds.1.0 s.feeds left.2);
+        kept = p.feeds.1.1.kept ∙ left.1;
+        going = p.feeds.2;
+        calm = calm_more before mid now s.calm p.reads.calm p.feeds.0;
+      }
+
+  pub served_count : (before mid now : Streams) (taken count : ℕ) (session later : View) → Served guides orders before mid taken session → taken ≤ MOST_INPUT_BYTES
+      → Pumps session (MOST_INPUT_BYTES - taken) mid later now (Ok count) → Served guides orders before now (taken + count) later
+  served_count before mid now taken count session later s le p =
+      subst (λ (n : ℕ). Served guides orders before now (taken + n) later) (sym p.1) (served_more before mid now taken session later s le p.0)
+
+  pub served_over : (before now : Streams) (taken : ℕ) (session : View) → Served guides orders before now taken session → MOST_INPUT_BYTES < taken → Runs guides orders before now TooLong
+  served_over before now taken session s over = (
+    s.calm,
+    record {
+      text = s.text;
+      rest = s.rest;
+      state = session.state;
+      asked = s.asked;
+      takes = s.takes;
+      long = omega (arith, s.long, over);
+      in_time = s.in_time;
+      feeds = s.feeds;
+    },
+  )
+
+  all_left : (left mid : Option (List ℕ)) (text : List ℕ) → Consumes left mid text → IsAtEnd mid → IsAll left text
+  all_left None mid text t e = tt
+  all_left (Some l) None text t e = absurd t
+  all_left (Some l) (Some n) text t e = t ∙ ap (λ (z : List ℕ). text ++ z) e ∙ append-nil text
+
+  -- the lines of a text, whole ones and a last one
+  lines_of : (text : List ℕ) (lines : List (List ℕ)) (rest : List ℕ) → text ≡ flat_map ended lines ++ rest → All HasNoFeed lines → HasNoFeed rest
+      → AreLines text (map without_return lines ++ last_line rest)
+  lines_of text lines rest whole unbroken unfinished = record {
+    ended_lines = lines;
+    rest = rest;
+    cuts = record { whole = whole; unbroken = unbroken; unfinished = unfinished };
+    all = refl;
+  }
+
+  answered_lines : (lines : List (List ℕ)) (rest : List ℕ) → All GoesOn lines → All GoesOn (last_line rest) ⊎ All Ends (last_line rest) → AreAnswered (lines ++ last_line rest) (lines ++ last_line rest)
+  answered_lines lines rest on (inl more) = all (All-append GoesOn lines (last_line rest) on more)
+  answered_lines lines [] on (inr ends) = all (All-append GoesOn lines [] on (All-nil GoesOn))
+  answered_lines lines (b ∷ bs) on (inr ends) = until lines [] (without_return (b ∷ bs)) on (All-head Ends (without_return (b ∷ bs)) [] ends) refl
+
+  keeps_on_all : (xs ys : List (List ℕ)) → All GoesOn xs → KeepsOn ys → KeepsOn (xs ++ ys)
+  keeps_on_all [] ys on keeps = keeps
+  keeps_on_all (x ∷ []) [] on keeps = tt
+  keeps_on_all (x ∷ []) (y ∷ ys) on keeps = (All-head GoesOn x [] on, keeps)
+  keeps_on_all (x ∷ z ∷ xs) ys on keeps = (All-head GoesOn x (z ∷ xs) on, keeps_on_all (z ∷ xs) ys (All-tail GoesOn x (z ∷ xs) on) keeps)
+
+  keeps_on_last : (rest : List ℕ) → KeepsOn (last_line rest)
+  keeps_on_last [] = tt
+  keeps_on_last (b ∷ bs) = tt
+
+  front_whole : (was now : Option (List ℕ)) (x : List ℕ) → Appended was now x → AppendedFront was now x
+  front_whole was now x w = record { front = x; back = []; whole = sym (append-nil x); written = w }
+
+  finish_done : (before mid now : Streams) (taken : ℕ) (session : View) (t : SessionState) (n : ℕ) → Served guides orders before mid taken session → taken ≤ MOST_INPUT_BYTES
+      → ReadsEnd mid.source now.source → FinishesAll session.state session.unfinished mid.sink.written now.sink.written t n → RunsAll guides orders before now
+  finish_done before mid now taken session t n s le e short =
+      let fs = whole_feeds before mid taken session s le in
+      let f = finishes_long session.state session.unfinished s.rest mid.sink.written now.sink.written s.kept t n short in
+      record {
+        text = s.text;
+        output = fs.replies ++ f.replies;
+        takes = takes_more_nothing before.source.left mid.source.left now.source.left s.text s.takes e.takes;
+        in_time = in_time_whole s.text (omega (arith, s.long, le)) (served_unended before mid taken session s le);
+        reach = inl (omega (arith, s.long, le), all_left before.source.left mid.source.left s.text s.takes e.at_end);
+        replies = record {
+          lines = map without_return fs.lines ++ last_line s.rest;
+          answered = map without_return fs.lines ++ last_line s.rest;
+          state = t;
+          are_lines = lines_of s.text fs.lines s.rest fs.answered.whole fs.answered.unbroken fs.unfinished;
+          are_answered = answered_lines (map without_return fs.lines) s.rest fs.goes_on f.last;
+          run = run_of (fresh guides orders) (map without_return fs.lines ++ last_line s.rest) (fs.replies ++ f.replies) t (s.asked + n)
+              (run_append (fresh guides orders) session.state t (map without_return fs.lines) (last_line s.rest) fs.replies f.replies s.asked n fs.answered.run f.run);
         };
-        all = sym (append_assoc (map without_return lines) (map without_return c.0) (last_line c.1))
-            ∙ ap (λ (z : List (List ℕ)). z ++ last_line c.1) (sym (map_append lines c.0));
-      },
-    )
+        written = appended_both before.sink.written mid.sink.written now.sink.written fs.replies f.replies fs.written f.written;
+      }
 
-whole_end : (n : ℕ) (text rest : List ℕ) (lines : List (List ℕ)) → take n text ≡ flat_map ended lines ++ rest → text ≡ flat_map ended lines ++ (rest ++ drop n text)
-whole_end n text rest lines e =
-    sym (take-append-drop n text) ∙ ap (λ (z : List ℕ). z ++ drop n text) e ∙ append_assoc (flat_map ended lines) rest (drop n text)
+  finish_part : (before mid now : Streams) (taken : ℕ) (session : View) → Served guides orders before mid taken session → taken ≤ MOST_INPUT_BYTES → ReadsEnd mid.source now.source
+      → FinishesPart session.state session.unfinished mid.sink.written now.sink.written → RunsPart guides orders before now
+  finish_part before mid now taken session s le e short =
+      let fs = whole_feeds before mid taken session s le in
+      let f = finishes_long_part session.state session.unfinished s.rest mid.sink.written now.sink.written s.kept short in
+      record {
+        text = s.text;
+        lines = map without_return fs.lines ++ last_line s.rest;
+        others = [];
+        replies = fs.replies ++ f.replies;
+        state = f.after;
+        takes = takes_more_nothing before.source.left mid.source.left now.source.left s.text s.takes e.takes;
+        in_time = in_time_whole s.text (omega (arith, s.long, le)) (served_unended before mid taken session s le);
+        are_lines = subst (λ (ls : List (List ℕ)). AreLines s.text ls) (sym (append-nil (map without_return fs.lines ++ last_line s.rest)))
+            (lines_of s.text fs.lines s.rest fs.answered.whole fs.answered.unbroken fs.unfinished);
+        keeps_on = keeps_on_all (map without_return fs.lines) (last_line s.rest) fs.goes_on (keeps_on_last s.rest);
+        run = run_then (fresh guides orders) session.state f.after (map without_return fs.lines) (last_line s.rest) fs.replies f.replies
+            (run_of (fresh guides orders) (map without_return fs.lines) fs.replies session.state s.asked fs.answered.run) f.run;
+        written = record {
+          front = fs.replies ++ f.written.front;
+          back = f.written.back;
+          whole = ap (λ (z : List ℕ). fs.replies ++ z) f.written.whole ∙ sym (append_assoc fs.replies f.written.front f.written.back);
+          written = appended_both before.sink.written mid.sink.written now.sink.written fs.replies f.written.front fs.written f.written.written;
+        };
+      }
 
-end_runs : (before now : Streams) (text : List ℕ) (t : SessionState) (n : ℕ) → Consumes before.source.left now.source.left text → StopsInTime text
-    → FeedsEnd (fresh [] []) (first_bytes text) before.sink.written now.sink.written t n → RunsAll before now
-end_runs before now text t n takes in_time e =
-    let l = text_lines text (e.lines ++ e.last ∷ []) (e.rest ++ drop MOST_INPUT_BYTES text) (whole_end MOST_INPUT_BYTES text e.rest (e.lines ++ e.last ∷ []) e.answered.whole) e.answered.unbroken in
+  fails_more : (before mid now : Streams) → IsCalm before mid → now.source.faults ≡ mid.source.faults → Rose mid.sink.faults now.sink.faults → FailsToWrite before now
+  fails_more before mid now c read rose = record { read = read ∙ c.read; write = rose_after before.sink.faults mid.sink.faults now.sink.faults c.write rose }
+
+  -- the end of the source was reached
+  last_runs : (before mid now : Streams) (taken : ℕ) (session : View) (status : Status) → Served guides orders before mid taken session → taken ≤ MOST_INPUT_BYTES
+      → ReadsEnd mid.source now.source → FinishesStatus session mid.sink now.sink status → Runs guides orders before now status
+  last_runs before mid now taken session Done s le e f = (calm_more before mid now s.calm e.calm f.0, finish_done before mid now taken session f.1.0 f.1.1 s le e f.1.2)
+  last_runs before mid now taken session WriteFault s le e f = (fails_more before mid now s.calm e.calm f.0, finish_part before mid now taken session s le e f.1)
+  last_runs before mid now taken session NoMemory s le e f = (calm_more before mid now s.calm e.calm f.0, finish_part before mid now taken session s le e f.1)
+  last_runs before mid now taken session Usage s le e f = f
+  last_runs before mid now taken session ReadFault s le e f = absurd f
+  last_runs before mid now taken session TooLong s le e f = absurd f
+
+  -- a byte before the first line of a text
+  cut_onto : (b : ℕ) (bytes : List ℕ) (lines : List (List ℕ)) (rest : List ℕ) → (b ≡ 10 → ⊥) → Cuts bytes lines rest → (ls : List (List ℕ)) × (r : List ℕ) × Cuts (b ∷ bytes) ls r
+  cut_onto b bytes [] rest other c = (
+    [],
+    b ∷ rest,
     record {
-      text = text;
-      output = e.replies;
-      takes = takes;
-      in_time = in_time;
-      reach = inr (record { before = e.lines; last = e.last; rest = e.rest; whole = e.answered.whole; unbroken = e.answered.unbroken; ends = e.ends });
-      replies = record {
-        lines = map without_return (e.lines ++ e.last ∷ []) ++ l.0;
-        answered = map without_return e.lines ++ without_return e.last ∷ [];
-        state = t;
+      whole = ap (λ (z : List ℕ). b ∷ z) c.whole;
+      unbroken = All-nil HasNoFeed;
+      unfinished = All-cons (λ x. x ≡ 10 → ⊥) b rest other c.unfinished;
+    },
+  )
+  cut_onto b bytes (l ∷ ls) rest other c = (
+    (b ∷ l) ∷ ls,
+    rest,
+    record {
+      whole = ap (λ (z : List ℕ). b ∷ z) c.whole;
+      unbroken = All-cons HasNoFeed (b ∷ l) ls (All-cons (λ x. x ≡ 10 → ⊥) b l other (All-head HasNoFeed l ls c.unbroken)) (All-tail HasNoFeed l ls c.unbroken);
+      unfinished = c.unfinished;
+    },
+  )
+
+  cut_more : (b : ℕ) (bytes : List ℕ) → ((lines : List (List ℕ)) × (rest : List ℕ) × Cuts bytes lines rest) → Known (b ≡ 10) → (lines : List (List ℕ)) × (rest : List ℕ) × Cuts (b ∷ bytes) lines rest
+  cut_more b bytes c (inl feed) = (
+    [] ∷ c.0,
+    c.1,
+    record {
+      whole = ap (λ (x : ℕ). x ∷ bytes) feed ∙ ap (λ (z : List ℕ). 10 ∷ z) c.2.whole;
+      unbroken = All-cons HasNoFeed [] c.0 (All-nil (λ x. x ≡ 10 → ⊥)) c.2.unbroken;
+      unfinished = c.2.unfinished;
+    },
+  )
+  cut_more b bytes c (inr other) = cut_onto b bytes c.0 c.1 other c.2
+
+  -- any text can be cut into lines
+  pub cut_of : (text : List ℕ) → (lines : List (List ℕ)) × (rest : List ℕ) × Cuts text lines rest
+  cut_of [] = ([], [], record { whole = refl; unbroken = All-nil HasNoFeed; unfinished = All-nil (λ b. b ≡ 10 → ⊥) })
+  cut_of (b ∷ bytes) = cut_more b bytes (cut_of bytes) (nat_known b 10)
+
+  -- the lines of a text whose first lines are known
+  text_lines : (text : List ℕ) (lines : List (List ℕ)) (rest : List ℕ) → text ≡ flat_map ended lines ++ rest → All HasNoFeed lines
+      → (others : List (List ℕ)) × AreLines text (map without_return lines ++ others)
+  text_lines text lines rest whole unbroken =
+      let c = cut_of rest in (
+        map without_return c.0 ++ last_line c.1,
+        record {
+          ended_lines = lines ++ c.0;
+          rest = c.1;
+          cuts = record {
+            whole = whole ∙ ap (λ (z : List ℕ). flat_map ended lines ++ z) c.2.whole ∙ sym (append_assoc (flat_map ended lines) (flat_map ended c.0) c.1)
+                ∙ ap (λ (z : List ℕ). z ++ c.1) (sym (flat_map-append ended lines c.0));
+            unbroken = All-append HasNoFeed lines c.0 unbroken c.2.unbroken;
+            unfinished = c.2.unfinished;
+          };
+          all = sym (append_assoc (map without_return lines) (map without_return c.0) (last_line c.1))
+              ∙ ap (λ (z : List (List ℕ)). z ++ last_line c.1) (sym (map_append lines c.0));
+        },
+      )
+
+  whole_end : (n : ℕ) (text rest : List ℕ) (lines : List (List ℕ)) → take n text ≡ flat_map ended lines ++ rest → text ≡ flat_map ended lines ++ (rest ++ drop n text)
+  whole_end n text rest lines e =
+      sym (take-append-drop n text) ∙ ap (λ (z : List ℕ). z ++ drop n text) e ∙ append_assoc (flat_map ended lines) rest (drop n text)
+
+  end_runs : (before now : Streams) (text : List ℕ) (t : SessionState) (n : ℕ) → Consumes before.source.left now.source.left text → StopsInTime text
+      → FeedsEnd (fresh guides orders) (first_bytes text) before.sink.written now.sink.written t n → RunsAll guides orders before now
+  end_runs before now text t n takes in_time e =
+      let l = text_lines text (e.lines ++ e.last ∷ []) (e.rest ++ drop MOST_INPUT_BYTES text) (whole_end MOST_INPUT_BYTES text e.rest (e.lines ++ e.last ∷ []) e.answered.whole) e.answered.unbroken in
+      record {
+        text = text;
+        output = e.replies;
+        takes = takes;
+        in_time = in_time;
+        reach = inr (record { before = e.lines; last = e.last; rest = e.rest; whole = e.answered.whole; unbroken = e.answered.unbroken; ends = e.ends });
+        replies = record {
+          lines = map without_return (e.lines ++ e.last ∷ []) ++ l.0;
+          answered = map without_return e.lines ++ without_return e.last ∷ [];
+          state = t;
+          are_lines = l.1;
+          are_answered = until (map without_return e.lines) l.0 (without_return e.last) e.goes_on e.ends
+              (ap (λ (z : List (List ℕ)). z ++ l.0) (map_more e.lines e.last) ∙ append_assoc (map without_return e.lines) (without_return e.last ∷ []) l.0);
+          run = subst (λ (ls : List (List ℕ)). Run (fresh guides orders) ls e.replies t) (map_more e.lines e.last) (run_of (fresh guides orders) (map without_return (e.lines ++ e.last ∷ [])) e.replies t n e.answered.run);
+        };
+        written = e.written;
+      }
+
+  part_runs : (before now : Streams) (text : List ℕ) → Consumes before.source.left now.source.left text → StopsInTime text
+      → FeedsPart (fresh guides orders) (first_bytes text) before.sink.written now.sink.written → RunsPart guides orders before now
+  part_runs before now text takes in_time p =
+      let l = text_lines text p.lines (p.rest ++ drop MOST_INPUT_BYTES text) (whole_end MOST_INPUT_BYTES text p.rest p.lines p.answered.whole) p.answered.unbroken in
+      record {
+        text = text;
+        lines = map without_return p.lines;
+        others = l.0;
+        replies = p.replies;
+        state = p.after;
+        takes = takes;
+        in_time = in_time;
         are_lines = l.1;
-        are_answered = until (map without_return e.lines) l.0 (without_return e.last) e.goes_on e.ends
-            (ap (λ (z : List (List ℕ)). z ++ l.0) (map_more e.lines e.last) ∙ append_assoc (map without_return e.lines) (without_return e.last ∷ []) l.0);
-        run = subst (λ (ls : List (List ℕ)). Run (fresh [] []) ls e.replies t) (map_more e.lines e.last) (run_of (fresh [] []) (map without_return (e.lines ++ e.last ∷ [])) e.replies t n e.answered.run);
-      };
-      written = e.written;
-    }
+        keeps_on = p.keeps_on;
+        run = p.answered.run;
+        written = p.written;
+      }
 
-part_runs : (before now : Streams) (text : List ℕ) → Consumes before.source.left now.source.left text → StopsInTime text
-    → FeedsPart (fresh [] []) (first_bytes text) before.sink.written now.sink.written → RunsPart before now
-part_runs before now text takes in_time p =
-    let l = text_lines text p.lines (p.rest ++ drop MOST_INPUT_BYTES text) (whole_end MOST_INPUT_BYTES text p.rest p.lines p.answered.whole) p.answered.unbroken in
-    record {
-      text = text;
-      lines = map without_return p.lines;
-      others = l.0;
-      replies = p.replies;
-      state = p.after;
-      takes = takes;
-      in_time = in_time;
-      are_lines = l.1;
-      keeps_on = p.keeps_on;
-      run = p.answered.run;
-      written = p.written;
-    }
+  more_part : (before mid now : Streams) (taken : ℕ) (session : View) (piece : List ℕ) → Served guides orders before mid taken session → taken ≤ MOST_INPUT_BYTES
+      → ReadsPiece mid.source now.source piece
+      → FeedsPart session.state (session.unfinished ++ take (MOST_INPUT_BYTES - taken) piece) mid.sink.written now.sink.written → RunsPart guides orders before now
+  more_part before mid now taken session piece s le r f =
+      part_runs before now (s.text ++ piece) (consumes_both before.source.left mid.source.left now.source.left s.text piece s.takes r.takes)
+      (in_time_more s.text piece (omega (arith, s.long, le)) (served_unended before mid taken session s le) r.small)
+      (subst (λ (z : List ℕ). FeedsPart (fresh guides orders) z before.sink.written now.sink.written) (sym (fed_text s.text piece taken s.long le))
+      (feeds_more_part (fresh guides orders) session.state (first_bytes s.text) (take (MOST_INPUT_BYTES - taken) piece) s.rest before.sink.written mid.sink.written now.sink.written s.asked s.feeds
+      (feeds_long_part session.state session.unfinished s.rest (take (MOST_INPUT_BYTES - taken) piece) mid.sink.written now.sink.written s.kept s.feeds.unfinished f)))
 
-more_part : (before mid now : Streams) (taken : ℕ) (session : View) (piece : List ℕ) → Served before mid taken session → taken ≤ MOST_INPUT_BYTES
-    → ReadsPiece mid.source now.source piece
-    → FeedsPart session.state (session.unfinished ++ take (MOST_INPUT_BYTES - taken) piece) mid.sink.written now.sink.written → RunsPart before now
-more_part before mid now taken session piece s le r f =
-    part_runs before now (s.text ++ piece) (consumes_both before.source.left mid.source.left now.source.left s.text piece s.takes r.takes)
-    (in_time_more s.text piece (omega (arith, s.long, le)) (served_unended before mid taken session s le) r.small)
-    (subst (λ (z : List ℕ). FeedsPart (fresh [] []) z before.sink.written now.sink.written) (sym (fed_text s.text piece taken s.long le))
-    (feeds_more_part (fresh [] []) session.state (first_bytes s.text) (take (MOST_INPUT_BYTES - taken) piece) s.rest before.sink.written mid.sink.written now.sink.written s.asked s.feeds
-    (feeds_long_part session.state session.unfinished s.rest (take (MOST_INPUT_BYTES - taken) piece) mid.sink.written now.sink.written s.kept s.feeds.unfinished f)))
+  more_end : (before mid now : Streams) (taken : ℕ) (session later : View) (piece : List ℕ) (n : ℕ) → Served guides orders before mid taken session → taken ≤ MOST_INPUT_BYTES
+      → ReadsPiece mid.source now.source piece
+      → FeedsEnd session.state (session.unfinished ++ take (MOST_INPUT_BYTES - taken) piece) mid.sink.written now.sink.written later.state n → RunsAll guides orders before now
+  more_end before mid now taken session later piece n s le r f =
+      end_runs before now (s.text ++ piece) later.state (s.asked + n) (consumes_both before.source.left mid.source.left now.source.left s.text piece s.takes r.takes)
+      (in_time_more s.text piece (omega (arith, s.long, le)) (served_unended before mid taken session s le) r.small)
+      (subst (λ (z : List ℕ). FeedsEnd (fresh guides orders) z before.sink.written now.sink.written later.state (s.asked + n)) (sym (fed_text s.text piece taken s.long le))
+      (feeds_more_end (fresh guides orders) session.state later.state (first_bytes s.text) (take (MOST_INPUT_BYTES - taken) piece) s.rest before.sink.written mid.sink.written now.sink.written s.asked n s.feeds
+      (feeds_long_end session.state session.unfinished s.rest (take (MOST_INPUT_BYTES - taken) piece) mid.sink.written now.sink.written s.kept s.feeds.unfinished later.state n f)))
 
-more_end : (before mid now : Streams) (taken : ℕ) (session later : View) (piece : List ℕ) (n : ℕ) → Served before mid taken session → taken ≤ MOST_INPUT_BYTES
-    → ReadsPiece mid.source now.source piece
-    → FeedsEnd session.state (session.unfinished ++ take (MOST_INPUT_BYTES - taken) piece) mid.sink.written now.sink.written later.state n → RunsAll before now
-more_end before mid now taken session later piece n s le r f =
-    end_runs before now (s.text ++ piece) later.state (s.asked + n) (consumes_both before.source.left mid.source.left now.source.left s.text piece s.takes r.takes)
-    (in_time_more s.text piece (omega (arith, s.long, le)) (served_unended before mid taken session s le) r.small)
-    (subst (λ (z : List ℕ). FeedsEnd (fresh [] []) z before.sink.written now.sink.written later.state (s.asked + n)) (sym (fed_text s.text piece taken s.long le))
-    (feeds_more_end (fresh [] []) session.state later.state (first_bytes s.text) (take (MOST_INPUT_BYTES - taken) piece) s.rest before.sink.written mid.sink.written now.sink.written s.asked n s.feeds
-    (feeds_long_end session.state session.unfinished s.rest (take (MOST_INPUT_BYTES - taken) piece) mid.sink.written now.sink.written s.kept s.feeds.unfinished later.state n f)))
+  -- feeding a piece ended the run
+  piece_runs : (before mid now : Streams) (taken : ℕ) (session later : View) (status : Status) (piece : List ℕ) → Served guides orders before mid taken session → taken ≤ MOST_INPUT_BYTES
+      → ReadsPiece mid.source now.source piece → FeedsStatus session (take (MOST_INPUT_BYTES - taken) piece) mid.sink now.sink later (Some status) → Runs guides orders before now status
+  piece_runs before mid now taken session later Done piece s le r f = (calm_more before mid now s.calm r.calm f.0, more_end before mid now taken session later piece f.1.0 s le r f.1.1)
+  piece_runs before mid now taken session later WriteFault piece s le r f = (fails_more before mid now s.calm r.calm f.0, more_part before mid now taken session piece s le r f.1)
+  piece_runs before mid now taken session later NoMemory piece s le r f = (calm_more before mid now s.calm r.calm f.0, more_part before mid now taken session piece s le r f.1)
+  piece_runs before mid now taken session later Usage piece s le r f = f
+  piece_runs before mid now taken session later ReadFault piece s le r f = absurd f
+  piece_runs before mid now taken session later TooLong piece s le r f = absurd f
 
--- feeding a piece ended the run
-piece_runs : (before mid now : Streams) (taken : ℕ) (session later : View) (status : Status) (piece : List ℕ) → Served before mid taken session → taken ≤ MOST_INPUT_BYTES
-    → ReadsPiece mid.source now.source piece → FeedsStatus session (take (MOST_INPUT_BYTES - taken) piece) mid.sink now.sink later (Some status) → Runs before now status
-piece_runs before mid now taken session later Done piece s le r f = (calm_more before mid now s.calm r.calm f.0, more_end before mid now taken session later piece f.1.0 s le r f.1.1)
-piece_runs before mid now taken session later WriteFault piece s le r f = (fails_more before mid now s.calm r.calm f.0, more_part before mid now taken session piece s le r f.1)
-piece_runs before mid now taken session later NoMemory piece s le r f = (calm_more before mid now s.calm r.calm f.0, more_part before mid now taken session piece s le r f.1)
-piece_runs before mid now taken session later Usage piece s le r f = f
-piece_runs before mid now taken session later ReadFault piece s le r f = absurd f
-piece_runs before mid now taken session later TooLong piece s le r f = absurd f
+  -- a read ended the run
+  pub pump_runs : (before mid now : Streams) (taken : ℕ) (session later : View) (status : Status) → Served guides orders before mid taken session → taken ≤ MOST_INPUT_BYTES
+      → Pumps session (MOST_INPUT_BYTES - taken) mid later now (Err status) → Runs guides orders before now status
+  pump_runs before mid now taken session later status s le (inl fault) =
+      subst (λ (x : Status). Runs guides orders before now x) (sym fault.fault)
+      (fault_runs before mid now taken session s le (subst (λ (x : Status). PumpsFault mid now x) fault.fault fault))
+  pump_runs before mid now taken session later status s le (inr (inl last)) = last_runs before mid now taken session status s le last.reads last.finishes
+  pump_runs before mid now taken session later status s le (inr (inr p)) = piece_runs before mid now taken session later status p.piece s le p.reads p.feeds
 
--- a read ended the run
-pub pump_runs : (before mid now : Streams) (taken : ℕ) (session later : View) (status : Status) → Served before mid taken session → taken ≤ MOST_INPUT_BYTES
-    → Pumps session (MOST_INPUT_BYTES - taken) mid later now (Err status) → Runs before now status
-pump_runs before mid now taken session later status s le (inl fault) =
-    subst (λ (x : Status). Runs before now x) (sym fault.fault)
-    (fault_runs before mid now taken session s le (subst (λ (x : Status). PumpsFault mid now x) fault.fault fault))
-pump_runs before mid now taken session later status s le (inr (inl last)) = last_runs before mid now taken session status s le last.reads last.finishes
-pump_runs before mid now taken session later status s le (inr (inr p)) = piece_runs before mid now taken session later status p.piece s le p.reads p.feeds
+  -- the bytes of a list of one word
+  pub one_word : (words : List (String Global)) (word : String Global) (bytes : List ℕ) → 1 ≤ length words → length words < 2 → word ≡ get_or words 0 word
+      → string_bytes word ≡ bytes → map string_bytes words ≡ bytes ∷ []
+  one_word [] word bytes some few at same = absurd (omega (arith, some))
+  one_word (w ∷ []) word bytes some few at same = ap (λ (z : List ℕ). z ∷ []) (ap string_bytes (sym at) ∙ same)
+  one_word (w ∷ v ∷ ws) word bytes some few at same = absurd (omega (arith, few))
 
--- the bytes of a list of one word
-pub one_word : (words : List (String Global)) (word : String Global) (bytes : List ℕ) → 1 ≤ length words → length words < 2 → word ≡ get_or words 0 word
-    → string_bytes word ≡ bytes → map string_bytes words ≡ bytes ∷ []
-one_word [] word bytes some few at same = absurd (omega (arith, some))
-one_word (w ∷ []) word bytes some few at same = ap (λ (z : List ℕ). z ∷ []) (ap string_bytes (sym at) ∙ same)
-one_word (w ∷ v ∷ ws) word bytes some few at same = absurd (omega (arith, few))
+  -- without a fault and within the limit
+  pub whole_status : (before after : Streams) (status : Status) → Runs guides orders before after status → HasNoFault before after → TakesAnswerable before after → IsWhole status
+  whole_status before after Done r none within = tt
+  whole_status before after Usage r none within = r
+  whole_status before after ReadFault r none within = none.read r.0.read
+  whole_status before after WriteFault r none within = none.write r.0.write
+  whole_status before after NoMemory r none within = tt
+  whole_status before after TooLong r none within =
+      elim (within r.1.text r.1.takes) [
+        | inl short ↦ absurd (omega (arith, short, r.1.long))
+        | inr end ↦ no_end (fresh guides orders) r.1.state (first_bytes r.1.text) r.1.rest before.sink.written after.sink.written r.1.asked r.1.feeds end
+      ]
 
--- without a fault and within the limit
-pub whole_status : (before after : Streams) (status : Status) → Runs before after status → HasNoFault before after → TakesAnswerable before after → IsWhole status
-whole_status before after Done r none within = tt
-whole_status before after Usage r none within = r
-whole_status before after ReadFault r none within = none.read r.0.read
-whole_status before after WriteFault r none within = none.write r.0.write
-whole_status before after NoMemory r none within = tt
-whole_status before after TooLong r none within =
-    elim (within r.1.text r.1.takes) [
-      | inl short ↦ absurd (omega (arith, short, r.1.long))
-      | inr end ↦ no_end (fresh [] []) r.1.state (first_bytes r.1.text) r.1.rest before.sink.written after.sink.written r.1.asked r.1.feeds end
-    ]
+  -- where the source tells its bytes, it is known which were taken
+  taken_once : (left : List ℕ) (now_left : Option (List ℕ)) (a b : List ℕ) → Consumes (Some left) now_left a → Consumes (Some left) now_left b → a ≡ b
+  taken_once left None a b t u = absurd t
+  taken_once left (Some n) a b t u =
+      let la : length left ≡ length a + length n = ap length t ∙ length-append a n in
+      let lb : length left ≡ length b + length n = ap length u ∙ length-append b n in
+      let same : length a ≡ length b = omega (arith, la, lb) in
+      sym (take-append_seam a n) ∙ ap (λ (z : List ℕ). take (length a) z) (sym t ∙ u) ∙ ap (λ (k : ℕ). take k (b ++ n)) same ∙ take-append_seam b n
 
--- where the source tells its bytes, it is known which were taken
-taken_once : (left : List ℕ) (now_left : Option (List ℕ)) (a b : List ℕ) → Consumes (Some left) now_left a → Consumes (Some left) now_left b → a ≡ b
-taken_once left None a b t u = absurd t
-taken_once left (Some n) a b t u =
-    let la : length left ≡ length a + length n = ap length t ∙ length-append a n in
-    let lb : length left ≡ length b + length n = ap length u ∙ length-append b n in
-    let same : length a ≡ length b = omega (arith, la, lb) in
-    sym (take-append_seam a n) ∙ ap (λ (z : List ℕ). take (length a) z) (sym t ∙ u) ∙ ap (λ (k : ℕ). take k (b ++ n)) same ∙ take-append_seam b n
+  told_once : (before after : Option (List ℕ)) (left a b : List ℕ) → before ≡ Some left → Consumes before after a → Consumes before after b → a ≡ b
+  told_once before after left a b told t u =
+      taken_once left after a b (subst (λ (z : Option (List ℕ)). Consumes z after a) told t) (subst (λ (z : Option (List ℕ)). Consumes z after b) told u)
 
-told_once : (before after : Option (List ℕ)) (left a b : List ℕ) → before ≡ Some left → Consumes before after a → Consumes before after b → a ≡ b
-told_once before after left a b told t u =
-    taken_once left after a b (subst (λ (z : Option (List ℕ)). Consumes z after a) told t) (subst (λ (z : Option (List ℕ)). Consumes z after b) told u)
+  -- more bytes than can be answered
+  pub cut_status : (before after : Streams) (status : Status) → Runs guides orders before after status → TakesTooMuch before after → (Rose before.sink.faults after.sink.faults → ⊥) → IsCut status
+  cut_status before after Done r much none =
+      let same : r.1.text ≡ much.text = told_once before.source.left after.source.left much.left r.1.text much.text much.told r.1.takes much.takes in
+      elim r.1.reach [
+        | inl short ↦ absurd (omega (arith, ap length same, short.0, much.long))
+        | inr end ↦ absurd (much.unended (subst (λ (z : List ℕ). HasEnd (first_bytes z)) same end))
+      ]
+  cut_status before after Usage r much none = r
+  cut_status before after ReadFault r much none =
+      absurd (omega (arith, ap length (told_once before.source.left after.source.left much.left r.1.text much.text much.told r.1.takes much.takes), r.1.short, much.long))
+  cut_status before after WriteFault r much none = none r.0.write
+  cut_status before after NoMemory r much none = tt
+  cut_status before after TooLong r much none = tt
 
--- more bytes than can be answered
-pub cut_status : (before after : Streams) (status : Status) → Runs before after status → TakesTooMuch before after → (Rose before.sink.faults after.sink.faults → ⊥) → IsCut status
-cut_status before after Done r much none =
-    let same : r.1.text ≡ much.text = told_once before.source.left after.source.left much.left r.1.text much.text much.told r.1.takes much.takes in
-    elim r.1.reach [
-      | inl short ↦ absurd (omega (arith, ap length same, short.0, much.long))
-      | inr end ↦ absurd (much.unended (subst (λ (z : List ℕ). HasEnd (first_bytes z)) same end))
-    ]
-cut_status before after Usage r much none = r
-cut_status before after ReadFault r much none =
-    absurd (omega (arith, ap length (told_once before.source.left after.source.left much.left r.1.text much.text much.told r.1.takes much.takes), r.1.short, much.long))
-cut_status before after WriteFault r much none = none r.0.write
-cut_status before after NoMemory r much none = tt
-cut_status before after TooLong r much none = tt
+-- a session that was just made is fresh
+pub made_fresh : (guides orders : List ℕ) (session : View) → session ≡ record { state = fresh guides orders; checks = 0; unfinished = []; over = false } → IsFresh session
+made_fresh guides orders session e = subst IsFresh (sym e) refl
+
+-- and has the numbers of the objects that were handed in
+pub made_runs : (guides orders : List ℕ) (session : View) (before after : Streams) (status : Status) → session ≡ record { state = fresh guides orders; checks = 0; unfinished = []; over = false }
+    → Runs session.state.guides session.state.orders before after status → Runs guides orders before after status
+made_runs guides orders session before after status e r = subst (λ (v : View). Runs v.state.guides v.state.orders before after status) e r

@@ -68,29 +68,29 @@ IsAll None text = ⊤
 IsAll (Some left) text = left ≡ text
 
 -- the whole text was taken and answered: to its end, or to a line among the first bytes that ends the session
-pub record RunsAll (before after : Streams) : Type 0 where
+pub record RunsAll (guides orders : List ℕ) (before after : Streams) : Type 0 where
   pub text : List ℕ
   pub output : List ℕ
   pub takes : Consumes before.source.left after.source.left text
   pub in_time : StopsInTime text
   pub reach : ((length text ≤ MOST_INPUT_BYTES) × IsAll before.source.left text) ⊎ HasEnd (first_bytes text)
-  pub replies : Replies [] [] text output
+  pub replies : Replies guides orders text output
   pub written : Appended before.sink.written after.sink.written output
 
 -- so many bytes were taken, and the replies to the lines that they complete were written, while support was asked for so
 -- often
-pub record RunsLines (before after : Streams) : Type 0 where
+pub record RunsLines (guides orders : List ℕ) (before after : Streams) : Type 0 where
   pub text : List ℕ
   pub rest : List ℕ
   pub state : SessionState
   pub asked : ℕ
   pub takes : Consumes before.source.left after.source.left text
   pub short : length text ≤ MOST_INPUT_BYTES
-  pub feeds : FeedsOn (fresh [] []) text before.sink.written after.sink.written rest state asked
+  pub feeds : FeedsOn (fresh guides orders) text before.sink.written after.sink.written rest state asked
 
 -- more bytes were taken than can be answered, and the replies to the lines that the first of them complete were written,
 -- while support was asked for so often
-pub record RunsOver (before after : Streams) : Type 0 where
+pub record RunsOver (guides orders : List ℕ) (before after : Streams) : Type 0 where
   pub text : List ℕ
   pub rest : List ℕ
   pub state : SessionState
@@ -98,10 +98,10 @@ pub record RunsOver (before after : Streams) : Type 0 where
   pub takes : Consumes before.source.left after.source.left text
   pub long : MOST_INPUT_BYTES < length text
   pub in_time : StopsInTime text
-  pub feeds : FeedsOn (fresh [] []) (first_bytes text) before.sink.written after.sink.written rest state asked
+  pub feeds : FeedsOn (fresh guides orders) (first_bytes text) before.sink.written after.sink.written rest state asked
 
 -- a front of the replies to the first lines of what was taken was written
-pub record RunsPart (before after : Streams) : Type 0 where
+pub record RunsPart (guides orders : List ℕ) (before after : Streams) : Type 0 where
   pub text : List ℕ
   pub lines : List (List ℕ)
   pub others : List (List ℕ)
@@ -111,17 +111,17 @@ pub record RunsPart (before after : Streams) : Type 0 where
   pub in_time : StopsInTime text
   pub are_lines : AreLines text (lines ++ others)
   pub keeps_on : KeepsOn lines
-  pub run : Run (fresh [] []) lines replies state
+  pub run : Run (fresh guides orders) lines replies state
   pub written : AppendedFront before.sink.written after.sink.written replies
 
--- what `run` does, by the status that it ends with
-abbrev pub Runs : Streams → Streams → Status → Type 0
-Runs before after Done = IsCalm before after × RunsAll before after
-Runs before after Usage = ⊥
-Runs before after ReadFault = FailsToRead before after × RunsLines before after
-Runs before after WriteFault = FailsToWrite before after × RunsPart before after
-Runs before after NoMemory = IsCalm before after × RunsPart before after
-Runs before after TooLong = IsCalm before after × RunsOver before after
+-- what `run` does where guides and orders with these numbers were handed in, by the status that it ends with
+abbrev pub Runs : List ℕ → List ℕ → Streams → Streams → Status → Type 0
+Runs guides orders before after Done = IsCalm before after × RunsAll guides orders before after
+Runs guides orders before after Usage = ⊥
+Runs guides orders before after ReadFault = FailsToRead before after × RunsLines guides orders before after
+Runs guides orders before after WriteFault = FailsToWrite before after × RunsPart guides orders before after
+Runs guides orders before after NoMemory = IsCalm before after × RunsPart guides orders before after
+Runs guides orders before after TooLong = IsCalm before after × RunsOver guides orders before after
 
 -- the usage line was written, or a front of it where a write failed
 abbrev pub WritesUsage : SinkState → SinkState → Status → Type 0

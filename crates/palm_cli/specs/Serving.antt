@@ -1,12 +1,16 @@
 -- What the steps of `run` do: one read, and the lines that it completes.
 use Rattle.std.specs.Prelude.{◌≡◌, ℕ, ◌<◌, ◌≤◌, ◌⊎◌, List, [], ◌++◌, length, take, Option, Some, None, Result, Ok, Err, false}
 use Rattle.palm_base.specs.Streams.{SourceState, SinkState, Consumes, IsAtEnd, Rose}
-use Rattle.palm_session.specs.State.{SessionState}
+use Rattle.palm_session.specs.State.{SessionState, fresh}
 use Rattle.palm_session.specs.Feeding.{View, KeepsRest, FeedsEnd, FeedsPart, FinishesAll, FinishesPart}
 use Rattle.palm_cli.specs.Commands.{Streams}
 use Rattle.palm_cli.specs.declared.limits.TheConstants.{PIECE}
 use Rattle.palm_cli.specs.declared.status.Status.{Status}
 use Rattle.palm_cli.specs.declared.status.Status.TheVariants.{Done, ReadFault, WriteFault, NoMemory}
+
+-- a session that was just made
+abbrev pub IsFresh : View → Type 0
+IsFresh session = session ≡ record { state = fresh session.state.guides session.state.orders; checks = 0; unfinished = []; over = false }
 
 -- what feeding a piece does, by the status of the run if it ends there
 abbrev pub FeedsStatus : View → List ℕ → SinkState → SinkState → View → Option Status → Type 0

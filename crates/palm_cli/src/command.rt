@@ -1,24 +1,31 @@
 //! The one call that the program makes.
-ghost use Rattle.std.specs.Prelude.{◌≡◌, map, codes, string_bytes};
+ghost use Rattle.std.specs.Prelude.{◌≡◌, map, codes, string_bytes, vec_len};
 ghost use Rattle.palm_base.specs.Streams.{Rose};
 ghost use Rattle.palm_base.specs.Tells.{Tells};
+ghost use Rattle.palm_session.specs.Objects.{numbered};
 ghost use Rattle.palm_cli.specs.Commands.{IsRun, IsCut, IsWhole, HasNoFault, Refuses, Runs, TakesAnswerable, TakesTooMuch, WritesUsage, streams};
 
 use crate::serving::run;
 use crate::status::Status;
+use palm_agenda::Order;
 use palm_base::{Failed, Sink, Source, write_all};
+use palm_guide::Guide;
 use std::alloc::Global;
 
-/// Does what the words after the program's name say, and answers how that ended.
-pub fn top<S: Source, K: Sink>(
+/// Does what the words after the program's name say, and answers how that ended. Lines of a session choose among these
+/// guides and orders by their numbers, counted from 1.
+pub fn top<S: Source, K: Sink, G: Guide, O: Order>(
     alloc: Global,
     words: &[String],
     source: &mut S,
     sink: &mut K,
+    guides: Vec<G>,
+    orders: Vec<O>,
 ) -> Status
-    // `run` answers the lines of the source one by one; every other end has its cause.
+    // `run` answers the lines of the source one by one, whatever the guides and orders are; every other end has its cause.
     ensures runs { IsRun (map string_bytes words.now) →
-        Runs (streams (S.state source.old) (K.state sink.old)) (streams (S.state source.new) (K.state sink.new)) result }
+        Runs (numbered (vec_len guides)) (numbered (vec_len orders))
+        (streams (S.state source.old) (K.state sink.old)) (streams (S.state source.new) (K.state sink.new)) result }
     // Other words are answered by the usage line.
     ensures refuses { (IsRun (map string_bytes words.now) → ⊥) →
         Refuses (streams (S.state source.old) (K.state sink.old)) (streams (S.state source.new) (K.state sink.new)) result }
@@ -33,7 +40,7 @@ pub fn top<S: Source, K: Sink>(
         (Rose (K.state sink.old).faults (K.state sink.new).faults → ⊥) → IsCut result }
 {
     if is_run(words) {
-        run(alloc, source, sink)
+        run(alloc, source, sink, guides, orders)
     } else {
         refuse(sink)
     }

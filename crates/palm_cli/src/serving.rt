@@ -1,12 +1,14 @@
 //! The command `run`.
-ghost use Rattle.std.specs.Prelude.{◌≡◌, ◌<◌, [], false, length};
-ghost use Rattle.palm_session.specs.State.{fresh};
+ghost use Rattle.std.specs.Prelude.{◌≡◌, ◌<◌, false, length, vec_len};
+ghost use Rattle.palm_session.specs.Objects.{numbered};
 ghost use Rattle.palm_cli.specs.Commands.{Runs, streams};
-ghost use Rattle.palm_cli.specs.Serving.{FeedsStatus, FinishesStatus, Pumps};
+ghost use Rattle.palm_cli.specs.Serving.{FeedsStatus, FinishesStatus, IsFresh, Pumps};
 
 use crate::limits::{MOST_INPUT_BYTES, PIECE};
 use crate::status::Status;
+use palm_agenda::Order;
 use palm_base::{Failed, Sink, Source, Steps};
+use palm_guide::Guide;
 use palm_session::{Going, Session, Stop};
 use std::alloc::Global;
 use std::marker::Brand;
@@ -14,26 +16,36 @@ use std::sync::ledger::{Blank, Ledger};
 
 /// Reads the source in pieces, to its end or to a line that ends the session, and answers each line before the next
 /// read.
-pub fn run<S: Source, K: Sink>(alloc: Global, source: &mut S, sink: &mut K) -> Status
-    ensures { Runs (streams (S.state source.old) (K.state sink.old)) (streams (S.state source.new) (K.state sink.new)) result }
-{
-    run_counted::<S, K, Brand>(alloc, source, sink, Blank::new(1))
-}
-
-/// The same, with a counter of its own.
-fn run_counted<S: Source, K: Sink, L: Ledger>(
+pub fn run<S: Source, K: Sink, G: Guide, O: Order>(
     alloc: Global,
     source: &mut S,
     sink: &mut K,
+    guides: Vec<G>,
+    orders: Vec<O>,
+) -> Status
+    ensures { Runs (numbered (vec_len guides)) (numbered (vec_len orders))
+        (streams (S.state source.old) (K.state sink.old)) (streams (S.state source.new) (K.state sink.new)) result }
+{
+    run_counted::<S, K, G, O, Brand>(alloc, source, sink, guides, orders, Blank::new(1))
+}
+
+/// The same, with a counter of its own.
+fn run_counted<S: Source, K: Sink, G: Guide, O: Order, L: Ledger>(
+    alloc: Global,
+    source: &mut S,
+    sink: &mut K,
+    guides: Vec<G>,
+    orders: Vec<O>,
     blank: Blank,
 ) -> Status
     requires named { blank.name ≡ L.name }
     requires parts { blank.parts ≡ L.parts }
     requires shared { 0 < L.parts }
-    ensures { Runs (streams (S.state source.old) (K.state sink.old)) (streams (S.state source.new) (K.state sink.new)) result }
+    ensures { Runs (numbered (vec_len guides)) (numbered (vec_len orders))
+        (streams (S.state source.old) (K.state sink.old)) (streams (S.state source.new) (K.state sink.new)) result }
 {
     let mut steps = Steps::<L>::start(blank);
-    let Ok(mut session) = Session::new(alloc) else {
+    let Ok(mut session) = Session::new(alloc, guides, orders) else {
         return Status::NoMemory;
     };
     let Ok(mut buffer) = vec![in alloc; 0u8; PIECE] else {
@@ -43,16 +55,17 @@ fn run_counted<S: Source, K: Sink, L: Ledger>(
 }
 
 /// Reads pieces and feeds them to a fresh session.
-fn serve<S: Source, K: Sink, L: Ledger>(
-    session: &mut Session,
+fn serve<S: Source, K: Sink, G: Guide, O: Order, L: Ledger>(
+    session: &mut Session<G, O>,
     source: &mut S,
     buffer: &mut [u8],
     sink: &mut K,
     steps: &mut Steps<L>,
 ) -> Status
-    requires fresh { session.old ≡ record { state = fresh [] []; checks = 0; unfinished = []; over = false } }
+    requires fresh { IsFresh session.old }
     requires piece { length buffer.old ≡ PIECE }
-    ensures { Runs (streams (S.state source.old) (K.state sink.old)) (streams (S.state source.new) (K.state sink.new)) result }
+    ensures { Runs session.old.state.guides session.old.state.orders
+        (streams (S.state source.old) (K.state sink.old)) (streams (S.state source.new) (K.state sink.new)) result }
 {
     let mut taken = 0;
     while taken <= MOST_INPUT_BYTES {
@@ -73,8 +86,8 @@ fn serve<S: Source, K: Sink, L: Ledger>(
 
 /// Reads once, and answers the lines that the first bytes of the piece complete, as many bytes as there is room for.
 /// It tells how many bytes were read, or how the run ends there.
-fn pump<S: Source, K: Sink, L: Ledger>(
-    session: &mut Session,
+fn pump<S: Source, K: Sink, G: Guide, O: Order, L: Ledger>(
+    session: &mut Session<G, O>,
     source: &mut S,
     buffer: &mut [u8],
     sink: &mut K,
@@ -99,8 +112,8 @@ fn pump<S: Source, K: Sink, L: Ledger>(
 }
 
 /// Feeds a piece, and answers the status of a run that it ends.
-fn feed<K: Sink, L: Ledger>(
-    session: &mut Session,
+fn feed<K: Sink, G: Guide, O: Order, L: Ledger>(
+    session: &mut Session<G, O>,
     piece: &[u8],
     sink: &mut K,
     steps: &mut Steps<L>,
@@ -117,7 +130,11 @@ fn feed<K: Sink, L: Ledger>(
 }
 
 /// Answers a last line, and the status of the run.
-fn finish<K: Sink, L: Ledger>(session: &mut Session, sink: &mut K, steps: &mut Steps<L>) -> Status
+fn finish<K: Sink, G: Guide, O: Order, L: Ledger>(
+    session: &mut Session<G, O>,
+    sink: &mut K,
+    steps: &mut Steps<L>,
+) -> Status
     requires { session.old.over ≡ false }
     ensures { FinishesStatus session.old (K.state sink.old) (K.state sink.new) result }
 {

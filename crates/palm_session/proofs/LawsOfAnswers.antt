@@ -19,25 +19,26 @@ use Rattle.palm_read.specs.Reading.{IsRead, IsRefusedBy}
 use Rattle.palm_lang.specs.Reply.{fixed_text, refusal_text, ran_text, domain_line}
 use Rattle.palm_read.specs.Sound.{IsSound}
 use Rattle.palm_read.specs.declared.line.Line.{Line}
-use Rattle.palm_read.specs.declared.line.Line.TheVariants.{Comment, Var, Add, Relax, Enforce, Retract, Domains as DomainsLine, Domain, List as ListLine, Log, Why, Conflict, MinimalConflict, Minimal, Pause, Resume, Step, SolveDbt, SolveRepair, Cert, CertConflict, Quit}
+use Rattle.palm_read.specs.declared.line.Line.TheVariants.{Comment, Var, Add, Relax, Enforce, Retract, Domains as DomainsLine, Domain, List as ListLine, Log, Why, Conflict, MinimalConflict, Minimal, Pause, Resume, Step, SolveDbt, SolveRepair, Cert, CertConflict, Guide, GuideNone, Order, OrderNone, DropGuide, DropOrder, Quit}
 use Rattle.palm_read.specs.declared.parse.LineError.{LineError}
 use Rattle.palm_read.specs.declared.parse.LineError.TheVariants.{Bytes, Form, Range as OutOfRange, Empty, Repeated, NoMemory}
 use Rattle.palm_lang.specs.declared.reply.Fixed.TheVariants.{Done, Contradiction, Paused, Present, Consistent, Bye}
 use Rattle.palm_lang.specs.declared.reply.Lead.TheVariants.{Because, Conflict as ConflictLead}
 use Rattle.palm_lang.specs.declared.reply.Refusal.{Refusal}
-use Rattle.palm_lang.specs.declared.reply.Refusal.TheVariants.{E1, E2, E3, E4, E5, E6, E7, E8, E9, E10, E12}
+use Rattle.palm_lang.specs.declared.reply.Refusal.TheVariants.{E1, E2, E3, E4, E5, E6, E7, E8, E9, E10, E11, E12}
 use Rattle.palm_read.proofs.Parsing.{one_reading, read_not_refused, one_refusal, each_answered}
 use Rattle.palm_read.proofs.SoundLines.{read_sound}
 use Rattle.palm_session.specs.State.{SessionState, IsState, HasVariable, AreDomains, has_empty}
-use Rattle.palm_session.specs.Refusals.{IsBuilt, IsUnknown, TakesName, NamesNone, NamesNoConstraint, HasNoRoom, AsksUndeclared, HasActive, IsInWrongState, Meets, in_order, IsFirst, IsNone, refusal_of, heard}
+use Rattle.palm_session.specs.Refusals.{IsBuilt, IsUnknown, TakesName, NamesNone, NamesNoConstraint, HasNoRoom, NamesNoObject, AsksUndeclared, HasActive, IsInWrongState, Meets, in_order, IsFirst, IsNone, refusal_of, heard}
 use Rattle.palm_session.specs.Effects.{Effect, Nothing, Settled, Searched, Rests, Filters, Follows, Does}
 use Rattle.palm_session.specs.Answers.{IsPausable, IsContradictable, domains_text, list_text, log_text, users_text, SaysWhy, HasConflict, SaysConflict, Says, WaitsFor, Contradicts, Accepts, waits, contradicts, says, Answers, misread, refused, accepted}
 use Rattle.palm_session.specs.Lines.{without_return}
+use Rattle.palm_session.specs.Replies.{ChoosesOrder}
 use Rattle.palm_session.specs.declared.limits.TheConstants.{MOST_KEPT_BYTES}
 use Rattle.palm_session.proofs.LawsOfChanges.{variable_known, has_variable}
 use Rattle.palm_session.proofs.LawsOfDomains.{empty_domains, explanation_names, conflict_exists}
 use Rattle.palm_session.proofs.LawsOfLines.{known_either, most_known, some_known, name_known, beyond_known, long_bytes, long_unread, variable_with, variable_once}
-use Rattle.palm_session.proofs.LawsOfStates.{does_keeps, does_exist, does_once, does_order, rests_same, domains_exist, domains_once, bool_known, contradiction_known}
+use Rattle.palm_session.proofs.LawsOfStates.{does_keeps, does_exist, does_once, IsWithout, does_without, rests_same, domains_exist, domains_once, bool_known, contradiction_known}
 
 -- ---- whether a refusal holds is known
 
@@ -57,6 +58,12 @@ built_known Conflict = inl tt
 built_known Pause = inl tt
 built_known Resume = inl tt
 built_known (Step count) = inl tt
+built_known (Guide number) = inl tt
+built_known GuideNone = inl tt
+built_known (Order number) = inl tt
+built_known OrderNone = inl tt
+built_known (DropGuide number) = inl tt
+built_known (DropOrder number) = inl tt
 built_known Quit = inl tt
 built_known _ = inr (λ h. h)
 
@@ -85,6 +92,13 @@ room_known s (Var name domain) = most_known MOST_VARIABLES (length s.book.variab
 room_known s (Add name shape) = known_either (most_known MOST_CONSTRAINTS (length s.book.constraints)) (most_known MOST_ADDED s.accepted)
 room_known s _ = inr (λ h. h)
 
+objects_known : (s : SessionState) (line : Line) → Known (NamesNoObject s line)
+objects_known s (Guide number) = known_not (member_known nat_known s.guides number)
+objects_known s (Order number) = known_not (member_known nat_known s.orders number)
+objects_known s (DropGuide number) = known_not (member_known nat_known s.guides number)
+objects_known s (DropOrder number) = known_not (member_known nat_known s.orders number)
+objects_known s _ = inr (λ h. h)
+
 undeclared_known : (s : SessionState) (line : Line) → Known (AsksUndeclared s line)
 undeclared_known s (Why name value) =
     some_known (λ (e : Entry). (e.name ≡ name) × (Contains e.values value → ⊥)) s.book.variables
@@ -110,6 +124,7 @@ meets_known s line E3 = takes_known s line
 meets_known s line E4 = names_known s line
 meets_known s line E5 = constraints_known s line
 meets_known s line E7 = known_either (beyond_known line) (room_known s line)
+meets_known s line E11 = objects_known s line
 meets_known s line E12 = undeclared_known s line
 meets_known s line E10 = wrong_known s line
 meets_known s line _ = inr (λ h. h)
@@ -202,6 +217,12 @@ says_exist s Conflict effect t none b is goes does =
 says_exist s Pause effect t none b is goes does = (fixed_text Done, refl)
 says_exist s Resume effect t none b is goes does = (fixed_text Done, refl)
 says_exist s (Step count) effect t none b is goes does = step_says does.0 count effect t does.2
+says_exist s (Guide number) effect t none b is goes does = (fixed_text Done, refl)
+says_exist s GuideNone effect t none b is goes does = (fixed_text Done, refl)
+says_exist s (Order number) effect t none b is goes does = (fixed_text Done, refl)
+says_exist s OrderNone effect t none b is goes does = (fixed_text Done, refl)
+says_exist s (DropGuide number) effect t none b is goes does = (fixed_text Done, refl)
+says_exist s (DropOrder number) effect t none b is goes does = (fixed_text Done, refl)
 says_exist s Quit effect t none b is goes does = (fixed_text Bye, refl)
 says_exist s _ effect t none b is goes does = absurd b
 
@@ -296,17 +317,21 @@ answers_keep s bytes reply t is (misread error refusal q some) = is
 answers_keep s bytes reply t is (refused line refusal read first) = is
 answers_keep s bytes reply t is (accepted line read none a) = accepts_keeps s line reply t is (read_sound bytes line read) none a
 
--- ---- no line of today chooses an order
+-- ---- which orders are there, and which is chosen
 
-accepts_order : (s : SessionState) (line : Line) (reply : List ℕ) (t : SessionState) → Accepts s line reply t → t.order ≡ s.order
-accepts_order s line reply t (waits w) = refl
-accepts_order s line reply t (contradicts effect awake does c) = does_order s line effect t does
-accepts_order s line reply t (says effect awake does n r) = does_order s line effect t does
+accepts_without : (orders : List ℕ) (s : SessionState) (line : Line) (reply : List ℕ) (t : SessionState) → IsNone (Meets s line) in_order
+    → ((number : ℕ) → line ≡ Order number → Contains orders number → ⊥) → Accepts s line reply t → IsWithout orders s → IsWithout orders t
+accepts_without orders s line reply t none other (waits w) is = is
+accepts_without orders s line reply t none other (contradicts effect awake does c) is = does_without orders s line effect t none other does is
+accepts_without orders s line reply t none other (says effect awake does n r) is = does_without orders s line effect t none other does is
 
-pub answers_order : (s : SessionState) (bytes reply : List ℕ) (t : SessionState) → Answers s bytes reply t → t.order ≡ s.order
-answers_order s bytes reply t (misread error refusal q some) = refl
-answers_order s bytes reply t (refused line refusal read first) = refl
-answers_order s bytes reply t (accepted line read none a) = accepts_order s line reply t a
+-- a line that chooses none of these orders leaves none chosen
+pub answers_without : (orders : List ℕ) (s : SessionState) (bytes reply : List ℕ) (t : SessionState) → (ChoosesOrder orders bytes → ⊥) → Answers s bytes reply t → IsWithout orders s → IsWithout orders t
+answers_without orders s bytes reply t other (misread error refusal q some) is = is
+answers_without orders s bytes reply t other (refused line refusal read first) is = is
+answers_without orders s bytes reply t other (accepted line read none a) is =
+    accepts_without orders s line reply t none
+    (λ number e c. other (record { number = number; handed_in = c; chooses = subst (λ (x : Line). IsRead bytes x) e read })) a is
 
 -- ---- no line has two answers
 
@@ -363,6 +388,12 @@ says_same t Conflict effect a b is x y =
 says_same t Pause effect a b is x y = x ∙ sym y
 says_same t Resume effect a b is x y = x ∙ sym y
 says_same t (Step count) effect a b is x y = step_same t count effect a b x y
+says_same t (Guide number) effect a b is x y = x ∙ sym y
+says_same t GuideNone effect a b is x y = x ∙ sym y
+says_same t (Order number) effect a b is x y = x ∙ sym y
+says_same t OrderNone effect a b is x y = x ∙ sym y
+says_same t (DropGuide number) effect a b is x y = x ∙ sym y
+says_same t (DropOrder number) effect a b is x y = x ∙ sym y
 says_same t Quit effect a b is x y = x ∙ sym y
 says_same t _ effect a b is x y = absurd x
 

@@ -1,5 +1,5 @@
 -- What a line changes: it can be done, in one way, and leaves what a session can hold in the midst of a line.
-use Rattle.std.proofs.Common.{◌≡◌, ◌≢◌, ℕ, ◌+◌, ◌<◌, ◌≤◌, ℤ, pos, negsuc, ◌+ℤ◌, ◌-ℤ◌, ◌≤ℤ◌, Bool, true, false, not, if◌then◌else◌, Some, None, List, [], ◌∷◌, ◌++◌, length, filter, slice_get, remove, All, AllPairs, Any, ◌⊎◌, inl, inr, refl, sym, ap, ◌∙◌, subst, arith, length-append, get_or}
+use Rattle.std.proofs.Common.{◌≡◌, ◌≢◌, ℕ, ◌+◌, ◌<◌, ◌≤◌, ℤ, pos, negsuc, ◌+ℤ◌, ◌-ℤ◌, ◌≤ℤ◌, Bool, true, false, not, if◌then◌else◌, Some, None, List, [], ◌∷◌, ◌++◌, length, filter, slice_get, remove, All, AllPairs, Any, Contains, ◌⊎◌, inl, inr, refl, sym, ap, ◌∙◌, subst, arith, length-append, get_or}
 use Rattle.std.proofs.lemmas.Bool.{cases_Bool, cases_lt, false≢true}
 use Rattle.std.proofs.lemmas.Int.{ints}
 use Rattle.std.proofs.lemmas.List.{length-map, map-append}
@@ -29,7 +29,7 @@ use Rattle.palm_read.specs.Sound.{IsSound}
 use Rattle.palm_read.specs.declared.line.DomainText.{DomainText}
 use Rattle.palm_read.specs.declared.line.DomainText.TheVariants.{Range, Set}
 use Rattle.palm_read.specs.declared.line.Line.{Line}
-use Rattle.palm_read.specs.declared.line.Line.TheVariants.{Comment, Var, Add, Relax, Enforce, Retract, Domains as DomainsLine, Domain, List as ListLine, Log, Why, Conflict, Pause, Resume, Step, Quit}
+use Rattle.palm_read.specs.declared.line.Line.TheVariants.{Comment, Var, Add, Relax, Enforce, Retract, Domains as DomainsLine, Domain, List as ListLine, Log, Why, Conflict, Pause, Resume, Step, Guide, GuideNone, Order, OrderNone, DropGuide, DropOrder, Quit}
 use Rattle.palm_read.specs.declared.line.Shape.{Shape}
 use Rattle.palm_events.specs.Along.{IsStill}
 use Rattle.palm_events.proofs.Agreeing.{values_of_more}
@@ -37,8 +37,10 @@ use Rattle.palm_events.proofs.Outcomes.{withdrawal_exists, withdrawal_same}
 use Rattle.palm_events.proofs.Valid.{declares_valid, posts_valid, withdraws_valid}
 use Rattle.palm_session.specs.State.{SessionState, IsHeld, IsState, HasConstraint, HasVariable}
 use Rattle.palm_session.specs.Refusals.{IsBuilt, IsUnknown, HasActive, Meets, in_order, IsNone}
-use Rattle.palm_session.specs.Effects.{with_engine, with_variable, with_constraint, with_active_at, without_constraint, next_constraint, IsNamed, WithdrawsWhere, WithdrawsActive, Changes, Rests, Filters, next, unless_paused}
+use Rattle.palm_session.specs.Effects.{with_engine, with_variable, with_constraint, with_active_at, without_constraint, without_guide, without_order, next_constraint, IsNamed, WithdrawsWhere, WithdrawsActive, Changes, Rests, Filters, next, unless_paused}
+use Rattle.palm_session.specs.Objects.{without_number, chosen_without}
 use Rattle.palm_session.proofs.ActiveLists.{turned_cases, active_member, active_added, active_enforced, active_relaxed, active_retracted, active_alike, relaxed_inactive, user_same}
+use Rattle.palm_session.proofs.HeldObjects.{listed, left_inside, left_chosen, held_guides, held_orders}
 use Rattle.palm_session.proofs.Intervals.{are_values, narrow}
 use Rattle.palm_session.proofs.LawsOfLines.{name_known, constraint_once, constraint_with}
 use Rattle.palm_session.proofs.WellFormed.{well_formed}
@@ -276,6 +278,14 @@ changes_keep s m Conflict is sound none h = subst IsHeld (sym h) is
 changes_keep s m Pause is sound none h = subst IsHeld (sym h) (held_paused s true is)
 changes_keep s m Resume is sound none h = subst IsHeld (sym h) (held_paused s false is)
 changes_keep s m (Step count) is sound none h = subst IsHeld (sym h) is
+changes_keep s m (Guide number) is sound none h = subst IsHeld (sym h) (held_guides s s.guides (Some number) (listed s.guides number none.1.1.1.1.1.0) is)
+changes_keep s m GuideNone is sound none h = subst IsHeld (sym h) (held_guides s s.guides None tt is)
+changes_keep s m (Order number) is sound none h = subst IsHeld (sym h) (held_orders s s.orders (Some number) (listed s.orders number none.1.1.1.1.1.0) is)
+changes_keep s m OrderNone is sound none h = subst IsHeld (sym h) (held_orders s s.orders None tt is)
+changes_keep s m (DropGuide number) is sound none h =
+    subst IsHeld (sym h) (held_guides s (without_number number s.guides) (chosen_without number s.guide) (left_chosen number s.guides s.guide is.guide) is)
+changes_keep s m (DropOrder number) is sound none h =
+    subst IsHeld (sym h) (held_orders s (without_number number s.orders) (chosen_without number s.order) (left_chosen number s.orders s.order is.order) is)
 changes_keep s m Quit is sound none h = subst IsHeld (sym h) is
 changes_keep s m _ is sound none h = absurd h
 
@@ -287,6 +297,9 @@ rests_paused m rests awake =
 
 stays_still : (s m : SessionState) → IsState s → m ≡ s → m.paused ≡ false → IsStill m.engine
 stays_still s m is e awake = (subst IsState (sym e) is).still awake
+
+untouched_still : (s m : SessionState) → IsState s → m.engine ≡ s.engine → m.paused ≡ s.paused → m.paused ≡ false → IsStill m.engine
+untouched_still s m is engine paused awake = subst (λ (e : EngineState). IsStill e) (sym engine) (is.still (sym paused ∙ awake))
 
 pub changes_still : (s m : SessionState) (line : Line) → IsState s → Changes s line m → next m line ≡ Rests → m.paused ≡ false → IsStill m.engine
 changes_still s m Comment is h rests awake = stays_still s m is h awake
@@ -306,6 +319,12 @@ changes_still s m Conflict is h rests awake = stays_still s m is h awake
 changes_still s m Pause is h rests awake = absurd (false≢true (sym awake ∙ ap (λ (z : SessionState). z.paused) h))
 changes_still s m Resume is h rests awake = let e : Filters None ≡ Rests = rests in cc
 changes_still s m (Step count) is h rests awake = let e : Filters (Some count) ≡ Rests = rests in cc
+changes_still s m (Guide number) is h rests awake = untouched_still s m is (ap (λ (z : SessionState). z.engine) h) (ap (λ (z : SessionState). z.paused) h) awake
+changes_still s m GuideNone is h rests awake = untouched_still s m is (ap (λ (z : SessionState). z.engine) h) (ap (λ (z : SessionState). z.paused) h) awake
+changes_still s m (Order number) is h rests awake = untouched_still s m is (ap (λ (z : SessionState). z.engine) h) (ap (λ (z : SessionState). z.paused) h) awake
+changes_still s m OrderNone is h rests awake = untouched_still s m is (ap (λ (z : SessionState). z.engine) h) (ap (λ (z : SessionState). z.paused) h) awake
+changes_still s m (DropGuide number) is h rests awake = untouched_still s m is (ap (λ (z : SessionState). z.engine) h) (ap (λ (z : SessionState). z.paused) h) awake
+changes_still s m (DropOrder number) is h rests awake = untouched_still s m is (ap (λ (z : SessionState). z.engine) h) (ap (λ (z : SessionState). z.paused) h) awake
 changes_still s m Quit is h rests awake = stays_still s m is h awake
 changes_still s m _ is h rests awake = absurd h
 
@@ -336,6 +355,12 @@ changes_limited s m (Step count) none h limit e = elim (cases_Bool s.paused) [
   | inl on ↦ ap (λ (z : SessionState). z.paused) h ∙ on
   | inr off ↦ absurd (none.1.1.1.1.1.1.1.0 off)
 ]
+changes_limited s m (Guide number) none h limit e = absurd (rests_not_limited limit e)
+changes_limited s m GuideNone none h limit e = absurd (rests_not_limited limit e)
+changes_limited s m (Order number) none h limit e = absurd (rests_not_limited limit e)
+changes_limited s m OrderNone none h limit e = absurd (rests_not_limited limit e)
+changes_limited s m (DropGuide number) none h limit e = absurd (rests_not_limited limit e)
+changes_limited s m (DropOrder number) none h limit e = absurd (rests_not_limited limit e)
 changes_limited s m Quit none h limit e = absurd (rests_not_limited limit e)
 changes_limited s m _ none h limit e = absurd h
 
@@ -403,6 +428,12 @@ changes_exist s Conflict is sound none b = (s, refl)
 changes_exist s Pause is sound none b = (record s { paused = true }, refl)
 changes_exist s Resume is sound none b = (record s { paused = false }, refl)
 changes_exist s (Step count) is sound none b = (s, refl)
+changes_exist s (Guide number) is sound none b = (record s { guide = Some number }, refl)
+changes_exist s GuideNone is sound none b = (record s { guide = None }, refl)
+changes_exist s (Order number) is sound none b = (record s { order = Some number }, refl)
+changes_exist s OrderNone is sound none b = (record s { order = None }, refl)
+changes_exist s (DropGuide number) is sound none b = (without_guide s number, refl)
+changes_exist s (DropOrder number) is sound none b = (without_order s number, refl)
 changes_exist s Quit is sound none b = (s, refl)
 changes_exist s _ is sound none b = absurd b
 
@@ -473,29 +504,90 @@ changes_once s m n Conflict is h k = h ∙ sym k
 changes_once s m n Pause is h k = h ∙ sym k
 changes_once s m n Resume is h k = h ∙ sym k
 changes_once s m n (Step count) is h k = h ∙ sym k
+changes_once s m n (Guide number) is h k = h ∙ sym k
+changes_once s m n GuideNone is h k = h ∙ sym k
+changes_once s m n (Order number) is h k = h ∙ sym k
+changes_once s m n OrderNone is h k = h ∙ sym k
+changes_once s m n (DropGuide number) is h k = h ∙ sym k
+changes_once s m n (DropOrder number) is h k = h ∙ sym k
 changes_once s m n Quit is h k = h ∙ sym k
 changes_once s m n _ is h k = absurd h
 
--- ---- no line of today chooses an order
+-- ---- which objects are there, and which are chosen
 
-order_of : (s t : SessionState) → t ≡ s → t.order ≡ s.order
-order_of s t e = ap (λ (z : SessionState). z.order) e
+-- the same objects are there and chosen
+pub record KeepsObjects (s t : SessionState) : Type 0 where
+  pub guides : t.guides ≡ s.guides
+  pub orders : t.orders ≡ s.orders
+  pub guide : t.guide ≡ s.guide
+  pub order : t.order ≡ s.order
 
-pub changes_order : (s m : SessionState) (line : Line) → Changes s line m → m.order ≡ s.order
-changes_order s m Comment h = order_of s m h
-changes_order s m (Var name domain) h = ap (λ (z : SessionState). z.order) h.2
-changes_order s m (Add name shape) h = ap (λ (z : SessionState). z.order) h.4
-changes_order s m (Relax name) h = ap (λ (z : SessionState). z.order) h.5
-changes_order s m (Enforce name) h = ap (λ (z : SessionState). z.order) h.5
-changes_order s m (Retract name) h = ap (λ (z : SessionState). z.order) h.5
-changes_order s m DomainsLine h = order_of s m h
-changes_order s m (Domain name) h = order_of s m h
-changes_order s m ListLine h = order_of s m h
-changes_order s m Log h = order_of s m h
-changes_order s m (Why name value) h = order_of s m h
-changes_order s m Conflict h = order_of s m h
-changes_order s m Pause h = ap (λ (z : SessionState). z.order) h
-changes_order s m Resume h = ap (λ (z : SessionState). z.order) h
-changes_order s m (Step count) h = order_of s m h
-changes_order s m Quit h = order_of s m h
-changes_order s m _ h = absurd h
+-- the line chooses an object or drops one
+abbrev pub IsAboutObjects : Line → Type 0
+IsAboutObjects (Guide number) = Unit {0}
+IsAboutObjects GuideNone = Unit {0}
+IsAboutObjects (Order number) = Unit {0}
+IsAboutObjects OrderNone = Unit {0}
+IsAboutObjects (DropGuide number) = Unit {0}
+IsAboutObjects (DropOrder number) = Unit {0}
+IsAboutObjects _ = ⊥
+
+-- a state that is another one but for its book and its engine, and for whether filtering waits
+alike : (s t z : SessionState) → t ≡ z → KeepsObjects s z → KeepsObjects s t
+alike s t z e k = subst (KeepsObjects s) (sym e) k
+
+pub changes_objects : (s m : SessionState) (line : Line) → Changes s line m → IsAboutObjects line ⊎ KeepsObjects s m
+changes_objects s m Comment h = inr (alike s m s h (record { guides = refl; orders = refl; guide = refl; order = refl }))
+changes_objects s m (Var name domain) h = inr (alike s m (with_engine (with_variable s name (values_in domain)) h.0) h.2 (record { guides = refl; orders = refl; guide = refl; order = refl }))
+changes_objects s m (Add name shape) h = inr (alike s m (with_engine (with_constraint s name h.0) h.1) h.4 (record { guides = refl; orders = refl; guide = refl; order = refl }))
+changes_objects s m (Relax name) h = inr (alike s m (with_engine (with_active_at s h.0 false) h.2) h.5 (record { guides = refl; orders = refl; guide = refl; order = refl }))
+changes_objects s m (Enforce name) h = inr (alike s m (with_engine (with_active_at s h.0 true) h.2) h.5 (record { guides = refl; orders = refl; guide = refl; order = refl }))
+changes_objects s m (Retract name) h = inr (alike s m (with_engine (without_constraint s h.0) h.2) h.5 (record { guides = refl; orders = refl; guide = refl; order = refl }))
+changes_objects s m DomainsLine h = inr (alike s m s h (record { guides = refl; orders = refl; guide = refl; order = refl }))
+changes_objects s m (Domain name) h = inr (alike s m s h (record { guides = refl; orders = refl; guide = refl; order = refl }))
+changes_objects s m ListLine h = inr (alike s m s h (record { guides = refl; orders = refl; guide = refl; order = refl }))
+changes_objects s m Log h = inr (alike s m s h (record { guides = refl; orders = refl; guide = refl; order = refl }))
+changes_objects s m (Why name value) h = inr (alike s m s h (record { guides = refl; orders = refl; guide = refl; order = refl }))
+changes_objects s m Conflict h = inr (alike s m s h (record { guides = refl; orders = refl; guide = refl; order = refl }))
+changes_objects s m Pause h = inr (alike s m (record s { paused = true }) h (record { guides = refl; orders = refl; guide = refl; order = refl }))
+changes_objects s m Resume h = inr (alike s m (record s { paused = false }) h (record { guides = refl; orders = refl; guide = refl; order = refl }))
+changes_objects s m (Step count) h = inr (alike s m s h (record { guides = refl; orders = refl; guide = refl; order = refl }))
+changes_objects s m (Guide number) h = inl tt
+changes_objects s m GuideNone h = inl tt
+changes_objects s m (Order number) h = inl tt
+changes_objects s m OrderNone h = inl tt
+changes_objects s m (DropGuide number) h = inl tt
+changes_objects s m (DropOrder number) h = inl tt
+changes_objects s m Quit h = inr (alike s m s h (record { guides = refl; orders = refl; guide = refl; order = refl }))
+changes_objects s m _ h = absurd h
+
+-- nothing follows a line about objects
+pub objects_rest : (s : SessionState) (line : Line) → IsAboutObjects line → next s line ≡ Rests
+objects_rest s (Guide number) is = refl
+objects_rest s GuideNone is = refl
+objects_rest s (Order number) is = refl
+objects_rest s OrderNone is = refl
+objects_rest s (DropGuide number) is = refl
+objects_rest s (DropOrder number) is = refl
+objects_rest s _ is = absurd is
+
+-- no order is chosen by a line that chooses none of those that are there
+pub changes_free : (s m : SessionState) (line : Line) → IsNone (Meets s line) in_order → IsAboutObjects line → Changes s line m
+    → ((number : ℕ) → line ≡ Order number → Contains s.orders number → ⊥) → s.order ≡ None → m.order ≡ None
+changes_free s m (Guide number) none is h other free = ap (λ (z : SessionState). z.order) h ∙ free
+changes_free s m GuideNone none is h other free = ap (λ (z : SessionState). z.order) h ∙ free
+changes_free s m (Order number) none is h other free = absurd (other number refl (listed s.orders number none.1.1.1.1.1.0))
+changes_free s m OrderNone none is h other free = ap (λ (z : SessionState). z.order) h
+changes_free s m (DropGuide number) none is h other free = ap (λ (z : SessionState). z.order) h ∙ free
+changes_free s m (DropOrder number) none is h other free = ap (λ (z : SessionState). z.order) h ∙ ap (chosen_without number) free
+changes_free s m _ none is h other free = absurd is
+
+-- no order comes to those that are there
+pub changes_inside : (s m : SessionState) (line : Line) → IsAboutObjects line → Changes s line m → (n : ℕ) → Contains m.orders n → Contains s.orders n
+changes_inside s m (Guide number) is h n c = subst (λ (z : SessionState). Contains z.orders n) h c
+changes_inside s m GuideNone is h n c = subst (λ (z : SessionState). Contains z.orders n) h c
+changes_inside s m (Order number) is h n c = subst (λ (z : SessionState). Contains z.orders n) h c
+changes_inside s m OrderNone is h n c = subst (λ (z : SessionState). Contains z.orders n) h c
+changes_inside s m (DropGuide number) is h n c = subst (λ (z : SessionState). Contains z.orders n) h c
+changes_inside s m (DropOrder number) is h n c = left_inside number s.orders n (subst (λ (z : SessionState). Contains z.orders n) h c)
+changes_inside s m _ is h n c = absurd is

@@ -1,5 +1,5 @@
 -- What an accepted line leaves is a state that a session can hold, and without an order object nothing else.
-use Rattle.std.proofs.Common.{◌≡◌, ℕ, Bool, true, false, is_some, Option, Some, None, List, [], length, Contains, inl, inr, refl, sym, ap, ◌∙◌, subst, arith}
+use Rattle.std.proofs.Common.{◌≡◌, ℕ, Bool, true, false, is_some, Option, Some, None, List, [], length, Contains, ◌⊎◌, inl, inr, refl, sym, ap, ◌∙◌, subst, arith}
 use Rattle.std.proofs.lemmas.Bool.{false≢true}
 use Rattle.std.proofs.lemmas.List.Elements.{All-nil}
 use Rattle.palm_base.proofs.Members.{Known}
@@ -10,6 +10,7 @@ use Rattle.palm_book.specs.Book.{initial_of, active_of}
 use Rattle.palm_book.proofs.Actives.{initial_ascend}
 use Rattle.palm_read.specs.Sound.{IsSound}
 use Rattle.palm_read.specs.declared.line.Line.{Line}
+use Rattle.palm_read.specs.declared.line.Line.TheVariants.{Order}
 use Rattle.palm_laws.proofs.Existence.{greatest_exists}
 use Rattle.palm_laws.proofs.Uniqueness.{greatest_unique}
 use Rattle.palm_events.specs.Along.{IsStill}
@@ -19,8 +20,8 @@ use Rattle.palm_engine.specs.Settling.{Revision, FitsOrder}
 use Rattle.palm_engine.proofs.Settled.{settling_filters, settling_valid, settling_still, plainly_exists, plainly_same}
 use Rattle.palm_session.specs.State.{SessionState, IsHeld, IsState, fresh, AreDomains, has_empty, IsContradiction}
 use Rattle.palm_session.specs.Refusals.{IsBuilt, Meets, in_order, IsNone}
-use Rattle.palm_session.specs.Effects.{Effect, Nothing, Settled, Searched, with_engine, Next, Rests, Filters, next, SettlesIn, Follows, Does}
-use Rattle.palm_session.proofs.LawsOfChanges.{changes_keep, changes_still, changes_limited, changes_exist, changes_once, changes_order}
+use Rattle.palm_session.specs.Effects.{Effect, Nothing, Settled, Searched, with_engine, Changes, Next, Rests, Filters, next, SettlesIn, Follows, Does}
+use Rattle.palm_session.proofs.LawsOfChanges.{changes_keep, changes_still, changes_limited, changes_exist, changes_once, KeepsObjects, changes_objects, objects_rest, changes_free, changes_inside}
 
 -- ---- a fresh session
 
@@ -111,7 +112,12 @@ does_exist s line is sound none b =
 fits_none : (m : SessionState) (limit : Option ℕ) (count : ℕ) (e : EngineState) → m.order ≡ None → (settles : SettlesIn m limit count e) → FitsOrder false settles.revisions
 fits_none m limit count e free settles = subst (λ (o : Option ℕ). FitsOrder (is_some o) settles.revisions) free settles.fits
 
-follows_once : (m : SessionState) (n : Next) (e f : Effect) (t u : SessionState) → m.order ≡ None → IsValid m.engine → Follows m n e t → Follows m n f u → (e ≡ f) × (t ≡ u)
+-- where filtering follows, no order is chosen
+filters_free : (m : SessionState) (limit : Option ℕ) → (Filters limit ≡ Rests) ⊎ (m.order ≡ None) → m.order ≡ None
+filters_free m limit (inl e) = cc
+filters_free m limit (inr free) = free
+
+follows_once : (m : SessionState) (n : Next) (e f : Effect) (t u : SessionState) → (n ≡ Rests) ⊎ (m.order ≡ None) → IsValid m.engine → Follows m n e t → Follows m n f u → (e ≡ f) × (t ≡ u)
 follows_once m Rests Nothing Nothing t u free valid x y = (refl, x ∙ sym y)
 follows_once m Rests Nothing (Settled k) t u free valid x y = absurd y
 follows_once m Rests Nothing (Searched k) t u free valid x y = absurd y
@@ -122,30 +128,55 @@ follows_once m (Filters limit) (Searched k) f t u free valid x y = absurd x
 follows_once m (Filters limit) (Settled k) Nothing t u free valid x y = absurd y
 follows_once m (Filters limit) (Settled k) (Searched l) t u free valid x y = absurd y
 follows_once m (Filters limit) (Settled k) (Settled l) t u free valid x y =
-    let same = plainly_same limit m.engine x.1.revisions x.0 y.1.revisions y.0 valid (fits_none m limit k x.0 free x.1) (fits_none m limit l y.0 free y.1) x.1.settles y.1.settles in
+    let same = plainly_same limit m.engine x.1.revisions x.0 y.1.revisions y.0 valid (fits_none m limit k x.0 (filters_free m limit free) x.1) (fits_none m limit l y.0 (filters_free m limit free) y.1) x.1.settles y.1.settles in
     let count : k ≡ l = sym x.1.counted ∙ ap (λ (rs : List Revision). length rs) same.revisions ∙ y.1.counted in
     (ap Settled count, x.2 ∙ ap (λ (z : EngineState). with_engine m z) same.state ∙ sym y.2)
+
+-- an order is chosen by lines alone that nothing follows
+change_free : (s m : SessionState) (line : Line) → Changes s line m → s.order ≡ None → (next m line ≡ Rests) ⊎ (m.order ≡ None)
+change_free s m line h free = elim (changes_objects s m line h) [ inl is ↦ inl (objects_rest m line is) | inr k ↦ inr (k.order ∙ free) ]
 
 -- a line does one thing
 pub does_once : (s : SessionState) (line : Line) (e f : Effect) (t u : SessionState) → s.order ≡ None → IsState s → IsSound line → IsNone (Meets s line) in_order
     → Does s line e t → Does s line f u → (e ≡ f) × (t ≡ u)
 does_once s line e f t u free is sound none d g =
     let same : g.0 ≡ d.0 = changes_once s g.0 d.0 line is.held g.1 d.1 in
-    follows_once d.0 (next d.0 line) e f t u (changes_order s d.0 line d.1 ∙ free) (changes_keep s d.0 line is.held sound none d.1).valid d.2
+    follows_once d.0 (next d.0 line) e f t u (change_free s d.0 line d.1 free) (changes_keep s d.0 line is.held sound none d.1).valid d.2
     (subst (λ (z : SessionState). Follows z (next z line) f u) same g.2)
 
--- ---- the order stays
+-- ---- which orders are there, and which is chosen
 
-follows_order : (m : SessionState) (n : Next) (effect : Effect) (t : SessionState) → Follows m n effect t → t.order ≡ m.order
-follows_order m Rests Nothing t f = ap (λ (z : SessionState). z.order) f
-follows_order m Rests (Settled k) t f = absurd f
-follows_order m Rests (Searched k) t f = absurd f
-follows_order m (Filters limit) Nothing t f = absurd f
-follows_order m (Filters limit) (Settled k) t f = ap (λ (z : SessionState). z.order) f.2
-follows_order m (Filters limit) (Searched k) t f = absurd f
+follows_objects : (m : SessionState) (n : Next) (effect : Effect) (t : SessionState) → Follows m n effect t → KeepsObjects m t
+follows_objects m Rests Nothing t f = subst (KeepsObjects m) (sym f) (record { guides = refl; orders = refl; guide = refl; order = refl })
+follows_objects m Rests (Settled k) t f = absurd f
+follows_objects m Rests (Searched k) t f = absurd f
+follows_objects m (Filters limit) Nothing t f = absurd f
+follows_objects m (Filters limit) (Settled k) t f = subst (KeepsObjects m) (sym f.2) (record { guides = refl; orders = refl; guide = refl; order = refl })
+follows_objects m (Filters limit) (Searched k) t f = absurd f
 
-pub does_order : (s : SessionState) (line : Line) (effect : Effect) (t : SessionState) → Does s line effect t → t.order ≡ s.order
-does_order s line effect t d = follows_order d.0 (next d.0 line) effect t d.2 ∙ changes_order s d.0 line d.1
+-- no order is chosen, and all that are there are among these
+pub record IsWithout (orders : List ℕ) (s : SessionState) : Type 0 where
+  pub free : s.order ≡ None
+  pub within : (n : ℕ) → Contains s.orders n → Contains orders n
+
+kept_without : (orders : List ℕ) (s t : SessionState) → KeepsObjects s t → IsWithout orders s → IsWithout orders t
+kept_without orders s t k is = record { free = k.order ∙ is.free; within = λ n c. is.within n (subst (λ (ns : List ℕ). Contains ns n) k.orders c) }
+
+change_without : (orders : List ℕ) (s m : SessionState) (line : Line) → IsNone (Meets s line) in_order → Changes s line m
+    → ((number : ℕ) → line ≡ Order number → Contains orders number → ⊥) → IsWithout orders s → IsWithout orders m
+change_without orders s m line none h other is = elim (changes_objects s m line h) [
+  | inl about ↦ record {
+    free = changes_free s m line none about h (λ number e c. other number e (is.within number c)) is.free;
+    within = λ n c. is.within n (changes_inside s m line about h n c);
+  }
+  | inr k ↦ kept_without orders s m k is
+]
+
+-- a line that chooses none of these orders leaves none chosen
+pub does_without : (orders : List ℕ) (s : SessionState) (line : Line) (effect : Effect) (t : SessionState) → IsNone (Meets s line) in_order
+    → ((number : ℕ) → line ≡ Order number → Contains orders number → ⊥) → Does s line effect t → IsWithout orders s → IsWithout orders t
+does_without orders s line effect t none other d is =
+    kept_without orders d.0 t (follows_objects d.0 (next d.0 line) effect t d.2) (change_without orders s d.0 line none d.1 other is)
 
 -- where nothing follows, the change is all
 pub rests_same : (m : SessionState) (effect : Effect) (t : SessionState) → Follows m Rests effect t → t ≡ m

@@ -1,6 +1,7 @@
 pub mod Accepting
 pub mod ActiveLists
 pub mod Asked
+pub mod Chosen
 pub mod Deciding
 pub mod Declaring
 pub mod Delivering
@@ -8,6 +9,7 @@ pub mod Emptied
 pub mod Explained
 pub mod FeedLemmas
 pub mod Following
+pub mod HeldObjects
 pub mod Intervals
 pub mod Keeping
 pub mod LawsOfAnswers
@@ -17,7 +19,9 @@ pub mod LawsOfLines
 pub mod LawsOfStates
 pub mod LawsOfTexts
 pub mod Logging
+pub mod Made
 pub mod OneEmpty
+pub mod Places
 pub mod Presents
 pub mod ReadOnce
 pub mod Retracting

@@ -17,7 +17,7 @@ use Rattle.palm_book.specs.declared.book.BookCon.{BookCon}
 use Rattle.palm_read.specs.Domain.{values_in}
 use Rattle.palm_read.specs.Sound.{IsSound}
 use Rattle.palm_read.specs.declared.line.Line.{Line}
-use Rattle.palm_read.specs.declared.line.Line.TheVariants.{Comment, Var, Add, Relax, Enforce, Retract, Domains as DomainsLine, Domain, List as ListLine, Log, Why, Conflict, Pause, Resume, Step as StepLine, Quit}
+use Rattle.palm_read.specs.declared.line.Line.TheVariants.{Comment, Var, Add, Relax, Enforce, Retract, Domains as DomainsLine, Domain, List as ListLine, Log, Why, Conflict, Pause, Resume, Step as StepLine, Guide, GuideNone, Order, OrderNone, DropGuide, DropOrder, Quit}
 use Rattle.palm_read.proofs.SoundLines.{read_sound}
 use Rattle.palm_events.specs.Along.{IsFiltering}
 use Rattle.palm_events.proofs.Agreeing.{values_of_more}
@@ -150,6 +150,12 @@ changes_one s m Conflict is sound none h one = subst HasOne (sym h) one
 changes_one s m Pause is sound none h one = subst HasOne (sym h) one
 changes_one s m Resume is sound none h one = subst HasOne (sym h) one
 changes_one s m (StepLine count) is sound none h one = subst HasOne (sym h) one
+changes_one s m (Guide number) is sound none h one = subst HasOne (sym h) one
+changes_one s m GuideNone is sound none h one = subst HasOne (sym h) one
+changes_one s m (Order number) is sound none h one = subst HasOne (sym h) one
+changes_one s m OrderNone is sound none h one = subst HasOne (sym h) one
+changes_one s m (DropGuide number) is sound none h one = subst HasOne (sym h) one
+changes_one s m (DropOrder number) is sound none h one = subst HasOne (sym h) one
 changes_one s m Quit is sound none h one = subst HasOne (sym h) one
 changes_one s m _ is sound none h one = absurd h
 

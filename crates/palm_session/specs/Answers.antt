@@ -11,7 +11,7 @@ use Rattle.palm_lang.specs.Reply.{fixed_text, refusal_text, ran_text, domain_lin
 use Rattle.palm_lang.specs.declared.reply.Lead.{Lead}
 use Rattle.palm_lang.specs.declared.reply.Lead.TheVariants.{Because, Conflict as ConflictLead}
 use Rattle.palm_read.specs.declared.line.Line.{Line}
-use Rattle.palm_read.specs.declared.line.Line.TheVariants.{Comment, Var, Add, Relax, Enforce, Retract, Domains as DomainsLine, Domain, List as ListLine, Log, Why, Conflict, MinimalConflict, Minimal, Pause, Resume, Step, SolveDbt, SolveRepair, Cert, CertConflict, Quit}
+use Rattle.palm_read.specs.declared.line.Line.TheVariants.{Comment, Var, Add, Relax, Enforce, Retract, Domains as DomainsLine, Domain, List as ListLine, Log, Why, Conflict, MinimalConflict, Minimal, Pause, Resume, Step, SolveDbt, SolveRepair, Cert, CertConflict, Guide, GuideNone, Order, OrderNone, DropGuide, DropOrder, Quit}
 use Rattle.palm_read.specs.declared.parse.LineError.{LineError}
 use Rattle.palm_lang.specs.declared.reply.Fixed.TheVariants.{Done, Contradiction, Paused, Present, Consistent, Bye, End}
 use Rattle.palm_lang.specs.declared.reply.Refusal.{Refusal}
@@ -99,6 +99,12 @@ Says s (Retract name) effect reply = reply ≡ fixed_text Done
 Says s Pause effect reply = reply ≡ fixed_text Done
 Says s Resume effect reply = reply ≡ fixed_text Done
 Says s (Step count) (Settled revisions) reply = reply ≡ ran_text revisions
+Says s (Guide number) effect reply = reply ≡ fixed_text Done
+Says s GuideNone effect reply = reply ≡ fixed_text Done
+Says s (Order number) effect reply = reply ≡ fixed_text Done
+Says s OrderNone effect reply = reply ≡ fixed_text Done
+Says s (DropGuide number) effect reply = reply ≡ fixed_text Done
+Says s (DropOrder number) effect reply = reply ≡ fixed_text Done
 Says s DomainsLine effect reply = (d : Domains) × AreDomains s d × (reply ≡ domains_text s.book.variables d)
 Says s (Domain name) effect reply =
     (d : Domains) × (x : ℕ) × AreDomains s d × (x < length s.book.variables) × (name_of s.book.variables x ≡ name)

@@ -11,7 +11,8 @@ use Rattle.palm_book.specs.Named.{Resolves}
 use Rattle.palm_book.specs.declared.book.BookCon.{BookCon}
 use Rattle.palm_read.specs.Domain.{values_in}
 use Rattle.palm_read.specs.declared.line.Line.{Line}
-use Rattle.palm_read.specs.declared.line.Line.TheVariants.{Comment, Var, Add, Relax, Enforce, Retract, Domains as DomainsLine, Domain, List as ListLine, Log, Why, Conflict, Pause, Resume, Step, Quit}
+use Rattle.palm_read.specs.declared.line.Line.TheVariants.{Comment, Var, Add, Relax, Enforce, Retract, Domains as DomainsLine, Domain, List as ListLine, Log, Why, Conflict, Pause, Resume, Step, Guide, GuideNone, Order, OrderNone, DropGuide, DropOrder, Quit}
+use Rattle.palm_session.specs.Objects.{without_number, chosen_without}
 use Rattle.palm_session.specs.State.{SessionState}
 
 -- how a search ended: with a value for each variable, with constraints that have no solution, or after so many turns,
@@ -58,6 +59,14 @@ with_active_at s place active = record s { book = record s.book { constraints = 
 abbrev pub without_constraint : SessionState → ℕ → SessionState
 without_constraint s place = record s { book = record s.book { constraints = remove s.book.constraints place } }
 
+-- the guide with the number is there no longer, and where it was chosen, none is
+abbrev pub without_guide : SessionState → ℕ → SessionState
+without_guide s number = record s { guides = without_number number s.guides; guide = chosen_without number s.guide }
+
+-- the order with the number is there no longer, and where it was chosen, none is
+abbrev pub without_order : SessionState → ℕ → SessionState
+without_order s number = record s { orders = without_number number s.orders; order = chosen_without number s.order }
+
 -- the constraint with the name, and its place
 pub record IsNamed (s : SessionState) (name : List ℕ) (place : ℕ) (c : BookCon) : Type 0 where
   pub at : slice_get s.book.constraints place ≡ Some c
@@ -96,6 +105,12 @@ Changes s Conflict t = t ≡ s
 Changes s Pause t = t ≡ record s { paused = true }
 Changes s Resume t = t ≡ record s { paused = false }
 Changes s (Step count) t = t ≡ s
+Changes s (Guide number) t = t ≡ record s { guide = Some number }
+Changes s GuideNone t = t ≡ record s { guide = None }
+Changes s (Order number) t = t ≡ record s { order = Some number }
+Changes s OrderNone t = t ≡ record s { order = None }
+Changes s (DropGuide number) t = t ≡ without_guide s number
+Changes s (DropOrder number) t = t ≡ without_order s number
 Changes s Quit t = t ≡ s
 Changes s _ t = ⊥
 

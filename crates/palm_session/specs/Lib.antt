@@ -4,6 +4,7 @@ pub mod Effects
 pub mod Feeding
 pub mod Lines
 pub mod Logged
+pub mod Objects
 pub mod Refusals
 pub mod Replies
 pub mod ReplyText

@@ -2,7 +2,7 @@
 use Rattle.std.specs.Prelude.{◌≡◌, ◌≤◌, Bool, true, false, List, [], ◌∷◌, ◌⊎◌, ℕ, length, Any, Contains, Option, Some, None}
 use Rattle.palm_read.specs.Limits.{names_of, IsBeyond}
 use Rattle.palm_read.specs.declared.line.Line.{Line}
-use Rattle.palm_read.specs.declared.line.Line.TheVariants.{Comment, Var, Add, Relax, Enforce, Retract, Domains as DomainsLine, Domain, List as ListLine, Log, Why, Conflict, Pause, Resume, Step, Quit}
+use Rattle.palm_read.specs.declared.line.Line.TheVariants.{Comment, Var, Add, Relax, Enforce, Retract, Domains as DomainsLine, Domain, List as ListLine, Log, Why, Conflict, Pause, Resume, Step, Guide, GuideNone, Order, OrderNone, DropGuide, DropOrder, Quit}
 use Rattle.palm_read.specs.declared.parse.LineError.{LineError}
 use Rattle.palm_read.specs.declared.parse.LineError.TheVariants.{Bytes, Form, Range as OutOfRange, Empty, Repeated, NoMemory}
 use Rattle.palm_lang.specs.declared.reply.Refusal.{Refusal}
@@ -27,6 +27,12 @@ IsBuilt Conflict = Unit {0}
 IsBuilt Pause = Unit {0}
 IsBuilt Resume = Unit {0}
 IsBuilt (Step count) = Unit {0}
+IsBuilt (Guide number) = Unit {0}
+IsBuilt GuideNone = Unit {0}
+IsBuilt (Order number) = Unit {0}
+IsBuilt OrderNone = Unit {0}
+IsBuilt (DropGuide number) = Unit {0}
+IsBuilt (DropOrder number) = Unit {0}
 IsBuilt Quit = Unit {0}
 IsBuilt _ = ⊥
 
@@ -60,6 +66,14 @@ HasNoRoom s (Var name domain) = MOST_VARIABLES ≤ length s.book.variables
 HasNoRoom s (Add name shape) = (MOST_CONSTRAINTS ≤ length s.book.constraints) ⊎ (MOST_ADDED ≤ s.accepted)
 HasNoRoom s _ = ⊥
 
+-- the object that the line chooses or drops was never handed in, or was dropped
+abbrev pub NamesNoObject : SessionState → Line → Type 0
+NamesNoObject s (Guide number) = Contains s.guides number → ⊥
+NamesNoObject s (Order number) = Contains s.orders number → ⊥
+NamesNoObject s (DropGuide number) = Contains s.guides number → ⊥
+NamesNoObject s (DropOrder number) = Contains s.orders number → ⊥
+NamesNoObject s _ = ⊥
+
 -- the line asks for a value that its variable was not declared with
 abbrev pub AsksUndeclared : SessionState → Line → Type 0
 AsksUndeclared s (Why name value) = Any (λ e. (e.name ≡ name) × (Contains e.values value → ⊥)) s.book.variables
@@ -85,6 +99,7 @@ Meets s line E3 = TakesName s line
 Meets s line E4 = NamesNone s line
 Meets s line E5 = NamesNoConstraint s line
 Meets s line E7 = IsBeyond line ⊎ HasNoRoom s line
+Meets s line E11 = NamesNoObject s line
 Meets s line E12 = AsksUndeclared s line
 Meets s line E10 = IsInWrongState s line
 Meets s line _ = ⊥

@@ -1,5 +1,5 @@
 -- What a desk is seen as, and what serving a line that was read does to it.
-use Rattle.std.specs.Prelude.{◌≡◌, ℕ, ◌+◌, ◌-◌, ◌≤◌, min, Bool, true, false, List, [], ◌++◌, ◌⊎◌, Option, None, Some, slice_get}
+use Rattle.std.specs.Prelude.{◌≡◌, ℕ, ◌+◌, ◌-◌, ◌≤◌, min, Bool, true, false, List, ◌++◌, ◌⊎◌, Option, None, Some, slice_get}
 use Rattle.palm_base.specs.declared.limits.TheConstants.{LAST_COUNT}
 use Rattle.palm_model.specs.Log.{Removal, log_pairs}
 use Rattle.palm_model.specs.State.{EngineState}
@@ -12,6 +12,7 @@ use Rattle.palm_lang.specs.Reply.{fixed_text, refusal_text}
 use Rattle.palm_lang.specs.declared.reply.Fixed.{Fixed}
 use Rattle.palm_lang.specs.declared.reply.Fixed.TheVariants.{Contradiction, Paused}
 use Rattle.palm_lang.specs.declared.reply.Refusal.{Refusal}
+use Rattle.palm_session.specs.Objects.{ObjectsView}
 use Rattle.palm_session.specs.State.{SessionState, IsContradiction, fresh}
 use Rattle.palm_session.specs.Refusals.{IsFirst, IsNone, Meets, in_order}
 use Rattle.palm_session.specs.Effects.{Effect, Changes, Next, Rests, Filters, SettlesIn, Follows, next, with_engine}
@@ -22,10 +23,17 @@ pub record DeskView : Type 0 where
   pub state : SessionState
   pub checks : ℕ
 
--- what is seen of the parts of a desk, which has no guide and no order
-abbrev pub desk_of : Contents → View → ℕ → Bool → DeskView
-desk_of book engine accepted paused = record {
-  state = record (fresh [] []) { book = book; accepted = accepted; paused = paused; engine = engine.state };
+-- what is seen of the parts of a desk
+abbrev pub desk_of : Contents → View → ℕ → Bool → ObjectsView → ObjectsView → DeskView
+desk_of book engine accepted paused guides orders = record {
+  state = record (fresh guides.numbers orders.numbers) {
+    book = book;
+    accepted = accepted;
+    paused = paused;
+    guide = guides.chosen;
+    order = orders.chosen;
+    engine = engine.state;
+  };
   checks = engine.checks;
 }
 

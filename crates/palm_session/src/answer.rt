@@ -14,11 +14,13 @@ use crate::going::Going;
 use crate::refuse::refusal_of;
 use crate::reply::Reply;
 use crate::stop::Stop;
+use palm_agenda::Order;
 use palm_base::{NoMemory, Sink, Steps};
+use palm_guide::Guide;
 use palm_lang::{LineError, parse_line};
 use std::sync::ledger::Ledger;
 
-impl Desk {
+impl<G: Guide, O: Order> Desk<G, O> {
     /// Answers a line without its line end, and writes the reply.
     pub fn answer<K: Sink, L: Ledger>(
         &mut self,

@@ -19,14 +19,16 @@ ghost use Rattle.palm_session.specs.State.{HasConstraint, IsHeld, IsState};
 
 use crate::desk::Desk;
 use crate::reply::Reply;
+use palm_agenda::Order;
 use palm_base::{Cid, NoMemory, Steps};
 use palm_engine::Engine;
+use palm_guide::Guide;
 use palm_kind::Kind;
 use palm_lang::{BookCon, Line, MOST_ADDED, MOST_CONSTRAINTS, Name, Refusal, Shape, Unresolved};
 use palm_model::Con;
 use std::sync::ledger::Ledger;
 
-impl Desk {
+impl<G: Guide, O: Order> Desk<G, O> {
     /// Serves `add`: looks the names of its constraint up, once. It is told whether the line goes beyond a limit.
     pub fn serve_add<L: Ledger>(
         &mut self,

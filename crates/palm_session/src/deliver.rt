@@ -14,17 +14,19 @@ ghost use Rattle.palm_session.specs.Writing.{Delivers};
 use crate::desk::Desk;
 use crate::reply::Reply;
 use crate::stop::Stop;
+use palm_agenda::Order;
 use palm_base::{Cid, CidList, Failed, NoMemory, Pair, Sink, Value, Var, write_all};
 use palm_domain::DomainStore;
 use palm_explain::ExplainStore;
+use palm_guide::Guide;
 use palm_lang::{
     Book, Fixed, Lead, Refusal, print_domain, print_entry, print_fixed, print_names, print_ran,
     print_refusal, print_removal, print_var,
 };
 
 /// Writes a reply.
-pub fn deliver<K: Sink>(
-    desk: &Desk,
+pub fn deliver<G: Guide, O: Order, K: Sink>(
+    desk: &Desk<G, O>,
     reply: &Reply,
     out: &mut K,
     buffer: &mut Vec<u8>,
@@ -125,8 +127,8 @@ fn write_domain<K: Sink>(
 }
 
 /// Writes the values of one variable.
-fn write_one_domain<K: Sink>(
-    desk: &Desk,
+fn write_one_domain<G: Guide, O: Order, K: Sink>(
+    desk: &Desk<G, O>,
     var: Var,
     out: &mut K,
     buffer: &mut Vec<u8>,
@@ -147,7 +149,11 @@ fn write_one_domain<K: Sink>(
 }
 
 /// Writes the values of all variables.
-fn write_domains<K: Sink>(desk: &Desk, out: &mut K, buffer: &mut Vec<u8>) -> Result<(), Stop>
+fn write_domains<G: Guide, O: Order, K: Sink>(
+    desk: &Desk<G, O>,
+    out: &mut K,
+    buffer: &mut Vec<u8>,
+) -> Result<(), Stop>
     requires { IsHeld desk.now.state }
     ensures { Delivers (K.state out.old) (K.state out.new) (reply_text desk.now.state Reply.Domains) result }
 {
@@ -238,7 +244,11 @@ fn write_entry<K: Sink>(
 }
 
 /// Writes the log.
-fn write_log<K: Sink>(desk: &Desk, out: &mut K, buffer: &mut Vec<u8>) -> Result<(), Stop>
+fn write_log<G: Guide, O: Order, K: Sink>(
+    desk: &Desk<G, O>,
+    out: &mut K,
+    buffer: &mut Vec<u8>,
+) -> Result<(), Stop>
     requires { IsHeld desk.now.state }
     ensures { Delivers (K.state out.old) (K.state out.new) (log_text desk.now.state.book desk.now.state.engine.log) result }
 {

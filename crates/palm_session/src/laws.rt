@@ -3,7 +3,7 @@ ghost use Rattle.std.specs.Prelude.{◌≡◌, ◌↔◌, ℕ, None, List, take}
 ghost use Rattle.palm_session.specs.State.{SessionState, IsState, fresh};
 ghost use Rattle.palm_session.specs.Answers.{Answers};
 ghost use Rattle.palm_session.specs.Lines.{without_return};
-ghost use Rattle.palm_session.specs.Replies.{Ends, Replies};
+ghost use Rattle.palm_session.specs.Replies.{ChoosesNoOrder, Ends, Replies};
 
 use crate::limits::MOST_KEPT_BYTES;
 
@@ -35,9 +35,9 @@ pub fn a_text_has_an_output()
     ensures { (guides orders text : List ℕ) → (output : List ℕ) × Replies guides orders text output }
 {}
 
-/// A text has no two outputs.
+/// A text in which no line chooses an order that was handed in has no two outputs.
 pub fn a_text_has_one_output()
-    ensures { (guides orders text a b : List ℕ)
+    ensures { (guides orders text a b : List ℕ) → ChoosesNoOrder orders text
         → Replies guides orders text a → Replies guides orders text b → a ≡ b }
 {}
 

@@ -2,6 +2,7 @@
 #![tactic(auto)]
 
 mod answer;
+mod choosing;
 mod constraints;
 mod deliver;
 mod desk;
@@ -9,6 +10,7 @@ mod going;
 mod laws;
 mod limits;
 mod lines;
+mod objects;
 mod printed;
 mod questions;
 mod refuse;

@@ -9,10 +9,12 @@ ghost use Rattle.palm_session.specs.State.{IsHeld, IsState};
 
 use crate::desk::Desk;
 use crate::reply::Reply;
+use palm_agenda::Order;
 use palm_base::{CidList, NoMemory, Pair, Value};
+use palm_guide::Guide;
 use palm_lang::{Fixed, Lead, Line, Name, Refusal};
 
-impl Desk {
+impl<G: Guide, O: Order> Desk<G, O> {
     /// The reply of a line's own, or `paused` where filtering waits.
     pub fn unless_paused(&self, own: Reply) -> Reply
         requires { ReplyFits self.now.state own }

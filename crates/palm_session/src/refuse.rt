@@ -6,6 +6,8 @@ ghost use Rattle.palm_session.specs.Refusals.{IsBuilt, TakesName, HasNoRoom, Mee
 ghost use Rattle.palm_session.specs.State.{HasVariable, HasConstraint};
 
 use crate::desk::Desk;
+use palm_agenda::Order;
+use palm_guide::Guide;
 use palm_lang::{
     Line, LineError, MOST_ADDED, MOST_CONSTRAINTS, MOST_VARIABLES, Name, Refusal, beyond,
 };
@@ -44,12 +46,18 @@ fn is_built(line: &Line) -> bool
         | Line::Pause
         | Line::Resume
         | Line::Step(_)
+        | Line::Guide(_)
+        | Line::GuideNone
+        | Line::Order(_)
+        | Line::OrderNone
+        | Line::DropGuide(_)
+        | Line::DropOrder(_)
         | Line::Quit => true,
         _ => false,
     }
 }
 
-impl Desk {
+impl<G: Guide, O: Order> Desk<G, O> {
     /// The first refusal of a line that is looked for before the names in its variables' places.
     pub fn early_refusal(&self, line: &Line) -> Option<Refusal>
         ensures none { IfNone result (IsBuilt line.now × (TakesName self.now.state line.now → ⊥)) }

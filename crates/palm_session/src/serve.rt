@@ -10,11 +10,13 @@ ghost use Rattle.palm_session.specs.State.{IsState};
 
 use crate::desk::Desk;
 use crate::reply::Reply;
+use palm_agenda::Order;
 use palm_base::{NoMemory, Steps};
+use palm_guide::Guide;
 use palm_lang::{Fixed, Line};
 use std::sync::ledger::Ledger;
 
-impl Desk {
+impl<G: Guide, O: Order> Desk<G, O> {
     /// Serves a line that was read: refuses it, or takes it.
     pub fn serve<L: Ledger>(&mut self, line: Line, steps: &mut Steps<L>) -> Result<Reply, NoMemory>
         requires sound { IsSound line }
@@ -64,6 +66,12 @@ impl Desk {
             Line::Pause => Ok(self.serve_pause()),
             Line::Resume => self.serve_resume(steps),
             Line::Step(count) => self.serve_step(count, steps),
+            Line::Guide(number) => Ok(self.serve_guide(number)),
+            Line::GuideNone => Ok(self.serve_guide_none()),
+            Line::Order(number) => Ok(self.serve_order(number)),
+            Line::OrderNone => Ok(self.serve_order_none()),
+            Line::DropGuide(number) => Ok(self.serve_drop_guide(number)),
+            Line::DropOrder(number) => Ok(self.serve_drop_order(number)),
             Line::Quit => Ok(Reply::Word(Fixed::Bye)),
             _ => unreachable!(),
         }

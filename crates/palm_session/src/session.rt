@@ -12,8 +12,10 @@ use crate::going::Going;
 use crate::limits::MOST_KEPT_BYTES;
 use crate::lines::{next_feed, without_return};
 use crate::stop::Stop;
+use palm_agenda::Order;
 use palm_base::{NoMemory, Sink, Steps};
 use palm_engine::Engine;
+use palm_guide::Guide;
 use palm_kind::Kind;
 use palm_lang::Book;
 use std::alloc::Global;
@@ -22,14 +24,14 @@ use std::sync::ledger::Ledger;
 
 /// A session. It is over after a `quit` line, after its last line was answered, and after a stop.
 #[derive(Drop)]
-pub struct Session {
-    desk: Desk,
+pub struct Session<G: Guide, O: Order> {
+    desk: Desk<G, O>,
     unfinished: Vec<u8>,
     buffer: Vec<u8>,
     over: bool,
 }
 
-impl Model for Session {
+impl<G: Guide, O: Order> Model for Session<G, O> {
     ghost use Rattle.palm_session.specs.Feeding.{IsSession, View, view_of};
 
     ghost Value = { View };
@@ -39,16 +41,22 @@ impl Model for Session {
     ghost invariant = { λ s. IsSession (view_of s.desk s.unfinished.items s.over) };
 }
 
-impl Session {
-    ghost use Rattle.std.specs.Prelude.{[]};
+impl<G: Guide, O: Order> Session<G, O> {
+    ghost use Rattle.std.specs.Prelude.{[], vec_len};
+    ghost use Rattle.palm_session.specs.Objects.{numbered};
     ghost use Rattle.palm_session.specs.State.{fresh};
 
-    /// A fresh session.
-    pub fn new(alloc: Global) -> Result<Session, NoMemory>
-        ensures { IfOk result (λ s. s ≡ record { state = fresh [] []; checks = 0; unfinished = []; over = false }) }
+    /// A fresh session, with these guides and orders, each numbered from 1, of which none is chosen.
+    pub fn new(alloc: Global, guides: Vec<G>, orders: Vec<O>) -> Result<Session<G, O>, NoMemory>
+        ensures { IfOk result (λ s. s ≡ record {
+          state = fresh (numbered (vec_len guides)) (numbered (vec_len orders));
+          checks = 0;
+          unfinished = [];
+          over = false;
+        }) }
     {
         Ok(Session {
-            desk: Desk::new(alloc),
+            desk: Desk::new(alloc, guides, orders)?,
             unfinished: Vec::new(alloc),
             buffer: Vec::new(alloc),
             over: false,
@@ -185,8 +193,8 @@ impl Session {
 
 /// Answers the lines of a text that have their line feeds, up to one that ends the session, and answers where the rest
 /// begins.
-fn answer_lines<K: Sink, L: Ledger>(
-    desk: &mut Desk,
+fn answer_lines<G: Guide, O: Order, K: Sink, L: Ledger>(
+    desk: &mut Desk<G, O>,
     text: &[u8],
     out: &mut K,
     buffer: &mut Vec<u8>,
@@ -224,8 +232,8 @@ fn keep(bytes: &mut Vec<u8>, more: &[u8]) -> Result<(), NoMemory>
 }
 
 /// Answers a last line without its line feed, if it has a byte.
-fn answer_last<K: Sink, L: Ledger>(
-    desk: &mut Desk,
+fn answer_last<G: Guide, O: Order, K: Sink, L: Ledger>(
+    desk: &mut Desk<G, O>,
     line: &[u8],
     out: &mut K,
     buffer: &mut Vec<u8>,

@@ -1,20 +1,27 @@
 //! Filtering, and what is told of the domains afterwards.
-ghost use Rattle.std.specs.Prelude.{◌≡◌, ◌-◌, None, IfOk, OnOk};
+ghost use Rattle.std.specs.Prelude.{◌≡◌, ◌+◌, ◌-◌, min, None, IfOk, OnOk, is_some};
 ghost use Rattle.palm_base.specs.Tells.{Tells};
+ghost use Rattle.palm_base.specs.declared.limits.TheConstants.{LAST_COUNT};
+ghost use Rattle.palm_engine.specs.Engine.{HasAsked, HasSettled};
 ghost use Rattle.palm_lang.specs.Reply.{fixed_text};
+ghost use Rattle.palm_model.specs.State.{IsValid};
 ghost use Rattle.palm_session.specs.Effects.{unless_paused};
 ghost use Rattle.palm_session.specs.ReplyText.{reply_text, ReplyFits};
 ghost use Rattle.palm_session.specs.Serving.{Followed, Ran, Spends, TellsDomains};
 ghost use Rattle.palm_session.specs.State.{IsContradiction, IsHeld, IsState};
 
 use crate::desk::Desk;
+use crate::objects::Objects;
 use crate::reply::Reply;
 use palm_agenda::Order;
 use palm_base::{NoMemory, Steps};
+use palm_engine::{Engine, Settle};
+use palm_guide::Guide;
+use palm_kind::Kind;
 use palm_lang::Fixed;
 use std::sync::ledger::Ledger;
 
-impl Desk {
+impl<G: Guide, O: Order> Desk<G, O> {
     /// Runs revisions until a domain is empty, nothing is pending, or as many ran as the limit says. It answers how many
     /// ran, and the last number of a count where there were more.
     pub fn settle<L: Ledger>(
@@ -25,8 +32,7 @@ impl Desk {
         ensures ran { IfOk result (λ told. Ran self.old.state limit told self.new.state (steps.new - steps.old)) }
         ensures spends { Spends self.old self.new steps.old steps.new }
     {
-        let mut order: Option<Box<dyn Order>> = None;
-        self.engine.settle(&mut order, limit, steps)?;
+        settle_by(&mut self.engine, &mut self.orders, limit, steps)?;
         Ok(self.engine.revisions())
     }
 
@@ -74,4 +80,21 @@ impl Desk {
     {
         !self.paused && self.engine.empty_variable().is_some()
     }
+}
+
+/// Settles by the order that is chosen, or without one.
+fn settle_by<O: Order, L: Ledger>(
+    engine: &mut Engine<Kind>,
+    orders: &mut Objects<O>,
+    limit: Option<u64>,
+    steps: &mut Steps<L>,
+) -> Result<Settle, NoMemory>
+    ensures ok { IfOk result (λ answer. HasSettled limit (is_some orders.old.chosen) answer engine.old engine.new) }
+    ensures asked { HasAsked engine.old.state engine.new.state steps.old steps.new }
+    ensures checks { engine.new.checks ≡ min (engine.old.checks + (steps.new - steps.old)) LAST_COUNT }
+    ensures orders { orders.new ≡ orders.old }
+    ensures valid { IsValid engine.new.state }
+{
+    let place = orders.chosen;
+    engine.settle(&mut orders.places[place], limit, steps)
 }

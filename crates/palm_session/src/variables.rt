@@ -15,11 +15,13 @@ ghost use Rattle.palm_session.specs.State.{HasVariable, IsHeld, IsState};
 
 use crate::desk::Desk;
 use crate::reply::Reply;
+use palm_agenda::Order;
 use palm_base::{NoMemory, Value, ValueList};
+use palm_guide::Guide;
 use palm_lang::{DomainText, Line, MOST_VALUES, MOST_VARIABLES, Name, Refusal};
 use std::alloc::Global;
 
-impl Desk {
+impl<G: Guide, O: Order> Desk<G, O> {
     /// Serves `var`; it is told whether the line goes beyond a limit.
     pub fn serve_var(
         &mut self,

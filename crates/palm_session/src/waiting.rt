@@ -6,11 +6,13 @@ ghost use Rattle.palm_session.specs.State.{IsState};
 
 use crate::desk::Desk;
 use crate::reply::Reply;
+use palm_agenda::Order;
 use palm_base::{NoMemory, Steps};
+use palm_guide::Guide;
 use palm_lang::{Fixed, Line, Refusal};
 use std::sync::ledger::Ledger;
 
-impl Desk {
+impl<G: Guide, O: Order> Desk<G, O> {
     /// Serves `pause`: from now on filtering waits.
     pub fn serve_pause(&mut self) -> Reply
         requires { IsState self.old.state }

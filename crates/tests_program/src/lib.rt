@@ -5,6 +5,8 @@
 #[cfg(test)]
 mod changes;
 #[cfg(test)]
+mod objects;
+#[cfg(test)]
 mod reasons;
 #[cfg(test)]
 mod sessions;

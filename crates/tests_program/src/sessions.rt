@@ -1,17 +1,27 @@
 //! Worked sessions and their replies, read and written in pieces of 1 and of 7 bytes.
 ghost use Rattle.std.specs.Prelude.{◌<◌};
 
-use crate::words::words_of;
+use crate::words::{no_guides, no_orders, words_of};
+use palm_agenda::Order;
 use palm_base::{ByteList, CallList, MemorySink, MemorySource, NoMemory};
 use palm_cli::{Status, top};
+use palm_guide::Guide;
 use std::alloc::Global;
 use std::test::Fail;
 
 /// How many bytes a sink may keep.
 const ROOM: usize = 4_096;
 
-/// Whether `run` answers the text by the replies, where both pass in pieces of at most this many bytes.
-fn answers(alloc: Global, text: &[u8], replies: &str, piece: usize) -> Result<bool, NoMemory>
+/// Whether `run` with these guides and orders answers the text by the replies, where both pass in pieces of at most this
+/// many bytes.
+pub fn answers_with<G: Guide, O: Order>(
+    alloc: Global,
+    text: &[u8],
+    replies: &str,
+    piece: usize,
+    guides: Vec<G>,
+    orders: Vec<O>,
+) -> Result<bool, NoMemory>
     requires { 0 < piece }
 {
     let words = words_of(alloc, &["run"])?;
@@ -19,8 +29,22 @@ fn answers(alloc: Global, text: &[u8], replies: &str, piece: usize) -> Result<bo
     let mut source = MemorySource::new(bytes, piece, CallList::new(alloc));
     let mut sink = MemorySink::new(alloc, piece, CallList::new(alloc));
     sink.reserve(ROOM)?;
-    let status = top(alloc, &words, &mut source, &mut sink);
+    let status = top(alloc, &words, &mut source, &mut sink, guides, orders);
     Ok(status == Status::Done && sink.bytes() == replies.as_bytes())
+}
+
+/// The same without guides and orders.
+fn answers(alloc: Global, text: &[u8], replies: &str, piece: usize) -> Result<bool, NoMemory>
+    requires { 0 < piece }
+{
+    answers_with(
+        alloc,
+        text,
+        replies,
+        piece,
+        no_guides(alloc),
+        no_orders(alloc),
+    )
 }
 
 /// Whether `run` answers each text by the replies beside it, in pieces of 1 and of 7 bytes.

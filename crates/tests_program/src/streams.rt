@@ -1,7 +1,7 @@
 //! Streams that fail, and when replies are written.
 ghost use Rattle.palm_base.specs.Memory.{source_state, sink_state};
 
-use crate::words::words_of;
+use crate::words::{no_guides, no_orders, words_of};
 use palm_base::{
     ByteList, CallList, Failed, MemorySink, MemorySource, NoMemory, Sink, Source, SteadySink,
     SteadySource,
@@ -17,7 +17,14 @@ fn ends(alloc: Global, reads: &[u64], writes: &[u64]) -> Result<Status, NoMemory
     let bytes = ByteList::from_slice(alloc, b"var x 1..3\ndomains\n")?;
     let mut source = MemorySource::new(bytes, 7, CallList::from_slice(alloc, reads)?);
     let mut sink = MemorySink::new(alloc, 7, CallList::from_slice(alloc, writes)?);
-    Ok(top(alloc, &words, &mut source, &mut sink))
+    Ok(top(
+        alloc,
+        &words,
+        &mut source,
+        &mut sink,
+        no_guides(alloc),
+        no_orders(alloc),
+    ))
 }
 
 #[test]
@@ -83,7 +90,14 @@ fn each_line_is_answered_before_the_next_read(rt: HostRuntime) -> Result<(), Fai
         inner: SteadySink::new(rt.alloc()),
         written: &written,
     };
-    let status = top(rt.alloc(), &words, &mut source, &mut sink);
+    let status = top(
+        rt.alloc(),
+        &words,
+        &mut source,
+        &mut sink,
+        no_guides(rt.alloc()),
+        no_orders(rt.alloc()),
+    );
     assert_eq!(rt; status, Status::Done);
     assert!(rt; source.waited);
     assert_eq!(rt; source.reads, 4);

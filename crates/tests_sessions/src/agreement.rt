@@ -5,7 +5,9 @@ ghost use Rattle.palm_model.specs.Constraint.{IsWellFormed};
 ghost use Rattle.palm_model.specs.Domains.{AllAscend};
 ghost use Rattle.palm_model.specs.Log.{cons_of};
 
+use palm_agenda::LastOrder;
 use palm_base::{NoMemory, SteadySink, Steps, ValueList, Var};
+use palm_guide::FirstGuide;
 use palm_lang::{Book, Fixed, print_domain, print_fixed};
 use palm_model::{ConList, DomainList, copy_of, scratch};
 use palm_session::{Going, Session, Stop};
@@ -85,7 +87,11 @@ fn agree_counted<L: Ledger>(
     requires shared { 0 < L.parts }
 {
     let mut steps = Steps::<L>::start(blank);
-    let mut session = Session::new(alloc)?;
+    let mut session = Session::new(
+        alloc,
+        Vec::<FirstGuide>::new(alloc),
+        Vec::<LastOrder>::new(alloc),
+    )?;
     let mut sink = SteadySink::new(alloc);
     sink.reserve(ROOM)?;
     if session.feed(text, &mut sink, &mut steps)? == Going::Quit {

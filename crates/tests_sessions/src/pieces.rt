@@ -1,7 +1,9 @@
 //! Pieces that cut lines, and a last line without its line feed.
 ghost use Rattle.std.specs.Prelude.{◌≡◌, ◌<◌};
 
+use palm_agenda::LastOrder;
 use palm_base::{SteadySink, Steps};
+use palm_guide::FirstGuide;
 use palm_session::{Going, Session, Stop};
 use std::alloc::Global;
 use std::marker::Brand;
@@ -22,7 +24,11 @@ fn is_fed_and_finished<L: Ledger>(
     requires shared { 0 < L.parts }
 {
     let mut steps = Steps::<L>::start(blank);
-    let mut session = Session::new(alloc)?;
+    let mut session = Session::new(
+        alloc,
+        Vec::<FirstGuide>::new(alloc),
+        Vec::<LastOrder>::new(alloc),
+    )?;
     if session.feed(b"var x 1..2\r\ndoma", sink, &mut steps)? == Going::Quit {
         return Ok(false);
     }

@@ -5,7 +5,7 @@ use Rattle.palm_cli.proofs.serving.serve.Given as goal
 
 abbrev pub invariant-loop-taken : goal.invariant-loop-taken
 invariant-loop-taken g l =
-    Served (streams (g.S.Source.state l.initial.source) (g.K.Sink.state l.initial.sink)) (streams (g.S.Source.state l.source) (g.K.Sink.state l.sink)) l.taken l.session
+    Served l.initial.session.state.guides l.initial.session.state.orders (streams (g.S.Source.state l.initial.source) (g.K.Sink.state l.initial.sink)) (streams (g.S.Source.state l.source) (g.K.Sink.state l.sink)) l.taken l.session
 
 abbrev pub decreases-loop-taken : goal.decreases-loop-taken
 decreases-loop-taken g l = 16777217 - l.taken

@@ -39,7 +39,7 @@ filtered-requires g c =
     let line = Add c.args.name c.args.shape in
     let says = subst (λ (d : DeskView). Resolves d.state.book.variables c.args.shape c.in-Ok.con) c.self.view_is c.in-Ok.ensures.says in
     let none : IsNone (Meets s line) in_order =
-    none_met s line tt c.requires.free (known s.book.variables c.args.shape c.in-Ok.con says) (λ h. h) (tells_false _ c.args.is_over c.requires.over c.if-is_over.false) (λ h. h) (λ h. h) in
+    none_met s line tt c.requires.free (known s.book.variables c.args.shape c.in-Ok.con says) (λ h. h) (tells_false _ c.args.is_over c.requires.over c.if-is_over.false) (λ h. h) (λ h. h) (λ h. h) in
     let added = c.in_ok-add.ensures.ok in
     let changes : Changes s line m = (c.in-Ok.con, added.0, says, added.1, added.2) in
     record { held = changes_keep s m line c.requires.state.held c.requires.sound none changes }
@@ -52,7 +52,7 @@ returns-clause-serves g c =
     let line = Add c.args.name c.args.shape in
     let says = subst (λ (d : DeskView). Resolves d.state.book.variables c.args.shape c.in-Ok.con) c.self.view_is c.in-Ok.ensures.says in
     let none : IsNone (Meets s line) in_order =
-    none_met s line tt c.requires.free (known s.book.variables c.args.shape c.in-Ok.con says) (λ h. h) (tells_false _ c.args.is_over c.requires.over c.if-is_over.false) (λ h. h) (λ h. h) in
+    none_met s line tt c.requires.free (known s.book.variables c.args.shape c.in-Ok.con says) (λ h. h) (tells_false _ c.args.is_over c.requires.over c.if-is_over.false) (λ h. h) (λ h. h) (λ h. h) in
     let added = c.in_ok-add.ensures.ok in
     let changes : Changes s line m = (c.in-Ok.con, added.0, says, added.1, added.2) in
     served_after s m t line _ (reply_text t) none changes refl c.filtered.result (λ h. h) tt (λ effect. refl) c.filtered.ensures.followed c.filtered.ensures.tells
@@ -65,7 +65,7 @@ returns-clause-asks g c =
     let line = Add c.args.name c.args.shape in
     let says = subst (λ (d : DeskView). Resolves d.state.book.variables c.args.shape c.in-Ok.con) c.self.view_is c.in-Ok.ensures.says in
     let none : IsNone (Meets s line) in_order =
-    none_met s line tt c.requires.free (known s.book.variables c.args.shape c.in-Ok.con says) (λ h. h) (tells_false _ c.args.is_over c.requires.over c.if-is_over.false) (λ h. h) (λ h. h) in
+    none_met s line tt c.requires.free (known s.book.variables c.args.shape c.in-Ok.con says) (λ h. h) (tells_false _ c.args.is_over c.requires.over c.if-is_over.false) (λ h. h) (λ h. h) (λ h. h) in
     let added = c.in_ok-add.ensures.ok in
     let changes : Changes s line m = (c.in-Ok.con, added.0, says, added.1, added.2) in
     asked_after s m t line _ (reply_text t) none changes refl c.filtered.result c.filtered.ensures.followed

@@ -6,7 +6,7 @@ use Rattle.palm_session.proofs.Serving.{none_named, serves_domain, unknown_refus
 use Rattle.palm_session.proofs.desk.Desk.serve_domain.Goals as goal
 
 pub returns-in-Some-clause-serves : goal.returns-in-Some-clause-serves
-returns-in-Some-clause-serves c =
+returns-in-Some-clause-serves g c =
     let x = c.in-Some.var in
     let name = c.args.name.now in
     let found : (x < length c.args.self.now.state.book.variables) × (name_of c.args.self.now.state.book.variables x ≡ name) =
@@ -14,7 +14,7 @@ returns-in-Some-clause-serves c =
     serves_domain c.args.self.now.state name x found.0 found.1 _ c.requires c.unless_withheld.ensures.tells
 
 pub returns-in-None-clause-serves : goal.returns-in-None-clause-serves
-returns-in-None-clause-serves c =
+returns-in-None-clause-serves g c =
     let name = c.args.name.now in
     let none : All (λ (e : Entry). e.name ≢ name) c.args.self.now.state.book.variables =
     subst (λ (d : DeskView). All (λ (e : Entry). e.name ≢ name) d.state.book.variables) c.self.view_is c.in-None.ensures.none in

@@ -7,9 +7,9 @@ use Rattle.palm_session.proofs.Serving.{paused_already, pauses}
 use Rattle.palm_session.proofs.desk.Desk.serve_pause.Goals as goal
 
 pub returns-then-self-clause-serves : goal.returns-then-self-clause-serves
-returns-then-self-clause-serves c = paused_already c.args.self.now.state (subst (λ (d : DeskView). d.state.paused ≡ true) c.self.view_is c.if-self.true)
+returns-then-self-clause-serves g c = paused_already c.args.self.now.state (subst (λ (d : DeskView). d.state.paused ≡ true) c.self.view_is c.if-self.true)
 
 pub returns-clause-serves : goal.returns-clause-serves
-returns-clause-serves c =
-    let d = desk_of c.self.inside.book c.self.inside.engine c.self.inside.accepted c.self.inside.paused in
+returns-clause-serves g c =
+    let d = desk_of c.self.inside.book c.self.inside.engine c.self.inside.accepted c.self.inside.paused c.self.inside.guides c.self.inside.orders in
     subst (λ (z : DeskView). Serves z.state Pause (fixed_text Done) (record d.state { paused = true })) c.self.view_is (pauses d.state c.if-self.false)

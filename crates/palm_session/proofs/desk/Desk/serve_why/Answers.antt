@@ -14,24 +14,24 @@ use Rattle.palm_session.proofs.Serving.{none_named, serves_why, some_named, unde
 use Rattle.palm_session.proofs.desk.Desk.serve_why.Goals as goal
 
 pub returns-in_default-clause-serves : goal.returns-in_default-clause-serves
-returns-in_default-clause-serves c =
+returns-in_default-clause-serves g c =
     let none : All (λ (e : Entry). e.name ≢ c.args.name.now) c.self.inside.book.variables = search rules in
     unknown_refused c.args.self.now.state (Why c.args.name.now c.args.value) tt (λ h. h)
     (none_named c.args.self.now.state.book.variables c.args.name.now (subst (λ (d : DeskView). All (λ (e : Entry). e.name ≢ c.args.name.now) d.state.book.variables) c.self.view_is none))
 
 pub returns-then-not-declared-clause-serves : goal.returns-then-not-declared-clause-serves
-returns-then-not-declared-clause-serves c =
+returns-then-not-declared-clause-serves g c =
     let s = c.args.self.now.state in
     let name = c.args.name.now in
     let x = c.in-Some.var in
     let found = subst (λ (d : DeskView). (x < length d.state.book.variables) × (name_of d.state.book.variables x ≡ name)) c.self.view_is c.in-Some.ensures.found in
     let initial = c.store.ensures.initial ∙ ap (λ (d : DeskView). d.state.engine.initial) c.self.view_is in
     let tells = subst (λ (k : Domains). Tells c.declared.result (Has k x c.args.value)) initial c.declared.ensures.tells in
-    undeclared_refused s (Why name c.args.value) tt (λ h. h) (λ none. none (some_named s.book.variables x name found.0 found.1)) (λ h. h) (λ m. elim m [ inl h ↦ h | inr h ↦ h ])
+    undeclared_refused s (Why name c.args.value) tt (λ h. h) (λ none. none (some_named s.book.variables x name found.0 found.1)) (λ h. h) (λ m. elim m [ inl h ↦ h | inr h ↦ h ]) (λ h. h)
     (undeclared_asked s c.requires.held name x found.0 found.1 c.args.value (tells_false _ c.declared.result tells c.if-not-declared.true))
 
 pub returns-in-Some-withheld-clause-serves : goal.returns-in-Some-withheld-clause-serves
-returns-in-Some-withheld-clause-serves c =
+returns-in-Some-withheld-clause-serves g c =
     let s = c.args.self.now.state in
     let name = c.args.name.now in
     let x = c.in-Some.var in
@@ -42,7 +42,7 @@ returns-in-Some-withheld-clause-serves c =
     (tells_word c.in-Some-withheld.word c.in-Some-withheld.ensures refl)
 
 pub returns-in-None-clause-serves : goal.returns-in-None-clause-serves
-returns-in-None-clause-serves c =
+returns-in-None-clause-serves g c =
     let s = c.args.self.now.state in
     let name = c.args.name.now in
     let x = c.in-Some.var in

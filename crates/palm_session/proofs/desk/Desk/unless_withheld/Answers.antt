@@ -3,4 +3,4 @@ use Rattle.palm_session.specs.Serving.{tells_word}
 use Rattle.palm_session.proofs.desk.Desk.unless_withheld.Goals as goal
 
 pub returns-in-Some-clause-tells : goal.returns-in-Some-clause-tells
-returns-in-Some-clause-tells c = tells_word c.in-Some.word c.in-Some.ensures refl
+returns-in-Some-clause-tells g c = tells_word c.in-Some.word c.in-Some.ensures refl

@@ -14,8 +14,8 @@ use Rattle.palm_session.proofs.Users.{explanation_users}
 use Rattle.palm_session.proofs.desk.Desk.why.Goals as goal
 
 pub returns-then-is_none-clause-tells : goal.returns-then-is_none-clause-tells
-returns-then-is_none-clause-tells c =
-    let d = desk_of c.self.inside.book c.self.inside.engine c.self.inside.accepted c.self.inside.paused in
+returns-then-is_none-clause-tells g c =
+    let d = desk_of c.self.inside.book c.self.inside.engine c.self.inside.accepted c.self.inside.paused c.self.inside.guides c.self.inside.orders in
     let pair : Pair = record { var = c.args.pair.var; value = c.args.pair.value } in
     let declared = subst (λ (d : DeskView). Has d.state.engine.initial c.args.pair.var c.args.pair.value) (sym c.self.view_is) c.requires.declared in
     let place = rw c.log-log.ensures at c.place_of.ensures in
@@ -23,11 +23,11 @@ returns-then-is_none-clause-tells c =
     (tells_present d.state c.args.pair.var c.args.pair.value declared (unlogged_pair d.state.engine.log pair c.place_of.result place c.is_none.result c.is_none.ensures c.if-is_none.true))
 
 pub explanation-requires : goal.explanation-requires
-explanation-requires c = logged_pair _ _ c.place_of.result c.place_of.ensures c.is_none.result c.is_none.ensures c.if-is_none.false
+explanation-requires g c = logged_pair _ _ c.place_of.result c.place_of.ensures c.is_none.result c.is_none.ensures c.if-is_none.false
 
 pub returns-clause-tells : goal.returns-clause-tells
-returns-clause-tells c =
-    let d = desk_of c.self.inside.book c.self.inside.engine c.self.inside.accepted c.self.inside.paused in
+returns-clause-tells g c =
+    let d = desk_of c.self.inside.book c.self.inside.engine c.self.inside.accepted c.self.inside.paused c.self.inside.guides c.self.inside.orders in
     let pair : Pair = record { var = c.args.pair.var; value = c.args.pair.value } in
     let place = rw c.log-log.ensures at c.place_of.ensures in
     let list = rw c.log-log.ensures at c.in_ok-explanation.ensures.ok in
@@ -35,8 +35,8 @@ returns-clause-tells c =
     (tells_because d.state c.args.pair.var c.args.pair.value c.explanation.new.out (logged_pair d.state.engine.log pair c.place_of.result place c.is_none.result c.is_none.ensures c.if-is_none.false) list)
 
 pub returns-clause-fits : goal.returns-clause-fits
-returns-clause-fits c =
-    let d = desk_of c.self.inside.book c.self.inside.engine c.self.inside.accepted c.self.inside.paused in
+returns-clause-fits g c =
+    let d = desk_of c.self.inside.book c.self.inside.engine c.self.inside.accepted c.self.inside.paused c.self.inside.guides c.self.inside.orders in
     let pair : Pair = record { var = c.args.pair.var; value = c.args.pair.value } in
     let held = subst (λ (d : DeskView). IsHeld d.state) (sym c.self.view_is) c.requires.held in
     let list = rw c.log-log.ensures at c.in_ok-explanation.ensures.ok in

@@ -1,0 +1,192 @@
+-- Objects at places: the numbers of those that are there, and the chosen one.
+use Rattle.std.proofs.Common.{◌≡◌, ℕ, zero, suc, ◌+◌, ◌<◌, ◌≤◌, ◌==◌, Bool, true, false, not, if◌then◌else◌, cond, Option, None, Some, is_some, List, [], ◌∷◌, ◌++◌, map, set, get_or, slice_get, length, Contains, inl, inr, refl, sym, ap, ◌∙◌, subst, arith, append-nil, eq-eqb, eqb-true}
+use Rattle.std.proofs.lemmas.List.{get_or-set_same, get_or-set_other}
+use Rattle.std.proofs.lemmas.Option.{slice_get_within, get_or_from_slice_get, slice_get_read}
+use Rattle.palm_base.specs.Tells.{Tells}
+use Rattle.palm_base.proofs.Members.{nat_known, member_nil, member_here, member_there, member_cases, member_same}
+use Rattle.palm_session.specs.Objects.{ObjectsView, numbered, numbered_from, without_number, chosen_without, numbers_from, number_at, objects_at, ArePlaces}
+
+-- ---- all of them
+
+pub all_numbered : {X : Type 0} (n : ℕ) (xs : List X) → numbers_from n (map Some xs) ≡ numbered_from n (length xs)
+all_numbered n [] = refl
+all_numbered n (x ∷ xs) = ap (λ (ns : List ℕ). n ∷ ns) (all_numbered (suc n) xs)
+
+-- ---- who is there
+
+pub there_numbered : {X : Type 0} (n k : ℕ) (places : List (Option X)) (i : ℕ) (x : X) → k ≡ n + i → slice_get places i ≡ Some (Some x) → Contains (numbers_from n places) k
+there_numbered n k [] i x e at = cc
+there_numbered n k (None ∷ places) zero x e at = cc
+there_numbered n k (None ∷ places) (suc i) x e at = there_numbered (suc n) k places i x (omega (arith, e)) at
+there_numbered n k (Some y ∷ places) zero x e at = member_same (n ∷ numbers_from (suc n) places) n k (omega (arith, e)) (member_here n (numbers_from (suc n) places))
+there_numbered n k (Some y ∷ places) (suc i) x e at =
+    member_there n (numbers_from (suc n) places) k (there_numbered (suc n) k places i x (omega (arith, e)) at)
+
+-- the place with the number holds an object
+pub record IsThere {X : Type 0} (n k : ℕ) (places : List (Option X)) : Type 0 where
+  pub place : ℕ
+  pub object : X
+  pub number : k ≡ n + place
+  pub at : slice_get places place ≡ Some (Some object)
+
+behind : {X : Type 0} (n k : ℕ) (p : Option X) (places : List (Option X)) → IsThere (suc n) k places → IsThere n k (p ∷ places)
+behind n k p places t = record { place = suc t.place; object = t.object; number = omega (arith, t.number); at = t.at }
+
+pub numbered_there : {X : Type 0} (n k : ℕ) (places : List (Option X)) → Contains (numbers_from n places) k → IsThere n k places
+numbered_there n k [] m = absurd (member_nil k m)
+numbered_there n k (None ∷ places) m = behind n k None places (numbered_there (suc n) k places m)
+numbered_there n k (Some y ∷ places) m = elim (member_cases n (numbers_from (suc n) places) k m) [
+  | inl e ↦ record { place = 0; object = y; number = omega (arith, e); at = refl }
+  | inr r ↦ behind n k (Some y) places (numbered_there (suc n) k places r)
+]
+
+-- ---- another object at a place, or none
+
+pub alike_numbered : {X : Type 0} (n : ℕ) (places : List (Option X)) (i : ℕ) (w : Option X) → is_some w ≡ is_some (get_or places i None) → numbers_from n (set places i w) ≡ numbers_from n places
+alike_numbered n [] i w e = refl
+alike_numbered n (None ∷ places) zero None e = refl
+alike_numbered n (None ∷ places) zero (Some x) e = cc
+alike_numbered n (Some y ∷ places) zero None e = cc
+alike_numbered n (Some y ∷ places) zero (Some x) e = refl
+alike_numbered n (None ∷ places) (suc i) w e = alike_numbered (suc n) places i w e
+alike_numbered n (Some y ∷ places) (suc i) w e = ap (λ (ns : List ℕ). n ∷ ns) (alike_numbered (suc n) places i w e)
+
+pub differs : (m n : ℕ) → (m ≡ n → ⊥) → (m == n) ≡ false
+differs m n other = by (m == n) refl
+  where
+    by : (b : Bool) → (m == n) ≡ b → b ≡ false
+    by true e = absurd (other (eqb-true m n e))
+    by false e = refl
+
+-- a number before all of them is not among them
+none_before : {X : Type 0} (n k : ℕ) (places : List (Option X)) → k < n → numbers_from n places ≡ without_number k (numbers_from n places)
+none_before n k [] lt = refl
+none_before n k (None ∷ places) lt = none_before (suc n) k places (omega (arith, lt))
+none_before n k (Some y ∷ places) lt =
+    let rest = without_number k (numbers_from (suc n) places) in
+    ap (λ (ns : List ℕ). n ∷ ns) (none_before (suc n) k places (omega (arith, lt)))
+    ∙ sym (ap (λ (b : Bool). cond (not b) (n ∷ rest) rest) (differs n k (λ e. omega (arith, e, lt))))
+
+pub none_numbered : {X : Type 0} (n k : ℕ) (places : List (Option X)) (i : ℕ) → k ≡ n + i → numbers_from n (set places i None) ≡ without_number k (numbers_from n places)
+none_numbered n k [] i e = refl
+none_numbered n k (None ∷ places) zero e = none_before (suc n) k places (omega (arith, e))
+none_numbered n k (Some y ∷ places) zero e =
+    let rest = without_number k (numbers_from (suc n) places) in
+    none_before (suc n) k places (omega (arith, e)) ∙ sym (ap (λ (b : Bool). cond (not b) (n ∷ rest) rest) (eq-eqb n k (omega (arith, e))))
+none_numbered n k (None ∷ places) (suc i) e = none_numbered (suc n) k places i (omega (arith, e))
+none_numbered n k (Some y ∷ places) (suc i) e =
+    let rest = without_number k (numbers_from (suc n) places) in
+    ap (λ (ns : List ℕ). n ∷ ns) (none_numbered (suc n) k places i (omega (arith, e)))
+    ∙ sym (ap (λ (b : Bool). cond (not b) (n ∷ rest) rest) (differs n k (λ s. omega (arith, e, s))))
+
+-- ---- the chosen one
+
+pub alike_at : {X : Type 0} (n : ℕ) (v w : Option X) → is_some w ≡ is_some v → number_at n w ≡ number_at n v
+alike_at n None None e = refl
+alike_at n None (Some x) e = cc
+alike_at n (Some y) None e = cc
+alike_at n (Some y) (Some x) e = refl
+
+chosen_gone : {X : Type 0} (k c : ℕ) (v : Option X) → c ≡ k → chosen_without k (number_at c v) ≡ None
+chosen_gone k c None e = refl
+chosen_gone k c (Some x) e = ap (λ (b : Bool). if b then None else Some c) (eq-eqb c k e)
+
+chosen_left : {X : Type 0} (k c : ℕ) (v : Option X) → (c ≡ k → ⊥) → chosen_without k (number_at c v) ≡ number_at c v
+chosen_left k c None other = refl
+chosen_left k c (Some x) other = ap (λ (b : Bool). if b then None else Some c) (differs c k other)
+
+none_chosen : {X : Type 0} (places : List (Option X)) (k c : ℕ) → c < length places → number_at c (get_or (set places k None) c None) ≡ chosen_without k (number_at c (get_or places c None))
+none_chosen places k c within = elim (nat_known c k) [
+  | inl e ↦
+      let gone : get_or (set places k None) c None ≡ None = subst (λ (i : ℕ). get_or (set places i None) c None ≡ None) e (get_or-set_same places c None None within) in
+      ap (number_at c) gone ∙ sym (chosen_gone k c (get_or places c None) e)
+  | inr other ↦ ap (number_at c) (get_or-set_other places k c None None other) ∙ sym (chosen_left k c (get_or places c None) other)
+]
+
+-- ---- as callers see them
+
+pub there_within : {X : Type 0} (k : ℕ) (places : List (Option X)) → Contains (numbers_from 0 places) k → k < length places
+there_within k places m =
+    let t = numbered_there 0 k places m in
+    let lt : t.place < length places = slice_get_within places t.place (Some t.object) t.at in
+    omega (arith, lt, t.number)
+
+-- what is seen, by its parts
+seen : (ns ms : List ℕ) (a b : Option ℕ) → ns ≡ ms → a ≡ b → ◌≡◌ {A = ObjectsView} (record { numbers = ns; chosen = a }) (record { numbers = ms; chosen = b })
+seen ns ms a b e f = cc
+
+module _ {X : Type 0} (places : List (Option X)) (c : ℕ) (v : ObjectsView) (is : ArePlaces places c) (view : objects_at places c ≡ v) where
+  numbers_seen : numbers_from 0 places ≡ v.numbers
+  numbers_seen = ap (λ (w : ObjectsView). w.numbers) view
+
+  chosen_seen : number_at c (get_or places c None) ≡ v.chosen
+  chosen_seen = ap (λ (w : ObjectsView). w.chosen) view
+
+  -- an object that is there may be chosen
+  pub may_choose : (k : ℕ) → Contains v.numbers k → ArePlaces places k
+  may_choose k there = record { first = is.first; within = there_within k places (subst (λ (ns : List ℕ). Contains ns k) (sym numbers_seen) there) }
+
+  pub chosen_objects : (k : ℕ) → Contains v.numbers k → objects_at places k ≡ record { numbers = v.numbers; chosen = Some k }
+  chosen_objects k there =
+      let t = numbered_there 0 k places (subst (λ (ns : List ℕ). Contains ns k) (sym numbers_seen) there) in
+      let same : t.place ≡ k = omega (arith, t.number) in
+      let at : get_or places k None ≡ Some t.object = subst (λ (i : ℕ). get_or places i None ≡ Some t.object) same (get_or_from_slice_get places t.place (Some t.object) None t.at) in
+      seen (numbers_from 0 places) v.numbers (number_at k (get_or places k None)) (Some k) numbers_seen (ap (number_at k) at)
+
+  -- the object at the chosen place is changed
+  pub settled_objects : (u w : Option X) → u ≡ get_or places c u → is_some w ≡ is_some u → objects_at (set places c w) c ≡ v
+  settled_objects u w there same =
+      let stood : get_or places c None ≡ u = get_or_from_slice_get places c u None (slice_get_read places (length places) c u refl is.within there) in
+      let e : is_some w ≡ is_some (get_or places c None) = same ∙ ap (λ (o : Option X). is_some o) (sym stood) in
+      let at : get_or (set places c w) c None ≡ w = get_or-set_same places c w None is.within in
+      let chosen : number_at c (get_or (set places c w) c None) ≡ v.chosen = ap (number_at c) at ∙ alike_at c (get_or places c None) w e ∙ chosen_seen in
+      seen (numbers_from 0 (set places c w)) v.numbers (number_at c (get_or (set places c w) c None)) v.chosen (alike_numbered 0 places c w e ∙ numbers_seen) chosen
+
+  -- the object with a number is dropped
+  pub dropped_objects : (k : ℕ) → objects_at (set places k None) c ≡ record { numbers = without_number k v.numbers; chosen = chosen_without k v.chosen }
+  dropped_objects k =
+      seen (numbers_from 0 (set places k None)) (without_number k v.numbers) (number_at c (get_or (set places k None) c None)) (chosen_without k v.chosen)
+      (none_numbered 0 k places k (omega arith) ∙ ap (λ (ns : List ℕ). without_number k ns) numbers_seen)
+      (none_chosen places k c is.within ∙ ap (λ (o : Option ℕ). chosen_without k o) chosen_seen)
+
+-- whether there is an object is told by its place
+module _ {X : Type 0} (places : List (Option X)) (c : ℕ) (v : ObjectsView) (view : objects_at places c ≡ v) (k : ℕ) where
+  there_seen : Contains v.numbers k → Contains (numbers_from 0 places) k
+  there_seen there = subst (λ (w : ObjectsView). Contains w.numbers k) (sym view) there
+
+  pub beyond_absent : length places ≤ k → Contains v.numbers k → ⊥
+  beyond_absent beyond there = omega (arith, beyond, there_within k places (there_seen there))
+
+  empty_absent : get_or places k None ≡ None → Contains v.numbers k → ⊥
+  empty_absent none there =
+      let t = numbered_there 0 k places (there_seen there) in
+      let same : t.place ≡ k = omega (arith, t.number) in
+      let at : get_or places k None ≡ Some t.object = subst (λ (i : ℕ). get_or places i None ≡ Some t.object) same (get_or_from_slice_get places t.place (Some t.object) None t.at) in
+      cc
+
+  pub told_there : (o : Option X) (b : Bool) → k < length places → o ≡ get_or places k o → b ≡ is_some o → Tells b (Contains v.numbers k)
+  told_there None b lt at e = subst (λ (t : Bool). Tells t (Contains v.numbers k)) (sym e) (empty_absent (sym at))
+  told_there (Some x) b lt at e =
+      let there = there_numbered 0 k places k x (omega arith) (slice_get_read places (length places) k (Some x) refl lt at) in
+      subst (λ (t : Bool). Tells t (Contains v.numbers k)) (sym e) (subst (λ (w : ObjectsView). Contains w.numbers k) view there)
+
+-- ---- all of them
+
+module _ {X : Type 0} (places : List (Option X)) (xs : List X) (is : places ≡ None ∷ map Some xs) where
+  pub all_places : ArePlaces places 0
+  all_places = record { first = ap (λ (ps : List (Option X)). get_or ps 0 None) is; within = subst (λ (ps : List (Option X)). 0 < length ps) (sym is) (omega arith) }
+
+  pub all_objects : objects_at places 0 ≡ record { numbers = numbered (length xs); chosen = None }
+  all_objects =
+      let first : number_at 0 (get_or places 0 None) ≡ None = ap (λ (ps : List (Option X)). number_at 0 (get_or ps 0 None)) is in
+      seen (numbers_from 0 places) (numbered (length xs)) (number_at 0 (get_or places 0 None)) None
+      (ap (λ (ps : List (Option X)). numbers_from 0 ps) is ∙ all_numbered 1 xs) first
+
+-- where none is still to come, all of them are in their places
+pub all_in_places : {X : Type 0} (places : List (Option X)) (more xs : List X) (n : ℕ) → places ++ map Some more ≡ None ∷ map Some xs → n ≡ 0 → n ≡ length more → places ≡ None ∷ map Some xs
+all_in_places places [] xs n e zero_left long = sym (append-nil places) ∙ e
+all_in_places places (x ∷ more) xs n e zero_left long = absurd (omega (arith, zero_left, long))
+
+-- the same, of a list whose length is kept beside it
+pub all_seen : {X : Type 0} (places : List (Option X)) (xs : List X) (n : ℕ) → n ≡ length xs → places ≡ None ∷ map Some xs → objects_at places 0 ≡ record { numbers = numbered n; chosen = None }
+all_seen places xs n long is = all_objects places xs is ∙ seen (numbered (length xs)) (numbered n) None None (ap numbered (sym long)) refl

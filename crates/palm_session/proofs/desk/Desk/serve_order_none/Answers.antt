@@ -1,0 +1,10 @@
+use Rattle.palm_read.specs.declared.line.Line.TheVariants.{OrderNone}
+use Rattle.palm_session.specs.Serving.{desk_of}
+use Rattle.palm_session.proofs.Chosen.{no_order, moved_orders}
+use Rattle.palm_session.proofs.desk.Desk.serve_order_none.Goals as goal
+
+pub returns-clause-serves : goal.returns-clause-serves
+returns-clause-serves g c =
+    let s = (desk_of c.self.inside.book c.self.inside.engine c.self.inside.accepted c.self.inside.paused c.self.inside.guides c.self.inside.orders).state in
+    moved_orders c.self.inside.book c.self.inside.engine c.self.inside.accepted c.self.inside.paused c.self.inside.guides c.self.inside.orders c.args.self.now c.self.view_is
+    OrderNone _ c.choose_none.new.self _ c.choose_none.ensures (no_order s)
