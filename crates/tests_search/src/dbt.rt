@@ -1,44 +1,12 @@
 //! Searches by mac-dbt.
 use crate::guides::{Counting, Fixed};
-use crate::journal::{Conflict, End, Wanted};
+use crate::journal::{Conflict, End, FIRST, Wanted, decide, decide_asked, decide_by_default, pair};
 use crate::problems::Problem;
-use crate::searches::{Case, is_searched};
+use crate::searches::{Case, Way, is_plain, is_searched};
 use palm_base::{Cid, NoMemory, Pair, Value, Var};
 use palm_guide::{Guide, MostConflicts};
-use palm_search::Pick;
 use std::alloc::Global;
 use std::test::Fail;
-
-/// The first constraint of each problem.
-const FIRST: Cid = Cid::User(1);
-
-fn pair(var: u32, value: i32) -> Pair {
-    Pair {
-        var: Var(var),
-        value: Value(value),
-    }
-}
-
-/// A decision without a guide.
-fn decide(var: u32, value: i32) -> Wanted {
-    Wanted::Decide(pair(var, value), Pick::NoGuide)
-}
-
-/// A decision after a guide had nothing to propose.
-fn decide_by_default(var: u32, value: i32) -> Wanted {
-    Wanted::Decide(pair(var, value), Pick::Nothing)
-}
-
-/// A decision after a guide proposed the pair.
-fn decide_asked(var: u32, value: i32, asked: Pair) -> Wanted {
-    Wanted::Decide(pair(var, value), Pick::Asked(asked))
-}
-
-/// Whether a search without a guide does this.
-fn is_plain(alloc: Global, case: &Case<'_>) -> Result<bool, NoMemory> {
-    let mut guide: Option<MostConflicts> = None;
-    is_searched(alloc, case, &mut guide)
-}
 
 /// Whether a search with a guide in a box that always answers this does it.
 fn is_guided(alloc: Global, case: &Case<'_>, pick: Option<Pair>) -> Result<bool, NoMemory> {
@@ -65,6 +33,7 @@ fn one_decision_of_a_conflict_is_undone(rt: HostRuntime) -> Result<(), Fail> {
     ];
     let whole = Case {
         problem: Problem::Four,
+        way: Way::Dbt,
         budget: 11,
         end: End::NoSolution(&[FIRST]),
         turns: Some(&turns),
@@ -72,6 +41,7 @@ fn one_decision_of_a_conflict_is_undone(rt: HostRuntime) -> Result<(), Fail> {
     assert!(rt; is_plain(alloc, &whole)?);
     let spent = Case {
         problem: Problem::Four,
+        way: Way::Dbt,
         budget: 10,
         end: End::Spent(10),
         turns: Some(&turns[..10]),
@@ -85,6 +55,7 @@ fn searches_end_without_a_solution(rt: HostRuntime) -> Result<(), Fail> {
     let alloc = rt.alloc();
     let circle = Case {
         problem: Problem::Circle,
+        way: Way::Dbt,
         budget: 10,
         end: End::NoSolution(&[FIRST, Cid::User(2)]),
         turns: Some(&[]),
@@ -96,6 +67,7 @@ fn searches_end_without_a_solution(rt: HostRuntime) -> Result<(), Fail> {
     ];
     let three = Case {
         problem: Problem::Three,
+        way: Way::Dbt,
         budget: 2,
         end: End::NoSolution(&[FIRST]),
         turns: Some(&turns),
@@ -103,6 +75,7 @@ fn searches_end_without_a_solution(rt: HostRuntime) -> Result<(), Fail> {
     assert!(rt; is_plain(alloc, &three)?);
     let spent = Case {
         problem: Problem::Three,
+        way: Way::Dbt,
         budget: 1,
         end: End::Spent(1),
         turns: Some(&turns[..1]),
@@ -126,6 +99,7 @@ fn values_are_found(rt: HostRuntime) -> Result<(), Fail> {
     ];
     let money = Case {
         problem: Problem::Money,
+        way: Way::Dbt,
         budget: 10000,
         end: End::Found(&letters),
         turns: None,
@@ -143,6 +117,7 @@ fn is_found_with(
 ) -> Result<bool, NoMemory> {
     let case = Case {
         problem: Problem::Less,
+        way: Way::Dbt,
         budget: 9,
         end: End::Found(values),
         turns: Some(turns),
@@ -175,6 +150,7 @@ fn a_pick_is_tried_before_it_is_taken(rt: HostRuntime) -> Result<(), Fail> {
     let plain = [decide(0, 1), decide(1, 2)];
     let case = Case {
         problem: Problem::Less,
+        way: Way::Dbt,
         budget: 9,
         end: End::Found(&low),
         turns: Some(&plain),
@@ -199,6 +175,7 @@ fn a_lawful_pick_is_taken(rt: HostRuntime) -> Result<(), Fail> {
     ];
     let case = Case {
         problem: Problem::Less,
+        way: Way::Dbt,
         budget: 9,
         end: End::Found(&[Value(1), Value(2)]),
         turns: Some(&turns),
@@ -227,6 +204,7 @@ fn guides_are_told_the_conflicts(rt: HostRuntime) -> Result<(), Fail> {
     ];
     let case = Case {
         problem: Problem::Four,
+        way: Way::Dbt,
         budget: 11,
         end: End::NoSolution(&[FIRST]),
         turns: Some(&turns),

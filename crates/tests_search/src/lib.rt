@@ -6,4 +6,6 @@ mod dbt;
 pub mod guides;
 pub mod journal;
 pub mod problems;
+#[cfg(test)]
+mod repair;
 pub mod searches;

@@ -23,6 +23,8 @@ pub enum Problem {
     Three,
     /// `differ x y z w` over 1 to 3, with p over 1 and 2 behind x.
     Four,
+    /// The same without p.
+    FourAlone,
     /// SEND + MORE = MONEY.
     Money,
 }
@@ -36,6 +38,8 @@ enum Rule {
     Three,
     /// The first variable and the last three of five differ.
     Four,
+    /// The first four variables differ.
+    FourAlone,
     /// The sum of the letters' columns.
     Money,
     /// The eight letters differ.
@@ -72,6 +76,15 @@ fn four(alloc: Global) -> Result<Con, NoMemory>
 {
     Ok(Con::Differ {
         vars: VarList::from_slice(alloc, &[Var(0), Var(2), Var(3), Var(4)])?,
+    })
+}
+
+/// The variables differ.
+fn four_alone(alloc: Global) -> Result<Con, NoMemory>
+    ensures { IfOk result (IsWellFormed 8) }
+{
+    Ok(Con::Differ {
+        vars: VarList::from_slice(alloc, &[Var(0), Var(1), Var(2), Var(3)])?,
     })
 }
 
@@ -133,6 +146,7 @@ fn con_of(alloc: Global, rule: &Rule) -> Result<Con, NoMemory>
         Rule::Less(left, right) if left != right && left < 8 && right < 8 => Ok(less(left, right)),
         Rule::Less(_, _) | Rule::Three => three(alloc),
         Rule::Four => four(alloc),
+        Rule::FourAlone => four_alone(alloc),
         Rule::Money => money(alloc),
         Rule::Letters => letters(alloc),
     }
@@ -243,6 +257,7 @@ fn declare(engine: &mut Engine<Kind>, problem: &Problem) -> Result<(), NoMemory>
     match problem {
         Problem::Less | Problem::Circle => add_few(engine, 2, 3),
         Problem::Three => add_few(engine, 3, 2),
+        Problem::FourAlone => add_few(engine, 4, 3),
         Problem::Four => {
             add_few(engine, 1, 3)?;
             add_few(engine, 1, 2)?;
@@ -270,6 +285,7 @@ fn constrain(alloc: Global, engine: &mut Engine<Kind>, problem: &Problem) -> Res
         }
         Problem::Three => post(alloc, engine, 1, &Rule::Three),
         Problem::Four => post(alloc, engine, 1, &Rule::Four),
+        Problem::FourAlone => post(alloc, engine, 1, &Rule::FourAlone),
         Problem::Money => {
             post(alloc, engine, 1, &Rule::Money)?;
             post(alloc, engine, 2, &Rule::Letters)

@@ -2,7 +2,7 @@
 ghost use Rattle.std.specs.Prelude.{◌≡◌, ◌<◌, [], OnOk};
 ghost use Rattle.palm_search.specs.Kept.{HasOnlyUsers};
 
-use crate::journal::{End, Wanted, are_turns, is_end};
+use crate::journal::{End, Wanted, are_turns, is_end, is_repair_end};
 use crate::problems::{Problem, engine_of};
 use palm_agenda::LastOrder;
 use palm_base::{NoMemory, Steps, Var};
@@ -10,8 +10,9 @@ use palm_dbt::{Answer, solve};
 use palm_domain::DomainStore;
 use palm_engine::{Engine, Settle};
 use palm_filter::Filter;
-use palm_guide::Guide;
+use palm_guide::{Guide, MostConflicts};
 use palm_kind::Kind;
+use palm_repair::{RepairAnswer, repair};
 use palm_search::Search;
 use std::alloc::Global;
 use std::marker::Brand;
@@ -53,6 +54,30 @@ fn solve_counted<F: Filter, G: Guide, L: Ledger>(
     solve(alloc, engine, search, guide, &mut order, budget, &mut steps)
 }
 
+/// A repair without an order, counted from nothing.
+fn repair_counted<F: Filter, G: Guide, L: Ledger>(
+    alloc: Global,
+    engine: &mut Engine<F>,
+    search: &mut Search,
+    guide: &mut Option<G>,
+    tabu: u32,
+    budget: u64,
+    blank: Blank,
+) -> Result<RepairAnswer, NoMemory>
+    requires named { blank.name ≡ L.name }
+    requires parts { blank.parts ≡ L.parts }
+    requires shared { 0 < L.parts }
+    requires fresh { search.old ≡ record { decisions = []; journal = [] } }
+    requires users { HasOnlyUsers engine.old.state }
+    requires some { 0 < tabu }
+{
+    let mut steps = Steps::<L>::start(blank);
+    let mut order: Option<LastOrder> = None;
+    repair(
+        alloc, engine, search, guide, &mut order, tabu, budget, &mut steps,
+    )
+}
+
 /// How many values each variable has.
 fn counts_of(alloc: Global, store: &DomainStore) -> Result<Vec<u32>, NoMemory> {
     let mut counts = Vec::new(alloc);
@@ -62,10 +87,20 @@ fn counts_of(alloc: Global, store: &DomainStore) -> Result<Vec<u32>, NoMemory> {
     Ok(counts)
 }
 
+/// A way of searching.
+#[derive(Clone, Copy, Debug)]
+pub enum Way {
+    /// mac-dbt.
+    Dbt,
+    /// decision-repair, with this tabu length.
+    Repair(u32),
+}
+
 /// What a search is to do; without turns the journal is not looked at.
 #[derive(Debug, Drop)]
 pub struct Case<'a> {
     pub problem: Problem,
+    pub way: Way,
     pub budget: u64,
     pub end: End<'a>,
     pub turns: Option<&'a [Wanted]>,
@@ -76,6 +111,46 @@ fn is_journal(search: &Search, turns: Option<&[Wanted]>) -> bool {
     match turns {
         Some(wanted) => are_turns(search.journal(), wanted),
         None => true,
+    }
+}
+
+/// Whether a search of the engine in this way answers as it is to.
+fn is_answered<G: Guide>(
+    alloc: Global,
+    engine: &mut Engine<Kind>,
+    search: &mut Search,
+    guide: &mut Option<G>,
+    case: &Case<'_>,
+) -> Result<bool, NoMemory>
+    requires fresh { search.old ≡ record { decisions = []; journal = [] } }
+    requires users { HasOnlyUsers engine.old.state }
+{
+    let blank = Blank::new(1);
+    match case.way {
+        Way::Dbt => {
+            let answer = solve_counted::<Kind, G, Brand>(
+                alloc,
+                engine,
+                search,
+                guide,
+                case.budget,
+                blank,
+            )?;
+            Ok(is_end(&answer, &case.end))
+        }
+        Way::Repair(tabu) if tabu > 0 => {
+            let answer = repair_counted::<Kind, G, Brand>(
+                alloc,
+                engine,
+                search,
+                guide,
+                tabu,
+                case.budget,
+                blank,
+            )?;
+            Ok(is_repair_end(&answer, &case.end))
+        }
+        Way::Repair(_) => Ok(false),
     }
 }
 
@@ -90,20 +165,19 @@ pub fn is_searched<G: Guide>(
     settle_counted::<Kind, Brand>(&mut engine, Blank::new(1))?;
     let before = counts_of(alloc, engine.store())?;
     let mut search = Search::begin(alloc);
-    let answer = solve_counted::<Kind, G, Brand>(
-        alloc,
-        &mut engine,
-        &mut search,
-        guide,
-        case.budget,
-        Blank::new(1),
-    )?;
+    let answered = is_answered(alloc, &mut engine, &mut search, guide, case)?;
     let after = counts_of(alloc, engine.store())?;
     Ok(
-        is_end(&answer, &case.end)
+        answered
             && is_journal(&search, case.turns)
             && search.decisions().is_empty()
             && engine.first_negation().is_none()
             && before.as_slice() == after.as_slice(),
     )
+}
+
+/// Whether a search without a guide does this.
+pub fn is_plain(alloc: Global, case: &Case<'_>) -> Result<bool, NoMemory> {
+    let mut guide: Option<MostConflicts> = None;
+    is_searched(alloc, case, &mut guide)
 }
