@@ -7,6 +7,7 @@ use Rattle.palm_read.specs.declared.line.Line.TheVariants.{Guide, GuideNone, Ord
 use Rattle.palm_lang.specs.Reply.{fixed_text, refusal_text}
 use Rattle.palm_lang.specs.declared.reply.Fixed.TheVariants.{Done}
 use Rattle.palm_lang.specs.declared.reply.Refusal.TheVariants.{E11}
+use Rattle.palm_search.specs.Calls.{SearchView}
 use Rattle.palm_session.specs.Effects.{Nothing, without_guide, without_order}
 use Rattle.palm_session.specs.Objects.{ObjectsView}
 use Rattle.palm_session.specs.Serving.{DeskView, desk_of, Serves, accepts}
@@ -59,17 +60,17 @@ no_order s =
 
 -- ---- with what a desk holds
 
-module _ (book : Contents) (engine : View) (accepted : ℕ) (paused : Bool) (guides orders : ObjectsView) (d : DeskView) (is : desk_of book engine accepted paused guides orders ≡ d) where
+module _ (book : Contents) (engine : View) (accepted : ℕ) (paused : Bool) (guides orders : ObjectsView) (search : SearchView) (d : DeskView) (is : desk_of book engine accepted paused guides orders search ≡ d) where
   -- other guides are there, or another one is chosen
-  pub moved_guides : (line : Line) (reply : List ℕ) (after other : ObjectsView) → after ≡ other → Serves (desk_of book engine accepted paused guides orders).state line reply (desk_of book engine accepted paused other orders).state
-      → Serves d.state line reply (desk_of book engine accepted paused after orders).state
+  pub moved_guides : (line : Line) (reply : List ℕ) (after other : ObjectsView) → after ≡ other → Serves (desk_of book engine accepted paused guides orders search).state line reply (desk_of book engine accepted paused other orders search).state
+      → Serves d.state line reply (desk_of book engine accepted paused after orders search).state
   moved_guides line reply after other e s =
-      subst (λ (z : DeskView). Serves z.state line reply (desk_of book engine accepted paused after orders).state) is
-      (subst (λ (a : ObjectsView). Serves (desk_of book engine accepted paused guides orders).state line reply (desk_of book engine accepted paused a orders).state) (sym e) s)
+      subst (λ (z : DeskView). Serves z.state line reply (desk_of book engine accepted paused after orders search).state) is
+      (subst (λ (a : ObjectsView). Serves (desk_of book engine accepted paused guides orders search).state line reply (desk_of book engine accepted paused a orders search).state) (sym e) s)
 
   -- other orders are there, or another one is chosen
-  pub moved_orders : (line : Line) (reply : List ℕ) (after other : ObjectsView) → after ≡ other → Serves (desk_of book engine accepted paused guides orders).state line reply (desk_of book engine accepted paused guides other).state
-      → Serves d.state line reply (desk_of book engine accepted paused guides after).state
+  pub moved_orders : (line : Line) (reply : List ℕ) (after other : ObjectsView) → after ≡ other → Serves (desk_of book engine accepted paused guides orders search).state line reply (desk_of book engine accepted paused guides other search).state
+      → Serves d.state line reply (desk_of book engine accepted paused guides after search).state
   moved_orders line reply after other e s =
-      subst (λ (z : DeskView). Serves z.state line reply (desk_of book engine accepted paused guides after).state) is
-      (subst (λ (a : ObjectsView). Serves (desk_of book engine accepted paused guides orders).state line reply (desk_of book engine accepted paused guides a).state) (sym e) s)
+      subst (λ (z : DeskView). Serves z.state line reply (desk_of book engine accepted paused guides after search).state) is
+      (subst (λ (a : ObjectsView). Serves (desk_of book engine accepted paused guides orders search).state line reply (desk_of book engine accepted paused guides a search).state) (sym e) s)

@@ -7,8 +7,8 @@ use Rattle.palm_read.specs.declared.parse.LineError.{LineError}
 use Rattle.palm_session.specs.Answers.{Answers, misread, refused, accepted}
 use Rattle.palm_session.specs.Feeding.{Decides}
 use Rattle.palm_session.specs.ReplyText.{reply_text, IsRefusal}
-use Rattle.palm_session.specs.Asking.{Asks, asks_none, asks_settling}
-use Rattle.palm_session.specs.Effects.{Changes, Next, Rests, Filters, next}
+use Rattle.palm_session.specs.Asking.{Asks, asks_none, asks_search, asks_settling}
+use Rattle.palm_session.specs.Effects.{Changes, Next, Rests, Filters, Searches, next}
 use Rattle.palm_session.specs.Refusals.{IsNone, Meets, in_order}
 use Rattle.palm_session.specs.Serving.{AsksFor, asks_nothing, asks_after, AsksWithin, Serves, refuses, accepts}
 use Rattle.palm_session.specs.State.{SessionState}
@@ -35,6 +35,8 @@ serves_answers s t bytes line reply r (accepts none took) = accepted line r none
 settling_asks : (s m t : SessionState) (bytes : List ℕ) (line : Line) (asked : ℕ) (n : Next) → IsRead bytes line → IsNone (Meets s line) in_order → Changes s line m → next m line ≡ n
     → AsksWithin m.engine n t.engine asked → Asks s bytes t asked
 settling_asks s m t bytes line asked Rests r none changes e asks = asks_none asks
+settling_asks s m t bytes line asked (Searches budget) r none changes e asks =
+    asks_search (record { line = line; changed = m; budget = budget; read = r; accepted = none; changes = changes; searches = e })
 settling_asks s m t bytes line asked (Filters limit) r none changes e asks =
     asks_settling (record { line = line; changed = m; limit = limit; gained = asks.0; read = r; accepted = none; changes = changes; filters = e; log = asks.1 }) asks.2
 

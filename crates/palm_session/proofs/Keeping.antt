@@ -11,7 +11,7 @@ use Rattle.palm_session.specs.State.{SessionState, IsState}
 use Rattle.palm_session.specs.Answers.{Answers}
 use Rattle.palm_session.specs.Lines.{HasNoFeed, IsNextFeed, without_return, last_line}
 use Rattle.palm_session.specs.Replies.{Run, Answered, GoesOn, Ends, KeepsOn}
-use Rattle.palm_session.specs.Asking.{Asks, asks_none, asks_settling, RunAsking}
+use Rattle.palm_session.specs.Asking.{Asks, asks_none, asks_search, asks_settling, RunAsking}
 use Rattle.palm_session.specs.Feeding.{View, AnswersLine, AnswersFront, Served, Decides, FeedsOn, FeedsEnd, FeedsPart, FeedsText, KeepsRest, FinishesAll, FinishesPart}
 use Rattle.palm_session.specs.declared.limits.TheConstants.{MOST_KEPT_BYTES}
 use Rattle.palm_session.specs.declared.going.Going.{Going}
@@ -71,6 +71,16 @@ kept_twice line = take_all MOST_KEPT_BYTES (take MOST_KEPT_BYTES line) (omega (a
 
 asks_long : (s t : SessionState) (x y : List ℕ) (n : ℕ) → take MOST_KEPT_BYTES x ≡ take MOST_KEPT_BYTES y → Asks s (without_return x) t n → Asks s (without_return y) t n
 asks_long s t x y n e (asks_none none) = asks_none none
+asks_long s t x y n e (asks_search search) =
+    asks_search (record {
+      line = search.line;
+      changed = search.changed;
+      budget = search.budget;
+      read = same_first_bytes_read x y search.line e search.read;
+      accepted = search.accepted;
+      changes = search.changes;
+      searches = search.searches;
+    })
 asks_long s t x y n e (asks_settling settling few) =
     asks_settling (record {
       line = settling.line;

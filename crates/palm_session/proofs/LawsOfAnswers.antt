@@ -30,15 +30,15 @@ use Rattle.palm_read.proofs.Parsing.{one_reading, read_not_refused, one_refusal,
 use Rattle.palm_read.proofs.SoundLines.{read_sound}
 use Rattle.palm_session.specs.State.{SessionState, IsState, HasVariable, AreDomains, has_empty}
 use Rattle.palm_session.specs.Refusals.{IsBuilt, IsUnknown, TakesName, NamesNone, NamesNoConstraint, HasNoRoom, NamesNoObject, AsksUndeclared, HasActive, IsInWrongState, Meets, in_order, IsFirst, IsNone, refusal_of, heard}
-use Rattle.palm_session.specs.Effects.{Effect, Nothing, Settled, Searched, Rests, Filters, Follows, Does}
-use Rattle.palm_session.specs.Answers.{IsPausable, IsContradictable, domains_text, list_text, log_text, users_text, SaysWhy, HasConflict, SaysConflict, Says, WaitsFor, Contradicts, Accepts, waits, contradicts, says, Answers, misread, refused, accepted}
+use Rattle.palm_session.specs.Effects.{Effect, Nothing, Settled, Searched, Rests, Filters, Searches, Follows, Does}
+use Rattle.palm_session.specs.Answers.{IsPausable, IsContradictable, domains_text, list_text, log_text, users_text, SaysWhy, HasConflict, SaysConflict, end_text, Says, WaitsFor, Contradicts, Accepts, waits, contradicts, says, Answers, misread, refused, accepted}
 use Rattle.palm_session.specs.Lines.{without_return}
-use Rattle.palm_session.specs.Replies.{ChoosesOrder}
+use Rattle.palm_session.specs.Replies.{ChoosesObject, chooses_guide, chooses_order}
 use Rattle.palm_session.specs.declared.limits.TheConstants.{MOST_KEPT_BYTES}
-use Rattle.palm_session.proofs.LawsOfChanges.{variable_known, has_variable}
+use Rattle.palm_session.proofs.LawsOfChanges.{variable_known, has_variable, IsOther, IsWithout}
 use Rattle.palm_session.proofs.LawsOfDomains.{empty_domains, explanation_names, conflict_exists}
 use Rattle.palm_session.proofs.LawsOfLines.{known_either, most_known, some_known, name_known, beyond_known, long_bytes, long_unread, variable_with, variable_once}
-use Rattle.palm_session.proofs.LawsOfStates.{does_keeps, does_exist, does_once, IsWithout, does_without, rests_same, domains_exist, domains_once, bool_known, contradiction_known}
+use Rattle.palm_session.proofs.LawsOfStates.{does_keeps, does_exist, does_once, does_without, rests_same, domains_exist, domains_once, bool_known, contradiction_known}
 
 -- ---- whether a refusal holds is known
 
@@ -58,6 +58,7 @@ built_known Conflict = inl tt
 built_known Pause = inl tt
 built_known Resume = inl tt
 built_known (Step count) = inl tt
+built_known (SolveDbt budget) = inl tt
 built_known (Guide number) = inl tt
 built_known GuideNone = inl tt
 built_known (Order number) = inl tt
@@ -180,6 +181,11 @@ step_says m count Nothing t f = absurd f
 step_says m count (Settled k) t f = (ran_text k, refl)
 step_says m count (Searched k) t f = absurd f
 
+search_says : (m : SessionState) (budget : ℕ) (effect : Effect) (t : SessionState) → Follows m (Searches budget) effect t → (reply : List ℕ) × Says t (SolveDbt budget) effect reply
+search_says m budget Nothing t f = absurd f
+search_says m budget (Settled k) t f = absurd f
+search_says m budget (Searched end) t f = (end_text t.book end, refl)
+
 -- a query leaves the state
 pub query_same : (s m t : SessionState) (effect : Effect) → m ≡ s → Follows m Rests effect t → t ≡ s
 query_same s m t effect e f = rests_same m effect t f ∙ e
@@ -217,6 +223,7 @@ says_exist s Conflict effect t none b is goes does =
 says_exist s Pause effect t none b is goes does = (fixed_text Done, refl)
 says_exist s Resume effect t none b is goes does = (fixed_text Done, refl)
 says_exist s (Step count) effect t none b is goes does = step_says does.0 count effect t does.2
+says_exist s (SolveDbt budget) effect t none b is goes does = search_says does.0 budget effect t does.2
 says_exist s (Guide number) effect t none b is goes does = (fixed_text Done, refl)
 says_exist s GuideNone effect t none b is goes does = (fixed_text Done, refl)
 says_exist s (Order number) effect t none b is goes does = (fixed_text Done, refl)
@@ -317,21 +324,23 @@ answers_keep s bytes reply t is (misread error refusal q some) = is
 answers_keep s bytes reply t is (refused line refusal read first) = is
 answers_keep s bytes reply t is (accepted line read none a) = accepts_keeps s line reply t is (read_sound bytes line read) none a
 
--- ---- which orders are there, and which is chosen
+-- ---- which objects are there, and which are chosen
 
-accepts_without : (orders : List ℕ) (s : SessionState) (line : Line) (reply : List ℕ) (t : SessionState) → IsNone (Meets s line) in_order
-    → ((number : ℕ) → line ≡ Order number → Contains orders number → ⊥) → Accepts s line reply t → IsWithout orders s → IsWithout orders t
-accepts_without orders s line reply t none other (waits w) is = is
-accepts_without orders s line reply t none other (contradicts effect awake does c) is = does_without orders s line effect t none other does is
-accepts_without orders s line reply t none other (says effect awake does n r) is = does_without orders s line effect t none other does is
+accepts_without : (guides orders : List ℕ) (s : SessionState) (line : Line) (reply : List ℕ) (t : SessionState) → IsNone (Meets s line) in_order → IsOther guides orders line
+    → Accepts s line reply t → IsWithout guides orders s → IsWithout guides orders t
+accepts_without guides orders s line reply t none other (waits w) is = is
+accepts_without guides orders s line reply t none other (contradicts effect awake does c) is = does_without guides orders s line effect t none other does is
+accepts_without guides orders s line reply t none other (says effect awake does n r) is = does_without guides orders s line effect t none other does is
 
--- a line that chooses none of these orders leaves none chosen
-pub answers_without : (orders : List ℕ) (s : SessionState) (bytes reply : List ℕ) (t : SessionState) → (ChoosesOrder orders bytes → ⊥) → Answers s bytes reply t → IsWithout orders s → IsWithout orders t
-answers_without orders s bytes reply t other (misread error refusal q some) is = is
-answers_without orders s bytes reply t other (refused line refusal read first) is = is
-answers_without orders s bytes reply t other (accepted line read none a) is =
-    accepts_without orders s line reply t none
-    (λ number e c. other (record { number = number; handed_in = c; chooses = subst (λ (x : Line). IsRead bytes x) e read })) a is
+-- a line that chooses none of these objects leaves none chosen
+pub answers_without : (guides orders : List ℕ) (s : SessionState) (bytes reply : List ℕ) (t : SessionState) → (ChoosesObject guides orders bytes → ⊥) → Answers s bytes reply t
+    → IsWithout guides orders s → IsWithout guides orders t
+answers_without guides orders s bytes reply t other (misread error refusal q some) is = is
+answers_without guides orders s bytes reply t other (refused line refusal read first) is = is
+answers_without guides orders s bytes reply t other (accepted line read none a) is = accepts_without guides orders s line reply t none (record {
+  guide = λ number e c. other (chooses_guide number c (subst (λ (x : Line). IsRead bytes x) e read));
+  order = λ number e c. other (chooses_order number c (subst (λ (x : Line). IsRead bytes x) e read));
+}) a is
 
 -- ---- no line has two answers
 
@@ -363,6 +372,11 @@ step_same t count Nothing a b x y = absurd x
 step_same t count (Settled k) a b x y = x ∙ sym y
 step_same t count (Searched k) a b x y = absurd x
 
+search_same : (t : SessionState) (budget : ℕ) (effect : Effect) (a b : List ℕ) → Says t (SolveDbt budget) effect a → Says t (SolveDbt budget) effect b → a ≡ b
+search_same t budget Nothing a b x y = absurd x
+search_same t budget (Settled k) a b x y = absurd x
+search_same t budget (Searched end) a b x y = x ∙ sym y
+
 says_same : (t : SessionState) (line : Line) (effect : Effect) (a b : List ℕ) → IsState t → Says t line effect a → Says t line effect b → a ≡ b
 says_same t Comment effect a b is x y = x ∙ sym y
 says_same t (Var name domain) effect a b is x y = x ∙ sym y
@@ -388,6 +402,7 @@ says_same t Conflict effect a b is x y =
 says_same t Pause effect a b is x y = x ∙ sym y
 says_same t Resume effect a b is x y = x ∙ sym y
 says_same t (Step count) effect a b is x y = step_same t count effect a b x y
+says_same t (SolveDbt budget) effect a b is x y = search_same t budget effect a b x y
 says_same t (Guide number) effect a b is x y = x ∙ sym y
 says_same t GuideNone effect a b is x y = x ∙ sym y
 says_same t (Order number) effect a b is x y = x ∙ sym y
@@ -400,27 +415,27 @@ says_same t _ effect a b is x y = absurd x
 abbrev AreOne : List ℕ → List ℕ → SessionState → SessionState → Type 0
 AreOne a b t u = (a ≡ b) × (t ≡ u)
 
-module _ (s : SessionState) (line : Line) (free : s.order ≡ None) (is : IsState s) (sound : IsSound line) (none : IsNone (Meets s line) in_order) where
+module _ (s : SessionState) (line : Line) (unguided : s.guide ≡ None) (free : s.order ≡ None) (is : IsState s) (sound : IsSound line) (none : IsNone (Meets s line) in_order) where
   both_say : (e f : Effect) (t u : SessionState) (a b : List ℕ) → Does s line e t → Does s line f u → Says t line e a → Says u line f b → AreOne a b t u
   both_say e f t u a b d g x y =
       let at = does_keeps s line e t is sound none d in
-      let one = does_once s line e f t u free is sound none d g in
+      let one = does_once s line e f t u unguided free is sound none d g in
       let there : Says t line f b = subst (λ (z : SessionState). Says z line f b) (sym one.1) y in
       (says_same t line e a b at x (subst (λ (z : Effect). Says t line z b) (sym one.0) there), one.1)
 
   one_tells : (e f : Effect) (t u : SessionState) → Does s line e t → Does s line f u → Contradicts t line → (Contradicts u line → ⊥) → ⊥
-  one_tells e f t u d g c n = n (subst (λ (z : SessionState). Contradicts z line) (does_once s line e f t u free is sound none d g).1 c)
+  one_tells e f t u d g c n = n (subst (λ (z : SessionState). Contradicts z line) (does_once s line e f t u unguided free is sound none d g).1 c)
 
-accepts_once : (s : SessionState) (line : Line) (a b : List ℕ) (t u : SessionState) → s.order ≡ None → IsState s → IsSound line → IsNone (Meets s line) in_order → Accepts s line a t → Accepts s line b u → AreOne a b t u
-accepts_once s line a b t u free is sound none (waits w) (waits v) = (refl, refl)
-accepts_once s line a b t u free is sound none (waits w) (contradicts f m g k) = absurd (m w)
-accepts_once s line a b t u free is sound none (waits w) (says f m g k y) = absurd (m w)
-accepts_once s line a b t u free is sound none (contradicts e n d c) (waits v) = absurd (n v)
-accepts_once s line a b t u free is sound none (contradicts e n d c) (contradicts f m g k) = (refl, (does_once s line e f t u free is sound none d g).1)
-accepts_once s line a b t u free is sound none (contradicts e n d c) (says f m g k y) = absurd (one_tells s line free is sound none e f t u d g c k)
-accepts_once s line a b t u free is sound none (says e n d c x) (waits v) = absurd (n v)
-accepts_once s line a b t u free is sound none (says e n d c x) (contradicts f m g k) = absurd (one_tells s line free is sound none f e u t g d k c)
-accepts_once s line a b t u free is sound none (says e n d c x) (says f m g k y) = both_say s line free is sound none e f t u a b d g x y
+accepts_once : (s : SessionState) (line : Line) (a b : List ℕ) (t u : SessionState) → s.guide ≡ None → s.order ≡ None → IsState s → IsSound line → IsNone (Meets s line) in_order → Accepts s line a t → Accepts s line b u → AreOne a b t u
+accepts_once s line a b t u unguided free is sound none (waits w) (waits v) = (refl, refl)
+accepts_once s line a b t u unguided free is sound none (waits w) (contradicts f m g k) = absurd (m w)
+accepts_once s line a b t u unguided free is sound none (waits w) (says f m g k y) = absurd (m w)
+accepts_once s line a b t u unguided free is sound none (contradicts e n d c) (waits v) = absurd (n v)
+accepts_once s line a b t u unguided free is sound none (contradicts e n d c) (contradicts f m g k) = (refl, (does_once s line e f t u unguided free is sound none d g).1)
+accepts_once s line a b t u unguided free is sound none (contradicts e n d c) (says f m g k y) = absurd (one_tells s line unguided free is sound none e f t u d g c k)
+accepts_once s line a b t u unguided free is sound none (says e n d c x) (waits v) = absurd (n v)
+accepts_once s line a b t u unguided free is sound none (says e n d c x) (contradicts f m g k) = absurd (one_tells s line unguided free is sound none f e u t g d k c)
+accepts_once s line a b t u unguided free is sound none (says e n d c x) (says f m g k y) = both_say s line unguided free is sound none e f t u a b d g x y
 
 -- an error with a refusal is not want of memory
 not_memory : (error : LineError) (refusal : Refusal) → refusal_of error ≡ Some refusal → error ≡ NoMemory → ⊥
@@ -435,24 +450,24 @@ misread_once bytes d e p r x y some other =
     let same : d ≡ e = one_refusal bytes d e x y (not_memory d p some) (not_memory e r other) in
     same_Some p r (sym some ∙ ap refusal_of same ∙ other)
 
-pub answers_once : (s : SessionState) (bytes a b : List ℕ) (t u : SessionState) → s.order ≡ None → IsState s → Answers s bytes a t → Answers s bytes b u → (a ≡ b) × (t ≡ u)
-answers_once s bytes a b t u free is (misread d p x some) (misread e r y other) = (ap refusal_text (misread_once bytes d e p r x y some other), refl)
-answers_once s bytes a b t u free is (misread d p x some) (refused line r read first) = absurd (misread_unread bytes line d p read x some)
-answers_once s bytes a b t u free is (misread d p x some) (accepted line read none h) = absurd (misread_unread bytes line d p read x some)
-answers_once s bytes a b t u free is (refused line p read first) (misread e r y other) = absurd (misread_unread bytes line e r read y other)
-answers_once s bytes a b t u free is (refused line p read first) (refused other r again second) =
+pub answers_once : (s : SessionState) (bytes a b : List ℕ) (t u : SessionState) → s.guide ≡ None → s.order ≡ None → IsState s → Answers s bytes a t → Answers s bytes b u → (a ≡ b) × (t ≡ u)
+answers_once s bytes a b t u unguided free is (misread d p x some) (misread e r y other) = (ap refusal_text (misread_once bytes d e p r x y some other), refl)
+answers_once s bytes a b t u unguided free is (misread d p x some) (refused line r read first) = absurd (misread_unread bytes line d p read x some)
+answers_once s bytes a b t u unguided free is (misread d p x some) (accepted line read none h) = absurd (misread_unread bytes line d p read x some)
+answers_once s bytes a b t u unguided free is (refused line p read first) (misread e r y other) = absurd (misread_unread bytes line e r read y other)
+answers_once s bytes a b t u unguided free is (refused line p read first) (refused other r again second) =
     let same : other ≡ line = one_reading bytes other line again read in
     (ap refusal_text (first_once (Meets s line) in_order p r first (subst (λ (z : Line). IsFirst (Meets s z) in_order r) same second)), refl)
-answers_once s bytes a b t u free is (refused line p read first) (accepted other again none h) =
+answers_once s bytes a b t u unguided free is (refused line p read first) (accepted other again none h) =
     let same : other ≡ line = one_reading bytes other line again read in
     absurd (first_not_none (Meets s line) in_order p first (subst (λ (z : Line). IsNone (Meets s z) in_order) same none))
-answers_once s bytes a b t u free is (accepted line read none h) (misread e r y other) = absurd (misread_unread bytes line e r read y other)
-answers_once s bytes a b t u free is (accepted line read none h) (refused other r again second) =
+answers_once s bytes a b t u unguided free is (accepted line read none h) (misread e r y other) = absurd (misread_unread bytes line e r read y other)
+answers_once s bytes a b t u unguided free is (accepted line read none h) (refused other r again second) =
     let same : other ≡ line = one_reading bytes other line again read in
     absurd (first_not_none (Meets s line) in_order r (subst (λ (z : Line). IsFirst (Meets s z) in_order r) same second) none)
-answers_once s bytes a b t u free is (accepted line read none h) (accepted other again clear k) =
+answers_once s bytes a b t u unguided free is (accepted line read none h) (accepted other again clear k) =
     let same : other ≡ line = one_reading bytes other line again read in
-    accepts_once s line a b t u free is (read_sound bytes line read) none h (subst (λ (z : Line). Accepts s z b u) same k)
+    accepts_once s line a b t u unguided free is (read_sound bytes line read) none h (subst (λ (z : Line). Accepts s z b u) same k)
 
 -- ---- the first bytes decide
 

@@ -29,7 +29,7 @@ use Rattle.palm_read.specs.Sound.{IsSound}
 use Rattle.palm_read.specs.declared.line.DomainText.{DomainText}
 use Rattle.palm_read.specs.declared.line.DomainText.TheVariants.{Range, Set}
 use Rattle.palm_read.specs.declared.line.Line.{Line}
-use Rattle.palm_read.specs.declared.line.Line.TheVariants.{Comment, Var, Add, Relax, Enforce, Retract, Domains as DomainsLine, Domain, List as ListLine, Log, Why, Conflict, Pause, Resume, Step, Guide, GuideNone, Order, OrderNone, DropGuide, DropOrder, Quit}
+use Rattle.palm_read.specs.declared.line.Line.TheVariants.{Comment, Var, Add, Relax, Enforce, Retract, Domains as DomainsLine, Domain, List as ListLine, Log, Why, Conflict, Pause, Resume, Step, SolveDbt, Guide, GuideNone, Order, OrderNone, DropGuide, DropOrder, Quit}
 use Rattle.palm_read.specs.declared.line.Shape.{Shape}
 use Rattle.palm_events.specs.Along.{IsStill}
 use Rattle.palm_events.proofs.Agreeing.{values_of_more}
@@ -37,7 +37,7 @@ use Rattle.palm_events.proofs.Outcomes.{withdrawal_exists, withdrawal_same}
 use Rattle.palm_events.proofs.Valid.{declares_valid, posts_valid, withdraws_valid}
 use Rattle.palm_session.specs.State.{SessionState, IsHeld, IsState, HasConstraint, HasVariable}
 use Rattle.palm_session.specs.Refusals.{IsBuilt, IsUnknown, HasActive, Meets, in_order, IsNone}
-use Rattle.palm_session.specs.Effects.{with_engine, with_variable, with_constraint, with_active_at, without_constraint, without_guide, without_order, next_constraint, IsNamed, WithdrawsWhere, WithdrawsActive, Changes, Rests, Filters, next, unless_paused}
+use Rattle.palm_session.specs.Effects.{with_engine, with_variable, with_constraint, with_active_at, without_constraint, without_guide, without_order, next_constraint, IsNamed, WithdrawsWhere, WithdrawsActive, Changes, Rests, Filters, Searches, next, unless_paused}
 use Rattle.palm_session.specs.Objects.{without_number, chosen_without}
 use Rattle.palm_session.proofs.ActiveLists.{turned_cases, active_member, active_added, active_enforced, active_relaxed, active_retracted, active_alike, relaxed_inactive, user_same}
 use Rattle.palm_session.proofs.HeldObjects.{listed, left_inside, left_chosen, held_guides, held_orders}
@@ -278,6 +278,7 @@ changes_keep s m Conflict is sound none h = subst IsHeld (sym h) is
 changes_keep s m Pause is sound none h = subst IsHeld (sym h) (held_paused s true is)
 changes_keep s m Resume is sound none h = subst IsHeld (sym h) (held_paused s false is)
 changes_keep s m (Step count) is sound none h = subst IsHeld (sym h) is
+changes_keep s m (SolveDbt budget) is sound none h = subst IsHeld (sym h) is
 changes_keep s m (Guide number) is sound none h = subst IsHeld (sym h) (held_guides s s.guides (Some number) (listed s.guides number none.1.1.1.1.1.0) is)
 changes_keep s m GuideNone is sound none h = subst IsHeld (sym h) (held_guides s s.guides None tt is)
 changes_keep s m (Order number) is sound none h = subst IsHeld (sym h) (held_orders s s.orders (Some number) (listed s.orders number none.1.1.1.1.1.0) is)
@@ -319,6 +320,7 @@ changes_still s m Conflict is h rests awake = stays_still s m is h awake
 changes_still s m Pause is h rests awake = absurd (false≢true (sym awake ∙ ap (λ (z : SessionState). z.paused) h))
 changes_still s m Resume is h rests awake = let e : Filters None ≡ Rests = rests in cc
 changes_still s m (Step count) is h rests awake = let e : Filters (Some count) ≡ Rests = rests in cc
+changes_still s m (SolveDbt budget) is h rests awake = let e : Searches budget ≡ Rests = rests in cc
 changes_still s m (Guide number) is h rests awake = untouched_still s m is (ap (λ (z : SessionState). z.engine) h) (ap (λ (z : SessionState). z.paused) h) awake
 changes_still s m GuideNone is h rests awake = untouched_still s m is (ap (λ (z : SessionState). z.engine) h) (ap (λ (z : SessionState). z.paused) h) awake
 changes_still s m (Order number) is h rests awake = untouched_still s m is (ap (λ (z : SessionState). z.engine) h) (ap (λ (z : SessionState). z.paused) h) awake
@@ -355,6 +357,7 @@ changes_limited s m (Step count) none h limit e = elim (cases_Bool s.paused) [
   | inl on ↦ ap (λ (z : SessionState). z.paused) h ∙ on
   | inr off ↦ absurd (none.1.1.1.1.1.1.1.0 off)
 ]
+changes_limited s m (SolveDbt budget) none h limit e = let f : Searches budget ≡ Filters (Some limit) = e in cc
 changes_limited s m (Guide number) none h limit e = absurd (rests_not_limited limit e)
 changes_limited s m GuideNone none h limit e = absurd (rests_not_limited limit e)
 changes_limited s m (Order number) none h limit e = absurd (rests_not_limited limit e)
@@ -428,6 +431,7 @@ changes_exist s Conflict is sound none b = (s, refl)
 changes_exist s Pause is sound none b = (record s { paused = true }, refl)
 changes_exist s Resume is sound none b = (record s { paused = false }, refl)
 changes_exist s (Step count) is sound none b = (s, refl)
+changes_exist s (SolveDbt budget) is sound none b = (s, refl)
 changes_exist s (Guide number) is sound none b = (record s { guide = Some number }, refl)
 changes_exist s GuideNone is sound none b = (record s { guide = None }, refl)
 changes_exist s (Order number) is sound none b = (record s { order = Some number }, refl)
@@ -504,6 +508,7 @@ changes_once s m n Conflict is h k = h ∙ sym k
 changes_once s m n Pause is h k = h ∙ sym k
 changes_once s m n Resume is h k = h ∙ sym k
 changes_once s m n (Step count) is h k = h ∙ sym k
+changes_once s m n (SolveDbt budget) is h k = h ∙ sym k
 changes_once s m n (Guide number) is h k = h ∙ sym k
 changes_once s m n GuideNone is h k = h ∙ sym k
 changes_once s m n (Order number) is h k = h ∙ sym k
@@ -552,6 +557,7 @@ changes_objects s m Conflict h = inr (alike s m s h (record { guides = refl; ord
 changes_objects s m Pause h = inr (alike s m (record s { paused = true }) h (record { guides = refl; orders = refl; guide = refl; order = refl }))
 changes_objects s m Resume h = inr (alike s m (record s { paused = false }) h (record { guides = refl; orders = refl; guide = refl; order = refl }))
 changes_objects s m (Step count) h = inr (alike s m s h (record { guides = refl; orders = refl; guide = refl; order = refl }))
+changes_objects s m (SolveDbt budget) h = inr (alike s m s h (record { guides = refl; orders = refl; guide = refl; order = refl }))
 changes_objects s m (Guide number) h = inl tt
 changes_objects s m GuideNone h = inl tt
 changes_objects s m (Order number) h = inl tt
@@ -571,23 +577,62 @@ objects_rest s (DropGuide number) is = refl
 objects_rest s (DropOrder number) is = refl
 objects_rest s _ is = absurd is
 
--- no order is chosen by a line that chooses none of those that are there
-pub changes_free : (s m : SessionState) (line : Line) → IsNone (Meets s line) in_order → IsAboutObjects line → Changes s line m
-    → ((number : ℕ) → line ≡ Order number → Contains s.orders number → ⊥) → s.order ≡ None → m.order ≡ None
-changes_free s m (Guide number) none is h other free = ap (λ (z : SessionState). z.order) h ∙ free
-changes_free s m GuideNone none is h other free = ap (λ (z : SessionState). z.order) h ∙ free
-changes_free s m (Order number) none is h other free = absurd (other number refl (listed s.orders number none.1.1.1.1.1.0))
-changes_free s m OrderNone none is h other free = ap (λ (z : SessionState). z.order) h
-changes_free s m (DropGuide number) none is h other free = ap (λ (z : SessionState). z.order) h ∙ free
-changes_free s m (DropOrder number) none is h other free = ap (λ (z : SessionState). z.order) h ∙ ap (chosen_without number) free
-changes_free s m _ none is h other free = absurd is
+-- the line chooses none of these guides and orders
+pub record IsOther (guides orders : List ℕ) (line : Line) : Type 0 where
+  pub guide : (number : ℕ) → line ≡ Guide number → Contains guides number → ⊥
+  pub order : (number : ℕ) → line ≡ Order number → Contains orders number → ⊥
 
--- no order comes to those that are there
-pub changes_inside : (s m : SessionState) (line : Line) → IsAboutObjects line → Changes s line m → (n : ℕ) → Contains m.orders n → Contains s.orders n
-changes_inside s m (Guide number) is h n c = subst (λ (z : SessionState). Contains z.orders n) h c
-changes_inside s m GuideNone is h n c = subst (λ (z : SessionState). Contains z.orders n) h c
-changes_inside s m (Order number) is h n c = subst (λ (z : SessionState). Contains z.orders n) h c
-changes_inside s m OrderNone is h n c = subst (λ (z : SessionState). Contains z.orders n) h c
-changes_inside s m (DropGuide number) is h n c = subst (λ (z : SessionState). Contains z.orders n) h c
-changes_inside s m (DropOrder number) is h n c = left_inside number s.orders n (subst (λ (z : SessionState). Contains z.orders n) h c)
-changes_inside s m _ is h n c = absurd is
+-- no guide and no order is chosen, and all that are there are among these
+pub record IsWithout (guides orders : List ℕ) (s : SessionState) : Type 0 where
+  pub unguided : s.guide ≡ None
+  pub free : s.order ≡ None
+  pub guides_within : (n : ℕ) → Contains s.guides n → Contains guides n
+  pub orders_within : (n : ℕ) → Contains s.orders n → Contains orders n
+
+module _ (guides orders : List ℕ) (s m : SessionState) (is : IsWithout guides orders s) where
+  pub kept_without : KeepsObjects s m → IsWithout guides orders m
+  kept_without k = record {
+    unguided = k.guide ∙ is.unguided;
+    free = k.order ∙ is.free;
+    guides_within = λ n c. is.guides_within n (subst (λ (ns : List ℕ). Contains ns n) k.guides c);
+    orders_within = λ n c. is.orders_within n (subst (λ (ns : List ℕ). Contains ns n) k.orders c);
+  }
+
+  -- a line about objects that chooses none of these leaves none chosen
+  pub changes_without : (line : Line) → IsNone (Meets s line) in_order → IsAboutObjects line → Changes s line m → IsOther guides orders line → IsWithout guides orders m
+  changes_without (Guide number) none about h other = absurd (other.guide number refl (is.guides_within number (listed s.guides number none.1.1.1.1.1.0)))
+  changes_without GuideNone none about h other = subst (IsWithout guides orders) (sym h) (record { unguided = refl; free = is.free; guides_within = is.guides_within; orders_within = is.orders_within })
+  changes_without (Order number) none about h other = absurd (other.order number refl (is.orders_within number (listed s.orders number none.1.1.1.1.1.0)))
+  changes_without OrderNone none about h other = subst (IsWithout guides orders) (sym h) (record { unguided = is.unguided; free = refl; guides_within = is.guides_within; orders_within = is.orders_within })
+  changes_without (DropGuide number) none about h other = subst (IsWithout guides orders) (sym h) (record {
+    unguided = ap (chosen_without number) is.unguided;
+    free = is.free;
+    guides_within = λ n c. is.guides_within n (left_inside number s.guides n c);
+    orders_within = is.orders_within;
+  })
+  changes_without (DropOrder number) none about h other = subst (IsWithout guides orders) (sym h) (record {
+    unguided = is.unguided;
+    free = ap (chosen_without number) is.free;
+    guides_within = is.guides_within;
+    orders_within = λ n c. is.orders_within n (left_inside number s.orders n c);
+  })
+  changes_without _ none about h other = absurd about
+
+-- ---- which lines are searches
+
+rests_not_searches : (budget : ℕ) → Rests ≡ Searches budget → ⊥
+rests_not_searches budget e = cc
+
+waits_not_searches : (b : Bool) (budget : ℕ) → (if b then Rests else Filters None) ≡ Searches budget → ⊥
+waits_not_searches true budget e = cc
+waits_not_searches false budget e = cc
+
+pub searches_by : (m : SessionState) (line : Line) (budget : ℕ) → next m line ≡ Searches budget → line ≡ SolveDbt budget
+searches_by m (Add name shape) budget e = absurd (waits_not_searches m.paused budget e)
+searches_by m (Relax name) budget e = absurd (waits_not_searches m.paused budget e)
+searches_by m (Enforce name) budget e = absurd (waits_not_searches m.paused budget e)
+searches_by m (Retract name) budget e = absurd (waits_not_searches m.paused budget e)
+searches_by m Resume budget e = absurd (waits_not_searches false budget e)
+searches_by m (Step count) budget e = let f : Filters (Some count) ≡ Searches budget = e in cc
+searches_by m (SolveDbt turns) budget e = let f : Searches turns ≡ Searches budget = e in let same : turns ≡ budget = cc in ap SolveDbt same
+searches_by m _ budget e = absurd (rests_not_searches budget e)

@@ -10,7 +10,6 @@ use Rattle.palm_book.specs.Book.{initial_of, active_of}
 use Rattle.palm_book.proofs.Actives.{initial_ascend}
 use Rattle.palm_read.specs.Sound.{IsSound}
 use Rattle.palm_read.specs.declared.line.Line.{Line}
-use Rattle.palm_read.specs.declared.line.Line.TheVariants.{Order}
 use Rattle.palm_laws.proofs.Existence.{greatest_exists}
 use Rattle.palm_laws.proofs.Uniqueness.{greatest_unique}
 use Rattle.palm_events.specs.Along.{IsStill}
@@ -20,8 +19,10 @@ use Rattle.palm_engine.specs.Settling.{Revision, FitsOrder}
 use Rattle.palm_engine.proofs.Settled.{settling_filters, settling_valid, settling_still, plainly_exists, plainly_same}
 use Rattle.palm_session.specs.State.{SessionState, IsHeld, IsState, fresh, AreDomains, has_empty, IsContradiction}
 use Rattle.palm_session.specs.Refusals.{IsBuilt, Meets, in_order, IsNone}
-use Rattle.palm_session.specs.Effects.{Effect, Nothing, Settled, Searched, with_engine, Changes, Next, Rests, Filters, next, SettlesIn, Follows, Does}
-use Rattle.palm_session.proofs.LawsOfChanges.{changes_keep, changes_still, changes_limited, changes_exist, changes_once, KeepsObjects, changes_objects, objects_rest, changes_free, changes_inside}
+use Rattle.palm_session.specs.Effects.{Effect, Nothing, Settled, Searched, with_engine, with_search, Changes, Next, Rests, Filters, Searches, next, SettlesIn, Follows, Does}
+use Rattle.palm_search.specs.declared.turn.Turn.{Turn}
+use Rattle.palm_session.proofs.Searching.{search_in, search_once, searched_state}
+use Rattle.palm_session.proofs.LawsOfChanges.{changes_keep, changes_still, changes_limited, changes_exist, changes_once, KeepsObjects, changes_objects, objects_rest, IsOther, IsWithout, kept_without, changes_without}
 
 -- ---- a fresh session
 
@@ -81,6 +82,9 @@ follows_keeps m (Filters limit) (Settled count) t is still limited f = subst IsS
   still = λ awake. settled_still m limit count f.0 f.1 (λ l e. limited l (ap Filters e)) awake;
 })
 follows_keeps m (Filters limit) (Searched end) t is still limited f = absurd f
+follows_keeps m (Searches budget) Nothing t is still limited f = absurd f
+follows_keeps m (Searches budget) (Settled count) t is still limited f = absurd f
+follows_keeps m (Searches budget) (Searched end) t is still limited f = subst IsState (sym f.3) (searched_state m budget f.0 end f.1 is f.2)
 
 pub does_keeps : (s : SessionState) (line : Line) (effect : Effect) (t : SessionState) → IsState s → IsSound line → IsNone (Meets s line) in_order → Does s line effect t → IsState t
 does_keeps s line effect t is sound none d =
@@ -93,18 +97,21 @@ fits_any : (b : Bool) (rs : List Revision) → FitsOrder false rs → FitsOrder 
 fits_any false rs fits = fits
 fits_any true rs fits = tt
 
-follows_exist : (m : SessionState) (n : Next) → IsValid m.engine → (effect : Effect) × (t : SessionState) × Follows m n effect t
-follows_exist m Rests valid = (Nothing, m, refl)
-follows_exist m (Filters limit) valid =
-    let p = plainly_exists limit m.engine valid in
+follows_exist : (m : SessionState) (n : Next) → IsHeld m → (effect : Effect) × (t : SessionState) × Follows m n effect t
+follows_exist m Rests is = (Nothing, m, refl)
+follows_exist m (Filters limit) is =
+    let p = plainly_exists limit m.engine is.valid in
     let settles : SettlesIn m limit (length p.revisions) p.state =
     record { revisions = p.revisions; settles = p.settles; fits = fits_any (is_some m.order) p.revisions p.fits; counted = refl } in
     (Settled (length p.revisions), with_engine m p.state, (p.state, settles, refl))
+follows_exist m (Searches budget) is =
+    let p = search_in m is budget in
+    (Searched p.end, with_search m p.turns p.engine, (p.turns, p.engine, p.searches, refl))
 
 pub does_exist : (s : SessionState) (line : Line) → IsState s → IsSound line → IsNone (Meets s line) in_order → IsBuilt line → (effect : Effect) × (t : SessionState) × Does s line effect t
 does_exist s line is sound none b =
     let c = changes_exist s line is.held sound none b in
-    let f = follows_exist c.0 (next c.0 line) (changes_keep s c.0 line is.held sound none c.1).valid in
+    let f = follows_exist c.0 (next c.0 line) (changes_keep s c.0 line is.held sound none c.1) in
     (f.0, f.1, (c.0, c.1, f.2))
 
 -- ---- and without an order object nothing else
@@ -112,39 +119,55 @@ does_exist s line is sound none b =
 fits_none : (m : SessionState) (limit : Option ℕ) (count : ℕ) (e : EngineState) → m.order ≡ None → (settles : SettlesIn m limit count e) → FitsOrder false settles.revisions
 fits_none m limit count e free settles = subst (λ (o : Option ℕ). FitsOrder (is_some o) settles.revisions) free settles.fits
 
--- where filtering follows, no order is chosen
-filters_free : (m : SessionState) (limit : Option ℕ) → (Filters limit ≡ Rests) ⊎ (m.order ≡ None) → m.order ≡ None
-filters_free m limit (inl e) = cc
-filters_free m limit (inr free) = free
+-- what decides by an object has none
+abbrev pub IsPlain : SessionState → Next → Type 0
+IsPlain m Rests = Unit {0}
+IsPlain m (Filters limit) = m.order ≡ None
+IsPlain m (Searches budget) = (m.guide ≡ None) × (m.order ≡ None)
 
-follows_once : (m : SessionState) (n : Next) (e f : Effect) (t u : SessionState) → (n ≡ Rests) ⊎ (m.order ≡ None) → IsValid m.engine → Follows m n e t → Follows m n f u → (e ≡ f) × (t ≡ u)
-follows_once m Rests Nothing Nothing t u free valid x y = (refl, x ∙ sym y)
-follows_once m Rests Nothing (Settled k) t u free valid x y = absurd y
-follows_once m Rests Nothing (Searched k) t u free valid x y = absurd y
-follows_once m Rests (Settled k) f t u free valid x y = absurd x
-follows_once m Rests (Searched k) f t u free valid x y = absurd x
-follows_once m (Filters limit) Nothing f t u free valid x y = absurd x
-follows_once m (Filters limit) (Searched k) f t u free valid x y = absurd x
-follows_once m (Filters limit) (Settled k) Nothing t u free valid x y = absurd y
-follows_once m (Filters limit) (Settled k) (Searched l) t u free valid x y = absurd y
-follows_once m (Filters limit) (Settled k) (Settled l) t u free valid x y =
-    let same = plainly_same limit m.engine x.1.revisions x.0 y.1.revisions y.0 valid (fits_none m limit k x.0 (filters_free m limit free) x.1) (fits_none m limit l y.0 (filters_free m limit free) y.1) x.1.settles y.1.settles in
+plain_any : (m : SessionState) (n : Next) → m.guide ≡ None → m.order ≡ None → IsPlain m n
+plain_any m Rests unguided free = tt
+plain_any m (Filters limit) unguided free = free
+plain_any m (Searches budget) unguided free = (unguided, free)
+
+follows_once : (m : SessionState) (n : Next) (e f : Effect) (t u : SessionState) → IsPlain m n → IsHeld m → Follows m n e t → Follows m n f u → (e ≡ f) × (t ≡ u)
+follows_once m Rests Nothing Nothing t u plain is x y = (refl, x ∙ sym y)
+follows_once m Rests Nothing (Settled k) t u plain is x y = absurd y
+follows_once m Rests Nothing (Searched k) t u plain is x y = absurd y
+follows_once m Rests (Settled k) f t u plain is x y = absurd x
+follows_once m Rests (Searched k) f t u plain is x y = absurd x
+follows_once m (Filters limit) Nothing f t u plain is x y = absurd x
+follows_once m (Filters limit) (Searched k) f t u plain is x y = absurd x
+follows_once m (Filters limit) (Settled k) Nothing t u plain is x y = absurd y
+follows_once m (Filters limit) (Settled k) (Searched l) t u plain is x y = absurd y
+follows_once m (Filters limit) (Settled k) (Settled l) t u plain is x y =
+    let same = plainly_same limit m.engine x.1.revisions x.0 y.1.revisions y.0 is.valid (fits_none m limit k x.0 plain x.1) (fits_none m limit l y.0 plain y.1) x.1.settles y.1.settles in
     let count : k ≡ l = sym x.1.counted ∙ ap (λ (rs : List Revision). length rs) same.revisions ∙ y.1.counted in
     (ap Settled count, x.2 ∙ ap (λ (z : EngineState). with_engine m z) same.state ∙ sym y.2)
+follows_once m (Searches budget) Nothing f t u plain is x y = absurd x
+follows_once m (Searches budget) (Settled k) f t u plain is x y = absurd x
+follows_once m (Searches budget) (Searched k) Nothing t u plain is x y = absurd y
+follows_once m (Searches budget) (Searched k) (Settled l) t u plain is x y = absurd y
+follows_once m (Searches budget) (Searched k) (Searched l) t u plain is x y =
+    let same = search_once m budget x.0 y.0 k l x.1 y.1 is plain.0 plain.1 x.2 y.2 in
+    (ap Searched same.end_same, x.3 ∙ ap (λ (z : List Turn). with_search m z x.1) same.turns_same ∙ ap (λ (z : EngineState). with_search m y.0 z) same.engine_same ∙ sym y.3)
 
--- an order is chosen by lines alone that nothing follows
-change_free : (s m : SessionState) (line : Line) → Changes s line m → s.order ≡ None → (next m line ≡ Rests) ⊎ (m.order ≡ None)
-change_free s m line h free = elim (changes_objects s m line h) [ inl is ↦ inl (objects_rest m line is) | inr k ↦ inr (k.order ∙ free) ]
+-- a line that chooses an object has nothing follow it
+change_plain : (s m : SessionState) (line : Line) → Changes s line m → s.guide ≡ None → s.order ≡ None → IsPlain m (next m line)
+change_plain s m line h unguided free = elim (changes_objects s m line h) [
+  | inl about ↦ subst (IsPlain m) (sym (objects_rest m line about)) tt
+  | inr k ↦ plain_any m (next m line) (k.guide ∙ unguided) (k.order ∙ free)
+]
 
 -- a line does one thing
-pub does_once : (s : SessionState) (line : Line) (e f : Effect) (t u : SessionState) → s.order ≡ None → IsState s → IsSound line → IsNone (Meets s line) in_order
+pub does_once : (s : SessionState) (line : Line) (e f : Effect) (t u : SessionState) → s.guide ≡ None → s.order ≡ None → IsState s → IsSound line → IsNone (Meets s line) in_order
     → Does s line e t → Does s line f u → (e ≡ f) × (t ≡ u)
-does_once s line e f t u free is sound none d g =
+does_once s line e f t u unguided free is sound none d g =
     let same : g.0 ≡ d.0 = changes_once s g.0 d.0 line is.held g.1 d.1 in
-    follows_once d.0 (next d.0 line) e f t u (change_free s d.0 line d.1 free) (changes_keep s d.0 line is.held sound none d.1).valid d.2
+    follows_once d.0 (next d.0 line) e f t u (change_plain s d.0 line d.1 unguided free) (changes_keep s d.0 line is.held sound none d.1) d.2
     (subst (λ (z : SessionState). Follows z (next z line) f u) same g.2)
 
--- ---- which orders are there, and which is chosen
+-- ---- which objects are there, and which are chosen
 
 follows_objects : (m : SessionState) (n : Next) (effect : Effect) (t : SessionState) → Follows m n effect t → KeepsObjects m t
 follows_objects m Rests Nothing t f = subst (KeepsObjects m) (sym f) (record { guides = refl; orders = refl; guide = refl; order = refl })
@@ -153,30 +176,19 @@ follows_objects m Rests (Searched k) t f = absurd f
 follows_objects m (Filters limit) Nothing t f = absurd f
 follows_objects m (Filters limit) (Settled k) t f = subst (KeepsObjects m) (sym f.2) (record { guides = refl; orders = refl; guide = refl; order = refl })
 follows_objects m (Filters limit) (Searched k) t f = absurd f
+follows_objects m (Searches budget) Nothing t f = absurd f
+follows_objects m (Searches budget) (Settled k) t f = absurd f
+follows_objects m (Searches budget) (Searched k) t f = subst (KeepsObjects m) (sym f.3) (record { guides = refl; orders = refl; guide = refl; order = refl })
 
--- no order is chosen, and all that are there are among these
-pub record IsWithout (orders : List ℕ) (s : SessionState) : Type 0 where
-  pub free : s.order ≡ None
-  pub within : (n : ℕ) → Contains s.orders n → Contains orders n
-
-kept_without : (orders : List ℕ) (s t : SessionState) → KeepsObjects s t → IsWithout orders s → IsWithout orders t
-kept_without orders s t k is = record { free = k.order ∙ is.free; within = λ n c. is.within n (subst (λ (ns : List ℕ). Contains ns n) k.orders c) }
-
-change_without : (orders : List ℕ) (s m : SessionState) (line : Line) → IsNone (Meets s line) in_order → Changes s line m
-    → ((number : ℕ) → line ≡ Order number → Contains orders number → ⊥) → IsWithout orders s → IsWithout orders m
-change_without orders s m line none h other is = elim (changes_objects s m line h) [
-  | inl about ↦ record {
-    free = changes_free s m line none about h (λ number e c. other number e (is.within number c)) is.free;
-    within = λ n c. is.within n (changes_inside s m line about h n c);
-  }
-  | inr k ↦ kept_without orders s m k is
-]
-
--- a line that chooses none of these orders leaves none chosen
-pub does_without : (orders : List ℕ) (s : SessionState) (line : Line) (effect : Effect) (t : SessionState) → IsNone (Meets s line) in_order
-    → ((number : ℕ) → line ≡ Order number → Contains orders number → ⊥) → Does s line effect t → IsWithout orders s → IsWithout orders t
-does_without orders s line effect t none other d is =
-    kept_without orders d.0 t (follows_objects d.0 (next d.0 line) effect t d.2) (change_without orders s d.0 line none d.1 other is)
+-- a line that chooses none of these objects leaves none chosen
+pub does_without : (guides orders : List ℕ) (s : SessionState) (line : Line) (effect : Effect) (t : SessionState) → IsNone (Meets s line) in_order → IsOther guides orders line
+    → Does s line effect t → IsWithout guides orders s → IsWithout guides orders t
+does_without guides orders s line effect t none other d is =
+    let changed : IsWithout guides orders d.0 = elim (changes_objects s d.0 line d.1) [
+      | inl about ↦ changes_without guides orders s d.0 is line none about d.1 other
+      | inr k ↦ kept_without guides orders s d.0 is k
+    ] in
+    kept_without guides orders d.0 t changed (follows_objects d.0 (next d.0 line) effect t d.2)
 
 -- where nothing follows, the change is all
 pub rests_same : (m : SessionState) (effect : Effect) (t : SessionState) → Follows m Rests effect t → t ≡ m
@@ -192,6 +204,9 @@ follows_book m Rests (Searched k) t f = absurd f
 follows_book m (Filters limit) Nothing t f = absurd f
 follows_book m (Filters limit) (Settled k) t f = ap (λ (z : SessionState). z.book) f.2
 follows_book m (Filters limit) (Searched k) t f = absurd f
+follows_book m (Searches budget) Nothing t f = absurd f
+follows_book m (Searches budget) (Settled k) t f = absurd f
+follows_book m (Searches budget) (Searched k) t f = ap (λ (z : SessionState). z.book) f.3
 
 -- ---- the greatest closed domains
 

@@ -5,10 +5,11 @@ use Rattle.palm_base.proofs.Members.{nat_known, member_here}
 use Rattle.palm_lang.specs.Reply.{ended}
 use Rattle.palm_session.specs.State.{SessionState, IsState, fresh}
 use Rattle.palm_session.specs.Lines.{HasNoFeed, Cuts, without_return, last_line, AreLines}
-use Rattle.palm_session.specs.Replies.{Ends, GoesOn, Run, AreAnswered, all, until, Replies, ChoosesOrder, ChoosesNoOrder}
+use Rattle.palm_session.specs.Replies.{Ends, GoesOn, Run, AreAnswered, all, until, Replies, ChoosesObject, ChoosesNone}
 use Rattle.palm_session.proofs.LawsOfAnswers.{has_answer, answers_keep, answers_without, answers_once}
 use Rattle.palm_session.proofs.LawsOfLines.{quit_known}
-use Rattle.palm_session.proofs.LawsOfStates.{fresh_is, IsWithout}
+use Rattle.palm_session.proofs.LawsOfChanges.{IsWithout}
+use Rattle.palm_session.proofs.LawsOfStates.{fresh_is}
 
 -- ---- a text is cut in one way
 
@@ -163,15 +164,15 @@ answered_once lines xs ys (until a x k on e is) (until b y l too f other) = ends
 
 -- ---- the lines are answered in one way
 
-pub run_once : (orders : List ℕ) (s : SessionState) (lines : List (List ℕ)) (a b : List ℕ) (t u : SessionState) → IsWithout orders s → IsState s → All (λ line. ChoosesOrder orders line → ⊥) lines
+pub run_once : (guides orders : List ℕ) (s : SessionState) (lines : List (List ℕ)) (a b : List ℕ) (t u : SessionState) → IsWithout guides orders s → IsState s → All (λ line. ChoosesObject guides orders line → ⊥) lines
     → Run s lines a t → Run s lines b u → a ≡ b
-run_once orders s [] a b t u free is none x y = x.0 ∙ sym y.0
-run_once orders s (l ∷ ls) a b t u free is none x y =
-    let one = answers_once s l x.0 y.0 x.2 y.2 free.free is x.3 y.3 in
+run_once guides orders s [] a b t u free is none x y = x.0 ∙ sym y.0
+run_once guides orders s (l ∷ ls) a b t u free is none x y =
+    let one = answers_once s l x.0 y.0 x.2 y.2 free.unguided free.free is x.3 y.3 in
     let next : Run x.2 ls y.1 u = subst (λ (z : SessionState). Run z ls y.1 u) (sym one.1) y.5 in
-    let here : ChoosesOrder orders l → ⊥ = All-head (λ line. ChoosesOrder orders line → ⊥) l ls none in
-    let rest : x.1 ≡ y.1 = run_once orders x.2 ls x.1 y.1 t u (answers_without orders s l x.0 x.2 here x.3 free) (answers_keep s l x.0 x.2 is x.3)
-    (All-tail (λ line. ChoosesOrder orders line → ⊥) l ls none) x.5 next in
+    let here : ChoosesObject guides orders l → ⊥ = All-head (λ line. ChoosesObject guides orders line → ⊥) l ls none in
+    let rest : x.1 ≡ y.1 = run_once guides orders x.2 ls x.1 y.1 t u (answers_without guides orders s l x.0 x.2 here x.3 free) (answers_keep s l x.0 x.2 is x.3)
+    (All-tail (λ line. ChoosesObject guides orders line → ⊥) l ls none) x.5 next in
     x.4 ∙ ap (λ (z : List ℕ). z ++ x.1) one.0 ∙ ap (λ (z : List ℕ). y.0 ++ z) rest ∙ sym y.4
 
 pub has_run : (s : SessionState) (lines : List (List ℕ)) → IsState s → (replies : List ℕ) × (t : SessionState) × Run s lines replies t
@@ -198,15 +199,15 @@ all_answered : (P : List ℕ → Type 0) (lines answered : List (List ℕ)) → 
 all_answered P lines answered (all on) h = h
 all_answered P lines answered (until before after last on ends is) h = all_until P before after last (subst (λ (ls : List (List ℕ)). All P ls) is h)
 
-pub output_once : (guides orders text a b : List ℕ) → ChoosesNoOrder orders text → Replies guides orders text a → Replies guides orders text b → a ≡ b
+pub output_once : (guides orders text a b : List ℕ) → ChoosesNone guides orders text → Replies guides orders text a → Replies guides orders text b → a ≡ b
 output_once guides orders text a b none x y =
     let lines : x.lines ≡ y.lines = lines_once text x.lines y.lines x.are_lines y.are_lines in
     let there : AreAnswered x.lines y.answered = subst (λ (z : List (List ℕ)). AreAnswered z y.answered) (sym lines) y.are_answered in
     let same : x.answered ≡ y.answered = answered_once x.lines x.answered y.answered x.are_answered there in
     let run : Run (fresh guides orders) x.answered b y.state = subst (λ (z : List (List ℕ)). Run (fresh guides orders) z b y.state) (sym same) y.run in
-    let free : IsWithout orders (fresh guides orders) = record { free = refl; within = λ n c. c } in
-    run_once orders (fresh guides orders) x.answered a b x.state y.state free (fresh_is guides orders)
-    (all_answered (λ line. ChoosesOrder orders line → ⊥) x.lines x.answered x.are_answered (none x.lines x.are_lines)) x.run run
+    let free : IsWithout guides orders (fresh guides orders) = record { unguided = refl; free = refl; guides_within = λ n c. c; orders_within = λ n c. c } in
+    run_once guides orders (fresh guides orders) x.answered a b x.state y.state free (fresh_is guides orders)
+    (all_answered (λ line. ChoosesObject guides orders line → ⊥) x.lines x.answered x.are_answered (none x.lines x.are_lines)) x.run run
 
 pub has_output : (guides orders text : List ℕ) → (output : List ℕ) × Replies guides orders text output
 has_output guides orders text =

@@ -25,7 +25,10 @@ pub mod Places
 pub mod Presents
 pub mod ReadOnce
 pub mod Retracting
+pub mod Searched
+pub mod Searching
 pub mod Serving
+pub mod Solved
 pub mod Spending
 pub mod Standing
 pub mod Telling

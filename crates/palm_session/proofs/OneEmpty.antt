@@ -6,7 +6,7 @@ use Rattle.palm_base.specs.declared.terms.Pair.{Pair}
 use Rattle.palm_base.specs.declared.terms.Cid.{Cid}
 use Rattle.palm_base.proofs.Members.{member_nil, member_here, nat_known}
 use Rattle.palm_model.specs.Domains.{Domains, Has, is_among, values_of, without}
-use Rattle.palm_model.specs.Log.{Active, log_pairs}
+use Rattle.palm_model.specs.Log.{Active, Removal, log_pairs}
 use Rattle.palm_model.specs.State.{EngineState, IsEmptyAt, IsValid, present}
 use Rattle.palm_model.specs.Event.{Posts, WithdrawsAll, Removes, Declares, Step, StepLeads, Runs, removed, removal_of}
 use Rattle.palm_model.specs.Event.Event.{Post, Withdraw, Remove}
@@ -17,20 +17,23 @@ use Rattle.palm_book.specs.declared.book.BookCon.{BookCon}
 use Rattle.palm_read.specs.Domain.{values_in}
 use Rattle.palm_read.specs.Sound.{IsSound}
 use Rattle.palm_read.specs.declared.line.Line.{Line}
-use Rattle.palm_read.specs.declared.line.Line.TheVariants.{Comment, Var, Add, Relax, Enforce, Retract, Domains as DomainsLine, Domain, List as ListLine, Log, Why, Conflict, Pause, Resume, Step as StepLine, Guide, GuideNone, Order, OrderNone, DropGuide, DropOrder, Quit}
+use Rattle.palm_read.specs.declared.line.Line.TheVariants.{Comment, Var, Add, Relax, Enforce, Retract, Domains as DomainsLine, Domain, List as ListLine, Log, Why, Conflict, Pause, Resume, Step as StepLine, SolveDbt, Guide, GuideNone, Order, OrderNone, DropGuide, DropOrder, Quit}
 use Rattle.palm_read.proofs.SoundLines.{read_sound}
-use Rattle.palm_events.specs.Along.{IsFiltering}
+use Rattle.palm_events.specs.Along.{IsFiltering, IsStill}
 use Rattle.palm_events.proofs.Agreeing.{values_of_more}
 use Rattle.palm_events.proofs.Logs.{logged}
 use Rattle.palm_events.proofs.Valid.{has_removed, left_grows}
 use Rattle.palm_engine.proofs.Settled.{settling_filters}
-use Rattle.palm_session.specs.State.{SessionState, IsState, fresh}
+use Rattle.palm_session.specs.State.{SessionState, IsHeld, IsState, fresh}
+use Rattle.palm_search.specs.declared.turn.Turn.{Turn}
 use Rattle.palm_session.specs.Refusals.{Meets, in_order, IsNone}
-use Rattle.palm_session.specs.Effects.{Effect, Nothing, Settled, Searched, Next, Rests, Filters, next, SettlesIn, Follows, Does, Changes, WithdrawsActive}
-use Rattle.palm_session.specs.Answers.{Accepts, waits, contradicts, says, Answers, misread, refused, accepted}
+use Rattle.palm_session.specs.Effects.{SearchEnd, Effect, Nothing, Settled, Searched, Next, Rests, Filters, Searches, next, SettlesIn, SearchesIn, Follows, Does, Changes, WithdrawsActive}
+use Rattle.palm_session.specs.Answers.{WaitsFor, Accepts, waits, contradicts, says, Answers, misread, refused, accepted}
 use Rattle.palm_session.specs.Replies.{Run}
 use Rattle.palm_session.proofs.LawsOfAnswers.{answers_keep}
-use Rattle.palm_session.proofs.LawsOfChanges.{line_values, withdraws_cases}
+use Rattle.palm_session.proofs.LawsOfChanges.{changes_keep, line_values, withdraws_cases}
+use Rattle.palm_session.proofs.Searching.{search_leaves_still, search_log}
+use Rattle.palm_session.proofs.Searched.{still_before}
 use Rattle.palm_session.proofs.LawsOfDomains.{inside_empty}
 use Rattle.palm_session.proofs.LawsOfStates.{fresh_is}
 use Rattle.palm_session.proofs.Users.{declared_from}
@@ -150,6 +153,7 @@ changes_one s m Conflict is sound none h one = subst HasOne (sym h) one
 changes_one s m Pause is sound none h one = subst HasOne (sym h) one
 changes_one s m Resume is sound none h one = subst HasOne (sym h) one
 changes_one s m (StepLine count) is sound none h one = subst HasOne (sym h) one
+changes_one s m (SolveDbt budget) is sound none h one = subst HasOne (sym h) one
 changes_one s m (Guide number) is sound none h one = subst HasOne (sym h) one
 changes_one s m GuideNone is sound none h one = subst HasOne (sym h) one
 changes_one s m (Order number) is sound none h one = subst HasOne (sym h) one
@@ -163,21 +167,32 @@ settles_one : (m : SessionState) (limit : Option ℕ) (count : ℕ) (e : EngineS
 settles_one m limit count e h one =
     let filters = settling_filters limit m.engine h.revisions e h.settles in run_one m.engine filters.steps e filters.filtering filters.run one
 
-follows_one : (m : SessionState) (n : Next) (effect : Effect) (t : SessionState) → Follows m n effect t → HasOne m → HasOne t
-follows_one m Rests Nothing t f one = subst HasOne (sym f) one
-follows_one m Rests (Settled k) t f one = absurd f
-follows_one m Rests (Searched k) t f one = absurd f
-follows_one m (Filters limit) Nothing t f one = absurd f
-follows_one m (Filters limit) (Settled k) t f one = subst HasOne (sym f.2) (settles_one m limit k f.0 f.1 one)
-follows_one m (Filters limit) (Searched k) t f one = absurd f
+-- a search leaves the domains
+searches_one : (m : SessionState) (budget : ℕ) (turns : List Turn) (end : SearchEnd) (e : EngineState) → IsHeld m → IsStill m.engine → SearchesIn m budget turns end e → HasOne m → HasOneEmpty e
+searches_one m budget turns end e is still h one x y ex ey =
+    let rests = search_leaves_still m budget turns end e is h in
+    let same : present e ≡ present m.engine = ap (λ (d : Domains). without d (log_pairs e.log)) rests.initial ∙ ap (λ (l : List Removal). without m.engine.initial (log_pairs l)) (search_log m budget turns end e is h still) in
+    one x y (subst (λ (d : Domains). IsEmptyAt d x) same ex) (subst (λ (d : Domains). IsEmptyAt d y) same ey)
 
-does_one : (s : SessionState) (line : Line) (effect : Effect) (t : SessionState) → IsState s → IsSound line → IsNone (Meets s line) in_order → Does s line effect t → HasOne s → HasOne t
-does_one s line effect t is sound none d one = follows_one d.0 (next d.0 line) effect t d.2 (changes_one s d.0 line is sound none d.1 one)
+follows_one : (m : SessionState) (n : Next) (effect : Effect) (t : SessionState) → IsHeld m → ((budget : ℕ) → n ≡ Searches budget → IsStill m.engine) → Follows m n effect t → HasOne m → HasOne t
+follows_one m Rests Nothing t is still f one = subst HasOne (sym f) one
+follows_one m Rests (Settled k) t is still f one = absurd f
+follows_one m Rests (Searched k) t is still f one = absurd f
+follows_one m (Filters limit) Nothing t is still f one = absurd f
+follows_one m (Filters limit) (Settled k) t is still f one = subst HasOne (sym f.2) (settles_one m limit k f.0 f.1 one)
+follows_one m (Filters limit) (Searched k) t is still f one = absurd f
+follows_one m (Searches budget) Nothing t is still f one = absurd f
+follows_one m (Searches budget) (Settled k) t is still f one = absurd f
+follows_one m (Searches budget) (Searched k) t is still f one = subst HasOne (sym f.3) (searches_one m budget f.0 k f.1 is (still budget refl) f.2 one)
+
+does_one : (s : SessionState) (line : Line) (effect : Effect) (t : SessionState) → IsState s → IsSound line → IsNone (Meets s line) in_order → (WaitsFor s line → ⊥) → Does s line effect t → HasOne s → HasOne t
+does_one s line effect t is sound none goes d one =
+    follows_one d.0 (next d.0 line) effect t (changes_keep s d.0 line is.held sound none d.1) (still_before s d.0 line is goes d.1) d.2 (changes_one s d.0 line is sound none d.1 one)
 
 accepts_one : (s : SessionState) (line : Line) (reply : List ℕ) (t : SessionState) → IsState s → IsSound line → IsNone (Meets s line) in_order → Accepts s line reply t → HasOne s → HasOne t
 accepts_one s line reply t is sound none (waits w) one = one
-accepts_one s line reply t is sound none (contradicts effect goes does c) one = does_one s line effect t is sound none does one
-accepts_one s line reply t is sound none (says effect goes does n r) one = does_one s line effect t is sound none does one
+accepts_one s line reply t is sound none (contradicts effect goes does c) one = does_one s line effect t is sound none goes does one
+accepts_one s line reply t is sound none (says effect goes does n r) one = does_one s line effect t is sound none goes does one
 
 answers_one : (s : SessionState) (bytes reply : List ℕ) (t : SessionState) → IsState s → Answers s bytes reply t → HasOne s → HasOne t
 answers_one s bytes reply t is (misread error refusal q some) one = one

@@ -13,7 +13,7 @@ use Rattle.palm_read.specs.declared.line.Line.TheVariants.{Add, Retract, Domains
 use Rattle.palm_read.specs.declared.line.Shape.{Shape}
 use Rattle.palm_session.specs.State.{SessionState, AreDomains, IsContradiction}
 use Rattle.palm_session.specs.Refusals.{Meets, in_order, IsNone}
-use Rattle.palm_session.specs.Effects.{Effect, Nothing, Settled, Searched, Next, Rests, Filters, Follows, Does, next, next_constraint, IsNamed}
+use Rattle.palm_session.specs.Effects.{Effect, Nothing, Settled, Searched, Next, Rests, Filters, Searches, Follows, Does, next, next_constraint, IsNamed}
 use Rattle.palm_session.specs.Answers.{IsPausable, domains_text, Says, Accepts, waits, contradicts, says}
 use Rattle.palm_session.proofs.LawsOfStates.{follows_book, rests_same}
 
@@ -51,6 +51,9 @@ follows_paused m Rests (Searched k) t f = absurd f
 follows_paused m (Filters limit) Nothing t f = absurd f
 follows_paused m (Filters limit) (Settled k) t f = ap (λ (z : SessionState). z.paused) f.2
 follows_paused m (Filters limit) (Searched k) t f = absurd f
+follows_paused m (Searches budget) Nothing t f = absurd f
+follows_paused m (Searches budget) (Settled k) t f = absurd f
+follows_paused m (Searches budget) (Searched k) t f = ap (λ (z : SessionState). z.paused) f.3
 
 pub paused_as_before : (s m t : SessionState) (name : List ℕ) (shape : Shape) (a b : List ℕ) → Accepts s (Add name shape) a m → Accepts m (Retract name) b t → t.paused ≡ s.paused
 paused_as_before s m t name shape a b adds retracts =

@@ -7,9 +7,9 @@ use Rattle.palm_model.specs.State.{IsEmptyAt, present}
 use Rattle.palm_model.specs.Conflict.{IsKeptConflict}
 use Rattle.palm_book.specs.Book.{Entry, Contents, name_of, user_name}
 use Rattle.palm_read.specs.Reading.{IsRead, IsRefusedBy}
-use Rattle.palm_lang.specs.Reply.{fixed_text, refusal_text, ran_text, domain_line, var_line, entry_line, removal_line, names_line}
+use Rattle.palm_lang.specs.Reply.{fixed_text, refusal_text, ran_text, domain_line, var_line, entry_line, removal_line, names_line, found_line, spent_line}
 use Rattle.palm_lang.specs.declared.reply.Lead.{Lead}
-use Rattle.palm_lang.specs.declared.reply.Lead.TheVariants.{Because, Conflict as ConflictLead}
+use Rattle.palm_lang.specs.declared.reply.Lead.TheVariants.{Because, Conflict as ConflictLead, NoSolution as NoSolutionLead}
 use Rattle.palm_read.specs.declared.line.Line.{Line}
 use Rattle.palm_read.specs.declared.line.Line.TheVariants.{Comment, Var, Add, Relax, Enforce, Retract, Domains as DomainsLine, Domain, List as ListLine, Log, Why, Conflict, MinimalConflict, Minimal, Pause, Resume, Step, SolveDbt, SolveRepair, Cert, CertConflict, Guide, GuideNone, Order, OrderNone, DropGuide, DropOrder, Quit}
 use Rattle.palm_read.specs.declared.parse.LineError.{LineError}
@@ -17,7 +17,7 @@ use Rattle.palm_lang.specs.declared.reply.Fixed.TheVariants.{Done, Contradiction
 use Rattle.palm_lang.specs.declared.reply.Refusal.{Refusal}
 use Rattle.palm_session.specs.State.{SessionState, AreDomains, IsContradiction, has_empty}
 use Rattle.palm_session.specs.Refusals.{Meets, in_order, IsFirst, IsNone, refusal_of, heard}
-use Rattle.palm_session.specs.Effects.{Effect, Settled, Does}
+use Rattle.palm_session.specs.Effects.{SearchEnd, Found, NoSolution, Spent, Effect, Settled, Searched, Does}
 
 -- the lines that are answered by `paused` while filtering waits
 abbrev pub IsPausable : Line → Type 0
@@ -70,6 +70,12 @@ log_text book log = flat_map (log_line book) log ++ fixed_text End
 abbrev pub users_text : Contents → Lead → List Cid → List ℕ
 users_text book lead names = names_line lead (map (user_name book.constraints) names)
 
+-- how a search ended: a value for each variable, constraints that have no solution, or how many turns were taken
+abbrev pub end_text : Contents → SearchEnd → List ℕ
+end_text book (Found values) = found_line book.variables values
+end_text book (NoSolution users) = users_text book NoSolutionLead users
+end_text book (Spent turns dropped) = spent_line turns dropped
+
 -- `present` where the value is one of the greatest closed domains, and else the explanation that the log keeps
 abbrev pub SaysWhy : SessionState → Domains → ℕ → ℤ → List ℕ → Type 0
 SaysWhy s d x value reply = (Has d x value × (reply ≡ fixed_text Present)) ⊎ ((Has d x value → ⊥)
@@ -99,6 +105,7 @@ Says s (Retract name) effect reply = reply ≡ fixed_text Done
 Says s Pause effect reply = reply ≡ fixed_text Done
 Says s Resume effect reply = reply ≡ fixed_text Done
 Says s (Step count) (Settled revisions) reply = reply ≡ ran_text revisions
+Says s (SolveDbt budget) (Searched end) reply = reply ≡ end_text s.book end
 Says s (Guide number) effect reply = reply ≡ fixed_text Done
 Says s GuideNone effect reply = reply ≡ fixed_text Done
 Says s (Order number) effect reply = reply ≡ fixed_text Done

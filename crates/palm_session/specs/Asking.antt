@@ -6,7 +6,7 @@ use Rattle.palm_read.specs.Reading.{IsRead}
 use Rattle.palm_read.specs.declared.line.Line.{Line}
 use Rattle.palm_session.specs.State.{SessionState}
 use Rattle.palm_session.specs.Refusals.{Meets, IsNone, in_order}
-use Rattle.palm_session.specs.Effects.{Changes, Filters, next}
+use Rattle.palm_session.specs.Effects.{Changes, Filters, Searches, next}
 use Rattle.palm_session.specs.Answers.{Answers}
 
 -- the line was accepted and filtering followed it, which took out what the log gained
@@ -21,10 +21,21 @@ pub record HasSettling (s : SessionState) (bytes : List ℕ) (t : SessionState) 
   pub filters : next changed line ≡ Filters limit
   pub log : t.engine.log ≡ changed.engine.log ++ gained
 
+-- the line was accepted, and a search followed it
+pub record HasSearch (s : SessionState) (bytes : List ℕ) : Type 0 where
+  pub line : Line
+  pub changed : SessionState
+  pub budget : ℕ
+  pub read : IsRead bytes line
+  pub accepted : IsNone (Meets s line) in_order
+  pub changes : Changes s line changed
+  pub searches : next changed line ≡ Searches budget
+
 -- answering the line asks for support so often: not at all, or where filtering follows the line, no more than this settling
--- may ask
+-- may ask; of a search nothing is said
 pub data Asks (s : SessionState) (bytes : List ℕ) (t : SessionState) (count : ℕ) : Type 0 where
   asks_none : count ≡ 0 → Asks s bytes t count
+  asks_search : HasSearch s bytes → Asks s bytes t count
   asks_settling : (settling : HasSettling s bytes t) → count ≤ most_questions settling.changed.engine (log_pairs settling.gained) → Asks s bytes t count
 
 -- from s the lines are answered one after another, with these replies in all, t is held in the end, and support was asked

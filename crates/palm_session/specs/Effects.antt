@@ -6,12 +6,15 @@ use Rattle.palm_model.specs.State.{EngineState}
 use Rattle.palm_model.specs.Event.{Posts, Withdraws, Declares}
 use Rattle.palm_model.specs.declared.constraint.Con.{Con}
 use Rattle.palm_engine.specs.Settling.{Revision, Settles, FitsOrder}
+use Rattle.palm_search.specs.Search.{SearchEnd as DbtEnd, Searches as SearchesWhole}
+use Rattle.palm_search.specs.Search.SearchEnd.{Found as DbtFound, NoSolution as DbtNoSolution, Spent as DbtSpent}
+use Rattle.palm_search.specs.declared.turn.Turn.{Turn}
 use Rattle.palm_book.specs.Book.{with_active, user_at}
 use Rattle.palm_book.specs.Named.{Resolves}
 use Rattle.palm_book.specs.declared.book.BookCon.{BookCon}
 use Rattle.palm_read.specs.Domain.{values_in}
 use Rattle.palm_read.specs.declared.line.Line.{Line}
-use Rattle.palm_read.specs.declared.line.Line.TheVariants.{Comment, Var, Add, Relax, Enforce, Retract, Domains as DomainsLine, Domain, List as ListLine, Log, Why, Conflict, Pause, Resume, Step, Guide, GuideNone, Order, OrderNone, DropGuide, DropOrder, Quit}
+use Rattle.palm_read.specs.declared.line.Line.TheVariants.{Comment, Var, Add, Relax, Enforce, Retract, Domains as DomainsLine, Domain, List as ListLine, Log, Why, Conflict, Pause, Resume, Step, SolveDbt, Guide, GuideNone, Order, OrderNone, DropGuide, DropOrder, Quit}
 use Rattle.palm_session.specs.Objects.{without_number, chosen_without}
 use Rattle.palm_session.specs.State.{SessionState}
 
@@ -19,8 +22,14 @@ use Rattle.palm_session.specs.State.{SessionState}
 -- with so many nogoods dropped, where that is told
 pub data SearchEnd : Type 0 where
   Found : (values : List ℤ) → SearchEnd
-  NoSolution : (users : List ℕ) → SearchEnd
+  NoSolution : (users : List Cid) → SearchEnd
   Spent : (turns : ℕ) (dropped : Option ℕ) → SearchEnd
+
+-- the end of a search by mac-dbt, which drops no nogoods
+abbrev pub dbt_end : DbtEnd → SearchEnd
+dbt_end (DbtFound values) = Found values
+dbt_end (DbtNoSolution users) = NoSolution users
+dbt_end (DbtSpent turns) = Spent turns None
 
 -- what happened at a line, beside what is held after it
 pub data Effect : Type 0 where
@@ -33,6 +42,10 @@ pub data Effect : Type 0 where
 -- the engine holds another state
 abbrev pub with_engine : SessionState → EngineState → SessionState
 with_engine s e = record s { engine = e }
+
+-- the engine holds another state, after a search of these turns
+abbrev pub with_search : SessionState → List Turn → EngineState → SessionState
+with_search s turns e = record s { journal = turns; engine = e }
 
 -- a variable behind the others
 abbrev pub with_variable : SessionState → List ℕ → List ℤ → SessionState
@@ -105,6 +118,7 @@ Changes s Conflict t = t ≡ s
 Changes s Pause t = t ≡ record s { paused = true }
 Changes s Resume t = t ≡ record s { paused = false }
 Changes s (Step count) t = t ≡ s
+Changes s (SolveDbt budget) t = t ≡ s
 Changes s (Guide number) t = t ≡ record s { guide = Some number }
 Changes s GuideNone t = t ≡ record s { guide = None }
 Changes s (Order number) t = t ≡ record s { order = Some number }
@@ -116,10 +130,11 @@ Changes s _ t = ⊥
 
 -- ---- what follows
 
--- nothing, or filtering: as far as it goes, or so many revisions at most
+-- nothing, filtering as far as it goes or for so many revisions at most, or a search by mac-dbt of so many turns at most
 pub data Next : Type 0 where
   Rests : Next
   Filters : (limit : Option ℕ) → Next
+  Searches : (budget : ℕ) → Next
 
 -- a change is followed by filtering, unless it waits
 abbrev pub unless_paused : SessionState → Next
@@ -133,6 +148,7 @@ next s (Enforce name) = unless_paused s
 next s (Retract name) = unless_paused s
 next s Resume = Filters None
 next s (Step count) = Filters (Some count)
+next s (SolveDbt budget) = Searches budget
 next s _ = Rests
 
 -- the engine settles by the chosen order object, or without one, in so many revisions
@@ -142,9 +158,16 @@ pub record SettlesIn (s : SessionState) (limit : Option ℕ) (count : ℕ) (e : 
   pub fits : FitsOrder (is_some s.order) revisions
   pub counted : length revisions ≡ count
 
+-- the engine searches by the chosen guide and order, or without them: it takes these turns, and ends so
+pub record SearchesIn (s : SessionState) (budget : ℕ) (turns : List Turn) (end : SearchEnd) (e : EngineState) : Type 0 where
+  pub ended : DbtEnd
+  pub searches : SearchesWhole (is_some s.guide) (is_some s.order) budget s.engine turns ended e
+  pub told : end ≡ dbt_end ended
+
 abbrev pub Follows : SessionState → Next → Effect → SessionState → Type 0
 Follows s Rests Nothing t = t ≡ s
 Follows s (Filters limit) (Settled count) t = (e : EngineState) × SettlesIn s limit count e × (t ≡ with_engine s e)
+Follows s (Searches budget) (Searched end) t = (turns : List Turn) × (e : EngineState) × SearchesIn s budget turns end e × (t ≡ with_search s turns e)
 Follows s _ _ t = ⊥
 
 -- what the session holds after an accepted line, and what happened

@@ -1,7 +1,7 @@
 -- The replies to a whole text.
 use Rattle.std.specs.Prelude.{◌≡◌, ℕ, List, [], ◌∷◌, ◌++◌, All, Contains, map, flat_map}
 use Rattle.palm_read.specs.Reading.{IsRead}
-use Rattle.palm_read.specs.declared.line.Line.TheVariants.{Order, Quit}
+use Rattle.palm_read.specs.declared.line.Line.TheVariants.{Guide, Order, Quit}
 use Rattle.palm_session.specs.State.{SessionState, fresh}
 use Rattle.palm_session.specs.Answers.{Answers}
 use Rattle.palm_lang.specs.Reply.{ended}
@@ -47,12 +47,11 @@ pub record Replies (guides orders : List ℕ) (text output : List ℕ) : Type 0 
   pub are_answered : AreAnswered lines answered
   pub run : Run (fresh guides orders) answered output state
 
--- the line chooses one of the orders that were handed in
-pub record ChoosesOrder (orders line : List ℕ) : Type 0 where
-  pub number : ℕ
-  pub handed_in : Contains orders number
-  pub chooses : IsRead line (Order number)
+-- the line chooses one of the guides or orders that were handed in
+pub data ChoosesObject (guides orders line : List ℕ) : Type 0 where
+  chooses_guide : (number : ℕ) → Contains guides number → IsRead line (Guide number) → ChoosesObject guides orders line
+  chooses_order : (number : ℕ) → Contains orders number → IsRead line (Order number) → ChoosesObject guides orders line
 
 -- no line of the text does
-abbrev pub ChoosesNoOrder : List ℕ → List ℕ → Type 0
-ChoosesNoOrder orders text = (lines : List (List ℕ)) → AreLines text lines → All (λ line. ChoosesOrder orders line → ⊥) lines
+abbrev pub ChoosesNone : List ℕ → List ℕ → List ℕ → Type 0
+ChoosesNone guides orders text = (lines : List (List ℕ)) → AreLines text lines → All (λ line. ChoosesObject guides orders line → ⊥) lines

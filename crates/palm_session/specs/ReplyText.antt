@@ -3,7 +3,7 @@ use Rattle.std.specs.Prelude.{◌≡◌, ◌<◌, ℕ, List, [], length, All, So
 use Rattle.palm_model.specs.Domains.{values_of}
 use Rattle.palm_model.specs.State.{present}
 use Rattle.palm_book.specs.Book.{IsUser, name_of}
-use Rattle.palm_lang.specs.Reply.{fixed_text, refusal_text, ran_text, domain_line}
+use Rattle.palm_lang.specs.Reply.{fixed_text, refusal_text, ran_text, domain_line, found_line, spent_line}
 use Rattle.palm_session.specs.Answers.{domains_text, list_text, log_text, users_text}
 use Rattle.palm_session.specs.Refusals.{refusal_of}
 use Rattle.palm_session.specs.State.{SessionState}
@@ -12,7 +12,7 @@ use Rattle.palm_lang.specs.declared.reply.Refusal.{Refusal}
 use Rattle.palm_session.specs.declared.going.Going.{Going}
 use Rattle.palm_session.specs.declared.going.Going.TheVariants.{More}
 use Rattle.palm_session.specs.declared.reply.Reply.{Reply}
-use Rattle.palm_session.specs.declared.reply.Reply.TheVariants.{Nothing, Word, Refused, Ran, Domains, Domain, Listing, Log, Users}
+use Rattle.palm_session.specs.declared.reply.Reply.TheVariants.{Nothing, Word, Refused, Ran, Domains, Domain, Listing, Log, Users, Found, Spent}
 
 -- the text of a reply to a line, by what is held after it
 abbrev pub reply_text : SessionState → Reply → List ℕ
@@ -25,11 +25,14 @@ reply_text s (Domain x) = domain_line (name_of s.book.variables x) (values_of (p
 reply_text s Listing = list_text s.book
 reply_text s Log = log_text s.book s.engine.log
 reply_text s (Users lead names) = users_text s.book lead names
+reply_text s (Found values) = found_line s.book.variables values
+reply_text s (Spent turns dropped) = spent_line turns dropped
 
 -- what a reply is about is in the book
 abbrev pub ReplyFits : SessionState → Reply → Type 0
 ReplyFits s (Domain x) = x < length s.book.variables
 ReplyFits s (Users lead names) = All (IsUser s.book) names
+ReplyFits s (Found values) = length values ≡ length s.book.variables
 ReplyFits s _ = Unit {0}
 
 -- the refusal of a line that could not be read, after which the session goes on

@@ -1,10 +1,15 @@
 -- What a desk is seen as, and what serving a line that was read does to it.
-use Rattle.std.specs.Prelude.{◌≡◌, ℕ, ◌+◌, ◌-◌, ◌≤◌, min, Bool, true, false, List, ◌++◌, ◌⊎◌, Option, None, Some, slice_get}
+use Rattle.std.specs.Prelude.{◌≡◌, ℕ, ◌+◌, ◌-◌, ◌≤◌, min, Bool, true, false, List, ◌++◌, ◌⊎◌, ⊤, Option, None, Some, is_some, slice_get}
 use Rattle.palm_base.specs.declared.limits.TheConstants.{LAST_COUNT}
 use Rattle.palm_model.specs.Log.{Removal, log_pairs}
 use Rattle.palm_model.specs.State.{EngineState}
 use Rattle.palm_engine.specs.Engine.{View}
 use Rattle.palm_engine.specs.Work.{most_questions}
+use Rattle.palm_search.specs.Calls.{SearchView}
+use Rattle.palm_search.specs.Search.{Searches as SearchesWhole}
+use Rattle.palm_search.specs.declared.turn.Turn.{Turn}
+use Rattle.palm_dbt.specs.Answers.{end_of}
+use Rattle.palm_dbt.specs.declared.answer.Answer.{Answer}
 use Rattle.palm_book.specs.Book.{Contents}
 use Rattle.palm_book.specs.declared.book.BookCon.{BookCon}
 use Rattle.palm_read.specs.declared.line.Line.{Line}
@@ -15,7 +20,7 @@ use Rattle.palm_lang.specs.declared.reply.Refusal.{Refusal}
 use Rattle.palm_session.specs.Objects.{ObjectsView}
 use Rattle.palm_session.specs.State.{SessionState, IsContradiction, fresh}
 use Rattle.palm_session.specs.Refusals.{IsFirst, IsNone, Meets, in_order}
-use Rattle.palm_session.specs.Effects.{Effect, Changes, Next, Rests, Filters, SettlesIn, Follows, next, with_engine}
+use Rattle.palm_session.specs.Effects.{Effect, Changes, Next, Rests, Filters, Searches, SettlesIn, Follows, next, with_engine, with_search}
 use Rattle.palm_session.specs.Answers.{Accepts}
 
 -- what a desk holds, and how often its engine has asked for support
@@ -24,14 +29,15 @@ pub record DeskView : Type 0 where
   pub checks : ℕ
 
 -- what is seen of the parts of a desk
-abbrev pub desk_of : Contents → View → ℕ → Bool → ObjectsView → ObjectsView → DeskView
-desk_of book engine accepted paused guides orders = record {
+abbrev pub desk_of : Contents → View → ℕ → Bool → ObjectsView → ObjectsView → SearchView → DeskView
+desk_of book engine accepted paused guides orders search = record {
   state = record (fresh guides.numbers orders.numbers) {
     book = book;
     accepted = accepted;
     paused = paused;
     guide = guides.chosen;
     order = orders.chosen;
+    journal = search.journal;
     engine = engine.state;
   };
   checks = engine.checks;
@@ -44,12 +50,15 @@ pub record Spends (before after : DeskView) (was now : ℕ) : Type 0 where
   pub later : was ≤ now
   pub checks : ((now ≡ was) × (after.checks ≡ before.checks)) ⊎ (after.checks ≡ min (before.checks + (now - was)) LAST_COUNT)
 
--- support was asked for so often on the way from s to t, by what was to be done: not at all, or no more than filtering may
+-- support was asked for so often on the way from s to t, by what was to be done: not at all, or no more than filtering may;
+-- of a search nothing is said
 abbrev pub AsksWithin : EngineState → Next → EngineState → ℕ → Type 0
 AsksWithin s Rests t asked = asked ≡ 0
+AsksWithin s (Searches budget) t asked = ⊤
 AsksWithin s (Filters limit) t asked = (gained : List Removal) × (t.log ≡ s.log ++ gained) × (asked ≤ most_questions s (log_pairs gained))
 
--- serving the line asks for support so often: not at all, or no more than the filtering may that follows it
+-- serving the line asks for support so often: not at all, or no more than the filtering may that follows it, if it is no
+-- search
 pub data AsksFor (s : SessionState) (line : Line) (t : SessionState) (asked : ℕ) : Type 0 where
   asks_nothing : asked ≡ 0 → AsksFor s line t asked
   asks_after : (m : SessionState) → IsNone (Meets s line) in_order → Changes s line m → AsksWithin m.engine (next m line) t.engine asked → AsksFor s line t asked
@@ -70,6 +79,15 @@ pub record Followed (s : SessionState) (what : Next) (t : SessionState) (asked :
   pub effect : Effect
   pub follows : Follows s what effect t
   pub asks : AsksWithin s.engine what t.engine asked
+
+-- ---- searches
+
+-- mac-dbt has run by the chosen guide and order, or without them, and has answered so
+pub record HasSearched (s : SessionState) (budget : ℕ) (answer : Answer) (t : SessionState) : Type 0 where
+  pub turns : List Turn
+  pub engine : EngineState
+  pub searches : SearchesWhole (is_some s.guide) (is_some s.order) budget s.engine turns (end_of answer) engine
+  pub after : t ≡ with_search s turns engine
 
 -- ---- replies
 

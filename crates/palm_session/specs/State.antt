@@ -7,10 +7,11 @@ use Rattle.palm_model.specs.Log.{cons_of}
 use Rattle.palm_model.specs.State.{EngineState, IsValid, blank}
 use Rattle.palm_events.specs.Along.{IsStill}
 use Rattle.palm_book.specs.declared.limits.TheConstants.{MOST_ADDED}
+use Rattle.palm_search.specs.declared.turn.Turn.{Turn}
 use Rattle.palm_book.specs.Book.{Contents, IsBook, initial_of, active_of}
 
 -- the book, how many `add` lines were accepted, whether filtering waits, the guides and orders (the numbers of those
--- that are there, and which one is chosen), and what the engine holds
+-- that are there, and which one is chosen), the turns of the last search, and what the engine holds
 pub record SessionState : Type 0 where
   pub book : Contents
   pub accepted : ℕ
@@ -19,9 +20,11 @@ pub record SessionState : Type 0 where
   pub orders : List ℕ
   pub guide : Option ℕ
   pub order : Option ℕ
+  pub journal : List Turn
   pub engine : EngineState
 
--- no variable, no constraint, nothing accepted; the guides and orders that were handed in are there, and none is chosen
+-- no variable, no constraint, nothing accepted, no search; the guides and orders that were handed in are there, and none is
+-- chosen
 abbrev pub fresh : List ℕ → List ℕ → SessionState
 fresh guides orders = record {
   book = record { variables = []; constraints = [] };
@@ -31,6 +34,7 @@ fresh guides orders = record {
   orders = orders;
   guide = None;
   order = None;
+  journal = [];
   engine = blank [];
 }
 

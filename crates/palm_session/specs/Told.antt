@@ -1,13 +1,18 @@
 -- What may be told of explanations and conflicts.
-use Rattle.std.specs.Prelude.{◌≡◌, ℕ, ℤ, ◌<◌, List, length, Contains}
+use Rattle.std.specs.Prelude.{◌≡◌, ℕ, ℤ, ◌<◌, List, length, Contains, None}
 use Rattle.palm_base.specs.declared.terms.Cid.{Cid}
-use Rattle.palm_model.specs.Closure.{Explains, IsConflict}
-use Rattle.palm_model.specs.Log.{IsActive, Named}
+use Rattle.palm_model.specs.Closure.{Explains, IsConflict, IsSolution}
+use Rattle.palm_model.specs.Domains.{Assignment}
+use Rattle.palm_model.specs.Trial.{listed, value_count}
+use Rattle.palm_model.specs.Log.{IsActive, Named, cons_of}
 use Rattle.palm_book.specs.Book.{Contents, initial_of, active_of, name_of}
-use Rattle.palm_lang.specs.Reply.{fixed_text}
+use Rattle.palm_lang.specs.Reply.{fixed_text, found_line, spent_line}
 use Rattle.palm_lang.specs.declared.reply.Fixed.TheVariants.{Contradiction, Paused, Present, Consistent}
-use Rattle.palm_lang.specs.declared.reply.Lead.TheVariants.{Because, Conflict as ConflictLead}
+use Rattle.palm_lang.specs.declared.reply.Lead.TheVariants.{Because, Conflict as ConflictLead, NoSolution as NoSolutionLead}
+use Rattle.palm_search.specs.Measure.{most_turns}
 use Rattle.palm_session.specs.Answers.{users_text}
+use Rattle.palm_session.specs.Effects.{with_search}
+use Rattle.palm_session.specs.State.{SessionState}
 
 -- active constraints of the book, because of which the variable has the value in no closed domains
 pub record IsExplanation (book : Contents) (names : List Cid) (x : ℕ) (value : ℤ) : Type 0 where
@@ -27,8 +32,29 @@ pub data ToldWhy (book : Contents) (name : List ℕ) (value : ℤ) (reply : List
   why_because : (x : ℕ) (names : List Cid) → x < length book.variables → name_of book.variables x ≡ name → IsExplanation book names x value
       → reply ≡ users_text book Because names → ToldWhy book name value reply
 
+-- active constraints of the book that have no common solution
+pub record AreUnsolvedIn (book : Contents) (names : List Cid) : Type 0 where
+  pub active : (c : Cid) → Contains names c → IsActive (active_of book) c
+  pub none : (a : Assignment) → IsSolution (initial_of book) (Named (active_of book) (Contains names)) a → ⊥
+
+-- what is told of a search: a word, values that satisfy all active constraints, active constraints without a common
+-- solution, or that all turns of the budget were taken, which are fewer than a search needs at most
+pub data ToldSearch (book : Contents) (budget : ℕ) (reply : List ℕ) : Type 0 where
+  search_paused : reply ≡ fixed_text Paused → ToldSearch book budget reply
+  search_found : (values : List ℤ) → IsSolution (initial_of book) (Contains (cons_of (active_of book))) (listed values)
+      → reply ≡ found_line book.variables values → ToldSearch book budget reply
+  search_none : (names : List Cid) → AreUnsolvedIn book names → reply ≡ users_text book NoSolutionLead names → ToldSearch book budget reply
+  search_spent : budget < most_turns (length book.variables) (value_count (initial_of book)) → reply ≡ spent_line budget None → ToldSearch book budget reply
+
 -- what is told of conflicts: a word, or a conflict
 pub data ToldConflict (book : Contents) (reply : List ℕ) : Type 0 where
   conflict_paused : reply ≡ fixed_text Paused → ToldConflict book reply
   conflict_none : reply ≡ fixed_text Consistent → ToldConflict book reply
   conflict_named : (names : List Cid) → IsConflictOf book names → reply ≡ users_text book ConflictLead names → ToldConflict book reply
+
+-- a search leaves what the session holds as it was, but for the journal and for what is pending
+pub record KeepsAllButJournal (s t : SessionState) : Type 0 where
+  pub log : t.engine.log ≡ s.engine.log
+  pub active : t.engine.active ≡ s.engine.active
+  pub initial : t.engine.initial ≡ s.engine.initial
+  pub rest : t ≡ with_search s t.journal t.engine

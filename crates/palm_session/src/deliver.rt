@@ -3,7 +3,7 @@ ghost use Rattle.std.specs.Prelude.{◌≡◌, ◌<◌, length, flat_map, All, O
 ghost use Rattle.palm_book.specs.Book.{AreValues, IsUser, name_of, values_at};
 ghost use Rattle.palm_domain.specs.Rows.{present_of, present_values};
 ghost use Rattle.palm_explain.specs.Explanations.{reasons_of};
-ghost use Rattle.palm_lang.specs.Reply.{fixed_text, refusal_text, ran_text, domain_line, var_line, entry_at, entry_line};
+ghost use Rattle.palm_lang.specs.Reply.{fixed_text, refusal_text, ran_text, domain_line, var_line, entry_at, entry_line, found_line, spent_line};
 ghost use Rattle.palm_model.specs.Domains.{AllAscend, values_of};
 ghost use Rattle.palm_session.specs.Answers.{domains_text, list_text, log_text, users_text};
 ghost use Rattle.palm_session.specs.Logged.{AreLogged, IsNumbered, log_line_at};
@@ -15,13 +15,13 @@ use crate::desk::Desk;
 use crate::reply::Reply;
 use crate::stop::Stop;
 use palm_agenda::Order;
-use palm_base::{Cid, CidList, Failed, NoMemory, Pair, Sink, Value, Var, write_all};
+use palm_base::{Cid, CidList, Failed, NoMemory, Pair, Sink, Value, ValueList, Var, write_all};
 use palm_domain::DomainStore;
 use palm_explain::ExplainStore;
 use palm_guide::Guide;
 use palm_lang::{
-    Book, Fixed, Lead, Refusal, print_domain, print_entry, print_fixed, print_names, print_ran,
-    print_refusal, print_removal, print_var,
+    Book, Fixed, Lead, Refusal, print_domain, print_entry, print_fixed, print_found, print_names,
+    print_ran, print_refusal, print_removal, print_spent, print_var,
 };
 
 /// Writes a reply.
@@ -45,6 +45,8 @@ pub fn deliver<G: Guide, O: Order, K: Sink>(
         Reply::Listing => write_list(desk.book(), out, buffer),
         Reply::Log => write_log(desk, out, buffer),
         Reply::Users { lead, names } => write_names(desk.book(), *lead, names, out, buffer),
+        Reply::Found(values) => write_found(desk.book(), values, out, buffer),
+        Reply::Spent { turns, dropped } => write_spent(*turns, *dropped, out, buffer),
     }
 }
 
@@ -88,6 +90,35 @@ fn write_names<K: Sink>(
 {
     buffer.clear();
     print_names(book, lead, names, buffer)?;
+    write_text(out, buffer)
+}
+
+/// Writes a value for each variable.
+fn write_found<K: Sink>(
+    book: &Book,
+    values: &ValueList,
+    out: &mut K,
+    buffer: &mut Vec<u8>,
+) -> Result<(), Stop>
+    requires { length values.now ≡ length book.now.variables }
+    ensures { Delivers (K.state out.old) (K.state out.new) (found_line book.now.variables values.now) result }
+{
+    buffer.clear();
+    print_found(book, values, buffer)?;
+    write_text(out, buffer)
+}
+
+/// Writes how many turns were taken, and how many nogoods dropped.
+fn write_spent<K: Sink>(
+    turns: u64,
+    dropped: Option<u64>,
+    out: &mut K,
+    buffer: &mut Vec<u8>,
+) -> Result<(), Stop>
+    ensures { Delivers (K.state out.old) (K.state out.new) (spent_line turns dropped) result }
+{
+    buffer.clear();
+    print_spent(turns, dropped, buffer)?;
     write_text(out, buffer)
 }
 

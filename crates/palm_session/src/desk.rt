@@ -6,11 +6,12 @@ use palm_engine::Engine;
 use palm_guide::Guide;
 use palm_kind::Kind;
 use palm_lang::Book;
+use palm_search::{Search, Turn};
 use std::alloc::Global;
 use std::marker::Model;
 
 /// The book, the engine that filters its active constraints, how many `add` lines were accepted, whether filtering
-/// waits, and the guides and orders that were handed in.
+/// waits, the guides and orders that were handed in, and the last search.
 #[derive(Drop)]
 pub struct Desk<G: Guide, O: Order> {
     pub(crate) alloc: Global,
@@ -20,6 +21,7 @@ pub struct Desk<G: Guide, O: Order> {
     pub(crate) paused: bool,
     pub(crate) guides: Objects<G>,
     pub(crate) orders: Objects<O>,
+    pub(crate) search: Search,
 }
 
 impl<G: Guide, O: Order> Model for Desk<G, O> {
@@ -28,7 +30,7 @@ impl<G: Guide, O: Order> Model for Desk<G, O> {
 
     ghost Value = { DeskView };
 
-    ghost view = { λ d. desk_of d.book d.engine d.accepted d.paused d.guides d.orders };
+    ghost view = { λ d. desk_of d.book d.engine d.accepted d.paused d.guides d.orders d.search };
 
     ghost invariant = { λ d. IsValid d.engine.state };
 }
@@ -51,6 +53,7 @@ impl<G: Guide, O: Order> Desk<G, O> {
             paused: false,
             guides: Objects::new(alloc, guides)?,
             orders: Objects::new(alloc, orders)?,
+            search: Search::begin(alloc),
         })
     }
 
@@ -59,6 +62,13 @@ impl<G: Guide, O: Order> Desk<G, O> {
         ensures { result.now ≡ self.now.state.book }
     {
         &self.book
+    }
+
+    /// The turns of the last search, and none before one.
+    pub fn journal(&self) -> &[Turn]
+        ensures { result.now ≡ self.now.state.journal }
+    {
+        self.search.journal()
     }
 
     /// The engine.

@@ -3,7 +3,7 @@ ghost use Rattle.std.specs.Prelude.{◌≡◌, ◌↔◌, ℕ, None, List, take}
 ghost use Rattle.palm_session.specs.State.{SessionState, IsState, fresh};
 ghost use Rattle.palm_session.specs.Answers.{Answers};
 ghost use Rattle.palm_session.specs.Lines.{without_return};
-ghost use Rattle.palm_session.specs.Replies.{ChoosesNoOrder, Ends, Replies};
+ghost use Rattle.palm_session.specs.Replies.{ChoosesNone, Ends, Replies};
 
 use crate::limits::MOST_KEPT_BYTES;
 
@@ -12,7 +12,7 @@ pub fn fresh_states_are_states()
     ensures { (guides orders : List ℕ) → IsState (fresh guides orders) }
 {}
 
-/// Every line has an answer, whether an order object is chosen or not.
+/// Every line has an answer, whether a guide or an order is chosen or not.
 pub fn each_line_has_an_answer()
     ensures { (s : SessionState) → IsState s → (bytes : List ℕ)
         → (reply : List ℕ) × (t : SessionState) × Answers s bytes reply t }
@@ -24,10 +24,10 @@ pub fn states_stay()
         → IsState s → Answers s bytes reply t → IsState t }
 {}
 
-/// While no order object is chosen, no line has two replies, or leaves two states.
+/// While no guide and no order is chosen, no line has two replies, or leaves two states.
 pub fn no_line_has_two_answers()
     ensures { (s : SessionState) (bytes a b : List ℕ) (t u : SessionState)
-        → s.order ≡ None → IsState s → Answers s bytes a t → Answers s bytes b u → (a ≡ b) × (t ≡ u) }
+        → s.guide ≡ None → s.order ≡ None → IsState s → Answers s bytes a t → Answers s bytes b u → (a ≡ b) × (t ≡ u) }
 {}
 
 /// A text has an output.
@@ -35,9 +35,9 @@ pub fn a_text_has_an_output()
     ensures { (guides orders text : List ℕ) → (output : List ℕ) × Replies guides orders text output }
 {}
 
-/// A text in which no line chooses an order that was handed in has no two outputs.
+/// A text in which no line chooses a guide or an order that was handed in has no two outputs.
 pub fn a_text_has_one_output()
-    ensures { (guides orders text a b : List ℕ) → ChoosesNoOrder orders text
+    ensures { (guides orders text a b : List ℕ) → ChoosesNone guides orders text
         → Replies guides orders text a → Replies guides orders text b → a ≡ b }
 {}
 

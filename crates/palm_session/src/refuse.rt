@@ -46,6 +46,7 @@ fn is_built(line: &Line) -> bool
         | Line::Pause
         | Line::Resume
         | Line::Step(_)
+        | Line::SolveDbt { .. }
         | Line::Guide(_)
         | Line::GuideNone
         | Line::Order(_)

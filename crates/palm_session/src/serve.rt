@@ -66,6 +66,7 @@ impl<G: Guide, O: Order> Desk<G, O> {
             Line::Pause => Ok(self.serve_pause()),
             Line::Resume => self.serve_resume(steps),
             Line::Step(count) => self.serve_step(count, steps),
+            Line::SolveDbt { budget } => self.serve_solve_dbt(budget, steps),
             Line::Guide(number) => Ok(self.serve_guide(number)),
             Line::GuideNone => Ok(self.serve_guide_none()),
             Line::Order(number) => Ok(self.serve_order(number)),

@@ -18,6 +18,7 @@ use palm_engine::Engine;
 use palm_guide::Guide;
 use palm_kind::Kind;
 use palm_lang::Book;
+use palm_search::Turn;
 use std::alloc::Global;
 use std::marker::Model;
 use std::sync::ledger::Ledger;
@@ -75,6 +76,13 @@ impl<G: Guide, O: Order> Session<G, O> {
         ensures { result.now ≡ self.now.state.book }
     {
         self.desk.book()
+    }
+
+    /// The turns of the last search, and none before one.
+    pub fn journal(&self) -> &[Turn]
+        ensures { result.now ≡ self.now.state.journal }
+    {
+        self.desk.journal()
     }
 
     /// The engine that filters the active constraints.

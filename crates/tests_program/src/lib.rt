@@ -9,6 +9,8 @@ mod objects;
 #[cfg(test)]
 mod reasons;
 #[cfg(test)]
+mod searches;
+#[cfg(test)]
 mod sessions;
 #[cfg(test)]
 mod streams;

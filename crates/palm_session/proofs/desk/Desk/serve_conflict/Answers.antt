@@ -17,19 +17,19 @@ returns-then-self-clause-serves g c = conflict_paused c.args.self.now.state (sub
 
 pub returns-then-is_none-clause-serves : goal.returns-then-is_none-clause-serves
 returns-then-is_none-clause-serves g c =
-    let d = desk_of c.self.inside.book c.self.inside.engine c.self.inside.accepted c.self.inside.paused c.self.inside.guides c.self.inside.orders in
+    let d = desk_of c.self.inside.book c.self.inside.engine c.self.inside.accepted c.self.inside.paused c.self.inside.guides c.self.inside.orders c.self.inside.search in
     let state = subst (λ (d : DeskView). IsState d.state) (sym c.self.view_is) c.requires in
     subst (λ (d : DeskView). Serves d.state Conflict (fixed_text Consistent) d.state) c.self.view_is
     (consistent d.state state c.if-self.false (none_filled d.state c.empty_variable.result c.empty_variable.ensures.empty c.is_none.result c.is_none.ensures c.if-is_none.true))
 
 pub conflict-requires : goal.conflict-requires
 conflict-requires g c =
-    let d = desk_of c.self.inside.book c.self.inside.engine c.self.inside.accepted c.self.inside.paused c.self.inside.guides c.self.inside.orders in
+    let d = desk_of c.self.inside.book c.self.inside.engine c.self.inside.accepted c.self.inside.paused c.self.inside.guides c.self.inside.orders c.self.inside.search in
     some_empty d.state c.empty_variable.result c.empty_variable.ensures.empty c.is_none.result c.is_none.ensures c.if-is_none.false
 
 pub returns-clause-serves : goal.returns-clause-serves
 returns-clause-serves g c =
-    let d = desk_of c.self.inside.book c.self.inside.engine c.self.inside.accepted c.self.inside.paused c.self.inside.guides c.self.inside.orders in
+    let d = desk_of c.self.inside.book c.self.inside.engine c.self.inside.accepted c.self.inside.paused c.self.inside.guides c.self.inside.orders c.self.inside.search in
     let state = subst (λ (d : DeskView). IsState d.state) (sym c.self.view_is) c.requires in
     let empty = some_empty d.state c.empty_variable.result c.empty_variable.ensures.empty c.is_none.result c.is_none.ensures c.if-is_none.false in
     let conflict = conflict_of d.state c.empty_variable.result c.conflict.new.out c.empty_variable.ensures.empty c.empty_variable.ensures.only c.is_none.result c.is_none.ensures c.if-is_none.false c.in_ok-conflict.ensures.ok in
@@ -38,7 +38,7 @@ returns-clause-serves g c =
 
 pub returns-clause-fits : goal.returns-clause-fits
 returns-clause-fits g c =
-    let d = desk_of c.self.inside.book c.self.inside.engine c.self.inside.accepted c.self.inside.paused c.self.inside.guides c.self.inside.orders in
+    let d = desk_of c.self.inside.book c.self.inside.engine c.self.inside.accepted c.self.inside.paused c.self.inside.guides c.self.inside.orders c.self.inside.search in
     let state = subst (λ (d : DeskView). IsState d.state) (sym c.self.view_is) c.requires in
     let conflict = conflict_of d.state c.empty_variable.result c.conflict.new.out c.empty_variable.ensures.empty c.empty_variable.ensures.only c.is_none.result c.is_none.ensures c.if-is_none.false c.in_ok-conflict.ensures.ok in
     subst (λ (d : DeskView). All (IsUser d.state.book) c.conflict.new.out) c.self.view_is (conflict_users d.state state.held c.conflict.new.out conflict)

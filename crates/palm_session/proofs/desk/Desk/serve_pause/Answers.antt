@@ -11,5 +11,5 @@ returns-then-self-clause-serves g c = paused_already c.args.self.now.state (subs
 
 pub returns-clause-serves : goal.returns-clause-serves
 returns-clause-serves g c =
-    let d = desk_of c.self.inside.book c.self.inside.engine c.self.inside.accepted c.self.inside.paused c.self.inside.guides c.self.inside.orders in
+    let d = desk_of c.self.inside.book c.self.inside.engine c.self.inside.accepted c.self.inside.paused c.self.inside.guides c.self.inside.orders c.self.inside.search in
     subst (λ (z : DeskView). Serves z.state Pause (fixed_text Done) (record d.state { paused = true })) c.self.view_is (pauses d.state c.if-self.false)

@@ -13,7 +13,7 @@ returns-then-not-self-clause-serves g c = awake_already c.args.self.now.state (s
 pub returns-clause-serves : goal.returns-clause-serves
 returns-clause-serves g c =
     let s = c.args.self.now.state in
-    let m = (desk_of c.self.inside.book c.self.inside.engine c.self.inside.accepted false c.self.inside.guides c.self.inside.orders).state in
+    let m = (desk_of c.self.inside.book c.self.inside.engine c.self.inside.accepted false c.self.inside.guides c.self.inside.orders c.self.inside.search).state in
     let t = c.filtered.new.self.state in
     let none = resume_unrefused s (subst (λ (d : DeskView). d.state.paused ≡ true) c.self.view_is c.if-not-self.false) in
     let changes : Changes s Resume m = subst (λ (d : DeskView). m ≡ record d.state { paused = false }) c.self.view_is refl in
@@ -22,7 +22,7 @@ returns-clause-serves g c =
 pub returns-clause-asks : goal.returns-clause-asks
 returns-clause-asks g c =
     let s = c.args.self.now.state in
-    let m = (desk_of c.self.inside.book c.self.inside.engine c.self.inside.accepted false c.self.inside.guides c.self.inside.orders).state in
+    let m = (desk_of c.self.inside.book c.self.inside.engine c.self.inside.accepted false c.self.inside.guides c.self.inside.orders c.self.inside.search).state in
     let t = c.filtered.new.self.state in
     let none = resume_unrefused s (subst (λ (d : DeskView). d.state.paused ≡ true) c.self.view_is c.if-not-self.false) in
     let changes : Changes s Resume m = subst (λ (d : DeskView). m ≡ record d.state { paused = false }) c.self.view_is refl in

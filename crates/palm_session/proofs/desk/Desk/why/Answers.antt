@@ -15,7 +15,7 @@ use Rattle.palm_session.proofs.desk.Desk.why.Goals as goal
 
 pub returns-then-is_none-clause-tells : goal.returns-then-is_none-clause-tells
 returns-then-is_none-clause-tells g c =
-    let d = desk_of c.self.inside.book c.self.inside.engine c.self.inside.accepted c.self.inside.paused c.self.inside.guides c.self.inside.orders in
+    let d = desk_of c.self.inside.book c.self.inside.engine c.self.inside.accepted c.self.inside.paused c.self.inside.guides c.self.inside.orders c.self.inside.search in
     let pair : Pair = record { var = c.args.pair.var; value = c.args.pair.value } in
     let declared = subst (λ (d : DeskView). Has d.state.engine.initial c.args.pair.var c.args.pair.value) (sym c.self.view_is) c.requires.declared in
     let place = rw c.log-log.ensures at c.place_of.ensures in
@@ -27,7 +27,7 @@ explanation-requires g c = logged_pair _ _ c.place_of.result c.place_of.ensures 
 
 pub returns-clause-tells : goal.returns-clause-tells
 returns-clause-tells g c =
-    let d = desk_of c.self.inside.book c.self.inside.engine c.self.inside.accepted c.self.inside.paused c.self.inside.guides c.self.inside.orders in
+    let d = desk_of c.self.inside.book c.self.inside.engine c.self.inside.accepted c.self.inside.paused c.self.inside.guides c.self.inside.orders c.self.inside.search in
     let pair : Pair = record { var = c.args.pair.var; value = c.args.pair.value } in
     let place = rw c.log-log.ensures at c.place_of.ensures in
     let list = rw c.log-log.ensures at c.in_ok-explanation.ensures.ok in
@@ -36,7 +36,7 @@ returns-clause-tells g c =
 
 pub returns-clause-fits : goal.returns-clause-fits
 returns-clause-fits g c =
-    let d = desk_of c.self.inside.book c.self.inside.engine c.self.inside.accepted c.self.inside.paused c.self.inside.guides c.self.inside.orders in
+    let d = desk_of c.self.inside.book c.self.inside.engine c.self.inside.accepted c.self.inside.paused c.self.inside.guides c.self.inside.orders c.self.inside.search in
     let pair : Pair = record { var = c.args.pair.var; value = c.args.pair.value } in
     let held = subst (λ (d : DeskView). IsHeld d.state) (sym c.self.view_is) c.requires.held in
     let list = rw c.log-log.ensures at c.in_ok-explanation.ensures.ok in

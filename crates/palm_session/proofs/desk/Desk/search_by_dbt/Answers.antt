@@ -1,0 +1,22 @@
+use Rattle.std.proofs.Common.{is_some, sym, subst}
+use Rattle.std.proofs.lemmas.Result.{IfOk-weaker}
+use Rattle.palm_search.specs.Search.{Searches}
+use Rattle.palm_dbt.specs.Answers.{end_of}
+use Rattle.palm_session.specs.Serving.{DeskView, desk_of, HasSearched}
+use Rattle.palm_session.specs.State.{IsHeld}
+use Rattle.palm_session.proofs.Searching.{held_users}
+use Rattle.palm_session.proofs.Solved.{searched_desk}
+use Rattle.palm_session.proofs.desk.Desk.search_by_dbt.Goals as goal
+
+pub solve_by-requires-clause-users : goal.solve_by-requires-clause-users
+solve_by-requires-clause-users g c = held_users _ (subst (λ (d : DeskView). IsHeld d.state) (sym c.self.view_is) c.requires.held)
+
+pub returns-clause-searched : goal.returns-clause-searched
+returns-clause-searched g c =
+    let was = c.self.inside in
+    let now = c.solve_by.new in
+    IfOk-weaker c.solve_by.result
+    (λ answer. Searches (is_some was.guides.chosen) (is_some was.orders.chosen) c.args.budget was.engine.state now.search.journal (end_of answer) now.engine.state)
+    (λ answer. HasSearched c.args.self.now.state c.args.budget answer (desk_of was.book now.engine was.accepted was.paused now.guides now.orders now.search).state)
+    (λ answer h. searched_desk was.book was.engine now.engine was.accepted was.paused was.guides was.orders now.guides now.orders was.search now.search c.args.self.now c.args.budget answer c.self.view_is
+    c.solve_by.ensures.guides c.solve_by.ensures.orders h) c.solve_by.ensures.ok

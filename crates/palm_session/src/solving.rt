@@ -1,0 +1,108 @@
+//! Lines that search.
+ghost use Rattle.std.specs.Prelude.{◌≡◌, ◌+◌, ◌-◌, ◌≤◌, [], min, IfOk, OnOk, is_some};
+ghost use Rattle.palm_base.specs.declared.limits.TheConstants.{LAST_COUNT};
+ghost use Rattle.palm_model.specs.State.{IsValid};
+ghost use Rattle.palm_search.specs.Kept.{HasOnlyUsers};
+ghost use Rattle.palm_search.specs.Search.{Searches};
+ghost use Rattle.palm_dbt.specs.Answers.{end_of};
+ghost use Rattle.palm_session.specs.ReplyText.{reply_text, ReplyFits};
+ghost use Rattle.palm_session.specs.Serving.{AsksFor, HasSearched, Serves, Spends};
+ghost use Rattle.palm_session.specs.State.{IsState};
+
+use crate::desk::Desk;
+use crate::objects::Objects;
+use crate::reply::Reply;
+use palm_agenda::Order;
+use palm_base::{NoMemory, Steps};
+use palm_dbt::{Answer, solve};
+use palm_engine::Engine;
+use palm_guide::Guide;
+use palm_kind::Kind;
+use palm_lang::{Fixed, Lead, Line};
+use palm_search::Search;
+use std::alloc::Global;
+use std::sync::ledger::Ledger;
+
+impl<G: Guide, O: Order> Desk<G, O> {
+    /// Serves `solve dbt`: searches within so many turns, and leaves the constraints and the log as they were.
+    pub fn serve_solve_dbt<L: Ledger>(
+        &mut self,
+        budget: u64,
+        steps: &mut Steps<L>,
+    ) -> Result<Reply, NoMemory>
+        requires { IsState self.old.state }
+        ensures serves { IfOk result (λ reply. Serves self.old.state (Line.SolveDbt budget) (reply_text self.new.state reply) self.new.state) }
+        ensures asks { OnOk result (AsksFor self.old.state (Line.SolveDbt budget) self.new.state (steps.new - steps.old)) }
+        ensures spends { Spends self.old self.new steps.old steps.new }
+        ensures fits { IfOk result (ReplyFits self.new.state) }
+    {
+        if self.paused {
+            return Ok(Reply::Word(Fixed::Paused));
+        }
+        match self.search_by_dbt(budget, steps)? {
+            Answer::Found(values) => Ok(Reply::Found(values)),
+            Answer::NoSolution(names) => Ok(Reply::Users {
+                lead: Lead::NoSolution,
+                names,
+            }),
+            Answer::Spent(turns) => Ok(Reply::Spent {
+                turns,
+                dropped: None,
+            }),
+        }
+    }
+
+    /// Searches by mac-dbt, by the guide and the order that are chosen, or without them. The journal is that of this search.
+    fn search_by_dbt<L: Ledger>(
+        &mut self,
+        budget: u64,
+        steps: &mut Steps<L>,
+    ) -> Result<Answer, NoMemory>
+        requires { IsState self.old.state }
+        ensures searched { IfOk result (λ answer. HasSearched self.old.state budget answer self.new.state) }
+        ensures spends { Spends self.old self.new steps.old steps.new }
+    {
+        self.search = Search::begin(self.alloc);
+        solve_by(
+            self.alloc,
+            &mut self.engine,
+            &mut self.search,
+            &mut self.guides,
+            &mut self.orders,
+            budget,
+            steps,
+        )
+    }
+}
+
+/// Searches by the guide and the order that are chosen, or without them.
+fn solve_by<G: Guide, O: Order, L: Ledger>(
+    alloc: Global,
+    engine: &mut Engine<Kind>,
+    search: &mut Search,
+    guides: &mut Objects<G>,
+    orders: &mut Objects<O>,
+    budget: u64,
+    steps: &mut Steps<L>,
+) -> Result<Answer, NoMemory>
+    requires fresh { search.old ≡ record { decisions = []; journal = [] } }
+    requires users { HasOnlyUsers engine.old.state }
+    ensures ok { IfOk result (λ answer. Searches (is_some guides.old.chosen) (is_some orders.old.chosen) budget engine.old.state search.new.journal (end_of answer) engine.new.state) }
+    ensures later { steps.old ≤ steps.new }
+    ensures checks { engine.new.checks ≡ min (engine.old.checks + (steps.new - steps.old)) LAST_COUNT }
+    ensures guides { guides.new ≡ guides.old }
+    ensures orders { orders.new ≡ orders.old }
+    ensures valid { IsValid engine.new.state }
+{
+    let guide = guides.chosen;
+    let order = orders.chosen;
+    solve(
+        alloc,
+        engine,
+        search,
+        &mut guides.places[guide],
+        &mut orders.places[order],
+        budget,
+        steps,
+    )
+}
