@@ -64,8 +64,8 @@ fn searches_wait_and_are_refused(rt: HostRuntime) -> Result<(), Fail> {
 /// Always picks the same pair.
 #[derive(Drop)]
 struct Always {
-    var: u32,
-    value: i32,
+    var: Var,
+    value: Value,
 }
 
 impl Guide for Always {
@@ -79,8 +79,8 @@ impl Guide for Always {
 
     fn pick(&mut self, _view: &[ViewRow]) -> Option<Pair> {
         Some(Pair {
-            var: Var(self.var),
-            value: Value(self.value),
+            var: self.var,
+            value: self.value,
         })
     }
 
@@ -92,10 +92,13 @@ impl Guide for Always {
 fn is_guided(alloc: Global, first: i32, lines: &str, replies: &str) -> Result<bool, NoMemory> {
     let mut guides = Vec::new(alloc);
     guides.push(Always {
-        var: 0,
-        value: first,
+        var: Var(0),
+        value: Value(first),
     })?;
-    guides.push(Always { var: 1, value: 3 })?;
+    guides.push(Always {
+        var: Var(1),
+        value: Value(3),
+    })?;
     let mut text = Vec::new(alloc);
     text.extend_from_slice(b"var x 1..3\nvar y 1..3\nadd a : x < y\n")?;
     text.extend_from_slice(lines.as_bytes())?;

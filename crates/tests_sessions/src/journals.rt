@@ -148,7 +148,8 @@ impl Guide for Counting {
     }
 
     fn learned(&mut self, conflict: &[Var]) {
-        self.count = self.count.saturating_add(conflict.len() as u32);
+        let told = u32::try_from(conflict.len()).unwrap_or(u32::MAX);
+        self.count = self.count.saturating_add(told);
     }
 }
 
