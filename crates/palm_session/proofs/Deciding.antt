@@ -35,8 +35,8 @@ serves_answers s t bytes line reply r (accepts none took) = accepted line r none
 settling_asks : (s m t : SessionState) (bytes : List ℕ) (line : Line) (asked : ℕ) (n : Next) → IsRead bytes line → IsNone (Meets s line) in_order → Changes s line m → next m line ≡ n
     → AsksWithin m.engine n t.engine asked → Asks s bytes t asked
 settling_asks s m t bytes line asked Rests r none changes e asks = asks_none asks
-settling_asks s m t bytes line asked (Searches budget) r none changes e asks =
-    asks_search (record { line = line; changed = m; budget = budget; read = r; accepted = none; changes = changes; searches = e })
+settling_asks s m t bytes line asked (Searches by) r none changes e asks =
+    asks_search (record { line = line; changed = m; by = by; read = r; accepted = none; changes = changes; searches = e })
 settling_asks s m t bytes line asked (Filters limit) r none changes e asks =
     asks_settling (record { line = line; changed = m; limit = limit; gained = asks.0; read = r; accepted = none; changes = changes; filters = e; log = asks.1 }) asks.2
 

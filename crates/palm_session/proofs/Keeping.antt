@@ -75,7 +75,7 @@ asks_long s t x y n e (asks_search search) =
     asks_search (record {
       line = search.line;
       changed = search.changed;
-      budget = search.budget;
+      by = search.by;
       read = same_first_bytes_read x y search.line e search.read;
       accepted = search.accepted;
       changes = search.changes;

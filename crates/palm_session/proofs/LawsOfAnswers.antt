@@ -30,14 +30,14 @@ use Rattle.palm_read.proofs.Parsing.{one_reading, read_not_refused, one_refusal,
 use Rattle.palm_read.proofs.SoundLines.{read_sound}
 use Rattle.palm_session.specs.State.{SessionState, IsState, HasVariable, AreDomains, has_empty}
 use Rattle.palm_session.specs.Refusals.{IsBuilt, IsUnknown, TakesName, NamesNone, NamesNoConstraint, HasNoRoom, NamesNoObject, AsksUndeclared, HasActive, IsInWrongState, Meets, in_order, IsFirst, IsNone, refusal_of, heard}
-use Rattle.palm_session.specs.Effects.{Effect, Nothing, Settled, Searched, Rests, Filters, Searches, Follows, Does}
+use Rattle.palm_session.specs.Effects.{Effect, Nothing, Settled, Searched, Rests, Filters, Procedure, ByDbt, ByRepair, search_line, Searches, Follows, Does}
 use Rattle.palm_session.specs.Answers.{IsPausable, IsContradictable, domains_text, list_text, log_text, users_text, SaysWhy, HasConflict, SaysConflict, end_text, Says, WaitsFor, Contradicts, Accepts, waits, contradicts, says, Answers, misread, refused, accepted}
 use Rattle.palm_session.specs.Lines.{without_return}
 use Rattle.palm_session.specs.Replies.{ChoosesObject, chooses_guide, chooses_order}
 use Rattle.palm_session.specs.declared.limits.TheConstants.{MOST_KEPT_BYTES}
 use Rattle.palm_session.proofs.LawsOfChanges.{variable_known, has_variable, IsOther, IsWithout}
 use Rattle.palm_session.proofs.LawsOfDomains.{empty_domains, explanation_names, conflict_exists}
-use Rattle.palm_session.proofs.LawsOfLines.{known_either, most_known, some_known, name_known, beyond_known, long_bytes, long_unread, variable_with, variable_once}
+use Rattle.palm_session.proofs.LawsOfLines.{known_either, most_known, some_known, name_known, beyond_known, long_bytes, long_unread, tabu_read, variable_with, variable_once}
 use Rattle.palm_session.proofs.LawsOfStates.{does_keeps, does_exist, does_once, does_without, rests_same, domains_exist, domains_once, bool_known, contradiction_known}
 
 -- ---- whether a refusal holds is known
@@ -59,6 +59,7 @@ built_known Pause = inl tt
 built_known Resume = inl tt
 built_known (Step count) = inl tt
 built_known (SolveDbt budget) = inl tt
+built_known (SolveRepair tabu budget) = inl tt
 built_known (Guide number) = inl tt
 built_known GuideNone = inl tt
 built_known (Order number) = inl tt
@@ -181,10 +182,11 @@ step_says m count Nothing t f = absurd f
 step_says m count (Settled k) t f = (ran_text k, refl)
 step_says m count (Searched k) t f = absurd f
 
-search_says : (m : SessionState) (budget : ℕ) (effect : Effect) (t : SessionState) → Follows m (Searches budget) effect t → (reply : List ℕ) × Says t (SolveDbt budget) effect reply
-search_says m budget Nothing t f = absurd f
-search_says m budget (Settled k) t f = absurd f
-search_says m budget (Searched end) t f = (end_text t.book end, refl)
+search_says : (m : SessionState) (by : Procedure) (effect : Effect) (t : SessionState) → Follows m (Searches by) effect t → (reply : List ℕ) × Says t (search_line by) effect reply
+search_says m by Nothing t f = absurd f
+search_says m by (Settled k) t f = absurd f
+search_says m (ByDbt budget) (Searched end) t f = (end_text t.book end, refl)
+search_says m (ByRepair tabu budget) (Searched end) t f = (end_text t.book end, refl)
 
 -- a query leaves the state
 pub query_same : (s m t : SessionState) (effect : Effect) → m ≡ s → Follows m Rests effect t → t ≡ s
@@ -223,7 +225,8 @@ says_exist s Conflict effect t none b is goes does =
 says_exist s Pause effect t none b is goes does = (fixed_text Done, refl)
 says_exist s Resume effect t none b is goes does = (fixed_text Done, refl)
 says_exist s (Step count) effect t none b is goes does = step_says does.0 count effect t does.2
-says_exist s (SolveDbt budget) effect t none b is goes does = search_says does.0 budget effect t does.2
+says_exist s (SolveDbt budget) effect t none b is goes does = search_says does.0 (ByDbt budget) effect t does.2
+says_exist s (SolveRepair tabu budget) effect t none b is goes does = search_says does.0 (ByRepair tabu budget) effect t does.2
 says_exist s (Guide number) effect t none b is goes does = (fixed_text Done, refl)
 says_exist s GuideNone effect t none b is goes does = (fixed_text Done, refl)
 says_exist s (Order number) effect t none b is goes does = (fixed_text Done, refl)
@@ -284,7 +287,7 @@ accepted_answer s is bytes line read none = elim (waits_known s line) [
   | inr awake ↦
       let b = built s line none in
       let sound = read_sound bytes line read in
-      let d = does_exist s line is sound none b in
+      let d = does_exist s line is sound (tabu_read bytes line read) none b in
       let it : IsState d.1 = does_keeps s line d.0 d.1 is sound none d.2 in
       elim (contradicts_known d.1 it line) [
         | inl c ↦ (fixed_text Contradiction, d.1, accepted line read none (contradicts d.0 awake d.2 c))
@@ -372,10 +375,13 @@ step_same t count Nothing a b x y = absurd x
 step_same t count (Settled k) a b x y = x ∙ sym y
 step_same t count (Searched k) a b x y = absurd x
 
-search_same : (t : SessionState) (budget : ℕ) (effect : Effect) (a b : List ℕ) → Says t (SolveDbt budget) effect a → Says t (SolveDbt budget) effect b → a ≡ b
-search_same t budget Nothing a b x y = absurd x
-search_same t budget (Settled k) a b x y = absurd x
-search_same t budget (Searched end) a b x y = x ∙ sym y
+search_same : (t : SessionState) (by : Procedure) (effect : Effect) (a b : List ℕ) → Says t (search_line by) effect a → Says t (search_line by) effect b → a ≡ b
+search_same t (ByDbt budget) Nothing a b x y = absurd x
+search_same t (ByDbt budget) (Settled k) a b x y = absurd x
+search_same t (ByDbt budget) (Searched end) a b x y = x ∙ sym y
+search_same t (ByRepair tabu budget) Nothing a b x y = absurd x
+search_same t (ByRepair tabu budget) (Settled k) a b x y = absurd x
+search_same t (ByRepair tabu budget) (Searched end) a b x y = x ∙ sym y
 
 says_same : (t : SessionState) (line : Line) (effect : Effect) (a b : List ℕ) → IsState t → Says t line effect a → Says t line effect b → a ≡ b
 says_same t Comment effect a b is x y = x ∙ sym y
@@ -402,7 +408,8 @@ says_same t Conflict effect a b is x y =
 says_same t Pause effect a b is x y = x ∙ sym y
 says_same t Resume effect a b is x y = x ∙ sym y
 says_same t (Step count) effect a b is x y = step_same t count effect a b x y
-says_same t (SolveDbt budget) effect a b is x y = search_same t budget effect a b x y
+says_same t (SolveDbt budget) effect a b is x y = search_same t (ByDbt budget) effect a b x y
+says_same t (SolveRepair tabu budget) effect a b is x y = search_same t (ByRepair tabu budget) effect a b x y
 says_same t (Guide number) effect a b is x y = x ∙ sym y
 says_same t GuideNone effect a b is x y = x ∙ sym y
 says_same t (Order number) effect a b is x y = x ∙ sym y

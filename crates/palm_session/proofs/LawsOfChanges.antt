@@ -29,7 +29,7 @@ use Rattle.palm_read.specs.Sound.{IsSound}
 use Rattle.palm_read.specs.declared.line.DomainText.{DomainText}
 use Rattle.palm_read.specs.declared.line.DomainText.TheVariants.{Range, Set}
 use Rattle.palm_read.specs.declared.line.Line.{Line}
-use Rattle.palm_read.specs.declared.line.Line.TheVariants.{Comment, Var, Add, Relax, Enforce, Retract, Domains as DomainsLine, Domain, List as ListLine, Log, Why, Conflict, Pause, Resume, Step, SolveDbt, Guide, GuideNone, Order, OrderNone, DropGuide, DropOrder, Quit}
+use Rattle.palm_read.specs.declared.line.Line.TheVariants.{Comment, Var, Add, Relax, Enforce, Retract, Domains as DomainsLine, Domain, List as ListLine, Log, Why, Conflict, Pause, Resume, Step, SolveDbt, SolveRepair, Guide, GuideNone, Order, OrderNone, DropGuide, DropOrder, Quit}
 use Rattle.palm_read.specs.declared.line.Shape.{Shape}
 use Rattle.palm_events.specs.Along.{IsStill}
 use Rattle.palm_events.proofs.Agreeing.{values_of_more}
@@ -37,7 +37,7 @@ use Rattle.palm_events.proofs.Outcomes.{withdrawal_exists, withdrawal_same}
 use Rattle.palm_events.proofs.Valid.{declares_valid, posts_valid, withdraws_valid}
 use Rattle.palm_session.specs.State.{SessionState, IsHeld, IsState, HasConstraint, HasVariable}
 use Rattle.palm_session.specs.Refusals.{IsBuilt, IsUnknown, HasActive, Meets, in_order, IsNone}
-use Rattle.palm_session.specs.Effects.{with_engine, with_variable, with_constraint, with_active_at, without_constraint, without_guide, without_order, next_constraint, IsNamed, WithdrawsWhere, WithdrawsActive, Changes, Rests, Filters, Searches, next, unless_paused}
+use Rattle.palm_session.specs.Effects.{with_engine, with_variable, with_constraint, with_active_at, without_constraint, without_guide, without_order, next_constraint, IsNamed, WithdrawsWhere, WithdrawsActive, Changes, Rests, Filters, Procedure, ByDbt, ByRepair, search_line, Searches, next, unless_paused}
 use Rattle.palm_session.specs.Objects.{without_number, chosen_without}
 use Rattle.palm_session.proofs.ActiveLists.{turned_cases, active_member, active_added, active_enforced, active_relaxed, active_retracted, active_alike, relaxed_inactive, user_same}
 use Rattle.palm_session.proofs.HeldObjects.{listed, left_inside, left_chosen, held_guides, held_orders}
@@ -279,6 +279,7 @@ changes_keep s m Pause is sound none h = subst IsHeld (sym h) (held_paused s tru
 changes_keep s m Resume is sound none h = subst IsHeld (sym h) (held_paused s false is)
 changes_keep s m (Step count) is sound none h = subst IsHeld (sym h) is
 changes_keep s m (SolveDbt budget) is sound none h = subst IsHeld (sym h) is
+changes_keep s m (SolveRepair tabu budget) is sound none h = subst IsHeld (sym h) is
 changes_keep s m (Guide number) is sound none h = subst IsHeld (sym h) (held_guides s s.guides (Some number) (listed s.guides number none.1.1.1.1.1.0) is)
 changes_keep s m GuideNone is sound none h = subst IsHeld (sym h) (held_guides s s.guides None tt is)
 changes_keep s m (Order number) is sound none h = subst IsHeld (sym h) (held_orders s s.orders (Some number) (listed s.orders number none.1.1.1.1.1.0) is)
@@ -320,7 +321,8 @@ changes_still s m Conflict is h rests awake = stays_still s m is h awake
 changes_still s m Pause is h rests awake = absurd (false≢true (sym awake ∙ ap (λ (z : SessionState). z.paused) h))
 changes_still s m Resume is h rests awake = let e : Filters None ≡ Rests = rests in cc
 changes_still s m (Step count) is h rests awake = let e : Filters (Some count) ≡ Rests = rests in cc
-changes_still s m (SolveDbt budget) is h rests awake = let e : Searches budget ≡ Rests = rests in cc
+changes_still s m (SolveDbt budget) is h rests awake = let e : Searches (ByDbt budget) ≡ Rests = rests in cc
+changes_still s m (SolveRepair tabu budget) is h rests awake = let e : Searches (ByRepair tabu budget) ≡ Rests = rests in cc
 changes_still s m (Guide number) is h rests awake = untouched_still s m is (ap (λ (z : SessionState). z.engine) h) (ap (λ (z : SessionState). z.paused) h) awake
 changes_still s m GuideNone is h rests awake = untouched_still s m is (ap (λ (z : SessionState). z.engine) h) (ap (λ (z : SessionState). z.paused) h) awake
 changes_still s m (Order number) is h rests awake = untouched_still s m is (ap (λ (z : SessionState). z.engine) h) (ap (λ (z : SessionState). z.paused) h) awake
@@ -357,7 +359,8 @@ changes_limited s m (Step count) none h limit e = elim (cases_Bool s.paused) [
   | inl on ↦ ap (λ (z : SessionState). z.paused) h ∙ on
   | inr off ↦ absurd (none.1.1.1.1.1.1.1.0 off)
 ]
-changes_limited s m (SolveDbt budget) none h limit e = let f : Searches budget ≡ Filters (Some limit) = e in cc
+changes_limited s m (SolveDbt budget) none h limit e = let f : Searches (ByDbt budget) ≡ Filters (Some limit) = e in cc
+changes_limited s m (SolveRepair tabu budget) none h limit e = let f : Searches (ByRepair tabu budget) ≡ Filters (Some limit) = e in cc
 changes_limited s m (Guide number) none h limit e = absurd (rests_not_limited limit e)
 changes_limited s m GuideNone none h limit e = absurd (rests_not_limited limit e)
 changes_limited s m (Order number) none h limit e = absurd (rests_not_limited limit e)
@@ -432,6 +435,7 @@ changes_exist s Pause is sound none b = (record s { paused = true }, refl)
 changes_exist s Resume is sound none b = (record s { paused = false }, refl)
 changes_exist s (Step count) is sound none b = (s, refl)
 changes_exist s (SolveDbt budget) is sound none b = (s, refl)
+changes_exist s (SolveRepair tabu budget) is sound none b = (s, refl)
 changes_exist s (Guide number) is sound none b = (record s { guide = Some number }, refl)
 changes_exist s GuideNone is sound none b = (record s { guide = None }, refl)
 changes_exist s (Order number) is sound none b = (record s { order = Some number }, refl)
@@ -509,6 +513,7 @@ changes_once s m n Pause is h k = h ∙ sym k
 changes_once s m n Resume is h k = h ∙ sym k
 changes_once s m n (Step count) is h k = h ∙ sym k
 changes_once s m n (SolveDbt budget) is h k = h ∙ sym k
+changes_once s m n (SolveRepair tabu budget) is h k = h ∙ sym k
 changes_once s m n (Guide number) is h k = h ∙ sym k
 changes_once s m n GuideNone is h k = h ∙ sym k
 changes_once s m n (Order number) is h k = h ∙ sym k
@@ -558,6 +563,7 @@ changes_objects s m Pause h = inr (alike s m (record s { paused = true }) h (rec
 changes_objects s m Resume h = inr (alike s m (record s { paused = false }) h (record { guides = refl; orders = refl; guide = refl; order = refl }))
 changes_objects s m (Step count) h = inr (alike s m s h (record { guides = refl; orders = refl; guide = refl; order = refl }))
 changes_objects s m (SolveDbt budget) h = inr (alike s m s h (record { guides = refl; orders = refl; guide = refl; order = refl }))
+changes_objects s m (SolveRepair tabu budget) h = inr (alike s m s h (record { guides = refl; orders = refl; guide = refl; order = refl }))
 changes_objects s m (Guide number) h = inl tt
 changes_objects s m GuideNone h = inl tt
 changes_objects s m (Order number) h = inl tt
@@ -620,19 +626,20 @@ module _ (guides orders : List ℕ) (s m : SessionState) (is : IsWithout guides 
 
 -- ---- which lines are searches
 
-rests_not_searches : (budget : ℕ) → Rests ≡ Searches budget → ⊥
-rests_not_searches budget e = cc
+rests_not_searches : (by : Procedure) → Rests ≡ Searches by → ⊥
+rests_not_searches by e = cc
 
-waits_not_searches : (b : Bool) (budget : ℕ) → (if b then Rests else Filters None) ≡ Searches budget → ⊥
-waits_not_searches true budget e = cc
-waits_not_searches false budget e = cc
+waits_not_searches : (b : Bool) (by : Procedure) → (if b then Rests else Filters None) ≡ Searches by → ⊥
+waits_not_searches true by e = cc
+waits_not_searches false by e = cc
 
-pub searches_by : (m : SessionState) (line : Line) (budget : ℕ) → next m line ≡ Searches budget → line ≡ SolveDbt budget
-searches_by m (Add name shape) budget e = absurd (waits_not_searches m.paused budget e)
-searches_by m (Relax name) budget e = absurd (waits_not_searches m.paused budget e)
-searches_by m (Enforce name) budget e = absurd (waits_not_searches m.paused budget e)
-searches_by m (Retract name) budget e = absurd (waits_not_searches m.paused budget e)
-searches_by m Resume budget e = absurd (waits_not_searches false budget e)
-searches_by m (Step count) budget e = let f : Filters (Some count) ≡ Searches budget = e in cc
-searches_by m (SolveDbt turns) budget e = let f : Searches turns ≡ Searches budget = e in let same : turns ≡ budget = cc in ap SolveDbt same
-searches_by m _ budget e = absurd (rests_not_searches budget e)
+pub searches_by : (m : SessionState) (line : Line) (by : Procedure) → next m line ≡ Searches by → line ≡ search_line by
+searches_by m (Add name shape) by e = absurd (waits_not_searches m.paused by e)
+searches_by m (Relax name) by e = absurd (waits_not_searches m.paused by e)
+searches_by m (Enforce name) by e = absurd (waits_not_searches m.paused by e)
+searches_by m (Retract name) by e = absurd (waits_not_searches m.paused by e)
+searches_by m Resume by e = absurd (waits_not_searches false by e)
+searches_by m (Step count) by e = let f : Filters (Some count) ≡ Searches by = e in cc
+searches_by m (SolveDbt budget) by e = let f : Searches (ByDbt budget) ≡ Searches by = e in let same : ByDbt budget ≡ by = cc in ap search_line same
+searches_by m (SolveRepair tabu budget) by e = let f : Searches (ByRepair tabu budget) ≡ Searches by = e in let same : ByRepair tabu budget ≡ by = cc in ap search_line same
+searches_by m _ by e = absurd (rests_not_searches by e)

@@ -17,7 +17,9 @@ use Rattle.palm_model.specs.declared.constraint.Term.{Term}
 use Rattle.palm_book.specs.Book.{Entry, name_of}
 use Rattle.palm_read.specs.Limits.{names_of, HasManyRows, IsBeyond}
 use Rattle.palm_read.specs.Count.{line_target_names}
-use Rattle.palm_read.specs.Reading.{IsRead, IsRefusedBy}
+use Rattle.palm_read.specs.Form.{Form, SolveRepairForm}
+use Rattle.palm_read.specs.Reader.Checks.{HasLineInRange}
+use Rattle.palm_read.specs.Reading.{IsRead, IsRefusedBy, a_comment, a_form, line_of}
 use Rattle.palm_book.specs.Named.{named, named_term, named_target}
 use Rattle.palm_read.specs.declared.line.DomainText.TheVariants.{Range, Set}
 use Rattle.palm_read.specs.declared.line.Line.{Line}
@@ -29,6 +31,8 @@ use Rattle.palm_read.specs.declared.line.Shape.{Shape}
 use Rattle.palm_read.specs.declared.line.Shape.TheVariants.{CompareVar, CompareConst, Linear, Table, Element, Count, Differ}
 use Rattle.palm_read.specs.declared.parse.LineError.TheVariants.{Bytes, NoMemory}
 use Rattle.palm_read.proofs.Parsing.{one_reading, read_not_refused, each_answered, long_refused}
+use Rattle.palm_read.proofs.Ranges.{same_form, line_in}
+use Rattle.palm_session.specs.Effects.{HasTabu}
 
 -- ---- what is known
 
@@ -71,6 +75,15 @@ is_quit Quit = inl refl
 is_quit _ = inr (λ e. cc)
 
 -- whether the bytes say `quit`
+-- the tabu length of a line that is read is above 0
+form_tabu : (form : Form) → HasLineInRange (line_of form) → HasTabu (line_of form)
+form_tabu (SolveRepairForm tabu budget) h = h.0
+form_tabu _ h = tt
+
+pub tabu_read : (bytes : List ℕ) (line : Line) → IsRead bytes line → HasTabu line
+tabu_read bytes line (a_comment c) = tt
+tabu_read bytes line (a_form form p f r none once e) = subst HasTabu (sym e) (form_tabu form (subst (λ g. HasLineInRange (line_of g)) (same_form form r) (line_in form r)))
+
 pub quit_known : (bytes : List ℕ) → Known (IsRead bytes Quit)
 quit_known bytes = elim (each_answered bytes) [
   | inl r ↦ known_like (λ e. subst (IsRead bytes) e r.1) (λ q. one_reading bytes r.0 Quit r.1 q) (is_quit r.0)

@@ -19,10 +19,10 @@ use Rattle.palm_engine.specs.Settling.{Revision, FitsOrder}
 use Rattle.palm_engine.proofs.Settled.{settling_filters, settling_valid, settling_still, plainly_exists, plainly_same}
 use Rattle.palm_session.specs.State.{SessionState, IsHeld, IsState, fresh, AreDomains, has_empty, IsContradiction}
 use Rattle.palm_session.specs.Refusals.{IsBuilt, Meets, in_order, IsNone}
-use Rattle.palm_session.specs.Effects.{Effect, Nothing, Settled, Searched, with_engine, with_search, Changes, Next, Rests, Filters, Searches, next, SettlesIn, Follows, Does}
+use Rattle.palm_session.specs.Effects.{Effect, Nothing, Settled, Searched, with_engine, with_search, Changes, Next, Rests, Filters, Procedure, search_line, HasTabu, Searches, next, SettlesIn, Follows, Does}
 use Rattle.palm_search.specs.declared.turn.Turn.{Turn}
 use Rattle.palm_session.proofs.Searching.{search_in, search_once, searched_state}
-use Rattle.palm_session.proofs.LawsOfChanges.{changes_keep, changes_still, changes_limited, changes_exist, changes_once, KeepsObjects, changes_objects, objects_rest, IsOther, IsWithout, kept_without, changes_without}
+use Rattle.palm_session.proofs.LawsOfChanges.{changes_keep, changes_still, changes_limited, changes_exist, changes_once, KeepsObjects, changes_objects, objects_rest, searches_by, IsOther, IsWithout, kept_without, changes_without}
 
 -- ---- a fresh session
 
@@ -82,9 +82,9 @@ follows_keeps m (Filters limit) (Settled count) t is still limited f = subst IsS
   still = λ awake. settled_still m limit count f.0 f.1 (λ l e. limited l (ap Filters e)) awake;
 })
 follows_keeps m (Filters limit) (Searched end) t is still limited f = absurd f
-follows_keeps m (Searches budget) Nothing t is still limited f = absurd f
-follows_keeps m (Searches budget) (Settled count) t is still limited f = absurd f
-follows_keeps m (Searches budget) (Searched end) t is still limited f = subst IsState (sym f.3) (searched_state m budget f.0 end f.1 is f.2)
+follows_keeps m (Searches by) Nothing t is still limited f = absurd f
+follows_keeps m (Searches by) (Settled count) t is still limited f = absurd f
+follows_keeps m (Searches by) (Searched end) t is still limited f = subst IsState (sym f.3) (searched_state m by f.0 end f.1 is f.2)
 
 pub does_keeps : (s : SessionState) (line : Line) (effect : Effect) (t : SessionState) → IsState s → IsSound line → IsNone (Meets s line) in_order → Does s line effect t → IsState t
 does_keeps s line effect t is sound none d =
@@ -97,21 +97,22 @@ fits_any : (b : Bool) (rs : List Revision) → FitsOrder false rs → FitsOrder 
 fits_any false rs fits = fits
 fits_any true rs fits = tt
 
-follows_exist : (m : SessionState) (n : Next) → IsHeld m → (effect : Effect) × (t : SessionState) × Follows m n effect t
-follows_exist m Rests is = (Nothing, m, refl)
-follows_exist m (Filters limit) is =
+follows_exist : (m : SessionState) (n : Next) → IsHeld m → ((by : Procedure) → n ≡ Searches by → HasTabu (search_line by)) → (effect : Effect) × (t : SessionState) × Follows m n effect t
+follows_exist m Rests is some = (Nothing, m, refl)
+follows_exist m (Filters limit) is some =
     let p = plainly_exists limit m.engine is.valid in
     let settles : SettlesIn m limit (length p.revisions) p.state =
     record { revisions = p.revisions; settles = p.settles; fits = fits_any (is_some m.order) p.revisions p.fits; counted = refl } in
     (Settled (length p.revisions), with_engine m p.state, (p.state, settles, refl))
-follows_exist m (Searches budget) is =
-    let p = search_in m is budget in
+follows_exist m (Searches by) is some =
+    let p = search_in m is by (some by refl) in
     (Searched p.end, with_search m p.turns p.engine, (p.turns, p.engine, p.searches, refl))
 
-pub does_exist : (s : SessionState) (line : Line) → IsState s → IsSound line → IsNone (Meets s line) in_order → IsBuilt line → (effect : Effect) × (t : SessionState) × Does s line effect t
-does_exist s line is sound none b =
+pub does_exist : (s : SessionState) (line : Line) → IsState s → IsSound line → HasTabu line → IsNone (Meets s line) in_order → IsBuilt line → (effect : Effect) × (t : SessionState) × Does s line effect t
+does_exist s line is sound tabu none b =
     let c = changes_exist s line is.held sound none b in
-    let f = follows_exist c.0 (next c.0 line) (changes_keep s c.0 line is.held sound none c.1) in
+    let some = λ (by : Procedure) (e : next c.0 line ≡ Searches by). subst HasTabu (searches_by c.0 line by e) tabu in
+    let f = follows_exist c.0 (next c.0 line) (changes_keep s c.0 line is.held sound none c.1) some in
     (f.0, f.1, (c.0, c.1, f.2))
 
 -- ---- and without an order object nothing else
@@ -123,12 +124,12 @@ fits_none m limit count e free settles = subst (λ (o : Option ℕ). FitsOrder (
 abbrev pub IsPlain : SessionState → Next → Type 0
 IsPlain m Rests = Unit {0}
 IsPlain m (Filters limit) = m.order ≡ None
-IsPlain m (Searches budget) = (m.guide ≡ None) × (m.order ≡ None)
+IsPlain m (Searches by) = (m.guide ≡ None) × (m.order ≡ None)
 
 plain_any : (m : SessionState) (n : Next) → m.guide ≡ None → m.order ≡ None → IsPlain m n
 plain_any m Rests unguided free = tt
 plain_any m (Filters limit) unguided free = free
-plain_any m (Searches budget) unguided free = (unguided, free)
+plain_any m (Searches by) unguided free = (unguided, free)
 
 follows_once : (m : SessionState) (n : Next) (e f : Effect) (t u : SessionState) → IsPlain m n → IsHeld m → Follows m n e t → Follows m n f u → (e ≡ f) × (t ≡ u)
 follows_once m Rests Nothing Nothing t u plain is x y = (refl, x ∙ sym y)
@@ -144,12 +145,12 @@ follows_once m (Filters limit) (Settled k) (Settled l) t u plain is x y =
     let same = plainly_same limit m.engine x.1.revisions x.0 y.1.revisions y.0 is.valid (fits_none m limit k x.0 plain x.1) (fits_none m limit l y.0 plain y.1) x.1.settles y.1.settles in
     let count : k ≡ l = sym x.1.counted ∙ ap (λ (rs : List Revision). length rs) same.revisions ∙ y.1.counted in
     (ap Settled count, x.2 ∙ ap (λ (z : EngineState). with_engine m z) same.state ∙ sym y.2)
-follows_once m (Searches budget) Nothing f t u plain is x y = absurd x
-follows_once m (Searches budget) (Settled k) f t u plain is x y = absurd x
-follows_once m (Searches budget) (Searched k) Nothing t u plain is x y = absurd y
-follows_once m (Searches budget) (Searched k) (Settled l) t u plain is x y = absurd y
-follows_once m (Searches budget) (Searched k) (Searched l) t u plain is x y =
-    let same = search_once m budget x.0 y.0 k l x.1 y.1 is plain.0 plain.1 x.2 y.2 in
+follows_once m (Searches by) Nothing f t u plain is x y = absurd x
+follows_once m (Searches by) (Settled k) f t u plain is x y = absurd x
+follows_once m (Searches by) (Searched k) Nothing t u plain is x y = absurd y
+follows_once m (Searches by) (Searched k) (Settled l) t u plain is x y = absurd y
+follows_once m (Searches by) (Searched k) (Searched l) t u plain is x y =
+    let same = search_once m by x.0 y.0 k l x.1 y.1 is plain.0 plain.1 x.2 y.2 in
     (ap Searched same.end_same, x.3 ∙ ap (λ (z : List Turn). with_search m z x.1) same.turns_same ∙ ap (λ (z : EngineState). with_search m y.0 z) same.engine_same ∙ sym y.3)
 
 -- a line that chooses an object has nothing follow it
@@ -176,9 +177,9 @@ follows_objects m Rests (Searched k) t f = absurd f
 follows_objects m (Filters limit) Nothing t f = absurd f
 follows_objects m (Filters limit) (Settled k) t f = subst (KeepsObjects m) (sym f.2) (record { guides = refl; orders = refl; guide = refl; order = refl })
 follows_objects m (Filters limit) (Searched k) t f = absurd f
-follows_objects m (Searches budget) Nothing t f = absurd f
-follows_objects m (Searches budget) (Settled k) t f = absurd f
-follows_objects m (Searches budget) (Searched k) t f = subst (KeepsObjects m) (sym f.3) (record { guides = refl; orders = refl; guide = refl; order = refl })
+follows_objects m (Searches by) Nothing t f = absurd f
+follows_objects m (Searches by) (Settled k) t f = absurd f
+follows_objects m (Searches by) (Searched k) t f = subst (KeepsObjects m) (sym f.3) (record { guides = refl; orders = refl; guide = refl; order = refl })
 
 -- a line that chooses none of these objects leaves none chosen
 pub does_without : (guides orders : List ℕ) (s : SessionState) (line : Line) (effect : Effect) (t : SessionState) → IsNone (Meets s line) in_order → IsOther guides orders line
@@ -204,9 +205,9 @@ follows_book m Rests (Searched k) t f = absurd f
 follows_book m (Filters limit) Nothing t f = absurd f
 follows_book m (Filters limit) (Settled k) t f = ap (λ (z : SessionState). z.book) f.2
 follows_book m (Filters limit) (Searched k) t f = absurd f
-follows_book m (Searches budget) Nothing t f = absurd f
-follows_book m (Searches budget) (Settled k) t f = absurd f
-follows_book m (Searches budget) (Searched k) t f = ap (λ (z : SessionState). z.book) f.3
+follows_book m (Searches by) Nothing t f = absurd f
+follows_book m (Searches by) (Settled k) t f = absurd f
+follows_book m (Searches by) (Searched k) t f = ap (λ (z : SessionState). z.book) f.3
 
 -- ---- the greatest closed domains
 

@@ -17,7 +17,7 @@ use Rattle.palm_book.specs.declared.book.BookCon.{BookCon}
 use Rattle.palm_read.specs.Domain.{values_in}
 use Rattle.palm_read.specs.Sound.{IsSound}
 use Rattle.palm_read.specs.declared.line.Line.{Line}
-use Rattle.palm_read.specs.declared.line.Line.TheVariants.{Comment, Var, Add, Relax, Enforce, Retract, Domains as DomainsLine, Domain, List as ListLine, Log, Why, Conflict, Pause, Resume, Step as StepLine, SolveDbt, Guide, GuideNone, Order, OrderNone, DropGuide, DropOrder, Quit}
+use Rattle.palm_read.specs.declared.line.Line.TheVariants.{Comment, Var, Add, Relax, Enforce, Retract, Domains as DomainsLine, Domain, List as ListLine, Log, Why, Conflict, Pause, Resume, Step as StepLine, SolveDbt, SolveRepair, Guide, GuideNone, Order, OrderNone, DropGuide, DropOrder, Quit}
 use Rattle.palm_read.proofs.SoundLines.{read_sound}
 use Rattle.palm_events.specs.Along.{IsFiltering, IsStill}
 use Rattle.palm_events.proofs.Agreeing.{values_of_more}
@@ -27,7 +27,7 @@ use Rattle.palm_engine.proofs.Settled.{settling_filters}
 use Rattle.palm_session.specs.State.{SessionState, IsHeld, IsState, fresh}
 use Rattle.palm_search.specs.declared.turn.Turn.{Turn}
 use Rattle.palm_session.specs.Refusals.{Meets, in_order, IsNone}
-use Rattle.palm_session.specs.Effects.{SearchEnd, Effect, Nothing, Settled, Searched, Next, Rests, Filters, Searches, next, SettlesIn, SearchesIn, Follows, Does, Changes, WithdrawsActive}
+use Rattle.palm_session.specs.Effects.{SearchEnd, Effect, Nothing, Settled, Searched, Next, Rests, Filters, Procedure, Searches, next, SettlesIn, SearchesIn, Follows, Does, Changes, WithdrawsActive}
 use Rattle.palm_session.specs.Answers.{WaitsFor, Accepts, waits, contradicts, says, Answers, misread, refused, accepted}
 use Rattle.palm_session.specs.Replies.{Run}
 use Rattle.palm_session.proofs.LawsOfAnswers.{answers_keep}
@@ -154,6 +154,7 @@ changes_one s m Pause is sound none h one = subst HasOne (sym h) one
 changes_one s m Resume is sound none h one = subst HasOne (sym h) one
 changes_one s m (StepLine count) is sound none h one = subst HasOne (sym h) one
 changes_one s m (SolveDbt budget) is sound none h one = subst HasOne (sym h) one
+changes_one s m (SolveRepair tabu budget) is sound none h one = subst HasOne (sym h) one
 changes_one s m (Guide number) is sound none h one = subst HasOne (sym h) one
 changes_one s m GuideNone is sound none h one = subst HasOne (sym h) one
 changes_one s m (Order number) is sound none h one = subst HasOne (sym h) one
@@ -168,22 +169,22 @@ settles_one m limit count e h one =
     let filters = settling_filters limit m.engine h.revisions e h.settles in run_one m.engine filters.steps e filters.filtering filters.run one
 
 -- a search leaves the domains
-searches_one : (m : SessionState) (budget : ℕ) (turns : List Turn) (end : SearchEnd) (e : EngineState) → IsHeld m → IsStill m.engine → SearchesIn m budget turns end e → HasOne m → HasOneEmpty e
-searches_one m budget turns end e is still h one x y ex ey =
-    let rests = search_leaves_still m budget turns end e is h in
-    let same : present e ≡ present m.engine = ap (λ (d : Domains). without d (log_pairs e.log)) rests.initial ∙ ap (λ (l : List Removal). without m.engine.initial (log_pairs l)) (search_log m budget turns end e is h still) in
+searches_one : (m : SessionState) (by : Procedure) (turns : List Turn) (end : SearchEnd) (e : EngineState) → IsHeld m → IsStill m.engine → SearchesIn m by turns end e → HasOne m → HasOneEmpty e
+searches_one m by turns end e is still h one x y ex ey =
+    let rests = search_leaves_still m by turns end e is h in
+    let same : present e ≡ present m.engine = ap (λ (d : Domains). without d (log_pairs e.log)) rests.initial ∙ ap (λ (l : List Removal). without m.engine.initial (log_pairs l)) (search_log m by turns end e is h still) in
     one x y (subst (λ (d : Domains). IsEmptyAt d x) same ex) (subst (λ (d : Domains). IsEmptyAt d y) same ey)
 
-follows_one : (m : SessionState) (n : Next) (effect : Effect) (t : SessionState) → IsHeld m → ((budget : ℕ) → n ≡ Searches budget → IsStill m.engine) → Follows m n effect t → HasOne m → HasOne t
+follows_one : (m : SessionState) (n : Next) (effect : Effect) (t : SessionState) → IsHeld m → ((by : Procedure) → n ≡ Searches by → IsStill m.engine) → Follows m n effect t → HasOne m → HasOne t
 follows_one m Rests Nothing t is still f one = subst HasOne (sym f) one
 follows_one m Rests (Settled k) t is still f one = absurd f
 follows_one m Rests (Searched k) t is still f one = absurd f
 follows_one m (Filters limit) Nothing t is still f one = absurd f
 follows_one m (Filters limit) (Settled k) t is still f one = subst HasOne (sym f.2) (settles_one m limit k f.0 f.1 one)
 follows_one m (Filters limit) (Searched k) t is still f one = absurd f
-follows_one m (Searches budget) Nothing t is still f one = absurd f
-follows_one m (Searches budget) (Settled k) t is still f one = absurd f
-follows_one m (Searches budget) (Searched k) t is still f one = subst HasOne (sym f.3) (searches_one m budget f.0 k f.1 is (still budget refl) f.2 one)
+follows_one m (Searches by) Nothing t is still f one = absurd f
+follows_one m (Searches by) (Settled k) t is still f one = absurd f
+follows_one m (Searches by) (Searched k) t is still f one = subst HasOne (sym f.3) (searches_one m by f.0 k f.1 is (still by refl) f.2 one)
 
 does_one : (s : SessionState) (line : Line) (effect : Effect) (t : SessionState) → IsState s → IsSound line → IsNone (Meets s line) in_order → (WaitsFor s line → ⊥) → Does s line effect t → HasOne s → HasOne t
 does_one s line effect t is sound none goes d one =

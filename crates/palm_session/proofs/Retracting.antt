@@ -51,9 +51,9 @@ follows_paused m Rests (Searched k) t f = absurd f
 follows_paused m (Filters limit) Nothing t f = absurd f
 follows_paused m (Filters limit) (Settled k) t f = ap (λ (z : SessionState). z.paused) f.2
 follows_paused m (Filters limit) (Searched k) t f = absurd f
-follows_paused m (Searches budget) Nothing t f = absurd f
-follows_paused m (Searches budget) (Settled k) t f = absurd f
-follows_paused m (Searches budget) (Searched k) t f = ap (λ (z : SessionState). z.paused) f.3
+follows_paused m (Searches by) Nothing t f = absurd f
+follows_paused m (Searches by) (Settled k) t f = absurd f
+follows_paused m (Searches by) (Searched k) t f = ap (λ (z : SessionState). z.paused) f.3
 
 pub paused_as_before : (s m t : SessionState) (name : List ℕ) (shape : Shape) (a b : List ℕ) → Accepts s (Add name shape) a m → Accepts m (Retract name) b t → t.paused ≡ s.paused
 paused_as_before s m t name shape a b adds retracts =

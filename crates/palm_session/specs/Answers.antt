@@ -106,6 +106,7 @@ Says s Pause effect reply = reply ≡ fixed_text Done
 Says s Resume effect reply = reply ≡ fixed_text Done
 Says s (Step count) (Settled revisions) reply = reply ≡ ran_text revisions
 Says s (SolveDbt budget) (Searched end) reply = reply ≡ end_text s.book end
+Says s (SolveRepair tabu budget) (Searched end) reply = reply ≡ end_text s.book end
 Says s (Guide number) effect reply = reply ≡ fixed_text Done
 Says s GuideNone effect reply = reply ≡ fixed_text Done
 Says s (Order number) effect reply = reply ≡ fixed_text Done

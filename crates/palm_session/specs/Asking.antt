@@ -6,7 +6,7 @@ use Rattle.palm_read.specs.Reading.{IsRead}
 use Rattle.palm_read.specs.declared.line.Line.{Line}
 use Rattle.palm_session.specs.State.{SessionState}
 use Rattle.palm_session.specs.Refusals.{Meets, IsNone, in_order}
-use Rattle.palm_session.specs.Effects.{Changes, Filters, Searches, next}
+use Rattle.palm_session.specs.Effects.{Changes, Filters, Procedure, Searches, next}
 use Rattle.palm_session.specs.Answers.{Answers}
 
 -- the line was accepted and filtering followed it, which took out what the log gained
@@ -25,11 +25,11 @@ pub record HasSettling (s : SessionState) (bytes : List ℕ) (t : SessionState) 
 pub record HasSearch (s : SessionState) (bytes : List ℕ) : Type 0 where
   pub line : Line
   pub changed : SessionState
-  pub budget : ℕ
+  pub by : Procedure
   pub read : IsRead bytes line
   pub accepted : IsNone (Meets s line) in_order
   pub changes : Changes s line changed
-  pub searches : next changed line ≡ Searches budget
+  pub searches : next changed line ≡ Searches by
 
 -- answering the line asks for support so often: not at all, or where filtering follows the line, no more than this settling
 -- may ask; of a search nothing is said

@@ -1,20 +1,21 @@
 -- What an accepted line does.
-use Rattle.std.specs.Prelude.{◌≡◌, ℕ, ℤ, ◌+◌, Bool, true, false, List, [], ◌∷◌, ◌++◌, length, Option, Some, None, is_some, slice_get, remove, if◌then◌else◌}
+use Rattle.std.specs.Prelude.{◌≡◌, ℕ, ℤ, ◌+◌, ◌<◌, ⊤, Bool, true, false, List, [], ◌∷◌, ◌++◌, length, Option, Some, None, is_some, slice_get, remove, if◌then◌else◌}
 use Rattle.palm_base.specs.declared.terms.Cid.{Cid}
 use Rattle.palm_base.specs.declared.terms.Cid.TheVariants.{User}
 use Rattle.palm_model.specs.State.{EngineState}
 use Rattle.palm_model.specs.Event.{Posts, Withdraws, Declares}
 use Rattle.palm_model.specs.declared.constraint.Con.{Con}
 use Rattle.palm_engine.specs.Settling.{Revision, Settles, FitsOrder}
-use Rattle.palm_search.specs.Search.{SearchEnd as DbtEnd, Searches as SearchesWhole}
-use Rattle.palm_search.specs.Search.SearchEnd.{Found as DbtFound, NoSolution as DbtNoSolution, Spent as DbtSpent}
+use Rattle.palm_search.specs.Search.{SearchEnd as RunEnd, Searches as SearchesWhole}
+use Rattle.palm_search.specs.Search.SearchEnd.{Found as RunFound, NoSolution as RunNoSolution, Spent as RunSpent}
 use Rattle.palm_search.specs.declared.turn.Turn.{Turn}
+use Rattle.palm_repair.specs.Repair.{Repairs}
 use Rattle.palm_book.specs.Book.{with_active, user_at}
 use Rattle.palm_book.specs.Named.{Resolves}
 use Rattle.palm_book.specs.declared.book.BookCon.{BookCon}
 use Rattle.palm_read.specs.Domain.{values_in}
 use Rattle.palm_read.specs.declared.line.Line.{Line}
-use Rattle.palm_read.specs.declared.line.Line.TheVariants.{Comment, Var, Add, Relax, Enforce, Retract, Domains as DomainsLine, Domain, List as ListLine, Log, Why, Conflict, Pause, Resume, Step, SolveDbt, Guide, GuideNone, Order, OrderNone, DropGuide, DropOrder, Quit}
+use Rattle.palm_read.specs.declared.line.Line.TheVariants.{Comment, Var, Add, Relax, Enforce, Retract, Domains as DomainsLine, Domain, List as ListLine, Log, Why, Conflict, Pause, Resume, Step, SolveDbt, SolveRepair, Guide, GuideNone, Order, OrderNone, DropGuide, DropOrder, Quit}
 use Rattle.palm_session.specs.Objects.{without_number, chosen_without}
 use Rattle.palm_session.specs.State.{SessionState}
 
@@ -25,17 +26,39 @@ pub data SearchEnd : Type 0 where
   NoSolution : (users : List Cid) → SearchEnd
   Spent : (turns : ℕ) (dropped : Option ℕ) → SearchEnd
 
--- the end of a search by mac-dbt, which drops no nogoods
-abbrev pub dbt_end : DbtEnd → SearchEnd
-dbt_end (DbtFound values) = Found values
-dbt_end (DbtNoSolution users) = NoSolution users
-dbt_end (DbtSpent turns) = Spent turns None
+-- the end of a run, and how many nogoods it dropped, where that is told
+abbrev pub told_end : Option ℕ → RunEnd → SearchEnd
+told_end dropped (RunFound values) = Found values
+told_end dropped (RunNoSolution users) = NoSolution users
+told_end dropped (RunSpent turns) = Spent turns dropped
 
 -- what happened at a line, beside what is held after it
 pub data Effect : Type 0 where
   Nothing : Effect
   Settled : (revisions : ℕ) → Effect
   Searched : (end : SearchEnd) → Effect
+
+-- ---- searches
+
+-- how a line searches: by mac-dbt within a budget, or by decision-repair with a tabu length and a budget
+pub data Procedure : Type 0 where
+  ByDbt : (budget : ℕ) → Procedure
+  ByRepair : (tabu budget : ℕ) → Procedure
+
+-- the line that searches so
+abbrev pub search_line : Procedure → Line
+search_line (ByDbt budget) = SolveDbt budget
+search_line (ByRepair tabu budget) = SolveRepair tabu budget
+
+-- how many turns it may take
+abbrev pub budget_of : Procedure → ℕ
+budget_of (ByDbt budget) = budget
+budget_of (ByRepair tabu budget) = budget
+
+-- the tabu length that a line gives is above 0
+abbrev pub HasTabu : Line → Type 0
+HasTabu (SolveRepair tabu budget) = 0 < tabu
+HasTabu _ = ⊤
 
 -- ---- what a line changes
 
@@ -119,6 +142,7 @@ Changes s Pause t = t ≡ record s { paused = true }
 Changes s Resume t = t ≡ record s { paused = false }
 Changes s (Step count) t = t ≡ s
 Changes s (SolveDbt budget) t = t ≡ s
+Changes s (SolveRepair tabu budget) t = t ≡ s
 Changes s (Guide number) t = t ≡ record s { guide = Some number }
 Changes s GuideNone t = t ≡ record s { guide = None }
 Changes s (Order number) t = t ≡ record s { order = Some number }
@@ -130,11 +154,11 @@ Changes s _ t = ⊥
 
 -- ---- what follows
 
--- nothing, filtering as far as it goes or for so many revisions at most, or a search by mac-dbt of so many turns at most
+-- nothing, filtering as far as it goes or for so many revisions at most, or a search
 pub data Next : Type 0 where
   Rests : Next
   Filters : (limit : Option ℕ) → Next
-  Searches : (budget : ℕ) → Next
+  Searches : (by : Procedure) → Next
 
 -- a change is followed by filtering, unless it waits
 abbrev pub unless_paused : SessionState → Next
@@ -148,7 +172,8 @@ next s (Enforce name) = unless_paused s
 next s (Retract name) = unless_paused s
 next s Resume = Filters None
 next s (Step count) = Filters (Some count)
-next s (SolveDbt budget) = Searches budget
+next s (SolveDbt budget) = Searches (ByDbt budget)
+next s (SolveRepair tabu budget) = Searches (ByRepair tabu budget)
 next s _ = Rests
 
 -- the engine settles by the chosen order object, or without one, in so many revisions
@@ -158,16 +183,27 @@ pub record SettlesIn (s : SessionState) (limit : Option ℕ) (count : ℕ) (e : 
   pub fits : FitsOrder (is_some s.order) revisions
   pub counted : length revisions ≡ count
 
--- the engine searches by the chosen guide and order, or without them: it takes these turns, and ends so
-pub record SearchesIn (s : SessionState) (budget : ℕ) (turns : List Turn) (end : SearchEnd) (e : EngineState) : Type 0 where
-  pub ended : DbtEnd
+-- the engine searches by mac-dbt, by the chosen guide and order or without them: it takes these turns, and ends so
+pub record SearchesByDbt (s : SessionState) (budget : ℕ) (turns : List Turn) (end : SearchEnd) (e : EngineState) : Type 0 where
+  pub ended : RunEnd
   pub searches : SearchesWhole (is_some s.guide) (is_some s.order) budget s.engine turns ended e
-  pub told : end ≡ dbt_end ended
+  pub told : end ≡ told_end None ended
+
+-- the same by decision-repair, which tells how many nogoods it dropped
+pub record SearchesByRepair (s : SessionState) (tabu budget : ℕ) (turns : List Turn) (end : SearchEnd) (e : EngineState) : Type 0 where
+  pub ended : RunEnd
+  pub dropped : ℕ
+  pub repairs : Repairs (is_some s.guide) (is_some s.order) tabu budget s.engine turns ended dropped e
+  pub told : end ≡ told_end (Some dropped) ended
+
+abbrev pub SearchesIn : SessionState → Procedure → List Turn → SearchEnd → EngineState → Type 0
+SearchesIn s (ByDbt budget) turns end e = SearchesByDbt s budget turns end e
+SearchesIn s (ByRepair tabu budget) turns end e = SearchesByRepair s tabu budget turns end e
 
 abbrev pub Follows : SessionState → Next → Effect → SessionState → Type 0
 Follows s Rests Nothing t = t ≡ s
 Follows s (Filters limit) (Settled count) t = (e : EngineState) × SettlesIn s limit count e × (t ≡ with_engine s e)
-Follows s (Searches budget) (Searched end) t = (turns : List Turn) × (e : EngineState) × SearchesIn s budget turns end e × (t ≡ with_search s turns e)
+Follows s (Searches by) (Searched end) t = (turns : List Turn) × (e : EngineState) × SearchesIn s by turns end e × (t ≡ with_search s turns e)
 Follows s _ _ t = ⊥
 
 -- what the session holds after an accepted line, and what happened

@@ -1,15 +1,16 @@
 -- What a desk is seen as, and what serving a line that was read does to it.
-use Rattle.std.specs.Prelude.{◌≡◌, ℕ, ◌+◌, ◌-◌, ◌≤◌, min, Bool, true, false, List, ◌++◌, ◌⊎◌, ⊤, Option, None, Some, is_some, slice_get}
+use Rattle.std.specs.Prelude.{◌≡◌, ℕ, ◌+◌, ◌-◌, ◌≤◌, min, Bool, true, false, List, ◌++◌, ◌⊎◌, ⊤, Option, None, Some, slice_get}
 use Rattle.palm_base.specs.declared.limits.TheConstants.{LAST_COUNT}
 use Rattle.palm_model.specs.Log.{Removal, log_pairs}
 use Rattle.palm_model.specs.State.{EngineState}
 use Rattle.palm_engine.specs.Engine.{View}
 use Rattle.palm_engine.specs.Work.{most_questions}
 use Rattle.palm_search.specs.Calls.{SearchView}
-use Rattle.palm_search.specs.Search.{Searches as SearchesWhole}
 use Rattle.palm_search.specs.declared.turn.Turn.{Turn}
-use Rattle.palm_dbt.specs.Answers.{end_of}
 use Rattle.palm_dbt.specs.declared.answer.Answer.{Answer}
+use Rattle.palm_dbt.specs.declared.answer.Answer.TheVariants.{Found as DbtFound, NoSolution as DbtNoSolution, Spent as DbtSpent}
+use Rattle.palm_repair.specs.declared.answer.RepairAnswer.{RepairAnswer}
+use Rattle.palm_repair.specs.declared.answer.RepairAnswer.TheVariants.{Found as RepairFound, NoSolution as RepairNoSolution, Spent as RepairSpent}
 use Rattle.palm_book.specs.Book.{Contents}
 use Rattle.palm_book.specs.declared.book.BookCon.{BookCon}
 use Rattle.palm_read.specs.declared.line.Line.{Line}
@@ -20,7 +21,7 @@ use Rattle.palm_lang.specs.declared.reply.Refusal.{Refusal}
 use Rattle.palm_session.specs.Objects.{ObjectsView}
 use Rattle.palm_session.specs.State.{SessionState, IsContradiction, fresh}
 use Rattle.palm_session.specs.Refusals.{IsFirst, IsNone, Meets, in_order}
-use Rattle.palm_session.specs.Effects.{Effect, Changes, Next, Rests, Filters, Searches, SettlesIn, Follows, next, with_engine, with_search}
+use Rattle.palm_session.specs.Effects.{SearchEnd, Found, NoSolution, Spent, Effect, Changes, Next, Rests, Filters, Procedure, Searches, SettlesIn, SearchesIn, Follows, next, with_engine, with_search}
 use Rattle.palm_session.specs.Answers.{Accepts}
 
 -- what a desk holds, and how often its engine has asked for support
@@ -54,7 +55,7 @@ pub record Spends (before after : DeskView) (was now : ℕ) : Type 0 where
 -- of a search nothing is said
 abbrev pub AsksWithin : EngineState → Next → EngineState → ℕ → Type 0
 AsksWithin s Rests t asked = asked ≡ 0
-AsksWithin s (Searches budget) t asked = ⊤
+AsksWithin s (Searches by) t asked = ⊤
 AsksWithin s (Filters limit) t asked = (gained : List Removal) × (t.log ≡ s.log ++ gained) × (asked ≤ most_questions s (log_pairs gained))
 
 -- serving the line asks for support so often: not at all, or no more than the filtering may that follows it, if it is no
@@ -82,11 +83,23 @@ pub record Followed (s : SessionState) (what : Next) (t : SessionState) (asked :
 
 -- ---- searches
 
--- mac-dbt has run by the chosen guide and order, or without them, and has answered so
-pub record HasSearched (s : SessionState) (budget : ℕ) (answer : Answer) (t : SessionState) : Type 0 where
+-- the end that the answer of mac-dbt tells, which drops no nogoods
+abbrev pub dbt_end : Answer → SearchEnd
+dbt_end (DbtFound values) = Found values
+dbt_end (DbtNoSolution users) = NoSolution users
+dbt_end (DbtSpent turns) = Spent turns None
+
+-- the end that the answer of decision-repair tells
+abbrev pub repair_end : RepairAnswer → SearchEnd
+repair_end (RepairFound values) = Found values
+repair_end (RepairNoSolution users) = NoSolution users
+repair_end (RepairSpent turns dropped) = Spent turns (Some dropped)
+
+-- the search has run by the chosen guide and order, or without them, and has ended so
+pub record HasSearched (s : SessionState) (by : Procedure) (end : SearchEnd) (t : SessionState) : Type 0 where
   pub turns : List Turn
   pub engine : EngineState
-  pub searches : SearchesWhole (is_some s.guide) (is_some s.order) budget s.engine turns (end_of answer) engine
+  pub searches : SearchesIn s by turns end engine
   pub after : t ≡ with_search s turns engine
 
 -- ---- replies

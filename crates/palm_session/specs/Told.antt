@@ -1,5 +1,5 @@
 -- What may be told of explanations and conflicts.
-use Rattle.std.specs.Prelude.{◌≡◌, ℕ, ℤ, ◌<◌, List, length, Contains, None}
+use Rattle.std.specs.Prelude.{◌≡◌, ℕ, ℤ, ◌<◌, ◌⊎◌, List, length, Contains, Option, Some, None}
 use Rattle.palm_base.specs.declared.terms.Cid.{Cid}
 use Rattle.palm_model.specs.Closure.{Explains, IsConflict, IsSolution}
 use Rattle.palm_model.specs.Domains.{Assignment}
@@ -10,8 +10,9 @@ use Rattle.palm_lang.specs.Reply.{fixed_text, found_line, spent_line}
 use Rattle.palm_lang.specs.declared.reply.Fixed.TheVariants.{Contradiction, Paused, Present, Consistent}
 use Rattle.palm_lang.specs.declared.reply.Lead.TheVariants.{Because, Conflict as ConflictLead, NoSolution as NoSolutionLead}
 use Rattle.palm_search.specs.Measure.{most_turns}
+use Rattle.palm_repair.specs.Sets.{most_turns as most_repair_turns}
 use Rattle.palm_session.specs.Answers.{users_text}
-use Rattle.palm_session.specs.Effects.{with_search}
+use Rattle.palm_session.specs.Effects.{Procedure, ByDbt, ByRepair, budget_of, with_search}
 use Rattle.palm_session.specs.State.{SessionState}
 
 -- active constraints of the book, because of which the variable has the value in no closed domains
@@ -37,14 +38,21 @@ pub record AreUnsolvedIn (book : Contents) (names : List Cid) : Type 0 where
   pub active : (c : Cid) → Contains names c → IsActive (active_of book) c
   pub none : (a : Assignment) → IsSolution (initial_of book) (Named (active_of book) (Contains names)) a → ⊥
 
+-- a search may take its whole budget, where that is below what it needs at most; or, in a repair, where nogoods were
+-- dropped
+abbrev pub MaySpend : Contents → Procedure → Option ℕ → Type 0
+MaySpend book (ByDbt budget) None = budget < most_turns (length book.variables) (value_count (initial_of book))
+MaySpend book (ByRepair tabu budget) (Some dropped) = (0 < dropped) ⊎ (budget < most_repair_turns (initial_of book))
+MaySpend book _ _ = ⊥
+
 -- what is told of a search: a word, values that satisfy all active constraints, active constraints without a common
--- solution, or that all turns of the budget were taken, which are fewer than a search needs at most
-pub data ToldSearch (book : Contents) (budget : ℕ) (reply : List ℕ) : Type 0 where
-  search_paused : reply ≡ fixed_text Paused → ToldSearch book budget reply
+-- solution, or that all turns of the budget were taken
+pub data ToldSearch (book : Contents) (by : Procedure) (reply : List ℕ) : Type 0 where
+  search_paused : reply ≡ fixed_text Paused → ToldSearch book by reply
   search_found : (values : List ℤ) → IsSolution (initial_of book) (Contains (cons_of (active_of book))) (listed values)
-      → reply ≡ found_line book.variables values → ToldSearch book budget reply
-  search_none : (names : List Cid) → AreUnsolvedIn book names → reply ≡ users_text book NoSolutionLead names → ToldSearch book budget reply
-  search_spent : budget < most_turns (length book.variables) (value_count (initial_of book)) → reply ≡ spent_line budget None → ToldSearch book budget reply
+      → reply ≡ found_line book.variables values → ToldSearch book by reply
+  search_none : (names : List Cid) → AreUnsolvedIn book names → reply ≡ users_text book NoSolutionLead names → ToldSearch book by reply
+  search_spent : (dropped : Option ℕ) → MaySpend book by dropped → reply ≡ spent_line (budget_of by) dropped → ToldSearch book by reply
 
 -- what is told of conflicts: a word, or a conflict
 pub data ToldConflict (book : Contents) (reply : List ℕ) : Type 0 where

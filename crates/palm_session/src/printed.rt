@@ -3,11 +3,12 @@
 ghost use Rattle.std.specs.Prelude.{◌≡◌, ◌↔◌, ℕ, ℤ, false, List};
 ghost use Rattle.palm_model.specs.Domains.{Domains};
 ghost use Rattle.palm_model.specs.State.{HasEmpty, IsEmptyAt, present};
-ghost use Rattle.palm_read.specs.declared.line.Line.TheVariants.{Add, Retract, Domains as DomainsLine, Why, Conflict, SolveDbt};
+ghost use Rattle.palm_read.specs.declared.line.Line.TheVariants.{Add, Retract, Domains as DomainsLine, Why, Conflict};
 ghost use Rattle.palm_read.specs.declared.line.Shape.{Shape};
 ghost use Rattle.palm_session.specs.State.{SessionState, IsState, fresh, AreDomains, IsContradiction};
 ghost use Rattle.palm_session.specs.Refusals.{Meets, IsNone, in_order};
 ghost use Rattle.palm_session.specs.Answers.{Accepts};
+ghost use Rattle.palm_session.specs.Effects.{Procedure, search_line};
 ghost use Rattle.palm_session.specs.Replies.{Run};
 ghost use Rattle.palm_session.specs.Told.{KeepsAllButJournal, ToldWhy, ToldConflict, ToldSearch};
 
@@ -34,17 +35,18 @@ pub fn kept_conflicts_conflict()
         → IsState s → Accepts s Conflict reply t → ToldConflict s.book reply }
 {}
 
-/// The values that `solve dbt` tells satisfy all active constraints, the constraints that it names are active and have no
-/// common solution, and a budget that it tells as spent is below the bound of a search.
+/// The values that `solve` tells satisfy all active constraints, and the constraints that it names are active and have no
+/// common solution. A budget that it tells as spent is below the bound of the search, or nogoods were dropped, and it tells
+/// how many.
 pub fn searches_tell_the_truth()
-    ensures { (s t : SessionState) (budget : ℕ) (reply : List ℕ)
-        → IsState s → Accepts s (SolveDbt budget) reply t → ToldSearch s.book budget reply }
+    ensures { (s t : SessionState) (by : Procedure) (reply : List ℕ)
+        → IsState s → Accepts s (search_line by) reply t → ToldSearch s.book by reply }
 {}
 
-/// After `solve dbt` the book, the constraints of the engine and its log are those from before.
+/// After `solve` the book, the constraints of the engine and its log are those from before.
 pub fn searches_leave_all_but_the_journal()
-    ensures { (s t : SessionState) (budget : ℕ) (reply : List ℕ)
-        → IsState s → Accepts s (SolveDbt budget) reply t → KeepsAllButJournal s t }
+    ensures { (s t : SessionState) (by : Procedure) (reply : List ℕ)
+        → IsState s → Accepts s (search_line by) reply t → KeepsAllButJournal s t }
 {}
 
 /// From a fresh session on at most one variable has no value, so `conflict` names the constraints of the one conflict that

@@ -47,6 +47,7 @@ fn is_built(line: &Line) -> bool
         | Line::Resume
         | Line::Step(_)
         | Line::SolveDbt { .. }
+        | Line::SolveRepair { .. }
         | Line::Guide(_)
         | Line::GuideNone
         | Line::Order(_)

@@ -3,6 +3,7 @@ ghost use Rattle.std.specs.Prelude.{◌≡◌, ◌-◌, ◌⊎◌, IfOk, OnOk};
 ghost use Rattle.palm_base.specs.Tells.{Tells};
 ghost use Rattle.palm_read.specs.Limits.{IsBeyond};
 ghost use Rattle.palm_read.specs.Sound.{IsSound};
+ghost use Rattle.palm_session.specs.Effects.{HasTabu};
 ghost use Rattle.palm_session.specs.Refusals.{IsBuilt, HasNoRoom, TakesName};
 ghost use Rattle.palm_session.specs.ReplyText.{reply_text, ReplyFits};
 ghost use Rattle.palm_session.specs.Serving.{AsksFor, Serves, Spends};
@@ -20,6 +21,7 @@ impl<G: Guide, O: Order> Desk<G, O> {
     /// Serves a line that was read: refuses it, or takes it.
     pub fn serve<L: Ledger>(&mut self, line: Line, steps: &mut Steps<L>) -> Result<Reply, NoMemory>
         requires sound { IsSound line }
+        requires tabu { HasTabu line }
         requires state { IsState self.old.state }
         ensures serves { IfOk result (λ reply. Serves self.old.state line (reply_text self.new.state reply) self.new.state) }
         ensures asks { OnOk result (AsksFor self.old.state line self.new.state (steps.new - steps.old)) }
@@ -41,6 +43,7 @@ impl<G: Guide, O: Order> Desk<G, O> {
         steps: &mut Steps<L>,
     ) -> Result<Reply, NoMemory>
         requires sound { IsSound line }
+        requires tabu { HasTabu line }
         requires state { IsState self.old.state }
         requires built { IsBuilt line }
         requires free { TakesName self.old.state line → ⊥ }
@@ -67,6 +70,7 @@ impl<G: Guide, O: Order> Desk<G, O> {
             Line::Resume => self.serve_resume(steps),
             Line::Step(count) => self.serve_step(count, steps),
             Line::SolveDbt { budget } => self.serve_solve_dbt(budget, steps),
+            Line::SolveRepair { tabu, budget } => self.serve_solve_repair(tabu, budget, steps),
             Line::Guide(number) => Ok(self.serve_guide(number)),
             Line::GuideNone => Ok(self.serve_guide_none()),
             Line::Order(number) => Ok(self.serve_order(number)),

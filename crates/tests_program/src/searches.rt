@@ -1,4 +1,4 @@
-//! Searches by mac-dbt: what they tell, and what they leave.
+//! Searches by mac-dbt and by decision-repair: what they tell, and what they leave.
 use crate::sessions::{answers_with, are_answered};
 use crate::words::no_orders;
 use palm_base::{NoMemory, Pair, Value, Var};
@@ -54,8 +54,54 @@ fn there_is_no_solution(rt: HostRuntime) -> Result<(), Fail> {
 fn searches_wait_and_are_refused(rt: HostRuntime) -> Result<(), Fail> {
     let sessions: [(&[u8], &str); 1] = [(
         b"pause\nsolve dbt\nsolve dbt budget 0\nresume\nsolve dbt budget 18446744073709551615\n\
-          solve repair tabu 1 budget 50\n",
-        "ok\npaused\nerror E6 number out of range\nok\nfound\nerror E2 no such form\n",
+          solve repair tabu 1 budget 50\npause\nsolve repair tabu 1 budget 50\nsolve repair tabu 0 budget 50\n\
+          solve repair tabu 1025 budget 50\nsolve repair tabu 1 budget 0\nsolve repair tabu 1024\nsolve repair budget 50\n",
+        "ok\npaused\nerror E6 number out of range\nok\nfound\nfound\nok\npaused\nerror E6 number out of range\n\
+         error E6 number out of range\nerror E6 number out of range\nerror E2 no such form\nerror E2 no such form\n",
+    )];
+    assert!(rt; are_answered(rt.alloc(), &sessions)?);
+    Ok(())
+}
+
+#[test]
+fn repairs_find_values(rt: HostRuntime) -> Result<(), Fail> {
+    let sessions: [(&[u8], &str); 1] = [(
+        b"var x 1..3\nvar y 1..3\nadd a : x < y\nsolve repair tabu 7 budget 500\nsolve repair tabu 1 budget 2\n\
+          solve repair tabu 1 budget 1\ndomains\nlog\n",
+        "ok\nok\nok\nfound x=1 y=2\nfound x=1 y=2\nspent 1 dropped 0\nx: 1 2\ny: 2 3\nend\n\
+         x 3 by a\ny 1 by a\nend\n",
+    )];
+    assert!(rt; are_answered(rt.alloc(), &sessions)?);
+    Ok(())
+}
+
+#[test]
+fn repairs_end_without_a_solution(rt: HostRuntime) -> Result<(), Fail> {
+    let sessions: [(&[u8], &str); 2] = [
+        (
+            b"var x 1..2\nvar y 1..2\nvar z 1..2\nadd d : differ x y z\nsolve repair tabu 1 budget 50\n\
+             solve repair tabu 1 budget 1\nsolve repair tabu 1 budget 2\ndomains\n",
+            "ok\nok\nok\nok\nnone d\nspent 1 dropped 0\nnone d\nx: 1 2\ny: 1 2\nz: 1 2\nend\n",
+        ),
+        (
+            b"var x 1..3\nvar y 1..3\nadd a : x < y\nadd b : y < x\nconflict\nlog\nsolve repair tabu 1 budget 1\nlog\n\
+             retract b\ndomains\n",
+            "ok\nok\nok\ncontradiction\nconflict a b\nx 3 by a\ny 1 by a\ny 2 by b from x 3\ny 3 by b\nend\n\
+             none a b\nx 3 by a\ny 1 by a\ny 2 by b from x 3\ny 3 by b\nend\nok\nx: 1 2\ny: 2 3\nend\n",
+        ),
+    ];
+    assert!(rt; are_answered(rt.alloc(), &sessions)?);
+    Ok(())
+}
+
+#[test]
+fn repairs_tell_how_many_nogoods_were_dropped(rt: HostRuntime) -> Result<(), Fail> {
+    let sessions: [(&[u8], &str); 1] = [(
+        b"var x 1..3\nvar y 1..3\nvar z 1..3\nvar w 1..3\nadd d : differ x y z w\nsolve repair tabu 1 budget 6\n\
+          solve repair tabu 2 budget 6\nsolve repair tabu 1024 budget 6\nsolve repair tabu 1 budget 10\n\
+          domain x\nlog\n",
+        "ok\nok\nok\nok\nok\nspent 6 dropped 1\nspent 6 dropped 0\nspent 6 dropped 0\nspent 10 dropped 3\n\
+         x: 1 2 3\nend\n",
     )];
     assert!(rt; are_answered(rt.alloc(), &sessions)?);
     Ok(())
@@ -116,6 +162,16 @@ fn a_guide_picks_decisions(rt: HostRuntime) -> Result<(), Fail> {
     assert!(rt; is_guided(rt.alloc(), 3, one, gone)?);
     assert!(rt; is_guided(rt.alloc(), 2, one, kept)?);
     assert!(rt; is_guided(rt.alloc(), 2, two, "ok\nfound x=1 y=3\nok\nfound x=2 y=3\n")?);
+    Ok(())
+}
+
+#[test]
+fn a_guide_picks_decisions_of_a_repair(rt: HostRuntime) -> Result<(), Fail> {
+    let one = "guide 1\nsolve repair tabu 7 budget 500\nguide none\nsolve repair tabu 7 budget 500\n";
+    let two = "guide 2\nsolve repair tabu 7 budget 500\n";
+    assert!(rt; is_guided(rt.alloc(), 3, one, "ok\nfound x=1 y=2\nok\nfound x=1 y=2\n")?);
+    assert!(rt; is_guided(rt.alloc(), 2, one, "ok\nfound x=2 y=3\nok\nfound x=1 y=2\n")?);
+    assert!(rt; is_guided(rt.alloc(), 2, two, "ok\nfound x=1 y=3\n")?);
     Ok(())
 }
 

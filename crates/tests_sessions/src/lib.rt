@@ -1,7 +1,10 @@
-//! Tests of sessions, over their public calls: pieces that cut lines, and the filters beside the slow way.
+//! Tests of sessions, over their public calls: pieces that cut lines, the journal of the last search, and the filters
+//! beside the slow way.
 #![tactic(auto)]
 
 #[cfg(test)]
 mod agreement;
+#[cfg(test)]
+mod journals;
 #[cfg(test)]
 mod pieces;

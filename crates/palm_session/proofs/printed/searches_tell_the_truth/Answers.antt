@@ -2,4 +2,4 @@ use Rattle.palm_session.proofs.Searched.{told_search}
 use Rattle.palm_session.proofs.printed.searches_tell_the_truth.Goals as goal
 
 pub returns : goal.returns
-returns c = λ s t budget reply is a. told_search s budget is reply t a
+returns c = λ s t by reply is a. told_search s by is reply t a

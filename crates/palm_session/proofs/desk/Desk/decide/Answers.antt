@@ -3,7 +3,11 @@ use Rattle.palm_session.specs.Answers.{Answers}
 use Rattle.palm_session.specs.Feeding.{Decides}
 use Rattle.palm_session.specs.ReplyText.{reply_text, IsRefusal}
 use Rattle.palm_session.proofs.Deciding.{answers_refusal, decides_read, decides_refusal, serves_answers, serves_asks}
+use Rattle.palm_session.proofs.LawsOfLines.{tabu_read}
 use Rattle.palm_session.proofs.desk.Desk.decide.Goals as goal
+
+pub serve-requires-clause-tabu : goal.serve-requires-clause-tabu
+serve-requires-clause-tabu g c = tabu_read c.args.line.now c.in-Ok.line c.in-Ok.ensures.read
 
 pub returns-in_ok-serve-in-Ok-clause-answers : goal.returns-in_ok-serve-in-Ok-clause-answers
 returns-in_ok-serve-in-Ok-clause-answers g c =

@@ -1,40 +1,41 @@
 use Rattle.std.proofs.Common.{◌≡◌, true, false, subst}
 use Rattle.palm_dbt.specs.declared.answer.Answer.TheVariants.{Found, NoSolution, Spent}
-use Rattle.palm_session.specs.Serving.{DeskView}
-use Rattle.palm_session.proofs.Solved.{solve_waits, solve_serves, solve_asks, found_fits, none_fits}
+use Rattle.palm_session.specs.Effects.{ByDbt}
+use Rattle.palm_session.specs.Serving.{DeskView, dbt_end}
+use Rattle.palm_session.proofs.Solved.{search_waits, search_serves, search_asks, found_fits, none_fits}
 use Rattle.palm_session.proofs.desk.Desk.serve_solve_dbt.Goals as goal
 
 pub returns-then-self-clause-serves : goal.returns-then-self-clause-serves
-returns-then-self-clause-serves g c = solve_waits c.args.self.now.state c.args.budget (subst (λ (d : DeskView). d.state.paused ≡ true) c.self.view_is c.if-self.true)
+returns-then-self-clause-serves g c = search_waits c.args.self.now.state (ByDbt c.args.budget) (subst (λ (d : DeskView). d.state.paused ≡ true) c.self.view_is c.if-self.true)
 
 pub returns-in-Found-clause-serves : goal.returns-in-Found-clause-serves
 returns-in-Found-clause-serves g c =
     let awake = subst (λ (d : DeskView). d.state.paused ≡ false) c.self.view_is c.if-self.false in
-    solve_serves c.args.self.now.state c.search_by_dbt.new.self.state c.args.budget (Found c.in-Found.values) awake (rw c.in-Found.is at c.in_ok-values.ensures.searched)
+    search_serves c.args.self.now.state c.search_by_dbt.new.self.state (ByDbt c.args.budget) (dbt_end (Found c.in-Found.values)) awake (rw c.in-Found.is at c.in_ok-values.ensures.searched)
 
 pub returns-in-Found-clause-asks : goal.returns-in-Found-clause-asks
-returns-in-Found-clause-asks g c = solve_asks c.args.self.now.state c.search_by_dbt.new.self.state c.args.budget _
+returns-in-Found-clause-asks g c = search_asks c.args.self.now.state c.search_by_dbt.new.self.state (ByDbt c.args.budget) _
 
 pub returns-in-Found-clause-fits : goal.returns-in-Found-clause-fits
 returns-in-Found-clause-fits g c =
-    found_fits c.args.self.now.state c.search_by_dbt.new.self.state c.args.budget c.in-Found.values c.requires.held (rw c.in-Found.is at c.in_ok-values.ensures.searched)
+    found_fits c.args.self.now.state c.search_by_dbt.new.self.state (ByDbt c.args.budget) c.in-Found.values c.requires.held (rw c.in-Found.is at c.in_ok-values.ensures.searched)
 
 pub returns-in-NoSolution-clause-serves : goal.returns-in-NoSolution-clause-serves
 returns-in-NoSolution-clause-serves g c =
     let awake = subst (λ (d : DeskView). d.state.paused ≡ false) c.self.view_is c.if-self.false in
-    solve_serves c.args.self.now.state c.search_by_dbt.new.self.state c.args.budget (NoSolution c.in-NoSolution.names) awake (rw c.in-NoSolution.is at c.in_ok-values.ensures.searched)
+    search_serves c.args.self.now.state c.search_by_dbt.new.self.state (ByDbt c.args.budget) (dbt_end (NoSolution c.in-NoSolution.names)) awake (rw c.in-NoSolution.is at c.in_ok-values.ensures.searched)
 
 pub returns-in-NoSolution-clause-asks : goal.returns-in-NoSolution-clause-asks
-returns-in-NoSolution-clause-asks g c = solve_asks c.args.self.now.state c.search_by_dbt.new.self.state c.args.budget _
+returns-in-NoSolution-clause-asks g c = search_asks c.args.self.now.state c.search_by_dbt.new.self.state (ByDbt c.args.budget) _
 
 pub returns-in-NoSolution-clause-fits : goal.returns-in-NoSolution-clause-fits
 returns-in-NoSolution-clause-fits g c =
-    none_fits c.args.self.now.state c.search_by_dbt.new.self.state c.args.budget c.in-NoSolution.names c.requires.held (rw c.in-NoSolution.is at c.in_ok-values.ensures.searched)
+    none_fits c.args.self.now.state c.search_by_dbt.new.self.state (ByDbt c.args.budget) c.in-NoSolution.names c.requires.held (rw c.in-NoSolution.is at c.in_ok-values.ensures.searched)
 
 pub returns-in-Spent-clause-serves : goal.returns-in-Spent-clause-serves
 returns-in-Spent-clause-serves g c =
     let awake = subst (λ (d : DeskView). d.state.paused ≡ false) c.self.view_is c.if-self.false in
-    solve_serves c.args.self.now.state c.search_by_dbt.new.self.state c.args.budget (Spent c.in-Spent.turns) awake (rw c.in-Spent.is at c.in_ok-values.ensures.searched)
+    search_serves c.args.self.now.state c.search_by_dbt.new.self.state (ByDbt c.args.budget) (dbt_end (Spent c.in-Spent.turns)) awake (rw c.in-Spent.is at c.in_ok-values.ensures.searched)
 
 pub returns-in-Spent-clause-asks : goal.returns-in-Spent-clause-asks
-returns-in-Spent-clause-asks g c = solve_asks c.args.self.now.state c.search_by_dbt.new.self.state c.args.budget _
+returns-in-Spent-clause-asks g c = search_asks c.args.self.now.state c.search_by_dbt.new.self.state (ByDbt c.args.budget) _
