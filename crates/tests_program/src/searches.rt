@@ -167,7 +167,8 @@ fn a_guide_picks_decisions(rt: HostRuntime) -> Result<(), Fail> {
 
 #[test]
 fn a_guide_picks_decisions_of_a_repair(rt: HostRuntime) -> Result<(), Fail> {
-    let one = "guide 1\nsolve repair tabu 7 budget 500\nguide none\nsolve repair tabu 7 budget 500\n";
+    let one =
+        "guide 1\nsolve repair tabu 7 budget 500\nguide none\nsolve repair tabu 7 budget 500\n";
     let two = "guide 2\nsolve repair tabu 7 budget 500\n";
     assert!(rt; is_guided(rt.alloc(), 3, one, "ok\nfound x=1 y=2\nok\nfound x=1 y=2\n")?);
     assert!(rt; is_guided(rt.alloc(), 2, one, "ok\nfound x=2 y=3\nok\nfound x=1 y=2\n")?);

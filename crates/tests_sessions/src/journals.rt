@@ -118,13 +118,18 @@ fn a_pick_is_recorded_and_tried(rt: HostRuntime) -> Result<(), Fail> {
 
 #[test]
 fn the_journal_is_that_of_the_last_search(rt: HostRuntime) -> Result<(), Fail> {
-    let none = fed(rt.alloc(), Always { value: Value(2) }, b"var x 1..3\nguide 1\n")?;
+    let none = fed(
+        rt.alloc(),
+        Always { value: Value(2) },
+        b"var x 1..3\nguide 1\n",
+    )?;
     assert!(rt; none.journal().is_empty());
     let text = b"var x 1..3\nguide 1\nsolve dbt\nguide none\nsolve dbt\nadd a : x != 1\nlist\n";
     let last = fed(rt.alloc(), Always { value: Value(2) }, text)?;
     assert!(rt; has_decisions(last.journal(), &[pair_of(0, 1)]));
     assert!(rt; has_picks(last.journal(), &[Pick::NoGuide]));
-    let text = b"var x 1..3\nguide 1\nsolve dbt\nguide none\nsolve repair tabu 1 budget 50\npause\nsolve dbt\n";
+    let text =
+        b"var x 1..3\nguide 1\nsolve dbt\nguide none\nsolve repair tabu 1 budget 50\npause\nsolve dbt\n";
     let repair = fed(rt.alloc(), Always { value: Value(2) }, text)?;
     assert!(rt; has_decisions(repair.journal(), &[pair_of(0, 1)]));
     assert!(rt; has_picks(repair.journal(), &[Pick::NoGuide]));
