@@ -5,12 +5,12 @@ ghost use Rattle.palm_model.specs.Constraint.{IsWellFormed};
 ghost use Rattle.palm_model.specs.Domains.{AllAscend};
 ghost use Rattle.palm_model.specs.Log.{cons_of};
 
+use crate::guides::Scripted;
 use palm_agenda::LastOrder;
 use palm_base::{NoMemory, SteadySink, Steps, ValueList, Var};
-use palm_guide::FirstGuide;
 use palm_lang::{Book, Fixed, print_domain, print_fixed};
 use palm_model::{ConList, DomainList, copy_of, scratch};
-use palm_session::{Going, Session, Stop};
+use palm_session::{Session, Stop};
 use std::alloc::Global;
 use std::marker::Brand;
 use std::sync::ledger::{Blank, Ledger};
@@ -75,7 +75,7 @@ fn expected_text(alloc: Global, replies: &[u8], book: &Book) -> Result<Vec<u8>, 
     Ok(text)
 }
 
-/// Whether the text has these replies, and `domains` after it replies what the slow way computes.
+/// Whether the text, which ends in the line `domains`, has these replies and then that which the slow way computes.
 fn agree_counted<L: Ledger>(
     alloc: Global,
     text: &[u8],
@@ -87,18 +87,15 @@ fn agree_counted<L: Ledger>(
     requires shared { 0 < L.parts }
 {
     let mut steps = Steps::<L>::start(blank);
-    let mut session = Session::new(
-        alloc,
-        Vec::<FirstGuide>::new(alloc),
-        Vec::<LastOrder>::new(alloc),
-    )?;
     let mut sink = SteadySink::new(alloc);
     sink.reserve(ROOM)?;
-    if session.feed(text, &mut sink, &mut steps)? == Going::Quit {
-        return Ok(false);
-    }
+    let mut session = Session::new(
+        alloc,
+        Vec::<Scripted>::new(alloc),
+        Vec::<LastOrder>::new(alloc),
+    )?;
+    session.feed(text, &mut sink, &mut steps)?;
     let expected = expected_text(alloc, replies, session.book())?;
-    session.feed(b"domains\n", &mut sink, &mut steps)?;
     Ok(sink.bytes() == expected.as_slice())
 }
 
@@ -110,13 +107,16 @@ fn agree(alloc: Global, text: &str, replies: &str) -> Result<bool, Stop> {
 #[test]
 fn filters_and_the_slow_way_agree_on_comparisons(rt: HostRuntime) -> Result<(), Fail> {
     let sessions = [
-        ("var x 1..3\nvar y 1..3\nadd a : x < y\n", "ok\nok\nok\n"),
         (
-            "var x 1..3\nvar y 1..3\nvar z 1..3\nadd a : x < y\nadd b : y < z\nadd c : z < x\n",
+            "var x 1..3\nvar y 1..3\nadd a : x < y\ndomains\n",
+            "ok\nok\nok\n",
+        ),
+        (
+            "var x 1..3\nvar y 1..3\nvar z 1..3\nadd a : x < y\nadd b : y < z\nadd c : z < x\ndomains\n",
             "ok\nok\nok\nok\nok\ncontradiction\n",
         ),
         (
-            "var x 1..3\nvar y {1,5}\nadd s : sum -2*x + y <= 3\nadd m : x < y\n",
+            "var x 1..3\nvar y {1,5}\nadd s : sum -2*x + y <= 3\nadd m : x < y\ndomains\n",
             "ok\nok\nok\nok\n",
         ),
     ];
@@ -130,15 +130,15 @@ fn filters_and_the_slow_way_agree_on_comparisons(rt: HostRuntime) -> Result<(), 
 fn filters_and_the_slow_way_agree_on_sums(rt: HostRuntime) -> Result<(), Fail> {
     let sessions = [
         (
-            "var u 0..1\nvar v 1..1\nadd h : sum u + v != 1\n",
+            "var u 0..1\nvar v 1..1\nadd h : sum u + v != 1\ndomains\n",
             "ok\nok\nok\n",
         ),
         (
-            "var x 0..5\nvar y 0..5\nadd s : sum 3*x - 2*y = 1\n",
+            "var x 0..5\nvar y 0..5\nadd s : sum 3*x - 2*y = 1\ndomains\n",
             "ok\nok\nok\n",
         ),
         (
-            "var x 999999..1000000\nvar y -1000000..-999999\nadd g : sum 100000*x - 100000*y >= 200000000000\n",
+            "var x 999999..1000000\nvar y -1000000..-999999\nadd g : sum 100000*x - 100000*y >= 200000000000\ndomains\n",
             "ok\nok\nok\n",
         ),
     ];
@@ -152,20 +152,20 @@ fn filters_and_the_slow_way_agree_on_sums(rt: HostRuntime) -> Result<(), Fail> {
 fn filters_and_the_slow_way_agree_on_the_other_kinds(rt: HostRuntime) -> Result<(), Fail> {
     let sessions = [
         (
-            "var x 1..3\nvar y 1..3\nadd t : table x y : (1,2) (2,3) (3,9)\nadd f : x != 1\n",
+            "var x 1..3\nvar y 1..3\nadd t : table x y : (1,2) (2,3) (3,9)\nadd f : x != 1\ndomains\n",
             "ok\nok\nok\nok\n",
         ),
         (
-            "var z {3,5,7}\nvar y 0..4\nadd e : element z y (5,3,5)\nadd f : z != 5\n",
+            "var z {3,5,7}\nvar y 0..4\nadd e : element z y (5,3,5)\nadd f : z != 5\ndomains\n",
             "ok\nok\nok\nok\n",
         ),
         (
             "var a 1..2\nvar b 1..2\nvar c 1..2\nvar n 0..3\nadd p : a = 1\nadd q : c != 1\n\
-             add k : count 1 a b c = n\nadd r : n = 2\n",
+             add k : count 1 a b c = n\nadd r : n = 2\ndomains\n",
             "ok\nok\nok\nok\nok\nok\nok\nok\n",
         ),
         (
-            "var x 1..3\nvar y 1..3\nvar z 1..3\nadd d : differ x y z\nadd e : x = 1\n",
+            "var x 1..3\nvar y 1..3\nvar z 1..3\nadd d : differ x y z\nadd e : x = 1\ndomains\n",
             "ok\nok\nok\nok\nok\n",
         ),
     ];

@@ -5,6 +5,8 @@
 #[cfg(test)]
 mod agreement;
 #[cfg(test)]
+mod guides;
+#[cfg(test)]
 mod journals;
 #[cfg(test)]
 mod pieces;

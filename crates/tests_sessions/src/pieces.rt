@@ -1,9 +1,9 @@
 //! Pieces that cut lines, and a last line without its line feed.
 ghost use Rattle.std.specs.Prelude.{◌≡◌, ◌<◌};
 
+use crate::guides::Scripted;
 use palm_agenda::LastOrder;
 use palm_base::{SteadySink, Steps};
-use palm_guide::FirstGuide;
 use palm_session::{Going, Session, Stop};
 use std::alloc::Global;
 use std::marker::Brand;
@@ -26,7 +26,7 @@ fn is_fed_and_finished<L: Ledger>(
     let mut steps = Steps::<L>::start(blank);
     let mut session = Session::new(
         alloc,
-        Vec::<FirstGuide>::new(alloc),
+        Vec::<Scripted>::new(alloc),
         Vec::<LastOrder>::new(alloc),
     )?;
     if session.feed(b"var x 1..2\r\ndoma", sink, &mut steps)? == Going::Quit {
