@@ -15,7 +15,7 @@ use Rattle.palm_model.specs.Support.{LacksSupport}
 use Rattle.palm_model.proofs.Trials.{support_grows}
 use Rattle.palm_model.proofs.Without.{has_without, pair_of}
 use Rattle.palm_laws.proofs.Solutions.{explained_missing}
-use Rattle.palm_claim.specs.Claim.{HoldsIn, IsExplained, constraints_of}
+use Rattle.palm_claim.specs.Claim.{HoldsIn, IsExplained, IsOver, IsOverItsBook, constraints_of}
 use Rattle.palm_claim.specs.Draft.{Draft, IsPair, IsVariable, Leads, MayStand, at_stage, blank, listed, with_constraint, with_step, with_variable}
 use Rattle.palm_claim.specs.Lines.{lines_of}
 use Rattle.palm_claim.specs.Statement.{IsStepNumber, Says}
@@ -82,6 +82,7 @@ record Keeps (d : Draft) : Type 0 where
   early : IsEarly d.stage → d.proved ≡ []
   explained : (p : Pair) → Contains d.proved p → IsPairExplained d.book p
   claimed : (claim : Claim) → IsClaimAt d.stage claim → IsExplained d.book claim
+  over : (claim : Claim) → IsClaimAt d.stage claim → IsOver d.book claim
 
 early_unclaimed : (stage : Stage) (claim : Claim) → IsEarly stage → IsClaimAt stage claim → ⊥
 early_unclaimed Unopened claim h c = elim c [ inl e ↦ cc | inr e ↦ cc ]
@@ -121,6 +122,7 @@ keeps_early d early none = record {
   early = λ h. none;
   explained = λ p m. absurd (member_nil p (subst (λ ps. Contains ps p) none m));
   claimed = λ claim c. absurd (early_unclaimed d.stage claim early c);
+  over = λ claim c. absurd (early_unclaimed d.stage claim early c);
 }
 
 no_claim : (claim : Claim) → IsClaimAt Proving claim → ⊥
@@ -140,11 +142,12 @@ reached_explained d (Conflict x) keeps reached declared = (
   λ v e inside closed has. keeps.explained (record { var = x; value = v }) (reached v (inside x v has)) e inside closed has,
 )
 
-keeps_claim : (d : Draft) (claim : Claim) → Keeps d → IsExplained d.book claim → Keeps (at_stage d (Claimed claim))
-keeps_claim d claim keeps is = record {
+keeps_claim : (d : Draft) (claim : Claim) → Keeps d → IsExplained d.book claim → IsOver d.book claim → Keeps (at_stage d (Claimed claim))
+keeps_claim d claim keeps is over = record {
   early = λ h. absurd h;
   explained = keeps.explained;
   claimed = λ other c. subst (IsExplained d.book) (same_claim claim other c) is;
+  over = λ other c. subst (IsOver d.book) (same_claim claim other c) over;
 }
 
 keeps_step : (d : Draft) (pair : Pair) → Keeps d → IsPairExplained d.book pair → Keeps (with_step d pair)
@@ -155,6 +158,7 @@ keeps_step d pair keeps is = record {
     | inr e ↦ subst (IsPairExplained d.book) e is
   ];
   claimed = λ claim c. absurd (no_claim claim c);
+  over = λ claim c. absurd (no_claim claim c);
 }
 
 -- explained is what leads to a contradiction, so what is not refuted serves
@@ -180,7 +184,7 @@ keeps_leads d e line (Step name value by reasons) keeps says none leads =
 keeps_leads d e line (ValueClaim name value) keeps says none leads =
     let pair : Pair = leads.0 in
     let is : IsPairExplained d.book pair = by_two d.book pair (Contains d.proved pair) (λ out. none.1.1.1.1.1.0 (pair, leads.1, out)) (keeps.explained pair) in
-    subst Keeps (sym leads.2) (keeps_claim d (Gone pair) keeps is)
+    subst Keeps (sym leads.2) (keeps_claim d (Gone pair) keeps is leads.1.variable.declared)
 keeps_leads d e line (ConflictClaim name) keeps says none leads =
     let x : ℕ = leads.0 in
     let is : IsExplained d.book (Conflict x) = (
@@ -188,13 +192,15 @@ keeps_leads d e line (ConflictClaim name) keeps says none leads =
       λ v. by_two d.book (record { var = x; value = v }) (IsReached d.book d.proved (Conflict x)) (λ out. none.1.1.1.1.1.0 (x, leads.1, out))
           (λ reached g inside closed has. keeps.explained (record { var = x; value = v }) (reached v (inside x v has)) g inside closed has),
     ) in
-    subst Keeps (sym leads.2) (keeps_claim d (Conflict x) keeps is)
+    subst Keeps (sym leads.2) (keeps_claim d (Conflict x) keeps is leads.1.declared)
 keeps_leads d e line End keeps says none leads =
     let is = keeps.claimed leads.0 (inl leads.1) in
+    let over = keeps.over leads.0 (inl leads.1) in
     let ended : Keeps (at_stage d (Closed leads.0)) = record {
       early = λ h. absurd h;
       explained = keeps.explained;
       claimed = λ other c. subst (IsExplained d.book) (closed_claim leads.0 other c) is;
+      over = λ other c. subst (IsOver d.book) (closed_claim leads.0 other c) over;
     } in
     subst Keeps (sym leads.2) ended
 
@@ -211,17 +217,21 @@ ended_claim (Closed c) book n proved e =
     let same : proved ≡ made = cc in
     (ap (λ (p : Proved). Closed p.claim) (sym same), ap (λ (p : Proved). p.book) same)
 
-judged_explained : (lines : List (List ℕ)) (d : Draft) (n : ℕ) (proved : Proved) → Keeps d → Judges d n lines (Accepted proved) → IsExplained proved.book proved.claim
+judged_explained : (lines : List (List ℕ)) (d : Draft) (n : ℕ) (proved : Proved) → Keeps d → Judges d n lines (Accepted proved) → IsExplained proved.book proved.claim × IsOver proved.book proved.claim
 judged_explained [] d n proved keeps j =
     let is = ended_claim d.stage d.book n proved j in
-    subst (λ (b : Contents). IsExplained b proved.claim) (sym is.1) (keeps.claimed proved.claim (inr is.0))
+    subst (λ (b : Contents). IsExplained b proved.claim × IsOver b proved.claim) (sym is.1) (keeps.claimed proved.claim (inr is.0), keeps.over proved.claim (inr is.0))
 judged_explained (line ∷ lines) d n proved keeps j = elim j [
   | inl r ↦ let e : Accepted proved ≡ Refused n r.0 = r.2 in cc
   | inr p ↦ judged_explained lines p.0 (n + 1) proved (keeps_leads d p.0 line p.1.statement keeps p.1.says p.1.none p.1.leads) p.2
 ]
 
 pub accepted_explained : (bytes : List ℕ) (proved : Proved) → IsVerdict bytes (Accepted proved) → IsExplained proved.book proved.claim
-accepted_explained bytes proved is = judged_explained (lines_of bytes) blank 1 proved (keeps_early blank tt refl) is
+accepted_explained bytes proved is = (judged_explained (lines_of bytes) blank 1 proved (keeps_early blank tt refl) is).0
+
+pub verdict_over : (bytes : List ℕ) (verdict : Verdict) → IsVerdict bytes verdict → IsOverItsBook verdict
+verdict_over bytes (Accepted proved) is = (judged_explained (lines_of bytes) blank 1 proved (keeps_early blank tt refl) is).1
+verdict_over bytes (Refused line cause) is = tt
 
 pub accepted_conflict : (bytes : List ℕ) (proved : Proved) (x : ℕ) → IsVerdict bytes (Accepted proved) → proved.claim ≡ Conflict x → IsConflict (initial_of proved.book) (Contains (constraints_of proved.book))
 accepted_conflict bytes proved x is claims =

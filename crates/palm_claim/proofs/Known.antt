@@ -142,8 +142,8 @@ misdeclared_known d End = known_never
 -- a declared name and value are those of a pair
 pub pair_with : (variables : List Entry) (name : List ℕ) (value : ℤ) → IsDeclared variables name value → (pair : Pair) × IsPair variables name value pair
 pair_with variables name value a =
-    let x = variable_with variables name (a.0, a.1, a.2, a.3, a.4) in
-    (record { var = x.0; value = value }, record { variable = record { declared = x.1; named = x.2 }; value = refl })
+    let x = variable_with variables name (a.0, a.1, a.2, a.3, a.4.0) in
+    (record { var = x.0; value = value }, record { variable = record { declared = x.1; named = x.2 }; gives = refl })
 
 -- ---- limits
 
@@ -224,7 +224,7 @@ asked_of_pair variables name value Wrong apart known = elim (declared_pair varia
   where
     declared_pair : (variables : List Entry) (name : List ℕ) (value : ℤ) → Known ((pair : Pair) × IsPair variables name value pair)
     declared_pair variables name value = elim (some_known (λ e. e.name ≡ name) variables (λ e. name_known e.name name)) [
-      | inl a ↦ let x = variable_with variables name a in inl (record { var = x.0; value = value }, record { variable = record { declared = x.1; named = x.2 }; value = refl })
+      | inl a ↦ let x = variable_with variables name a in inl (record { var = x.0; value = value }, record { variable = record { declared = x.1; named = x.2 }; gives = refl })
       | inr none ↦ inr (λ q. none (named_variable variables name q.0.var q.1.variable))
     ]
 

@@ -152,17 +152,13 @@ unfolding next_number token_at front_text and_then when
 no_number = refl
 
 reasons_again : (ks : List ℕ) (tokens : List Lexeme) → All IsStepNumber ks → Begins tokens (reasons_pieces ks) [] → reasons_at tokens ≡ Some (ks, [])
-unfolding reasons_at behind token_at front_text and_then when
+unfolding reasons_at numbers_at behind token_at front_text and_then when choose
 reasons_again [] tokens is b = rw (begins_over b) refl
 reasons_again (k ∷ ks) tokens is b =
     let w = keyword_first b in
     let spelled : Begins w.0 (flat_map number_pieces (k ∷ ks)) [] = subst (λ ps. Begins w.0 ps []) (sym (numbers_same (k ∷ ks))) w.2 in
     let read = many_at_again next_number number_pieces IsStepNumber number_item (k ∷ ks) w.0 [] (recursion_from_All IsStepNumber (k ∷ ks) is) spelled no_number in
-    rw w.1 (numbers_again w.0 (k ∷ ks) refl read)
-  where
-    numbers_again : (rest : List Lexeme) (js : List ℕ) → has_some js ≡ true → many_at next_number rest ≡ Some (js, []) → numbers_at rest ≡ Some (js, [])
-    unfolding numbers_at and_then choose
-    numbers_again rest js some read = rw (read, some) refl
+    rw (w.1, read) refl
 
 -- ---- forms
 

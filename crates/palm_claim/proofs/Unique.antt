@@ -69,7 +69,7 @@ pub pair_is : (variables : List Entry) (name : List ℕ) (value : ℤ) (p q : Pa
 pair_is variables name value p q apart a b =
     let build : ℕ → ℤ → Pair = λ x v. record { var = x; value = v } in
     ap (λ (x : ℕ). build x p.value) (variable_is variables name p.var q.var apart a.variable b.variable)
-    ∙ ap (λ (v : ℤ). build q.var v) (a.value ∙ sym b.value)
+    ∙ ap (λ (v : ℤ). build q.var v) (a.gives ∙ sym b.gives)
 
 -- a new variable's name differs from those before it
 pub apart_more : (variables : List Entry) (name : List ℕ) (values : List ℤ) → Apart variables → (Any (λ e. e.name ≡ name) variables → ⊥) → Apart (variables ++ record { name = name; values = values } ∷ [])

@@ -55,7 +55,7 @@ pub record IsVariable (variables : List Entry) (name : List ℕ) (x : ℕ) : Typ
 -- the pair has the value, and its variable has the name
 pub record IsPair (variables : List Entry) (name : List ℕ) (value : ℤ) (pair : Pair) : Type 0 where
   pub variable : IsVariable variables name pair.var
-  pub value : pair.value ≡ value
+  pub gives : pair.value ≡ value
 
 -- the variable with the name was declared with the value
 abbrev pub IsDeclared : List Entry → List ℕ → ℤ → Type 0

@@ -20,7 +20,7 @@ pub fn beyond(line: &Line) -> bool
 }
 
 /// Whether a domain has more values than a variable may have.
-pub fn is_large(domain: &DomainText) -> bool
+fn is_large(domain: &DomainText) -> bool
     ensures { Tells result (IsLarge domain.now) }
 {
     match domain {
@@ -31,7 +31,7 @@ pub fn is_large(domain: &DomainText) -> bool
 }
 
 /// Whether a constraint has more variables than it may have.
-pub fn has_many_variables(shape: &Shape) -> bool
+fn has_many_variables(shape: &Shape) -> bool
     ensures { Tells result (MOST_SCOPE < length (names_of shape.now)) }
 {
     match shape {
@@ -46,7 +46,7 @@ pub fn has_many_variables(shape: &Shape) -> bool
 }
 
 /// Whether a table has more rows, or a list more entries, than it may have.
-pub fn has_many_rows(shape: &Shape) -> bool
+fn has_many_rows(shape: &Shape) -> bool
     ensures { Tells result (HasManyRows shape.now) }
 {
     match shape {

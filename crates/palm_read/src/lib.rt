@@ -10,12 +10,11 @@ mod reader;
 mod scan;
 mod tokens;
 
-pub use amounts::{beyond, has_many_rows, has_many_variables, is_large};
+pub use amounts::beyond;
 pub use limits::{
     GREATEST_NUMBER, GREATEST_TABU, MOST_LINE_BYTES, MOST_NAME_BYTES, MOST_VALUES, NO_BUDGET,
 };
 pub use line::{DomainText, Line, Name, NameList, NameTarget, NameTerm, NameTermList, Shape};
 pub use parse::{LineError, parse_line};
-pub use reader::cursor::Cursor;
 pub use scan::token;
 pub use tokens::{Token, TokenKind};
