@@ -9,5 +9,6 @@ mod lines;
 mod phrases;
 mod statements;
 mod steps;
+mod words;
 
 pub use check::check;

@@ -1,38 +1,75 @@
 //! What lines say, and where they may stand.
+ghost use Rattle.std.specs.Prelude.{◌≡◌, IfOk, IfSome, option_map};
+ghost use Rattle.palm_base.specs.Tells.{Tells};
+ghost use Rattle.palm_check.specs.Kept.{IsBeyondAlone, SaysOrNot};
+ghost use Rattle.palm_claim.specs.Draft.{IsOpen, MayStand};
+ghost use Rattle.palm_claim.specs.Reader.{of_line};
+ghost use Rattle.palm_read.specs.Reading.{IsRefusedBy};
+ghost use Rattle.palm_read.specs.declared.parse.LineError.TheVariants as LineError;
+
 use crate::phrases::read_phrase;
 use palm_base::NoMemory;
 use palm_claim::{Stage, Statement};
-use palm_read::{Line, LineError, parse_line};
+use palm_read::{Line, LineError, beyond, parse_line};
 use std::alloc::Global;
 
+/// What a line says, and whether it breaks a limit by itself.
+#[derive(Drop)]
+pub struct Reading {
+    pub statement: Statement,
+    pub is_beyond: bool,
+}
+
 /// What the line says, or nothing.
-pub fn read_statement(alloc: Global, bytes: &[u8]) -> Result<Option<Statement>, NoMemory>
+pub fn read_statement(alloc: Global, bytes: &[u8]) -> Result<Option<Reading>, NoMemory>
+    ensures says { IfOk result (SaysOrNot bytes.now) }
+    ensures beyond { IfOk result (λ reading. IfSome reading (λ r. Tells r.is_beyond (IsBeyondAlone r.statement))) }
 {
     match parse_line(alloc, bytes) {
         Ok(line) => Ok(of_line(line)),
-        Err(LineError::Form) => match read_phrase(alloc, bytes) {
-            Ok(statement) => Ok(Some(statement)),
-            Err(LineError::NoMemory) => Err(NoMemory),
-            Err(_) => Ok(None),
-        },
+        Err(LineError::Form) => of_phrase(alloc, bytes),
         Err(LineError::NoMemory) => Err(NoMemory),
         Err(_) => Ok(None),
     }
 }
 
 /// What a line of a session says in a certificate.
-fn of_line(line: Line) -> Option<Statement>
+fn of_line(line: Line) -> Option<Reading>
+    ensures says { option_map (λ r. r.statement) result ≡ of_line line }
+    ensures beyond { IfSome result (λ r. Tells r.is_beyond (IsBeyondAlone r.statement)) }
 {
-    match line {
-        Line::Comment => Some(Statement::Comment),
-        Line::Var { name, domain } => Some(Statement::Variable { name, domain }),
-        Line::Add { name, shape } => Some(Statement::Constraint { name, shape }),
-        _ => None,
+    let is_beyond = beyond(&line);
+    let statement = match line {
+        Line::Comment => Statement::Comment,
+        Line::Var { name, domain } => Statement::Variable { name, domain },
+        Line::Add { name, shape } => Statement::Constraint { name, shape },
+        _ => return None,
+    };
+    Some(Reading {
+        statement,
+        is_beyond,
+    })
+}
+
+/// What a line says that fits no form of a session.
+fn of_phrase(alloc: Global, bytes: &[u8]) -> Result<Option<Reading>, NoMemory>
+    requires { IsRefusedBy bytes.now LineError.Form }
+    ensures says { IfOk result (SaysOrNot bytes.now) }
+    ensures beyond { IfOk result (λ reading. IfSome reading (λ r. Tells r.is_beyond (IsBeyondAlone r.statement))) }
+{
+    match read_phrase(alloc, bytes) {
+        Ok(statement) => Ok(Some(Reading {
+            statement,
+            is_beyond: false,
+        })),
+        Err(LineError::NoMemory) => Err(NoMemory),
+        Err(_) => Ok(None),
     }
 }
 
 /// Whether a line that says this may stand behind the lines so far.
 pub fn may_stand(stage: &Stage, statement: &Statement) -> bool
+    ensures { Tells result (MayStand stage.now statement.now) }
 {
     match statement {
         Statement::Comment => true,
@@ -40,8 +77,15 @@ pub fn may_stand(stage: &Stage, statement: &Statement) -> bool
         Statement::Variable { .. } => matches!(stage, Stage::Declaring),
         Statement::Constraint { .. } => matches!(stage, Stage::Declaring | Stage::Listing),
         Statement::Step { .. } | Statement::ValueClaim { .. } | Statement::ConflictClaim(_) => {
-            matches!(stage, Stage::Declaring | Stage::Listing | Stage::Proving)
+            is_open(stage)
         }
         Statement::End => matches!(stage, Stage::Claimed(_)),
     }
+}
+
+/// Whether the header stands before, and no claim.
+fn is_open(stage: &Stage) -> bool
+    ensures { Tells result (IsOpen stage.now) }
+{
+    matches!(stage, Stage::Declaring | Stage::Listing | Stage::Proving)
 }

@@ -159,7 +159,7 @@ rows_known _ = known_never
 
 beyond_known : (d : Draft) (s : Statement) → Known (IsBeyondLimits d s)
 beyond_known d (Variable name domain) = known_either (large_known domain) (most_known 64 (length d.book.variables))
-beyond_known d (Constraint name shape) = known_either (above_known 16 (length (names_of shape))) (known_either (rows_known shape) (most_known 256 (length d.book.constraints)))
+beyond_known d (Constraint name shape) = known_either (known_either (above_known 16 (length (names_of shape))) (rows_known shape)) (most_known 256 (length d.book.constraints))
 beyond_known d Comment = known_never
 beyond_known d Header = known_never
 beyond_known d (Step name value by reasons) = known_never

@@ -4,9 +4,8 @@ use Rattle.palm_base.specs.declared.terms.Pair.{Pair}
 use Rattle.palm_book.specs.Book.{Contents}
 use Rattle.palm_book.specs.Named.{IsUnknownName}
 use Rattle.palm_book.specs.declared.limits.TheConstants.{MOST_VARIABLES, MOST_CONSTRAINTS}
-use Rattle.palm_model.specs.declared.limits.TheConstants.{MOST_SCOPE}
-use Rattle.palm_read.specs.Domain.{IsLarge}
-use Rattle.palm_read.specs.Limits.{HasManyRows, names_of}
+use Rattle.palm_read.specs.Limits.{IsBeyond, names_of}
+use Rattle.palm_read.specs.declared.line.Line.TheVariants.{Var, Add}
 use Rattle.palm_claim.specs.Draft.{Draft, HasConstraint, HasVariable, IsDeclared, IsPair, IsVariable, Leads, MayStand, blank}
 use Rattle.palm_claim.specs.Lines.{lines_of}
 use Rattle.palm_claim.specs.Statement.{Says}
@@ -32,10 +31,10 @@ IsMisdeclared d (ValueClaim name value) = IsDeclared d.book.variables name value
 IsMisdeclared d (ConflictClaim name) = HasVariable d.book name → ⊥
 IsMisdeclared d _ = ⊥
 
--- a limit is broken, the certificate's own variables and constraints counted
+-- a limit on how many there may be is broken, the certificate's own variables and constraints counted
 abbrev pub IsBeyondLimits : Draft → Statement → Type 0
-IsBeyondLimits d (Variable name domain) = IsLarge domain ⊎ (MOST_VARIABLES ≤ length d.book.variables)
-IsBeyondLimits d (Constraint name shape) = (MOST_SCOPE < length (names_of shape)) ⊎ HasManyRows shape ⊎ (MOST_CONSTRAINTS ≤ length d.book.constraints)
+IsBeyondLimits d (Variable name domain) = IsBeyond (Var name domain) ⊎ (MOST_VARIABLES ≤ length d.book.variables)
+IsBeyondLimits d (Constraint name shape) = IsBeyond (Add name shape) ⊎ (MOST_CONSTRAINTS ≤ length d.book.constraints)
 IsBeyondLimits d _ = ⊥
 
 -- a reason's number is not below the step's own
