@@ -1,9 +1,11 @@
 -- What the checker keeps of a certificate, and what it answers to a line.
 use Rattle.std.specs.Prelude.{◌≡◌, ℕ, ◌≤◌, Option, Some, None, List, map, length, All, ⊤}
-use Rattle.palm_book.specs.Book.{IsBook, initial_of}
-use Rattle.palm_domain.specs.Rows.{IsDeclared}
+use Rattle.palm_base.specs.declared.terms.Pair.{Pair}
+use Rattle.palm_book.specs.Book.{Contents, IsBook, initial_of}
+use Rattle.palm_domain.specs.Rows.{IsDeclared, Row}
 use Rattle.palm_domain.specs.Rows as rows
 use Rattle.palm_kind.specs.Kind.{con_of}
+use Rattle.palm_kind.specs.declared.kind.Kind.{Kind}
 use Rattle.palm_read.specs.Limits.{IsBeyond}
 use Rattle.palm_read.specs.Sound.{IsSound}
 use Rattle.palm_read.specs.declared.line.Line.TheVariants.{Var, Add}
@@ -23,13 +25,16 @@ draft_of c = record { stage = c.stage; book = c.book; proved = c.proved.items }
 
 -- what holds of a checker between lines: its store has all declared values of its book, each constraint has its filter, and
 -- steps have proved declared pairs
-pub record IsKept (c : Checker) : Type 0 where
-  pub book : IsBook c.book
-  pub initial : rows.initial_of c.store ≡ initial_of c.book
-  pub full : IsFull c.store
-  pub kinds : map con_of c.kinds.items ≡ map (λ d. d.con) c.book.constraints
-  pub numbers : All (λ d. d.number ≤ length c.book.constraints) c.book.constraints
-  pub proved : All (λ p. IsDeclared c.store p.var p.value) c.proved.items
+pub record AreKept (book : Contents) (store : List Row) (kinds : List Kind) (proved : List Pair) : Type 0 where
+  pub formed : IsBook book
+  pub initial : rows.initial_of store ≡ initial_of book
+  pub full : IsFull store
+  pub filters : map con_of kinds ≡ map (λ d. d.con) book.constraints
+  pub numbers : All (λ d. d.number ≤ length book.constraints) book.constraints
+  pub declared : All (λ p. IsDeclared store p.var p.value) proved
+
+abbrev pub IsKept : Checker → Type 0
+IsKept c = AreKept c.book c.store c.kinds.items c.proved.items
 
 -- what every statement that a line says keeps to
 abbrev pub IsSoundStatement : Statement → Type 0

@@ -165,6 +165,7 @@ impl Checker {
     {
         self.store.add_variable(values.as_slice())?;
         self.book.add_variable(name, values)?;
+        let _ = self.book.variables();
         Ok(())
     }
 
@@ -216,6 +217,7 @@ impl Checker {
             con,
         })?;
         self.stage = Stage::Listing;
+        let _ = self.book.variables();
         Ok(())
     }
 
@@ -227,9 +229,8 @@ impl Checker {
         ensures none { IfNone result (IsDeclared self.now.book.variables name.now value → ⊥) }
     {
         let var = self.book.variable_named(name)?;
-        let pair = Pair { var, value };
-        if self.store.declared(pair) {
-            Some(pair)
+        if self.store.declared(Pair { var, value }) {
+            Some(Pair { var, value })
         } else {
             None
         }
@@ -332,6 +333,7 @@ impl Checker {
         ensures same { draft_of self.new ≡ draft_of self.old }
         ensures kept { IsKept self.new }
     {
+        let _ = self.store.variables();
         take_out_all(&mut self.store, &self.proved);
         let is_gone = !self.store.contains(*pair);
         put_back_all(&mut self.store, &self.proved);
@@ -346,6 +348,7 @@ impl Checker {
         ensures same { draft_of self.new ≡ draft_of self.old }
         ensures kept { IsKept self.new }
     {
+        let _ = self.store.variables();
         take_out_all(&mut self.store, &self.proved);
         let is_empty = self.store.count(var) == 0;
         put_back_all(&mut self.store, &self.proved);

@@ -2,13 +2,13 @@
 //! own; it knows no log, no agenda, no engine and no search.
 #![tactic(auto)]
 
-mod check;
 mod checker;
 mod domains;
 mod lines;
 mod phrases;
 mod statements;
 mod steps;
+mod verdict;
 mod words;
 
-pub use check::check;
+pub use verdict::check;

@@ -4,6 +4,7 @@ ghost use Rattle.palm_base.specs.Tells.{Tells};
 ghost use Rattle.palm_check.specs.Kept.{IsBeyondAlone, SaysOrNot};
 ghost use Rattle.palm_claim.specs.Draft.{IsOpen, MayStand};
 ghost use Rattle.palm_claim.specs.Reader.{of_line};
+ghost use Rattle.palm_read.specs.Limits.{IsBeyond};
 ghost use Rattle.palm_read.specs.Reading.{IsRefusedBy};
 ghost use Rattle.palm_read.specs.declared.parse.LineError.TheVariants as LineError;
 
@@ -27,9 +28,22 @@ pub fn read_statement(alloc: Global, bytes: &[u8]) -> Result<Option<Reading>, No
 {
     match parse_line(alloc, bytes) {
         Ok(line) => Ok(of_line(line)),
-        Err(LineError::Form) => of_phrase(alloc, bytes),
-        Err(LineError::NoMemory) => Err(NoMemory),
-        Err(_) => Ok(None),
+        Err(error) => of_refused(alloc, bytes, error),
+    }
+}
+
+/// What a line says that is refused in a session.
+fn of_refused(alloc: Global, bytes: &[u8], error: LineError) -> Result<Option<Reading>, NoMemory>
+    requires { IsRefusedBy bytes.now error }
+    ensures says { IfOk result (SaysOrNot bytes.now) }
+    ensures beyond { IfOk result (λ reading. IfSome reading (λ r. Tells r.is_beyond (IsBeyondAlone r.statement))) }
+{
+    if error == LineError::Form {
+        of_phrase(alloc, bytes)
+    } else if error == LineError::NoMemory {
+        Err(NoMemory)
+    } else {
+        Ok(None)
     }
 }
 
@@ -39,16 +53,24 @@ fn of_line(line: Line) -> Option<Reading>
     ensures beyond { IfSome result (λ r. Tells r.is_beyond (IsBeyondAlone r.statement)) }
 {
     let is_beyond = beyond(&line);
-    let statement = match line {
-        Line::Comment => Statement::Comment,
-        Line::Var { name, domain } => Statement::Variable { name, domain },
-        Line::Add { name, shape } => Statement::Constraint { name, shape },
-        _ => return None,
-    };
+    let statement = statement_of(line)?;
     Some(Reading {
         statement,
         is_beyond,
     })
+}
+
+fn statement_of(line: Line) -> Option<Statement>
+    ensures says { result ≡ of_line line }
+    ensures alone { IfSome result (λ s. IsBeyondAlone s → IsBeyond line) }
+    ensures whole { IfSome result (λ s. IsBeyond line → IsBeyondAlone s) }
+{
+    match line {
+        Line::Comment => Some(Statement::Comment),
+        Line::Var { name, domain } => Some(Statement::Variable { name, domain }),
+        Line::Add { name, shape } => Some(Statement::Constraint { name, shape }),
+        _ => None,
+    }
 }
 
 /// What a line says that fits no form of a session.
@@ -62,8 +84,8 @@ fn of_phrase(alloc: Global, bytes: &[u8]) -> Result<Option<Reading>, NoMemory>
             statement,
             is_beyond: false,
         })),
-        Err(LineError::NoMemory) => Err(NoMemory),
-        Err(_) => Ok(None),
+        Err(LineError::Form) => Ok(None),
+        Err(_) => Err(NoMemory),
     }
 }
 

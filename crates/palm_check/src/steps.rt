@@ -106,6 +106,7 @@ pub fn lacks_support_without(
     ensures initial { initial_of store.new ≡ initial_of store.old }
     ensures full { IsFull store.new }
 {
+    let _ = store.variables();
     take_out_all(store, reasons);
     let lacks = lacks_support(store, filter, pair);
     put_back_all(store, reasons);
