@@ -47,7 +47,7 @@ pair_declared book name value pair is has =
     let x : ℕ = pair.var in
     let none : Entry = record { name = []; values = [] } in
     let e : Entry = get_or book.variables x none in
-    let values : values_of (initial_of book) x ≡ e.values = get_or-map (λ (f : Entry). f.values) book.variables x none in (
+    let values : values_of (initial_of book) x ≡ e.values = get_or-map (λ (f : Entry). f.values) book.variables x none [] is.variable.declared in (
       x,
       e,
       is.variable.declared,
@@ -61,8 +61,14 @@ undeclared book name value x apart is absent a =
     let none : Entry = record { name = []; values = [] } in
     let read : get_or book.variables a.0 none ≡ a.1 = get_or_default book.variables a.0 none a.1 a.2 ∙ a.3 in
     let same : x ≡ a.0 = variable_is book.variables name x a.0 apart is (record { declared = a.2; named = ap (λ (e : Entry). e.name) read ∙ a.4.0 }) in
-    let values : values_of (initial_of book) a.0 ≡ a.1.values = get_or-map (λ (f : Entry). f.values) book.variables a.0 none ∙ ap (λ (e : Entry). e.values) read in
+    let values : values_of (initial_of book) a.0 ≡ a.1.values = get_or-map (λ (f : Entry). f.values) book.variables a.0 none [] a.2 ∙ ap (λ (e : Entry). e.values) read in
     absent (subst (λ (y : ℕ). Has (initial_of book) y value) (sym same) (subst (λ (vs : List ℤ). Contains vs value) (sym values) a.4.1))
+
+-- a variable that has the name is one that has it
+pub variable_known : (variables : List Entry) (name : List ℕ) (x : ℕ) → IsVariable variables name x → Any (λ e. e.name ≡ name) variables
+variable_known variables name x is =
+    let none : Entry = record { name = []; values = [] } in
+    (x, get_or variables x none, is.declared, get_or_default variables x (get_or variables x none) none is.declared, is.named)
 
 pub constraint_known : (cs : List BookCon) (place : ℕ) (by : List ℕ) (c : BookCon) → slice_get cs place ≡ Some c → c.name ≡ by → Any (λ d. d.name ≡ by) cs
 constraint_known cs place by c at named = any_member (λ (d : BookCon). d.name ≡ by) cs c (member_get cs place c at) named

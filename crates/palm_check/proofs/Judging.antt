@@ -1,6 +1,7 @@
 -- The verdict on a text, line by line.
-use Rattle.std.proofs.Common.{◌≡◌, ℕ, ◌+◌, ◌<◌, ◌≤◌, Option, Some, None, List, [], ◌∷◌, length, map, drop, inl, inr, refl, sym, ap, ◌∙◌, subst, arith}
+use Rattle.std.proofs.Common.{◌≡◌, ℕ, ◌+◌, ◌<◌, ◌≤◌, Option, Some, None, Result, Ok, Err, IfOk, List, [], ◌∷◌, length, map, drop, inl, inr, refl, sym, ap, ◌∙◌, subst, arith}
 use Rattle.std.specs.List.{slice_range}
+use Rattle.palm_base.specs.declared.errors.NoMemory.{NoMemory}
 use Rattle.palm_claim.specs.Draft.{Draft, blank}
 use Rattle.palm_claim.specs.Lines.{cut, lines_of, without_return}
 use Rattle.palm_claim.specs.Statement.{Says}
@@ -59,3 +60,7 @@ judged_over text c line from verdict judging none is =
 pub takes_heard : (d e : Draft) (line : List ℕ) (s : Statement) (o : Option Cause) → Says line s → Hears d s o e → Takes d line o e
 takes_heard d e line s None says h = record { statement = s; says = says; none = h.0; leads = h.1 }
 takes_heard d e line s (Some cause) says h = inr (s, says, h)
+
+pub takes_all : (d e : Draft) (line : List ℕ) (s : Statement) (r : Result (Option Cause) NoMemory) → Says line s → IfOk r (λ o. Hears d s o e) → IfOk r (λ o. Takes d line o e)
+takes_all d e line s (Ok o) says h = takes_heard d e line s o says h
+takes_all d e line s (Err n) says h = tt

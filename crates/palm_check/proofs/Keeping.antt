@@ -1,5 +1,5 @@
 -- What the checker keeps stays so: a variable, a constraint and a step more, and pairs that are taken out and put back.
-use Rattle.std.proofs.Common.{◌≡◌, ◌≢◌, ℕ, zero, suc, ℤ, ◌+◌, ◌<◌, ◌≤◌, Some, List, [], ◌∷◌, ◌++◌, length, map, get_or, slice_get, option_map, All, Any, AllPairs, Contains, inl, inr, refl, sym, ap, ◌∙◌, subst, arith, length-append}
+use Rattle.std.proofs.Common.{◌≡◌, ◌≢◌, ℕ, zero, suc, ℤ, ◌+◌, ◌<◌, ◌≤◌, true, Some, List, [], ◌∷◌, ◌++◌, length, map, get_or, slice_get, option_map, All, Any, AllPairs, Contains, inl, inr, refl, sym, ap, ◌∙◌, subst, arith, length-append}
 use Rattle.std.proofs.lemmas.List.{get_or_default, length-map, map_push}
 use Rattle.std.proofs.lemmas.List.Elements.{All-contains, All-push, All-weaker}
 use Rattle.std.proofs.lemmas.Option.{same_Some, slice_get-map, slice_get_read}
@@ -16,7 +16,8 @@ use Rattle.palm_kind.specs.declared.kind.Kind.{Kind}
 use Rattle.palm_model.specs.Constraint.{IsWellFormed}
 use Rattle.palm_model.specs.Domains.{Has}
 use Rattle.palm_model.specs.declared.constraint.Con.{Con}
-use Rattle.palm_claim.specs.Draft.{IsVariable, listed}
+use Rattle.palm_claim.specs.Draft.{Draft, listed}
+use Rattle.palm_claim.specs.declared.statement.Stage.TheVariants.{Proving}
 use Rattle.palm_check.specs.Kept.{AreKept}
 use Rattle.palm_check.specs.Store.{IsFull}
 
@@ -137,3 +138,11 @@ pairs_declared P proved reasons all fit = all_members P (pairs_at proved reasons
     let u = member_unmap (pair_at proved) reasons p m in
     let bounds = All-contains (λ k. (1 ≤ k) × (k ≤ length proved)) reasons u.0 fit u.1 in
     subst P u.2 (All-contains P proved (pair_at proved u.0) all (proved_member proved u.0 bounds.0 bounds.1)))
+
+-- the book with one more constraint, behind so many others
+abbrev pub numbered : Contents → ℕ → List ℕ → Con → Contents
+numbered book n name con = record book { constraints = book.constraints ++ record { number = n + 1; name = name; active = true; con = con } ∷ [] }
+
+-- a draft that has had a step
+abbrev pub proving : Contents → List Pair → Draft
+proving book proved = record { stage = Proving; book = book; proved = proved }

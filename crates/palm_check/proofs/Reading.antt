@@ -10,7 +10,7 @@ use Rattle.palm_read.specs.Token.{Lexeme, tokens_of}
 use Rattle.palm_read.specs.Reader.Held.{GivesAll, HoldsAll}
 use Rattle.palm_read.specs.declared.line.Line.{Line}
 use Rattle.palm_read.specs.declared.parse.LineError.{LineError}
-use Rattle.palm_read.specs.declared.parse.LineError.TheVariants.{Form as NoForm}
+use Rattle.palm_read.specs.declared.parse.LineError.TheVariants.{Form as NoForm, NoMemory}
 use Rattle.palm_read.proofs.SoundLines.{read_sound}
 use Rattle.palm_read.specs.declared.line.Line.TheVariants.{Var, Add}
 use Rattle.palm_claim.specs.Reader.{is_step_number, is_value, of_line, phrase_of}
@@ -18,7 +18,8 @@ use Rattle.palm_claim.specs.Statement.{AreInRange, IsSpelled, Says}
 use Rattle.palm_claim.specs.declared.statement.Statement.{Statement}
 use Rattle.palm_claim.specs.declared.statement.Statement.TheVariants.{Comment, Header, Variable, Constraint, Step, ValueClaim, ConflictClaim, End}
 use Rattle.palm_claim.proofs.Phrases.{is_value-value, phrase_is}
-use Rattle.palm_claim.proofs.Saying.{line_says, line_says_nothing, phrase_says}
+use Rattle.palm_claim.proofs.Saying.{line_says, line_says_nothing, phrase_says, refused_says_nothing}
+use Rattle.std.specs.Bool.{⊤}
 use Rattle.palm_check.specs.Kept.{IsBeyondAlone, IsSoundStatement, SaysOrNot}
 use Rattle.palm_check.specs.declared.statements.Reading.{Reading}
 
@@ -29,8 +30,8 @@ line_read bytes line (Some r) read e = line_says bytes line r.statement read (sy
 pub phrase_read : (bytes : List ℕ) (s : Statement) → IsRefusedBy bytes NoForm → HoldsAll (λ t. t) s (phrase_of (tokens_of bytes)) → Says bytes s
 phrase_read bytes s refused h = phrase_says bytes s refused.0 (h.read ∙ ap Some (sym h.is))
 
-pub gives_none : {F X : Type 0} {view : F → X} {reading : Option F} (error : LineError) → error ≡ NoForm → GivesAll view (Err error) reading → reading ≡ None
-gives_none {view = view} {reading = reading} error is g = subst (λ (e : LineError). GivesAll view (Err e) reading) is g
+pub gives_none : {F X : Type 0} (view : F → X) (reading : Option F) (error : LineError) → error ≡ NoForm → GivesAll view (Err error) reading → reading ≡ None
+gives_none view reading error is g = subst (λ (e : LineError). GivesAll view (Err e) reading) is g
 
 spelled_alone : (tokens : List Lexeme) (s : Statement) → IsSpelled tokens s → IsBeyondAlone s → ⊥
 spelled_alone tokens Comment h b = b
@@ -60,3 +61,18 @@ said_sound bytes End h = tt
 pub signed_small : (minus : Bool) (n : ℕ) → is_value (signed minus n) ≡ true → n ≤ 1000000
 signed_small true n e = let is = is_value-value (signed true n) e in omega (arith, ints, is.above)
 signed_small false n e = let is = is_value-value (signed false n) e in omega (arith, ints, is.below)
+
+-- a line that is refused otherwise than for its form says nothing
+abbrev pub IsOther : LineError → Type 0
+IsOther NoForm = ⊥
+IsOther NoMemory = ⊥
+IsOther _ = ⊤
+
+pub other_says_nothing : (bytes : List ℕ) (error known : LineError) → error ≡ known → IsOther known → IsRefusedBy bytes error → (s : Statement) → Says bytes s → ⊥
+other_says_nothing bytes error known is other refused = refused_says_nothing bytes known (subst (IsRefusedBy bytes) is refused) (not_memory known other) (not_form known other)
+  where
+    not_memory : (e : LineError) → IsOther e → e ≡ NoMemory → ⊥
+    not_memory e other same = subst IsOther same other
+
+    not_form : (e : LineError) → IsOther e → e ≡ NoForm → ⊥
+    not_form e other same = subst IsOther same other

@@ -165,7 +165,7 @@ gone_tells start mid pairs p false full declared takes absent = gone_taken start
 
 first_member : (vs : List ℤ) → (length vs ≡ 0 → ⊥) → (v : ℤ) × Contains vs v
 first_member [] some = absurd (some refl)
-first_member (v ∷ vs) some = (v, 0, omega arith, refl)
+first_member (v ∷ vs) some = (v, (0, omega arith, refl))
 
 pub empty_tells : (start mid : List Row) (pairs : List Pair) (x count : ℕ) → IsFull start → ((y : ℕ) (v : ℤ) → IsPresent start y v → IsDeclared start y v) → TakesOut start mid pairs
     → count ≡ length (values_of (present_of mid) x) → Tells (nat_eq count 0) ((v : ℤ) → IsDeclared start x v → Contains pairs (pair_of x v))

@@ -333,7 +333,6 @@ impl Checker {
         ensures same { draft_of self.new ≡ draft_of self.old }
         ensures kept { IsKept self.new }
     {
-        let _ = self.store.variables();
         take_out_all(&mut self.store, &self.proved);
         let is_gone = !self.store.contains(*pair);
         put_back_all(&mut self.store, &self.proved);

@@ -38,12 +38,13 @@ fn of_refused(alloc: Global, bytes: &[u8], error: LineError) -> Result<Option<Re
     ensures says { IfOk result (SaysOrNot bytes.now) }
     ensures beyond { IfOk result (λ reading. IfSome reading (λ r. Tells r.is_beyond (IsBeyondAlone r.statement))) }
 {
-    if error == LineError::Form {
-        of_phrase(alloc, bytes)
-    } else if error == LineError::NoMemory {
-        Err(NoMemory)
-    } else {
-        Ok(None)
+    match error {
+        LineError::Form => of_phrase(alloc, bytes),
+        LineError::NoMemory => Err(NoMemory),
+        LineError::Bytes => Ok(None),
+        LineError::Range => Ok(None),
+        LineError::Empty => Ok(None),
+        LineError::Repeated => Ok(None),
     }
 }
 

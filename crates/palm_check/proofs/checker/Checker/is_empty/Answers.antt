@@ -25,7 +25,7 @@ returns-clause-tells c =
     let store = c.args.self.now.store in
     let takes = subst (TakesOut store c.take_out_all.new.store) c.deref.ensures.value c.take_out_all.ensures in
     subst (λ ds. Tells (nat_eq c.count-is_empty.result 0) ((v : ℤ) → Has ds c.args.var v → Contains c.args.self.now.proved.items (pair_of c.args.var v))) c.requires.kept.initial
-    (empty_tells store c.take_out_all.new.store c.args.self.now.proved.items c.args.var c.count-is_empty.result c.requires.kept.full c.variables.ensures.inside takes c.count-is_empty.ensures)
+    (empty_tells store c.take_out_all.new.store c.args.self.now.proved.items c.args.var c.count-is_empty.result c.requires.kept.full c.variables-is_empty.ensures.inside takes c.count-is_empty.ensures)
 
 pub returns-clause-kept : goal.returns-clause-kept
 returns-clause-kept c =

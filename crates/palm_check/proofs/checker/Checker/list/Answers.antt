@@ -29,4 +29,4 @@ returns-clause-hears c =
     (λ m. elim m [ inl h ↦ c.if-has_constraint.ensures h | inr u ↦ known c.args.self.now.book.variables c.args.shape c.in-Ok.con c.in-Ok.ensures.says u ])
     (λ b. elim b [ inl h ↦ within h | inr h ↦ omega (arith, h, c.if-constraints-ge-MOST_CONSTRAINTS.false, c.constraints.ensures.count) ])
     (λ h. h) (λ h. h) (λ h. h),
-    (c.in-Ok.con, (c.in-Ok.ensures.says, c.in_ok-add_constraint.ensures.ok)))
+    (c.in-Ok.con, c.in-Ok.ensures.says, c.in_ok-add_constraint.ensures.ok))
