@@ -1,19 +1,21 @@
-use Rattle.std.proofs.Common.{◌≡◌, ◌<◌, Some, slice_get, length, sym, ap, ◌∙◌, subst, arith}
-use Rattle.std.proofs.lemmas.Option.{slice_get-get_or}
+use Rattle.std.proofs.Common.{◌≡◌, ◌<◌, ◌∙◌, Some, length, slice_get, sym, subst, arith}
 use Rattle.palm_explain.specs.Explanations.{Explanations, reasons_of}
-use Rattle.palm_explain.proofs.Entries.{reasons_place}
+use Rattle.palm_explain.specs.Graph.{graph_of}
+use Rattle.palm_explain.proofs.Reading.{log_length, read_cause, read_count, read_reason}
+use Rattle.palm_explain.proofs.Writes.{key_there}
 use Rattle.palm_explain.proofs.store.ExplainStore.reason_at.Goals as goal
 
-pub index-requires-2 : goal.index-requires-2
-index-requires-2 c =
-    let within = rw (← c.self.view_is) at c.requires.index in
-    let same = ap length (reasons_place _ c.args.place c.index.result.now c.index.ensures) in
-    omega (arith, within, same, c.index.result.now.reasons.ok.0)
+pub index-cause-requires : goal.index-cause-requires
+index-cause-requires c =
+    let within = rw (← c.self.view_is) at c.requires.place in
+    let long = log_length (graph_of c.self.inside.nodes) c.self.inside.log.items in
+    let lt : c.args.place < length c.self.inside.log.items = omega (arith, within, long) in
+    let count = read_count c.self.inside.nodes c.self.inside.log.items c.args.place c.index.result.now lt c.index.ensures in
+    let below = rw (← c.self.view_is) at c.requires.index in
+    omega (arith, below, count, c.index.result.now.causes.ok.0)
+
+pub index-requires-3 : goal.index-requires-3
+index-requires-3 c = ?
 
 pub returns : goal.returns
-returns c =
-    let within = rw (← c.self.view_is) at c.requires.index in
-    let same = reasons_place _ c.args.place c.index.result.now c.index.ensures in
-    subst (λ (s : Explanations). slice_get (reasons_of s.log c.args.place) c.args.index ≡ Some c.index-2.result.now) c.self.view_is
-    (ap (λ l. slice_get l c.args.index) same ∙ slice_get-get_or c.index.result.now.reasons.items c.args.index c.index-2.result.now (subst (λ l. c.args.index < length l) same within)
-    ∙ ap Some (sym c.index-2.ensures))
+returns c = ?

@@ -1,0 +1,21 @@
+use Rattle.std.proofs.Common.{◌≡◌, ◌∙◌, ◌<◌, Some, length, get_or, slice_get, sym, ap, subst, arith}
+use Rattle.std.proofs.lemmas.Option.{slice_get-get_or}
+use Rattle.palm_explain.proofs.RowKeys.{between_free, between_in, found_in, key_found, key_none}
+use Rattle.palm_explain.proofs.rows.Row.key_of.Goals as goal
+
+pub returns-in-Ok : goal.returns-in-Ok
+returns-in-Ok c =
+    let r = c.args.self.now in
+    let i = c.in-Ok.place in
+    let f = found_in r.values.items c.args.value c.binary_search.result i c.in-Ok.is (rw c.deref.ensures.value at c.binary_search.ensures.bound) (rw c.deref.ensures.value at c.binary_search.ensures.position) in
+    let within = f.0 in
+    let long = c.requires.keys in
+    let lt : i < length r.keys.items = omega (arith, within, long) in
+    sym (key_found r.values.items r.keys.items i c.args.value (get_or r.keys.items i 0) c.requires.ascends f.0 f.1 (slice_get-get_or r.keys.items i 0 lt))
+
+pub returns-in-Err : goal.returns-in-Err
+returns-in-Err c =
+    let r = c.args.self.now in
+    let i = c.in-Err.field-0 in
+    let b = between_in r.values.items c.args.value c.binary_search.result i c.in-Err.is c.requires.ascends (rw c.deref.ensures.value at c.binary_search.ensures.bound) (rw c.deref.ensures.value at c.binary_search.ensures.position) in
+    sym (key_none r.values.items r.keys.items c.args.value (between_free r.values.items c.args.value i b))
