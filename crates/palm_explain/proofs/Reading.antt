@@ -1,18 +1,20 @@
 -- What is read of the log at a place.
-use Rattle.std.proofs.Common.{◌≡◌, ℕ, ◌<◌, List, [], ◌∷◌, length, map, get_or, Some, None, Contains, slice_get, Option, MatchOption, refl, sym, ap, ◌∙◌, subst, arith}
-use Rattle.std.proofs.lemmas.List.{length-map}
+use Rattle.std.proofs.Common.{◌≡◌, ℕ, ◌<◌, Bool, true, false, Result, Ok, Err, OnErr, List, [], ◌∷◌, length, map, get_or, Some, None, Contains, slice_get, Option, MatchOption, refl, sym, ap, ◌∙◌, subst, arith}
+use Rattle.std.proofs.lemmas.List.{get_or_default, length-map}
 use Rattle.std.proofs.lemmas.Option.{slice_get-get_or, get_or_from_slice_get}
 use Rattle.slab.specs.Slab.{Slab, get}
 use Rattle.palm_base.specs.declared.terms.Pair.{Pair}
 use Rattle.palm_base.specs.declared.terms.Cid.{Cid}
-use Rattle.palm_base.proofs.Members.{member_place}
-use Rattle.palm_model.specs.Log.{Removal, log_pairs}
+use Rattle.palm_base.specs.Tells.{Tells}
+use Rattle.palm_base.proofs.Members.{member_here, member_place, member_single}
+use Rattle.palm_model.specs.Log.{IsListOf, NamesOfPair, Removal, log_pairs}
 use Rattle.palm_explain.specs.declared.node.Node.{Node}
 use Rattle.palm_explain.specs.declared.rows.Row.{Row}
-use Rattle.palm_explain.specs.Explanations.{log_bys, reasons_of}
+use Rattle.palm_explain.specs.Explanations.{Explanations, NamesOfSome, log_bys, reasons_of}
 use Rattle.palm_explain.specs.Graph.{AreFound, Graph, IsGraph, IsKept, IsKey, IsPlaced, Link, graph_of, link_of, log_of, pair_at, removal_at, said}
 use Rattle.palm_explain.specs.Rows.{key_at}
 use Rattle.palm_explain.proofs.Graphs.{cause_key, key_member, key_pair, link_same, map_place, member_key, pair_is, pair_key, removal_is, some_same}
+use Rattle.palm_explain.proofs.Naming.{listed_like}
 use Rattle.palm_explain.proofs.Writes.{key_there, node_link}
 
 -- how many removals there are
@@ -87,3 +89,31 @@ other_node s keys rows p k n placed found is at differs m =
     let j = pair_found (graph_of s) keys rows p placed found m in
     let same : j.0 ≡ k = some_same j.0 k (sym j.1 ∙ is) in
     differs (sym (pair_is (graph_of s) k (said n) (ap link_of at)) ∙ ap (pair_at (graph_of s)) (sym same) ∙ j.3)
+
+pub match_none : {X : Type 0} (o : Option X) (A : Type 0) (B : X → Type 0) → o ≡ None → A → MatchOption o A B
+match_none None A B e a = a
+match_none (Some x) A B e a = absurd (none_some (sym e))
+
+pub tells_like : (b : Bool) (P Q : Type 0) → (P → Q) → (Q → P) → Tells b P → Tells b Q
+tells_like true P Q to back t = to t
+tells_like false P Q to back t = λ q. t (back q)
+
+-- one value of a variable is a pair
+pub one_value : (log : List Removal) (p : Pair) (names : List Cid) → IsListOf (NamesOfSome log p.var (p.value ∷ [])) names → IsListOf (NamesOfPair log p) names
+one_value log p names list =
+    listed_like (NamesOfSome log p.var (p.value ∷ [])) (NamesOfPair log p) names
+    (λ c some. subst (λ v. NamesOfPair log (record { var = p.var; value = v }) c) (sym (member_single p.value some.value some.among)) some.names)
+    (λ c one. record { value = p.value; among = member_here p.value []; names = one }) list
+
+-- the log reads the same
+pub view_same : (s t : Slab Node) (keys later vars more : List ℕ) (v : Explanations) → graph_of t ≡ graph_of s → later ≡ keys → more ≡ vars → record { log = log_of (graph_of s) keys; restored = vars } ≡ v
+    → record { log = log_of (graph_of t) later; restored = more } ≡ v
+view_same s t keys later vars more v graph same rest is = (λ i. record { log = log_of (graph i) (same i); restored = rest i }) ∙ is
+
+pub on_err : {T E : Type 0} (r : Result T E) (P : Type 0) → P → OnErr r P
+on_err (Ok x) P p = tt
+on_err (Err e) P p = p
+
+-- a node at a place, however the place is read
+pub node_read : (s : Slab Node) (keys : List ℕ) (place k : ℕ) (n : Node) → place < length keys → k ≡ get_or keys place k → get s k ≡ Some n → get s (get_or keys place 0) ≡ Some n
+node_read s keys place k n lt at found = subst (λ j. get s j ≡ Some n) (at ∙ get_or_default keys place k 0 lt) found

@@ -118,6 +118,18 @@ insert_other [] keys v u (suc i) k long le n = absurd (omega (arith, le))
 insert_other (w ∷ values) [] v u (suc i) k long le n = absurd (omega (arith, long))
 insert_other (w ∷ values) (j ∷ keys) v u (suc i) k long le n = ap (λ r. cond (int_eq w u) (Some j) r) (insert_other values keys v u i k (omega (arith, long)) (omega (arith, le)) n)
 
+pub insert_length : {X : Type 0} (xs : List X) (i : ℕ) (x : X) → i ≤ length xs → length (insert xs i x) ≡ suc (length xs)
+insert_length xs zero x le = refl
+insert_length [] (suc i) x le = absurd (omega (arith, le))
+insert_length (y ∷ xs) (suc i) x le = ap suc (insert_length xs i x (omega (arith, le)))
+
+pub insert_formed : (r : Row) (v : ℤ) (i k : ℕ) → IsFormedRow r → IsBetween r.values.items v i → length (insert r.keys.items i k) ≡ length (insert r.values.items i v)
+insert_formed r v i k formed b =
+    let within = b.within in
+    let long = formed.keys in
+    let le : i ≤ length r.keys.items = omega (arith, within, long) in
+    insert_length r.keys.items i k le ∙ ap suc long ∙ sym (insert_length r.values.items i v within)
+
 -- ---- what the search by halves finds
 
 index_rises : (a b t : ℤ) (o s : Ordering) → a ≤ℤ b → MatchOrdering o (a <ℤ t) (a ≡ t) (t <ℤ a) → MatchOrdering s (b <ℤ t) (b ≡ t) (t <ℤ b) → ordering_index o ≤ ordering_index s

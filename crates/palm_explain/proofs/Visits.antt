@@ -106,3 +106,7 @@ told_by g c k Done false t e = cc
 pub told_not : (g : Graph) (c : Cid) (k : ℕ) (Done : Type 0) (b : Bool) → Tells b (IsBy g c k) → b ≡ false → Tell g c k Done Done
 told_not g c k Done false t e = (λ d. d, λ i. absurd (t i), λ d. inl d)
 told_not g c k Done true t e = cc
+
+pub told_first : (g : Graph) (c : Cid) (k : ℕ) (b : Bool) → Tells b (IsBy g c k) → Tell g c k (false ≡ true) (b ≡ true)
+told_first g c k true t = (λ e. refl, λ i. refl, λ p. inr t)
+told_first g c k false t = (λ e. e, λ i. absurd (t i), λ e. inl e)

@@ -56,9 +56,9 @@ pub(crate) fn rests_on(nodes: &mut Nodes, log: &[usize], key: usize, cid: &Cid) 
     ensures unmarked { HasNoMark nodes.new }
     ensures tells { Tells result (NamesAt (graph_of nodes.old) log.now cid.now key) }
 {
-    let mut place = nodes[key].place + 1;
-    let mut rests = false;
+    let mut place = nodes[key].place;
     set_mark(nodes, key, true);
+    let mut rests = pass_mark(nodes, key, cid);
     while place > 0 {
         place -= 1;
         if pass_mark(nodes, log[place], cid) {

@@ -1,7 +1,11 @@
-use Rattle.std.proofs.Common.{◌≡◌, ◌∙◌, ◌≢◌, ℕ, refl, sym, subst}
-use Rattle.palm_explain.specs.Graph.{HasMarked, HasPassed, IsCause, IsKey, graph_of, marks_of}
+use Rattle.std.proofs.Common.{◌≡◌, ◌∙◌, ◌≢◌, ℕ, true, refl, sym, ap, subst}
+use Rattle.palm_model.specs.Log.{same_cid}
+use Rattle.palm_events.proofs.Names.{cid_same, same_cid_itself}
+use Rattle.palm_explain.specs.Graph.{HasMarked, HasPassed, IsBy, IsCause, IsKey, Link, graph_of, link_of, marks_of, said}
 use Rattle.palm_explain.proofs.Changes.{handed_on}
-use Rattle.palm_explain.proofs.Writes.{key_there}
+use Rattle.palm_explain.proofs.Graphs.{some_same}
+use Rattle.palm_explain.proofs.Marks.{tells_from}
+use Rattle.palm_explain.proofs.Writes.{key_there, same_said}
 use Rattle.palm_explain.proofs.walking.pass_mark.Goals as goal
 
 pub mark_causes-requires-clause-keys : goal.mark_causes-requires-clause-keys
@@ -24,4 +28,12 @@ returns-clause-passed c is =
     record { cleared = h.0; stay = h.1; more = marked.more; only = h.2 }
 
 pub returns-clause-tells : goal.returns-clause-tells
-returns-clause-tells c is = ?
+returns-clause-tells c is =
+    let n = c.index.result.now in
+    let m = c.index-2.result.now in
+    let by : m.by ≡ n.by = (same_said c.args.nodes.now c.mark_causes.new.nodes c.args.key n m (c.mark_causes.ensures.graph ∙ c.set_mark.ensures.graph) c.index.ensures c.index-2.ensures).3 in
+    tells_from c.eq.result (IsBy (graph_of c.args.nodes.now) c.args.cid.now c.args.key)
+    (λ t. (said n, ap link_of c.index.ensures, sym by ∙ cid_same m.by c.args.cid.now (sym c.eq.ensures ∙ t)))
+    (λ b.
+        let e : m.by ≡ c.args.cid.now = by ∙ ap (λ (z : Link). z.by) (some_same (said n) b.0 (sym (ap link_of c.index.ensures) ∙ b.1)) ∙ b.2 in
+        c.eq.ensures ∙ subst (λ z. same_cid m.by z ≡ true) e (same_cid_itself m.by))

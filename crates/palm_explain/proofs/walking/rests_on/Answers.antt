@@ -5,24 +5,44 @@ use Rattle.palm_base.specs.Tells.{Tells}
 use Rattle.palm_base.proofs.Members.{member_get}
 use Rattle.palm_explain.specs.Graph.{AreBefore, HasPassed, IsBy, IsCause, IsKey, NamesAt, graph_of, link_of, marks_of, said}
 use Rattle.palm_explain.proofs.Graphs.{cause_key, member_key}
-use Rattle.palm_explain.proofs.Visits.{none_before, one_before, one_way, told_by, told_names, told_not}
+use Rattle.palm_explain.proofs.Visits.{none_before, one_before, one_way, told_by, told_first, told_names, told_not}
 use Rattle.palm_explain.proofs.Walks.{before_next, cause_differs, way_next}
 use Rattle.palm_explain.proofs.walking.rests_on.Goals as goal
 
-pub overflow_add-place : goal.overflow_add-place
-overflow_add-place c = ?
+pub pass_mark-rests-requires-clause-key : goal.pass_mark-rests-requires-clause-key
+pass_mark-rests-requires-clause-key c = subst (λ g. IsKey g c.args.key) (sym c.set_mark.ensures.graph) c.requires.key
+
+pub pass_mark-rests-requires-clause-keys : goal.pass_mark-rests-requires-clause-keys
+pass_mark-rests-requires-clause-keys c =
+    subst (λ g. (q : ℕ) → IsCause g q c.args.key → IsKey g q) (sym c.set_mark.ensures.graph) (λ q m. cause_key (graph_of c.args.nodes.now) c.args.log.now q c.args.key c.requires.graph m)
+
+pub pass_mark-rests-requires-clause-before : goal.pass_mark-rests-requires-clause-before
+pass_mark-rests-requires-clause-before c =
+    subst (λ g. (q : ℕ) → IsCause g q c.args.key → q ≢ c.args.key) (sym c.set_mark.ensures.graph) (λ q m. cause_differs (graph_of c.args.nodes.now) c.args.log.now q c.args.key c.requires.linked c.requires.graph m)
 
 pub loop-place-init : goal.loop-place-init
 loop-place-init c =
     let g = graph_of c.args.nodes.now in
+    let log = c.args.log.now in
     let n = c.index.result.now in
     let at = ap link_of c.index.ensures in
-    let within = slice_get_within c.args.log.now n.place c.args.key (c.requires.graph.places.logged c.args.key (said n) at) in
-    let new = marks_of c.set_mark.new.nodes in record {
-      graph = c.set_mark.ensures.graph;
+    let key = c.args.key in
+    let here = c.requires.graph.places.logged key (said n) at in
+    let within = slice_get_within log n.place key here in
+    let old = marks_of c.args.nodes.now in
+    let due = marks_of c.set_mark.new.nodes in
+    let new = marks_of c.pass_mark-rests.new.nodes in
+    let same = c.set_mark.ensures.graph in
+    let passed : due key ≡ true → HasPassed g due new key = λ t. subst (λ z. HasPassed z due new key) same (c.pass_mark-rests.ensures.passed t) in
+    let stays : due key ≡ false → new ≡ due = λ e. (c.pass_mark-rests.ensures.stays e).0 in record {
+      graph = c.pass_mark-rests.ensures.graph ∙ same;
       within = omega (arith, within);
-      before = one_before g c.args.log.now (marks_of c.args.nodes.now) new c.args.key c.requires.unmarked c.set_mark.ensures.marked c.set_mark.ensures.others (said n) (n.place + 1) at (omega arith);
-      way = one_way g c.args.log.now (marks_of c.args.nodes.now) new c.args.key c.requires.unmarked c.set_mark.ensures.marked c.set_mark.ensures.others c.args.cid.now (false ≡ true) (λ e. false≢true e);
+      before = before_next g log c.requires.linked c.requires.graph n.place key here due new passed stays
+          (one_before g log old due key c.requires.unmarked c.set_mark.ensures.marked c.set_mark.ensures.others (said n) (n.place + 1) at (omega arith));
+      way = way_next g log c.requires.linked c.requires.graph n.place key here due new passed stays c.args.cid.now (NamesAt g log c.args.cid.now key) (false ≡ true) (c.pass_mark-rests.result ≡ true)
+          (λ t. told_first g c.args.cid.now key c.pass_mark-rests.result (subst (λ z. Tells c.pass_mark-rests.result (IsBy z c.args.cid.now key)) same (c.pass_mark-rests.ensures.tells t)))
+          (λ e. absurd (false≢true (sym e ∙ c.set_mark.ensures.marked)))
+          (one_way g log old due key c.requires.unmarked c.set_mark.ensures.marked c.set_mark.ensures.others c.args.cid.now (false ≡ true) (λ e. false≢true e));
     }
 
 pub pass_mark-requires-clause-key : goal.pass_mark-requires-clause-key

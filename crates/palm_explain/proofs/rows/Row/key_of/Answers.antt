@@ -11,7 +11,7 @@ returns-in-Ok c =
     let within = f.0 in
     let long = c.requires.keys in
     let lt : i < length r.keys.items = omega (arith, within, long) in
-    sym (key_found r.values.items r.keys.items i c.args.value (get_or r.keys.items i 0) c.requires.ascends f.0 f.1 (slice_get-get_or r.keys.items i 0 lt))
+    sym (key_found r.values.items r.keys.items i c.args.value c.index.result.now c.requires.ascends f.0 f.1 (slice_get-get_or r.keys.items i c.index.result.now lt ∙ ap Some (sym c.index.ensures)))
 
 pub returns-in-Err : goal.returns-in-Err
 returns-in-Err c =
