@@ -1,6 +1,7 @@
 //! The nodes of the graph: what is kept of each removal.
 ghost use Rattle.std.specs.Prelude.{◌≡◌, ◌≢◌, ℕ, false, [], ◌∷◌, OnOk};
 ghost use Rattle.slab.specs.Slab.{get};
+ghost use Rattle.palm_model.specs.Log.{same_cid};
 ghost use Rattle.palm_explain.specs.Graph.{HasForgotten, HasLinked, IsKey, IsMoved, IsReadyAt, KeepsRoom, graph_of, marks_of};
 
 use palm_base::{Cid, NoMemory, Pair};
@@ -24,6 +25,13 @@ pub(crate) struct Node {
 
 /// The nodes under their keys.
 pub(crate) type Nodes = Slab<Node>;
+
+/// Whether the constraint made the removal.
+pub(crate) fn is_by(node: &Node, cid: &Cid) -> bool
+    ensures { result ≡ same_cid node.now.by cid.now }
+{
+    node.by == *cid
+}
 
 /// Sets the mark of a removal, or clears it.
 pub(crate) fn set_mark(nodes: &mut Nodes, key: usize, mark: bool)

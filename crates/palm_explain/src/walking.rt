@@ -10,7 +10,7 @@ ghost use Rattle.palm_explain.specs.Merging.{IsMerged};
 ghost use Rattle.palm_explain.specs.Rows.{AreFormedRows};
 
 use crate::names::add_name;
-use crate::node::{Nodes, set_mark};
+use crate::node::{Nodes, is_by, set_mark};
 use crate::rows::{Row, key_of};
 use palm_base::{Cid, NoMemory, Pair, Value, Var};
 use std::alloc::{AllocError, Global};
@@ -43,7 +43,7 @@ fn pass_mark(nodes: &mut Nodes, key: usize, cid: &Cid) -> bool
     }
     set_mark(nodes, key, false);
     mark_causes(nodes, key);
-    nodes[key].by == *cid
+    is_by(&nodes[key], cid)
 }
 
 /// Whether the removal rests on the constraint.

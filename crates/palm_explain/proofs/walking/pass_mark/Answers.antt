@@ -32,8 +32,8 @@ returns-clause-tells c is =
     let n = c.index.result.now in
     let m = c.index-2.result.now in
     let by : m.by ≡ n.by = (same_said c.args.nodes.now c.mark_causes.new.nodes c.args.key n m (c.mark_causes.ensures.graph ∙ c.set_mark.ensures.graph) c.index.ensures c.index-2.ensures).3 in
-    tells_from c.eq.result (IsBy (graph_of c.args.nodes.now) c.args.cid.now c.args.key)
-    (λ t. (said n, ap link_of c.index.ensures, sym by ∙ cid_same m.by c.args.cid.now (sym c.eq.ensures ∙ t)))
+    tells_from c.is_by.result (IsBy (graph_of c.args.nodes.now) c.args.cid.now c.args.key)
+    (λ t. (said n, ap link_of c.index.ensures, sym by ∙ cid_same m.by c.args.cid.now (sym c.is_by.ensures ∙ t)))
     (λ b.
         let e : m.by ≡ c.args.cid.now = by ∙ ap (λ (z : Link). z.by) (some_same (said n) b.0 (sym (ap link_of c.index.ensures) ∙ b.1)) ∙ b.2 in
-        c.eq.ensures ∙ subst (λ z. same_cid m.by z ≡ true) e (same_cid_itself m.by))
+        c.is_by.ensures ∙ subst (λ z. same_cid m.by z ≡ true) e (same_cid_itself m.by))
