@@ -5,7 +5,7 @@ ghost use Rattle.palm_explain.specs.Graph.{AreFound, Graph, HasLinked, IsKey, Is
 ghost use Rattle.palm_explain.specs.Rows.{AreFormedRows};
 
 use crate::node::{Nodes, add_dependent, reserve_dependent};
-use crate::rows::{Row, key_of};
+use crate::rows::{Row, key_near};
 use palm_base::{NoMemory, Pair};
 use std::alloc::{AllocFailed, Global};
 
@@ -23,8 +23,9 @@ pub(crate) fn causes_of(
     ensures keys { IfOk result (λ causes. (k : ℕ) → Contains causes.items k → IsKey (graph_of nodes.now) k) }
 {
     let mut causes = Vec::new(alloc);
+    let mut near = 0;
     for reason in reasons {
-        causes.push(key_of(rows, reason).unwrap())?;
+        causes.push(key_near(rows, reason, &mut near).unwrap())?;
     }
     Ok(causes)
 }

@@ -1,5 +1,5 @@
 //! The keys of removed pairs, in a row for each variable, so that none is looked up by hashing.
-ghost use Rattle.std.specs.Prelude.{◌≡◌, ℤ, ◌≤◌, None, Some, length, OnOk};
+ghost use Rattle.std.specs.Prelude.{◌≡◌, ℤ, ◌<◌, ◌≤◌, true, None, Some, length, slice_index_or, OnOk};
 ghost use Rattle.palm_base.specs.declared.terms.Pair.{Pair as PairTerm};
 ghost use Rattle.palm_explain.specs.Rows.{AreFormedRows, IsFormedRow, key_at, key_in};
 
@@ -24,12 +24,29 @@ impl Row {
         }
     }
 
-    fn key_of(&self, value: Value) -> Option<usize>
+    /// Whether the value stands at the place.
+    fn has_at(&self, place: usize, value: Value) -> bool
+        ensures { result ≡ true → (place < length self.now.values.items)
+            × (slice_index_or self.now.values.items place value ≡ value) }
+    {
+        place < self.values.len() && self.values[place] == value
+    }
+
+    /// The key of a value, which is looked for first near a place.
+    fn key_near(&self, value: Value, near: &mut usize) -> Option<usize>
         requires { IsFormedRow self.now }
         ensures { result ≡ key_in self.now.values.items self.now.keys.items value }
     {
+        let place = *near;
+        if self.has_at(place, value) {
+            *near = place.wrapping_add(1);
+            return Some(self.keys[place]);
+        }
         match self.values.binary_search(&value) {
-            Ok(place) => Some(self.keys[place]),
+            Ok(place) => {
+                *near = place.wrapping_add(1);
+                Some(self.keys[place])
+            }
             Err(_) => None,
         }
     }
@@ -54,13 +71,23 @@ impl Row {
     }
 }
 
+/// The key under which the pair was entered last. Its value is looked for first near a place of the row, and `near` is
+/// then the place behind it: pairs of one variable mostly come with rising values.
+pub(crate) fn key_near(rows: &[Row], pair: &Pair, near: &mut usize) -> Option<usize>
+    requires { AreFormedRows rows.now }
+    ensures { result ≡ key_at rows.now pair.now }
+{
+    let row = rows.get(pair.var.0 as usize)?;
+    row.key_near(pair.value, near)
+}
+
 /// The key under which the pair was entered last.
 pub(crate) fn key_of(rows: &[Row], pair: &Pair) -> Option<usize>
     requires { AreFormedRows rows.now }
     ensures { result ≡ key_at rows.now pair.now }
 {
-    let row = rows.get(pair.var.0 as usize)?;
-    row.key_of(pair.value)
+    let mut near = 0;
+    key_near(rows, pair, &mut near)
 }
 
 /// Makes a row for each of the first variables, so many of them; all keys stay.

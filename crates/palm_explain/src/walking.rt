@@ -11,7 +11,7 @@ ghost use Rattle.palm_explain.specs.Rows.{AreFormedRows};
 
 use crate::names::add_name;
 use crate::node::{Nodes, is_by, set_mark};
-use crate::rows::{Row, key_of};
+use crate::rows::{Row, key_near};
 use palm_base::{Cid, NoMemory, Pair, Value, Var};
 use std::alloc::{AllocError, Global};
 
@@ -87,9 +87,10 @@ fn note_values(nodes: &Nodes, rows: &[Row], var: Var, values: &[Value], due: &mu
     ensures long { length due.new.items ≡ length due.old.items }
     ensures noted { HasMarked (is_due due.old.items) (is_due due.new.items) (IsValueKey (graph_of nodes.now) var values.now) }
 {
+    let mut near = 0;
     for value in values {
         let pair = Pair { var, value: *value };
-        let key = key_of(rows, &pair).unwrap();
+        let key = key_near(rows, &pair, &mut near).unwrap();
         set_due(due, key, true);
     }
 }

@@ -11,7 +11,7 @@ unwrap-requires c =
     let p = c.reason-item.result in
     let r = c.requires.removed p (c.loop-reason.reason-index, c.loop-reason-test.true, sym c.reason-item.is) in
     let found : key_at c.args.rows.now p ≡ Some r.0 = ap (key_at c.args.rows.now) (sym r.2 ∙ pair_is (graph_of c.args.nodes.now) r.0 r.1.0 r.1.1) ∙ c.requires.found r.0 r.1.0 r.1.1 in
-    subst IsSome (sym (c.key_of.ensures ∙ found)) refl
+    subst IsSome (sym (c.key_near.ensures ∙ found)) refl
 
 pub loop-reason-preserved : goal.loop-reason-preserved
 loop-reason-preserved c =
@@ -20,7 +20,7 @@ loop-reason-preserved c =
     let i = c.loop-reason.reason-index in
     let r = c.requires.removed p (i, c.loop-reason-test.true, sym c.reason-item.is) in
     let found : key_at c.args.rows.now p ≡ Some r.0 = ap (key_at c.args.rows.now) (sym r.2 ∙ pair_is g r.0 r.1.0 r.1.1) ∙ c.requires.found r.0 r.1.0 r.1.1 in
-    let same : r.0 ≡ c.unwrap.result = some_same r.0 c.unwrap.result (sym (c.key_of.ensures ∙ found) ∙ c.unwrap.ensures) in
+    let same : r.0 ≡ c.unwrap.result = some_same r.0 c.unwrap.result (sym (c.key_near.ensures ∙ found) ∙ c.unwrap.ensures) in
     let next : take i c.args.reasons.now ++ p ∷ [] ≡ take (i + 1) c.args.reasons.now = ap (λ z. take i c.args.reasons.now ++ z ∷ []) c.reason-item.is ∙ sym (take_more c.args.reasons.now i p c.loop-reason-test.true) in record {
       reasons = ap (map (pair_at g)) c.in_ok-push.ensures.items ∙ map-append (pair_at g) c.loop-reason.causes.items (c.unwrap.result ∷ [])
           ∙ ap₂ (λ ps q. ps ++ q ∷ []) c.loop-reason.invariant.reasons (ap (pair_at g) (sym same) ∙ r.2) ∙ next;

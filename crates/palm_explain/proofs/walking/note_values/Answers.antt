@@ -11,14 +11,14 @@ unwrap-key-requires c =
     let v = c.value-item.result in
     let r = c.requires.removed v (c.loop-value.value-index, c.loop-value-test.true, sym c.value-item.is) in
     let found = ap (key_at c.args.rows.now) (sym r.2 ∙ pair_is (graph_of c.args.nodes.now) r.0 r.1.0 r.1.1) ∙ c.requires.found r.0 r.1.0 r.1.1 in
-    subst IsSome (sym (c.key_of.ensures ∙ found)) refl
+    subst IsSome (sym (c.key_near.ensures ∙ found)) refl
 
 pub set_due-requires : goal.set_due-requires
 set_due-requires c =
     let v = c.value-item.result in
     let r = c.requires.removed v (c.loop-value.value-index, c.loop-value-test.true, sym c.value-item.is) in
     let found = ap (key_at c.args.rows.now) (sym r.2 ∙ pair_is (graph_of c.args.nodes.now) r.0 r.1.0 r.1.1) ∙ c.requires.found r.0 r.1.0 r.1.1 in
-    let same = some_same r.0 c.unwrap-key.result (sym (c.key_of.ensures ∙ found) ∙ c.unwrap-key.ensures) in
+    let same = some_same r.0 c.unwrap-key.result (sym (c.key_near.ensures ∙ found) ∙ c.unwrap-key.ensures) in
     subst (λ n. c.unwrap-key.result < n) (sym c.loop-value.invariant.long) (c.requires.long c.unwrap-key.result (subst (IsKey (graph_of c.args.nodes.now)) same r.1))
 
 pub loop-value-preserved : goal.loop-value-preserved
@@ -31,7 +31,7 @@ loop-value-preserved c =
     let r = c.requires.removed v (i, c.loop-value-test.true, sym c.value-item.is) in
     let found = ap (key_at c.args.rows.now) (sym r.2 ∙ pair_is g r.0 r.1.0 r.1.1) ∙ c.requires.found r.0 r.1.0 r.1.1 in
     let key = c.unwrap-key.result in
-    let same : r.0 ≡ key = some_same r.0 key (sym (c.key_of.ensures ∙ found) ∙ c.unwrap-key.ensures) in
+    let same : r.0 ≡ key = some_same r.0 key (sym (c.key_near.ensures ∙ found) ∙ c.unwrap-key.ensures) in
     let old = is_due c.args.due.now.items in
     let middle = is_due c.loop-value.due.items in
     let new = is_due c.set_due.new.due.items in record {
@@ -41,7 +41,7 @@ loop-value-preserved c =
           (λ k e. (v, more_last values i v v c.loop-value-test.true c.value-item.is refl, subst (IsKey g) (same ∙ e) r.1, ap (pair_at g) (sym (same ∙ e)) ∙ r.2))
           (λ k p. elim (member_take_more values i v p.0 c.loop-value-test.true c.value-item.is p.1) [
             | inl o ↦ inl (p.0, o, p.2, p.3)
-            | inr e ↦ inr (some_same key k (sym c.unwrap-key.ensures ∙ c.key_of.ensures ∙ ap (key_at c.args.rows.now) (ap (λ w. record { var = x; value = w }) e ∙ sym p.3 ∙ pair_is g k p.2.0 p.2.1) ∙ c.requires.found k p.2.0 p.2.1))
+            | inr e ↦ inr (some_same key k (sym c.unwrap-key.ensures ∙ c.key_near.ensures ∙ ap (key_at c.args.rows.now) (ap (λ w. record { var = x; value = w }) e ∙ sym p.3 ∙ pair_is g k p.2.0 p.2.1) ∙ c.requires.found k p.2.0 p.2.1))
           ])
           c.loop-value.invariant.noted (marked_one middle new key c.set_due.ensures.set c.set_due.ensures.others);
     }
