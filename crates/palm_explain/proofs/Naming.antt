@@ -6,7 +6,7 @@ use Rattle.palm_base.proofs.Members.{member_same}
 use Rattle.palm_model.specs.Log.{Removal, Names, NamesOfPair, Loses, IsListOf}
 use Rattle.palm_model.specs.Log.Names.{by_itself, by_reason}
 use Rattle.palm_events.proofs.Logs.{left_member, left_keeps, kept_member, some_by_reason}
-use Rattle.palm_explain.specs.Explanations.{IsLink, IsLinked, NamesOfNext}
+use Rattle.palm_explain.specs.Explanations.{IsLink, IsLinked}
 use Rattle.palm_explain.proofs.Linked.{once, reasons_logged}
 
 -- ---- more and fewer removals
@@ -38,25 +38,6 @@ names_before_push log r linked link c q m names = names_fewer log (log ++ r ∷ 
 
 pub names_after_push : (log : List Removal) (r : Removal) (c : Cid) (q : Removal) → Names log c q → Names (log ++ r ∷ []) c q
 names_after_push log r c q names = names_more log (log ++ r ∷ []) (λ s. Contains-append_left log (r ∷ []) s) c q names
-
--- the next one names its own constraint and what its reasons name
-pub next_named : (log : List Removal) (r : Removal) (c : Cid) → NamesOfNext log r.by r.reasons c → Names (log ++ r ∷ []) c r
-next_named log r c names = elim names [
-  | inl e ↦ by_itself r e
-  | inr n ↦ by_reason r n.2.removal (Contains-append_left log (r ∷ []) n.2.removal n.2.logged) (member_same r.reasons n.0 n.2.removal.pair (sym n.2.is) n.1) (names_after_push log r c n.2.removal n.2.names)
-]
-
-named_next_from : (log : List Removal) (r : Removal) → IsLinked log → IsLink log r → (c : Cid) (q : Removal) → q ≡ r → Names (log ++ r ∷ []) c q → NamesOfNext log r.by r.reasons c
-named_next_from log r linked link c _ same (by_itself q e) = inl (subst (λ (z : Removal). z.by ≡ c) same e)
-named_next_from log r linked link c _ same (by_reason q s k reason names) =
-    let reason' : Contains r.reasons s.pair = subst (λ (z : Removal). Contains z.reasons s.pair) same reason in
-    elim (Contains-push_cases log r s k) [
-      | inl o ↦ inr (s.pair, reason', record { removal = s; logged = o; is = refl; names = names_before_push log r linked link c s o names })
-      | inr e ↦ absurd (link.fresh (link.reasons r.pair (subst (λ (z : Removal). Contains r.reasons z.pair) (sym e) reason')))
-    ]
-
-pub named_next : (log : List Removal) (r : Removal) → IsLinked log → IsLink log r → (c : Cid) → Names (log ++ r ∷ []) c r → NamesOfNext log r.by r.reasons c
-named_next log r linked link c names = named_next_from log r linked link c r refl names
 
 -- ---- what a withdrawal leaves
 
