@@ -223,7 +223,7 @@ header_takes tokens x e =
     let c = behind_is Word (codes "cert") second.0 third.0 third.1 in
     let d = behind_is Digits (codes "1") third.0 rest.0 rest.1 in
     let spelt : tokens ≡ header ++ rest.0 =
-        a ∙ ap (λ ts. word (codes "palm") ∷ ts) (b ∙ ap (λ ts. sign (codes "-") ∷ ts) (c ∙ ap (λ ts. word (codes "cert") ∷ ts) d)) in
+    a ∙ ap (λ ts. word (codes "palm") ∷ ts) (b ∙ ap (λ ts. sign (codes "-") ∷ ts) (c ∙ ap (λ ts. word (codes "cert") ∷ ts) d)) in
     moved tokens (Header, rest.0) x rest.2 (spelt, tt)
 
 phrase_takes : (tokens : List Lexeme) (x : Statement × List Lexeme) → phrase_at tokens ≡ Some x → Taken tokens x

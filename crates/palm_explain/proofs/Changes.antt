@@ -34,9 +34,10 @@ linked_next g h f causes i c key lt at one two = record {
   none = λ k e. two.none k (one.none k e);
   some = λ k l is.
       let m = one.some k l is in
-      let n = two.some k m.0 m.1 in
-      (
-        n.0, n.1, same_then l m.0 n.0 m.2 n.2,
+      let n = two.some k m.0 m.1 in (
+        n.0,
+        n.1,
+        same_then l m.0 n.0 m.2 n.2,
         λ d q. elim (n.3 d q) [
           | inl o ↦ elim (m.3 d o) [ inl p ↦ inl p | inr e ↦ inr (e.0, more_left causes i c k lt at e.1) ]
           | inr e ↦ inr (e.0, more_last causes i c k lt at (member_single c k e.1))
@@ -75,9 +76,10 @@ forgotten_then g h f First Second Gone left right split one two = record {
   none = λ k e. two.none k (one.none k e);
   some = λ k l is.
       let m = one.some k l is in
-      let n = two.some k m.0 m.1 in
-      (
-        n.0, n.1, same_then l m.0 n.0 m.2 n.2,
+      let n = two.some k m.0 m.1 in (
+        n.0,
+        n.1,
+        same_then l m.0 n.0 m.2 n.2,
         λ d q. let b = n.3 d q in let a = m.3 d b.0 in (a.0, λ gone. elim (split k d gone) [ inl p ↦ a.1 p | inr p ↦ b.1 p ]),
         λ d q free. n.4 d (m.4 d q (λ p. free (left k d p))) (λ p. free (right k d p)),
       );

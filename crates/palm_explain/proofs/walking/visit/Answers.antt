@@ -12,7 +12,7 @@ pub returns-clause-passed : goal.returns-clause-passed
 returns-clause-passed c is =
     let g = graph_of c.args.nodes.now in
     let h = handed_on g (is_due c.args.due.now.items) (is_due c.set_due.new.due.items) (is_due c.note_causes.new.due.items) c.args.key (λ q. IsCause g q c.args.key) c.set_due.ensures.set c.set_due.ensures.others
-        c.note_causes.ensures.noted (λ m. c.requires.before c.args.key m refl) in
+    c.note_causes.ensures.noted (λ m. c.requires.before c.args.key m refl) in
     record { cleared = h.0; stay = h.1; more = c.note_causes.ensures.noted.more; only = h.2 }
 
 pub index-requires : goal.index-requires
