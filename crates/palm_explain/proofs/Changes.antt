@@ -1,10 +1,10 @@
 -- Changes of the graph and of its marks, one after another.
-use Rattle.std.proofs.Common.{◌≡◌, ◌≢◌, ℕ, zero, suc, ◌+◌, ◌<◌, ◌≤◌, Bool, true, false, List, [], ◌∷◌, ◌++◌, length, get_or, take, drop, Option, Some, None, Contains, slice_get, ◌⊎◌, inl, inr, refl, sym, ap, ◌∙◌, subst, arith}
+use Rattle.std.proofs.Common.{◌≡◌, ◌≢◌, ℕ, ◌+◌, ◌<◌, ◌≤◌, Bool, true, false, List, [], ◌∷◌, ◌++◌, length, get_or, take, drop, Option, Some, None, Contains, ◌⊎◌, inl, inr, refl, sym, ap, ◌∙◌, subst, arith}
 use Rattle.std.proofs.lemmas.Bool.{cases_eq, false≢true}
 use Rattle.std.proofs.lemmas.List.{take_more, take_all}
 use Rattle.std.proofs.lemmas.List.Elements.{Contains-append_left, Contains-push}
 use Rattle.palm_base.proofs.Members.{member_nil, member_cases, member_here, member_there, member_same, member_single, member_take, member_take_more}
-use Rattle.palm_explain.specs.Graph.{Graph, HasForgotten, HasLinked, HasMarked, HasPassed, IsAmongFirst, IsCause, IsKey, IsSameNode, Link}
+use Rattle.palm_explain.specs.Graph.{Graph, HasForgotten, HasLinked, HasMarked, IsAmongFirst, IsCause, IsKey, IsSameNode, Link}
 use Rattle.palm_explain.proofs.Graphs.{link_same}
 
 pub same_then : (l m n : Link) → IsSameNode l m → IsSameNode m n → IsSameNode l n
@@ -34,9 +34,10 @@ linked_next g h f causes i c key lt at one two = record {
   none = λ k e. two.none k (one.none k e);
   some = λ k l is.
       let m = one.some k l is in
-      let n = two.some k m.0 m.1 in
-      (
-        n.0, n.1, same_then l m.0 n.0 m.2 n.2,
+      let n = two.some k m.0 m.1 in (
+        n.0,
+        n.1,
+        same_then l m.0 n.0 m.2 n.2,
         λ d q. elim (n.3 d q) [
           | inl o ↦ elim (m.3 d o) [ inl p ↦ inl p | inr e ↦ inr (e.0, more_left causes i c k lt at e.1) ]
           | inr e ↦ inr (e.0, more_last causes i c k lt at (member_single c k e.1))
@@ -75,9 +76,10 @@ forgotten_then g h f First Second Gone left right split one two = record {
   none = λ k e. two.none k (one.none k e);
   some = λ k l is.
       let m = one.some k l is in
-      let n = two.some k m.0 m.1 in
-      (
-        n.0, n.1, same_then l m.0 n.0 m.2 n.2,
+      let n = two.some k m.0 m.1 in (
+        n.0,
+        n.1,
+        same_then l m.0 n.0 m.2 n.2,
         λ d q. let b = n.3 d q in let a = m.3 d b.0 in (a.0, λ gone. elim (split k d gone) [ inl p ↦ a.1 p | inr p ↦ b.1 p ]),
         λ d q free. n.4 d (m.4 d q (λ p. free (left k d p))) (λ p. free (right k d p)),
       );

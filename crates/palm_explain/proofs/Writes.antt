@@ -1,14 +1,14 @@
 -- What a write to one node changes, and what it does not.
-use Rattle.std.proofs.Common.{◌≡◌, ◌≢◌, ℕ, ◌+◌, ◌-◌, ◌<◌, ◌≤◌, Bool, true, false, cond, List, [], ◌∷◌, ◌++◌, length, filter, not, Option, Some, None, is_some, IsSome, Contains, slice_get, vec_len, vec_capacity, ◌⊎◌, inl, inr, refl, sym, ap, ◌∙◌, subst, arith, nat_eq, eq-eqb, eqb-true}
-use Rattle.std.proofs.lemmas.Bool.{cases_Bool, cases_eq, false≢true}
+use Rattle.std.proofs.Common.{◌≡◌, ◌≢◌, ℕ, ◌-◌, Bool, true, false, cond, List, [], ◌∷◌, ◌++◌, length, filter, not, Option, Some, None, is_some, IsSome, Contains, slice_get, ◌⊎◌, inl, inr, refl, sym, ap, ◌∙◌, subst, arith, nat_eq, eq-eqb, eqb-true}
+use Rattle.std.proofs.lemmas.Bool.{cases_eq, false≢true}
 use Rattle.std.proofs.lemmas.List.Elements.{Contains-append_left, Contains-push, Contains-push_cases}
 use Rattle.std.proofs.lemmas.List.{length-append}
 use Rattle.std.proofs.lemmas.List.Sums.{sum_by-set}
-use Rattle.slab.specs.Slab.{ContainsKey, Slab, Updates, get, slab_len, with_value}
+use Rattle.slab.specs.Slab.{ContainsKey, Slab, Updates, get, with_value}
 use Rattle.slab.proofs.SlabLemmas.{ContainsKey-within, Updates-with_value}
-use Rattle.palm_base.proofs.Members.{filter_member, member_filter, member_get, member_here, member_nil, member_same, member_single}
+use Rattle.palm_base.proofs.Members.{filter_member, member_filter, member_get, member_here, member_same, member_single}
 use Rattle.palm_explain.specs.declared.node.Node.{Node}
-use Rattle.palm_explain.specs.Graph.{Graph, HasForgotten, HasLinked, IsKey, IsMoved, IsReady, IsReadyAt, IsSameNode, IsTakenOut, KeepsRoom, Link, graph_of, has_mark, link_of, marks_of, said}
+use Rattle.palm_explain.specs.Graph.{HasForgotten, HasLinked, IsKey, IsMoved, IsReady, IsReadyAt, IsSameNode, IsTakenOut, KeepsRoom, Link, graph_of, has_mark, link_of, marks_of, said}
 use Rattle.palm_explain.proofs.Entered.{place_last}
 use Rattle.palm_explain.proofs.Graphs.{link_same, some_same}
 
@@ -87,8 +87,7 @@ module _ (s t : Slab Node) (k : ℕ) (n v : Node) (at : get s k ≡ Some n) (the
     (pair : v.pair ≡ n.pair) (by : v.by ≡ n.by) (causes : v.causes.items ≡ n.causes.items) (place : v.place ≡ n.place) where
   same_node : (l : Link) → graph_of s k ≡ Some l → (m : Link) × (graph_of t k ≡ Some m) × IsSameNode l m × (m.dependents ≡ v.dependents.items) × (l.dependents ≡ n.dependents.items)
   same_node l is =
-      let e = node_link s k n l at is in
-      (
+      let e = node_link s k n l at is in (
         record { pair = v.pair; by = v.by; causes = v.causes.items; dependents = v.dependents.items; place = v.place },
         ap link_of there,
         subst (λ (z : Link). IsSameNode z (record { pair = v.pair; by = v.by; causes = v.causes.items; dependents = v.dependents.items; place = v.place })) e (record { pair = pair; by = by; causes = causes; place = place }),
@@ -111,8 +110,7 @@ module _ (s t : Slab Node) (k : ℕ) (n v : Node) (at : get s k ≡ Some n) (the
     none = vacant;
     some = λ j l is. elim (cases_eq j k) [
       | inl e ↦
-          let r = same_node l (subst (λ i. graph_of s i ≡ Some l) e is) in
-          (
+          let r = same_node l (subst (λ i. graph_of s i ≡ Some l) e is) in (
             r.0,
             subst (λ i. graph_of t i ≡ Some r.0) (sym e) r.1,
             r.2,
@@ -130,8 +128,7 @@ module _ (s t : Slab Node) (k : ℕ) (n v : Node) (at : get s k ≡ Some n) (the
     some = λ j l is. elim (cases_eq j k) [
       | inl e ↦
           let r = same_node l (subst (λ i. graph_of s i ≡ Some l) e is) in
-          let member : Contains (k ∷ []) j = member_same (k ∷ []) k j (sym e) (member_here k []) in
-          (
+          let member : Contains (k ∷ []) j = member_same (k ∷ []) k j (sym e) (member_here k []) in (
             r.0,
             subst (λ i. graph_of t i ≡ Some r.0) (sym e) r.1,
             r.2,

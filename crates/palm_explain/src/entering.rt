@@ -31,11 +31,7 @@ pub(crate) fn causes_of(
 }
 
 /// Makes room for one more dependent of each of the causes.
-pub(crate) fn reserve_links(
-    nodes: &mut Nodes,
-    causes: &[usize],
-    key: usize,
-) -> Result<(), NoMemory>
+pub(crate) fn reserve_links(nodes: &mut Nodes, causes: &[usize], key: usize) -> Result<(), NoMemory>
     requires { (k : ℕ) → Contains causes.now k → IsKey (graph_of nodes.old) k }
     ensures graph { graph_of nodes.new ≡ graph_of nodes.old }
     ensures marks { marks_of nodes.new ≡ marks_of nodes.old }

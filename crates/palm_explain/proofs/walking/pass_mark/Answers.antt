@@ -1,7 +1,7 @@
-use Rattle.std.proofs.Common.{◌≡◌, ◌∙◌, ◌≢◌, ℕ, true, refl, sym, ap, subst}
+use Rattle.std.proofs.Common.{◌≡◌, ◌∙◌, ℕ, true, refl, sym, ap, subst}
 use Rattle.palm_model.specs.Log.{same_cid}
 use Rattle.palm_events.proofs.Names.{cid_same, same_cid_itself}
-use Rattle.palm_explain.specs.Graph.{HasMarked, HasPassed, IsBy, IsCause, IsKey, Link, graph_of, link_of, marks_of, said}
+use Rattle.palm_explain.specs.Graph.{HasMarked, IsBy, IsCause, IsKey, Link, graph_of, link_of, marks_of, said}
 use Rattle.palm_explain.proofs.Changes.{handed_on}
 use Rattle.palm_explain.proofs.Graphs.{some_same}
 use Rattle.palm_explain.proofs.Marks.{tells_from}
@@ -35,5 +35,5 @@ returns-clause-tells c is =
     tells_from c.is_by.result (IsBy (graph_of c.args.nodes.now) c.args.cid.now c.args.key)
     (λ t. (said n, ap link_of c.index.ensures, sym by ∙ cid_same m.by c.args.cid.now (sym c.is_by.ensures ∙ t)))
     (λ b.
-        let e : m.by ≡ c.args.cid.now = by ∙ ap (λ (z : Link). z.by) (some_same (said n) b.0 (sym (ap link_of c.index.ensures) ∙ b.1)) ∙ b.2 in
-        c.is_by.ensures ∙ subst (λ z. same_cid m.by z ≡ true) e (same_cid_itself m.by))
+    let e : m.by ≡ c.args.cid.now = by ∙ ap (λ (z : Link). z.by) (some_same (said n) b.0 (sym (ap link_of c.index.ensures) ∙ b.1)) ∙ b.2 in
+    c.is_by.ensures ∙ subst (λ z. same_cid m.by z ≡ true) e (same_cid_itself m.by))

@@ -1,4 +1,4 @@
-use Rattle.std.proofs.Common.{◌≡◌, ◌∷◌, ℕ, [], nat_eq, sym, ap, ◌∙◌, subst, Contains}
+use Rattle.std.proofs.Common.{◌∷◌, [], nat_eq, sym, ap, ◌∙◌, subst, Contains}
 use Rattle.indexmap.specs.IndexSet.{insert_all, spare}
 use Rattle.palm_model.specs.Constraint.{Distinct}
 use Rattle.palm_model.specs.Event.{lost_pairs, vars_of}
@@ -47,7 +47,7 @@ returns-clause-restored c x =
     let noted = c.put_back.ensures.noted ∙ ap (λ l. insert_all nat_eq l vars) c.clear.ensures.empty in
     let keys = c.put_back.new.restored.keys in
     subst (λ (v : Explanations). (Contains keys x → Contains (vars_of (lost_pairs v.log (log_of (graph_of c.close_up.new.nodes) c.close_up.new.log.items))) x)
-        × (Contains (vars_of (lost_pairs v.log (log_of (graph_of c.close_up.new.nodes) c.close_up.new.log.items))) x → Contains keys x)) c.self.view_is
+    × (Contains (vars_of (lost_pairs v.log (log_of (graph_of c.close_up.new.nodes) c.close_up.new.log.items))) x → Contains keys x)) c.self.view_is
     (vars_withdrawn c.self.inside.nodes c.mark_lost.new.nodes c.forget_marked.new.nodes c.close_up.new.nodes c.self.inside.log.items c.close_up.new.log.items c.self.inside.rows.items (spare c.self.inside.restored) (spare c.put_back.new.restored) c.args.cid c.self.invariant
     c.mark_lost.ensures.graph (rw c.as_slice-log.ensures.value at c.mark_lost.ensures.told) c.forget_marked.ensures.forgotten c.forget_marked.ensures.marks c.close_up.ensures.closed c.close_up.ensures.unmarked
     (rw c.as_slice-log.ensures.value at c.put_back.ensures.room) keys (rw c.as_slice-log.ensures.value at noted) x)
