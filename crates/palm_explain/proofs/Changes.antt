@@ -1,10 +1,10 @@
 -- Changes of the graph and of its marks, one after another.
-use Rattle.std.proofs.Common.{◌≡◌, ◌≢◌, ℕ, zero, suc, ◌+◌, ◌<◌, ◌≤◌, Bool, true, false, List, [], ◌∷◌, ◌++◌, length, get_or, take, drop, Option, Some, None, Contains, slice_get, ◌⊎◌, inl, inr, refl, sym, ap, ◌∙◌, subst, arith}
+use Rattle.std.proofs.Common.{◌≡◌, ◌≢◌, ℕ, ◌+◌, ◌<◌, ◌≤◌, Bool, true, false, List, [], ◌∷◌, ◌++◌, length, get_or, take, drop, Option, Some, None, Contains, ◌⊎◌, inl, inr, refl, sym, ap, ◌∙◌, subst, arith}
 use Rattle.std.proofs.lemmas.Bool.{cases_eq, false≢true}
 use Rattle.std.proofs.lemmas.List.{take_more, take_all}
 use Rattle.std.proofs.lemmas.List.Elements.{Contains-append_left, Contains-push}
 use Rattle.palm_base.proofs.Members.{member_nil, member_cases, member_here, member_there, member_same, member_single, member_take, member_take_more}
-use Rattle.palm_explain.specs.Graph.{Graph, HasForgotten, HasLinked, HasMarked, HasPassed, IsAmongFirst, IsCause, IsKey, IsSameNode, Link}
+use Rattle.palm_explain.specs.Graph.{Graph, HasForgotten, HasLinked, HasMarked, IsAmongFirst, IsCause, IsKey, IsSameNode, Link}
 use Rattle.palm_explain.proofs.Graphs.{link_same}
 
 pub same_then : (l m n : Link) → IsSameNode l m → IsSameNode m n → IsSameNode l n

@@ -1,14 +1,13 @@
 -- The graph that a withdrawal leaves.
-use Rattle.std.proofs.Common.{◌≡◌, ◌≢◌, ℕ, ◌+◌, ◌<◌, ◌≤◌, Bool, true, false, not, List, filter, map, Option, Some, None, Contains, slice_get, ◌⊎◌, inl, inr, refl, sym, ap, ◌∙◌, subst}
+use Rattle.std.proofs.Common.{◌≡◌, ℕ, Bool, true, false, not, List, map, Option, Some, None, Contains, slice_get, inl, inr, refl, sym, ap, ◌∙◌, subst}
 use Rattle.std.proofs.lemmas.Bool.{cases_Bool, false≢true}
-use Rattle.palm_base.specs.declared.terms.Pair.{Pair}
 use Rattle.palm_base.specs.declared.terms.Cid.{Cid}
-use Rattle.palm_base.proofs.Members.{filter_member, map_agree, member_filter, member_get, member_place, member_same}
+use Rattle.palm_base.proofs.Members.{map_agree, member_filter, member_place}
 use Rattle.palm_explain.specs.declared.rows.Row.{Row}
 use Rattle.palm_explain.specs.Graph.{AreFound, Graph, HasClosedUp, HasForgotten, IsCause, IsDependent, IsGraph, IsKey, IsPlaced, IsSameNode, Link, NamesAt, log_of, pair_at, removal_at}
 use Rattle.palm_explain.specs.Lost.{AreTold, kept_of}
 use Rattle.palm_explain.specs.Rows.{key_at}
-use Rattle.palm_explain.proofs.Graphs.{key_member, link_same, member_key, names_cause, pair_is, removal_is, some_same}
+use Rattle.palm_explain.proofs.Graphs.{key_member, link_same, member_key, names_cause, pair_is, removal_is}
 use Rattle.palm_explain.proofs.Keeping.{told_false, told_true}
 
 -- a forgotten dependent: lost, of a removal that is not

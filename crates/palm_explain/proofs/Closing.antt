@@ -1,14 +1,14 @@
 -- A log that is closed up, one place after another.
-use Rattle.std.proofs.Common.{◌≡◌, ◌≢◌, ℕ, zero, suc, ◌+◌, ◌<◌, ◌≤◌, Bool, true, false, not, cond, List, [], ◌∷◌, ◌++◌, length, filter, take, drop, set, get_or, Option, Some, None, Contains, slice_get, ◌⊎◌, inl, inr, refl, sym, ap, ◌∙◌, subst, arith}
+use Rattle.std.proofs.Common.{◌≡◌, ◌≢◌, ℕ, zero, suc, ◌+◌, ◌<◌, ◌≤◌, Bool, true, false, not, cond, List, [], ◌∷◌, ◌++◌, length, take, drop, set, get_or, Option, Some, None, Contains, slice_get, inl, inr, refl, sym, ap, ◌∙◌, subst, arith}
 use Rattle.std.proofs.lemmas.Bool.{cases_Bool, false≢true}
 use Rattle.std.proofs.lemmas.Option.{slice_get_within, slice_get-get_or}
 use Rattle.std.proofs.lemmas.List.{append-nil, drop-set-lt, length-append, length-set, take_all, take_more_set}
-use Rattle.std.proofs.lemmas.List.Elements.{filter-append, Contains-append_left, Contains-push_cases}
-use Rattle.palm_base.proofs.Members.{filter_member, member_nil, member_here, member_there, member_cases, member_filter, member_get, member_place, member_same}
+use Rattle.std.proofs.lemmas.List.Elements.{filter-append, Contains-push_cases}
+use Rattle.palm_base.proofs.Members.{filter_member, member_nil, member_here, member_there, member_cases, member_filter, member_get, member_place}
 use Rattle.palm_explain.specs.Graph.{Graph, HasClosedUp, IsKey, IsMoved, IsPlaced, IsTakenOut, Link}
 use Rattle.palm_explain.specs.Lost.{kept_of}
 use Rattle.palm_explain.proofs.Entered.{place_cases}
-use Rattle.palm_explain.proofs.Graphs.{key_member, key_place, link_same}
+use Rattle.palm_explain.proofs.Graphs.{key_member, link_same}
 use Rattle.palm_explain.proofs.PuttingBack.{take_next, taken_one}
 
 -- ---- places before and from a place on

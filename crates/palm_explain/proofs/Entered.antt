@@ -1,17 +1,13 @@
 -- One more removal: the graph, the log and the rows with it.
-use Rattle.std.proofs.Common.{◌≡◌, ◌≢◌, ℕ, zero, suc, ◌+◌, ◌<◌, ◌≤◌, List, [], ◌∷◌, ◌++◌, length, map, Option, Some, None, Contains, slice_get, ◌⊎◌, inl, inr, refl, sym, ap, ap₂, ◌∙◌, subst, arith}
-use Rattle.std.proofs.lemmas.Bool.{cases_eq, cases_lt}
-use Rattle.std.proofs.lemmas.Option.{slice_get_within}
-use Rattle.std.proofs.lemmas.List.{map-append, length-append}
-use Rattle.palm_base.specs.declared.terms.Pair.{Pair}
-use Rattle.palm_base.specs.declared.terms.Cid.{Cid}
+use Rattle.std.proofs.Common.{◌≡◌, ◌≢◌, ℕ, zero, suc, List, [], ◌∷◌, ◌++◌, length, map, Option, Some, None, Contains, slice_get, ◌⊎◌, inl, inr, refl, sym, ap, ap₂, ◌∙◌, subst}
+use Rattle.std.proofs.lemmas.Bool.{cases_eq}
+use Rattle.std.proofs.lemmas.List.{map-append}
 use Rattle.palm_base.proofs.Members.{member_nil, member_same, map_agree}
 use Rattle.palm_model.specs.Log.{Removal, log_pairs}
-use Rattle.palm_explain.specs.Explanations.{IsLink, IsLinked}
 use Rattle.palm_explain.specs.declared.rows.Row.{Row}
-use Rattle.palm_explain.specs.Graph.{AreFound, Graph, HasLinked, IsCause, IsDependent, IsGraph, IsKey, IsPlaced, IsSameNode, Link, log_of, pair_at, removal_at, removal_or}
+use Rattle.palm_explain.specs.Graph.{AreFound, Graph, HasLinked, IsCause, IsDependent, IsGraph, IsKey, IsPlaced, IsSameNode, Link, log_of, pair_at, removal_at}
 use Rattle.palm_explain.specs.Rows.{key_at}
-use Rattle.palm_explain.proofs.Graphs.{cause_key, key_pair, link_same, member_key, pair_is, removal_is, some_same}
+use Rattle.palm_explain.proofs.Graphs.{cause_key, key_pair, member_key, pair_is, removal_is, some_same}
 
 -- ---- places of a list with one more
 

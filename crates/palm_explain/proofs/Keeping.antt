@@ -1,5 +1,5 @@
 -- What stays when a name goes: of the log, of the lost pairs, and of the pairs that a store lacks.
-use Rattle.std.proofs.Common.{◌≡◌, ℕ, ℤ, ◌+◌, ◌<◌, ◌≤◌, Bool, true, false, not, cond, List, [], ◌∷◌, length, filter, get_or, Contains, All, inl, inr, refl, sym, ap, ◌∙◌, subst, arith, nat_eq}
+use Rattle.std.proofs.Common.{◌≡◌, ℕ, ℤ, ◌<◌, Bool, true, false, not, cond, List, [], ◌∷◌, length, get_or, Contains, All, inl, inr, refl, sym, ap, ◌∙◌, subst, arith, nat_eq}
 use Rattle.indexmap.specs.IndexSet.{insert_all}
 use Rattle.std.proofs.lemmas.Bool.{cases_Bool}
 use Rattle.std.proofs.lemmas.List.{same_lists, get_or_default, length-map}
@@ -17,7 +17,7 @@ use Rattle.palm_model.proofs.Without.{pair_of, without_has, has_without, length_
 use Rattle.palm_events.proofs.Agreeing.{pair_known}
 use Rattle.palm_events.proofs.Logs.{logged, left_member}
 use Rattle.palm_explain.specs.Explanations.{IsLinked, LacksExactly}
-use Rattle.palm_explain.specs.Graph.{Graph, NamesAt, log_of, removal_at}
+use Rattle.palm_explain.specs.Graph.{Graph, log_of, removal_at}
 use Rattle.palm_explain.specs.Lost.{AreTold, HasBack, kept_of, lost_of}
 use Rattle.palm_explain.proofs.Linked.{left_linked, pairs_more}
 use Rattle.palm_explain.proofs.Withdrawn.{lost_logged, lost_or_left, lost_names, names_lost}

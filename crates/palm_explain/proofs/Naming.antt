@@ -1,8 +1,7 @@
 -- What removals name, in a log and in another one that has more or fewer removals.
-use Rattle.std.proofs.Common.{◌≡◌, List, [], ◌∷◌, ◌++◌, Contains, inl, inr, refl, sym, subst}
+use Rattle.std.proofs.Common.{List, [], ◌∷◌, ◌++◌, Contains, inl, inr, refl, sym, subst}
 use Rattle.std.proofs.lemmas.List.Elements.{Contains-append_left, Contains-push_cases}
 use Rattle.palm_base.specs.declared.terms.Cid.{Cid}
-use Rattle.palm_base.proofs.Members.{member_same}
 use Rattle.palm_model.specs.Log.{Removal, Names, NamesOfPair, Loses, IsListOf}
 use Rattle.palm_model.specs.Log.Names.{by_itself, by_reason}
 use Rattle.palm_events.proofs.Logs.{left_member, left_keeps, kept_member, some_by_reason}

@@ -1,21 +1,20 @@
 -- What is read of the log at a place.
-use Rattle.std.proofs.Common.{◌≡◌, ℕ, ◌<◌, Bool, true, false, Result, Ok, Err, OnErr, List, [], ◌∷◌, length, map, get_or, Some, None, Contains, slice_get, Option, MatchOption, refl, sym, ap, ◌∙◌, subst, arith}
+use Rattle.std.proofs.Common.{◌≡◌, ℕ, ◌<◌, Bool, true, false, Result, Ok, Err, OnErr, List, [], ◌∷◌, length, map, get_or, Some, None, Contains, slice_get, Option, MatchOption, sym, ap, ◌∙◌, subst}
 use Rattle.std.proofs.lemmas.List.{get_or_default, length-map}
 use Rattle.std.proofs.lemmas.Option.{slice_get-get_or, get_or_from_slice_get}
 use Rattle.slab.specs.Slab.{Slab, get}
 use Rattle.palm_base.specs.declared.terms.Pair.{Pair}
 use Rattle.palm_base.specs.declared.terms.Cid.{Cid}
 use Rattle.palm_base.specs.Tells.{Tells}
-use Rattle.palm_base.proofs.Members.{member_here, member_place, member_single}
+use Rattle.palm_base.proofs.Members.{member_here, member_single}
 use Rattle.palm_model.specs.Log.{IsListOf, NamesOfPair, Removal, log_pairs}
 use Rattle.palm_explain.specs.declared.node.Node.{Node}
 use Rattle.palm_explain.specs.declared.rows.Row.{Row}
 use Rattle.palm_explain.specs.Explanations.{Explanations, NamesOfSome, log_bys, reasons_of}
-use Rattle.palm_explain.specs.Graph.{AreFound, Graph, IsGraph, IsKept, IsKey, IsPlaced, Link, graph_of, link_of, log_of, pair_at, removal_at, said}
+use Rattle.palm_explain.specs.Graph.{AreFound, Graph, IsGraph, IsKey, IsPlaced, graph_of, link_of, log_of, pair_at, removal_at, said}
 use Rattle.palm_explain.specs.Rows.{key_at}
-use Rattle.palm_explain.proofs.Graphs.{cause_key, key_member, key_pair, link_same, map_place, member_key, pair_is, pair_key, removal_is, some_same}
+use Rattle.palm_explain.proofs.Graphs.{cause_key, map_place, pair_is, pair_key, removal_is, some_same}
 use Rattle.palm_explain.proofs.Naming.{listed_like}
-use Rattle.palm_explain.proofs.Writes.{key_there, node_link}
 
 -- how many removals there are
 pub log_length : (g : Graph) (keys : List ℕ) → length (log_of g keys) ≡ length keys

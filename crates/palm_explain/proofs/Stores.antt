@@ -1,5 +1,5 @@
 -- What holds between calls: after a removal is entered, and after a withdrawal.
-use Rattle.std.proofs.Common.{◌≡◌, ◌≢◌, ℕ, ◌+◌, ◌≤◌, Bool, true, false, List, [], ◌∷◌, ◌++◌, length, map, Option, Some, None, Contains, All, nat_eq, Result, Ok, Err, OnOk, OnErr, inl, inr, refl, sym, ap, ◌∙◌, subst, arith}
+use Rattle.std.proofs.Common.{◌≡◌, ℕ, ◌+◌, ◌≤◌, true, false, List, [], ◌∷◌, ◌++◌, length, map, Option, Some, None, Contains, All, nat_eq, Result, Ok, Err, OnOk, inl, inr, refl, sym, ap, ◌∙◌, subst, arith}
 use Rattle.std.proofs.lemmas.List.{length-append}
 use Rattle.std.proofs.lemmas.Bool.{cases_eq}
 use Rattle.indexmap.specs.IndexSet.{insert_all}
@@ -9,11 +9,11 @@ use Rattle.palm_base.specs.declared.terms.Cid.{Cid}
 use Rattle.palm_base.proofs.Members.{member_same}
 use Rattle.palm_domain.specs.Rows.{Row as StoreRow, Ascends, initial_of, present_of}
 use Rattle.palm_model.specs.Event.{lost_pairs, vars_of}
-use Rattle.palm_model.specs.Log.{Removal, Loses, log_pairs}
+use Rattle.palm_model.specs.Log.{Loses, log_pairs}
 use Rattle.palm_explain.specs.declared.node.Node.{Node}
 use Rattle.palm_explain.specs.declared.rows.Row.{Row}
 use Rattle.palm_explain.specs.Explanations.{IsLink, IsLinked, LacksExactly}
-use Rattle.palm_explain.specs.Graph.{AreFound, Graph, HasClosedUp, HasForgotten, HasLinked, HasNoMark, IsCause, IsGraph, IsKept, IsKey, Link, graph_of, has_mark, link_of, log_of, marks_of, pair_at}
+use Rattle.palm_explain.specs.Graph.{AreFound, HasClosedUp, HasForgotten, HasLinked, HasNoMark, IsCause, IsGraph, IsKept, IsKey, Link, graph_of, has_mark, link_of, log_of, marks_of, pair_at}
 use Rattle.palm_explain.specs.Lost.{AreTold, HasBack, kept_of, lost_of}
 use Rattle.palm_explain.specs.Rows.{AreFormedRows, key_at}
 use Rattle.palm_explain.proofs.ClosedUp.{IsGone, left_found, left_graph, left_log}

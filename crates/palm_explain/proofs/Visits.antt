@@ -1,14 +1,14 @@
 -- Where walks begin, and what they have found when they end.
-use Rattle.std.proofs.Common.{◌≡◌, ◌≢◌, ◌∙◌, ◌⊎◌, ℕ, ℤ, zero, suc, ◌+◌, ◌<◌, ◌≤◌, Bool, true, false, List, [], ◌∷◌, length, replicate, Option, Some, None, Contains, slice_get, slice_index_or, inl, inr, refl, sym, ap, subst, arith}
+use Rattle.std.proofs.Common.{◌≡◌, ◌≢◌, ◌∙◌, ℕ, ℤ, zero, suc, ◌<◌, Bool, true, false, List, [], ◌∷◌, length, replicate, Some, Contains, inl, inr, refl, sym, ap, subst, arith}
 use Rattle.std.proofs.lemmas.Bool.{cases_Bool, cases_eq, false≢true}
 use Rattle.std.proofs.lemmas.Option.{slice_get_within}
 use Rattle.palm_base.specs.Tells.{Tells}
 use Rattle.palm_base.specs.declared.terms.Cid.{Cid}
 use Rattle.palm_base.specs.declared.terms.Pair.{Pair}
-use Rattle.palm_base.proofs.Members.{member_here, member_nil, member_same, member_single}
+use Rattle.palm_base.proofs.Members.{member_here, member_same, member_single}
 use Rattle.palm_model.specs.Log.{IsListOf, Rises, log_pairs}
 use Rattle.palm_explain.specs.Explanations.{NamesOfSome}
-use Rattle.palm_explain.specs.Graph.{AreBefore, Graph, HasMarked, IsBy, IsGraph, IsKey, IsUnderWay, IsValueKey, Link, NamesAt, is_due, log_of, pair_at}
+use Rattle.palm_explain.specs.Graph.{AreBefore, Graph, HasMarked, IsBy, IsGraph, IsUnderWay, IsValueKey, Link, NamesAt, is_due, log_of}
 use Rattle.palm_explain.specs.Merging.{IsMerged}
 use Rattle.palm_explain.proofs.Graphs.{link_same, names_pair_at, pair_key, pair_named}
 use Rattle.palm_explain.proofs.Marks.{tells_from}

@@ -1,9 +1,9 @@
 -- Walks down the log: what is still to be visited, and what is done.
-use Rattle.std.proofs.Common.{◌≡◌, ◌≢◌, ℕ, ◌+◌, ◌<◌, ◌≤◌, Bool, true, false, List, Contains, Some, slice_get, ◌⊎◌, ⊎_elim, inl, inr, refl, sym, ap, ◌∙◌, subst, arith}
+use Rattle.std.proofs.Common.{◌≡◌, ◌≢◌, ℕ, ◌+◌, ◌<◌, Bool, true, false, List, Contains, Some, slice_get, ◌⊎◌, ⊎_elim, inl, inr, sym, ap, ◌∙◌, subst, arith}
 use Rattle.std.proofs.lemmas.Bool.{cases_Bool, cases_eq, cases_lt, false≢true}
 use Rattle.palm_base.specs.declared.terms.Cid.{Cid}
 use Rattle.palm_explain.specs.Explanations.{IsLinked}
-use Rattle.palm_explain.specs.Graph.{AreBefore, Graph, HasPassed, IsBy, IsCause, IsGraph, IsKey, IsUnderWay, Link, NamesAt, log_of}
+use Rattle.palm_explain.specs.Graph.{AreBefore, Graph, HasPassed, IsBy, IsCause, IsGraph, IsUnderWay, Link, NamesAt, log_of}
 use Rattle.palm_explain.proofs.Graphs.{cause_key, cause_first, named_by, names_own, names_cause, some_same}
 
 module _ (g : Graph) (keys : List ℕ) (graph : IsGraph g keys) (k : ℕ) (l : Link) (at : g k ≡ Some l) where

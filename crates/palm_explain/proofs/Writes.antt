@@ -1,14 +1,14 @@
 -- What a write to one node changes, and what it does not.
-use Rattle.std.proofs.Common.{◌≡◌, ◌≢◌, ℕ, ◌+◌, ◌-◌, ◌<◌, ◌≤◌, Bool, true, false, cond, List, [], ◌∷◌, ◌++◌, length, filter, not, Option, Some, None, is_some, IsSome, Contains, slice_get, vec_len, vec_capacity, ◌⊎◌, inl, inr, refl, sym, ap, ◌∙◌, subst, arith, nat_eq, eq-eqb, eqb-true}
-use Rattle.std.proofs.lemmas.Bool.{cases_Bool, cases_eq, false≢true}
+use Rattle.std.proofs.Common.{◌≡◌, ◌≢◌, ℕ, ◌-◌, Bool, true, false, cond, List, [], ◌∷◌, ◌++◌, length, filter, not, Option, Some, None, is_some, IsSome, Contains, slice_get, ◌⊎◌, inl, inr, refl, sym, ap, ◌∙◌, subst, arith, nat_eq, eq-eqb, eqb-true}
+use Rattle.std.proofs.lemmas.Bool.{cases_eq, false≢true}
 use Rattle.std.proofs.lemmas.List.Elements.{Contains-append_left, Contains-push, Contains-push_cases}
 use Rattle.std.proofs.lemmas.List.{length-append}
 use Rattle.std.proofs.lemmas.List.Sums.{sum_by-set}
-use Rattle.slab.specs.Slab.{ContainsKey, Slab, Updates, get, slab_len, with_value}
+use Rattle.slab.specs.Slab.{ContainsKey, Slab, Updates, get, with_value}
 use Rattle.slab.proofs.SlabLemmas.{ContainsKey-within, Updates-with_value}
-use Rattle.palm_base.proofs.Members.{filter_member, member_filter, member_get, member_here, member_nil, member_same, member_single}
+use Rattle.palm_base.proofs.Members.{filter_member, member_filter, member_get, member_here, member_same, member_single}
 use Rattle.palm_explain.specs.declared.node.Node.{Node}
-use Rattle.palm_explain.specs.Graph.{Graph, HasForgotten, HasLinked, IsKey, IsMoved, IsReady, IsReadyAt, IsSameNode, IsTakenOut, KeepsRoom, Link, graph_of, has_mark, link_of, marks_of, said}
+use Rattle.palm_explain.specs.Graph.{HasForgotten, HasLinked, IsKey, IsMoved, IsReady, IsReadyAt, IsSameNode, IsTakenOut, KeepsRoom, Link, graph_of, has_mark, link_of, marks_of, said}
 use Rattle.palm_explain.proofs.Entered.{place_last}
 use Rattle.palm_explain.proofs.Graphs.{link_same, some_same}
 

@@ -1,4 +1,4 @@
-use Rattle.std.proofs.Common.{◌≡◌, ◌∙◌, take, slice_get, slice_index_or, Some, sym}
+use Rattle.std.proofs.Common.{◌∙◌, take, slice_index_or, sym}
 use Rattle.std.proofs.lemmas.Option.{get_or_from_slice_get, slice_get-get_or}
 use Rattle.palm_base.proofs.Members.{member_get}
 use Rattle.palm_explain.specs.Graph.{graph_of}

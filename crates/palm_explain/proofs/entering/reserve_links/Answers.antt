@@ -1,9 +1,9 @@
-use Rattle.std.proofs.Common.{◌≡◌, ◌∙◌, ◌≢◌, ℕ, take, slice_get, slice_index_or, Some, Contains, inl, inr, sym, ap, subst}
+use Rattle.std.proofs.Common.{◌∙◌, slice_index_or, Contains, inl, inr, sym, subst}
 use Rattle.std.proofs.lemmas.Bool.{cases_eq}
 use Rattle.std.proofs.lemmas.List.{take_all}
 use Rattle.std.proofs.lemmas.Option.{get_or_from_slice_get, slice_get-get_or}
 use Rattle.palm_base.proofs.Members.{member_get, member_take_more}
-use Rattle.palm_explain.specs.Graph.{IsKey, IsReadyAt, graph_of}
+use Rattle.palm_explain.specs.Graph.{IsKey, IsReadyAt}
 use Rattle.palm_explain.proofs.Writes.{room_then}
 use Rattle.palm_explain.proofs.entering.reserve_links.Goals as goal
 

@@ -1,4 +1,4 @@
-use Rattle.std.proofs.Common.{◌≡◌, ◌∙◌, ℕ, true, false, List, filter, not, nat_eq, Contains, refl, sym, ap, subst, rules}
+use Rattle.std.proofs.Common.{◌≡◌, ◌∙◌, false, filter, not, nat_eq, Contains, refl, sym, ap, subst, rules}
 use Rattle.std.proofs.lemmas.Bool.{false≢true}
 use Rattle.std.proofs.lemmas.Fn.{filter_same}
 use Rattle.palm_explain.specs.Graph.{HasForgotten, graph_of, marks_of}

@@ -1,4 +1,4 @@
-use Rattle.std.proofs.Common.{◌≡◌, ℕ, ◌<◌, Contains, get_or, length}
+use Rattle.std.proofs.Common.{◌≡◌}
 use Rattle.palm_explain.specs.Graph.{HasMarked, IsAmongFirst, graph_of, marks_of}
 use Rattle.palm_explain.proofs.walking.mark_causes.Given as goal
 

@@ -1,5 +1,5 @@
-use Rattle.std.proofs.Common.{◌≡◌, ◌≢◌, ◌∙◌, ◌-◌, ◌+◌, ◌<◌, ◌≤◌, ℕ, ℤ, true, false, length, replicate, slice_get, slice_index_or, ◌∷◌, [], Some, Contains, inl, inr, refl, sym, ap, subst, arith, rules}
-use Rattle.std.proofs.lemmas.Bool.{cases_Bool, false≢true}
+use Rattle.std.proofs.Common.{◌≡◌, ◌∙◌, ◌-◌, ◌+◌, ℕ, true, false, replicate, slice_index_or, ◌∷◌, [], Contains, inl, inr, refl, sym, ap, subst, arith, rules}
+use Rattle.std.proofs.lemmas.Bool.{cases_Bool}
 use Rattle.std.proofs.lemmas.Option.{slice_get-get_or}
 use Rattle.palm_base.proofs.Members.{member_get, member_nil}
 use Rattle.palm_model.specs.Log.{Rises}
@@ -7,7 +7,7 @@ use Rattle.slab.proofs.SlabLemmas.{ContainsKey-within}
 use Rattle.palm_explain.specs.Merging.{IsMerged}
 use Rattle.palm_explain.proofs.Writes.{key_there}
 use Rattle.palm_explain.specs.Explanations.{NamesOfSome}
-use Rattle.palm_explain.specs.Graph.{AreBefore, HasPassed, IsKey, graph_of, is_due, log_of}
+use Rattle.palm_explain.specs.Graph.{AreBefore, graph_of, is_due, log_of}
 use Rattle.palm_explain.proofs.Graphs.{cause_key, member_key, pair_key}
 use Rattle.palm_explain.proofs.Visits.{listed_names, none_due, told_merged, values_before, values_way}
 use Rattle.palm_explain.proofs.Walks.{before_next, cause_differs, way_next}

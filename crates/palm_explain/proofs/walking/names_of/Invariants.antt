@@ -1,4 +1,4 @@
-use Rattle.std.proofs.Common.{◌≡◌, ◌<◌, ◌≤◌, ℕ, length, Contains}
+use Rattle.std.proofs.Common.{◌<◌, ◌≤◌, ℕ, length, Contains}
 use Rattle.palm_base.specs.declared.terms.Cid.{Cid}
 use Rattle.palm_model.specs.Log.{Rises}
 use Rattle.palm_explain.specs.Explanations.{NamesOfSome}

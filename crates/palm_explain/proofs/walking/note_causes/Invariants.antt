@@ -1,4 +1,4 @@
-use Rattle.std.proofs.Common.{◌≡◌, take, length}
+use Rattle.std.proofs.Common.{◌≡◌, length}
 use Rattle.palm_explain.specs.Graph.{HasMarked, IsAmongFirst, graph_of, is_due}
 use Rattle.palm_explain.proofs.walking.note_causes.Given as goal
 

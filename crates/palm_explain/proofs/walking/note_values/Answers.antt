@@ -1,4 +1,4 @@
-use Rattle.std.proofs.Common.{◌≡◌, ◌∙◌, ◌+◌, ◌<◌, ℕ, ℤ, take, Some, IsSome, Contains, inl, inr, refl, sym, ap, subst}
+use Rattle.std.proofs.Common.{◌≡◌, ◌∙◌, ◌+◌, ◌<◌, take, IsSome, inl, inr, refl, sym, ap, subst}
 use Rattle.palm_base.proofs.Members.{member_take_more}
 use Rattle.palm_explain.specs.Graph.{IsKey, IsValueKey, graph_of, is_due, pair_at}
 use Rattle.palm_explain.specs.Rows.{key_at}

@@ -1,7 +1,7 @@
-use Rattle.std.proofs.Common.{◌≡◌, ◌∙◌, ◌<◌, ℕ, false, length, refl, sym, subst, arith}
+use Rattle.std.proofs.Common.{◌∙◌, ◌<◌, false, refl, sym, subst, arith}
 use Rattle.std.proofs.lemmas.Bool.{false≢true}
 use Rattle.std.proofs.lemmas.List.{get_or_default}
-use Rattle.palm_explain.specs.Graph.{HasPassed, IsCause, graph_of, is_due}
+use Rattle.palm_explain.specs.Graph.{IsCause, graph_of, is_due}
 use Rattle.palm_explain.proofs.Changes.{handed_on}
 use Rattle.palm_explain.proofs.walking.visit.Goals as goal
 

@@ -1,5 +1,5 @@
-use Rattle.std.proofs.Common.{◌≡◌, ◌∙◌, ◌⊎◌, ◌+◌, ◌<◌, ◌≤◌, ℕ, false, get_or, length, inl, inr, sym, ap, subst, arith, Contains}
-use Rattle.palm_explain.specs.Graph.{HasForgotten, IsAmongFirst, IsCause, graph_of, link_of, marks_of, said}
+use Rattle.std.proofs.Common.{◌≡◌, ◌∙◌, ◌+◌, ◌<◌, ◌≤◌, ℕ, false, get_or, length, inl, inr, sym, ap, arith}
+use Rattle.palm_explain.specs.Graph.{IsAmongFirst, IsCause, graph_of, link_of, marks_of, said}
 use Rattle.palm_explain.proofs.Changes.{all_first, first_all, first_cases, first_last, first_left, forgotten_key, forgotten_like, forgotten_then}
 use Rattle.palm_explain.proofs.Writes.{forgotten_causes}
 use Rattle.palm_explain.proofs.withdrawing.forget.Goals as goal

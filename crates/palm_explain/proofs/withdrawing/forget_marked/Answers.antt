@@ -1,9 +1,9 @@
-use Rattle.std.proofs.Common.{◌≡◌, ◌∙◌, ◌-◌, ◌+◌, ◌<◌, ℕ, suc, Some, true, false, List, ◌∷◌, drop, length, slice_get, slice_index_or, sym, ap, subst, arith, Contains}
+use Rattle.std.proofs.Common.{◌≡◌, ◌∙◌, ◌-◌, suc, Some, true, false, ◌∷◌, drop, slice_get, slice_index_or, sym, ap, subst, arith, Contains}
 use Rattle.std.proofs.lemmas.Option.{slice_get-get_or}
-use Rattle.palm_explain.specs.Graph.{HasForgotten, IsCause, graph_of, marks_of}
+use Rattle.palm_explain.specs.Graph.{IsCause, graph_of, marks_of}
 use Rattle.palm_explain.proofs.Changes.{IsGoneFrom, cause_back, forgotten_key, forgotten_like, gone_next, gone_same}
 use Rattle.palm_explain.proofs.Closing.{drop_first}
-use Rattle.palm_explain.proofs.Graphs.{cause_key, dependent_key, key_member}
+use Rattle.palm_explain.proofs.Graphs.{cause_key, key_member}
 use Rattle.palm_explain.proofs.Writes.{node_mark}
 use Rattle.palm_explain.proofs.withdrawing.forget_marked.Goals as goal
 

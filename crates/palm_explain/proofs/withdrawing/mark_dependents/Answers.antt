@@ -1,5 +1,5 @@
-use Rattle.std.proofs.Common.{◌≡◌, ◌∙◌, ◌<◌, get_or, length, sym, ap, subst, arith, Contains}
-use Rattle.palm_explain.specs.Graph.{IsDependent, IsKey, graph_of, link_of, marks_of, said}
+use Rattle.std.proofs.Common.{◌≡◌, ◌∙◌, ◌<◌, get_or, length, sym, ap, subst, arith}
+use Rattle.palm_explain.specs.Graph.{IsKey, graph_of, link_of, marks_of, said}
 use Rattle.palm_explain.proofs.Changes.{listed_all, listed_next}
 use Rattle.palm_explain.proofs.Writes.{key_there, same_said}
 use Rattle.palm_explain.proofs.withdrawing.mark_dependents.Goals as goal

@@ -1,9 +1,9 @@
-use Rattle.std.proofs.Common.{◌≡◌, ◌∙◌, ◌⊎◌, ℕ, Some, true, slice_get, slice_index_or, sym, ap, subst, arith}
+use Rattle.std.proofs.Common.{◌≡◌, ◌∙◌, ◌⊎◌, ℕ, true, slice_index_or, sym, subst}
 use Rattle.std.proofs.lemmas.Option.{slice_get-get_or}
 use Rattle.palm_base.proofs.Members.{member_get}
 use Rattle.palm_explain.specs.Graph.{HasMarked, IsBy, IsDependent, IsKey, graph_of, marks_of}
 use Rattle.palm_explain.proofs.Graphs.{dependent_key, member_key}
-use Rattle.palm_explain.proofs.Marks.{spread_all, spread_next, spread_none}
+use Rattle.palm_explain.proofs.Marks.{spread_all, spread_next}
 use Rattle.palm_explain.proofs.withdrawing.mark_lost.Goals as goal
 
 pub mark_from-requires-clause-key : goal.mark_from-requires-clause-key

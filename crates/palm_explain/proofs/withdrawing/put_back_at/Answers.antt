@@ -1,4 +1,4 @@
-use Rattle.std.proofs.Common.{◌≡◌, ◌∙◌, ◌∷◌, [], slice_get, slice_index_or, Some, sym, ap, subst, Contains}
+use Rattle.std.proofs.Common.{◌≡◌, ◌∙◌, ◌∷◌, [], slice_index_or, sym, ap, subst, Contains}
 use Rattle.std.proofs.lemmas.Option.{slice_get-get_or}
 use Rattle.palm_base.proofs.Members.{member_here}
 use Rattle.palm_model.specs.Log.{Removal}

@@ -1,4 +1,4 @@
-use Rattle.std.proofs.Common.{◌≡◌, ◌∙◌, ◌<◌, Some, length, get_or, slice_get, sym, ap, subst, arith}
+use Rattle.std.proofs.Common.{◌≡◌, ◌∙◌, ◌<◌, Some, length, get_or, sym, ap, arith}
 use Rattle.std.proofs.lemmas.Option.{slice_get-get_or}
 use Rattle.palm_explain.proofs.RowKeys.{between_free, between_in, found_in, key_found, key_none}
 use Rattle.palm_explain.proofs.rows.Row.key_near.Goals as goal

@@ -1,4 +1,4 @@
-use Rattle.std.proofs.Common.{◌≡◌, ◌∙◌, ◌<◌, cond, is_ok, Some, length, get_or, slice_get, sym, ap, subst, arith}
+use Rattle.std.proofs.Common.{◌≡◌, ◌∙◌, cond, is_ok, length, sym, ap, subst}
 use Rattle.std.specs.List.{insert}
 use Rattle.palm_base.specs.Ascending.{Ascends}
 use Rattle.palm_explain.specs.Rows.{key_in}

@@ -1,5 +1,4 @@
-use Rattle.std.proofs.Common.{◌≡◌, ◌<◌, Some, length, slice_get, sym, subst, arith}
-use Rattle.palm_model.specs.Log.{log_pairs}
+use Rattle.std.proofs.Common.{◌≡◌, ◌<◌, Some, length, slice_get, subst, arith}
 use Rattle.palm_explain.specs.Explanations.{Explanations, log_bys}
 use Rattle.palm_explain.specs.Graph.{graph_of}
 use Rattle.palm_explain.proofs.Reading.{log_length, node_read, read_by}

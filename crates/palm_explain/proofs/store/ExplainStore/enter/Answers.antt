@@ -1,9 +1,9 @@
-use Rattle.std.proofs.Common.{◌≡◌, ◌∙◌, ◌+◌, ◌++◌, ◌∷◌, [], ◌≤◌, ℕ, Some, None, Contains, length, false, refl, sym, ap, subst, arith}
+use Rattle.std.proofs.Common.{◌≡◌, ◌∙◌, ◌+◌, ◌++◌, ◌∷◌, [], ◌≤◌, Some, None, Contains, length, false, refl, sym, ap, subst, arith}
 use Rattle.indexmap.specs.IndexSet.{spare}
 use Rattle.slab.specs.Slab.{Updates, get}
 use Rattle.palm_explain.specs.declared.node.Node.{Node}
 use Rattle.palm_explain.specs.Explanations.{Explanations}
-use Rattle.palm_explain.specs.Graph.{AreFound, HasLinked, IsKept, IsKey, IsReadyAt, graph_of, log_of, marks_of}
+use Rattle.palm_explain.specs.Graph.{AreFound, HasLinked, IsKept, IsKey, graph_of, log_of, marks_of}
 use Rattle.palm_explain.proofs.Graphs.{pair_key}
 use Rattle.palm_explain.proofs.Reading.{on_err, view_same}
 use Rattle.palm_explain.proofs.Stores.{kept_entered, kept_like, kept_with_rows, log_entered}

@@ -1,4 +1,4 @@
-use Rattle.std.proofs.Common.{◌≡◌, ◌∙◌, Some, IsSome, refl, sym, ap, subst}
+use Rattle.std.proofs.Common.{◌≡◌, ◌∙◌, IsSome, refl, sym, ap, subst}
 use Rattle.palm_base.specs.Tells.{Tells}
 use Rattle.palm_model.specs.Log.{NamesOfPair}
 use Rattle.palm_explain.specs.Explanations.{Explanations}

@@ -1,6 +1,6 @@
-use Rattle.std.proofs.Common.{◌≡◌, ◌<◌, Some, length, slice_get, sym, subst, arith}
+use Rattle.std.proofs.Common.{◌≡◌, ◌<◌, Some, length, slice_get, subst, arith}
 use Rattle.palm_model.specs.Log.{log_pairs}
-use Rattle.palm_explain.specs.Explanations.{Explanations, log_bys}
+use Rattle.palm_explain.specs.Explanations.{Explanations}
 use Rattle.palm_explain.specs.Graph.{graph_of}
 use Rattle.palm_explain.proofs.Reading.{log_length, node_read, read_pair}
 use Rattle.palm_explain.proofs.store.ExplainStore.pair_at.Goals as goal

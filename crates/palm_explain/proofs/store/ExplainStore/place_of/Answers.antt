@@ -1,4 +1,4 @@
-use Rattle.std.proofs.Common.{◌≡◌, ◌∙◌, true, false, Some, MatchOption, slice_get, Contains, sym, ap, subst}
+use Rattle.std.proofs.Common.{◌≡◌, ◌∙◌, true, Some, slice_get, Contains, sym, ap, subst}
 use Rattle.std.proofs.lemmas.Bool.{false≢true}
 use Rattle.palm_model.specs.Log.{log_pairs, same_pair}
 use Rattle.palm_events.proofs.Names.{pair_same, same_pair_itself}

@@ -1,4 +1,4 @@
-use Rattle.std.proofs.Common.{◌≡◌, ◌∷◌, ℕ, [], nat_eq, sym, ap, ◌∙◌, subst, Contains}
+use Rattle.std.proofs.Common.{◌∷◌, [], nat_eq, sym, ap, ◌∙◌, subst, Contains}
 use Rattle.indexmap.specs.IndexSet.{insert_all, spare}
 use Rattle.palm_model.specs.Constraint.{Distinct}
 use Rattle.palm_model.specs.Event.{lost_pairs, vars_of}
