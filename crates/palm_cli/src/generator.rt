@@ -1,0 +1,96 @@
+//! The command `gen`.
+ghost use Rattle.std.specs.Prelude.{◌≡◌, ◌<◌, ◌≤◌, ℕ, List, [], false, string_bytes};
+ghost use Rattle.palm_lang.specs.Reply.{ended};
+ghost use Rattle.palm_cli.specs.Commands.{WritesSummary, status_of};
+ghost use Rattle.palm_cli.specs.Generator.{solve_line};
+ghost use Rattle.palm_cli.specs.Solving.{IsTextOf, SolvesAfter};
+ghost use Rattle.palm_cli.specs.declared.limits.TheConstants.{MOST_QUEENS};
+
+use crate::limits::MOST_QUEENS;
+use crate::queens::{easing_text, heading_text, posing_text, solve_text};
+use crate::status::Status;
+use palm_agenda::LastOrder;
+use palm_base::{Sink, SteadySink, Steps, write_all};
+use palm_guide::FirstGuide;
+use palm_session::{Session, Stop};
+use std::alloc::Global;
+use std::marker::Brand;
+use std::sync::ledger::{Blank, Ledger};
+
+/// Makes the session of so many queens, runs it without guides and orders, and writes the summary.
+pub fn generate<K: Sink>(alloc: Global, size: u8, sink: &mut K) -> Status
+    requires some { 1 ≤ size }
+    requires few { size ≤ MOST_QUEENS }
+    ensures { WritesSummary size (K.state sink.old) (K.state sink.new) result }
+{
+    generate_counted::<K, Brand>(alloc, size, sink, Blank::new(1))
+}
+
+/// The same, with a counter of its own.
+fn generate_counted<K: Sink, L: Ledger>(
+    alloc: Global,
+    size: u8,
+    sink: &mut K,
+    blank: Blank,
+) -> Status
+    requires some { 1 ≤ size }
+    requires few { size ≤ MOST_QUEENS }
+    requires named { blank.name ≡ L.name }
+    requires parts { blank.parts ≡ L.parts }
+    requires shared { 0 < L.parts }
+    ensures { WritesSummary size (K.state sink.old) (K.state sink.new) result }
+{
+    let mut steps = Steps::<L>::start(blank);
+    match summarize(alloc, size, sink, &mut steps) {
+        Ok(()) => Status::Done,
+        Err(Stop::WriteFault) => Status::WriteFault,
+        Err(Stop::NoMemory) => Status::NoMemory,
+    }
+}
+
+/// Writes the heading, and the reply of each `solve` line as it comes.
+fn summarize<K: Sink, L: Ledger>(
+    alloc: Global,
+    size: u8,
+    sink: &mut K,
+    steps: &mut Steps<L>,
+) -> Result<(), Stop>
+    requires some { 1 ≤ size }
+    requires few { size ≤ MOST_QUEENS }
+    ensures { WritesSummary size (K.state sink.old) (K.state sink.new) (status_of result) }
+{
+    let heading = heading_text(alloc, size)?;
+    let posing = posing_text(alloc, size)?;
+    let easing = easing_text(alloc, size)?;
+    let solve = solve_text(alloc)?;
+    let mut session =
+        Session::<FirstGuide, LastOrder>::new(alloc, Vec::new(alloc), Vec::new(alloc))?;
+    if write_all(sink, heading.as_bytes()).is_err() {
+        return Err(Stop::WriteFault);
+    }
+    let solve = solve.as_bytes();
+    solve_after(alloc, &mut session, posing.as_bytes(), solve, sink, steps)?;
+    solve_after(alloc, &mut session, easing.as_bytes(), solve, sink, steps)
+}
+
+/// Answers lines whose replies are not kept, and then a `solve` line whose reply is written.
+fn solve_after<K: Sink, L: Ledger>(
+    alloc: Global,
+    session: &mut Session<FirstGuide, LastOrder>,
+    text: &[u8],
+    solve: &[u8],
+    sink: &mut K,
+    steps: &mut Steps<L>,
+) -> Result<(), Stop>
+    requires going { session.old.over ≡ false }
+    requires whole { session.old.unfinished ≡ [] }
+    requires text { (lines : List (List ℕ)) × IsTextOf lines text.now }
+    requires solve { solve.now ≡ ended solve_line }
+    ensures { (lines : List (List ℕ)) → IsTextOf lines text.now →
+        SolvesAfter session.old lines (K.state sink.old) (K.state sink.new) session.new result }
+{
+    let mut unkept = SteadySink::new(alloc);
+    session.feed(text, &mut unkept, steps)?;
+    session.feed(solve, sink, steps)?;
+    Ok(())
+}
