@@ -1,5 +1,5 @@
 -- The lines of a generated session are lines as they stand, and none of them ends the session.
-use Rattle.std.proofs.Common.{◌≡◌, ◌≢◌, ℕ, zero, suc, ◌+◌, ◌-◌, ◌<◌, ◌≤◌, ◌^◌, ◌==◌, Bool, true, false, nat_le, nat_lt, List, [], ◌∷◌, ◌++◌, map, flat_map, length, All, codes, decimal, refl, sym, ap, ◌∙◌, arith, subst, slice_index}
+use Rattle.std.proofs.Common.{◌≡◌, ◌≢◌, ℕ, zero, suc, ◌+◌, ◌-◌, ◌<◌, ◌≤◌, ◌^◌, ◌==◌, Bool, true, false, nat_le, nat_lt, List, [], ◌∷◌, ◌++◌, map, flat_map, length, All, codes, decimal, refl, sym, ap, ◌∙◌, arith, subst, get_or, slice_index}
 use Rattle.std.specs.List.{list_all}
 use Rattle.std.proofs.lemmas.Bool.Decides.{nat_tests}
 use Rattle.std.proofs.lemmas.List.Elements.{All-nil, All-cons, All-append, All-weaker}
@@ -28,9 +28,13 @@ IsPrinted bytes = All (λ b. 32 ≤ b) bytes
 
 -- ---- a line that begins with another letter than `quit`
 
-first_byte : (b : ℕ) (rest : List ℕ) (bytes : List Lexeme) → lexeme_at b rest ∷ bytes ≡ word (codes "quit") ∷ [] → b ≡ 113
-unfolding lexeme_at
-first_byte b rest bytes e = cc
+first_of : List Lexeme → ℕ
+first_of [] = 0
+first_of (l ∷ ls) = get_or l.text 0 0
+
+first_byte : (b : ℕ) (rest : List ℕ) (more : List Lexeme) → lexeme_at b rest ∷ more ≡ word (codes "quit") ∷ [] → b ≡ 113
+unfolding lexeme_at first_of
+first_byte b rest more e = ap first_of e
 
 spelled : (b : ℕ) (rest : List ℕ) → is_blank b ≡ false → Spells (tokens_of (b ∷ rest)) (pieces QuitForm) → b ≡ 113
 spelled b rest w h =
@@ -86,9 +90,9 @@ both xs ys p q = All-append (λ b. 32 ≤ b) xs ys p q
 queen : (size i : ℕ) → size ≤ 20000 → i ≤ 20000 → IsInner (queen_line size i)
 unfolding queen_line
 queen size i few low =
+    let a : List ℕ = codes "var " ++ queen_name i in
     inner 118 (codes "ar " ++ queen_name i ++ codes " 1.." ++ decimal size) refl (λ e. absurd (omega (arith, e)))
-    (both (codes "var ") (queen_name i ++ codes " 1.." ++ decimal size) (printed (codes "var ") refl)
-    (both (queen_name i) (codes " 1.." ++ decimal size) (name i low) (both (codes " 1..") (decimal size) (printed (codes " 1..") refl) (number size few))))
+    (both (a ++ codes " 1..") (decimal size) (both a (codes " 1..") (both (codes "var ") (queen_name i) (printed (codes "var ") refl) (name i low)) (printed (codes " 1..") refl)) (number size few))
 
 names : (a k : ℕ) → a + k ≤ 20000 → IsPrinted (flat_map (λ i. codes " " ++ queen_name i) (numbered_from a k))
 names a zero few = All-nil (λ b. 32 ≤ b)
@@ -105,18 +109,24 @@ differ size few =
 diagonal : (letter sign : List ℕ) (i j : ℕ) → IsPrinted letter → IsPrinted sign → i ≤ 20000 → j ≤ 20000 → IsInner (diagonal_line letter sign i j)
 unfolding diagonal_line
 diagonal letter sign i j p q low high =
-    let apart = both sign (codes " " ++ decimal (j - i)) q (both (codes " ") (decimal (j - i)) (printed (codes " ") refl) (number (j - i) (omega (arith, high)))) in
-    let behind = both (queen_name j) (codes " " ++ sign ++ codes " " ++ decimal (j - i)) (name j high) (both (codes " ") (sign ++ codes " " ++ decimal (j - i)) (printed (codes " ") refl) apart) in
-    let sides = both (queen_name i) (codes " != " ++ queen_name j ++ codes " " ++ sign ++ codes " " ++ decimal (j - i)) (name i low)
-    (both (codes " != ") (queen_name j ++ codes " " ++ sign ++ codes " " ++ decimal (j - i)) (printed (codes " != ") refl) behind) in
-    let body = both (codes " : ") (queen_name i ++ codes " != " ++ queen_name j ++ codes " " ++ sign ++ codes " " ++ decimal (j - i)) (printed (codes " : ") refl) sides in
-    let named = both (decimal i) (codes "_" ++ decimal j ++ codes " : " ++ queen_name i ++ codes " != " ++ queen_name j ++ codes " " ++ sign ++ codes " " ++ decimal (j - i)) (number i low)
-    (both (codes "_") (decimal j ++ codes " : " ++ queen_name i ++ codes " != " ++ queen_name j ++ codes " " ++ sign ++ codes " " ++ decimal (j - i)) (printed (codes "_") refl)
-    (both (decimal j) (codes " : " ++ queen_name i ++ codes " != " ++ queen_name j ++ codes " " ++ sign ++ codes " " ++ decimal (j - i)) (number j high) body)) in
+    let a : List ℕ = codes "add " ++ letter in
+    let b : List ℕ = a ++ decimal i in
+    let c : List ℕ = b ++ codes "_" in
+    let d : List ℕ = c ++ decimal j in
+    let e : List ℕ = d ++ codes " : " in
+    let f : List ℕ = e ++ queen_name i in
+    let g : List ℕ = f ++ codes " != " in
+    let h : List ℕ = g ++ queen_name j in
+    let k : List ℕ = h ++ codes " " in
+    let l : List ℕ = k ++ sign in
+    let m : List ℕ = l ++ codes " " in
+    let to_a = both (codes "add ") letter (printed (codes "add ") refl) p in
+    let to_d = both c (decimal j) (both b (codes "_") (both a (decimal i) to_a (number i low)) (printed (codes "_") refl)) (number j high) in
+    let to_f = both e (queen_name i) (both d (codes " : ") to_d (printed (codes " : ") refl)) (name i low) in
+    let to_h = both g (queen_name j) (both f (codes " != ") to_f (printed (codes " != ") refl)) (name j high) in
+    let to_m = both l (codes " ") (both k sign (both h (codes " ") to_h (printed (codes " ") refl)) q) (printed (codes " ") refl) in
     inner 97 (codes "dd " ++ letter ++ decimal i ++ codes "_" ++ decimal j ++ codes " : " ++ queen_name i ++ codes " != " ++ queen_name j ++ codes " " ++ sign ++ codes " " ++ decimal (j - i))
-    refl (λ e. absurd (omega (arith, e)))
-    (both (codes "add ") (letter ++ decimal i ++ codes "_" ++ decimal j ++ codes " : " ++ queen_name i ++ codes " != " ++ queen_name j ++ codes " " ++ sign ++ codes " " ++ decimal (j - i)) (printed (codes "add ") refl)
-    (both letter (decimal i ++ codes "_" ++ decimal j ++ codes " : " ++ queen_name i ++ codes " != " ++ queen_name j ++ codes " " ++ sign ++ codes " " ++ decimal (j - i)) p named))
+    refl (λ z. absurd (omega (arith, z))) (both m (decimal (j - i)) to_m (number (j - i) (omega (arith, high))))
 
 pub solve : IsInner solve_line
 unfolding solve_line
@@ -156,20 +166,22 @@ several lines false size e h = rw e (All-nil IsInner)
 
 pub all_posing : (size : ℕ) → size ≤ MOST_QUEENS → All IsInner (posing_lines size)
 all_posing size few =
+    let queens : List (List ℕ) = map (queen_line size) (numbered size) in
+    let rows : List (List ℕ) = where_several size (differ_line size ∷ []) in
     let pairs : List (List ℕ) = flat_map (λ i. flat_map (pair_lines i) (numbered_from (i + 1) (size - i))) (numbered (size - 1)) in
-    All-append IsInner (map (queen_line size) (numbered size)) (where_several size (differ_line size ∷ []) ++ pairs) (all_queens size 1 size (omega (arith, few)) (omega (arith, few)))
-    (All-append IsInner (where_several size (differ_line size ∷ [])) pairs
-    (several (differ_line size ∷ []) (nat_lt 1 size) size refl (All-cons IsInner (differ_line size) [] (differ size (omega (arith, few))) (All-nil IsInner)))
-    (all_pairs size 1 (size - 1) (omega (arith, few)) (omega (arith, few))))
+    All-append IsInner (queens ++ rows) pairs
+    (All-append IsInner queens rows (all_queens size 1 size (omega (arith, few)) (omega (arith, few)))
+    (several (differ_line size ∷ []) (nat_lt 1 size) size refl (All-cons IsInner (differ_line size) [] (differ size (omega (arith, few))) (All-nil IsInner))))
+    (all_pairs size 1 (size - 1) (omega (arith, few)) (omega (arith, few)))
 
 pub all_easing : (size : ℕ) → All IsInner (easing_lines size)
 all_easing size = several (retract_line ∷ []) (nat_lt 1 size) size refl (All-cons IsInner retract_line [] retract (All-nil IsInner))
 
 pub all_generated : (size : ℕ) → size ≤ MOST_QUEENS → All IsInner (generated_lines size)
 all_generated size few =
-    All-append IsInner (posing_lines size) (solve_line ∷ easing_lines size ++ solve_line ∷ []) (all_posing size few)
-    (All-cons IsInner solve_line (easing_lines size ++ solve_line ∷ []) solve
-    (All-append IsInner (easing_lines size) (solve_line ∷ []) (all_easing size) (All-cons IsInner solve_line [] solve (All-nil IsInner))))
+    All-append IsInner (posing_lines size ++ (solve_line ∷ easing_lines size)) (solve_line ∷ [])
+    (All-append IsInner (posing_lines size) (solve_line ∷ easing_lines size) (all_posing size few) (All-cons IsInner solve_line (easing_lines size) solve (all_easing size)))
+    (All-cons IsInner solve_line [] solve (All-nil IsInner))
 
 pub solve_text_is : All IsInner (solve_line ∷ [])
 solve_text_is = All-cons IsInner solve_line [] solve (All-nil IsInner)

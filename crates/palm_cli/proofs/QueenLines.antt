@@ -1,10 +1,11 @@
 -- The lines of a generated session, one after another.
-use Rattle.std.proofs.Common.{◌≡◌, ℕ, zero, suc, ◌+◌, ◌-◌, ◌*◌, ◌≤◌, List, [], ◌∷◌, ◌++◌, map, flat_map, length, refl, sym, ap, ap₂, ◌∙◌, arith, append_assoc, append-nil, length-append, Result, Ok, Err, OnOk, subst}
+use Rattle.std.proofs.Common.{◌≡◌, ℕ, zero, suc, ◌+◌, ◌-◌, ◌*◌, ◌<◌, ◌≤◌, Bool, true, nat_lt, List, [], ◌∷◌, ◌++◌, map, flat_map, length, refl, sym, ap, ap₂, ◌∙◌, arith, append_assoc, append-nil, length-append, Result, Ok, Err, OnOk, is_ok, if◌then◌else◌}
 use Rattle.std.proofs.lemmas.Grind.{flat_map-append}
+use Rattle.std.proofs.lemmas.Bool.Decides.{nat_tests}
 use Rattle.std.proofs.Math.Nat.{mul-suc, suc-mul}
 use Rattle.palm_lang.specs.Reply.{ended}
 use Rattle.palm_session.specs.Objects.{numbered, numbered_from}
-use Rattle.palm_cli.specs.Generator.{queen_name, queen_line, differ_line, pair_lines, posing_lines, easing_lines, solve_line, generated_lines}
+use Rattle.palm_cli.specs.Generator.{queen_line, differ_line, pair_lines, where_several, retract_line, easing_lines, solve_line, generated_lines}
 
 numbered_more : (n k : ℕ) → numbered_from n (suc k) ≡ numbered_from n k ++ (n + k) ∷ []
 numbered_more n zero = ap (λ (m : ℕ). m ∷ []) (omega arith)
@@ -53,19 +54,28 @@ length_pairs size i (suc k) e =
     let second : suc k * suc k ≡ k * suc k + suc k = suc-mul k (suc k) in
     omega (arith, one, rest, whole, first, second, e)
 
-pub several_lines : (n : ℕ) → length (generated_lines (suc (suc n))) ≡ suc (suc n) * suc (suc n) + 4
+length_parts : (a b c e : List (List ℕ)) (s : List ℕ) → length (a ++ b ++ c ++ (s ∷ e) ++ (s ∷ [])) ≡ length a + length b + length c + length e + 2
+length_parts a b c e s =
+    omega (arith, length-append (a ++ b ++ c ++ (s ∷ e)) (s ∷ []), length-append (a ++ b ++ c) (s ∷ e), length-append (a ++ b) c, length-append a b)
+
+length_several : (size : ℕ) (line : List ℕ) → 1 < size → length (where_several size (line ∷ [])) ≡ 1
+length_several size line many =
+    let t : nat_lt 1 size ≡ true = grind (arith, nat_tests, many) in
+    ap (λ (b : Bool). length (if b then line ∷ [] else [])) t
+
+several_lines : (n : ℕ) → length (generated_lines (suc (suc n))) ≡ suc (suc n) * suc (suc n) + 4
 several_lines n =
     let size : ℕ = suc (suc n) in
     let queens : List (List ℕ) = map (queen_line size) (numbered size) in
     let pairs : List (List ℕ) = flat_map (λ j. flat_map (pair_lines j) (numbered_from (j + 1) (size - j))) (numbered (size - 1)) in
-    let one = length_map (queen_line size) 1 size in
+    let one : length queens ≡ size = length_map (queen_line size) 1 size in
     let fewer : size - 1 ≡ suc n = omega arith in
     let two : length pairs ≡ suc n * suc (suc n) =
     ap (λ (m : ℕ). length (flat_map (λ j. flat_map (pair_lines j) (numbered_from (j + 1) (size - j))) (numbered m))) fewer ∙ length_pairs size 1 (suc n) (omega arith) in
-    let three = length-append queens (differ_line size ∷ pairs) in
-    let four = length-append (posing_lines size) (solve_line ∷ easing_lines size ++ solve_line ∷ []) in
+    let three = length_several size (differ_line size) (omega arith) in
+    let four = length_several size retract_line (omega arith) in
     let five : suc (suc n) * suc (suc n) ≡ suc n * suc (suc n) + suc (suc n) = suc-mul (suc n) (suc (suc n)) in
-    omega (arith, one, two, three, four, five)
+    length_parts queens (where_several size (differ_line size ∷ [])) pairs (easing_lines size) solve_line ∙ omega (arith, one, two, three, four, five)
 
 pub line_count_is : (size : ℕ) → 1 ≤ size → (size ≡ 1 → ⊥) → length (generated_lines size) ≡ size * size + 4
 line_count_is zero some other = absurd (omega (arith, some))
@@ -76,3 +86,7 @@ line_count_is (suc (suc n)) some other = several_lines n
 pub on_ok : {T E : Type 0} (P Q : Type 0) (r : Result T E) → (P → Q) → OnOk r P → OnOk r Q
 on_ok P Q (Ok x) f h = f h
 on_ok P Q (Err e) f h = tt
+
+pub on_ok_if : {T E : Type 0} (P : Type 0) (r : Result T E) (s a b : List ℕ) → s ≡ (if is_ok r then a else b) → (s ≡ a → P) → OnOk r P
+on_ok_if P (Ok x) s a b e f = f e
+on_ok_if P (Err x) s a b e f = tt

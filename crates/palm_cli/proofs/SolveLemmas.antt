@@ -207,24 +207,24 @@ solved_after x session mid later text solve lines a b before after n m g h none 
     (calm, solved session.state mid.state later.state lines a b before.written after.written mid.unfinished later.unfinished one.0 two.0, two.0.none, two.1)
 
 -- the second was not taken whole
-pub stopped_after : {T : Type 0} (session mid later last : View) (text solve : List ℕ) (lines : List (List ℕ)) (a b : Option (List ℕ)) (before after : SinkState) (n m : ℕ) (g : Going) (stop : Stop)
+pub stopped_after : (T : Type 0) (session mid later last : View) (text solve : List ℕ) (lines : List (List ℕ)) (a b : Option (List ℕ)) (before after : SinkState) (n m : ℕ) (g : Going) (stop : Stop)
     → IsState session.state → session.unfinished ≡ [] → IsTextOf lines text → solve ≡ ended solve_line → Feeds session text a b mid n (Ok g) → HasStopCause before.faults after.faults stop
     → Feeds mid solve before.written after.written later m (Err stop) → SolvesAfter {T = T} session lines before after last (Err stop)
-stopped_after session mid later last text solve lines a b before after n m g stop state none is e f cause k =
+stopped_after T session mid later last text solve lines a b before after n m g stop state none is e f cause k =
     let one = taken session mid text lines a b n g none is f in
     let there : mid.unfinished ++ solve ≡ flat_map ended (solve_line ∷ []) = ap (λ (u : List ℕ). u ++ solve) one.0.none ∙ (solve_is solve e).whole in
     let mid_state = run_keeps session.state lines one.0.replies mid.state state one.0.run in
     let two = takes_part mid.state (solve_line ∷ []) before.written after.written mid_state solve_text_is
     (subst (λ (z : List ℕ). FeedsPart mid.state z before.written after.written) there k.0) in
-    by_stop session before after last stop lines cause (part_solved session.state mid.state lines a b before.written after.written mid.unfinished one.0 two)
+    by_stop T session before after last stop lines cause (part_solved session.state mid.state lines a b before.written after.written mid.unfinished one.0 two)
   where
-    by_stop : {T : Type 0} (session : View) (before after : SinkState) (last : View) (stop : Stop) (lines : List (List ℕ)) → HasStopCause before.faults after.faults stop
+    by_stop : (T : Type 0) (session : View) (before after : SinkState) (last : View) (stop : Stop) (lines : List (List ℕ)) → HasStopCause before.faults after.faults stop
         → SolvesPart session.state lines before.written after.written → SolvesAfter {T = T} session lines before after last (Err stop)
-    by_stop session before after last WriteFault lines cause p = (cause.1, p)
-    by_stop session before after last NoMemory lines cause p = (cause, p)
+    by_stop T session before after last WriteFault lines cause p = (cause.1, p)
+    by_stop T session before after last NoMemory lines cause p = (cause, p)
 
 -- the first was not taken whole, to a sink that never fails
-pub stopped_before : {T : Type 0} (session last : View) (lines : List (List ℕ)) (sink : SinkState) (stop : Stop) → IsState session.state → HasStopCause 0 0 stop
+pub stopped_before : (T : Type 0) (session last : View) (lines : List (List ℕ)) (sink : SinkState) (stop : Stop) → IsState session.state → HasStopCause 0 0 stop
     → SolvesAfter {T = T} session lines sink sink last (Err stop)
-stopped_before session last lines sink WriteFault is cause = absurd (omega (arith, cause.1))
-stopped_before session last lines sink NoMemory is cause = (refl, unsolved session.state lines sink.written is)
+stopped_before T session last lines sink WriteFault is cause = absurd (omega (arith, cause.1))
+stopped_before T session last lines sink NoMemory is cause = (refl, unsolved session.state lines sink.written is)

@@ -31,6 +31,13 @@ start = fresh [] []
 started : IsState start
 started = fresh_is [] []
 
+-- what is held after a step is again a state that a session can hold
+pub keeps_state : (s t : SessionState) (lines : List (List ℕ)) (was now : Option (List ℕ)) → IsState s → Solves s lines was now t → IsState t
+keeps_state s t lines was now is one = answers_keep one.between solve_line one.reply t (run_keeps s lines one.replies one.between is one.run) one.answers
+
+pub fresh_state : (session : View) → session ≡ record { state = start; checks = 0; unfinished = []; over = false } → IsState session.state
+fresh_state session e = subst (λ (v : View). IsState v.state) (sym e) started
+
 -- ---- there is a summary, however far it was told
 
 -- what is left behind the first `solve` line
@@ -97,8 +104,9 @@ told_heading size was now f =
       is = h.is;
       written = record {
         front = f.front;
-        back = f.back ++ (h.first ++ h.second);
-        whole = ap (λ (z : List ℕ). z ++ (h.first ++ h.second)) f.whole ∙ append_assoc f.front f.back (h.first ++ h.second);
+        back = f.back ++ h.first ++ h.second;
+        whole = ap (λ (z : List ℕ). z ++ h.first ++ h.second) f.whole ∙ ap (λ (z : List ℕ). z ++ h.second) (append_assoc f.front f.back h.first)
+            ∙ append_assoc f.front (f.back ++ h.first) h.second;
         written = f.written;
       };
     }
@@ -113,8 +121,8 @@ told_first size was mid now h p =
       written = record {
         front = heading size ++ f.front;
         back = f.back ++ more.second;
-        whole = ap (λ (z : List ℕ). heading size ++ (z ++ more.second)) f.whole ∙ ap (λ (z : List ℕ). heading size ++ z) (append_assoc f.front f.back more.second)
-            ∙ sym (append_assoc (heading size) f.front (f.back ++ more.second));
+        whole = ap (λ (z : List ℕ). heading size ++ z ++ more.second) f.whole ∙ ap (λ (z : List ℕ). z ++ more.second) (sym (append_assoc (heading size) f.front f.back))
+            ∙ append_assoc (heading size ++ f.front) f.back more.second;
         written = appended_both was mid now (heading size) f.front h f.written;
       };
     }
@@ -149,8 +157,7 @@ told_second size s was then mid now h one p =
       written = record {
         front = far ++ f.front;
         back = f.back;
-        whole = ap (λ (z : List ℕ). heading size ++ (one.reply ++ z)) f.whole ∙ sym (append_assoc (heading size) one.reply (f.front ++ f.back))
-            ∙ sym (append_assoc far f.front f.back);
+        whole = ap (λ (z : List ℕ). far ++ z) f.whole ∙ sym (append_assoc far f.front f.back);
         written = appended_both was mid now far f.front (appended_both was then mid (heading size) one.reply h one.written) f.written;
       };
     }
@@ -166,7 +173,7 @@ pub told_all : (size : ℕ) (s t : SessionState) (was then mid now : Option (Lis
 told_all size s t was then mid now h one two = record {
   summary = heading size ++ one.reply ++ two.reply;
   is = summed size s t then mid one two.between two.replies two.reply two.run two.answers;
-  written = appended_both was then now (heading size) (one.reply ++ two.reply) h (appended_both then mid now one.reply two.reply one.written two.written);
+  written = appended_both was mid now (heading size ++ one.reply) two.reply (appended_both was then mid (heading size) one.reply h one.written) two.written;
 }
 
 -- ---- the same by status
@@ -177,16 +184,19 @@ wants size before = let t = told_nothing size before.written in (refl, t.summary
 pub fails_heading : (size : ℕ) (before after : SinkState) → Rose before.faults after.faults → AppendedFront before.written after.written (heading size) → WritesSummary size before after WriteFault
 fails_heading size before after rose f = let t = told_heading size before.written after.written f in (rose, t.summary, t.is, t.written)
 
+pub stops_heading : (size : ℕ) (before after : SinkState) (text : List ℕ) → text ≡ heading size → Rose before.faults after.faults → AppendedFront before.written after.written text → WritesSummary size before after WriteFault
+stops_heading size before after text is rose f = fails_heading size before after rose (subst (λ (z : List ℕ). AppendedFront before.written after.written z) is f)
+
 rose_after : (a b c : ℕ) → b ≡ a → Rose b c → Rose a c
 rose_after a b c e r = subst (λ (n : ℕ). Rose n c) e r
 
 -- the first step stopped
-pub first_stops : {T U : Type 0} (size : ℕ) (before mid after : SinkState) (session later : View) (e : Stop) → session.state ≡ start → mid.faults ≡ before.faults
+pub first_stops : (T U : Type 0) (size : ℕ) (before mid after : SinkState) (session later : View) (e : Stop) → session.state ≡ start → mid.faults ≡ before.faults
     → Appended before.written mid.written (heading size) → SolvesAfter {T = T} session (posing_lines size) mid after later (Err e) → WritesSummary size before after (status_of {T = U} (Err e))
-first_stops size before mid after session later stop.WriteFault is calm h p =
+first_stops T U size before mid after session later stop.WriteFault is calm h p =
     let t = told_first size before.written mid.written after.written h (subst (λ (s : SessionState). SolvesPart s (posing_lines size) mid.written after.written) is p.1) in
     (rose_after before.faults mid.faults after.faults calm p.0, t.summary, t.is, t.written)
-first_stops size before mid after session later stop.NoMemory is calm h p =
+first_stops T U size before mid after session later stop.NoMemory is calm h p =
     let t = told_first size before.written mid.written after.written h (subst (λ (s : SessionState). SolvesPart s (posing_lines size) mid.written after.written) is p.1) in
     (p.0 ∙ calm, t.summary, t.is, t.written)
 
@@ -223,7 +233,7 @@ record Same (t u : SessionState) (a b : List ℕ) : Type 0 where
 one_answer : (s t u : SessionState) (line a b : List ℕ) → IsWithout [] [] s → IsState s → Answers s line a t → Answers s line b u → Same t u a b
 one_answer s t u line a b free is x y =
     let one = answers_once s line a b t u free.unguided free.free is x y in
-    record { states = sym one.1; replies = one.0; free = answers_without [] [] s line a t (chooses_none line) x free; is = answers_keep s line a t is x }
+    record { states = one.1; replies = one.0; free = answers_without [] [] s line a t (chooses_none line) x free; is = answers_keep s line a t is x }
 
 one_run : (s t u : SessionState) (lines : List (List ℕ)) (a b : List ℕ) → IsWithout [] [] s → IsState s → Run s lines a t → Run s lines b u → Same t u a b
 one_run s t u [] a b free is x y = record {
@@ -255,7 +265,7 @@ one_summary size a b x y =
     (subst (λ (z : SessionState). Run z (easing_lines size) y.easing y.eased) (sym solved.states) y.eases) in
     let again = one_answer x.eased x.last y.last solve_line x.second y.second eased.free eased.is x.solves_again
     (subst (λ (z : SessionState). Answers z solve_line y.second y.last) (sym eased.states) y.solves_again) in
-    x.whole ∙ ap (λ (z : List ℕ). heading size ++ (z ++ x.second)) solved.replies ∙ ap (λ (z : List ℕ). heading size ++ (y.first ++ z)) again.replies ∙ sym y.whole
+    x.whole ∙ ap (λ (z : List ℕ). heading size ++ z ++ x.second) solved.replies ∙ ap (λ (z : List ℕ). heading size ++ y.first ++ z) again.replies ∙ sym y.whole
 
 -- ---- the replies are those to the text
 
@@ -266,8 +276,10 @@ pub of_replies : (size : ℕ) (summary : List ℕ) (s : IsSummary size summary) 
 of_replies size summary s few =
     let lines : List (List ℕ) = generated_lines size in
     let inner = all_generated size few in
-    let two = run_then s.solved s.eased s.last (easing_lines size) (solve_line ∷ []) s.easing s.second s.eases (one_line s.eased s.last solve_line s.second s.solves_again) in
-    let three = run_then s.posed s.solved s.last (solve_line ∷ []) (easing_lines size ++ solve_line ∷ []) s.first (s.easing ++ s.second) (one_line s.posed s.solved solve_line s.first s.solves) two in
+    let front : List (List ℕ) = posing_lines size ++ (solve_line ∷ easing_lines size) in
+    let one = run_then s.posed s.solved s.eased (solve_line ∷ []) (easing_lines size) s.first s.easing (one_line s.posed s.solved solve_line s.first s.solves) s.eases in
+    let two = run_then start s.posed s.eased (posing_lines size) (solve_line ∷ easing_lines size) s.posing (s.first ++ s.easing) s.poses one in
+    let three = run_then start s.eased s.last front (solve_line ∷ []) (s.posing ++ (s.first ++ s.easing)) s.second two (one_line s.eased s.last solve_line s.second s.solves_again) in
     record {
       lines = lines;
       answered = lines;
@@ -279,5 +291,5 @@ of_replies size summary s few =
         all = sym (append-nil (map without_return lines) ∙ all_bare lines inner);
       };
       are_answered = all (all_go_on lines inner);
-      run = run_then start s.posed s.last (posing_lines size) (solve_line ∷ easing_lines size ++ solve_line ∷ []) s.posing (s.first ++ s.easing ++ s.second) s.poses three;
+      run = subst (λ (z : List ℕ). Run start lines z s.last) (ap (λ (z : List ℕ). z ++ s.second) (sym (append_assoc s.posing s.first s.easing))) three;
     }

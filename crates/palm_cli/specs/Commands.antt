@@ -4,12 +4,14 @@ use Rattle.palm_base.specs.Streams.{SourceState, SinkState, Consumes, Appended, 
 use Rattle.palm_lang.specs.Reply.{ended}
 use Rattle.palm_session.specs.State.{SessionState, fresh}
 use Rattle.palm_session.specs.Lines.{HasNoFeed, AreLines, without_return}
-use Rattle.palm_session.specs.Replies.{Replies, Run, Ends, KeepsOn}
+use Rattle.palm_session.specs.Replies.{Replies, Run as RunLines, Ends, KeepsOn}
 use Rattle.palm_session.specs.Feeding.{FeedsOn}
 use Rattle.palm_session.specs.declared.stop.Stop.{Stop}
 use Rattle.palm_session.specs.declared.stop.Stop.TheVariants as stop
 use Rattle.palm_cli.specs.Generator.{IsSummary}
 use Rattle.palm_cli.specs.declared.limits.TheConstants.{MOST_INPUT_BYTES, PIECE}
+use Rattle.palm_cli.specs.declared.words.Request.{Request}
+use Rattle.palm_cli.specs.declared.words.Request.TheVariants.{Run, Gen}
 use Rattle.palm_cli.specs.declared.status.Status.{Status}
 use Rattle.palm_cli.specs.declared.status.Status.TheVariants.{Done, Usage, ReadFault, WriteFault, NoMemory, TooLong}
 
@@ -110,7 +112,7 @@ pub record RunsPart (guides orders : List ℕ) (before after : Streams) : Type 0
   pub in_time : StopsInTime text
   pub are_lines : AreLines text (lines ++ others)
   pub keeps_on : KeepsOn lines
-  pub run : Run (fresh guides orders) lines replies state
+  pub run : RunLines (fresh guides orders) lines replies state
   pub written : AppendedFront before.sink.written after.sink.written replies
 
 -- what `run` does where guides and orders with these numbers were handed in, by the status that it ends with
@@ -148,6 +150,12 @@ WritesSummary size before after _ = ⊥
 pub record Generates (size : ℕ) (before after : Streams) (status : Status) : Type 0 where
   pub unread : after.source ≡ before.source
   pub summary : WritesSummary size before.sink after.sink status
+
+-- what is done for a request, or for other words
+abbrev pub Obeys : List ℕ → List ℕ → Option Request → Streams → Streams → Status → Type 0
+Obeys guides orders None before after status = Refuses before after status
+Obeys guides orders (Some Run) before after status = Runs guides orders before after status
+Obeys guides orders (Some (Gen size)) before after status = Generates size before after status
 
 -- the status of a command that stopped, or did not
 abbrev pub status_of : {T : Type 0} → Result T Stop → Status

@@ -2,15 +2,15 @@
 ghost use Rattle.std.specs.Prelude.{ℕ, map, string_bytes, vec_len};
 ghost use Rattle.palm_base.specs.Streams.{Rose};
 ghost use Rattle.palm_session.specs.Objects.{numbered};
-ghost use Rattle.palm_cli.specs.Commands.{IsCut, IsWhole, Generates, HasNoFault, Refuses, Runs, TakesAnswerable, TakesTooMuch, WritesUsage, streams};
-ghost use Rattle.palm_cli.specs.Words.{IsGen, IsNoCommand, IsRun};
+ghost use Rattle.palm_cli.specs.Commands.{IsCut, IsWhole, Generates, HasNoFault, Obeys, Refuses, Runs, TakesAnswerable, TakesTooMuch, WritesUsage, streams};
+ghost use Rattle.palm_cli.specs.Words.{IsFit, IsGen, IsNoCommand, IsRun};
 
 use crate::generator::generate;
 use crate::serving::run;
 use crate::status::Status;
 use crate::words::{Request, request_of};
 use palm_agenda::Order;
-use palm_base::{Failed, NoMemory, Sink, Source, write_all};
+use palm_base::{Failed, Sink, Source, write_all};
 use palm_guide::Guide;
 use std::alloc::Global;
 
@@ -48,11 +48,29 @@ pub fn top<S: Source, K: Sink, G: Guide, O: Order>(
         IsRun (map string_bytes words.now) → TakesTooMuch before after →
         (Rose (K.state sink.old).faults (K.state sink.new).faults → ⊥) → IsCut result }
 {
-    match request_of(alloc, words) {
-        Ok(Some(Request::Run)) => run(alloc, source, sink, guides, orders),
-        Ok(Some(Request::Gen { size })) => generate(alloc, size, sink),
-        Ok(None) => refuse(sink),
-        Err(NoMemory) => Status::NoMemory,
+    let Ok(request) = request_of(alloc, words) else {
+        return Status::NoMemory;
+    };
+    obey(alloc, request, source, sink, guides, orders)
+}
+
+/// Does what was asked for, or writes the usage line.
+fn obey<S: Source, K: Sink, G: Guide, O: Order>(
+    alloc: Global,
+    request: Option<Request>,
+    source: &mut S,
+    sink: &mut K,
+    guides: Vec<G>,
+    orders: Vec<O>,
+) -> Status
+    requires { IsFit request }
+    ensures { Obeys (numbered (vec_len guides)) (numbered (vec_len orders)) request
+        (streams (S.state source.old) (K.state sink.old)) (streams (S.state source.new) (K.state sink.new)) result }
+{
+    match request {
+        Some(Request::Run) => run(alloc, source, sink, guides, orders),
+        Some(Request::Gen { size }) => generate(alloc, size, sink),
+        None => refuse(sink),
     }
 }
 

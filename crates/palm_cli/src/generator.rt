@@ -1,6 +1,7 @@
 //! The command `gen`.
 ghost use Rattle.std.specs.Prelude.{◌≡◌, ◌<◌, ◌≤◌, ℕ, List, [], false, string_bytes};
 ghost use Rattle.palm_lang.specs.Reply.{ended};
+ghost use Rattle.palm_session.specs.State.{IsState, fresh};
 ghost use Rattle.palm_cli.specs.Commands.{WritesSummary, status_of};
 ghost use Rattle.palm_cli.specs.Generator.{solve_line};
 ghost use Rattle.palm_cli.specs.Solving.{IsTextOf, SolvesAfter};
@@ -10,7 +11,7 @@ use crate::limits::MOST_QUEENS;
 use crate::queens::{easing_text, heading_text, posing_text, solve_text};
 use crate::status::Status;
 use palm_agenda::LastOrder;
-use palm_base::{Sink, SteadySink, Steps, write_all};
+use palm_base::{Failed, Sink, SteadySink, Steps, write_all};
 use palm_guide::FirstGuide;
 use palm_session::{Session, Stop};
 use std::alloc::Global;
@@ -41,36 +42,53 @@ fn generate_counted<K: Sink, L: Ledger>(
     ensures { WritesSummary size (K.state sink.old) (K.state sink.new) result }
 {
     let mut steps = Steps::<L>::start(blank);
-    match summarize(alloc, size, sink, &mut steps) {
+    let Ok(mut session) = Session::<FirstGuide, LastOrder>::new(
+        alloc,
+        Vec::new(alloc),
+        Vec::new(alloc),
+    ) else {
+        return Status::NoMemory;
+    };
+    status(summarize(alloc, size, &mut session, sink, &mut steps))
+}
+
+/// The status of a command that stopped, or did not.
+fn status(end: Result<(), Stop>) -> Status
+    ensures { result ≡ status_of end }
+{
+    match end {
         Ok(()) => Status::Done,
         Err(Stop::WriteFault) => Status::WriteFault,
         Err(Stop::NoMemory) => Status::NoMemory,
     }
 }
 
-/// Writes the heading, and the reply of each `solve` line as it comes.
+/// Runs the generated session in a fresh one, and writes the heading, and the reply of each `solve` line as it comes.
 fn summarize<K: Sink, L: Ledger>(
     alloc: Global,
     size: u8,
+    session: &mut Session<FirstGuide, LastOrder>,
     sink: &mut K,
     steps: &mut Steps<L>,
 ) -> Result<(), Stop>
     requires some { 1 ≤ size }
     requires few { size ≤ MOST_QUEENS }
+    requires fresh { session.old ≡ record { state = fresh [] []; checks = 0; unfinished = []; over = false } }
     ensures { WritesSummary size (K.state sink.old) (K.state sink.new) (status_of result) }
 {
     let heading = heading_text(alloc, size)?;
     let posing = posing_text(alloc, size)?;
     let easing = easing_text(alloc, size)?;
     let solve = solve_text(alloc)?;
-    let mut session =
-        Session::<FirstGuide, LastOrder>::new(alloc, Vec::new(alloc), Vec::new(alloc))?;
-    if write_all(sink, heading.as_bytes()).is_err() {
-        return Err(Stop::WriteFault);
+    match write_all(sink, heading.as_bytes()) {
+        Ok(()) => {}
+        Err(Failed) => return Err(Stop::WriteFault),
     }
+    let first = posing.as_bytes();
+    let second = easing.as_bytes();
     let solve = solve.as_bytes();
-    solve_after(alloc, &mut session, posing.as_bytes(), solve, sink, steps)?;
-    solve_after(alloc, &mut session, easing.as_bytes(), solve, sink, steps)
+    solve_after(alloc, session, first, solve, sink, steps)?;
+    solve_after(alloc, session, second, solve, sink, steps)
 }
 
 /// Answers lines whose replies are not kept, and then a `solve` line whose reply is written.
@@ -84,6 +102,7 @@ fn solve_after<K: Sink, L: Ledger>(
 ) -> Result<(), Stop>
     requires going { session.old.over ≡ false }
     requires whole { session.old.unfinished ≡ [] }
+    requires state { IsState session.old.state }
     requires text { (lines : List (List ℕ)) × IsTextOf lines text.now }
     requires solve { solve.now ≡ ended solve_line }
     ensures { (lines : List (List ℕ)) → IsTextOf lines text.now →

@@ -95,7 +95,10 @@ fn push_diagonal(
     ensures { OnOk result (string_bytes text.new ≡ string_bytes text.old ++ ended (diagonal_line letter.now sign.now first second)) }
 {
     let apart = second - first;
-    writeln!(text, "add {letter}{first}_{second} : q{first} != q{second} {sign} {apart}")
+    writeln!(
+        text,
+        "add {letter}{first}_{second} : q{first} != q{second} {sign} {apart}"
+    )
 }
 
 /// The lines between the two `solve` lines.

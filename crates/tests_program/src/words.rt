@@ -46,8 +46,10 @@ fn ended(alloc: Global, words: &[&str]) -> Result<(Status, MemorySink), NoMemory
 /// Whether these words get the usage line, and nothing else.
 fn is_refused(alloc: Global, words: &[&str]) -> Result<bool, NoMemory> {
     let (status, sink) = ended(alloc, words)?;
-    Ok(status == Status::Usage
-        && sink.bytes() == b"usage: palm run, palm check or palm gen N\n".as_slice())
+    Ok(
+        status == Status::Usage
+            && sink.bytes() == b"usage: palm run, palm check or palm gen N\n".as_slice(),
+    )
 }
 
 #[test]

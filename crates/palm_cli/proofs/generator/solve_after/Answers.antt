@@ -9,3 +9,16 @@ pub returns : goal.returns
 returns g c = λ lines is.
     solved_after _ c.args.session.now c.feed.new.self c.feed-2.new.self c.args.text.now c.args.solve.now lines _ _ _ _ _ _ c.in_ok-feed.field-0 c.in_ok-feed-2.field-0 c.requires.whole is c.requires.solve
     c.in_ok-feed.ensures.feeds c.in_ok-feed-2.ensures.counted c.in_ok-feed-2.ensures.feeds
+
+pub returns-in_err-feed : goal.returns-in_err-feed
+returns-in_err-feed g c = λ lines is.
+    let p = err_from_is_err_and c.from_residual.result c.from_residual.ensures.1 in
+    rw (p.1, p.2)
+    (stopped_before _ c.args.session.now c.feed.new.self lines (g.K.Sink.state c.args.sink.now) c.in_err-feed.field-0.0 c.requires.state c.in_err-feed.ensures.counted)
+
+pub returns-in_err-feed-2 : goal.returns-in_err-feed-2
+returns-in_err-feed-2 g c = λ lines is.
+    let p = err_from_is_err_and c.from_residual-in_err-feed-2.result c.from_residual-in_err-feed-2.ensures.1 in
+    rw (p.1, p.2)
+    (stopped_after _ c.args.session.now c.feed.new.self c.feed-2.new.self c.feed-2.new.self c.args.text.now c.args.solve.now lines _ _ (g.K.Sink.state c.args.sink.now) (g.K.Sink.state c.feed-2.new.out) _ _ _
+    c.in_err-feed-2.field-0.0 c.requires.state c.requires.whole is c.requires.solve c.in_ok-feed.ensures.feeds c.in_err-feed-2.ensures.counted c.in_err-feed-2.ensures.feeds)

@@ -10,4 +10,4 @@ unfolding diagonal_line
 returns c =
     let line : List ℕ = ended (diagonal_line c.args.letter.now c.args.sign.now c.args.first c.args.second) in
     on_ok _ (string_bytes c.writeln.new.self ≡ string_bytes c.args.text.now ++ line) c.writeln.result
-    (λ h. h ∙ ap (λ (z : List ℕ). string_bytes c.args.text.now ++ z) (first_of (cc, grind (append_assoc), grind (arith, common_steps)))) c.writeln.ensures.bytes
+    (λ h. h ∙ ap (λ (z : List ℕ). string_bytes c.args.text.now ++ z) (first_of (cc, grind (arith, append_assoc), grind (arith, common_steps)))) c.writeln.ensures.bytes

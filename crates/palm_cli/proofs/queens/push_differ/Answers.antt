@@ -3,7 +3,7 @@ use Rattle.std.proofs.lemmas.Grind.{common_steps}
 use Rattle.palm_lang.specs.Reply.{ended}
 use Rattle.palm_session.specs.Objects.{numbered}
 use Rattle.palm_cli.specs.Generator.{queen_name, differ_line}
-use Rattle.palm_cli.proofs.QueenLines.{more, on_ok}
+use Rattle.palm_cli.proofs.QueenLines.{more, on_ok_if}
 use Rattle.palm_cli.proofs.queens.push_differ.Goals as goal
 
 pub loop-queen-preserved : goal.loop-queen-preserved
@@ -23,6 +23,7 @@ returns c =
     let so_far : string_bytes c.loop-queen.text ≡ (was ++ codes "add d : differ") ++ names =
     c.loop-queen.invariant ∙ ap (λ (n : ℕ). string_bytes c.push_str.new.self ++ flat_map (λ j. codes " " ++ queen_name j) (numbered n)) all
     ∙ ap (λ (z : List ℕ). z ++ names) lead in
-    on_ok (string_bytes c.push_str-2.new.self ≡ string_bytes c.loop-queen.text ++ codes "\n") (string_bytes c.push_str-2.new.self ≡ was ++ ended (differ_line size)) c.push_str-2.result
+    on_ok_if (string_bytes c.push_str-2.new.self ≡ was ++ ended (differ_line size)) c.push_str-2.result (string_bytes c.push_str-2.new.self) (string_bytes c.loop-queen.text ++ (10 ∷ [])) (string_bytes c.loop-queen.text)
+    c.push_str-2.ensures.bytes
     (λ h. h ∙ ap (λ (z : List ℕ). z ++ (10 ∷ [])) so_far ∙ ap (λ (z : List ℕ). z ++ (10 ∷ [])) (append_assoc was (codes "add d : differ") names)
-    ∙ append_assoc was (codes "add d : differ" ++ names) (10 ∷ [])) c.push_str-2.ensures.bytes
+    ∙ append_assoc was (codes "add d : differ" ++ names) (10 ∷ []))

@@ -11,7 +11,7 @@ unfolding queen_line
 loop-queen-preserved c =
     let i = c.loop-queen.queen-counter in
     let adds : string_bytes c.writeln.new.self ≡ string_bytes c.loop-queen.text ++ ended (queen_line c.args.size i) =
-    c.in_ok-writeln.ensures.bytes ∙ ap (λ (z : List ℕ). string_bytes c.loop-queen.text ++ z) (first_of (cc, grind (append_assoc), grind (arith, common_steps))) in
+    c.in_ok-writeln.ensures.bytes ∙ ap (λ (z : List ℕ). string_bytes c.loop-queen.text ++ z) (first_of (cc, grind (arith, append_assoc), grind (arith, common_steps))) in
     more (λ j. ended (queen_line c.args.size j)) _ _ _ 1 (i - 1) i _ (omega (arith, c.loop-queen.auto.queen-counter)) (omega (arith, c.loop-queen.auto.queen-counter)) c.loop-queen.invariant adds
 
 pub returns : goal.returns
