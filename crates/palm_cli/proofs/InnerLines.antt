@@ -109,24 +109,20 @@ differ size few =
 diagonal : (letter sign : List ℕ) (i j : ℕ) → IsPrinted letter → IsPrinted sign → i ≤ 20000 → j ≤ 20000 → IsInner (diagonal_line letter sign i j)
 unfolding diagonal_line
 diagonal letter sign i j p q low high =
-    let a : List ℕ = codes "add " ++ letter in
-    let b : List ℕ = a ++ decimal i in
-    let c : List ℕ = b ++ codes "_" in
-    let d : List ℕ = c ++ decimal j in
-    let e : List ℕ = d ++ codes " : " in
-    let f : List ℕ = e ++ queen_name i in
-    let g : List ℕ = f ++ codes " != " in
-    let h : List ℕ = g ++ queen_name j in
-    let k : List ℕ = h ++ codes " " in
-    let l : List ℕ = k ++ sign in
-    let m : List ℕ = l ++ codes " " in
-    let to_a = both (codes "add ") letter (printed (codes "add ") refl) p in
-    let to_d = both c (decimal j) (both b (codes "_") (both a (decimal i) to_a (number i low)) (printed (codes "_") refl)) (number j high) in
-    let to_f = both e (queen_name i) (both d (codes " : ") to_d (printed (codes " : ") refl)) (name i low) in
-    let to_h = both g (queen_name j) (both f (codes " != ") to_f (printed (codes " != ") refl)) (name j high) in
-    let to_m = both l (codes " ") (both k sign (both h (codes " ") to_h (printed (codes " ") refl)) q) (printed (codes " ") refl) in
-    inner 97 (codes "dd " ++ letter ++ decimal i ++ codes "_" ++ decimal j ++ codes " : " ++ queen_name i ++ codes " != " ++ queen_name j ++ codes " " ++ sign ++ codes " " ++ decimal (j - i))
-    refl (λ z. absurd (omega (arith, z))) (both m (decimal (j - i)) to_m (number (j - i) (omega (arith, high))))
+    let a1 : List ℕ = codes "add " ++ letter in
+    let a2 : List ℕ = a1 ++ decimal i in
+    let a3 : List ℕ = a2 ++ codes "_" in
+    let a : List ℕ = a3 ++ decimal j in
+    let b1 : List ℕ = codes " : " ++ queen_name i in
+    let b2 : List ℕ = b1 ++ codes " != " in
+    let b : List ℕ = b2 ++ queen_name j in
+    let d1 : List ℕ = codes " " ++ sign in
+    let d2 : List ℕ = d1 ++ codes " " in
+    let d : List ℕ = d2 ++ decimal (j - i) in
+    let to_a = both a3 (decimal j) (both a2 (codes "_") (both a1 (decimal i) (both (codes "add ") letter (printed (codes "add ") refl) p) (number i low)) (printed (codes "_") refl)) (number j high) in
+    let to_b = both b2 (queen_name j) (both b1 (codes " != ") (both (codes " : ") (queen_name i) (printed (codes " : ") refl) (name i low)) (printed (codes " != ") refl)) (name j high) in
+    let to_d = both d2 (decimal (j - i)) (both d1 (codes " ") (both (codes " ") sign (printed (codes " ") refl) q) (printed (codes " ") refl)) (number (j - i) (omega (arith, high))) in
+    inner 97 ((codes "dd " ++ letter ++ decimal i ++ codes "_" ++ decimal j) ++ b ++ d) refl (λ z. absurd (omega (arith, z))) (both (a ++ b) d (both a b to_a to_b) to_d)
 
 pub solve : IsInner solve_line
 unfolding solve_line

@@ -33,8 +33,8 @@ differ_line size = codes "add d : differ" ++ flat_map (λ i. codes " " ++ queen_
 -- two queens do not stand on one diagonal, rising or falling
 unfoldable pub diagonal_line : List ℕ → List ℕ → ℕ → ℕ → List ℕ
 diagonal_line letter sign i j =
-    codes "add " ++ letter ++ decimal i ++ codes "_" ++ decimal j ++ codes " : " ++ queen_name i ++ codes " != " ++ queen_name j
-    ++ codes " " ++ sign ++ codes " " ++ decimal (j - i)
+    (codes "add " ++ letter ++ decimal i ++ codes "_" ++ decimal j) ++ (codes " : " ++ queen_name i ++ codes " != " ++ queen_name j)
+    ++ (codes " " ++ sign ++ codes " " ++ decimal (j - i))
 
 abbrev pub pair_lines : ℕ → ℕ → List (List ℕ)
 pair_lines i j = diagonal_line (codes "u") (codes "+") i j ∷ diagonal_line (codes "l") (codes "-") i j ∷ []

@@ -95,10 +95,9 @@ fn push_diagonal(
     ensures { OnOk result (string_bytes text.new ≡ string_bytes text.old ++ ended (diagonal_line letter.now sign.now first second)) }
 {
     let apart = second - first;
-    writeln!(
-        text,
-        "add {letter}{first}_{second} : q{first} != q{second} {sign} {apart}"
-    )
+    write!(text, "add {letter}{first}_{second}")?;
+    write!(text, " : q{first} != q{second}")?;
+    writeln!(text, " {sign} {apart}")
 }
 
 /// The lines between the two `solve` lines.
