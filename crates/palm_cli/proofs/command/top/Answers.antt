@@ -1,3 +1,4 @@
+use Rattle.std.proofs.Common.{[]}
 use Rattle.palm_cli.proofs.RunLemmas.{whole_status, cut_status}
 use Rattle.palm_cli.proofs.TopLemmas.{fits, runs_by, generates_by, refuses_by, summed_whole, wants_run, wants_gen, wants_usage}
 use Rattle.palm_cli.proofs.command.top.Goals as goal
@@ -29,7 +30,7 @@ returns-clause-complete g c = λ run none within.
 
 pub returns-clause-summed : goal.returns-clause-summed
 returns-clause-summed g c = λ size gen none.
-    summed_whole _ _ _ _ _ _ size (generates_by _ _ _ _ _ _ c.in-Ok.request c.in-Ok.ensures c.obey.ensures size gen) none
+    summed_whole [] [] [] _ _ _ size (generates_by _ _ _ _ _ _ c.in-Ok.request c.in-Ok.ensures c.obey.ensures size gen) none
 
 pub returns-clause-cut : goal.returns-clause-cut
 returns-clause-cut g c = λ run much none.

@@ -47,7 +47,7 @@ returns-in_err-solve_after g c =
     let p = err_from_is_err_and c.from_residual-in_err-solve_after.result c.from_residual-in_err-solve_after.ensures.1 in
     let heading = subst (λ (z : List ℕ). Appended (g.K.Sink.state c.args.sink.now).written (g.K.Sink.state c.write_all.new.sink).written z) (c.as_bytes.ensures.value ∙ c.in_ok-heading.ensures) c.in-Ok.ensures.bytes in
     rw (p.1, p.2)
-    (first_stops _ _ c.args.size (g.K.Sink.state c.args.sink.now) (g.K.Sink.state c.write_all.new.sink) (g.K.Sink.state c.solve_after.new.sink) c.args.session.now c.solve_after.new.session c.in_err-solve_after.field-0.0
+    (first_stops (Unit {0}) (Unit {0}) c.args.size (g.K.Sink.state c.args.sink.now) (g.K.Sink.state c.write_all.new.sink) (g.K.Sink.state c.solve_after.new.sink) c.args.session.now c.solve_after.new.session c.in_err-solve_after.field-0.0
     (ap (λ (v : View). v.state) c.requires.fresh) c.in-Ok.ensures.cause.ok heading (c.in_err-solve_after.ensures (posing_lines c.args.size) (record { whole = c.as_bytes-first.ensures.value ∙ c.in_ok-posing.ensures; inner = all_posing c.args.size c.requires.few })))
 
 pub solve_after-requires-2-clause-going : goal.solve_after-requires-2-clause-going

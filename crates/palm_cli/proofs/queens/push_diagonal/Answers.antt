@@ -22,7 +22,7 @@ returns c =
     ap (λ (x : List ℕ). x ++ (d ++ z)) (append_assoc o a b) ∙ append_assoc o (a ++ b) (d ++ z) ∙ ap (λ (x : List ℕ). o ++ x) (sym (append_assoc (a ++ b) d z)) in
     on_ok _ (string_bytes c.writeln.new.self ≡ o ++ ended (diagonal_line c.args.letter.now c.args.sign.now c.args.first c.args.second)) c.writeln.result
     (λ h.
-        let last : string_bytes c.writeln.new.self ≡ string_bytes c.write-2.new.self ++ (d ++ z) =
-        h ∙ ap (λ (x : List ℕ). string_bytes c.write-2.new.self ++ x) (first_of (cc, grind (arith, append_assoc), grind (arith, common_steps))) in
-        last ∙ ap (λ (x : List ℕ). x ++ (d ++ z)) so_far ∙ join)
+    let last : string_bytes c.writeln.new.self ≡ string_bytes c.write-2.new.self ++ (d ++ z) =
+    h ∙ ap (λ (x : List ℕ). string_bytes c.write-2.new.self ++ x) (first_of (cc, grind (arith, append_assoc), grind (arith, common_steps))) in
+    last ∙ ap (λ (x : List ℕ). x ++ (d ++ z)) so_far ∙ join)
     c.writeln.ensures.bytes
