@@ -1,5 +1,5 @@
 -- What clap makes of words without a leading `-`, for a command with the subcommands `run` and `gen`.
-use Rattle.std.proofs.Common.{◌≡◌, ℕ, ◌++◌, Bool, true, false, nat_eq, List, [], ◌∷◌, fold, find, All, Option, Some, None, option_map, is_some, codes, refl, sym, ap, ap₂, ◌∙◌, subst, ◌||◌, ◌&&◌, ◌⊎◌, inl, inr, option_and_then, if◌then◌else◌}
+use Rattle.std.proofs.Common.{◌≡◌, ℕ, ◌++◌, Bool, true, false, List, [], ◌∷◌, fold, All, Option, Some, None, option_map, codes, refl, sym, ap, ap₂, ◌∙◌, subst, ◌||◌, ◌&&◌, inl, inr, option_and_then, if◌then◌else◌}
 use Rattle.std.specs.Option.{option_map_or}
 use Rattle.std.specs.Str.{bytes_eq}
 use Rattle.std.proofs.lemmas.Slice.Eq.{bytes_eq-Decides}
@@ -21,12 +21,12 @@ use Rattle.clap.specs.declared.parser.matches.ArgMatches.{ArgMatches}
 use Rattle.clap.specs.declared.parser.matches.ArgMatches.TheViews.{out-ArgMatches, out-SubCommand}
 use Rattle.clap.specs.declared.parser.matches.SubCommand.{SubCommand}
 use Rattle.clap.proofs.WalkLemmas.{first_value-rows}
-use Rattle.clap.specs.Simple.{App, Shape, new_app, new_rule, new_shape, with_rule, with_subcommand, built, names_of, label_of, subcommand_of, subcommand_rows, subcommand_rows_of, is_simple, filled_from, entered, app_of, app_of_fields, on_top, HasMatchesOf}
-use Rattle.clap.specs.Walk.{Held, Names, Row, Rule, Text, Walk, Step, idle, value, trailing, after_step, answers_to, finished, first_of, long_or_other, settled, short_or_plain, subcommand_or_other, nothing_held, rows_of, rule_of, stop_after, subcommand_met, walk_from, walked}
+use Rattle.clap.specs.Simple.{App, Shape, new_app, new_rule, new_shape, with_rule, with_subcommand, built, names_of, subcommand_of, subcommand_rows, subcommand_rows_of, is_simple, filled_from, entered, app_of, app_of_fields, on_top, HasMatchesOf}
+use Rattle.clap.specs.Walk.{Held, Names, Row, Rule, Text, Walk, Step, idle, value, trailing, after_step, finished, first_of, long_or_other, settled, short_or_plain, subcommand_or_other, nothing_held, rows_of, rule_of, stop_after, subcommand_met, walk_from, walked}
 use Rattle.clap.specs.declared.error.kind.ErrorKind.{ErrorKind}
 use Rattle.clap.specs.declared.error.kind.ErrorKind.TheVariants as kind
 use Rattle.clap.proofs.OnLiterals.{clap_on_literals}
-use Rattle.palm_cli.specs.Words.{IsRun, IsGen, IsNoCommand}
+use Rattle.palm_cli.specs.Words.{IsRun, IsNoCommand}
 use Rattle.palm_cli.proofs.WordLemmas.{IsBare, HasSize}
 
 -- ---- the command, and the same as it is built

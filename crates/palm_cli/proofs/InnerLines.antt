@@ -1,11 +1,10 @@
 -- The lines of a generated session are lines as they stand, and none of them ends the session.
-use Rattle.std.proofs.Common.{◌≡◌, ◌≢◌, ℕ, zero, suc, ◌+◌, ◌-◌, ◌<◌, ◌≤◌, ◌^◌, ◌==◌, Bool, true, false, nat_le, nat_lt, List, [], ◌∷◌, ◌++◌, map, flat_map, length, All, codes, decimal, refl, sym, ap, ◌∙◌, arith, subst, get_or, slice_index}
+use Rattle.std.proofs.Common.{◌≡◌, ◌≢◌, ℕ, zero, suc, ◌+◌, ◌-◌, ◌<◌, ◌≤◌, ◌==◌, Bool, true, false, nat_le, nat_lt, List, [], ◌∷◌, ◌++◌, map, flat_map, length, All, codes, decimal, refl, sym, ap, ◌∙◌, arith, subst, get_or, slice_index}
 use Rattle.std.specs.List.{list_all}
 use Rattle.std.proofs.lemmas.Bool.Decides.{nat_tests}
 use Rattle.std.proofs.lemmas.List.Elements.{All-nil, All-cons, All-append, All-weaker}
 use Rattle.std.proofs.lemmas.List.Sums.{AllPass-from_list_all}
 use Rattle.palm_base.proofs.Numerals.{decimal_digits}
-use Rattle.palm_lang.specs.Reply.{ended}
 use Rattle.palm_read.proofs.TokenLemmas.{tokens_of-front}
 use Rattle.palm_read.specs.Bytes.{is_blank}
 use Rattle.palm_read.specs.Form.{Form, QuitForm}
@@ -17,7 +16,6 @@ use Rattle.palm_read.specs.declared.line.Line.{Line}
 use Rattle.palm_read.specs.declared.line.Line.TheVariants.{Quit}
 use Rattle.palm_session.specs.Lines.{HasNoFeed, without_return}
 use Rattle.palm_session.specs.Objects.{numbered, numbered_from}
-use Rattle.palm_session.specs.Replies.{GoesOn}
 use Rattle.palm_cli.specs.Generator.{queen_name, queen_line, differ_line, diagonal_line, pair_lines, solve_line, retract_line, where_several, posing_lines, easing_lines, generated_lines}
 use Rattle.palm_cli.specs.Solving.{IsInner}
 use Rattle.palm_cli.specs.declared.limits.TheConstants.{MOST_QUEENS, SEARCH_BUDGET}

@@ -1,12 +1,12 @@
 -- What feeding a text of whole lines does, none of which ends the session.
-use Rattle.std.proofs.Common.{◌≡◌, ℕ, List, [], ◌∷◌, ◌++◌, map, flat_map, take, All, Option, Result, Ok, Err, false, refl, sym, ap, ◌∙◌, arith, subst, append_assoc, append-nil}
+use Rattle.std.proofs.Common.{◌≡◌, ℕ, List, [], ◌∷◌, ◌++◌, map, flat_map, take, All, Option, Ok, Err, false, refl, sym, ap, ◌∙◌, arith, subst, append_assoc, append-nil}
 use Rattle.std.proofs.lemmas.List.Elements.{All-nil, All-cons, All-head, All-tail}
 use Rattle.std.proofs.lemmas.List.{take_all}
-use Rattle.palm_base.specs.Streams.{SinkState, Appended, AppendedFront, Rose}
-use Rattle.palm_base.proofs.StreamLemmas.{appended_nothing, appended_both}
+use Rattle.palm_base.specs.Streams.{SinkState, Appended, AppendedFront}
+use Rattle.palm_base.proofs.StreamLemmas.{appended_nothing}
 use Rattle.palm_lang.specs.Reply.{ended}
 use Rattle.palm_session.specs.Answers.{Answers}
-use Rattle.palm_session.specs.Feeding.{View, Feeds, KeepsRest, FeedsOn, FeedsEnd, FeedsPart}
+use Rattle.palm_session.specs.Feeding.{View, Feeds, KeepsRest, FeedsEnd, FeedsPart}
 use Rattle.palm_session.specs.Lines.{HasNoFeed, without_return}
 use Rattle.palm_session.specs.Replies.{Run, Ends, GoesOn}
 use Rattle.palm_session.specs.State.{SessionState, IsState}
@@ -19,7 +19,7 @@ use Rattle.palm_session.specs.declared.stop.Stop.TheVariants.{WriteFault, NoMemo
 use Rattle.palm_session.proofs.Asked.{run_of}
 use Rattle.palm_session.proofs.FeedLemmas.{run_then}
 use Rattle.palm_session.proofs.Keeping.{line_apart}
-use Rattle.palm_session.proofs.LawsOfAnswers.{has_answer, answers_keep}
+use Rattle.palm_session.proofs.LawsOfAnswers.{has_answer}
 use Rattle.palm_session.proofs.LawsOfTexts.{has_run, run_keeps}
 use Rattle.palm_cli.proofs.Endings.{first_line, no_feed_within}
 use Rattle.palm_cli.proofs.InnerLines.{solve_text_is}

@@ -1,12 +1,12 @@
 -- Summaries: there is one for each number of queens, and no other.
-use Rattle.std.proofs.Common.{◌≡◌, ℕ, ◌≤◌, false, List, [], ◌∷◌, ◌++◌, map, flat_map, All, Contains, Option, Result, Ok, Err, refl, sym, ap, ◌∙◌, subst, append_assoc, append-nil}
+use Rattle.std.proofs.Common.{◌≡◌, ℕ, ◌≤◌, false, List, [], ◌∷◌, ◌++◌, map, flat_map, Option, Result, Ok, Err, refl, sym, ap, ◌∙◌, subst, append_assoc, append-nil}
 use Rattle.std.proofs.lemmas.List.Elements.{All-nil}
 use Rattle.palm_base.proofs.Members.{member_nil}
 use Rattle.palm_base.proofs.StreamLemmas.{appended_nothing, appended_both}
 use Rattle.palm_base.specs.Streams.{SinkState, Appended, AppendedFront, Rose}
 use Rattle.palm_lang.specs.Reply.{ended}
 use Rattle.palm_session.specs.Answers.{Answers}
-use Rattle.palm_session.specs.Lines.{AreLines, without_return}
+use Rattle.palm_session.specs.Lines.{without_return}
 use Rattle.palm_session.specs.Replies.{Run, Replies, ChoosesObject, chooses_guide, chooses_order, all}
 use Rattle.palm_session.specs.State.{SessionState, IsState, fresh}
 use Rattle.palm_session.proofs.FeedLemmas.{run_then}
@@ -20,7 +20,7 @@ use Rattle.palm_cli.specs.Commands.{WritesSummary, status_of}
 use Rattle.palm_cli.specs.Generator.{IsSummary, heading, posing_lines, easing_lines, solve_line, generated_lines, generated_text}
 use Rattle.palm_cli.specs.Solving.{Solves, SolvesPart, SolvesAfter}
 use Rattle.palm_cli.specs.declared.limits.TheConstants.{MOST_QUEENS}
-use Rattle.palm_cli.specs.declared.status.Status.TheVariants.{Done, WriteFault, NoMemory}
+use Rattle.palm_cli.specs.declared.status.Status.TheVariants.{WriteFault, NoMemory}
 use Rattle.palm_session.specs.declared.stop.Stop.{Stop}
 use Rattle.palm_session.specs.declared.stop.Stop.TheVariants as stop
 use Rattle.palm_session.specs.Feeding.{View}

@@ -1,8 +1,7 @@
 -- What was asked for, and what was done.
-use Rattle.std.proofs.Common.{◌≡◌, ℕ, List, [], Option, Some, None, refl, sym, subst}
+use Rattle.std.proofs.Common.{ℕ, List, [], Option, Some, None, refl, subst}
 use Rattle.palm_base.proofs.StreamLemmas.{appended_nothing}
-use Rattle.palm_base.specs.Streams.{Rose}
-use Rattle.palm_cli.proofs.RunLemmas.{want_at_once, whole_status, cut_status}
+use Rattle.palm_cli.proofs.RunLemmas.{want_at_once}
 use Rattle.palm_cli.proofs.SummaryLemmas.{wants}
 use Rattle.palm_cli.proofs.WordLemmas.{one_size, run_no_gen}
 use Rattle.palm_cli.specs.Commands.{Streams, Runs, Generates, Refuses, Obeys, WritesSummary, HasNoFault, IsWhole, usage_line}

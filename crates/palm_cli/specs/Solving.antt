@@ -1,5 +1,5 @@
 -- What the steps of `gen` do: lines whose replies are not kept, and then a `solve` line whose reply is written.
-use Rattle.std.specs.Prelude.{◌≡◌, ℕ, List, [], ◌++◌, flat_map, All, Option, Result, Ok, Err, false}
+use Rattle.std.specs.Prelude.{◌≡◌, ℕ, List, [], flat_map, All, Option, Result, Ok, Err, false}
 use Rattle.palm_base.specs.Streams.{SinkState, Appended, AppendedFront, Rose}
 use Rattle.palm_lang.specs.Reply.{ended}
 use Rattle.palm_session.specs.Answers.{Answers}

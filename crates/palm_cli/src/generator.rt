@@ -1,5 +1,5 @@
 //! The command `gen`.
-ghost use Rattle.std.specs.Prelude.{◌≡◌, ◌<◌, ◌≤◌, ℕ, List, [], false, string_bytes};
+ghost use Rattle.std.specs.Prelude.{◌≡◌, ◌<◌, ◌≤◌, ℕ, List, [], false};
 ghost use Rattle.palm_lang.specs.Reply.{ended};
 ghost use Rattle.palm_session.specs.State.{IsState, fresh};
 ghost use Rattle.palm_cli.specs.Commands.{WritesSummary, status_of};

@@ -1,5 +1,5 @@
 //! The words after the program's name.
-ghost use Rattle.std.specs.Prelude.{◌≡◌, ℕ, map, codes, string_bytes, Any, IfOk, IfSome, IfNone};
+ghost use Rattle.std.specs.Prelude.{ℕ, map, string_bytes, Any, IfOk, IfSome, IfNone};
 ghost use Rattle.palm_base.specs.Tells.{Tells};
 ghost use Rattle.palm_cli.specs.Generator.{IsSize};
 ghost use Rattle.palm_cli.specs.Words.{Asks, IsApart};

@@ -1,4 +1,4 @@
-use Rattle.std.proofs.Common.{◌≡◌, ◌+◌, ◌*◌, ℕ, sym, ap, ◌∙◌, arith}
+use Rattle.std.proofs.Common.{◌≡◌, ◌+◌, ◌*◌, ℕ, sym, ap, ◌∙◌}
 use Rattle.palm_cli.proofs.QueenLines.{line_count_is}
 use Rattle.palm_cli.proofs.queens.line_count.Goals as goal
 

@@ -1,5 +1,4 @@
-use Rattle.std.proofs.Common.{◌≡◌, ◌++◌, ◌+◌, ◌-◌, [], ◌∷◌, suc, string_bytes, flat_map, codes, sym, ap, ◌∙◌, arith, append_assoc, List, ℕ}
-use Rattle.std.proofs.lemmas.Grind.{common_steps}
+use Rattle.std.proofs.Common.{◌≡◌, ◌++◌, ◌+◌, ◌-◌, [], ◌∷◌, string_bytes, flat_map, codes, ap, ◌∙◌, arith, append_assoc, List, ℕ}
 use Rattle.palm_lang.specs.Reply.{ended}
 use Rattle.palm_session.specs.Objects.{numbered}
 use Rattle.palm_cli.specs.Generator.{queen_name, differ_line}

@@ -1,4 +1,4 @@
-use Rattle.std.proofs.Common.{◌≡◌, ◌++◌, ◌+◌, ◌-◌, suc, string_bytes, flat_map, sym, ap, ◌∙◌, arith, List, ℕ}
+use Rattle.std.proofs.Common.{◌≡◌, ◌++◌, ◌+◌, ◌-◌, string_bytes, flat_map, sym, ap, ◌∙◌, arith, List, ℕ}
 use Rattle.palm_lang.specs.Reply.{ended}
 use Rattle.palm_session.specs.Objects.{numbered, numbered_from}
 use Rattle.palm_cli.specs.Generator.{pair_lines}

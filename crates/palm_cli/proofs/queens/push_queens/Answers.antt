@@ -1,4 +1,4 @@
-use Rattle.std.proofs.Common.{◌≡◌, ◌++◌, ◌+◌, ◌-◌, suc, string_bytes, flat_map, sym, ap, ◌∙◌, arith, append_assoc, List, ℕ}
+use Rattle.std.proofs.Common.{◌≡◌, ◌++◌, ◌+◌, ◌-◌, string_bytes, flat_map, sym, ap, ◌∙◌, arith, append_assoc, List, ℕ}
 use Rattle.std.proofs.lemmas.Grind.{common_steps}
 use Rattle.palm_lang.specs.Reply.{ended}
 use Rattle.palm_session.specs.Objects.{numbered}

@@ -1,4 +1,4 @@
-use Rattle.std.proofs.Common.{◌≡◌, ℕ, ◌≤◌, ◌^◌, arith}
+use Rattle.std.proofs.Common.{◌≤◌, ◌^◌, arith}
 use Rattle.palm_base.proofs.Numerals.{digits_too_large}
 use Rattle.palm_base.specs.Numbers.{digits_number}
 use Rattle.palm_cli.proofs.WordLemmas.{if_none}
