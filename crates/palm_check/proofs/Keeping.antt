@@ -42,7 +42,7 @@ keeps_variable book store kinds proved name vs kept now formed is after grown =
     let bigger : Contents = record book { variables = book.variables ++ record { name = name; values = vs } ∷ [] } in
     let entry : Entry = record { name = name; values = vs } in
     let same : rows.initial_of (store ++ row vs ∷ []) ≡ initial_of bigger =
-        map_push (λ (r : Row). r.initial) store (row vs) ∙ ap (λ ls. ls ++ vs ∷ []) kept.initial ∙ sym (map_push (λ (e : Entry). e.values) book.variables entry) in
+    map_push (λ (r : Row). r.initial) store (row vs) ∙ ap (λ ls. ls ++ vs ∷ []) kept.initial ∙ sym (map_push (λ (e : Entry). e.values) book.variables entry) in
     let made : IsBook bigger → AreKept bigger (store ++ row vs ∷ []) kinds proved = λ formed. record {
       formed = formed;
       initial = same;
@@ -62,8 +62,8 @@ keeps_constraint book store kinds proved name con kind kept means now formed is 
     let c : BookCon = listed book name con in
     let bigger : Contents = record book { constraints = book.constraints ++ c ∷ [] } in
     let filters : map con_of (kinds ++ kind ∷ []) ≡ map (λ (d : BookCon). d.con) bigger.constraints =
-        map_push con_of kinds kind ∙ ap (λ ls. ls ++ con_of kind ∷ []) kept.filters ∙ ap (λ (k : Con). map (λ (d : BookCon). d.con) book.constraints ++ k ∷ []) means
-        ∙ sym (map_push (λ (d : BookCon). d.con) book.constraints c) in
+    map_push con_of kinds kind ∙ ap (λ ls. ls ++ con_of kind ∷ []) kept.filters ∙ ap (λ (k : Con). map (λ (d : BookCon). d.con) book.constraints ++ k ∷ []) means
+    ∙ sym (map_push (λ (d : BookCon). d.con) book.constraints c) in
     let long : length bigger.constraints ≡ length book.constraints + 1 = length-append book.constraints (c ∷ []) in
     let made : IsBook bigger → AreKept bigger store (kinds ++ kind ∷ []) proved = λ formed. record {
       formed = formed;
@@ -115,7 +115,7 @@ pub filter_at : (book : Contents) (store : List Row) (kinds : List Kind) (proved
     → AreKept book store kinds proved → place < length book.constraints → kind ≡ get_or kinds place kind → slice_get book.constraints place ≡ Some c → con_of kind ≡ c.con
 filter_at book store kinds proved place kind c kept lt read at =
     let long : length kinds ≡ length book.constraints =
-        sym (length-map kinds con_of) ∙ ap length kept.filters ∙ length-map book.constraints (λ (d : BookCon). d.con) in
+    sym (length-map kinds con_of) ∙ ap length kept.filters ∙ length-map book.constraints (λ (d : BookCon). d.con) in
     let here : slice_get kinds place ≡ Some kind = slice_get_read kinds (length kinds) place kind refl (omega (arith, long, lt)) read in
     same_Some (con_of kind) c.con
     (ap (option_map con_of) (sym here) ∙ sym (slice_get-map con_of kinds place) ∙ ap (λ ks. slice_get ks place) kept.filters
@@ -126,9 +126,9 @@ pub formed_at : (book : Contents) (store : List Row) (kinds : List Kind) (proved
 formed_at book store kinds proved place kind kept lt read =
     let c : BookCon = get_or book.constraints place (listed book [] (con_of kind)) in
     let at : slice_get book.constraints place ≡ Some c = slice_get_read book.constraints (length book.constraints) place c refl lt
-        (get_or_default book.constraints place (listed book [] (con_of kind)) c lt) in
+    (get_or_default book.constraints place (listed book [] (con_of kind)) c lt) in
     let formed : IsWellFormed (length book.variables) c.con =
-        All-contains (λ (d : BookCon). IsWellFormed (length book.variables) d.con) book.constraints c kept.formed.formed (member_get book.constraints place c at) in
+    All-contains (λ (d : BookCon). IsWellFormed (length book.variables) d.con) book.constraints c kept.formed.formed (member_get book.constraints place c at) in
     subst (λ (n : ℕ). IsWellFormed n (con_of kind)) (sym (rows_long book store kinds proved kept))
     (subst (IsWellFormed (length book.variables)) (sym (filter_at book store kinds proved place kind c kept lt read at)) formed)
 

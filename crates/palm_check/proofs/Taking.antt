@@ -64,11 +64,13 @@ takes_then a b c p ps one more = record {
   initial = more.initial ∙ one.initial;
   left = λ x v h.
       let m = more.left x v h in
-      let o = one.left x v m.0 in
-      (o.0, λ k. elim (member_cases p ps (pair_of x v) k) [
-        | inl e ↦ o.1 (subst (Contains (p ∷ [])) e (member_here p []))
-        | inr n ↦ m.1 n
-      ]);
+      let o = one.left x v m.0 in (
+        o.0,
+        λ k. elim (member_cases p ps (pair_of x v) k) [
+          | inl e ↦ o.1 (subst (Contains (p ∷ [])) e (member_here p []))
+          | inr n ↦ m.1 n
+        ],
+      );
   stays = λ x v h out.
       more.stays x v (one.stays x v h (λ k. out (subst (Contains (p ∷ ps)) (member_single p (pair_of x v) k) (member_here p ps))))
       (λ k. out (member_there p ps (pair_of x v) k));

@@ -82,10 +82,12 @@ impl Checker {
         ensures takes { IfOk result (λ cause. Takes (draft_of self.old) line.now cause (draft_of self.new)) }
         ensures kept { OnOk result (IsKept self.new) }
     {
-        let Some(Reading {
-            statement,
-            is_beyond,
-        }) = read_statement(self.alloc, line)?
+        let Some(
+            Reading {
+                statement,
+                is_beyond,
+            },
+        ) = read_statement(self.alloc, line)?
         else {
             return Ok(Some(Cause::Malformed));
         };
@@ -170,12 +172,7 @@ impl Checker {
     }
 
     /// Takes a constraint.
-    fn list(
-        &mut self,
-        name: Name,
-        shape: Shape,
-        is_beyond: bool,
-    ) -> Result<Option<Cause>, NoMemory>
+    fn list(&mut self, name: Name, shape: Shape, is_beyond: bool) -> Result<Option<Cause>, NoMemory>
         requires stands { MayStand self.old.stage (Statement.Constraint name shape) }
         requires sound { IsSoundStatement (Statement.Constraint name shape) }
         requires beyond { Tells is_beyond (IsBeyondAlone (Statement.Constraint name shape)) }

@@ -14,9 +14,15 @@ pub enum Statement {
     /// `palm-cert 1`
     Header,
     /// `var NAME DOMAIN`
-    Variable { name: Name, domain: DomainText },
+    Variable {
+        name: Name,
+        domain: DomainText,
+    },
     /// `add NAME : CONSTRAINT`
-    Constraint { name: Name, shape: Shape },
+    Constraint {
+        name: Name,
+        shape: Shape,
+    },
     /// `step NAME VALUE by NAME`, with ` from K K K` where it has reasons
     Step {
         name: Name,
@@ -25,7 +31,10 @@ pub enum Statement {
         reasons: StepList,
     },
     /// `claim NAME VALUE`
-    ValueClaim { name: Name, value: Value },
+    ValueClaim {
+        name: Name,
+        value: Value,
+    },
     /// `claim conflict NAME`
     ConflictClaim(Name),
     /// `end`

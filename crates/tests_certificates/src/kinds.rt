@@ -3,7 +3,9 @@ use crate::told::are_told;
 use std::test::Fail;
 
 #[test]
-fn a_certificate_is_accepted_or_refused_at_its_first_wrong_line(rt: HostRuntime) -> Result<(), Fail> {
+fn a_certificate_is_accepted_or_refused_at_its_first_wrong_line(
+    rt: HostRuntime,
+) -> Result<(), Fail> {
     let rows: [(&[u8], &str); 9] = [
         (
             b"palm-cert 1\nvar x 1..3\nvar y 1..3\nadd a : x = y\nadd d : y != 2\nstep y 2 by d\nstep x 2 by a from 1\n\

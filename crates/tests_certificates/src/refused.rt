@@ -75,12 +75,27 @@ fn lines_have_their_places_and_their_causes_an_order(rt: HostRuntime) -> Result<
         (b"palm-cert 01\n", "refused 1 C1"),
         (b"var x 1..3\n", "refused 1 C1"),
         (b"palm-cert 1\npalm-cert 1\n", "refused 2 C1"),
-        (b"palm-cert 1\nvar x 1..3\nadd c : x != 2\nvar x 1..3\n", "refused 4 C1"),
-        (b"palm-cert 1\nvar x 1..3\nadd c : x != 2\nstep x 2 by c\nadd d : x != 3\n", "refused 5 C1"),
+        (
+            b"palm-cert 1\nvar x 1..3\nadd c : x != 2\nvar x 1..3\n",
+            "refused 4 C1",
+        ),
+        (
+            b"palm-cert 1\nvar x 1..3\nadd c : x != 2\nstep x 2 by c\nadd d : x != 3\n",
+            "refused 5 C1",
+        ),
         (b"palm-cert 1\nvar x 1..3\nvar x 1..257\n", "refused 3 C2"),
-        (b"palm-cert 1\nvar x 1..3\nadd c : x != 2\nstep x 2 by c from 4294967296\n", "refused 4 C1"),
-        (b"palm-cert 1\nvar x 1..3\nadd c : x != 2\nstep x 2 by c from\n", "refused 4 C1"),
-        (b"palm-cert 1\nvar x 1..3\nadd c : x != 2\nstep x 3 by c from 1\n", "refused 4 C3"),
+        (
+            b"palm-cert 1\nvar x 1..3\nadd c : x != 2\nstep x 2 by c from 4294967296\n",
+            "refused 4 C1",
+        ),
+        (
+            b"palm-cert 1\nvar x 1..3\nadd c : x != 2\nstep x 2 by c from\n",
+            "refused 4 C1",
+        ),
+        (
+            b"palm-cert 1\nvar x 1..3\nadd c : x != 2\nstep x 3 by c from 1\n",
+            "refused 4 C3",
+        ),
         (b"palm-cert 1\nclaim x 2\nend\n", "refused 2 C2"),
     ];
     assert!(rt; are_told(rt.alloc(), &rows)?);

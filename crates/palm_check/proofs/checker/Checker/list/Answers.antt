@@ -24,9 +24,10 @@ add_constraint-requires-clause-formed c =
 
 pub returns-clause-hears : goal.returns-clause-hears
 returns-clause-hears c =
-    let within = tells_false (IsBeyondAlone (Constraint c.args.name c.args.shape)) c.args.is_beyond c.requires.beyond c.if-is_beyond.false in
-    (without_cause (draft_of c.args.self.now) (Constraint c.args.name c.args.shape) c.requires.stands
-    (λ m. elim m [ inl h ↦ c.if-has_constraint.ensures h | inr u ↦ known c.args.self.now.book.variables c.args.shape c.in-Ok.con c.in-Ok.ensures.says u ])
-    (λ b. elim b [ inl h ↦ within h | inr h ↦ omega (arith, h, c.if-constraints-ge-MOST_CONSTRAINTS.false, c.constraints.ensures.count) ])
-    (λ h. h) (λ h. h) (λ h. h),
-    (c.in-Ok.con, c.in-Ok.ensures.says, c.in_ok-add_constraint.ensures.ok))
+    let within = tells_false (IsBeyondAlone (Constraint c.args.name c.args.shape)) c.args.is_beyond c.requires.beyond c.if-is_beyond.false in (
+      without_cause (draft_of c.args.self.now) (Constraint c.args.name c.args.shape) c.requires.stands
+          (λ m. elim m [ inl h ↦ c.if-has_constraint.ensures h | inr u ↦ known c.args.self.now.book.variables c.args.shape c.in-Ok.con c.in-Ok.ensures.says u ])
+          (λ b. elim b [ inl h ↦ within h | inr h ↦ omega (arith, h, c.if-constraints-ge-MOST_CONSTRAINTS.false, c.constraints.ensures.count) ])
+          (λ h. h) (λ h. h) (λ h. h),
+      (c.in-Ok.con, c.in-Ok.ensures.says, c.in_ok-add_constraint.ensures.ok),
+    )

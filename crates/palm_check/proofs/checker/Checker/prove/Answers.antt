@@ -32,10 +32,13 @@ returns-then-not-branch-clause-hears c =
     let at = found_at book.constraints place by c.in-Some-constraint_named.ensures.found.0 c.in-Some-constraint_named.ensures.found.1 in
     first_not_right (draft_of c.args.self.now) (Step c.args.name.now c.args.value by reasons) c.requires.stands
     (λ m. elim m [ inl h ↦ h (pair_declared book c.args.name.now c.args.value p c.in-Some.ensures.pair c.in-Some.ensures.declared) | inr h ↦ h (constraint_known book.constraints place by at.0 at.1 at.2) ])
-    (λ h. h) (reasons_early proved reasons c.if-not-are_proved.ensures)
-    (p, c.in-Some.ensures.pair, λ right. tells_false (LacksSupport (without (initial_of book) (pairs_at proved reasons)) at.0.con p.var p.value) c.in_ok-is_right.field-0
-    (c.in_ok-is_right.ensures.tells at.0 at.1) c.if-not-branch.true
-    (lacks_at book proved p by reasons place at.0 c.requires.kept.formed.different_constraints at.1 at.2 right))
+    (λ h. h) (reasons_early proved reasons c.if-not-are_proved.ensures) (
+      p,
+      c.in-Some.ensures.pair,
+      λ right. tells_false (LacksSupport (without (initial_of book) (pairs_at proved reasons)) at.0.con p.var p.value) c.in_ok-is_right.field-0
+          (c.in_ok-is_right.ensures.tells at.0 at.1) c.if-not-branch.true
+          (lacks_at book proved p by reasons place at.0 c.requires.kept.formed.different_constraints at.1 at.2 right),
+    )
 
 pub returns-clause-hears : goal.returns-clause-hears
 returns-clause-hears c =
@@ -47,15 +50,19 @@ returns-clause-hears c =
     let place = c.in-Some-constraint_named.place in
     let at = found_at book.constraints place by c.in-Some-constraint_named.ensures.found.0 c.in-Some-constraint_named.ensures.found.1 in
     let lacks = tells_true (LacksSupport (without (initial_of book) (pairs_at proved reasons)) at.0.con p.var p.value) c.in_ok-is_right.field-0
-        (c.in_ok-is_right.ensures.tells at.0 at.1) c.if-not-branch.false in
-    let right : IsRight book proved p by reasons = right_at book proved p by reasons place at.0 at.1 at.2 lacks in
-    (without_cause (draft_of c.args.self.now) (Step c.args.name.now c.args.value by reasons) c.requires.stands
-    (λ m. elim m [ inl h ↦ h (pair_declared book c.args.name.now c.args.value p c.in-Some.ensures.pair c.in-Some.ensures.declared) | inr h ↦ h (constraint_known book.constraints place by at.0 at.1 at.2) ])
-    (λ h. h) (reasons_early proved reasons c.if-not-are_proved.ensures)
-    (λ w. w.2 (subst (λ (q : Pair). IsRight book proved q by reasons) (pair_is book.variables c.args.name.now c.args.value p w.0 c.requires.kept.formed.different_variables c.in-Some.ensures.pair w.1) right))
-    (λ h. h),
-    (p, c.in-Some.ensures.pair,
-    ap (λ (ps : List Pair). proving c.is_right.new.self.book ps) c.in_ok-push.ensures.items ∙ ap (λ (d : Draft). with_step d p) c.is_right.ensures.same))
+    (c.in_ok-is_right.ensures.tells at.0 at.1) c.if-not-branch.false in
+    let right : IsRight book proved p by reasons = right_at book proved p by reasons place at.0 at.1 at.2 lacks in (
+      without_cause (draft_of c.args.self.now) (Step c.args.name.now c.args.value by reasons) c.requires.stands
+          (λ m. elim m [ inl h ↦ h (pair_declared book c.args.name.now c.args.value p c.in-Some.ensures.pair c.in-Some.ensures.declared) | inr h ↦ h (constraint_known book.constraints place by at.0 at.1 at.2) ])
+          (λ h. h) (reasons_early proved reasons c.if-not-are_proved.ensures)
+          (λ w. w.2 (subst (λ (q : Pair). IsRight book proved q by reasons) (pair_is book.variables c.args.name.now c.args.value p w.0 c.requires.kept.formed.different_variables c.in-Some.ensures.pair w.1) right))
+          (λ h. h),
+      (
+        p,
+        c.in-Some.ensures.pair,
+        ap (λ (ps : List Pair). proving c.is_right.new.self.book ps) c.in_ok-push.ensures.items ∙ ap (λ (d : Draft). with_step d p) c.is_right.ensures.same,
+      ),
+    )
 
 pub returns-clause-kept : goal.returns-clause-kept
 returns-clause-kept c =
