@@ -1,5 +1,5 @@
 -- What is accepted is explained by the listed constraints: every pair that steps prove is, from the first step on.
-use Rattle.std.proofs.Common.{◌≡◌, ℕ, ◌+◌, ◌-◌, ◌<◌, ◌≤◌, ℤ, List, [], ◌∷◌, ◌++◌, length, map, All, Any, Contains, ◌⊎◌, inl, inr, refl, sym, ap, ◌∙◌, subst, arith}
+use Rattle.std.proofs.Common.{◌≡◌, ℕ, ◌+◌, ◌-◌, ◌<◌, ◌≤◌, ℤ, List, [], ◌∷◌, length, All, Any, Contains, ◌⊎◌, inl, inr, refl, sym, ap, subst, arith}
 use Rattle.std.specs.Bool.{⊤}
 use Rattle.std.proofs.lemmas.Bool.{cases_lt}
 use Rattle.std.proofs.lemmas.List.{get_or_default, length-map}
@@ -9,25 +9,23 @@ use Rattle.palm_base.proofs.Members.{member_nil, member_here, member_map, member
 use Rattle.palm_book.specs.Book.{Contents, initial_of}
 use Rattle.palm_book.specs.declared.book.BookCon.{BookCon}
 use Rattle.palm_book.proofs.Any.{any_member}
-use Rattle.palm_model.specs.Closure.{Explains, IsClosed, IsConflict, IsGreatest}
-use Rattle.palm_model.specs.Domains.{Domains, Has, IsInside, values_of, without}
-use Rattle.palm_model.specs.Support.{LacksSupport}
+use Rattle.palm_model.specs.Closure.{Explains, IsConflict, IsGreatest}
+use Rattle.palm_model.specs.Domains.{Domains, IsInside, values_of, without}
 use Rattle.palm_model.proofs.Trials.{support_grows}
 use Rattle.palm_model.proofs.Without.{has_without, pair_of}
 use Rattle.palm_laws.proofs.Solutions.{explained_missing}
 use Rattle.palm_claim.specs.Claim.{HoldsIn, IsExplained, IsOver, IsOverItsBook, constraints_of}
-use Rattle.palm_claim.specs.Draft.{Draft, IsPair, IsVariable, Leads, MayStand, at_stage, blank, listed, with_constraint, with_step, with_variable}
+use Rattle.palm_claim.specs.Draft.{Draft, Leads, MayStand, at_stage, blank, with_constraint, with_step, with_variable}
 use Rattle.palm_claim.specs.Lines.{lines_of}
 use Rattle.palm_claim.specs.Statement.{IsStepNumber, Says}
 use Rattle.palm_claim.specs.Step.{IsReached, IsRight, pair_at, pairs_at}
-use Rattle.palm_claim.specs.Verdict.{IsNone, IsVerdict, Judges, Meets, Passes, ending, in_order}
+use Rattle.palm_claim.specs.Verdict.{IsNone, IsVerdict, Judges, Meets, ending, in_order}
 use Rattle.palm_claim.specs.declared.statement.Stage.{Stage}
 use Rattle.palm_claim.specs.declared.statement.Stage.TheVariants.{Unopened, Declaring, Listing, Proving, Claimed, Closed}
 use Rattle.palm_claim.specs.declared.statement.Statement.{Statement}
 use Rattle.palm_claim.specs.declared.statement.Statement.TheVariants.{Comment, Header, Variable, Constraint, Step, ValueClaim, ConflictClaim, End}
 use Rattle.palm_claim.specs.declared.verdict.Claim.{Claim}
 use Rattle.palm_claim.specs.declared.verdict.Claim.TheVariants.{Gone, Conflict}
-use Rattle.palm_claim.specs.declared.verdict.Cause.{Cause}
 use Rattle.palm_claim.specs.declared.verdict.Proved.{Proved}
 use Rattle.palm_claim.specs.declared.verdict.Verdict.{Verdict}
 use Rattle.palm_claim.specs.declared.verdict.Verdict.TheVariants.{Accepted, Refused}
@@ -133,14 +131,6 @@ same_claim a claim c = elim c [ inl e ↦ cc | inr e ↦ cc ]
 
 closed_claim : (a claim : Claim) → IsClaimAt (Closed a) claim → a ≡ claim
 closed_claim a claim c = elim c [ inl e ↦ cc | inr e ↦ cc ]
-
--- a claim that is reached is explained
-reached_explained : (d : Draft) (claim : Claim) → Keeps d → IsReached d.book d.proved claim → ((x : ℕ) → claim ≡ Conflict x → x < length (initial_of d.book)) → IsExplained d.book claim
-reached_explained d (Gone pair) keeps reached declared = keeps.explained pair reached
-reached_explained d (Conflict x) keeps reached declared = (
-  declared x refl,
-  λ v e inside closed has. keeps.explained (record { var = x; value = v }) (reached v (inside x v has)) e inside closed has,
-)
 
 keeps_claim : (d : Draft) (claim : Claim) → Keeps d → IsExplained d.book claim → IsOver d.book claim → Keeps (at_stage d (Claimed claim))
 keeps_claim d claim keeps is over = record {

@@ -1,13 +1,12 @@
 -- Every text has a verdict: whatever is asked of a line is known.
-use Rattle.std.proofs.Common.{◌≡◌, ◌≢◌, ℕ, ◌+◌, ◌<◌, ◌≤◌, ℤ, pos, ◌-ℤ◌, List, [], ◌∷◌, ◌++◌, length, map, get_or, All, Any, Contains, ◌⊎◌, inl, inr, refl, sym, ap, ◌∙◌, subst, arith}
-use Rattle.std.specs.Bool.{⊤}
+use Rattle.std.proofs.Common.{◌≡◌, ℕ, ◌+◌, ◌<◌, ◌≤◌, ℤ, pos, ◌-ℤ◌, List, [], ◌∷◌, length, get_or, All, Any, Contains, ◌⊎◌, inl, inr, refl, ap, ◌∙◌, subst, arith}
 use Rattle.std.proofs.lemmas.Bool.{cases_lt}
 use Rattle.std.proofs.lemmas.Int.{ints, by_lt_z}
 use Rattle.std.proofs.lemmas.List.{get_or_default}
 use Rattle.palm_base.specs.declared.terms.Pair.{Pair}
 use Rattle.palm_base.proofs.Members.{Known, all_members, any_known, int_known, known_both, known_like, known_not, list_known, member_known, nat_known}
-use Rattle.palm_book.specs.Book.{Contents, Entry, initial_of, name_of}
-use Rattle.palm_book.specs.Named.{IsUnknownName, Resolves}
+use Rattle.palm_book.specs.Book.{Contents, Entry, initial_of}
+use Rattle.palm_book.specs.Named.{IsUnknownName}
 use Rattle.palm_book.specs.declared.book.BookCon.{BookCon}
 use Rattle.palm_book.proofs.Any.{any_member}
 use Rattle.palm_model.specs.Domains.{Domains, values_of, without}
@@ -24,7 +23,6 @@ use Rattle.palm_read.specs.declared.line.Shape.{Shape}
 use Rattle.palm_read.specs.declared.line.Shape.TheVariants.{CompareVar, Table, Element}
 use Rattle.palm_claim.specs.Draft.{Draft, HasConstraint, HasVariable, IsDeclared, IsOpen, IsPair, IsVariable, Leads, MayStand, at_stage, blank, with_constraint, with_step, with_variable}
 use Rattle.palm_claim.specs.Lines.{lines_of}
-use Rattle.palm_claim.specs.Statement.{Says}
 use Rattle.palm_claim.specs.Step.{IsReached, IsRight, pairs_at}
 use Rattle.palm_claim.specs.Verdict.{HasUnproved, IsBeyondLimits, IsFirst, IsMisdeclared, IsNone, IsNotReached, IsNotRight, IsRefusedFor, IsVerdict, Judges, Meets, Passes, ending, in_order}
 use Rattle.palm_claim.specs.declared.statement.Stage.{Stage}
@@ -36,7 +34,7 @@ use Rattle.palm_claim.specs.declared.verdict.Claim.TheVariants.{Gone, Conflict}
 use Rattle.palm_claim.specs.declared.verdict.Cause.{Cause}
 use Rattle.palm_claim.specs.declared.verdict.Cause.TheVariants.{Malformed, Misdeclared, Beyond, Unproved, NotRight, NotReached}
 use Rattle.palm_claim.specs.declared.verdict.Verdict.{Verdict}
-use Rattle.palm_claim.specs.declared.verdict.Verdict.TheVariants.{Accepted, Refused}
+use Rattle.palm_claim.specs.declared.verdict.Verdict.TheVariants.{Refused}
 use Rattle.palm_claim.proofs.Once.{constraint_with, variable_with}
 use Rattle.palm_claim.proofs.Saying.{each_said}
 use Rattle.palm_claim.proofs.Unique.{Apart, apart_none, leads_apart, pair_is, variable_is}

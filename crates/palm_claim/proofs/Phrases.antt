@@ -1,8 +1,6 @@
 -- The forms that only certificates have: the reader reads just the tokens of one, and none of them is a form of a session.
-use Rattle.std.proofs.Common.{◌≡◌, ℕ, ℤ, pos, ◌-ℤ◌, ◌<ℤ◌, ◌≤ℤ◌, ◌+◌, ◌<◌, ◌≤◌, ◌^◌, nat_le, int_lt, Bool, true, false, not, Option, Some, None, List, [], ◌∷◌, ◌++◌, length, map, All, codes, refl, sym, ap, ◌∙◌, subst, arith, inl, inr}
-use Rattle.std.specs.Bool.{⊤}
-use Rattle.std.specs.List.{flat_map, AllByRecursion}
-use Rattle.std.specs.Str.{bytes_eq}
+use Rattle.std.proofs.Common.{◌≡◌, ℕ, ℤ, pos, ◌-ℤ◌, ◌≤ℤ◌, ◌<◌, ◌≤◌, nat_le, int_lt, true, not, Option, Some, None, List, [], ◌∷◌, ◌++◌, map, All, codes, refl, sym, ap, ◌∙◌, subst, arith, inl, inr}
+use Rattle.std.specs.List.{flat_map}
 use Rattle.std.proofs.lemmas.Bool.{and_parts, and_from, leb-true, le-leb}
 use Rattle.std.proofs.lemmas.Int.{ints}
 use Rattle.std.proofs.lemmas.List.Elements.{All-nil, All-from_recursion, recursion_from_All}
@@ -11,14 +9,12 @@ use Rattle.palm_model.specs.Limits.{IsValue}
 use Rattle.palm_read.specs.declared.tokens.TokenKind.TheVariants.{Word, Digits, Sign}
 use Rattle.palm_read.specs.Form.{Form}
 use Rattle.palm_read.specs.Grammar.{IsForm}
-use Rattle.palm_read.specs.Name.{IsName}
-use Rattle.palm_read.specs.Piece.{Piece, Keyword, Named, Integer, Natural, Spells, word, sign, digits_number}
-use Rattle.palm_read.specs.Reader.Lines.{numbered_at, solve_at, drop_at, bare_at, line_at, form_at}
-use Rattle.palm_read.specs.Reader.Lists.{many_at}
+use Rattle.palm_read.specs.Piece.{Piece, Keyword, Named, Integer, Natural, word, sign, digits_number}
+use Rattle.palm_read.specs.Reader.Lines.{numbered_at, bare_at, line_at, form_at}
 use Rattle.palm_read.specs.Reader.Steps.{Reading, and_then, when, choose, is_empty, is_name, front_text, token_at, behind, keyword_at, name_at, natural_at, integer_at}
 use Rattle.palm_read.specs.Token.{Lexeme}
 use Rattle.palm_read.proofs.Begins.{Begins, over, begins_over, begins_from_spells, spells_from_begins, by_keyword, by_name, by_digits, by_integer, keyword_first, name_first, natural_first, integer_first}
-use Rattle.palm_read.proofs.Front.{Starts, digits_first, minus_first, and_then_some, when_some, choose_some, guard_some, same_text, token_at-cons, behind-cons, behind_is, name_is, name_at-cons, integer_at-starts}
+use Rattle.palm_read.proofs.Front.{Starts, digits_first, minus_first, and_then_some, when_some, guard_some, same_text, token_at-cons, behind-cons, behind_is, name_is, name_at-cons, integer_at-starts}
 use Rattle.palm_read.proofs.LineForms.{form_again}
 use Rattle.palm_read.proofs.Many.{IsItem, many_at_takes, many_at_again}
 use Rattle.palm_claim.specs.Reader.{is_value, value_at, is_step_number, next_number, has_some, numbers_at, reasons_at, step_at, claim_at, header_at, phrase_at, phrase_of}

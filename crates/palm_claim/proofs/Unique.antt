@@ -1,27 +1,23 @@
 -- No text has two verdicts: no line says two things, each name names one variable, and a shape says one constraint.
-use Rattle.std.proofs.Common.{◌≡◌, ◌≢◌, ℕ, ◌+◌, ◌<◌, ℤ, List, [], ◌∷◌, ◌++◌, length, get_or, map, All, Any, AllPairs, Contains, inl, inr, refl, sym, ap, ◌∙◌, subst, arith, ◌⊎◌}
-use Rattle.std.specs.Bool.{⊤}
+use Rattle.std.proofs.Common.{◌≡◌, ◌≢◌, ℕ, ◌+◌, ℤ, List, [], ◌∷◌, ◌++◌, get_or, Any, AllPairs, inl, inr, sym, ap, ◌∙◌, subst, arith}
 use Rattle.std.proofs.lemmas.List.{get_or_default}
 use Rattle.std.proofs.lemmas.List.Quantifiers.{all_pairs_push}
 use Rattle.palm_base.specs.declared.terms.Pair.{Pair}
-use Rattle.palm_book.specs.Book.{Contents, Entry, name_of}
+use Rattle.palm_book.specs.Book.{Entry}
 use Rattle.palm_model.specs.declared.constraint.Con.{Con}
 use Rattle.palm_read.specs.Domain.{values_in}
-use Rattle.palm_read.specs.declared.line.DomainText.{DomainText}
-use Rattle.palm_claim.specs.Draft.{Draft, HasVariable, IsPair, IsVariable, Leads, at_stage, blank, with_constraint, with_step, with_variable}
+use Rattle.palm_claim.specs.Draft.{Draft, IsPair, IsVariable, Leads, at_stage, blank, with_constraint, with_step}
 use Rattle.palm_claim.specs.Lines.{lines_of}
-use Rattle.palm_claim.specs.Statement.{Says}
 use Rattle.palm_claim.specs.Verdict.{IsFirst, IsNone, IsRefusedFor, IsVerdict, Judges, Meets, Passes, in_order}
 use Rattle.palm_claim.specs.declared.statement.Stage.{Stage}
-use Rattle.palm_claim.specs.declared.statement.Stage.TheVariants.{Unopened, Declaring, Listing, Proving, Claimed, Closed}
+use Rattle.palm_claim.specs.declared.statement.Stage.TheVariants.{Claimed, Closed}
 use Rattle.palm_claim.specs.declared.statement.Statement.{Statement}
 use Rattle.palm_claim.specs.declared.statement.Statement.TheVariants.{Comment, Header, Variable, Constraint, Step, ValueClaim, ConflictClaim, End}
 use Rattle.palm_claim.specs.declared.verdict.Claim.{Claim}
 use Rattle.palm_claim.specs.declared.verdict.Claim.TheVariants.{Gone, Conflict}
 use Rattle.palm_claim.specs.declared.verdict.Cause.{Cause}
-use Rattle.palm_claim.specs.declared.verdict.Cause.TheVariants.{Malformed}
 use Rattle.palm_claim.specs.declared.verdict.Verdict.{Verdict}
-use Rattle.palm_claim.specs.declared.verdict.Verdict.TheVariants.{Accepted, Refused}
+use Rattle.palm_claim.specs.declared.verdict.Verdict.TheVariants.{Refused}
 use Rattle.palm_claim.proofs.Once.{constraint_once, variable_once}
 use Rattle.palm_claim.proofs.Saying.{one_saying}
 

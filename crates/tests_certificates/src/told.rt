@@ -1,5 +1,8 @@
 //! The verdict on a certificate in one line of text.
+ghost use Rattle.palm_claim.specs.Claim.{IsOver};
+
 use palm_base::{NoMemory, push_int};
+use palm_book::Book;
 use palm_check::check;
 use palm_claim::{Cause, Claim, Proved, Verdict};
 use std::alloc::Global;
@@ -28,7 +31,9 @@ fn told(alloc: Global, text: &[u8]) -> Result<Vec<u8>, NoMemory> {
     Ok(out)
 }
 
-fn put_accepted(out: &mut Vec<u8>, proved: &Proved) -> Result<(), NoMemory> {
+fn put_accepted(out: &mut Vec<u8>, proved: &Proved) -> Result<(), NoMemory>
+    requires { IsOver proved.now.book proved.now.claim }
+{
     out.extend_from_slice(b"accepted ")?;
     match &proved.claim {
         Claim::Gone(pair) => {
@@ -42,9 +47,13 @@ fn put_accepted(out: &mut Vec<u8>, proved: &Proved) -> Result<(), NoMemory> {
         }
     }
     out.extend_from_slice(b" because")?;
-    for place in 0..proved.book.constraints() {
+    put_constraints(out, &proved.book)
+}
+
+fn put_constraints(out: &mut Vec<u8>, book: &Book) -> Result<(), NoMemory> {
+    for place in 0..book.constraints() {
         out.extend_from_slice(b" ")?;
-        out.extend_from_slice(proved.book.constraint(place).name.as_slice())?;
+        out.extend_from_slice(book.constraint(place).name.as_slice())?;
     }
     Ok(())
 }
