@@ -9,7 +9,7 @@ feed-requires-2 g c =
 
 pub returns : goal.returns
 returns g c = λ lines is.
-    solved_after tt c.args.session.now c.feed.new.self c.feed-2.new.self c.args.text.now c.args.solve.now lines _ _ (g.K.Sink.state c.args.sink.now) (g.K.Sink.state c.feed-2.new.out)
+    solved_after (tt {0}) c.args.session.now c.feed.new.self c.feed-2.new.self c.args.text.now c.args.solve.now lines _ _ (g.K.Sink.state c.args.sink.now) (g.K.Sink.state c.feed-2.new.out)
     (c.feed.new.steps - c.args.steps.now) (c.feed-2.new.steps - c.feed.new.steps) c.in_ok-feed.field-0 c.in_ok-feed-2.field-0 c.requires.whole is c.requires.solve
     c.in_ok-feed.ensures.feeds c.in_ok-feed-2.ensures.counted c.in_ok-feed-2.ensures.feeds
 
