@@ -1,5 +1,5 @@
 -- The verdict on a text, line by line.
-use Rattle.std.proofs.Common.{◌≡◌, ℕ, ◌+◌, ◌<◌, ◌≤◌, Option, Some, None, Result, Ok, Err, IfOk, List, [], ◌∷◌, length, map, drop, inl, inr, refl, sym, ap, ◌∙◌, subst, arith}
+use Rattle.std.proofs.Common.{◌≡◌, ℕ, ◌+◌, ◌≤◌, Option, Some, None, Result, Ok, Err, IfOk, List, [], ◌∷◌, length, map, drop, inl, inr, refl, sym, ap, subst, arith}
 use Rattle.std.specs.List.{slice_range}
 use Rattle.palm_base.specs.declared.errors.NoMemory.{NoMemory}
 use Rattle.palm_claim.specs.Draft.{Draft, blank}

@@ -1,6 +1,6 @@
 -- Support where no filter is asked, and support within the same domains.
-use Rattle.std.proofs.Common.{◌≡◌, ℕ, ℤ, ◌<◌, ◌≤◌, List, [], ◌∷◌, ◌++◌, length, map, Any, Contains, inl, inr, refl, sym, ap, ◌∙◌, subst, arith}
-use Rattle.std.proofs.lemmas.List.Elements.{Contains-append_left, Contains-append_right}
+use Rattle.std.proofs.Common.{◌≡◌, ℕ, ℤ, ◌≤◌, List, [], ◌∷◌, length, map, Any, Contains, inl, inr, refl, subst, arith}
+use Rattle.std.proofs.lemmas.List.Elements.{Contains-append_left}
 use Rattle.palm_base.proofs.Members.{member_cases, member_here, member_map, member_nil, member_there}
 use Rattle.palm_book.proofs.Any.{any_member, member_any}
 use Rattle.palm_model.specs.Constraint.{IsWellFormed, scope}
@@ -8,7 +8,7 @@ use Rattle.palm_model.specs.Differ.{differ_parts}
 use Rattle.palm_model.specs.Domains.{Domains, Has, IsInside}
 use Rattle.palm_model.specs.Linear.{linear_parts}
 use Rattle.palm_model.specs.Part.{parts, scope_of}
-use Rattle.palm_model.specs.Support.{HasSupport, LacksSupport}
+use Rattle.palm_model.specs.Support.{LacksSupport}
 use Rattle.palm_model.specs.declared.constraint.Con.{Con}
 use Rattle.palm_model.specs.declared.constraint.Con.TheVariants.{CompareVar, CompareConst, Linear, Table, Element, Count, Differ}
 use Rattle.palm_model.specs.declared.constraint.Op.{Op}

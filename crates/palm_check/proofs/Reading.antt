@@ -1,9 +1,6 @@
 -- What the reader answers to a line, and numbers that are too large for it.
-use Rattle.std.proofs.Common.{◌≡◌, ℕ, ℤ, pos, ◌<◌, ◌≤◌, Bool, true, false, Option, Some, None, Err, List, option_map, refl, sym, ap, ◌∙◌, subst, arith}
+use Rattle.std.proofs.Common.{◌≡◌, ℕ, ◌≤◌, Bool, true, false, Option, Some, None, Err, List, option_map, sym, ap, ◌∙◌, subst, arith}
 use Rattle.std.proofs.lemmas.Int.{ints}
-use Rattle.std.proofs.lemmas.Option.{same_Some}
-use Rattle.palm_base.specs.Numbers.{AreDigits, digits_number}
-use Rattle.palm_model.specs.Limits.{IsValue}
 use Rattle.palm_read.specs.Linear.{signed}
 use Rattle.palm_read.specs.Reading.{IsRead, IsRefusedBy}
 use Rattle.palm_read.specs.Token.{Lexeme, tokens_of}
@@ -13,8 +10,8 @@ use Rattle.palm_read.specs.declared.parse.LineError.{LineError}
 use Rattle.palm_read.specs.declared.parse.LineError.TheVariants.{Form as NoForm, NoMemory}
 use Rattle.palm_read.proofs.SoundLines.{read_sound}
 use Rattle.palm_read.specs.declared.line.Line.TheVariants.{Var, Add}
-use Rattle.palm_claim.specs.Reader.{is_step_number, is_value, of_line, phrase_of}
-use Rattle.palm_claim.specs.Statement.{AreInRange, IsSpelled, Says}
+use Rattle.palm_claim.specs.Reader.{is_value, of_line, phrase_of}
+use Rattle.palm_claim.specs.Statement.{IsSpelled, Says}
 use Rattle.palm_claim.specs.declared.statement.Statement.{Statement}
 use Rattle.palm_claim.specs.declared.statement.Statement.TheVariants.{Comment, Header, Variable, Constraint, Step, ValueClaim, ConflictClaim, End}
 use Rattle.palm_claim.proofs.Phrases.{is_value-value, phrase_is}

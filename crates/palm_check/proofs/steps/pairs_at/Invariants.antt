@@ -1,4 +1,4 @@
-use Rattle.std.proofs.Common.{◌≡◌, map, take}
+use Rattle.std.proofs.Common.{◌≡◌, take}
 use Rattle.palm_claim.specs.Step.{pairs_at}
 use Rattle.palm_check.proofs.steps.pairs_at.Given as goal
 

@@ -1,5 +1,4 @@
 use Rattle.std.proofs.Common.{sym, subst, Contains, arith}
-use Rattle.std.proofs.lemmas.List.Elements.{All-contains}
 use Rattle.palm_domain.specs.Rows.{IsDeclared, values_of}
 use Rattle.palm_check.proofs.Taking.{putting_next}
 use Rattle.palm_check.proofs.steps.put_back_all.Goals as goal

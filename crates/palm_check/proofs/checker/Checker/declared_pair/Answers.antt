@@ -1,4 +1,4 @@
-use Rattle.std.proofs.Common.{sym, subst, Contains, ◌≡◌}
+use Rattle.std.proofs.Common.{sym, subst, Contains}
 use Rattle.palm_domain.specs.Rows.{values_of}
 use Rattle.palm_check.proofs.Hearing.{undeclared}
 use Rattle.palm_check.proofs.checker.Checker.declared_pair.Goals as goal

@@ -1,4 +1,4 @@
-use Rattle.std.proofs.Common.{◌≡◌, ◌∙◌, ap, sym, subst, All, List}
+use Rattle.std.proofs.Common.{◌∙◌, ap, sym, subst, All, List}
 use Rattle.palm_base.specs.declared.terms.Pair.{Pair}
 use Rattle.palm_base.specs.Tells.{Tells}
 use Rattle.palm_claim.specs.Step.{pairs_at}
