@@ -1,5 +1,5 @@
 //! The slow way beside the filters.
-ghost use Rattle.std.specs.Prelude.{◌≡◌, ◌<◌, IfOk, All, length};
+ghost use Rattle.std.specs.Prelude.{◌≡◌, ◌<◌, IfOk, All, false, length};
 ghost use Rattle.palm_book.specs.Book.{active_of, initial_of};
 ghost use Rattle.palm_model.specs.Constraint.{IsWellFormed};
 ghost use Rattle.palm_model.specs.Domains.{AllAscend};
@@ -75,7 +75,25 @@ fn expected_text(alloc: Global, replies: &[u8], book: &Book) -> Result<Vec<u8>, 
     Ok(text)
 }
 
-/// Whether the text, which ends in the line `domains`, has these replies and then that which the slow way computes.
+/// Whether the session answers the text, which ends in the line `domains`, by these replies and then by what the slow way
+/// computes.
+fn agrees<L: Ledger>(
+    session: &mut Session<Scripted, LastOrder>,
+    alloc: Global,
+    text: &[u8],
+    replies: &[u8],
+    steps: &mut Steps<L>,
+) -> Result<bool, Stop>
+    requires { session.old.over ≡ false }
+{
+    let mut sink = SteadySink::new(alloc);
+    sink.reserve(ROOM)?;
+    session.feed(text, &mut sink, steps)?;
+    let expected = expected_text(alloc, replies, session.book())?;
+    Ok(sink.bytes() == expected.as_slice())
+}
+
+/// Whether a fresh session does. It is given up in one place, since each place costs its proof.
 fn agree_counted<L: Ledger>(
     alloc: Global,
     text: &[u8],
@@ -87,16 +105,12 @@ fn agree_counted<L: Ledger>(
     requires shared { 0 < L.parts }
 {
     let mut steps = Steps::<L>::start(blank);
-    let mut sink = SteadySink::new(alloc);
-    sink.reserve(ROOM)?;
     let mut session = Session::new(
         alloc,
         Vec::<Scripted>::new(alloc),
         Vec::<LastOrder>::new(alloc),
     )?;
-    session.feed(text, &mut sink, &mut steps)?;
-    let expected = expected_text(alloc, replies, session.book())?;
-    Ok(sink.bytes() == expected.as_slice())
+    agrees(&mut session, alloc, text, replies, &mut steps)
 }
 
 /// The same, with a counter of its own.

@@ -1,5 +1,5 @@
 //! The journal of a session's last search.
-ghost use Rattle.std.specs.Prelude.{◌≡◌, ◌<◌};
+ghost use Rattle.std.specs.Prelude.{◌≡◌, ◌<◌, false};
 
 use crate::guides::Scripted;
 use palm_agenda::LastOrder;
@@ -39,7 +39,23 @@ fn is_as_wanted(journal: &[Turn], wanted: &Wanted<'_>) -> bool {
     place == wanted.decided.len() && journal.len() == wanted.turns
 }
 
-/// Whether a session that has this guide leaves such a journal behind the text.
+/// Whether the session leaves such a journal behind the text.
+fn is_left<L: Ledger>(
+    session: &mut Session<Scripted, LastOrder>,
+    alloc: Global,
+    text: &[u8],
+    wanted: &Wanted<'_>,
+    steps: &mut Steps<L>,
+) -> Result<bool, Stop>
+    requires { session.old.over ≡ false }
+{
+    let mut sink = SteadySink::new(alloc);
+    sink.reserve(ROOM)?;
+    session.feed(text, &mut sink, steps)?;
+    Ok(is_as_wanted(session.journal(), wanted))
+}
+
+/// Whether a fresh session that has this guide does.
 fn leaves_counted<L: Ledger>(
     alloc: Global,
     guide: Scripted,
@@ -52,15 +68,12 @@ fn leaves_counted<L: Ledger>(
     requires shared { 0 < L.parts }
 {
     let mut steps = Steps::<L>::start(blank);
-    let mut sink = SteadySink::new(alloc);
-    sink.reserve(ROOM)?;
     let mut guides = Vec::new(alloc);
     if guides.push(guide).is_err() {
         return Err(Stop::NoMemory);
     }
     let mut session = Session::new(alloc, guides, Vec::<LastOrder>::new(alloc))?;
-    session.feed(text, &mut sink, &mut steps)?;
-    Ok(is_as_wanted(session.journal(), wanted))
+    is_left(&mut session, alloc, text, wanted, &mut steps)
 }
 
 /// The same, with a counter of its own.

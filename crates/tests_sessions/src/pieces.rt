@@ -1,5 +1,5 @@
 //! Pieces that cut lines, and a last line without its line feed.
-ghost use Rattle.std.specs.Prelude.{◌≡◌, ◌<◌};
+ghost use Rattle.std.specs.Prelude.{◌≡◌, ◌<◌, false};
 
 use crate::guides::Scripted;
 use palm_agenda::LastOrder;
@@ -14,6 +14,25 @@ use std::test::Fail;
 const ROOM: usize = 4_096;
 
 /// Feeds a line, the beginning of another and its end, and finishes; answers whether the session is over only then.
+fn is_over_at_last<L: Ledger>(
+    session: &mut Session<Scripted, LastOrder>,
+    sink: &mut SteadySink,
+    steps: &mut Steps<L>,
+) -> Result<bool, Stop>
+    requires { session.old.over ≡ false }
+{
+    if session.feed(b"var x 1..2\r\ndoma", sink, steps)? == Going::Quit {
+        return Ok(false);
+    }
+    if session.feed(b"ins", sink, steps)? == Going::Quit {
+        return Ok(false);
+    }
+    let going = !session.is_over();
+    session.finish(sink, steps)?;
+    Ok(going && session.is_over() && session.book().variables() == 1)
+}
+
+/// The same of a fresh session.
 fn is_fed_and_finished<L: Ledger>(
     alloc: Global,
     sink: &mut SteadySink,
@@ -29,15 +48,7 @@ fn is_fed_and_finished<L: Ledger>(
         Vec::<Scripted>::new(alloc),
         Vec::<LastOrder>::new(alloc),
     )?;
-    if session.feed(b"var x 1..2\r\ndoma", sink, &mut steps)? == Going::Quit {
-        return Ok(false);
-    }
-    if session.feed(b"ins", sink, &mut steps)? == Going::Quit {
-        return Ok(false);
-    }
-    let going = !session.is_over();
-    session.finish(sink, &mut steps)?;
-    Ok(going && session.is_over() && session.book().variables() == 1)
+    is_over_at_last(&mut session, sink, &mut steps)
 }
 
 #[test]
