@@ -1,5 +1,5 @@
 -- A text whose lines all go on has no line that ends the session.
-use Rattle.std.proofs.Common.{◌≡◌, ℕ, List, [], ◌∷◌, ◌++◌, map, flat_map, All, Option, refl, sym, ap, ◌∙◌, subst, append_assoc}
+use Rattle.std.proofs.Common.{◌≡◌, ℕ, List, [], ◌∷◌, ◌++◌, map, flat_map, All, Option, refl, sym, ap, ◌∙◌, subst}
 use Rattle.std.proofs.lemmas.List.Elements.{All-head, All-tail}
 use Rattle.palm_lang.specs.Reply.{ended}
 use Rattle.palm_session.specs.State.{SessionState}
@@ -16,14 +16,14 @@ tail_of : (a b : ℕ) (xs ys : List ℕ) → a ∷ xs ≡ b ∷ ys → xs ≡ ys
 tail_of a b xs ys e = cc
 
 -- bytes without a feed are not bytes with one
-no_feed_within : (rest x t : List ℕ) → HasNoFeed rest → rest ≡ x ++ (10 ∷ t) → ⊥
+pub no_feed_within : (rest x t : List ℕ) → HasNoFeed rest → rest ≡ x ++ (10 ∷ t) → ⊥
 no_feed_within [] [] t none e = cc
 no_feed_within [] (y ∷ ys) t none e = cc
 no_feed_within (b ∷ bs) [] t none e = All-head (λ z. z ≡ 10 → ⊥) b bs none (head_of b 10 bs t e)
 no_feed_within (b ∷ bs) (y ∷ ys) t none e = no_feed_within bs ys t (All-tail (λ z. z ≡ 10 → ⊥) b bs none) (tail_of b y bs (ys ++ (10 ∷ t)) e)
 
 -- a text has one first line
-first_line : (a b t u : List ℕ) → HasNoFeed a → HasNoFeed b → a ++ (10 ∷ t) ≡ b ++ (10 ∷ u) → (a ≡ b) × (t ≡ u)
+pub first_line : (a b t u : List ℕ) → HasNoFeed a → HasNoFeed b → a ++ (10 ∷ t) ≡ b ++ (10 ∷ u) → (a ≡ b) × (t ≡ u)
 first_line [] [] t u na nb e = (refl, tail_of 10 10 t u e)
 first_line [] (y ∷ ys) t u na nb e = absurd (All-head (λ z. z ≡ 10 → ⊥) y ys nb (sym (head_of 10 y t (ys ++ (10 ∷ u)) e)))
 first_line (x ∷ xs) [] t u na nb e = absurd (All-head (λ z. z ≡ 10 → ⊥) x xs na (head_of x 10 (xs ++ (10 ∷ t)) u e))

@@ -1,2 +1,9 @@
+pub mod CommandLine
 pub mod Endings
+pub mod InnerLines
+pub mod QueenLines
 pub mod RunLemmas
+pub mod SolveLemmas
+pub mod SummaryLemmas
+pub mod TopLemmas
+pub mod WordLemmas

@@ -1,12 +1,17 @@
 -- What the commands do: the bytes that are taken, the bytes that are written, and the cause of each status.
-use Rattle.std.specs.Prelude.{◌≡◌, ℕ, ◌<◌, ◌≤◌, ◌⊎◌, List, [], ◌∷◌, ◌++◌, length, take, flat_map, codes, All, Option, Some, None, ⊤}
+use Rattle.std.specs.Prelude.{◌≡◌, ℕ, ◌<◌, ◌≤◌, ◌⊎◌, List, [], ◌∷◌, ◌++◌, length, take, flat_map, codes, All, Option, Some, None, Result, Ok, Err, ⊤}
 use Rattle.palm_base.specs.Streams.{SourceState, SinkState, Consumes, Appended, AppendedFront, Rose}
 use Rattle.palm_lang.specs.Reply.{ended}
 use Rattle.palm_session.specs.State.{SessionState, fresh}
 use Rattle.palm_session.specs.Lines.{HasNoFeed, AreLines, without_return}
-use Rattle.palm_session.specs.Replies.{Replies, Run, Ends, KeepsOn}
+use Rattle.palm_session.specs.Replies.{Replies, Run as RunLines, Ends, KeepsOn}
 use Rattle.palm_session.specs.Feeding.{FeedsOn}
+use Rattle.palm_session.specs.declared.stop.Stop.{Stop}
+use Rattle.palm_session.specs.declared.stop.Stop.TheVariants as stop
+use Rattle.palm_cli.specs.Generator.{IsSummary}
 use Rattle.palm_cli.specs.declared.limits.TheConstants.{MOST_INPUT_BYTES, PIECE}
+use Rattle.palm_cli.specs.declared.words.Request.{Request}
+use Rattle.palm_cli.specs.declared.words.Request.TheVariants.{Run, Gen}
 use Rattle.palm_cli.specs.declared.status.Status.{Status}
 use Rattle.palm_cli.specs.declared.status.Status.TheVariants.{Done, Usage, ReadFault, WriteFault, NoMemory, TooLong}
 
@@ -32,10 +37,6 @@ pub record FailsToRead (before after : Streams) : Type 0 where
 pub record FailsToWrite (before after : Streams) : Type 0 where
   pub read : after.source.faults ≡ before.source.faults
   pub write : Rose before.sink.faults after.sink.faults
-
--- the words are those of the command `run`
-abbrev pub IsRun : List (List ℕ) → Type 0
-IsRun words = words ≡ codes "run" ∷ []
 
 abbrev pub usage_line : List ℕ
 usage_line = ended (codes "usage: palm run, palm check or palm gen N")
@@ -111,7 +112,7 @@ pub record RunsPart (guides orders : List ℕ) (before after : Streams) : Type 0
   pub in_time : StopsInTime text
   pub are_lines : AreLines text (lines ++ others)
   pub keeps_on : KeepsOn lines
-  pub run : Run (fresh guides orders) lines replies state
+  pub run : RunLines (fresh guides orders) lines replies state
   pub written : AppendedFront before.sink.written after.sink.written replies
 
 -- what `run` does where guides and orders with these numbers were handed in, by the status that it ends with
@@ -123,16 +124,44 @@ Runs guides orders before after WriteFault = FailsToWrite before after × RunsPa
 Runs guides orders before after NoMemory = IsCalm before after × RunsPart guides orders before after
 Runs guides orders before after TooLong = IsCalm before after × RunsOver guides orders before after
 
--- the usage line was written, or a front of it where a write failed
+-- the usage line was written, or a front of it where a write failed or memory ran out
 abbrev pub WritesUsage : SinkState → SinkState → Status → Type 0
 WritesUsage before after Usage = (after.faults ≡ before.faults) × Appended before.written after.written usage_line
 WritesUsage before after WriteFault = Rose before.faults after.faults × AppendedFront before.written after.written usage_line
+WritesUsage before after NoMemory = (after.faults ≡ before.faults) × AppendedFront before.written after.written usage_line
 WritesUsage before after _ = ⊥
 
 -- other words: nothing was read, and the usage line was written
 pub record Refuses (before after : Streams) (status : Status) : Type 0 where
   pub unread : after.source ≡ before.source
   pub usage : WritesUsage before.sink after.sink status
+
+-- the summary was written, or a front of it where a write failed or memory ran out
+abbrev pub WritesSummary : ℕ → SinkState → SinkState → Status → Type 0
+WritesSummary size before after Done =
+    (after.faults ≡ before.faults) × (summary : List ℕ) × IsSummary size summary × Appended before.written after.written summary
+WritesSummary size before after WriteFault =
+    Rose before.faults after.faults × (summary : List ℕ) × IsSummary size summary × AppendedFront before.written after.written summary
+WritesSummary size before after NoMemory =
+    (after.faults ≡ before.faults) × (summary : List ℕ) × IsSummary size summary × AppendedFront before.written after.written summary
+WritesSummary size before after _ = ⊥
+
+-- `gen`: nothing was read, and the summary of the session of so many queens was written
+pub record Generates (size : ℕ) (before after : Streams) (status : Status) : Type 0 where
+  pub unread : after.source ≡ before.source
+  pub summary : WritesSummary size before.sink after.sink status
+
+-- what is done for a request, or for other words
+abbrev pub Obeys : List ℕ → List ℕ → Option Request → Streams → Streams → Status → Type 0
+Obeys guides orders None before after status = Refuses before after status
+Obeys guides orders (Some Run) before after status = Runs guides orders before after status
+Obeys guides orders (Some (Gen size)) before after status = Generates size before after status
+
+-- the status of a command that stopped, or did not
+abbrev pub status_of : {T : Type 0} → Result T Stop → Status
+status_of (Ok _) = Done
+status_of (Err stop.WriteFault) = WriteFault
+status_of (Err stop.NoMemory) = NoMemory
 
 -- neither count of faults rose
 pub record HasNoFault (before after : Streams) : Type 0 where

@@ -1,3 +1,6 @@
 pub mod Commands
+pub mod Generator
 pub mod Numbers
 pub mod Serving
+pub mod Solving
+pub mod Words

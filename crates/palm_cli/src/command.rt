@@ -1,12 +1,14 @@
 //! The one call that the program makes.
-ghost use Rattle.std.specs.Prelude.{◌≡◌, map, codes, string_bytes, vec_len};
+ghost use Rattle.std.specs.Prelude.{ℕ, map, string_bytes, vec_len};
 ghost use Rattle.palm_base.specs.Streams.{Rose};
-ghost use Rattle.palm_base.specs.Tells.{Tells};
 ghost use Rattle.palm_session.specs.Objects.{numbered};
-ghost use Rattle.palm_cli.specs.Commands.{IsRun, IsCut, IsWhole, HasNoFault, Refuses, Runs, TakesAnswerable, TakesTooMuch, WritesUsage, streams};
+ghost use Rattle.palm_cli.specs.Commands.{IsCut, IsWhole, Generates, HasNoFault, Obeys, Refuses, Runs, TakesAnswerable, TakesTooMuch, WritesUsage, streams};
+ghost use Rattle.palm_cli.specs.Words.{IsFit, IsGen, IsNoCommand, IsRun};
 
+use crate::generator::generate;
 use crate::serving::run;
 use crate::status::Status;
+use crate::words::{Request, request_of};
 use palm_agenda::Order;
 use palm_base::{Failed, Sink, Source, write_all};
 use palm_guide::Guide;
@@ -26,41 +28,50 @@ pub fn top<S: Source, K: Sink, G: Guide, O: Order>(
     ensures runs { IsRun (map string_bytes words.now) →
         Runs (numbered (vec_len guides)) (numbered (vec_len orders))
         (streams (S.state source.old) (K.state sink.old)) (streams (S.state source.new) (K.state sink.new)) result }
+    // `gen` reads nothing, and writes the summary of the session of so many queens.
+    ensures generates { (size : ℕ) → IsGen (map string_bytes words.now) size →
+        Generates size (streams (S.state source.old) (K.state sink.old)) (streams (S.state source.new) (K.state sink.new)) result }
     // Other words are answered by the usage line.
-    ensures refuses { (IsRun (map string_bytes words.now) → ⊥) →
+    ensures refuses { IsNoCommand (map string_bytes words.now) →
         Refuses (streams (S.state source.old) (K.state sink.old)) (streams (S.state source.new) (K.state sink.new)) result }
     // Without a fault, a text that can be answered whole is answered whole, unless memory runs out.
     ensures complete { let before = streams (S.state source.old) (K.state sink.old) in
         let after = streams (S.state source.new) (K.state sink.new) in
         IsRun (map string_bytes words.now) → HasNoFault before after → TakesAnswerable before after → IsWhole result }
+    // Without a fault, the summary is written whole, unless memory runs out.
+    ensures summed { let before = streams (S.state source.old) (K.state sink.old) in
+        let after = streams (S.state source.new) (K.state sink.new) in
+        (size : ℕ) → IsGen (map string_bytes words.now) size → HasNoFault before after → IsWhole result }
     // A longer text, whose first bytes have no line that ends the session, is told to be too long where no write failed.
     ensures cut { let before = streams (S.state source.old) (K.state sink.old) in
         let after = streams (S.state source.new) (K.state sink.new) in
         IsRun (map string_bytes words.now) → TakesTooMuch before after →
         (Rose (K.state sink.old).faults (K.state sink.new).faults → ⊥) → IsCut result }
 {
-    if is_run(words) {
-        run(alloc, source, sink, guides, orders)
-    } else {
-        refuse(sink)
-    }
+    let Ok(request) = request_of(alloc, words) else {
+        return Status::NoMemory;
+    };
+    obey(alloc, request, source, sink, guides, orders)
 }
 
-/// Whether the words are those of the command `run`.
-fn is_run(words: &[String]) -> bool
-    ensures { Tells result (IsRun (map string_bytes words.now)) }
+/// Does what was asked for, or writes the usage line.
+fn obey<S: Source, K: Sink, G: Guide, O: Order>(
+    alloc: Global,
+    request: Option<Request>,
+    source: &mut S,
+    sink: &mut K,
+    guides: Vec<G>,
+    orders: Vec<O>,
+) -> Status
+    requires { IsFit request }
+    ensures { Obeys (numbered (vec_len guides)) (numbered (vec_len orders)) request
+        (streams (S.state source.old) (K.state sink.old)) (streams (S.state source.new) (K.state sink.new)) result }
 {
-    match words {
-        [word] => is_word(word),
-        _ => false,
+    match request {
+        Some(Request::Run) => run(alloc, source, sink, guides, orders),
+        Some(Request::Gen { size }) => generate(alloc, size, sink),
+        None => refuse(sink),
     }
-}
-
-/// Whether the word is `run`.
-fn is_word(word: &String) -> bool
-    ensures { Tells result (string_bytes word.now ≡ codes "run") }
-{
-    word.as_bytes() == b"run".as_slice()
 }
 
 /// Writes the usage line.

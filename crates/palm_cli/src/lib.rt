@@ -2,10 +2,15 @@
 #![tactic(auto)]
 
 mod command;
+mod generator;
+mod laws;
 mod limits;
+mod queens;
 mod serving;
 mod status;
+mod words;
 
 pub use command::top;
-pub use limits::{MOST_INPUT_BYTES, PIECE};
+pub use laws::{a_size_has_one_summary, summaries_are_of_replies};
+pub use limits::{MOST_INPUT_BYTES, MOST_QUEENS, MOST_SIZE_DIGITS, PIECE, SEARCH_BUDGET};
 pub use status::Status;

@@ -3,7 +3,7 @@
 /// How a command ends, and the process with it.
 #[derive(Clone, Copy, Debug, PartialEq, Eq)]
 pub enum Status {
-    /// 0: all was read, and all replies were written.
+    /// 0: all was read, and all replies were written; or the summary was written.
     Done,
     /// 2: the words are no command, and the usage line was written.
     Usage,

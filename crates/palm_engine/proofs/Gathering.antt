@@ -15,8 +15,8 @@ use Rattle.palm_model.specs.State.{IsEmptyAt, IsGround, present}
 use Rattle.palm_model.proofs.Without.{pair_of}
 use Rattle.palm_events.proofs.Agreeing.{gone_member}
 use Rattle.palm_events.proofs.Names.{single}
-use Rattle.palm_explain.specs.Explanations.{LacksExactly}
-use Rattle.palm_explain.specs.Causes.{IsMerged}
+use Rattle.palm_explain.specs.Explanations.{LacksExactly, NamesOfSome}
+use Rattle.palm_explain.specs.Merging.{IsMerged}
 use Rattle.palm_engine.specs.declared.filtering.Filtering.{Filtering}
 use Rattle.palm_engine.specs.Gathered.{Gathers}
 use Rattle.palm_engine.specs.Kept.{IsEmptyKept, IsKept, state_of}
@@ -41,46 +41,21 @@ more_last xs i x lt at = subst (λ ys. Contains ys x) (sym (take_more xs i x lt 
 
 -- ---- conflicts
 
--- the name is in the explanation of one of these values
-pub record NamesOfSome (log : List Removal) (x : ℕ) (values : List ℤ) (cid : Cid) : Type 0 where
-  pub value : ℤ
-  pub among : Contains values value
-  pub names : NamesOfPair log (record { var = x; value = value }) cid
-
-pub explanations_none : (log : List Removal) (x : ℕ) (values : List ℤ) (names : List Cid) → values ≡ [] → names ≡ [] → IsListOf (NamesOfSome log x values) names
-explanations_none log x values names e f = nothing_listed (NamesOfSome log x values) names f (λ c some. member_nil some.value (subst (λ vs. Contains vs some.value) e some.among))
-
-pub explanations_more : (log : List Removal) (x : ℕ) (values : List ℤ) (i : ℕ) (v : ℤ) (names explanation gathered : List Cid) → i < length values → v ≡ get_or values i v
-    → IsListOf (NamesOfSome log x (take i values)) names → IsListOf (NamesOfPair log (record { var = x; value = v })) explanation → IsMerged names explanation gathered
-    → IsListOf (NamesOfSome log x (take (i + 1) values)) gathered
-explanations_more log x values i v names explanation gathered lt at listed explains merged = record {
-  rising = merged.rising;
-  sound = λ c m. elim (merged.sound c m) [
-    | inl k ↦ let some = listed.sound c k in record { value = some.value; among = more_left values i v lt at some.value some.among; names = some.names }
-    | inr k ↦ record { value = v; among = more_last values i v lt at; names = explains.sound c k }
-  ];
-  whole = λ c some. elim (more_cases values i v lt at some.value some.among) [
-    | inl k ↦ merged.first c (listed.whole c (record { value = some.value; among = k; names = some.names }))
-    | inr e ↦ merged.second c (explains.whole c (subst (λ w. NamesOfPair log (record { var = x; value = w }) c) (sym e) some.names))
-  ];
+-- the names in the explanations of all declared values are the conflict
+pub conflict_listed : (f : Filtering) (active : List Active) (x : ℕ) (values : List ℤ) (names : List Cid) → values ≡ declared_values f.store x
+    → IsListOf (NamesOfSome f.log.log x values) names → IsKeptConflict (state_of f active) x names
+conflict_listed f active x values names declared listed = record {
+  rising = listed.rising;
+  sound = λ c m. let some = listed.sound c m in record { value = some.value; declared = subst (λ vs. Contains vs some.value) declared some.among; names = some.names };
+  whole = λ c held. listed.whole c (record { value = held.value; among = subst (λ vs. Contains vs held.value) (sym declared) held.declared; names = held.names });
 }
 
-pub conflict_listed : (f : Filtering) (active : List Active) (x : ℕ) (values : List ℤ) (i : ℕ) (names : List Cid) → values ≡ declared_values f.store x → length values ≤ i
-    → IsListOf (NamesOfSome f.log.log x (take i values)) names → IsKeptConflict (state_of f active) x names
-conflict_listed f active x values i names declared le listed =
-    let all : take i values ≡ declared_values f.store x = take_all i values le ∙ declared in
-    record {
-      rising = listed.rising;
-      sound = λ c m. let some = listed.sound c m in record { value = some.value; declared = subst (λ vs. Contains vs some.value) all some.among; names = some.names };
-      whole = λ c held. listed.whole c (record { value = held.value; among = subst (λ vs. Contains vs held.value) (sym all) held.declared; names = held.names });
-    }
-
 -- the values of an empty variable are logged
-pub empty_logged : (f : Filtering) (x : ℕ) (values : List ℤ) (i : ℕ) (v : ℤ) → LacksExactly f.store (log_pairs f.log.log) → IsEmptyAt (present_of f.store) x → values ≡ declared_values f.store x
-    → i < length values → v ≡ get_or values i v → Contains (log_pairs f.log.log) (pair_of x v)
-empty_logged f x values i v lacks empty declared lt at =
+pub empty_logged : (f : Filtering) (x : ℕ) (values : List ℤ) → LacksExactly f.store (log_pairs f.log.log) → IsEmptyAt (present_of f.store) x → values ≡ declared_values f.store x
+    → (v : ℤ) → Contains values v → Contains (log_pairs f.log.log) (pair_of x v)
+empty_logged f x values lacks empty declared v among =
     gone_member (initial_of f.store) (log_pairs f.log.log) x v
-    (subst (λ vs. Contains vs v) declared (i, lt, sym at))
+    (subst (λ vs. Contains vs v) declared among)
     (λ has. member_nil v (subst (λ vs. Contains vs v) empty.empty (subst (λ d. Has d x v) (sym lacks.present) has)))
 
 -- the empty variable is the one that is kept

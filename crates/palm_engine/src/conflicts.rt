@@ -1,5 +1,5 @@
 //! The constraints of a conflict.
-ghost use Rattle.std.specs.Prelude.{◌≡◌, List, Contains, IfOk, OnOk};
+ghost use Rattle.std.specs.Prelude.{◌≡◌, [], List, Contains, IfOk, OnErr, OnOk};
 ghost use Rattle.palm_base.specs.declared.terms.Cid.{Cid as CidTerm};
 ghost use Rattle.palm_domain.specs.Rows.{present_of};
 ghost use Rattle.palm_model.specs.Conflict.{InFlat, IsKeptConflict};
@@ -12,29 +12,25 @@ ghost use Rattle.palm_engine.specs.Posted.{actives_of};
 
 use crate::filtering::Filtering;
 use crate::posted::{Posted, place_of};
-use palm_base::{Cid, CidList, NoMemory, Pair, Var};
+use palm_base::{Cid, CidList, NoMemory, Var};
 use palm_explain::add_names;
 use palm_filter::Filter;
 use std::alloc::Global;
 
-/// The constraints of the explanations of all declared values of an empty variable, by rising name.
+/// Makes `out` the constraints of the explanations of all declared values of an empty variable, by rising name. Without
+/// memory `out` is empty.
 pub(crate) fn conflict_of(
-    alloc: Global,
     filtering: &Filtering,
     var: Var,
-) -> Result<CidList, NoMemory>
+    out: &mut CidList,
+) -> Result<(), NoMemory>
     requires removed { LacksExactly filtering.now.store (log_pairs filtering.now.log.log) }
     requires empty { IsEmptyAt (present_of filtering.now.store) var }
-    ensures { IfOk result (λ names. (active : List Active) → IsKeptConflict (state_of filtering.now active) var names) }
+    ensures ok { OnOk result ((active : List Active) → IsKeptConflict (state_of filtering.now active) var out.new) }
+    ensures err { OnErr result (out.new ≡ []) }
 {
-    let mut names = Vec::new(alloc);
-    let mut explanation = CidList::new(alloc);
-    for value in filtering.store.initial_values(var) {
-        let pair = Pair { var, value: *value };
-        filtering.log.explanation(pair, &mut explanation)?;
-        add_names(&mut names, explanation.as_slice())?;
-    }
-    Ok(CidList::from_vec(names))
+    let values = filtering.store.initial_values(var);
+    filtering.log.explanations(var, values, out)
 }
 
 /// Adds the grounds of a negation, or the name itself of another constraint.

@@ -193,7 +193,7 @@ impl<F: Filter> Engine<F> {
     {
         out.clear();
         if let Some(var) = self.filtering.empty {
-            *out = conflict_of(*self.posted.allocator(), &self.filtering, var)?;
+            conflict_of(&self.filtering, var, out)?;
         }
         Ok(())
     }

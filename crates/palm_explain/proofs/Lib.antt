@@ -2,7 +2,18 @@ mod Linked
 mod Naming
 pub mod Withdrawn
 mod Rising
-mod Entries
+mod Taking
+mod Graphs
 mod PuttingBack
 mod Keeping
-mod Taking
+mod Entered
+mod Marks
+mod Walks
+mod ClosedUp
+mod RowKeys
+mod Closing
+mod Writes
+mod Changes
+mod Stores
+mod Reading
+mod Visits

@@ -1,13 +1,9 @@
 -- What removals name, in a log and in another one that has more or fewer removals.
-use Rattle.std.proofs.Common.{◌≡◌, List, [], ◌∷◌, ◌++◌, Contains, inl, inr, refl, sym, subst}
-use Rattle.std.proofs.lemmas.List.Elements.{Contains-append_left, Contains-push_cases}
+use Rattle.std.proofs.Common.{List, Contains}
 use Rattle.palm_base.specs.declared.terms.Cid.{Cid}
-use Rattle.palm_base.proofs.Members.{member_same}
-use Rattle.palm_model.specs.Log.{Removal, Names, NamesOfPair, Loses, IsListOf}
+use Rattle.palm_model.specs.Log.{Removal, Names, Loses, IsListOf}
 use Rattle.palm_model.specs.Log.Names.{by_itself, by_reason}
 use Rattle.palm_events.proofs.Logs.{left_member, left_keeps, kept_member, some_by_reason}
-use Rattle.palm_explain.specs.Explanations.{IsLink, IsLinked, NamesOfNext}
-use Rattle.palm_explain.proofs.Linked.{once, reasons_logged}
 
 -- ---- more and fewer removals
 
@@ -23,41 +19,6 @@ names_fewer log more closed c _ m (by_itself r e) = by_itself r e
 names_fewer log more closed c _ m (by_reason r s k reason names) =
     let l = closed r s m k reason in by_reason r s l reason (names_fewer log more closed c s l names)
 
--- ---- one more removal
-
--- the reasons of the earlier removals do not have the pair of the next one
-reasons_stay : (log : List Removal) (r : Removal) → IsLinked log → IsLink log r → (q s : Removal) → Contains log q → Contains (log ++ r ∷ []) s → Contains q.reasons s.pair → Contains log s
-reasons_stay log r linked link q s m k reason = elim (Contains-push_cases log r s k) [
-  | inl o ↦ o
-  | inr e ↦ absurd (link.fresh (reasons_logged log linked q m r.pair (subst (λ (z : Removal). Contains q.reasons z.pair) (sym e) reason)))
-]
-
--- the earlier ones name what they named
-pub names_before_push : (log : List Removal) (r : Removal) → IsLinked log → IsLink log r → (c : Cid) (q : Removal) → Contains log q → Names (log ++ r ∷ []) c q → Names log c q
-names_before_push log r linked link c q m names = names_fewer log (log ++ r ∷ []) (reasons_stay log r linked link) c q m names
-
-pub names_after_push : (log : List Removal) (r : Removal) (c : Cid) (q : Removal) → Names log c q → Names (log ++ r ∷ []) c q
-names_after_push log r c q names = names_more log (log ++ r ∷ []) (λ s. Contains-append_left log (r ∷ []) s) c q names
-
--- the next one names its own constraint and what its reasons name
-pub next_named : (log : List Removal) (r : Removal) (c : Cid) → NamesOfNext log r.by r.reasons c → Names (log ++ r ∷ []) c r
-next_named log r c names = elim names [
-  | inl e ↦ by_itself r e
-  | inr n ↦ by_reason r n.2.removal (Contains-append_left log (r ∷ []) n.2.removal n.2.logged) (member_same r.reasons n.0 n.2.removal.pair (sym n.2.is) n.1) (names_after_push log r c n.2.removal n.2.names)
-]
-
-named_next_from : (log : List Removal) (r : Removal) → IsLinked log → IsLink log r → (c : Cid) (q : Removal) → q ≡ r → Names (log ++ r ∷ []) c q → NamesOfNext log r.by r.reasons c
-named_next_from log r linked link c _ same (by_itself q e) = inl (subst (λ (z : Removal). z.by ≡ c) same e)
-named_next_from log r linked link c _ same (by_reason q s k reason names) =
-    let reason' : Contains r.reasons s.pair = subst (λ (z : Removal). Contains z.reasons s.pair) same reason in
-    elim (Contains-push_cases log r s k) [
-      | inl o ↦ inr (s.pair, reason', record { removal = s; logged = o; is = refl; names = names_before_push log r linked link c s o names })
-      | inr e ↦ absurd (link.fresh (link.reasons r.pair (subst (λ (z : Removal). Contains r.reasons z.pair) (sym e) reason')))
-    ]
-
-pub named_next : (log : List Removal) (r : Removal) → IsLinked log → IsLink log r → (c : Cid) → Names (log ++ r ∷ []) c r → NamesOfNext log r.by r.reasons c
-named_next log r linked link c names = named_next_from log r linked link c r refl names
-
 -- ---- what a withdrawal leaves
 
 -- what stays has no reason among what is lost
@@ -71,15 +32,6 @@ names_left log gone left loses c r m names = names_fewer left log (left_reasons 
 
 pub left_names : (log : List Removal) (gone : List Cid) (left : List Removal) → Loses log gone log left → (c : Cid) (r : Removal) → Names left c r → Names log c r
 left_names log gone left loses c r names = names_more left log (left_member log gone log left loses) c r names
-
--- ---- pairs
-
--- what a pair names is what its removal names
-pub pair_names : (log : List Removal) → IsLinked log → (r : Removal) → Contains log r → (c : Cid) → NamesOfPair log r.pair c → Names log c r
-pair_names log linked r m c names = subst (λ z. Names log c z) (once log linked names.removal r names.logged m names.is) names.names
-
-pub names_pair : (log : List Removal) (r : Removal) → Contains log r → (c : Cid) → Names log c r → NamesOfPair log r.pair c
-names_pair log r m c names = record { removal = r; logged = m; is = refl; names = names }
 
 -- ---- lists of names
 

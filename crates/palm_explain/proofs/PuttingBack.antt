@@ -1,91 +1,77 @@
 -- Pairs that come back, one place after another, and the variables that are noted.
-use Rattle.std.proofs.Common.{◌≡◌, ℕ, zero, suc, ◌+◌, ◌<◌, ◌≤◌, Bool, true, false, not, cond, List, [], ◌∷◌, ◌++◌, length, map, filter, get_or, take, drop, slice_get, Contains, Some, ◌⊎◌, inl, inr, refl, sym, ap, ◌∙◌, subst, arith, nat_eq, eqb-true, eq-eqb}
+use Rattle.std.proofs.Common.{◌≡◌, ℕ, zero, suc, ◌+◌, ◌<◌, ◌≤◌, Bool, true, false, not, cond, List, [], ◌∷◌, ◌++◌, length, map, filter, take, drop, slice_get, Contains, Some, ◌⊎◌, inl, inr, refl, sym, ap, ◌∙◌, subst, arith, nat_eq, eqb-true, eq-eqb}
 use Rattle.std.specs.List.{list_any}
 use Rattle.indexmap.specs.IndexSet.{insert_all, insert_key}
-use Rattle.std.proofs.lemmas.Bool.{cases_Bool, false≢true}
+use Rattle.std.proofs.lemmas.Bool.{false≢true}
 use Rattle.std.proofs.lemmas.List.{map-append, length-append, length-map, length-take-le, take-append-drop, take_all}
 use Rattle.std.proofs.lemmas.List.Elements.{filter-append, Contains-append_left, Contains-append_right, Contains-append_cases, Contains-push, Contains-push_cases}
 use Rattle.std.proofs.lemmas.List.Filters.{length-filter_both}
 use Rattle.std.proofs.lemmas.List.Sums.{fold-append}
 use Rattle.palm_base.specs.declared.terms.Pair.{Pair}
-use Rattle.palm_base.specs.declared.terms.Cid.{Cid}
 use Rattle.palm_base.proofs.Members.{member_nil, member_here, member_there, member_cases, member_same, member_map, member_unmap, filter_member, member_filter, member_take, member_drop, nat_known, int_known}
 use Rattle.palm_domain.specs.Rows.{Row, GainsPair, IsDeclared, IsPresent, initial_of}
 use Rattle.palm_model.specs.Constraint.{Distinct}
 use Rattle.palm_model.specs.Event.{vars_of}
 use Rattle.palm_model.specs.Domains.{values_of}
-use Rattle.palm_model.specs.Log.{is_named, log_pairs}
+use Rattle.palm_model.specs.Log.{log_pairs}
 use Rattle.palm_model.proofs.Without.{pair_of, without_has}
 use Rattle.palm_model.proofs.Supports.{any_member, member_any}
 use Rattle.palm_events.proofs.Logs.{pair_logged}
-use Rattle.palm_events.proofs.Names.{named_member, member_named}
-use Rattle.palm_explain.specs.declared.causes.Cause.{Cause}
-use Rattle.palm_explain.specs.Causes.{HasBack, rests_on, kept_of, log_of, lost_at, lost_of, removal_of}
+use Rattle.palm_explain.specs.Graph.{Graph, log_of, removal_at}
+use Rattle.palm_explain.specs.Lost.{HasBack, kept_of, lost_at, lost_of}
 use Rattle.palm_explain.specs.Explanations.{IsLinked, LacksExactly}
 use Rattle.palm_explain.proofs.Linked.{later_fresh, linked_later}
-use Rattle.palm_explain.proofs.Entries.{pairs_in, causes_in, entry_logged, entry_place, cause_entry}
 
 -- ---- lost pairs
 
-pub lost_append : (cid : Cid) (xs ys : List (Pair × Cause)) → lost_of cid (xs ++ ys) ≡ lost_of cid xs ++ lost_of cid ys
-lost_append cid xs ys = ap (λ l. map (λ (e : Pair × Cause). e.0) l) (filter-append (rests_on cid) xs ys) ∙ map-append (λ (e : Pair × Cause). e.0) (filter (rests_on cid) xs) (filter (rests_on cid) ys)
+pub lost_append : (g : Graph) (lost : ℕ → Bool) (xs ys : List ℕ) → lost_of g lost (xs ++ ys) ≡ lost_of g lost xs ++ lost_of g lost ys
+lost_append g lost xs ys = ap (λ l. map (λ k. (removal_at g k).pair) l) (filter-append lost xs ys) ∙ map-append (λ k. (removal_at g k).pair) (filter lost xs) (filter lost ys)
 
-take_next : {X : Type 0} (i : ℕ) (xs : List X) → take (suc i) xs ≡ take i xs ++ take 1 (drop i xs)
+pub take_next : {X : Type 0} (i : ℕ) (xs : List X) → take (suc i) xs ≡ take i xs ++ take 1 (drop i xs)
 take_next zero xs = refl
 take_next (suc i) [] = refl
 take_next (suc i) (x ∷ xs) = ap (λ l. x ∷ l) (take_next i xs)
 
-lost_next : (cid : Cid) (es : List (Pair × Cause)) (i : ℕ) → lost_of cid (take (i + 1) es) ≡ lost_of cid (take i es) ++ lost_at cid es i
-lost_next cid es i =
+lost_next : (g : Graph) (lost : ℕ → Bool) (es : List ℕ) (i : ℕ) → lost_of g lost (take (i + 1) es) ≡ lost_of g lost (take i es) ++ lost_at g lost es i
+lost_next g lost es i =
     let e : i + 1 ≡ suc i = omega arith in
-    ap (λ n. lost_of cid (take n es)) e ∙ ap (lost_of cid) (take_next i es) ∙ lost_append cid (take i es) (take 1 (drop i es))
+    ap (λ n. lost_of g lost (take n es)) e ∙ ap (lost_of g lost) (take_next i es) ∙ lost_append g lost (take i es) (take 1 (drop i es))
 
--- a lost pair is that of an entry whose explanation holds the name
-pub lost_entry : (cid : Cid) (es : List (Pair × Cause)) (p : Pair) → Contains (lost_of cid es) p → (e : Pair × Cause) × Contains es e × (e.0 ≡ p) × Contains e.1.explanation cid
-lost_entry cid es p m =
-    let e = member_unmap (λ (z : Pair × Cause). z.0) (filter (rests_on cid) es) p m in
-    let k = filter_member (rests_on cid) es e.0 e.1 in
-    (e.0, k.0, e.2, named_member e.0.1.explanation cid k.1)
+-- a lost pair is that of a removal that is lost
+pub lost_entry : (g : Graph) (lost : ℕ → Bool) (es : List ℕ) (p : Pair) → Contains (lost_of g lost es) p → (k : ℕ) × Contains es k × ((removal_at g k).pair ≡ p) × (lost k ≡ true)
+lost_entry g lost es p m =
+    let e = member_unmap (λ k. (removal_at g k).pair) (filter lost es) p m in
+    let k = filter_member lost es e.0 e.1 in
+    (e.0, k.0, e.2, k.1)
 
-pub entry_lost : (cid : Cid) (es : List (Pair × Cause)) (e : Pair × Cause) → Contains es e → Contains e.1.explanation cid → Contains (lost_of cid es) e.0
-entry_lost cid es e m named = member_map (λ (z : Pair × Cause). z.0) (filter (rests_on cid) es) e (member_filter (rests_on cid) es e m (member_named e.1.explanation cid named))
+pub entry_lost : (g : Graph) (lost : ℕ → Bool) (es : List ℕ) (k : ℕ) → Contains es k → lost k ≡ true → Contains (lost_of g lost es) (removal_at g k).pair
+entry_lost g lost es k m h = member_map (λ j. (removal_at g j).pair) (filter lost es) k (member_filter lost es k m h)
 
-lost_few : (cid : Cid) (es : List (Pair × Cause)) → length (lost_of cid es) ≤ length es
-lost_few cid es =
-    let a = length-map (filter (rests_on cid) es) (λ (e : Pair × Cause). e.0) in
-    let b = length-filter_both (rests_on cid) (λ e. not (rests_on cid e)) (λ e. refl) es in omega (arith, a, b)
+pub entry_logged : (g : Graph) (es : List ℕ) (k : ℕ) → Contains es k → Contains (log_of g es) (removal_at g k)
+entry_logged g es k m = member_map (removal_at g) es k m
 
 -- what stays and what is lost are all
-pub kept_and_lost : (cid : Cid) (es : List (Pair × Cause)) → length (kept_of cid es) + length (lost_of cid es) ≡ length es
-kept_and_lost cid es =
-    let a = length-map (filter (rests_on cid) es) (λ (e : Pair × Cause). e.0) in
-    let b = length-filter_both (rests_on cid) (λ e. not (rests_on cid e)) (λ e. refl) es in omega (arith, a, b)
+pub kept_and_lost : (g : Graph) (lost : ℕ → Bool) (es : List ℕ) → length (kept_of lost es) + length (lost_of g lost es) ≡ length es
+kept_and_lost g lost es =
+    let a = length-map (filter lost es) (λ k. (removal_at g k).pair) in
+    let b = length-filter_both lost (λ k. not (lost k)) (λ k. refl) es in omega (arith, a, b)
 
-taken_one : {X : Type 0} (xs : List X) (i : ℕ) (x : X) → slice_get xs i ≡ Some x → take 1 (drop i xs) ≡ x ∷ []
+lost_few : (g : Graph) (lost : ℕ → Bool) (es : List ℕ) → length (lost_of g lost es) ≤ length es
+lost_few g lost es = let a = kept_and_lost g lost es in omega (arith, a)
+
+pub taken_one : {X : Type 0} (xs : List X) (i : ℕ) (x : X) → slice_get xs i ≡ Some x → take 1 (drop i xs) ≡ x ∷ []
 taken_one [] i x at = cc
 taken_one (y ∷ xs) zero x at = let f : y ≡ x = cc in ap (λ z. z ∷ []) f
 taken_one (y ∷ xs) (suc i) x at = taken_one xs i x at
 
 -- the pair at a place is lost, or none there is
-pub lost_here : (cid : Cid) (es : List (Pair × Cause)) (i : ℕ) (e : Pair × Cause) → slice_get es i ≡ Some e → Contains e.1.explanation cid → lost_at cid es i ≡ e.0 ∷ []
-lost_here cid es i e at named =
-    ap (lost_of cid) (taken_one es i e at) ∙ ap (λ b. map (λ (z : Pair × Cause). z.0) (cond b (e ∷ []) [])) (member_named e.1.explanation cid named)
+pub lost_here : (g : Graph) (lost : ℕ → Bool) (es : List ℕ) (i k : ℕ) → slice_get es i ≡ Some k → lost k ≡ true → lost_at g lost es i ≡ (removal_at g k).pair ∷ []
+lost_here g lost es i k at is =
+    ap (lost_of g lost) (taken_one es i k at) ∙ ap (λ b. map (λ j. (removal_at g j).pair) (cond b (k ∷ []) [])) is
 
-pub none_lost_here : (cid : Cid) (es : List (Pair × Cause)) (i : ℕ) (e : Pair × Cause) → slice_get es i ≡ Some e → (Contains e.1.explanation cid → ⊥) → lost_at cid es i ≡ []
-none_lost_here cid es i e at free =
-    ap (lost_of cid) (taken_one es i e at) ∙ ap (λ b. map (λ (z : Pair × Cause). z.0) (cond b (e ∷ []) [])) (not_named e.1.explanation cid free)
-  where
-    not_named : (names : List Cid) (c : Cid) → (Contains names c → ⊥) → is_named names c ≡ false
-    not_named names c n = elim (cases_Bool (is_named names c)) [ inl t ↦ absurd (n (named_member names c t)) | inr f ↦ f ]
-
--- the same where the pair and the cause are read apart
-pub lost_there : (cid : Cid) (es : List (Pair × Cause)) (i : ℕ) (k : Pair) (v : Cause) (pairs : List Pair) → pairs ≡ pairs_in es → k ≡ get_or pairs i k → slice_get (causes_in es) i ≡ Some v
-    → Contains v.explanation cid → lost_at cid es i ≡ k ∷ []
-lost_there cid es i k v pairs all is at named =
-    lost_here cid es i (k, v) (entry_place es i k v at (is ∙ ap (λ l. get_or l i k) all)) named
-
-pub none_lost_there : (cid : Cid) (es : List (Pair × Cause)) (i : ℕ) (v : Cause) → slice_get (causes_in es) i ≡ Some v → (Contains v.explanation cid → ⊥) → lost_at cid es i ≡ []
-none_lost_there cid es i v at free = let e = cause_entry es i v at in none_lost_here cid es i (e.0, v) e.1 free
+pub none_lost_here : (g : Graph) (lost : ℕ → Bool) (es : List ℕ) (i k : ℕ) → slice_get es i ≡ Some k → lost k ≡ false → lost_at g lost es i ≡ []
+none_lost_here g lost es i k at is =
+    ap (lost_of g lost) (taken_one es i k at) ∙ ap (λ b. map (λ j. (removal_at g j).pair) (cond b (k ∷ []) [])) is
 
 -- ---- pairs that are back
 
@@ -126,18 +112,18 @@ back_then before middle after ps qs one two = record {
 -- ---- below a place
 
 -- the lost pairs of the places below this one are back, their variables are noted, and there is room for the others
-pub record IsBackBelow (cid : Cid) (es : List (Pair × Cause)) (before now : List Row) (old keys : List ℕ) (spare place : ℕ) : Type 0 where
-  pub back : HasBack before now (lost_of cid (take place es))
-  pub noted : keys ≡ insert_all nat_eq old (vars_of (lost_of cid (take place es)))
-  pub room : length es ≤ spare + length (lost_of cid (take place es))
+pub record IsBackBelow (g : Graph) (lost : ℕ → Bool) (es : List ℕ) (before now : List Row) (old keys : List ℕ) (spare place : ℕ) : Type 0 where
+  pub back : HasBack before now (lost_of g lost (take place es))
+  pub noted : keys ≡ insert_all nat_eq old (vars_of (lost_of g lost (take place es)))
+  pub room : length es ≤ spare + length (lost_of g lost (take place es))
 
-pub back_below_next : (cid : Cid) (es : List (Pair × Cause)) (before middle now : List Row) (old keys later : List ℕ) (room spare place : ℕ)
-    → IsBackBelow cid es before middle old keys room place → HasBack middle now (lost_at cid es place) → later ≡ insert_all nat_eq keys (vars_of (lost_at cid es place))
-    → room ≤ spare + length (lost_at cid es place) → IsBackBelow cid es before now old later spare (place + 1)
-back_below_next cid es before middle now old keys later room spare place below back noted fits =
-    let next = lost_next cid es place in
-    let some = lost_of cid (take place es) in
-    let here = lost_at cid es place in record {
+pub back_below_next : (g : Graph) (lost : ℕ → Bool) (es : List ℕ) (before middle now : List Row) (old keys later : List ℕ) (room spare place : ℕ)
+    → IsBackBelow g lost es before middle old keys room place → HasBack middle now (lost_at g lost es place) → later ≡ insert_all nat_eq keys (vars_of (lost_at g lost es place))
+    → room ≤ spare + length (lost_at g lost es place) → IsBackBelow g lost es before now old later spare (place + 1)
+back_below_next g lost es before middle now old keys later room spare place below back noted fits =
+    let next = lost_next g lost es place in
+    let some = lost_of g lost (take place es) in
+    let here = lost_at g lost es place in record {
       back = subst (λ l. HasBack before now l) (sym next) (back_then before middle now some here below.back back);
       noted = noted ∙ ap (λ l. insert_all nat_eq l (vars_of here)) below.noted ∙ sym (fold-append (insert_key nat_eq) old (vars_of some) (vars_of here))
           ∙ ap (λ l. insert_all nat_eq old l) (sym (map-append (λ (p : Pair). p.var) some here)) ∙ ap (λ l. insert_all nat_eq old (vars_of l)) (sym next);
@@ -147,36 +133,36 @@ back_below_next cid es before middle now old keys later room spare place below b
     }
 
 -- past the last place all lost pairs are back
-pub back_below_all : (cid : Cid) (es : List (Pair × Cause)) (before now : List Row) (old keys : List ℕ) (room place : ℕ) → IsBackBelow cid es before now old keys room place → length es ≤ place → HasBack before now (lost_of cid es)
-back_below_all cid es before now old keys room place below le = subst (λ l. HasBack before now (lost_of cid l)) (take_all place es le) below.back
+pub back_below_all : (g : Graph) (lost : ℕ → Bool) (es : List ℕ) (before now : List Row) (old keys : List ℕ) (room place : ℕ) → IsBackBelow g lost es before now old keys room place → length es ≤ place → HasBack before now (lost_of g lost es)
+back_below_all g lost es before now old keys room place below le = subst (λ l. HasBack before now (lost_of g lost l)) (take_all place es le) below.back
 
 -- there is room for one more
-pub back_below_room : (cid : Cid) (es : List (Pair × Cause)) (before now : List Row) (old keys : List ℕ) (room place : ℕ) → IsBackBelow cid es before now old keys room place → place < length es → 0 < room
-back_below_room cid es before now old keys room place below lt =
-    let few = lost_few cid (take place es) in
+pub back_below_room : (g : Graph) (lost : ℕ → Bool) (es : List ℕ) (before now : List Row) (old keys : List ℕ) (room place : ℕ) → IsBackBelow g lost es before now old keys room place → place < length es → 0 < room
+back_below_room g lost es before now old keys room place below lt =
+    let few = lost_few g lost (take place es) in
     let short = length-take-le place es (omega arith) in omega (arith, below.room, few, short)
 
 -- the pair at a place has another one than the pairs before it
-places_apart : (es : List (Pair × Cause)) (i : ℕ) → IsLinked (log_of es) → (d e : Pair × Cause) → Contains (take i es) d → Contains (drop i es) e → d.0 ≡ e.0 → ⊥
-places_apart es i linked d e m n same =
-    let split : log_of es ≡ log_of (take i es) ++ log_of (drop i es) = ap log_of (sym (take-append-drop i es)) ∙ map-append removal_of (take i es) (drop i es) in
-    let later = linked_later [] (log_of (take i es)) (log_of (drop i es)) (subst IsLinked split linked) in
-    later_fresh (log_of (take i es)) (log_of (drop i es)) later (removal_of e) (entry_logged (drop i es) e n)
-    (member_same (log_pairs (log_of (take i es))) d.0 e.0 same (pair_logged (log_of (take i es)) (removal_of d) (entry_logged (take i es) d m)))
+places_apart : (g : Graph) (es : List ℕ) (i : ℕ) → IsLinked (log_of g es) → (j k : ℕ) → Contains (take i es) j → Contains (drop i es) k → (removal_at g j).pair ≡ (removal_at g k).pair → ⊥
+places_apart g es i linked j k m n same =
+    let split : log_of g es ≡ log_of g (take i es) ++ log_of g (drop i es) = ap (log_of g) (sym (take-append-drop i es)) ∙ map-append (removal_at g) (take i es) (drop i es) in
+    let later = linked_later [] (log_of g (take i es)) (log_of g (drop i es)) (subst IsLinked split linked) in
+    later_fresh (log_of g (take i es)) (log_of g (drop i es)) later (removal_at g k) (entry_logged g (drop i es) k n)
+    (member_same (log_pairs (log_of g (take i es))) (removal_at g j).pair (removal_at g k).pair same (pair_logged (log_of g (take i es)) (removal_at g j) (entry_logged g (take i es) j m)))
 
 -- the pair at the place is still out
-pub back_below_out : (cid : Cid) (es : List (Pair × Cause)) (before now : List Row) (old keys : List ℕ) (room place : ℕ) → IsLinked (log_of es) → LacksExactly before (log_pairs (log_of es))
-    → IsBackBelow cid es before now old keys room place → (p : Pair) → Contains (lost_at cid es place) p → IsDeclared now p.var p.value × (IsPresent now p.var p.value → ⊥)
-back_below_out cid es before now old keys room place linked lacks below p m =
-    let e = lost_entry cid (take 1 (drop place es)) p m in
+pub back_below_out : (g : Graph) (lost : ℕ → Bool) (es : List ℕ) (before now : List Row) (old keys : List ℕ) (room place : ℕ) → IsLinked (log_of g es) → LacksExactly before (log_pairs (log_of g es))
+    → IsBackBelow g lost es before now old keys room place → (p : Pair) → Contains (lost_at g lost es place) p → IsDeclared now p.var p.value × (IsPresent now p.var p.value → ⊥)
+back_below_out g lost es before now old keys room place linked lacks below p m =
+    let e = lost_entry g lost (take 1 (drop place es)) p m in
     let dropped = member_take 1 (drop place es) e.0 e.1 in
-    let in_log : Contains (log_pairs (log_of es)) p = member_same (log_pairs (log_of es)) e.0.0 p e.2 (pair_logged (log_of es) (removal_of e.0) (entry_logged es e.0 (member_drop place es e.0 dropped))) in (
+    let in_log : Contains (log_pairs (log_of g es)) p = member_same (log_pairs (log_of g es)) (removal_at g e.0).pair p e.2 (pair_logged (log_of g es) (removal_at g e.0) (entry_logged g es e.0 (member_drop place es e.0 dropped))) in (
       subst (λ lists. Contains (values_of lists p.var) p.value) (sym below.back.initial) (lacks.declared p in_log),
       λ h. elim (below.back.sound p.var p.value h) [
-        | inl k ↦ (without_has (initial_of before) (log_pairs (log_of es)) p.var p.value (subst (λ lists. Contains (values_of lists p.var) p.value) lacks.present k)).1 in_log
+        | inl k ↦ (without_has (initial_of before) (log_pairs (log_of g es)) p.var p.value (subst (λ lists. Contains (values_of lists p.var) p.value) lacks.present k)).1 in_log
         | inr k ↦
-            let d = lost_entry cid (take place es) p k in
-            places_apart es place linked d.0 e.0 d.1 dropped (d.2 ∙ sym e.2)
+            let d = lost_entry g lost (take place es) p k in
+            places_apart g es place linked d.0 e.0 d.1 dropped (d.2 ∙ sym e.2)
       ],
     )
 

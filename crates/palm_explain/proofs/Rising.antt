@@ -18,7 +18,7 @@ use Rattle.palm_base.proofs.Members.{member_nil, member_here, member_there, memb
 use Rattle.palm_base.proofs.Naming.{ComparesParts}
 use Rattle.palm_model.specs.Log.{Rises, pair_before, cid_before}
 use Rattle.palm_events.proofs.Names.{before_then, not_before_itself, rises_append}
-use Rattle.palm_explain.specs.Causes.{IsMerged}
+use Rattle.palm_explain.specs.Merging.{IsMerged}
 
 -- ---- what a comparison of two names tells
 

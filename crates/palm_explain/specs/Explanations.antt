@@ -1,5 +1,5 @@
 -- The log of removals as its callers see it, what holds of every such log, and how a store of domains goes with it.
-use Rattle.std.specs.Prelude.{◌≡◌, ℕ, ⊤, ◌⊎◌, List, [], ◌∷◌, ◌++◌, map, Contains, slice_index_or}
+use Rattle.std.specs.Prelude.{◌≡◌, ℕ, ℤ, ⊤, List, [], ◌∷◌, ◌++◌, map, Contains, slice_index_or}
 use Rattle.palm_base.specs.declared.terms.Pair.{Pair}
 use Rattle.palm_base.specs.declared.terms.Cid.{Cid}
 use Rattle.palm_domain.specs.Rows.{Row, IsDeclared, initial_of, present_of}
@@ -34,9 +34,11 @@ AreLinked earlier (r ∷ rest) = IsLink earlier r × AreLinked (earlier ++ r ∷
 abbrev pub IsLinked : List Removal → Type 0
 IsLinked log = AreLinked [] log
 
--- the names that a removal by this constraint and for these reasons has, after this log
-abbrev pub NamesOfNext : List Removal → Cid → List Pair → Cid → Type 0
-NamesOfNext log by reasons cid = (by ≡ cid) ⊎ ((p : Pair) × Contains reasons p × NamesOfPair log p cid)
+-- the names in the explanations of these values of the variable
+pub record NamesOfSome (log : List Removal) (x : ℕ) (values : List ℤ) (cid : Cid) : Type 0 where
+  pub value : ℤ
+  pub among : Contains values value
+  pub names : NamesOfPair log (record { var = x; value = value }) cid
 
 -- ---- domains
 

@@ -1,2 +1,5 @@
-pub mod Causes
 pub mod Explanations
+pub mod Graph
+pub mod Lost
+pub mod Merging
+pub mod Rows

@@ -1,10 +1,14 @@
 //! The log of removals: it explains each removed value, and withdraws a constraint from all that rests on it.
 #![tactic(auto)]
 
-mod causes;
+mod entering;
 mod laws;
 mod names;
+mod node;
+mod rows;
 mod store;
+mod walking;
+mod withdrawing;
 
 pub use laws::{
     full_stores_lack_nothing, stores_lack_what_is_taken_out, well_founded_logs_are_linked,

@@ -1,19 +1,10 @@
 //! Names of constraints by rising name, each once.
-ghost use Rattle.std.specs.Prelude.{◌≡◌, [], ◌∷◌, Contains, OnOk};
-ghost use Rattle.palm_base.specs.Tells.{Tells};
+ghost use Rattle.std.specs.Prelude.{[], ◌∷◌, OnOk};
 ghost use Rattle.palm_model.specs.Log.{Rises};
-ghost use Rattle.palm_explain.specs.Causes.{IsMerged};
+ghost use Rattle.palm_explain.specs.Merging.{IsMerged};
 
 use palm_base::{Cid, NoMemory};
 use std::alloc::AllocFailed;
-
-/// Whether the name is among the names.
-pub(crate) fn has_name(names: &[Cid], cid: &Cid) -> bool
-    requires { Rises names.now }
-    ensures { Tells result (Contains names.now cid.now) }
-{
-    names.binary_search(cid).is_ok()
-}
 
 /// Adds a name at its place in the order, unless it is there.
 pub(crate) fn add_name(names: &mut Vec<Cid>, cid: &Cid) -> Result<(), NoMemory>

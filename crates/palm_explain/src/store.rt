@@ -1,39 +1,47 @@
 //! The log of removals, with what each of them rests on.
-ghost use Rattle.std.specs.Prelude.{◌≡◌, ◌↔◌, ℕ, ◌<◌, Some, [], ◌∷◌, ◌++◌, length, slice_get, Contains, MatchOption, OnOk, OnErr};
+ghost use Rattle.std.specs.Prelude.{◌≡◌, ◌↔◌, ℕ, ℤ, ◌<◌, Some, [], ◌∷◌, ◌++◌, length, slice_get, Contains, MatchOption, OnOk, OnErr};
 ghost use Rattle.palm_base.specs.Tells.{Tells};
 ghost use Rattle.palm_domain.specs.Rows.{initial_of};
 ghost use Rattle.palm_model.specs.Constraint.{Distinct};
 ghost use Rattle.palm_model.specs.Event.{lost_pairs, vars_of};
 ghost use Rattle.palm_model.specs.Log.{IsListOf, Loses, NamesOfPair, log_pairs};
-ghost use Rattle.palm_explain.specs.Explanations.{IsLinked, LacksExactly, log_bys, reasons_of};
+ghost use Rattle.palm_explain.specs.Explanations.{IsLinked, LacksExactly, NamesOfSome, log_bys, reasons_of};
 
-use crate::causes::{Cause, Causes, explanation_of, push_cause, put_back, take_out};
+use crate::entering::{causes_of, link, reserve_links};
+use crate::node::{Node, Nodes};
+use crate::rows::{Row, key_of, put_key};
+use crate::walking::{names_of, rests_on};
+use crate::withdrawing::{close_up, forget_marked, mark_lost, put_back};
 use indexmap::IndexSet;
-use palm_base::{Cid, CidList, NoMemory, Pair, Var};
+use palm_base::{Cid, CidList, NoMemory, Pair, Value, Var};
 use palm_domain::DomainStore;
-use std::alloc::{AllocError, AllocFailed, Global};
+use slab::Slab;
+use std::alloc::{AllocError, Global};
 use std::marker::Model;
 
-/// The removals in their order, each with the constraint that made it and its reasons, and the variables of which
-/// the last withdrawal put values back. The explanation of a removal is its constraint together with the
-/// explanations of its reasons: a set of constraints that together imply that the variable does not take the value.
+/// The removals as a graph: each is a node with links to its reasons and from them, and no explanation is stored. The
+/// explanation of a removal is its constraint together with the explanations of its reasons: a set of constraints that
+/// together imply that the variable does not take the value.
 #[derive(Debug, Drop)]
 pub struct ExplainStore {
-    causes: Causes,
+    nodes: Nodes,
+    /// The keys of the nodes in the order of the removals.
+    log: Vec<usize>,
+    rows: Vec<Row>,
+    /// The variables of which the last withdrawal put values back.
     restored: IndexSet<Var>,
 }
 
 impl Model for ExplainStore {
-    ghost use Rattle.std.specs.Prelude.{◌≤◌, length};
     ghost use Rattle.indexmap.specs.IndexSet.{spare};
-    ghost use Rattle.palm_explain.specs.Causes.{AreExplained, log_of};
-    ghost use Rattle.palm_explain.specs.Explanations.{Explanations, IsLinked};
+    ghost use Rattle.palm_explain.specs.Explanations.{Explanations};
+    ghost use Rattle.palm_explain.specs.Graph.{IsKept, graph_of, log_of};
 
     ghost Value = { Explanations };
 
-    ghost view = { λ s. record { log = log_of s.causes.entries; restored = s.restored.keys } };
+    ghost view = { λ s. record { log = log_of (graph_of s.nodes) s.log.items; restored = s.restored.keys } };
 
-    ghost invariant = { λ s. IsLinked (log_of s.causes.entries) × AreExplained s.causes.entries × (length s.causes.entries ≤ spare s.restored) };
+    ghost invariant = { λ s. IsKept s.nodes s.log.items s.rows.items (spare s.restored) };
 }
 
 impl ExplainStore {
@@ -42,7 +50,9 @@ impl ExplainStore {
         ensures { result ≡ record { log = []; restored = [] } }
     {
         ExplainStore {
-            causes: Causes::new(alloc),
+            nodes: Slab::new(alloc),
+            log: Vec::new(alloc),
+            rows: Vec::new(alloc),
             restored: IndexSet::new(alloc),
         }
     }
@@ -54,14 +64,26 @@ impl ExplainStore {
         ensures ok { OnOk result (self.new ≡ record self.old { log = self.old.log ++ record { pair = pair; by = by; reasons = reasons.now } ∷ [] }) }
         ensures err { OnErr result (self.new ≡ self.old) }
     {
-        let alloc = *self.causes.allocator();
-        let cause = Cause {
-            explanation: explanation_of(alloc, &self.causes, &by, reasons)?,
-            reasons: Vec::from_slice(alloc, reasons)?,
+        let alloc = *self.log.allocator();
+        let key = self.nodes.vacant_key();
+        let place = self.log.len();
+        put_key(&mut self.rows, &pair, key)?;
+        let causes = causes_of(alloc, &self.nodes, &self.rows, reasons)?;
+        self.restored.reserve(place + 1)?;
+        self.log.reserve(1)?;
+        self.nodes.reserve(1)?;
+        reserve_links(&mut self.nodes, &causes, key)?;
+        link(&mut self.nodes, &causes, key);
+        self.nodes.insert_reserved(Node {
+            pair,
             by,
-        };
-        self.restored.reserve(self.causes.len() + 1)?;
-        push_cause(&mut self.causes, pair, cause)
+            causes,
+            dependents: Vec::new(alloc),
+            place,
+            mark: false,
+        });
+        self.log.push_reserved(key);
+        Ok(())
     }
 
     /// How many removals there are. That the log is linked holds of every store.
@@ -69,7 +91,7 @@ impl ExplainStore {
         ensures count { result ≡ length self.now.log }
         ensures linked { IsLinked self.now.log }
     {
-        self.causes.len()
+        self.log.len()
     }
 
     /// The pair of the removal at a place.
@@ -77,8 +99,7 @@ impl ExplainStore {
         requires { place < length self.now.log }
         ensures { slice_get (log_pairs self.now.log) place ≡ Some result }
     {
-        let pairs = self.causes.keys().as_slice();
-        pairs[place]
+        self.nodes[self.log[place]].pair
     }
 
     /// The constraint that made the removal at a place.
@@ -86,7 +107,7 @@ impl ExplainStore {
         requires { place < length self.now.log }
         ensures { slice_get (log_bys self.now.log) place ≡ Some result }
     {
-        self.causes[place].by
+        self.nodes[self.log[place]].by
     }
 
     /// How many reasons the removal at a place has.
@@ -94,7 +115,7 @@ impl ExplainStore {
         requires { place < length self.now.log }
         ensures { result ≡ length (reasons_of self.now.log place) }
     {
-        self.causes[place].reasons.len()
+        self.nodes[self.log[place]].causes.len()
     }
 
     /// A reason of the removal at a place.
@@ -103,7 +124,8 @@ impl ExplainStore {
         requires index { index < length (reasons_of self.now.log place) }
         ensures { slice_get (reasons_of self.now.log place) index ≡ Some result }
     {
-        self.causes[place].reasons[index]
+        let cause = self.nodes[self.log[place]].causes[index];
+        self.nodes[cause].pair
     }
 
     /// The place of a pair's removal.
@@ -112,15 +134,22 @@ impl ExplainStore {
             (Contains (log_pairs self.now.log) pair → ⊥)
             (λ place. slice_get (log_pairs self.now.log) place ≡ Some pair) }
     {
-        self.causes.get_index_of(&pair)
+        let node = self.nodes.get(key_of(&self.rows, &pair)?)?;
+        if node.pair == pair {
+            Some(node.place)
+        } else {
+            None
+        }
     }
 
-    /// Whether the explanation of a removed pair holds the constraint.
-    pub fn names(&self, pair: Pair, cid: Cid) -> bool
-        requires { Contains (log_pairs self.now.log) pair }
-        ensures { Tells result (NamesOfPair self.now.log pair cid) }
+    /// Whether the explanation of a removed pair holds the constraint. The removals stay. It takes no memory.
+    pub fn names(&mut self, pair: Pair, cid: Cid) -> bool
+        requires { Contains (log_pairs self.old.log) pair }
+        ensures same { self.new ≡ self.old }
+        ensures tells { Tells result (NamesOfPair self.old.log pair cid) }
     {
-        self.causes[&pair].names(&cid)
+        let key = key_of(&self.rows, &pair).unwrap();
+        rests_on(&mut self.nodes, &self.log, key, &cid)
     }
 
     /// Makes `out` the explanation of a removed pair, by rising name; without memory `out` is empty.
@@ -129,8 +158,25 @@ impl ExplainStore {
         ensures ok { OnOk result (IsListOf (NamesOfPair self.now.log pair) out.new) }
         ensures err { OnErr result (out.new ≡ []) }
     {
+        self.explanations(pair.var, &[pair.value], out)
+    }
+
+    /// Makes `out` the constraints of the explanations of these removed values of a variable, by rising name; without
+    /// memory `out` is empty.
+    pub fn explanations(
+        &self,
+        var: Var,
+        values: &[Value],
+        out: &mut CidList,
+    ) -> Result<(), NoMemory>
+        requires { (v : ℤ) → Contains values.now v → Contains (log_pairs self.now.log) (record { var = var; value = v }) }
+        ensures ok { OnOk result (IsListOf (NamesOfSome self.now.log var values.now) out.new) }
+        ensures err { OnErr result (out.new ≡ []) }
+    {
         out.clear();
-        *out = self.causes[&pair].explanation.copy()?;
+        let alloc = *self.log.allocator();
+        let names = names_of(alloc, &self.nodes, &self.log, &self.rows, var, values)?;
+        *out = CidList::from_vec(names);
         Ok(())
     }
 
@@ -145,8 +191,11 @@ impl ExplainStore {
         ensures restored { (x : ℕ) → Contains self.new.restored x ↔ Contains (vars_of (lost_pairs self.old.log self.new.log)) x }
     {
         self.restored.clear();
-        put_back(&self.causes, &cid, store, &mut self.restored);
-        take_out(&mut self.causes, &cid);
+        let log = self.log.as_slice();
+        mark_lost(&mut self.nodes, log, &cid);
+        put_back(&self.nodes, log, store, &mut self.restored);
+        forget_marked(&mut self.nodes, log);
+        close_up(&mut self.nodes, &mut self.log);
     }
 
     /// The variables of which the last withdrawal put values back, each once.

@@ -58,7 +58,9 @@ fn remove(
 }
 
 /// Whether the pair is removed, and its explanation holds the constraint.
-fn is_named(log: &ExplainStore, pair: &Pair, cid: &Cid) -> bool {
+fn is_named(log: &mut ExplainStore, pair: &Pair, cid: &Cid) -> bool
+    ensures { log.new ≡ log.old }
+{
     is_removed(log, pair) && log.names(*pair, *cid)
 }
 
@@ -98,7 +100,9 @@ fn remove_three(store: &mut DomainStore, log: &mut ExplainStore) -> Result<(), N
 }
 
 /// Whether the log explains the three removals.
-fn explains_three(alloc: Global, log: &ExplainStore) -> Result<bool, NoMemory> {
+fn explains_three(alloc: Global, log: &mut ExplainStore) -> Result<bool, NoMemory>
+    ensures { log.new ≡ log.old }
+{
     let (x, y) = (pair(0, 2), pair(1, 2));
     Ok(
         log.removals() == 3
@@ -127,7 +131,7 @@ fn a_withdrawal_takes_what_rests_on_the_constraint(rt: HostRuntime) -> Result<()
     let mut store = three_variables(rt.alloc())?;
     let mut log = ExplainStore::new(rt.alloc());
     remove_three(&mut store, &mut log)?;
-    assert!(rt; explains_three(rt.alloc(), &log)?);
+    assert!(rt; explains_three(rt.alloc(), &mut log)?);
     log.withdraw(Cid::User(1), &mut store);
     assert!(rt; has_last(&log));
     assert!(rt; has_values(&store, 0, &[Value(1), Value(2)]));

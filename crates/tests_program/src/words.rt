@@ -25,13 +25,13 @@ pub fn no_orders(alloc: Global) -> Vec<LastOrder> {
     Vec::new(alloc)
 }
 
-/// Whether these words get the usage line, and nothing else.
-fn is_refused(alloc: Global, words: &[&str]) -> Result<bool, NoMemory> {
+/// How `top` ends with these words and a source of one line, and what it writes.
+fn ended(alloc: Global, words: &[&str]) -> Result<(Status, MemorySink), NoMemory> {
     let words = words_of(alloc, words)?;
     let bytes = ByteList::from_slice(alloc, b"list\n")?;
     let mut source = MemorySource::new(bytes, 4, CallList::new(alloc));
     let mut sink = MemorySink::new(alloc, 7, CallList::new(alloc));
-    sink.reserve(64)?;
+    sink.reserve(256)?;
     let status = top(
         alloc,
         &words,
@@ -40,6 +40,12 @@ fn is_refused(alloc: Global, words: &[&str]) -> Result<bool, NoMemory> {
         no_guides(alloc),
         no_orders(alloc),
     );
+    Ok((status, sink))
+}
+
+/// Whether these words get the usage line, and nothing else.
+fn is_refused(alloc: Global, words: &[&str]) -> Result<bool, NoMemory> {
+    let (status, sink) = ended(alloc, words)?;
     Ok(
         status == Status::Usage
             && sink.bytes() == b"usage: palm run, palm check or palm gen N\n".as_slice(),
@@ -48,10 +54,50 @@ fn is_refused(alloc: Global, words: &[&str]) -> Result<bool, NoMemory> {
 
 #[test]
 fn other_words_get_the_usage_line(rt: HostRuntime) -> Result<(), Fail> {
-    let none: [&str; 0] = [];
-    assert!(rt; is_refused(rt.alloc(), &none)?);
-    assert!(rt; is_refused(rt.alloc(), &["help"])?);
-    assert!(rt; is_refused(rt.alloc(), &["runs"])?);
-    assert!(rt; is_refused(rt.alloc(), &["run", "--"])?);
+    let lists: [&[&str]; 16] = [
+        &[],
+        &["help"],
+        &["runs"],
+        &["run", "--"],
+        &["run", "run"],
+        &["gen"],
+        &["gen", "0"],
+        &["gen", "000"],
+        &["gen", "17"],
+        &["gen", "0004"],
+        &["gen", "+3"],
+        &["gen", "-3"],
+        &["gen", "3.0"],
+        &["gen", "help"],
+        &["gen", "2", "3"],
+        &["--", "run"],
+    ];
+    for words in lists {
+        assert!(rt; is_refused(rt.alloc(), words)?);
+    }
+    Ok(())
+}
+
+#[test]
+fn sessions_are_generated(rt: HostRuntime) -> Result<(), Fail> {
+    let summaries = [
+        ("1", "queens 1\nlines 3\nfound q1=1\nfound q1=1\n"),
+        (
+            "2",
+            "queens 2\nlines 8\nnone d u1_2 l1_2\nfound q1=1 q2=1\n",
+        ),
+        (
+            "4",
+            "queens 4\nlines 20\nfound q1=2 q2=4 q3=1 q4=3\nfound q1=1 q2=1 q3=1 q4=1\n",
+        ),
+    ];
+    for (word, summary) in summaries {
+        let (status, sink) = ended(rt.alloc(), &["gen", word])?;
+        assert_eq!(rt; status, Status::Done);
+        assert!(rt; sink.bytes() == summary.as_bytes());
+    }
+    let (status, sink) = ended(rt.alloc(), &["gen", "007"])?;
+    assert_eq!(rt; status, Status::Done);
+    assert!(rt; sink.bytes().starts_with(b"queens 7\nlines 53\nfound q1="));
     Ok(())
 }

@@ -1,8 +1,37 @@
+use Rattle.std.proofs.Common.{[]}
 use Rattle.palm_cli.proofs.RunLemmas.{whole_status, cut_status}
+use Rattle.palm_cli.proofs.TopLemmas.{fits, runs_by, generates_by, refuses_by, summed_whole, wants_run, wants_gen, wants_usage}
 use Rattle.palm_cli.proofs.command.top.Goals as goal
 
-pub returns-then-is_run-clause-complete : goal.returns-then-is_run-clause-complete
-returns-then-is_run-clause-complete g c = λ run none within. whole_status _ _ _ _ _ c.run.ensures none within
+pub returns-in_default-clause-runs : goal.returns-in_default-clause-runs
+returns-in_default-clause-runs g c = λ run. wants_run _ _ _
 
-pub returns-then-is_run-clause-cut : goal.returns-then-is_run-clause-cut
-returns-then-is_run-clause-cut g c = λ run much none. cut_status _ _ _ _ _ c.run.ensures much none
+pub returns-in_default-clause-generates : goal.returns-in_default-clause-generates
+returns-in_default-clause-generates g c = λ size gen. wants_gen size _
+
+pub returns-in_default-clause-refuses : goal.returns-in_default-clause-refuses
+returns-in_default-clause-refuses g c = λ none. wants_usage _
+
+pub obey-requires : goal.obey-requires
+obey-requires g c = fits _ c.in-Ok.request c.in-Ok.ensures
+
+pub returns-clause-runs : goal.returns-clause-runs
+returns-clause-runs g c = runs_by _ _ _ _ _ _ c.in-Ok.request c.in-Ok.ensures c.obey.ensures
+
+pub returns-clause-generates : goal.returns-clause-generates
+returns-clause-generates g c = generates_by _ _ _ _ _ _ c.in-Ok.request c.in-Ok.ensures c.obey.ensures
+
+pub returns-clause-refuses : goal.returns-clause-refuses
+returns-clause-refuses g c = refuses_by _ _ _ _ _ _ c.in-Ok.request c.in-Ok.ensures c.obey.ensures
+
+pub returns-clause-complete : goal.returns-clause-complete
+returns-clause-complete g c = λ run none within.
+    whole_status _ _ _ _ _ (runs_by _ _ _ _ _ _ c.in-Ok.request c.in-Ok.ensures c.obey.ensures run) none within
+
+pub returns-clause-summed : goal.returns-clause-summed
+returns-clause-summed g c = λ size gen none.
+    summed_whole [] [] [] _ _ _ size (generates_by _ _ _ _ _ _ c.in-Ok.request c.in-Ok.ensures c.obey.ensures size gen) none
+
+pub returns-clause-cut : goal.returns-clause-cut
+returns-clause-cut g c = λ run much none.
+    cut_status _ _ _ _ _ (runs_by _ _ _ _ _ _ c.in-Ok.request c.in-Ok.ensures c.obey.ensures run) much none

@@ -1,7 +1,7 @@
 use Rattle.std.proofs.Common.{◌∷◌, [], sym, subst}
 use Rattle.std.specs.List.{insert}
 use Rattle.palm_model.specs.Log.{Rises}
-use Rattle.palm_explain.specs.Causes.{IsMerged}
+use Rattle.palm_explain.specs.Merging.{IsMerged}
 use Rattle.palm_explain.proofs.Rising.{name_ranks, added}
 use Rattle.palm_explain.proofs.names.add_name.Goals as goal
 

@@ -1,5 +1,5 @@
 use Rattle.std.proofs.Common.{take}
-use Rattle.palm_explain.specs.Causes.{IsMerged}
+use Rattle.palm_explain.specs.Merging.{IsMerged}
 use Rattle.palm_explain.proofs.names.add_names.Given as goal
 
 -- the names so far are there

@@ -1,9 +1,16 @@
-use Rattle.std.proofs.Common.{◌≡◌, Some, slice_get, subst}
+use Rattle.std.proofs.Common.{◌≡◌, ◌<◌, Some, length, slice_get, subst, arith}
 use Rattle.palm_explain.specs.Explanations.{Explanations, log_bys}
-use Rattle.palm_explain.proofs.Entries.{by_place}
+use Rattle.palm_explain.specs.Graph.{graph_of}
+use Rattle.palm_explain.proofs.Reading.{log_length, node_read, read_by}
 use Rattle.palm_explain.proofs.store.ExplainStore.by_at.Goals as goal
 
 pub returns : goal.returns
 returns c =
-    subst (λ (s : Explanations). slice_get (log_bys s.log) c.args.place ≡ Some c.index.result.now.by) c.self.view_is
-    (by_place _ c.args.place c.index.result.now c.index.ensures)
+    let s = c.self.inside.nodes in
+    let keys = c.self.inside.log.items in
+    let n = c.index-2.result.now in
+    let within = rw (← c.self.view_is) at c.requires in
+    let long = log_length (graph_of s) keys in
+    let lt : c.args.place < length keys = omega (arith, within, long) in
+    subst (λ (v : Explanations). slice_get (log_bys v.log) c.args.place ≡ Some c.index-2.result.now.by) c.self.view_is
+    (read_by s keys c.args.place n lt (node_read s keys c.args.place c.index.result.now n lt c.index.ensures c.index-2.ensures))

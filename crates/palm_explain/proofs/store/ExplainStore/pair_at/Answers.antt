@@ -1,12 +1,17 @@
-use Rattle.std.proofs.Common.{◌≡◌, Some, slice_get, subst}
+use Rattle.std.proofs.Common.{◌≡◌, ◌<◌, Some, length, slice_get, subst, arith}
 use Rattle.palm_model.specs.Log.{log_pairs}
 use Rattle.palm_explain.specs.Explanations.{Explanations}
-use Rattle.palm_explain.proofs.Entries.{pair_place}
+use Rattle.palm_explain.specs.Graph.{graph_of}
+use Rattle.palm_explain.proofs.Reading.{log_length, node_read, read_pair}
 use Rattle.palm_explain.proofs.store.ExplainStore.pair_at.Goals as goal
 
 pub returns : goal.returns
 returns c =
+    let s = c.self.inside.nodes in
+    let keys = c.self.inside.log.items in
+    let n = c.index-2.result.now in
     let within = rw (← c.self.view_is) at c.requires in
-    let is = rw (c.as_slice-pairs.ensures, c.keys.ensures.rest) at c.index-pairs-place.is in
-    subst (λ (s : Explanations). slice_get (log_pairs s.log) c.args.place ≡ Some c.index-pairs-place.result) c.self.view_is
-    (pair_place _ c.args.place c.index-pairs-place.result within is)
+    let long = log_length (graph_of s) keys in
+    let lt : c.args.place < length keys = omega (arith, within, long) in
+    subst (λ (v : Explanations). slice_get (log_pairs v.log) c.args.place ≡ Some c.index-2.result.now.pair) c.self.view_is
+    (read_pair s keys c.args.place n lt (node_read s keys c.args.place c.index.result.now n lt c.index.ensures c.index-2.ensures))

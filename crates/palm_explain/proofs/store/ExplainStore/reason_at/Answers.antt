@@ -1,19 +1,52 @@
-use Rattle.std.proofs.Common.{◌≡◌, ◌<◌, Some, slice_get, length, sym, ap, ◌∙◌, subst, arith}
-use Rattle.std.proofs.lemmas.Option.{slice_get-get_or}
+use Rattle.std.proofs.Common.{◌≡◌, ◌<◌, ◌∙◌, Some, length, get_or, slice_get, sym, subst, arith}
+use Rattle.std.proofs.lemmas.List.{get_or_default}
+use Rattle.slab.specs.Slab.{ContainsKey, get}
 use Rattle.palm_explain.specs.Explanations.{Explanations, reasons_of}
-use Rattle.palm_explain.proofs.Entries.{reasons_place}
+use Rattle.palm_explain.specs.Graph.{graph_of}
+use Rattle.palm_explain.proofs.Reading.{log_length, node_read, read_cause, read_count, read_reason}
+use Rattle.palm_explain.proofs.Writes.{key_there}
 use Rattle.palm_explain.proofs.store.ExplainStore.reason_at.Goals as goal
 
-pub index-requires-2 : goal.index-requires-2
-index-requires-2 c =
-    let within = rw (← c.self.view_is) at c.requires.index in
-    let same = ap length (reasons_place _ c.args.place c.index.result.now c.index.ensures) in
-    omega (arith, within, same, c.index.result.now.reasons.ok.0)
+pub index-cause-requires : goal.index-cause-requires
+index-cause-requires c =
+    let s = c.self.inside.nodes in
+    let keys = c.self.inside.log.items in
+    let n = c.index-2.result.now in
+    let within = rw (← c.self.view_is) at c.requires.place in
+    let long = log_length (graph_of s) keys in
+    let lt : c.args.place < length keys = omega (arith, within, long) in
+    let count = read_count s keys c.args.place n lt (node_read s keys c.args.place c.index.result.now n lt c.index.ensures c.index-2.ensures) in
+    let below = rw (← c.self.view_is) at c.requires.index in
+    omega (arith, below, count, n.causes.ok.0)
+
+pub index-requires-3 : goal.index-requires-3
+index-requires-3 c =
+    let s = c.self.inside.nodes in
+    let keys = c.self.inside.log.items in
+    let n = c.index-2.result.now in
+    let within = rw (← c.self.view_is) at c.requires.place in
+    let long = log_length (graph_of s) keys in
+    let lt : c.args.place < length keys = omega (arith, within, long) in
+    let at = node_read s keys c.args.place c.index.result.now n lt c.index.ensures c.index-2.ensures in
+    let count = read_count s keys c.args.place n lt at in
+    let below = rw (← c.self.view_is) at c.requires.index in
+    let low : c.args.index < length n.causes.items = omega (arith, below, count) in
+    let is = c.index-cause.ensures ∙ get_or_default n.causes.items c.args.index c.index-cause.result.now 0 low in
+    subst (λ k. ContainsKey s k) (sym is) (key_there s (get_or n.causes.items c.args.index 0) (read_cause s keys c.args.place n lt at c.args.index c.self.invariant.graph low))
 
 pub returns : goal.returns
 returns c =
-    let within = rw (← c.self.view_is) at c.requires.index in
-    let same = reasons_place _ c.args.place c.index.result.now c.index.ensures in
-    subst (λ (s : Explanations). slice_get (reasons_of s.log c.args.place) c.args.index ≡ Some c.index-2.result.now) c.self.view_is
-    (ap (λ l. slice_get l c.args.index) same ∙ slice_get-get_or c.index.result.now.reasons.items c.args.index c.index-2.result.now (subst (λ l. c.args.index < length l) same within)
-    ∙ ap Some (sym c.index-2.ensures))
+    let s = c.self.inside.nodes in
+    let keys = c.self.inside.log.items in
+    let n = c.index-2.result.now in
+    let m = c.index-3.result.now in
+    let within = rw (← c.self.view_is) at c.requires.place in
+    let long = log_length (graph_of s) keys in
+    let lt : c.args.place < length keys = omega (arith, within, long) in
+    let at = node_read s keys c.args.place c.index.result.now n lt c.index.ensures c.index-2.ensures in
+    let count = read_count s keys c.args.place n lt at in
+    let below = rw (← c.self.view_is) at c.requires.index in
+    let low : c.args.index < length n.causes.items = omega (arith, below, count) in
+    let is = c.index-cause.ensures ∙ get_or_default n.causes.items c.args.index c.index-cause.result.now 0 low in
+    subst (λ (v : Explanations). slice_get (reasons_of v.log c.args.place) c.args.index ≡ Some m.pair) c.self.view_is
+    (read_reason s keys c.args.place n lt at c.args.index m low (subst (λ k. get s k ≡ Some m) is c.index-3.ensures))

@@ -1,9 +1,16 @@
-use Rattle.std.proofs.Common.{◌≡◌, length, sym, ap, ◌∙◌, subst}
+use Rattle.std.proofs.Common.{◌≡◌, ◌<◌, ◌∙◌, length, sym, subst, arith}
 use Rattle.palm_explain.specs.Explanations.{Explanations, reasons_of}
-use Rattle.palm_explain.proofs.Entries.{reasons_place}
+use Rattle.palm_explain.specs.Graph.{graph_of}
+use Rattle.palm_explain.proofs.Reading.{log_length, node_read, read_count}
 use Rattle.palm_explain.proofs.store.ExplainStore.reasons_at.Goals as goal
 
 pub returns : goal.returns
 returns c =
-    subst (λ (s : Explanations). c.len.result ≡ length (reasons_of s.log c.args.place)) c.self.view_is
-    (c.len.ensures ∙ c.index.result.now.reasons.ok.0 ∙ ap length (sym (reasons_place _ c.args.place c.index.result.now c.index.ensures)))
+    let s = c.self.inside.nodes in
+    let keys = c.self.inside.log.items in
+    let n = c.index-2.result.now in
+    let within = rw (← c.self.view_is) at c.requires in
+    let long = log_length (graph_of s) keys in
+    let lt : c.args.place < length keys = omega (arith, within, long) in
+    subst (λ (v : Explanations). c.len.result ≡ length (reasons_of v.log c.args.place)) c.self.view_is
+    (c.len.ensures ∙ n.causes.ok.0 ∙ sym (read_count s keys c.args.place n lt (node_read s keys c.args.place c.index.result.now n lt c.index.ensures c.index-2.ensures)))

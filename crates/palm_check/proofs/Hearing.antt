@@ -1,0 +1,136 @@
+-- First causes, and statements without one.
+use Rattle.std.proofs.Common.{◌≡◌, ◌≢◌, ℕ, ℤ, ◌<◌, ◌≤◌, Option, Some, None, IfSome, List, [], length, get_or, slice_get, All, Any, AllPairs, Contains, ◌⊎◌, inl, inr, refl, sym, ap, ◌∙◌, subst, arith}
+use Rattle.std.proofs.lemmas.Bool.{cases_lt}
+use Rattle.std.proofs.lemmas.List.{get_or_default, get_or-map}
+use Rattle.std.proofs.lemmas.List.Elements.{All-contains}
+use Rattle.std.proofs.lemmas.Option.{none-some, slice_get_cases}
+use Rattle.palm_base.specs.declared.terms.Pair.{Pair}
+use Rattle.palm_base.proofs.Members.{Known, all_members, any_known, member_get}
+use Rattle.palm_book.specs.Book.{Contents, Entry, initial_of}
+use Rattle.palm_book.specs.declared.book.BookCon.{BookCon}
+use Rattle.palm_book.proofs.Any.{any_member, member_any}
+use Rattle.palm_model.specs.Domains.{Has, values_of, without}
+use Rattle.palm_model.specs.Support.{LacksSupport}
+use Rattle.palm_claim.specs.Draft.{Draft, IsDeclared, IsPair, IsVariable, MayStand}
+use Rattle.palm_claim.specs.Statement.{IsStepNumber}
+use Rattle.palm_claim.specs.Step.{IsRight, pairs_at}
+use Rattle.palm_claim.specs.Verdict.{HasUnproved, IsBeyondLimits, IsFirst, IsMisdeclared, IsNone, IsNotReached, IsNotRight, Meets, in_order}
+use Rattle.palm_claim.specs.declared.statement.Statement.{Statement}
+use Rattle.palm_claim.specs.declared.verdict.Cause.TheVariants.{Malformed, Misdeclared, Beyond, Unproved, NotRight}
+use Rattle.palm_claim.proofs.Unique.{Apart, variable_is}
+
+pub first_malformed : (d : Draft) (s : Statement) → (MayStand d.stage s → ⊥) → IsFirst (Meets d s) in_order Malformed
+first_malformed d s n = inl (n, refl)
+
+pub first_misdeclared : (d : Draft) (s : Statement) → MayStand d.stage s → IsMisdeclared d s → IsFirst (Meets d s) in_order Misdeclared
+first_misdeclared d s stands m = inr (λ n. n stands, inl (m, refl))
+
+pub first_beyond : (d : Draft) (s : Statement) → MayStand d.stage s → (IsMisdeclared d s → ⊥) → IsBeyondLimits d s → IsFirst (Meets d s) in_order Beyond
+first_beyond d s stands declared b = inr (λ n. n stands, inr (declared, inl (b, refl)))
+
+pub first_unproved : (d : Draft) (s : Statement) → MayStand d.stage s → (IsMisdeclared d s → ⊥) → (IsBeyondLimits d s → ⊥) → HasUnproved d s → IsFirst (Meets d s) in_order Unproved
+first_unproved d s stands declared within u = inr (λ n. n stands, inr (declared, inr (within, inl (u, refl))))
+
+pub first_not_right : (d : Draft) (s : Statement) → MayStand d.stage s → (IsMisdeclared d s → ⊥) → (IsBeyondLimits d s → ⊥) → (HasUnproved d s → ⊥) → IsNotRight d s → IsFirst (Meets d s) in_order NotRight
+first_not_right d s stands declared within proved w = inr (λ n. n stands, inr (declared, inr (within, inr (proved, inl (w, refl)))))
+
+pub without_cause : (d : Draft) (s : Statement) → MayStand d.stage s → (IsMisdeclared d s → ⊥) → (IsBeyondLimits d s → ⊥) → (HasUnproved d s → ⊥) → (IsNotRight d s → ⊥) → (IsNotReached d s → ⊥) → IsNone (Meets d s) in_order
+without_cause d s stands declared within proved right reached = (λ n. n stands, (declared, (within, (proved, (right, (reached, tt))))))
+
+-- ---- names
+
+-- the pair of a variable with the name, declared with the value
+pub pair_declared : (book : Contents) (name : List ℕ) (value : ℤ) (pair : Pair) → IsPair book.variables name value pair → Has (initial_of book) pair.var pair.value → IsDeclared book.variables name value
+pair_declared book name value pair is has =
+    let x : ℕ = pair.var in
+    let none : Entry = record { name = []; values = [] } in
+    let e : Entry = get_or book.variables x none in
+    let values : values_of (initial_of book) x ≡ e.values = get_or-map (λ (f : Entry). f.values) book.variables x none [] is.variable.declared in (
+      x,
+      e,
+      is.variable.declared,
+      get_or_default book.variables x e none is.variable.declared,
+      (is.variable.named, subst (λ (v : ℤ). Contains e.values v) is.gives (subst (λ (vs : List ℤ). Contains vs pair.value) values has)),
+    )
+
+-- no other variable has the name
+pub undeclared : (book : Contents) (name : List ℕ) (value : ℤ) (x : ℕ) → Apart book.variables → IsVariable book.variables name x → (Has (initial_of book) x value → ⊥) → IsDeclared book.variables name value → ⊥
+undeclared book name value x apart is absent a =
+    let none : Entry = record { name = []; values = [] } in
+    let read : get_or book.variables a.0 none ≡ a.1 = get_or_default book.variables a.0 none a.1 a.2 ∙ a.3 in
+    let same : x ≡ a.0 = variable_is book.variables name x a.0 apart is (record { declared = a.2; named = ap (λ (e : Entry). e.name) read ∙ a.4.0 }) in
+    let values : values_of (initial_of book) a.0 ≡ a.1.values = get_or-map (λ (f : Entry). f.values) book.variables a.0 none [] a.2 ∙ ap (λ (e : Entry). e.values) read in
+    absent (subst (λ (y : ℕ). Has (initial_of book) y value) (sym same) (subst (λ (vs : List ℤ). Contains vs value) (sym values) a.4.1))
+
+-- a variable that has the name is one that has it
+pub variable_known : (variables : List Entry) (name : List ℕ) (x : ℕ) → IsVariable variables name x → Any (λ e. e.name ≡ name) variables
+variable_known variables name x is =
+    let none : Entry = record { name = []; values = [] } in
+    (x, get_or variables x none, is.declared, get_or_default variables x (get_or variables x none) none is.declared, is.named)
+
+pub constraint_known : (cs : List BookCon) (place : ℕ) (by : List ℕ) (c : BookCon) → slice_get cs place ≡ Some c → c.name ≡ by → Any (λ d. d.name ≡ by) cs
+constraint_known cs place by c at named = any_member (λ (d : BookCon). d.name ≡ by) cs c (member_get cs place c at) named
+
+-- only one constraint has a name
+same_constraint : (cs : List BookCon) (c d : BookCon) → AllPairs (λ (a b : BookCon). a.name ≢ b.name) cs → Contains cs c → Contains cs d → c.name ≡ d.name → c ≡ d
+same_constraint cs c d apart m n e =
+    elim (cases_lt m.0 n.0) [
+      | inl l ↦ absurd (apart m.0 n.0 c l n.1 (ap (λ (z : BookCon). z.name) (m.2) ∙ e ∙ sym (ap (λ (z : BookCon). z.name) (get_or_default cs n.0 c d n.1 ∙ n.2))))
+      | inr g ↦ elim (cases_lt n.0 m.0) [
+        | inl l ↦ absurd (apart n.0 m.0 c l m.1 (ap (λ (z : BookCon). z.name) (get_or_default cs n.0 c d n.1 ∙ n.2) ∙ sym e ∙ sym (ap (λ (z : BookCon). z.name) m.2)))
+        | inr h ↦
+            let same : m.0 ≡ n.0 = omega (arith, g, h) in
+            sym m.2 ∙ ap (λ (k : ℕ). get_or cs k c) same ∙ get_or_default cs n.0 c d n.1 ∙ n.2
+      ]
+    ]
+
+-- the step is right where its pair lacks support in the one constraint that has the name
+pub right_at : (book : Contents) (proved : List Pair) (pair : Pair) (by : List ℕ) (reasons : List ℕ) (place : ℕ) (c : BookCon)
+    → slice_get book.constraints place ≡ Some c → c.name ≡ by → LacksSupport (without (initial_of book) (pairs_at proved reasons)) c.con pair.var pair.value → IsRight book proved pair by reasons
+right_at book proved pair by reasons place c at named lacks = record { owner = c; listed = member_get book.constraints place c at; named = named; lacks = lacks }
+
+pub lacks_at : (book : Contents) (proved : List Pair) (pair : Pair) (by : List ℕ) (reasons : List ℕ) (place : ℕ) (c : BookCon)
+    → AllPairs (λ (a b : BookCon). a.name ≢ b.name) book.constraints → slice_get book.constraints place ≡ Some c → c.name ≡ by
+    → IsRight book proved pair by reasons → LacksSupport (without (initial_of book) (pairs_at proved reasons)) c.con pair.var pair.value
+lacks_at book proved pair by reasons place c apart at named right =
+    let same : right.owner ≡ c = same_constraint book.constraints right.owner c apart right.listed (member_get book.constraints place c at) (right.named ∙ sym named) in
+    subst (λ (d : BookCon). LacksSupport (without (initial_of book) (pairs_at proved reasons)) d.con pair.var pair.value) same right.lacks
+
+-- ---- reasons
+
+pub reasons_early : (proved : List Pair) (reasons : List ℕ) → All (λ k. k ≤ length proved) reasons → Any (λ k. length proved < k) reasons → ⊥
+reasons_early proved reasons early late =
+    let m = member_any (λ k. length proved < k) reasons late in
+    let most : m.0 ≤ length proved = All-contains (λ k. k ≤ length proved) reasons m.0 early m.1 in
+    let above : length proved < m.0 = m.2 in
+    omega (arith, most, above)
+
+pub reasons_fit : (proved : List Pair) (reasons : List ℕ) → All IsStepNumber reasons → All (λ k. k ≤ length proved) reasons → All (λ k. (1 ≤ k) × (k ≤ length proved)) reasons
+reasons_fit proved reasons range early = all_members (λ k. (1 ≤ k) × (k ≤ length proved)) reasons (λ k m.
+    let one : 1 ≤ k = (All-contains IsStepNumber reasons k range m).0 in
+    let most : k ≤ length proved = All-contains (λ j. j ≤ length proved) reasons k early m in
+    (one, most))
+
+-- some reason is late where not all are early
+pub some_late : (proved : List Pair) (reasons : List ℕ) → (All (λ k. k ≤ length proved) reasons → ⊥) → Any (λ k. length proved < k) reasons
+some_late proved reasons late = elim (any_known (λ k. length proved < k) reasons (λ k m. above_known (length proved) k)) [
+  | inl r ↦ any_member (λ k. length proved < k) reasons r.0 r.1 r.2
+  | inr none ↦ absurd (late (all_members (λ k. k ≤ length proved) reasons (λ k m. elim (cases_lt (length proved) k) [
+    | inl l ↦ absurd (none k m l)
+    | inr h ↦ h
+  ])))
+]
+  where
+    above_known : (m n : ℕ) → Known (m < n)
+    above_known m n = elim (cases_lt m n) [ inl l ↦ inl l | inr g ↦ inr (λ l. absurd (omega (arith, l, g))) ]
+
+-- the constraint that was found by its name
+pub found_at : (cs : List BookCon) (place : ℕ) (by : List ℕ) → IfSome (slice_get cs place) (λ c. c.name ≡ by) → place < length cs → (c : BookCon) × (slice_get cs place ≡ Some c) × (c.name ≡ by)
+found_at cs place by found lt = go (slice_get cs place) refl found
+  where
+    go : (o : Option BookCon) → slice_get cs place ≡ o → IfSome o (λ c. c.name ≡ by) → (c : BookCon) × (slice_get cs place ≡ Some c) × (c.name ≡ by)
+    go None e f = absurd (past (slice_get_cases cs place) e)
+      where
+        past : (slice_get cs place ≡ slice_get cs place) × (((c : BookCon) × (place < length cs) × (slice_get cs place ≡ Some c) × (get_or cs place c ≡ c)) ⊎ ((length cs ≤ place) × (slice_get cs place ≡ None))) → slice_get cs place ≡ None → ⊥
+        past r e = elim r.1 [ inl s ↦ none-some s.0 (sym e ∙ s.2) | inr s ↦ omega (arith, s.0, lt) ]
+    go (Some c) e f = (c, e, f)

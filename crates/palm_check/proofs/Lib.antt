@@ -1,0 +1,9 @@
+pub mod Cutting
+pub mod Hearing
+pub mod Intervals
+pub mod Judging
+pub mod Keeping
+pub mod Outside
+pub mod Reading
+pub mod Taking
+pub mod WellFormed

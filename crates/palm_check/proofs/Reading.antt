@@ -1,0 +1,75 @@
+-- What the reader answers to a line, and numbers that are too large for it.
+use Rattle.std.proofs.Common.{◌≡◌, ℕ, ◌≤◌, Bool, true, false, Option, Some, None, Err, List, option_map, sym, ap, ◌∙◌, subst, arith}
+use Rattle.std.proofs.lemmas.Int.{ints}
+use Rattle.palm_read.specs.Linear.{signed}
+use Rattle.palm_read.specs.Reading.{IsRead, IsRefusedBy}
+use Rattle.palm_read.specs.Token.{Lexeme, tokens_of}
+use Rattle.palm_read.specs.Reader.Held.{GivesAll, HoldsAll}
+use Rattle.palm_read.specs.declared.line.Line.{Line}
+use Rattle.palm_read.specs.declared.parse.LineError.{LineError}
+use Rattle.palm_read.specs.declared.parse.LineError.TheVariants.{Form as NoForm, NoMemory}
+use Rattle.palm_read.proofs.SoundLines.{read_sound}
+use Rattle.palm_read.specs.declared.line.Line.TheVariants.{Var, Add}
+use Rattle.palm_claim.specs.Reader.{is_value, of_line, phrase_of}
+use Rattle.palm_claim.specs.Statement.{IsSpelled, Says}
+use Rattle.palm_claim.specs.declared.statement.Statement.{Statement}
+use Rattle.palm_claim.specs.declared.statement.Statement.TheVariants.{Comment, Header, Variable, Constraint, Step, ValueClaim, ConflictClaim, End}
+use Rattle.palm_claim.proofs.Phrases.{is_value-value, phrase_is}
+use Rattle.palm_claim.proofs.Saying.{line_says, line_says_nothing, phrase_says, refused_says_nothing}
+use Rattle.std.specs.Bool.{⊤}
+use Rattle.palm_check.specs.Kept.{IsBeyondAlone, IsSoundStatement, SaysOrNot}
+use Rattle.palm_check.specs.declared.statements.Reading.{Reading}
+
+pub line_read : (bytes : List ℕ) (line : Line) (o : Option Reading) → IsRead bytes line → option_map (λ (r : Reading). r.statement) o ≡ of_line line → SaysOrNot bytes o
+line_read bytes line None read e = line_says_nothing bytes line read (sym e)
+line_read bytes line (Some r) read e = line_says bytes line r.statement read (sym e)
+
+pub phrase_read : (bytes : List ℕ) (s : Statement) → IsRefusedBy bytes NoForm → HoldsAll (λ t. t) s (phrase_of (tokens_of bytes)) → Says bytes s
+phrase_read bytes s refused h = phrase_says bytes s refused.0 (h.read ∙ ap Some (sym h.is))
+
+pub gives_none : {F X : Type 0} (view : F → X) (reading : Option F) (error : LineError) → error ≡ NoForm → GivesAll view (Err error) reading → reading ≡ None
+gives_none view reading error is g = subst (λ (e : LineError). GivesAll view (Err e) reading) is g
+
+spelled_alone : (tokens : List Lexeme) (s : Statement) → IsSpelled tokens s → IsBeyondAlone s → ⊥
+spelled_alone tokens Comment h b = b
+spelled_alone tokens Header h b = b
+spelled_alone tokens (Variable name domain) h b = h
+spelled_alone tokens (Constraint name shape) h b = h
+spelled_alone tokens (Step name value by reasons) h b = b
+spelled_alone tokens (ValueClaim name value) h b = b
+spelled_alone tokens (ConflictClaim name) h b = b
+spelled_alone tokens End h b = b
+
+pub phrase_alone : (bytes : List ℕ) (s : Statement) → HoldsAll (λ t. t) s (phrase_of (tokens_of bytes)) → IsBeyondAlone s → ⊥
+phrase_alone bytes s h = spelled_alone (tokens_of bytes) s (phrase_is (tokens_of bytes) s (h.read ∙ ap Some (sym h.is))).0
+
+-- what a line says keeps to the limits on numbers
+pub said_sound : (bytes : List ℕ) (s : Statement) → Says bytes s → IsSoundStatement s
+said_sound bytes Comment h = tt
+said_sound bytes Header h = tt
+said_sound bytes (Variable name domain) h = read_sound bytes (Var name domain) h
+said_sound bytes (Constraint name shape) h = read_sound bytes (Add name shape) h
+said_sound bytes (Step name value by reasons) h = h.2.1
+said_sound bytes (ValueClaim name value) h = tt
+said_sound bytes (ConflictClaim name) h = tt
+said_sound bytes End h = tt
+
+-- a value of the language is not far from 0
+pub signed_small : (minus : Bool) (n : ℕ) → is_value (signed minus n) ≡ true → n ≤ 1000000
+signed_small true n e = let is = is_value-value (signed true n) e in omega (arith, ints, is.above)
+signed_small false n e = let is = is_value-value (signed false n) e in omega (arith, ints, is.below)
+
+-- a line that is refused otherwise than for its form says nothing
+abbrev pub IsOther : LineError → Type 0
+IsOther NoForm = ⊥
+IsOther NoMemory = ⊥
+IsOther _ = ⊤
+
+pub other_says_nothing : (bytes : List ℕ) (error known : LineError) → error ≡ known → IsOther known → IsRefusedBy bytes error → (s : Statement) → Says bytes s → ⊥
+other_says_nothing bytes error known is other refused = refused_says_nothing bytes known (subst (IsRefusedBy bytes) is refused) (not_memory known other) (not_form known other)
+  where
+    not_memory : (e : LineError) → IsOther e → e ≡ NoMemory → ⊥
+    not_memory e other same = subst IsOther same other
+
+    not_form : (e : LineError) → IsOther e → e ≡ NoForm → ⊥
+    not_form e other same = subst IsOther same other

@@ -1,0 +1,65 @@
+-- What the checker keeps of a certificate, and what it answers to a line.
+use Rattle.std.specs.Prelude.{◌≡◌, ℕ, ◌≤◌, Option, Some, None, List, map, length, All, ⊤}
+use Rattle.palm_base.specs.declared.terms.Pair.{Pair}
+use Rattle.palm_book.specs.Book.{Contents, IsBook, initial_of}
+use Rattle.palm_domain.specs.Rows.{IsDeclared, Row}
+use Rattle.palm_domain.specs.Rows as rows
+use Rattle.palm_kind.specs.Kind.{con_of}
+use Rattle.palm_kind.specs.declared.kind.Kind.{Kind}
+use Rattle.palm_read.specs.Limits.{IsBeyond}
+use Rattle.palm_read.specs.Sound.{IsSound}
+use Rattle.palm_read.specs.declared.line.Line.TheVariants.{Var, Add}
+use Rattle.palm_claim.specs.Draft.{Draft, Leads}
+use Rattle.palm_claim.specs.Statement.{IsStepNumber, Says}
+use Rattle.palm_claim.specs.Verdict.{IsFirst, IsNone, IsRefusedFor, Meets, Passes, in_order}
+use Rattle.palm_claim.specs.declared.statement.Statement.{Statement}
+use Rattle.palm_claim.specs.declared.statement.Statement.TheVariants.{Variable, Constraint, Step}
+use Rattle.palm_claim.specs.declared.verdict.Cause.{Cause}
+use Rattle.palm_check.specs.Store.{IsFull}
+use Rattle.palm_check.specs.declared.checker.Checker.{Checker}
+use Rattle.palm_check.specs.declared.statements.Reading.{Reading}
+
+-- the draft that is kept
+abbrev pub draft_of : Checker → Draft
+draft_of c = record { stage = c.stage; book = c.book; proved = c.proved.items }
+
+-- what holds of a checker between lines: its store has all declared values of its book, each constraint has its filter, and
+-- steps have proved declared pairs
+pub record AreKept (book : Contents) (store : List Row) (kinds : List Kind) (proved : List Pair) : Type 0 where
+  pub formed : IsBook book
+  pub initial : rows.initial_of store ≡ initial_of book
+  pub full : IsFull store
+  pub filters : map con_of kinds ≡ map (λ d. d.con) book.constraints
+  pub numbers : All (λ d. d.number ≤ length book.constraints) book.constraints
+  pub declared : All (λ p. IsDeclared store p.var p.value) proved
+
+abbrev pub IsKept : Checker → Type 0
+IsKept c = AreKept c.book c.store c.kinds.items c.proved.items
+
+-- what every statement that a line says keeps to
+abbrev pub IsSoundStatement : Statement → Type 0
+IsSoundStatement (Variable name domain) = IsSound (Var name domain)
+IsSoundStatement (Constraint name shape) = IsSound (Add name shape)
+IsSoundStatement (Step name value by reasons) = All IsStepNumber reasons
+IsSoundStatement _ = ⊤
+
+-- what is answered to a statement: its first cause, or that it has none, and then the draft behind it
+abbrev pub Hears : Draft → Statement → Option Cause → Draft → Type 0
+Hears d s None e = IsNone (Meets d s) in_order × Leads d s e
+Hears d s (Some cause) e = IsFirst (Meets d s) in_order cause
+
+-- and to a line
+abbrev pub Takes : Draft → List ℕ → Option Cause → Draft → Type 0
+Takes d line None e = Passes d line e
+Takes d line (Some cause) e = IsRefusedFor d line cause
+
+-- the statement breaks a limit by itself
+abbrev pub IsBeyondAlone : Statement → Type 0
+IsBeyondAlone (Variable name domain) = IsBeyond (Var name domain)
+IsBeyondAlone (Constraint name shape) = IsBeyond (Add name shape)
+IsBeyondAlone _ = ⊥
+
+-- what a line says, if anything
+abbrev pub SaysOrNot : List ℕ → Option Reading → Type 0
+SaysOrNot line None = (s : Statement) → Says line s → ⊥
+SaysOrNot line (Some reading) = Says line reading.statement

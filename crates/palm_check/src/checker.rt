@@ -1,0 +1,380 @@
+//! What the checker keeps of a certificate: its book, a filter for each constraint, the pairs that its steps proved, and
+//! a store in which all declared values are present.
+ghost use Rattle.std.specs.Prelude.{◌≡◌, ◌<◌, ◌≤◌, Some, length, slice_get, All, IfNone, IfOk, IfSome, OnOk};
+ghost use Rattle.palm_base.specs.Tells.{Tells};
+ghost use Rattle.palm_book.specs.Book.{AreValues, initial_of};
+ghost use Rattle.palm_book.specs.declared.book.BookCon.{BookCon as Entry};
+ghost use Rattle.palm_check.specs.Kept.{Hears, IsBeyondAlone, IsKept, IsSoundStatement, Takes, draft_of};
+ghost use Rattle.palm_claim.specs.Draft.{HasConstraint, HasVariable, IsDeclared, IsPair, Leads, MayStand, blank, with_constraint, with_variable};
+ghost use Rattle.palm_claim.specs.Statement.{IsStepNumber};
+ghost use Rattle.palm_claim.specs.Step.{IsReached, pairs_at};
+ghost use Rattle.palm_claim.specs.Verdict.{ending};
+ghost use Rattle.palm_claim.specs.declared.statement.Statement.TheVariants as Statement;
+ghost use Rattle.palm_claim.specs.declared.statement.Stage.TheVariants as Stage;
+ghost use Rattle.palm_claim.specs.declared.verdict.Claim.TheVariants as Claim;
+ghost use Rattle.palm_model.specs.Constraint.{IsWellFormed};
+ghost use Rattle.palm_model.specs.Domains.{Has, without};
+ghost use Rattle.palm_model.specs.Support.{LacksSupport};
+ghost use Rattle.palm_read.specs.Name.{IsNameText};
+
+use crate::domains::values_in;
+use crate::statements::{Reading, may_stand, read_statement};
+use crate::steps::{lacks_support_without, pairs_at, put_back_all, take_out_all};
+use palm_base::{NoMemory, Pair, Value, ValueList, Var};
+use palm_book::{Book, BookCon, MOST_CONSTRAINTS, MOST_VARIABLES, Unresolved};
+use palm_claim::{Cause, Claim, Proved, Stage, Statement, Verdict};
+use palm_domain::DomainStore;
+use palm_kind::Kind;
+use palm_model::Con;
+use palm_read::{DomainText, Name, Shape};
+use std::alloc::Global;
+
+/// What is kept of the lines so far.
+#[derive(Drop)]
+pub struct Checker {
+    alloc: Global,
+    stage: Stage,
+    book: Book,
+    kinds: Vec<Kind>,
+    proved: Vec<Pair>,
+    store: DomainStore,
+}
+
+/// Whether a variable has the name.
+fn has_variable(book: &Book, name: &Name) -> bool
+    ensures { Tells result (HasVariable book.now name.now) }
+{
+    match book.variable_named(name) {
+        Some(_) => true,
+        None => false,
+    }
+}
+
+/// Whether a constraint has the name.
+fn has_constraint(book: &Book, name: &Name) -> bool
+    ensures { Tells result (HasConstraint book.now name.now) }
+{
+    match book.constraint_named(name) {
+        Some(_) => true,
+        None => false,
+    }
+}
+
+impl Checker {
+    /// No line was read.
+    pub fn new(alloc: Global) -> Checker
+        ensures blank { draft_of result ≡ blank }
+        ensures kept { IsKept result }
+    {
+        Checker {
+            alloc,
+            stage: Stage::Unopened,
+            book: Book::new(alloc),
+            kinds: Vec::new(alloc),
+            proved: Vec::new(alloc),
+            store: DomainStore::new(alloc),
+        }
+    }
+
+    /// Takes the next line, or answers its first cause.
+    pub fn take(&mut self, line: &[u8]) -> Result<Option<Cause>, NoMemory>
+        requires { IsKept self.old }
+        ensures takes { IfOk result (λ cause. Takes (draft_of self.old) line.now cause (draft_of self.new)) }
+        ensures kept { OnOk result (IsKept self.new) }
+    {
+        let Some(
+            Reading {
+                statement,
+                is_beyond,
+            },
+        ) = read_statement(self.alloc, line)?
+        else {
+            return Ok(Some(Cause::Malformed));
+        };
+        if !may_stand(&self.stage, &statement) {
+            return Ok(Some(Cause::Malformed));
+        }
+        self.hear(statement, is_beyond)
+    }
+
+    /// Takes what a line says that may stand there, or answers its first cause. It is told whether the line breaks a limit
+    /// by itself.
+    fn hear(&mut self, statement: Statement, is_beyond: bool) -> Result<Option<Cause>, NoMemory>
+        requires stands { MayStand self.old.stage statement }
+        requires sound { IsSoundStatement statement }
+        requires beyond { Tells is_beyond (IsBeyondAlone statement) }
+        requires kept { IsKept self.old }
+        ensures hears { IfOk result (λ cause. Hears (draft_of self.old) statement cause (draft_of self.new)) }
+        ensures kept { OnOk result (IsKept self.new) }
+    {
+        match statement {
+            Statement::Comment => Ok(None),
+            Statement::Header => {
+                self.stage = Stage::Declaring;
+                Ok(None)
+            }
+            Statement::Variable { name, domain } => self.declare(name, domain, is_beyond),
+            Statement::Constraint { name, shape } => self.list(name, shape, is_beyond),
+            Statement::Step {
+                name,
+                value,
+                by,
+                reasons,
+            } => self.prove(&name, value, &by, reasons.as_slice()),
+            Statement::ValueClaim { name, value } => Ok(self.claim_value(&name, value)),
+            Statement::ConflictClaim(name) => Ok(self.claim_conflict(&name)),
+            Statement::End => {
+                self.close();
+                Ok(None)
+            }
+        }
+    }
+
+    /// Takes a variable.
+    fn declare(
+        &mut self,
+        name: Name,
+        domain: DomainText,
+        is_beyond: bool,
+    ) -> Result<Option<Cause>, NoMemory>
+        requires stands { MayStand self.old.stage (Statement.Variable name domain) }
+        requires sound { IsSoundStatement (Statement.Variable name domain) }
+        requires beyond { Tells is_beyond (IsBeyondAlone (Statement.Variable name domain)) }
+        requires kept { IsKept self.old }
+        ensures hears { IfOk result (λ cause. Hears (draft_of self.old) (Statement.Variable name domain) cause (draft_of self.new)) }
+        ensures kept { OnOk result (IsKept self.new) }
+    {
+        if has_variable(&self.book, &name) {
+            return Ok(Some(Cause::Misdeclared));
+        }
+        if is_beyond || self.book.variables() >= MOST_VARIABLES as u32 {
+            return Ok(Some(Cause::Beyond));
+        }
+        let values = values_in(self.alloc, domain)?;
+        self.add_variable(name, values)?;
+        Ok(None)
+    }
+
+    /// Adds a variable to the book and to the store.
+    fn add_variable(&mut self, name: Name, values: ValueList) -> Result<(), NoMemory>
+        requires kept { IsKept self.old }
+        requires text { IsNameText name }
+        requires fresh { HasVariable self.old.book name → ⊥ }
+        requires values { AreValues values }
+        requires room { MOST_VARIABLES ≤ length self.old.book.variables → ⊥ }
+        ensures ok { OnOk result (draft_of self.new ≡ with_variable (draft_of self.old) name values) }
+        ensures kept { OnOk result (IsKept self.new) }
+    {
+        self.store.add_variable(values.as_slice())?;
+        self.book.add_variable(name, values)?;
+        let _ = self.book.variables();
+        Ok(())
+    }
+
+    /// Takes a constraint.
+    fn list(&mut self, name: Name, shape: Shape, is_beyond: bool) -> Result<Option<Cause>, NoMemory>
+        requires stands { MayStand self.old.stage (Statement.Constraint name shape) }
+        requires sound { IsSoundStatement (Statement.Constraint name shape) }
+        requires beyond { Tells is_beyond (IsBeyondAlone (Statement.Constraint name shape)) }
+        requires kept { IsKept self.old }
+        ensures hears { IfOk result (λ cause. Hears (draft_of self.old) (Statement.Constraint name shape) cause (draft_of self.new)) }
+        ensures kept { OnOk result (IsKept self.new) }
+    {
+        if has_constraint(&self.book, &name) {
+            return Ok(Some(Cause::Misdeclared));
+        }
+        let con = match self.book.resolve(self.alloc, shape) {
+            Ok(con) => con,
+            Err(Unresolved::UnknownName) => return Ok(Some(Cause::Misdeclared)),
+            Err(Unresolved::NoMemory) => return Err(NoMemory),
+        };
+        if is_beyond || self.book.constraints() >= MOST_CONSTRAINTS {
+            return Ok(Some(Cause::Beyond));
+        }
+        self.add_constraint(name, con)?;
+        Ok(None)
+    }
+
+    /// Adds a constraint under the next number to the book, and its filter.
+    fn add_constraint(&mut self, name: Name, con: Con) -> Result<(), NoMemory>
+        requires kept { IsKept self.old }
+        requires text { IsNameText name }
+        requires fresh { HasConstraint self.old.book name → ⊥ }
+        requires formed { IsWellFormed (length self.old.book.variables) con }
+        requires room { MOST_CONSTRAINTS ≤ length self.old.book.constraints → ⊥ }
+        ensures ok { OnOk result (draft_of self.new ≡ with_constraint (draft_of self.old) name con) }
+        ensures kept { OnOk result (IsKept self.new) }
+    {
+        let number = self.book.constraints() as u32 + 1;
+        self.kinds.push(Kind::from_con(self.alloc, &con)?)?;
+        self.book.add_constraint(BookCon {
+            number,
+            name,
+            active: true,
+            con,
+        })?;
+        self.stage = Stage::Listing;
+        let _ = self.book.variables();
+        Ok(())
+    }
+
+    /// The pair of the variable with the name and of the value, where it was declared.
+    fn declared_pair(&self, name: &Name, value: Value) -> Option<Pair>
+        requires { IsKept self.now }
+        ensures pair { IfSome result (λ pair. IsPair self.now.book.variables name.now value pair) }
+        ensures declared { IfSome result (λ pair. Has (initial_of self.now.book) pair.var pair.value) }
+        ensures none { IfNone result (IsDeclared self.now.book.variables name.now value → ⊥) }
+    {
+        let var = self.book.variable_named(name)?;
+        if self.store.declared(Pair { var, value }) {
+            Some(Pair { var, value })
+        } else {
+            None
+        }
+    }
+
+    /// Takes a step.
+    fn prove(
+        &mut self,
+        name: &Name,
+        value: Value,
+        by: &Name,
+        reasons: &[u32],
+    ) -> Result<Option<Cause>, NoMemory>
+        requires stands { MayStand self.old.stage (Statement.Step name.now value by.now reasons.now) }
+        requires sound { All IsStepNumber reasons.now }
+        requires kept { IsKept self.old }
+        ensures hears { IfOk result (λ cause. Hears (draft_of self.old) (Statement.Step name.now value by.now reasons.now) cause (draft_of self.new)) }
+        ensures kept { OnOk result (IsKept self.new) }
+    {
+        let Some(pair) = self.declared_pair(name, value) else {
+            return Ok(Some(Cause::Misdeclared));
+        };
+        let Some(place) = self.book.constraint_named(by) else {
+            return Ok(Some(Cause::Misdeclared));
+        };
+        if !self.are_proved(reasons) {
+            return Ok(Some(Cause::Unproved));
+        }
+        if !self.is_right(&pair, place, reasons)? {
+            return Ok(Some(Cause::NotRight));
+        }
+        self.proved.push(pair)?;
+        self.stage = Stage::Proving;
+        Ok(None)
+    }
+
+    /// Whether each number is that of a step so far.
+    fn are_proved(&self, reasons: &[u32]) -> bool
+        ensures { Tells result (All (λ k. k ≤ length self.now.proved.items) reasons.now) }
+    {
+        let steps = self.proved.len();
+        reasons.iter().all(|number| *number as usize <= steps)
+    }
+
+    /// Whether the pair lacks support in the constraint at a place within the declared values without the pairs of the
+    /// reasons.
+    fn is_right(&mut self, pair: &Pair, place: usize, reasons: &[u32]) -> Result<bool, NoMemory>
+        requires kept { IsKept self.old }
+        requires place { place < length self.old.book.constraints }
+        requires declared { Has (initial_of self.old.book) pair.now.var pair.now.value }
+        requires reasons { All (λ k. (1 ≤ k) × (k ≤ length self.old.proved.items)) reasons.now }
+        ensures tells { IfOk result (λ is. (c : Entry) → slice_get self.old.book.constraints place ≡ Some c
+            → Tells is (LacksSupport (without (initial_of self.old.book) (pairs_at self.old.proved.items reasons.now)) c.con pair.now.var pair.now.value)) }
+        ensures same { draft_of self.new ≡ draft_of self.old }
+        ensures kept { IsKept self.new }
+    {
+        let pairs = pairs_at(self.alloc, &self.proved, reasons)?;
+        Ok(lacks_support_without(&mut self.store, &self.kinds[place], pair, &pairs))
+    }
+
+    /// Takes the claim that a value is gone.
+    fn claim_value(&mut self, name: &Name, value: Value) -> Option<Cause>
+        requires stands { MayStand self.old.stage (Statement.ValueClaim name.now value) }
+        requires kept { IsKept self.old }
+        ensures hears { Hears (draft_of self.old) (Statement.ValueClaim name.now value) result (draft_of self.new) }
+        ensures kept { IsKept self.new }
+    {
+        let Some(pair) = self.declared_pair(name, value) else {
+            return Some(Cause::Misdeclared);
+        };
+        if !self.is_gone(&pair) {
+            return Some(Cause::NotReached);
+        }
+        self.stage = Stage::Claimed(Claim::Gone(pair));
+        None
+    }
+
+    /// Takes the claim that a variable has no value.
+    fn claim_conflict(&mut self, name: &Name) -> Option<Cause>
+        requires stands { MayStand self.old.stage (Statement.ConflictClaim name.now) }
+        requires kept { IsKept self.old }
+        ensures hears { Hears (draft_of self.old) (Statement.ConflictClaim name.now) result (draft_of self.new) }
+        ensures kept { IsKept self.new }
+    {
+        let Some(var) = self.book.variable_named(name) else {
+            return Some(Cause::Misdeclared);
+        };
+        if !self.is_empty(var) {
+            return Some(Cause::NotReached);
+        }
+        self.stage = Stage::Claimed(Claim::Conflict(var));
+        None
+    }
+
+    /// Whether a step proved the pair.
+    fn is_gone(&mut self, pair: &Pair) -> bool
+        requires kept { IsKept self.old }
+        requires declared { Has (initial_of self.old.book) pair.now.var pair.now.value }
+        ensures tells { Tells result (IsReached self.old.book self.old.proved.items (Claim.Gone pair.now)) }
+        ensures same { draft_of self.new ≡ draft_of self.old }
+        ensures kept { IsKept self.new }
+    {
+        take_out_all(&mut self.store, &self.proved);
+        let is_gone = !self.store.contains(*pair);
+        put_back_all(&mut self.store, &self.proved);
+        is_gone
+    }
+
+    /// Whether steps proved each value of the variable.
+    fn is_empty(&mut self, var: Var) -> bool
+        requires kept { IsKept self.old }
+        requires declared { var < length self.old.book.variables }
+        ensures tells { Tells result (IsReached self.old.book self.old.proved.items (Claim.Conflict var)) }
+        ensures same { draft_of self.new ≡ draft_of self.old }
+        ensures kept { IsKept self.new }
+    {
+        let _ = self.store.variables();
+        take_out_all(&mut self.store, &self.proved);
+        let is_empty = self.store.count(var) == 0;
+        put_back_all(&mut self.store, &self.proved);
+        is_empty
+    }
+
+    /// Takes the end.
+    fn close(&mut self)
+        requires stands { MayStand self.old.stage Statement.End }
+        requires kept { IsKept self.old }
+        ensures leads { Leads (draft_of self.old) Statement.End (draft_of self.new) }
+        ensures kept { IsKept self.new }
+    {
+        let stage = std::mem::replace(&mut self.stage, Stage::Unopened);
+        if let Stage::Claimed(claim) = stage {
+            self.stage = Stage::Closed(claim);
+        }
+    }
+
+    /// The verdict where no line is left, and a next one would have this number.
+    pub fn ending(self, line: u64) -> Verdict
+        ensures { result ≡ ending self.stage self.book line }
+    {
+        let Checker { stage, book, .. } = self;
+        match stage {
+            Stage::Closed(claim) => Verdict::Accepted(Proved { claim, book }),
+            _ => Verdict::Refused {
+                line,
+                cause: Cause::NotReached,
+            },
+        }
+    }
+}

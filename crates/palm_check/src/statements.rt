@@ -1,0 +1,114 @@
+//! What lines say, and where they may stand.
+ghost use Rattle.std.specs.Prelude.{◌≡◌, IfOk, IfSome, option_map};
+ghost use Rattle.palm_base.specs.Tells.{Tells};
+ghost use Rattle.palm_check.specs.Kept.{IsBeyondAlone, SaysOrNot};
+ghost use Rattle.palm_claim.specs.Draft.{IsOpen, MayStand};
+ghost use Rattle.palm_claim.specs.Reader.{of_line};
+ghost use Rattle.palm_read.specs.Limits.{IsBeyond};
+ghost use Rattle.palm_read.specs.Reading.{IsRefusedBy};
+ghost use Rattle.palm_read.specs.declared.parse.LineError.TheVariants as LineError;
+
+use crate::phrases::read_phrase;
+use palm_base::NoMemory;
+use palm_claim::{Stage, Statement};
+use palm_read::{Line, LineError, beyond, parse_line};
+use std::alloc::Global;
+
+/// What a line says, and whether it breaks a limit by itself.
+#[derive(Drop)]
+pub struct Reading {
+    pub statement: Statement,
+    pub is_beyond: bool,
+}
+
+/// What the line says, or nothing.
+pub fn read_statement(alloc: Global, bytes: &[u8]) -> Result<Option<Reading>, NoMemory>
+    ensures says { IfOk result (SaysOrNot bytes.now) }
+    ensures beyond { IfOk result (λ reading. IfSome reading (λ r. Tells r.is_beyond (IsBeyondAlone r.statement))) }
+{
+    match parse_line(alloc, bytes) {
+        Ok(line) => Ok(of_line(line)),
+        Err(error) => of_refused(alloc, bytes, error),
+    }
+}
+
+/// What a line says that is refused in a session.
+fn of_refused(alloc: Global, bytes: &[u8], error: LineError) -> Result<Option<Reading>, NoMemory>
+    requires { IsRefusedBy bytes.now error }
+    ensures says { IfOk result (SaysOrNot bytes.now) }
+    ensures beyond { IfOk result (λ reading. IfSome reading (λ r. Tells r.is_beyond (IsBeyondAlone r.statement))) }
+{
+    match error {
+        LineError::Form => of_phrase(alloc, bytes),
+        LineError::NoMemory => Err(NoMemory),
+        LineError::Bytes => Ok(None),
+        LineError::Range => Ok(None),
+        LineError::Empty => Ok(None),
+        LineError::Repeated => Ok(None),
+    }
+}
+
+/// What a line of a session says in a certificate.
+fn of_line(line: Line) -> Option<Reading>
+    ensures says { option_map (λ r. r.statement) result ≡ of_line line }
+    ensures beyond { IfSome result (λ r. Tells r.is_beyond (IsBeyondAlone r.statement)) }
+{
+    let is_beyond = beyond(&line);
+    let statement = statement_of(line)?;
+    Some(Reading {
+        statement,
+        is_beyond,
+    })
+}
+
+fn statement_of(line: Line) -> Option<Statement>
+    ensures says { result ≡ of_line line }
+    ensures alone { IfSome result (λ s. IsBeyondAlone s → IsBeyond line) }
+    ensures whole { IfSome result (λ s. IsBeyond line → IsBeyondAlone s) }
+{
+    match line {
+        Line::Comment => Some(Statement::Comment),
+        Line::Var { name, domain } => Some(Statement::Variable { name, domain }),
+        Line::Add { name, shape } => Some(Statement::Constraint { name, shape }),
+        _ => None,
+    }
+}
+
+/// What a line says that fits no form of a session.
+fn of_phrase(alloc: Global, bytes: &[u8]) -> Result<Option<Reading>, NoMemory>
+    requires { IsRefusedBy bytes.now LineError.Form }
+    ensures says { IfOk result (SaysOrNot bytes.now) }
+    ensures beyond { IfOk result (λ reading. IfSome reading (λ r. Tells r.is_beyond (IsBeyondAlone r.statement))) }
+{
+    match read_phrase(alloc, bytes) {
+        Ok(statement) => Ok(Some(Reading {
+            statement,
+            is_beyond: false,
+        })),
+        Err(LineError::Form) => Ok(None),
+        Err(_) => Err(NoMemory),
+    }
+}
+
+/// Whether a line that says this may stand behind the lines so far.
+pub fn may_stand(stage: &Stage, statement: &Statement) -> bool
+    ensures { Tells result (MayStand stage.now statement.now) }
+{
+    match statement {
+        Statement::Comment => true,
+        Statement::Header => matches!(stage, Stage::Unopened),
+        Statement::Variable { .. } => matches!(stage, Stage::Declaring),
+        Statement::Constraint { .. } => matches!(stage, Stage::Declaring | Stage::Listing),
+        Statement::Step { .. } | Statement::ValueClaim { .. } | Statement::ConflictClaim(_) => {
+            is_open(stage)
+        }
+        Statement::End => matches!(stage, Stage::Claimed(_)),
+    }
+}
+
+/// Whether the header stands before, and no claim.
+fn is_open(stage: &Stage) -> bool
+    ensures { Tells result (IsOpen stage.now) }
+{
+    matches!(stage, Stage::Declaring | Stage::Listing | Stage::Proving)
+}

@@ -1,0 +1,98 @@
+-- What the lines of a certificate have said so far, which lines may follow, and what each adds.
+use Rattle.std.specs.Prelude.{◌≡◌, ℕ, ℤ, ◌+◌, ◌<◌, true, List, [], ◌∷◌, ◌++◌, length, Any, Contains, ⊤}
+use Rattle.palm_base.specs.declared.terms.Pair.{Pair}
+use Rattle.palm_book.specs.Book.{Contents, Entry, name_of}
+use Rattle.palm_book.specs.Named.{Resolves}
+use Rattle.palm_book.specs.declared.book.BookCon.{BookCon}
+use Rattle.palm_model.specs.declared.constraint.Con.{Con}
+use Rattle.palm_read.specs.Domain.{values_in}
+use Rattle.palm_claim.specs.declared.statement.Statement.{Statement}
+use Rattle.palm_claim.specs.declared.statement.Statement.TheVariants.{Comment, Header, Variable, Constraint, Step, ValueClaim, ConflictClaim, End}
+use Rattle.palm_claim.specs.declared.statement.Stage.{Stage}
+use Rattle.palm_claim.specs.declared.statement.Stage.TheVariants.{Unopened, Declaring, Listing, Proving, Claimed, Closed}
+use Rattle.palm_claim.specs.declared.verdict.Claim.{Claim}
+use Rattle.palm_claim.specs.declared.verdict.Claim.TheVariants.{Gone, Conflict}
+
+-- a part of a certificate: how far it has come, its variables and constraints, and the pair that each step proved
+pub record Draft : Type 0 where
+  pub stage : Stage
+  pub book : Contents
+  pub proved : List Pair
+
+-- nothing was said
+abbrev pub blank : Draft
+blank = record { stage = Unopened; book = record { variables = []; constraints = [] }; proved = [] }
+
+-- ---- the order of the lines
+
+-- behind the header and before the claim
+abbrev pub IsOpen : Stage → Type 0
+IsOpen Declaring = ⊤
+IsOpen Listing = ⊤
+IsOpen Proving = ⊤
+IsOpen _ = ⊥
+
+-- a line that says this may stand there: the header first, then variables, constraints, steps, the claim and the end
+abbrev pub MayStand : Stage → Statement → Type 0
+MayStand stage Comment = ⊤
+MayStand stage Header = stage ≡ Unopened
+MayStand stage (Variable name domain) = stage ≡ Declaring
+MayStand Proving (Constraint name shape) = ⊥
+MayStand stage (Constraint name shape) = IsOpen stage
+MayStand stage (Step name value by reasons) = IsOpen stage
+MayStand stage (ValueClaim name value) = IsOpen stage
+MayStand stage (ConflictClaim name) = IsOpen stage
+MayStand (Claimed claim) End = ⊤
+MayStand stage End = ⊥
+
+-- ---- names
+
+-- the variable has the name
+pub record IsVariable (variables : List Entry) (name : List ℕ) (x : ℕ) : Type 0 where
+  pub declared : x < length variables
+  pub named : name_of variables x ≡ name
+
+-- the pair has the value, and its variable has the name
+pub record IsPair (variables : List Entry) (name : List ℕ) (value : ℤ) (pair : Pair) : Type 0 where
+  pub variable : IsVariable variables name pair.var
+  pub gives : pair.value ≡ value
+
+-- the variable with the name was declared with the value
+abbrev pub IsDeclared : List Entry → List ℕ → ℤ → Type 0
+IsDeclared variables name value = Any (λ e. (e.name ≡ name) × Contains e.values value) variables
+
+-- a variable has the name, or a constraint has
+abbrev pub HasVariable : Contents → List ℕ → Type 0
+HasVariable book name = Any (λ e. e.name ≡ name) book.variables
+
+abbrev pub HasConstraint : Contents → List ℕ → Type 0
+HasConstraint book name = Any (λ c. c.name ≡ name) book.constraints
+
+-- ---- what a line adds
+
+abbrev pub with_variable : Draft → List ℕ → List ℤ → Draft
+with_variable d name values = record d { book = record d.book { variables = d.book.variables ++ record { name = name; values = values } ∷ [] } }
+
+-- the listed constraint with the next number, which is active
+abbrev pub listed : Contents → List ℕ → Con → BookCon
+listed book name con = record { number = length book.constraints + 1; name = name; active = true; con = con }
+
+abbrev pub with_constraint : Draft → List ℕ → Con → Draft
+with_constraint d name con = record d { stage = Listing; book = record d.book { constraints = d.book.constraints ++ listed d.book name con ∷ [] } }
+
+abbrev pub with_step : Draft → Pair → Draft
+with_step d pair = record d { stage = Proving; proved = d.proved ++ pair ∷ [] }
+
+abbrev pub at_stage : Draft → Stage → Draft
+at_stage d stage = record d { stage = stage }
+
+-- the draft behind a line that says this
+abbrev pub Leads : Draft → Statement → Draft → Type 0
+Leads d Comment e = e ≡ d
+Leads d Header e = e ≡ at_stage d Declaring
+Leads d (Variable name domain) e = e ≡ with_variable d name (values_in domain)
+Leads d (Constraint name shape) e = (con : Con) × Resolves d.book.variables shape con × (e ≡ with_constraint d name con)
+Leads d (Step name value by reasons) e = (pair : Pair) × IsPair d.book.variables name value pair × (e ≡ with_step d pair)
+Leads d (ValueClaim name value) e = (pair : Pair) × IsPair d.book.variables name value pair × (e ≡ at_stage d (Claimed (Gone pair)))
+Leads d (ConflictClaim name) e = (x : ℕ) × IsVariable d.book.variables name x × (e ≡ at_stage d (Claimed (Conflict x)))
+Leads d End e = (claim : Claim) × (d.stage ≡ Claimed claim) × (e ≡ at_stage d (Closed claim))

@@ -1,0 +1,97 @@
+-- Readers of the forms that only certificates have. That they read just these forms is proved of them.
+use Rattle.std.specs.Prelude.{ℕ, ℤ, pos, ◌-ℤ◌, nat_le, Bool, true, false, not, int_lt, ◌&&◌, Option, Some, None, List, [], ◌∷◌, codes}
+use Rattle.std.specs.Str.{bytes_eq}
+use Rattle.palm_model.specs.declared.limits.TheConstants.{GREATEST_VALUE}
+use Rattle.palm_read.specs.Piece.{digits_number}
+use Rattle.palm_read.specs.Reader.Lists.{many_at}
+use Rattle.palm_read.specs.Reader.Steps.{Reading, ◌>>=◌, when, choose, is_empty, token_at, behind, keyword_at, mark_at, name_at, integer_at}
+use Rattle.palm_read.specs.Token.{Lexeme}
+use Rattle.palm_read.specs.declared.line.Line.{Line}
+use Rattle.palm_read.specs.declared.line.Line.TheVariants.{Comment as CommentLine, Var, Add}
+use Rattle.palm_read.specs.declared.tokens.TokenKind.TheVariants.{Digits}
+use Rattle.palm_claim.specs.declared.statement.Statement.{Statement}
+use Rattle.palm_claim.specs.declared.statement.Statement.TheVariants.{Comment, Header, Variable, Constraint, Step, ValueClaim, ConflictClaim, End}
+
+-- ---- lines of a session
+
+-- what a line of a session says in a certificate, if anything
+abbrev pub of_line : Line → Option Statement
+of_line CommentLine = Some Comment
+of_line (Var name domain) = Some (Variable name domain)
+of_line (Add name shape) = Some (Constraint name shape)
+of_line _ = None
+
+-- ---- numbers in their ranges
+
+abbrev pub is_value : ℤ → Bool
+is_value v = not (int_lt v (pos 0 -ℤ pos GREATEST_VALUE)) && not (int_lt (pos GREATEST_VALUE) v)
+
+unfoldable pub value_at : List Lexeme → Reading ℤ
+value_at tokens = do
+  v ← integer_at tokens
+  choose (is_value v.0) (Some v) None
+
+abbrev pub is_step_number : ℕ → Bool
+is_step_number k = nat_le 1 k && nat_le k 4294967295
+
+-- a number, where one is in front
+unfoldable pub next_number : List Lexeme → Reading (Option ℕ)
+next_number tokens = when (token_at Digits tokens)
+    (λ t. choose (is_step_number (digits_number t.0)) (Some (Some (digits_number t.0), t.1)) None)
+    (Some (None, tokens))
+
+abbrev pub has_some : List ℕ → Bool
+has_some [] = false
+has_some (k ∷ ks) = true
+
+-- one number or more
+unfoldable pub numbers_at : List Lexeme → Reading (List ℕ)
+numbers_at tokens = do
+  numbers ← many_at next_number tokens
+  choose (has_some numbers.0) (Some numbers) None
+
+-- ---- forms
+
+-- `from` and numbers, or nothing
+unfoldable pub reasons_at : List Lexeme → Reading (List ℕ)
+reasons_at tokens = when (keyword_at (codes "from") tokens) numbers_at (Some ([], tokens))
+
+unfoldable pub step_at : List Lexeme → Reading Statement
+step_at tokens = do
+  name ← name_at tokens
+  value ← value_at name.1
+  rest ← keyword_at (codes "by") value.1
+  by ← name_at rest
+  reasons ← reasons_at by.1
+  Some (Step name.0 value.0 by.0 reasons.0, reasons.1)
+
+-- `conflict` and a name, or a name and a value
+unfoldable pub claim_at : List Lexeme → Reading Statement
+claim_at tokens = do
+  name ← name_at tokens
+  when (name_at name.1)
+      (λ second. choose (bytes_eq name.0 (codes "conflict")) (Some (ConflictClaim second.0, second.1)) None)
+      (do
+        value ← value_at name.1
+        Some (ValueClaim name.0 value.0, value.1))
+
+unfoldable pub header_at : List Lexeme → Reading Statement
+header_at tokens = do
+  first ← keyword_at (codes "palm") tokens
+  second ← mark_at (codes "-") first
+  third ← keyword_at (codes "cert") second
+  rest ← behind Digits (codes "1") third
+  Some (Header, rest)
+
+unfoldable pub phrase_at : List Lexeme → Reading Statement
+phrase_at tokens =
+    when (keyword_at (codes "step") tokens) step_at
+    (when (keyword_at (codes "claim") tokens) claim_at
+    (when (keyword_at (codes "end") tokens) (λ rest. Some (End, rest))
+    (header_at tokens)))
+
+-- the form of all tokens of a line
+unfoldable pub phrase_of : List Lexeme → Option Statement
+phrase_of tokens = do
+  phrase ← phrase_at tokens
+  choose (is_empty phrase.1) (Some phrase.0) None

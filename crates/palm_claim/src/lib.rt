@@ -1,0 +1,14 @@
+//! Certificates: what their lines say, when a step is right and a claim is reached, what the verdict on a text is, and
+//! the laws of verdicts. It has no code but the types.
+#![tactic(auto)]
+
+mod laws;
+mod statement;
+mod verdict;
+
+pub use laws::{
+    accepted_claims_are_explained, accepted_claims_hold_of_the_greatest_domains,
+    each_text_has_a_verdict, no_text_has_two_verdicts,
+};
+pub use statement::{Stage, Statement, StepList};
+pub use verdict::{Cause, Claim, Proved, Verdict};

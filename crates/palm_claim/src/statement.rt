@@ -1,0 +1,59 @@
+//! What a line of a certificate says, and how far a certificate has come.
+use crate::verdict::Claim;
+use palm_base::{Sequence, Value};
+use palm_read::{DomainText, Name, Shape};
+
+/// Numbers of steps, counted from 1.
+pub type StepList = Sequence<u32>;
+
+/// What a line of a certificate says.
+#[derive(Debug, Drop)]
+pub enum Statement {
+    /// A blank line, or one whose first byte that is no blank is `#`.
+    Comment,
+    /// `palm-cert 1`
+    Header,
+    /// `var NAME DOMAIN`
+    Variable {
+        name: Name,
+        domain: DomainText,
+    },
+    /// `add NAME : CONSTRAINT`
+    Constraint {
+        name: Name,
+        shape: Shape,
+    },
+    /// `step NAME VALUE by NAME`, with ` from K K K` where it has reasons
+    Step {
+        name: Name,
+        value: Value,
+        by: Name,
+        reasons: StepList,
+    },
+    /// `claim NAME VALUE`
+    ValueClaim {
+        name: Name,
+        value: Value,
+    },
+    /// `claim conflict NAME`
+    ConflictClaim(Name),
+    /// `end`
+    End,
+}
+
+/// Which lines a certificate has had, in the order of its parts.
+#[derive(Debug, Drop)]
+pub enum Stage {
+    /// No line yet.
+    Unopened,
+    /// The header, and variables.
+    Declaring,
+    /// A constraint.
+    Listing,
+    /// A step.
+    Proving,
+    /// The claim.
+    Claimed(Claim),
+    /// The end, behind the claim.
+    Closed(Claim),
+}

@@ -1,0 +1,109 @@
+-- Words that no command has.
+use Rattle.std.proofs.Common.{◌≡◌, ℕ, Bool, true, false, nat_eq, List, [], ◌∷◌, map, get_or, All, Any, Contains, Option, Some, None, IfNone, codes, Global, String, string_bytes, refl, sym, ap, ◌∙◌, subst, arith, inl, inr}
+use Rattle.std.specs.Str.{bytes_eq}
+use Rattle.std.proofs.lemmas.Bool.Decides.{nat_tests}
+use Rattle.std.proofs.lemmas.Slice.Eq.{bytes_eq-Decides}
+use Rattle.std.proofs.lemmas.List.Elements.{All-map}
+use Rattle.palm_base.proofs.Members.{all_members, member_cases, member_single, member_map}
+use Rattle.palm_base.specs.Numbers.{AreDigits, digits_number}
+use Rattle.palm_cli.specs.Generator.{IsSize}
+use Rattle.palm_cli.specs.Words.{IsRun, IsGen, IsNoCommand, BeginsWithDash, IsApart}
+
+-- a word that does not begin with `-`
+abbrev pub IsBare : List ℕ → Type 0
+IsBare [] = Unit {0}
+IsBare (b ∷ bytes) = nat_eq b 45 ≡ false
+
+bare_byte : (b : ℕ) (t : Bool) → nat_eq b 45 ≡ t → (b ≡ 45 → ⊥) → nat_eq b 45 ≡ false
+bare_byte b true e n = absurd (n (grind (arith, nat_tests, e)))
+bare_byte b false e n = e
+
+bare_word : (w : List ℕ) → (IsApart w → ⊥) → IsBare w
+bare_word [] n = tt
+bare_word (b ∷ bytes) n = bare_byte b (nat_eq b 45) refl (λ e. n (inl e))
+
+pub bare_words : (words : List (List ℕ)) → (Any IsApart words → ⊥) → All IsBare words
+bare_words words n = all_members IsBare words (λ w m. bare_word w (λ a. n (m.0, w, m.1, m.2, a)))
+
+-- ---- the words of a command are not apart
+
+apart_name : (name : List ℕ) (b : ℕ) (bytes : List ℕ) → name ≡ b ∷ bytes → (b ≡ 45 → ⊥) → bytes_eq name (codes "help") ≡ false → IsApart name → ⊥
+apart_name name b bytes e other f (inl dash) = other (subst BeginsWithDash e dash)
+apart_name name b bytes e other f (inr help) =
+    let t : bytes_eq name (codes "help") ≡ true = (bytes_eq-Decides name (codes "help")).1 help in
+    let c : true ≡ false = sym t ∙ f in
+    cc
+
+run_stays : IsApart (codes "run") → ⊥
+run_stays a = apart_name (codes "run") 114 (codes "un") refl (λ e. absurd (omega (arith, e))) refl a
+
+gen_stays : IsApart (codes "gen") → ⊥
+gen_stays a = apart_name (codes "gen") 103 (codes "en") refl (λ e. absurd (omega (arith, e))) refl a
+
+digits_stay : (w : List ℕ) → AreDigits w → IsApart w → ⊥
+digits_stay [] d a = absurd (omega (arith, d.some))
+digits_stay (b ∷ bytes) d (inl e) = absurd (omega (arith, (d.each 0 0 d.some).0, e))
+digits_stay (b ∷ bytes) d (inr e) =
+    let h : b ≡ 104 = ap (λ (xs : List ℕ). get_or xs 0 0) e in
+    absurd (omega (arith, (d.each 0 0 d.some).1, h))
+
+pub apart_words : (words : List (List ℕ)) → Any IsApart words → IsNoCommand words
+apart_words words a =
+    let m : Contains words a.1 = (a.0, a.2, a.3) in
+    record {
+      no_run = λ e.
+          let is : codes "run" ≡ a.1 = member_single (codes "run") a.1 (subst (λ (z : List (List ℕ)). Contains z a.1) e m) in
+          run_stays (subst IsApart (sym is) a.4);
+      no_gen = λ size g.
+          elim (member_cases (codes "gen") (g.word ∷ []) a.1 (subst (λ (z : List (List ℕ)). Contains z a.1) g.whole m)) [
+            | inl is ↦ gen_stays (subst IsApart (sym is) a.4)
+            | inr rest ↦ digits_stay g.word g.tells.digits (subst IsApart (sym (member_single g.word a.1 rest)) a.4)
+          ];
+    }
+
+-- ---- over the words as they are passed
+
+pub none_apart : (words : List (String Global)) → All (λ s. IsApart (string_bytes s) → ⊥) words → Any IsApart (map string_bytes words) → ⊥
+none_apart words h a = (subst (λ (w : List ℕ). IsApart w → ⊥) a.3 (All-map (λ w. IsApart w → ⊥) string_bytes words h a.0 a.1 a.2)) a.4
+
+pub one_apart : (words : List (String Global)) (s : String Global) → Contains words s → IsApart (string_bytes s) → Any IsApart (map string_bytes words)
+one_apart words s m a =
+    let n : Contains (map string_bytes words) (string_bytes s) = member_map string_bytes words s m in
+    (n.0, string_bytes s, n.1, n.2, a)
+
+-- ---- sizes
+
+second : (a b : List ℕ) → codes "gen" ∷ a ∷ [] ≡ codes "gen" ∷ b ∷ [] → a ≡ b
+second a b e = ap (λ (xs : List (List ℕ)). get_or xs 1 []) e
+
+-- words name one number of queens
+pub one_size : (words : List (List ℕ)) (m n : ℕ) → IsGen words m → IsGen words n → m ≡ n
+one_size words m n g h = sym g.tells.number ∙ ap digits_number (second g.word h.word (sym g.whole ∙ h.whole)) ∙ h.tells.number
+
+-- and no two commands
+pub run_no_gen : (words : List (List ℕ)) (n : ℕ) → IsRun words → IsGen words n → ⊥
+run_no_gen words n r g = lengths (codes "run") (codes "gen") g.word (sym r ∙ g.whole)
+  where
+    lengths : (a b c : List ℕ) → a ∷ [] ≡ b ∷ c ∷ [] → ⊥
+    lengths a b c e = cc
+
+-- the words `gen` and another one
+abbrev pub HasSize : List (List ℕ) → List ℕ → Type 0
+HasSize words word = words ≡ codes "gen" ∷ word ∷ []
+
+pub gen_by : (words : List (List ℕ)) (word : List ℕ) (n : ℕ) → HasSize words word → IsSize word n → IsGen words n
+gen_by words word n e s = record { word = word; whole = e; tells = s }
+
+pub no_gen_by : (words : List (List ℕ)) (word : List ℕ) → HasSize words word → ((n : ℕ) → IsSize word n → ⊥) → IsNoCommand words
+no_gen_by words word e none = record {
+  no_run = λ r. lengths (codes "run") (codes "gen") word (sym r ∙ e);
+  no_gen = λ n g. none n (subst (λ (w : List ℕ). IsSize w n) (second g.word word (sym g.whole ∙ e)) g.tells);
+}
+  where
+    lengths : (a b c : List ℕ) → a ∷ [] ≡ b ∷ c ∷ [] → ⊥
+    lengths a b c e = cc
+
+-- what holds where there is nothing
+pub if_none : {X : Type 0} (P : Type 0) (o : Option X) → P → IfNone o P
+if_none P None p = p
+if_none P (Some x) p = tt

@@ -1,0 +1,243 @@
+-- Changes of the graph and of its marks, one after another.
+use Rattle.std.proofs.Common.{◌≡◌, ◌≢◌, ℕ, ◌+◌, ◌<◌, ◌≤◌, Bool, true, false, List, [], ◌∷◌, ◌++◌, length, get_or, take, drop, Option, Some, None, Contains, ◌⊎◌, inl, inr, refl, sym, ap, ◌∙◌, subst, arith}
+use Rattle.std.proofs.lemmas.Bool.{cases_eq, false≢true}
+use Rattle.std.proofs.lemmas.List.{take_more, take_all}
+use Rattle.std.proofs.lemmas.List.Elements.{Contains-append_left, Contains-push}
+use Rattle.palm_base.proofs.Members.{member_nil, member_cases, member_here, member_there, member_same, member_single, member_take, member_take_more}
+use Rattle.palm_explain.specs.Graph.{Graph, HasForgotten, HasLinked, HasMarked, IsAmongFirst, IsCause, IsKey, IsSameNode, Link}
+use Rattle.palm_explain.proofs.Graphs.{link_same}
+
+pub same_then : (l m n : Link) → IsSameNode l m → IsSameNode m n → IsSameNode l n
+same_then l m n a b = record { pair = b.pair ∙ a.pair; by = b.by ∙ a.by; causes = b.causes ∙ a.causes; place = b.place ∙ a.place }
+
+same_itself : (l : Link) → IsSameNode l l
+same_itself l = record { pair = refl; by = refl; causes = refl; place = refl }
+
+-- ---- one more of a list
+
+pub more_left : {X : Type 0} (xs : List X) (i : ℕ) (x y : X) → i < length xs → x ≡ get_or xs i x → Contains (take i xs) y → Contains (take (i + 1) xs) y
+more_left xs i x y lt at m = subst (λ ys. Contains ys y) (sym (take_more xs i x lt ∙ ap (λ z. take i xs ++ z ∷ []) (sym at))) (Contains-append_left (take i xs) (x ∷ []) y m)
+
+pub more_last : {X : Type 0} (xs : List X) (i : ℕ) (x y : X) → i < length xs → x ≡ get_or xs i x → x ≡ y → Contains (take (i + 1) xs) y
+more_last xs i x y lt at e = member_same (take (i + 1) xs) x y e (subst (λ ys. Contains ys x) (sym (take_more xs i x lt ∙ ap (λ z. take i xs ++ z ∷ []) (sym at))) (Contains-push (take i xs) x))
+
+-- ---- links
+
+pub linked_none : (g : Graph) (key : ℕ) → HasLinked g g [] key
+linked_none g key = record {
+  none = λ k e. e;
+  some = λ k l at. (l, at, same_itself l, λ d m. inl m, λ d m. elim m [ inl o ↦ o | inr e ↦ absurd (member_nil k e.1) ]);
+}
+
+pub linked_next : (g h f : Graph) (causes : List ℕ) (i c key : ℕ) → i < length causes → c ≡ get_or causes i c → HasLinked g h (take i causes) key → HasLinked h f (c ∷ []) key → HasLinked g f (take (i + 1) causes) key
+linked_next g h f causes i c key lt at one two = record {
+  none = λ k e. two.none k (one.none k e);
+  some = λ k l is.
+      let m = one.some k l is in
+      let n = two.some k m.0 m.1 in (
+        n.0,
+        n.1,
+        same_then l m.0 n.0 m.2 n.2,
+        λ d q. elim (n.3 d q) [
+          | inl o ↦ elim (m.3 d o) [ inl p ↦ inl p | inr e ↦ inr (e.0, more_left causes i c k lt at e.1) ]
+          | inr e ↦ inr (e.0, more_last causes i c k lt at (member_single c k e.1))
+        ],
+        λ d q. elim q [
+          | inl o ↦ n.4 d (inl (m.4 d (inl o)))
+          | inr e ↦ elim (member_take_more causes i c k lt at e.1) [
+            | inl p ↦ n.4 d (inl (m.4 d (inr (e.0, p))))
+            | inr s ↦ n.4 d (inr (e.0, member_same (c ∷ []) c k s (0, omega arith, refl)))
+          ]
+        ],
+      );
+}
+
+pub linked_all : (g h : Graph) (causes : List ℕ) (i key : ℕ) → length causes ≤ i → HasLinked g h (take i causes) key → HasLinked g h causes key
+linked_all g h causes i key le linked = subst (λ cs. HasLinked g h cs key) (take_all i causes le) linked
+
+-- a key stays one
+pub linked_key : (g h : Graph) (causes : List ℕ) (key k : ℕ) → HasLinked g h causes key → IsKey g k → IsKey h k
+linked_key g h causes key k linked at = let m = linked.some k at.0 at.1 in (m.0, m.1)
+
+pub forgotten_key : (g h : Graph) (Gone : ℕ → ℕ → Type 0) (k : ℕ) → HasForgotten g h Gone → IsKey g k → IsKey h k
+forgotten_key g h Gone k forgotten at = let m = forgotten.some k at.0 at.1 in (m.0, m.1)
+
+-- ---- forgotten dependents
+
+pub forgotten_none : (g : Graph) (Gone : ℕ → ℕ → Type 0) → ((k d : ℕ) → Gone k d → ⊥) → HasForgotten g g Gone
+forgotten_none g Gone never = record {
+  none = λ k e. e;
+  some = λ k l at. (l, at, same_itself l, λ d m. (m, never k d), λ d m free. m);
+}
+
+pub forgotten_then : (g h f : Graph) (First Second Gone : ℕ → ℕ → Type 0) → ((k d : ℕ) → First k d → Gone k d) → ((k d : ℕ) → Second k d → Gone k d) → ((k d : ℕ) → Gone k d → First k d ⊎ Second k d)
+    → HasForgotten g h First → HasForgotten h f Second → HasForgotten g f Gone
+forgotten_then g h f First Second Gone left right split one two = record {
+  none = λ k e. two.none k (one.none k e);
+  some = λ k l is.
+      let m = one.some k l is in
+      let n = two.some k m.0 m.1 in (
+        n.0,
+        n.1,
+        same_then l m.0 n.0 m.2 n.2,
+        λ d q. let b = n.3 d q in let a = m.3 d b.0 in (a.0, λ gone. elim (split k d gone) [ inl p ↦ a.1 p | inr p ↦ b.1 p ]),
+        λ d q free. n.4 d (m.4 d q (λ p. free (left k d p))) (λ p. free (right k d p)),
+      );
+}
+
+pub forgotten_like : (g h : Graph) (Gone Same : ℕ → ℕ → Type 0) → ((k d : ℕ) → Gone k d → Same k d) → ((k d : ℕ) → Same k d → Gone k d) → HasForgotten g h Gone → HasForgotten g h Same
+forgotten_like g h Gone Same to back forgotten = record {
+  none = forgotten.none;
+  some = λ k l at.
+      let m = forgotten.some k l at in
+      (m.0, m.1, m.2, λ d q. let a = m.3 d q in (a.0, λ s. a.1 (back k d s)), λ d q free. m.4 d q (λ gone. free (to k d gone)));
+}
+
+-- ---- marks
+
+pub marked_none : (old : ℕ → Bool) (More : ℕ → Type 0) → ((k : ℕ) → More k → ⊥) → HasMarked old old More
+marked_none old More never = record { stay = λ k m. m; more = λ k p. absurd (never k p); only = λ k m. inl m }
+
+pub marked_one : (old new : ℕ → Bool) (key : ℕ) → new key ≡ true → ((k : ℕ) → k ≢ key → new k ≡ old k) → HasMarked old new (λ k. key ≡ k)
+marked_one old new key is others = record {
+  stay = λ k m. elim (cases_eq k key) [ inl e ↦ ap new e ∙ is | inr n ↦ others k n ∙ m ];
+  more = λ k e. ap new (sym e) ∙ is;
+  only = λ k m. elim (cases_eq k key) [ inl e ↦ inr (sym e) | inr n ↦ inl (sym (others k n) ∙ m) ];
+}
+
+pub marked_then : (old middle new : ℕ → Bool) (First Second More : ℕ → Type 0) → ((k : ℕ) → First k → More k) → ((k : ℕ) → Second k → More k) → ((k : ℕ) → More k → First k ⊎ Second k)
+    → HasMarked old middle First → HasMarked middle new Second → HasMarked old new More
+marked_then old middle new First Second More left right split one two = record {
+  stay = λ k m. two.stay k (one.stay k m);
+  more = λ k p. elim (split k p) [ inl a ↦ two.stay k (one.more k a) | inr b ↦ two.more k b ];
+  only = λ k m. elim (two.only k m) [
+    | inl a ↦ elim (one.only k a) [ inl o ↦ inl o | inr p ↦ inr (left k p) ]
+    | inr b ↦ inr (right k b)
+  ];
+}
+
+pub marked_like : (old new : ℕ → Bool) (More Same : ℕ → Type 0) → ((k : ℕ) → More k → Same k) → ((k : ℕ) → Same k → More k) → HasMarked old new More → HasMarked old new Same
+marked_like old new More Same to back marked = record {
+  stay = marked.stay;
+  more = λ k s. marked.more k (back k s);
+  only = λ k m. elim (marked.only k m) [ inl o ↦ inl o | inr p ↦ inr (to k p) ];
+}
+
+-- the keys that a node lists, one after another
+module _ (listed : Link → List ℕ) (g : Graph) (key : ℕ) (l : Link) (at : g key ≡ Some l) where
+  pub first_none : (d : ℕ) → IsAmongFirst 0 listed g key d → ⊥
+  first_none d m = member_nil d m.2
+
+  pub first_all : (i : ℕ) → length (listed l) ≤ i → (d : ℕ) → IsAmongFirst i listed g key d → (m : Link) × (g key ≡ Some m) × Contains (listed m) d
+  first_all i le d m = (m.0, m.1, member_take i (listed m.0) d m.2)
+
+  pub all_first : (i : ℕ) → length (listed l) ≤ i → (d : ℕ) → ((m : Link) × (g key ≡ Some m) × Contains (listed m) d) → IsAmongFirst i listed g key d
+  all_first i le d m =
+      let same : m.0 ≡ l = link_same g key m.0 l m.1 at in
+      (l, at, subst (λ ds. Contains ds d) (sym (take_all i (listed l) le)) (subst (λ (z : Link). Contains (listed z) d) same m.2))
+
+  pub first_left : (i : ℕ) (x : ℕ) → i < length (listed l) → x ≡ get_or (listed l) i x → (d : ℕ) → IsAmongFirst i listed g key d → IsAmongFirst (i + 1) listed g key d
+  first_left i x lt is d m =
+      let same : m.0 ≡ l = link_same g key m.0 l m.1 at in
+      (l, at, more_left (listed l) i x d lt is (subst (λ (z : Link). Contains (take i (listed z)) d) same m.2))
+
+  pub first_last : (i : ℕ) (x : ℕ) → i < length (listed l) → x ≡ get_or (listed l) i x → (d : ℕ) → x ≡ d → IsAmongFirst (i + 1) listed g key d
+  first_last i x lt is d e = (l, at, more_last (listed l) i x d lt is e)
+
+  pub first_cases : (i : ℕ) (x : ℕ) → i < length (listed l) → x ≡ get_or (listed l) i x → (d : ℕ) → IsAmongFirst (i + 1) listed g key d → IsAmongFirst i listed g key d ⊎ (x ≡ d)
+  first_cases i x lt is d m =
+      let same : m.0 ≡ l = link_same g key m.0 l m.1 at in
+      elim (member_take_more (listed l) i x d lt is (subst (λ (z : Link). Contains (take (i + 1) (listed z)) d) same m.2)) [
+        | inl p ↦ inl (l, at, p)
+        | inr e ↦ inr e
+      ]
+
+  -- marks of the listed ones
+  pub listed_none : (old : ℕ → Bool) → HasMarked old old (IsAmongFirst 0 listed g key)
+  listed_none old = marked_none old (IsAmongFirst 0 listed g key) first_none
+
+  pub listed_next : (old middle new : ℕ → Bool) (i x : ℕ) → i < length (listed l) → x ≡ get_or (listed l) i x → HasMarked old middle (IsAmongFirst i listed g key) → new x ≡ true → ((k : ℕ) → k ≢ x → new k ≡ middle k)
+      → HasMarked old new (IsAmongFirst (i + 1) listed g key)
+  listed_next old middle new i x lt is marked set others =
+      marked_then old middle new (IsAmongFirst i listed g key) (λ k. x ≡ k) (IsAmongFirst (i + 1) listed g key) (first_left i x lt is) (first_last i x lt is) (first_cases i x lt is) marked (marked_one middle new x set others)
+
+  pub listed_all : (old new : ℕ → Bool) (i : ℕ) → length (listed l) ≤ i → HasMarked old new (IsAmongFirst i listed g key) → HasMarked old new (λ d. (m : Link) × (g key ≡ Some m) × Contains (listed m) d)
+  listed_all old new i le marked = marked_like old new (IsAmongFirst i listed g key) (λ d. (m : Link) × (g key ≡ Some m) × Contains (listed m) d) (first_all i le) (all_first i le) marked
+
+-- a mark that is cleared and handed on
+pub handed_on : (g : Graph) (old middle new : ℕ → Bool) (key : ℕ) (More : ℕ → Type 0) → middle key ≡ false → ((k : ℕ) → k ≢ key → middle k ≡ old k) → HasMarked middle new More → (More key → ⊥)
+    → (new key ≡ false) × ((k : ℕ) → k ≢ key → old k ≡ true → new k ≡ true) × ((k : ℕ) → new k ≡ true → ((k ≢ key) × (old k ≡ true)) ⊎ More k)
+handed_on g old middle new key More cleared others marked never = (
+  cleared_still (new key) refl,
+  λ k n m. marked.stay k (others k n ∙ m),
+  λ k m. elim (marked.only k m) [
+    | inl o ↦ elim (cases_eq k key) [
+      | inl e ↦ absurd (false≢true (sym cleared ∙ ap middle (sym e) ∙ o))
+      | inr n ↦ inl (n, sym (others k n) ∙ o)
+    ]
+    | inr p ↦ inr p
+  ],
+)
+  where
+    cleared_still : (b : Bool) → new key ≡ b → b ≡ false
+    cleared_still false e = refl
+    cleared_still true e = elim (marked.only key e) [ inl o ↦ absurd (false≢true (sym cleared ∙ o)) | inr p ↦ absurd (never p) ]
+
+-- causes are the same where dependents were forgotten
+pub cause_on : (g h : Graph) (Gone : ℕ → ℕ → Type 0) (c k : ℕ) → HasForgotten g h Gone → IsCause g c k → IsCause h c k
+cause_on g h Gone c k forgotten cause = let m = forgotten.some k cause.0 cause.1 in (m.0, m.1, subst (λ cs. Contains cs c) (sym m.2.causes) cause.2)
+
+pub cause_back : (g h : Graph) (Gone : ℕ → ℕ → Type 0) (c k : ℕ) → HasForgotten g h Gone → IsCause h c k → IsCause g c k
+cause_back g h Gone c k forgotten cause = was (g k) refl
+  where
+    none_some : {X : Type 0} {x : X} → None ≡ Some x → ⊥
+    none_some e = cc
+
+    was : (o : Option Link) → g k ≡ o → IsCause g c k
+    was None e = absurd (none_some (sym (forgotten.none k e) ∙ cause.1))
+    was (Some l) e =
+        let m = forgotten.some k l e in
+        let same = link_same h k m.0 cause.0 m.1 cause.1 in
+        (l, e, subst (λ cs. Contains cs c) (ap (λ (z : Link). z.causes) (sym same) ∙ m.2.causes) cause.2)
+
+-- what is forgotten from a place on
+abbrev pub IsGoneFrom : Graph → (ℕ → Bool) → List ℕ → ℕ → ℕ → ℕ → Type 0
+IsGoneFrom g marks log i k d = Contains (drop i log) d × (marks d ≡ true) × (marks k ≡ false) × IsCause g k d
+
+module _ (g h f : Graph) (marks now : ℕ → Bool) (log : List ℕ) (place next key : ℕ) (rest_is : drop place log ≡ key ∷ drop next log) (same : now ≡ marks)
+    (forgotten : HasForgotten g h (IsGoneFrom g marks log next)) where
+  from_later : (k d : ℕ) → IsGoneFrom g marks log next k d → IsGoneFrom g marks log place k d
+  from_later k d m = (subst (λ l. Contains l d) (sym rest_is) (member_there key (drop next log) d m.0), m.1, m.2, m.3)
+
+  from_cases : (k d : ℕ) → IsGoneFrom g marks log place k d → (key ≡ d) ⊎ IsGoneFrom g marks log next k d
+  from_cases k d m = elim (member_cases key (drop next log) d (subst (λ l. Contains l d) rest_is m.0)) [
+    | inl e ↦ inl e
+    | inr n ↦ inr (n, m.1, m.2, m.3)
+  ]
+
+  -- the marked one at the place is forgotten too
+  pub gone_next : now key ≡ true → HasForgotten h f (λ k d. (key ≡ d) × (now k ≡ false) × IsCause h k key) → HasForgotten g f (IsGoneFrom g marks log place)
+  gone_next is more =
+      let Next : ℕ → ℕ → Type 0 = λ k d. (key ≡ d) × (now k ≡ false) × IsCause h k key in
+      forgotten_then g h f (IsGoneFrom g marks log next) Next (IsGoneFrom g marks log place) from_later
+      (λ k d n. (
+        member_same (drop place log) key d n.0 (subst (λ l. Contains l key) (sym rest_is) (member_here key (drop next log))),
+        subst (λ z. marks z ≡ true) n.0 (sym (ap (λ m. m key) same) ∙ is),
+        sym (ap (λ m. m k) same) ∙ n.1,
+        subst (λ z. IsCause g k z) n.0 (cause_back g h (IsGoneFrom g marks log next) k key forgotten n.2),
+      ))
+      (λ k d m. elim (from_cases k d m) [
+        | inl e ↦ inr (e, ap (λ q. q k) same ∙ m.2, cause_on g h (IsGoneFrom g marks log next) k key forgotten (subst (λ z. IsCause g k z) (sym e) m.3))
+        | inr n ↦ inl n
+      ])
+      forgotten more
+
+  -- one without a mark is not
+  pub gone_same : now key ≡ false → HasForgotten g h (IsGoneFrom g marks log place)
+  gone_same is =
+      forgotten_like g h (IsGoneFrom g marks log next) (IsGoneFrom g marks log place) from_later
+      (λ k d m. elim (from_cases k d m) [
+        | inl e ↦ absurd (false≢true (sym is ∙ ap (λ q. q key) same ∙ ap marks e ∙ m.1))
+        | inr n ↦ n
+      ])
+      forgotten

@@ -1,0 +1,153 @@
+-- What holds between calls: after a removal is entered, and after a withdrawal.
+use Rattle.std.proofs.Common.{◌≡◌, ℕ, ◌+◌, ◌≤◌, true, false, List, [], ◌∷◌, ◌++◌, length, map, Option, Some, None, Contains, All, nat_eq, Result, Ok, Err, OnOk, inl, inr, refl, sym, ap, ◌∙◌, subst, arith}
+use Rattle.std.proofs.lemmas.List.{length-append}
+use Rattle.std.proofs.lemmas.Bool.{cases_eq}
+use Rattle.indexmap.specs.IndexSet.{insert_all}
+use Rattle.slab.specs.Slab.{Slab, Updates, get}
+use Rattle.palm_base.specs.declared.terms.Pair.{Pair}
+use Rattle.palm_base.specs.declared.terms.Cid.{Cid}
+use Rattle.palm_base.proofs.Members.{member_same}
+use Rattle.palm_domain.specs.Rows.{Row as StoreRow, Ascends, initial_of, present_of}
+use Rattle.palm_model.specs.Event.{lost_pairs, vars_of}
+use Rattle.palm_model.specs.Log.{Loses, log_pairs}
+use Rattle.palm_explain.specs.declared.node.Node.{Node}
+use Rattle.palm_explain.specs.declared.rows.Row.{Row}
+use Rattle.palm_explain.specs.Explanations.{IsLink, IsLinked, LacksExactly}
+use Rattle.palm_explain.specs.Graph.{AreFound, HasClosedUp, HasForgotten, HasLinked, HasNoMark, IsCause, IsGraph, IsKept, IsKey, Link, graph_of, has_mark, link_of, log_of, marks_of, pair_at}
+use Rattle.palm_explain.specs.Lost.{AreTold, HasBack, kept_of, lost_of}
+use Rattle.palm_explain.specs.Rows.{AreFormedRows, key_at}
+use Rattle.palm_explain.proofs.ClosedUp.{IsGone, left_found, left_graph, left_log}
+use Rattle.palm_explain.proofs.Entered.{IsEntered, entered, entered_found, entered_graph, entered_log}
+use Rattle.palm_explain.proofs.Graphs.{key_pair, pair_is}
+use Rattle.palm_explain.proofs.Keeping.{kept_linked, lacks_kept, loses_kept, noted_vars}
+use Rattle.palm_explain.proofs.Linked.{linked_push}
+use Rattle.palm_explain.proofs.PuttingBack.{kept_and_lost}
+
+pub on_ok : {T E : Type 0} (r : Result T E) (P Q : Type 0) → (P → Q) → OnOk r P → OnOk r Q
+on_ok (Ok x) P Q f p = f p
+on_ok (Err e) P Q f p = tt
+
+-- ---- what does not touch the log
+
+-- other rows in which all pairs but a fresh one are found as before
+pub kept_with_rows : (nodes : Slab Node) (keys : List ℕ) (rows later : List Row) (spare : ℕ) (p : Pair) → IsKept nodes keys rows spare → (Contains (log_pairs (log_of (graph_of nodes) keys)) p → ⊥)
+    → AreFormedRows later → ((q : Pair) → (q ≡ p → ⊥) → key_at later q ≡ key_at rows q) → IsKept nodes keys later spare
+kept_with_rows nodes keys rows later spare p kept fresh formed others = record {
+  linked = kept.linked;
+  graph = kept.graph;
+  unmarked = kept.unmarked;
+  formed = formed;
+  found = λ k l at.
+      let g = graph_of nodes in
+      others l.pair (λ e. fresh (member_same (log_pairs (log_of g keys)) (pair_at g k) p (pair_is g k l at ∙ e) (key_pair g keys k kept.graph.places (l, at)))) ∙ kept.found k l at;
+  room = kept.room;
+}
+
+-- nodes that say the same, and as much room
+pub kept_like : (nodes later : Slab Node) (keys : List ℕ) (rows : List Row) (spare more : ℕ) → IsKept nodes keys rows spare → graph_of later ≡ graph_of nodes → marks_of later ≡ marks_of nodes → length keys ≤ more
+    → IsKept later keys rows more
+kept_like nodes later keys rows spare more kept graph marks room = record {
+  linked = subst (λ g. IsLinked (log_of g keys)) (sym graph) kept.linked;
+  graph = subst (λ g. IsGraph g keys) (sym graph) kept.graph;
+  unmarked = λ k. ap (λ m. m k) marks ∙ kept.unmarked k;
+  formed = kept.formed;
+  found = subst (AreFound rows) (sym graph) kept.found;
+  room = room;
+}
+
+-- nodes that say the same, without a mark
+pub kept_same : (nodes later : Slab Node) (keys : List ℕ) (rows : List Row) (spare : ℕ) → IsKept nodes keys rows spare → graph_of later ≡ graph_of nodes → HasNoMark later → IsKept later keys rows spare
+kept_same nodes later keys rows spare kept graph unmarked = record {
+  linked = subst (λ g. IsLinked (log_of g keys)) (sym graph) kept.linked;
+  graph = subst (λ g. IsGraph g keys) (sym graph) kept.graph;
+  unmarked = unmarked;
+  formed = kept.formed;
+  found = subst (AreFound rows) (sym graph) kept.found;
+  room = kept.room;
+}
+
+-- ---- entering
+
+module _ (s t u : Slab Node) (keys : List ℕ) (rows : List Row) (spare key : ℕ) (n : Node) (reasons : List Pair)
+    (kept : IsKept s keys rows spare) (fresh : Contains (log_pairs (log_of (graph_of s) keys)) n.pair → ⊥)
+    (earlier : (p : Pair) → Contains reasons p → Contains (log_pairs (log_of (graph_of s) keys)) p)
+    (are_reasons : map (pair_at (graph_of s)) n.causes.items ≡ reasons) (are_keys : (c : ℕ) → Contains n.causes.items c → IsKey (graph_of s) c) (found : key_at rows n.pair ≡ Some key)
+    (linked : HasLinked (graph_of s) (graph_of t) n.causes.items key) (marks : marks_of t ≡ marks_of s) (free : get t key ≡ None) (updates : Updates t u key (Some n))
+    (alone : n.dependents.items ≡ []) (place : n.place ≡ length keys) (unmarked : n.mark ≡ false) (room : length keys + 1 ≤ spare) where
+  abbrev new : Link
+  new = record { pair = n.pair; by = n.by; causes = n.causes.items; dependents = n.dependents.items; place = n.place }
+
+  vacant_from : (o : Option Link) → graph_of s key ≡ o → graph_of s key ≡ None
+  vacant_from None e = e
+  vacant_from (Some l) e = let m = linked.some key l e in absurd (none_some (sym (ap link_of free) ∙ m.1))
+    where
+      none_some : {x : Link} → None ≡ Some x → ⊥
+      none_some e = cc
+
+  is_entered : IsEntered (graph_of s) (graph_of u) key new
+  is_entered =
+      entered (graph_of s) (graph_of t) (graph_of u) key new linked (vacant_from (graph_of s key) refl) (ap link_of updates.changed) alone (λ k differs. ap link_of (updates.others k differs))
+
+  pub log_entered : log_of (graph_of u) (keys ++ key ∷ []) ≡ log_of (graph_of s) keys ++ record { pair = n.pair; by = n.by; reasons = reasons } ∷ []
+  log_entered =
+      entered_log (graph_of s) (graph_of u) keys key new kept.graph is_entered place are_keys fresh (record { pair = n.pair; by = n.by; reasons = reasons }) refl refl are_reasons
+
+  link_entered : IsLink (log_of (graph_of s) keys) (record { pair = n.pair; by = n.by; reasons = reasons })
+  link_entered = record { fresh = fresh; reasons = earlier }
+
+  pub kept_entered : IsKept u (keys ++ key ∷ []) rows spare
+  kept_entered = record {
+    linked = subst IsLinked (sym log_entered) (linked_push (log_of (graph_of s) keys) (record { pair = n.pair; by = n.by; reasons = reasons }) kept.linked link_entered);
+    graph = entered_graph (graph_of s) (graph_of u) keys key new kept.graph is_entered place are_keys fresh;
+    unmarked = λ k. elim (cases_eq k key) [
+      | inl e ↦ ap (marks_of u) e ∙ ap has_mark updates.changed ∙ unmarked
+      | inr differs ↦ ap has_mark (updates.others k differs) ∙ ap (λ m. m k) marks ∙ kept.unmarked k
+    ];
+    formed = kept.formed;
+    found = entered_found (graph_of s) (graph_of u) keys key new kept.graph is_entered place are_keys fresh rows kept.found found;
+    room = let more = length-append keys (key ∷ []) in omega (arith, more, room);
+  }
+
+-- ---- withdrawing
+
+module _ (s m t u : Slab Node) (keys left : List ℕ) (rows : List Row) (spare later : ℕ) (cid : Cid) (kept : IsKept s keys rows spare)
+    (graph : graph_of m ≡ graph_of s) (told : AreTold (graph_of s) keys cid (marks_of m))
+    (forgotten : HasForgotten (graph_of m) (graph_of t) (λ k d. (marks_of m d ≡ true) × (marks_of m k ≡ false) × IsCause (graph_of m) k d)) (marks : marks_of t ≡ marks_of m)
+    (closed : HasClosedUp (graph_of t) (marks_of t) keys (graph_of u) left) (unmarked : HasNoMark u)
+    (room : length keys ≤ later + length (lost_of (graph_of m) (marks_of m) keys)) where
+  gone : HasForgotten (graph_of s) (graph_of t) (IsGone (graph_of s) (marks_of m))
+  gone = subst (λ g. HasForgotten g (graph_of t) (IsGone g (marks_of m))) graph forgotten
+
+  shut : HasClosedUp (graph_of t) (marks_of m) keys (graph_of u) left
+  shut = subst (λ marks. HasClosedUp (graph_of t) marks keys (graph_of u) left) marks closed
+
+  pub log_left : log_of (graph_of u) left ≡ log_of (graph_of s) (kept_of (marks_of m) keys)
+  log_left = left_log (graph_of s) (graph_of t) (graph_of u) keys left cid (marks_of m) kept.graph told gone shut
+
+  pub kept_withdrawn : IsKept u left rows later
+  kept_withdrawn = record {
+    linked = subst IsLinked (sym log_left) (kept_linked (graph_of s) cid (marks_of m) keys kept.linked told);
+    graph = left_graph (graph_of s) (graph_of t) (graph_of u) keys left cid (marks_of m) kept.graph told gone shut;
+    unmarked = unmarked;
+    formed = kept.formed;
+    found = left_found (graph_of s) (graph_of t) (graph_of u) keys left cid (marks_of m) kept.graph told gone shut rows kept.found;
+    room =
+        let all = kept_and_lost (graph_of m) (marks_of m) keys in
+        let same = ap length shut.left_is in omega (arith, all, same, room);
+  }
+
+  pub loses_withdrawn : Loses (log_of (graph_of s) keys) (cid ∷ []) (log_of (graph_of s) keys) (log_of (graph_of u) left)
+  loses_withdrawn = subst (λ l. Loses (log_of (graph_of s) keys) (cid ∷ []) (log_of (graph_of s) keys) l) (sym log_left) (loses_kept (graph_of s) cid (marks_of m) keys told)
+
+  pub lacks_withdrawn : (before after : List StoreRow) → LacksExactly before (log_pairs (log_of (graph_of s) keys)) → HasBack before after (lost_of (graph_of m) (marks_of m) keys)
+      → All Ascends (initial_of after) → All Ascends (present_of after) → LacksExactly after (log_pairs (log_of (graph_of u) left))
+  lacks_withdrawn before after lacks back ascend present =
+      subst (λ l. LacksExactly after (log_pairs l)) (sym log_left)
+      (lacks_kept (graph_of s) cid (marks_of m) keys before after kept.linked told lacks (subst (λ g. HasBack before after (lost_of g (marks_of m) keys)) graph back) ascend present)
+
+  pub vars_withdrawn : (vars : List ℕ) → vars ≡ insert_all nat_eq [] (vars_of (lost_of (graph_of m) (marks_of m) keys)) → (x : ℕ)
+      → (Contains vars x → Contains (vars_of (lost_pairs (log_of (graph_of s) keys) (log_of (graph_of u) left))) x)
+      × (Contains (vars_of (lost_pairs (log_of (graph_of s) keys) (log_of (graph_of u) left))) x → Contains vars x)
+  vars_withdrawn vars noted x =
+      subst (λ l. (Contains vars x → Contains (vars_of (lost_pairs (log_of (graph_of s) keys) l)) x) × (Contains (vars_of (lost_pairs (log_of (graph_of s) keys) l)) x → Contains vars x)) (sym log_left)
+      (noted_vars (graph_of s) cid (marks_of m) keys vars kept.linked told (noted ∙ ap (λ g. insert_all nat_eq [] (vars_of (lost_of g (marks_of m) keys))) graph) x)

@@ -1,0 +1,211 @@
+-- What a write to one node changes, and what it does not.
+use Rattle.std.proofs.Common.{◌≡◌, ◌≢◌, ℕ, ◌-◌, Bool, true, false, cond, List, [], ◌∷◌, ◌++◌, length, filter, not, Option, Some, None, is_some, IsSome, Contains, slice_get, ◌⊎◌, inl, inr, refl, sym, ap, ◌∙◌, subst, arith, nat_eq, eq-eqb, eqb-true}
+use Rattle.std.proofs.lemmas.Bool.{cases_eq, false≢true}
+use Rattle.std.proofs.lemmas.List.Elements.{Contains-append_left, Contains-push, Contains-push_cases}
+use Rattle.std.proofs.lemmas.List.{length-append}
+use Rattle.std.proofs.lemmas.List.Sums.{sum_by-set}
+use Rattle.slab.specs.Slab.{ContainsKey, Slab, Updates, get, with_value}
+use Rattle.slab.proofs.SlabLemmas.{ContainsKey-within, Updates-with_value}
+use Rattle.palm_base.proofs.Members.{filter_member, member_filter, member_get, member_here, member_same, member_single}
+use Rattle.palm_explain.specs.declared.node.Node.{Node}
+use Rattle.palm_explain.specs.Graph.{HasForgotten, HasLinked, IsKey, IsMoved, IsReady, IsReadyAt, IsSameNode, IsTakenOut, KeepsRoom, Link, graph_of, has_mark, link_of, marks_of, said}
+use Rattle.palm_explain.proofs.Entered.{place_last}
+use Rattle.palm_explain.proofs.Graphs.{link_same, some_same}
+
+pub none_some : {X : Type 0} {x : X} → None ≡ Some x → ⊥
+none_some e = cc
+
+-- ---- reading
+
+-- a node stands under a key of the graph
+key_node_at : (o : Option Node) (l : Link) → link_of o ≡ Some l → (n : Node) × (o ≡ Some n)
+key_node_at (Some n) l e = (n, refl)
+key_node_at None l e = absurd (none_some e)
+
+pub key_node : (s : Slab Node) (k : ℕ) → IsKey (graph_of s) k → (n : Node) × (get s k ≡ Some n)
+key_node s k key = key_node_at (get s k) key.0 key.1
+
+pub key_there : (s : Slab Node) (k : ℕ) → IsKey (graph_of s) k → ContainsKey s k
+key_there s k key = let n = key_node s k key in subst IsSome (sym n.1) refl
+
+pub node_key : (s : Slab Node) (k : ℕ) (n : Node) → get s k ≡ Some n → IsKey (graph_of s) k
+node_key s k n e = (record { pair = n.pair; by = n.by; causes = n.causes.items; dependents = n.dependents.items; place = n.place }, ap link_of e)
+
+pub node_there : (s : Slab Node) (k : ℕ) (n : Node) → get s k ≡ Some n → ContainsKey s k
+node_there s k n e = subst IsSome (sym e) refl
+
+-- the node under the key says what the link says
+pub node_link : (s : Slab Node) (k : ℕ) (n : Node) (l : Link) → get s k ≡ Some n → graph_of s k ≡ Some l → record { pair = n.pair; by = n.by; causes = n.causes.items; dependents = n.dependents.items; place = n.place } ≡ l
+node_link s k n l e at = some_same _ l (sym (ap link_of e) ∙ at)
+
+pub node_mark : (s : Slab Node) (k : ℕ) (n : Node) → get s k ≡ Some n → marks_of s k ≡ n.mark
+node_mark s k n e = ap has_mark e
+
+-- ---- writing
+
+module _ (s : Slab Node) (k : ℕ) (n v : Node) (at : get s k ≡ Some n) where
+  pub here : get (with_value s k v) k ≡ Some v
+  here = (Updates-with_value s k v (node_there s k n at)).changed
+
+  pub elsewhere : (j : ℕ) → j ≢ k → get (with_value s k v) j ≡ get s j
+  elsewhere j differs = (Updates-with_value s k v (node_there s k n at)).others j differs
+
+  -- what reads the same of the new node reads the same everywhere
+  pub same_everywhere : {X : Type 0} (f : Option Node → X) → f (Some v) ≡ f (Some n) → (j : ℕ) → f (get (with_value s k v) j) ≡ f (get s j)
+  same_everywhere f same j = elim (cases_eq j k) [
+    | inl e ↦ ap (λ i. f (get (with_value s k v) i)) e ∙ ap f here ∙ same ∙ sym (ap f at) ∙ sym (ap (λ i. f (get s i)) e)
+    | inr differs ↦ ap f (elsewhere j differs)
+  ]
+
+  pub same_graph : link_of (Some v) ≡ link_of (Some n) → graph_of (with_value s k v) ≡ graph_of s
+  same_graph same = λ i j. same_everywhere link_of same j i
+
+  pub same_marks : v.mark ≡ n.mark → marks_of (with_value s k v) ≡ marks_of s
+  same_marks same = λ i j. same_everywhere has_mark same j i
+
+  pub same_room : KeepsRoom s (with_value s k v)
+  same_room =
+      let within = ContainsKey-within s k (node_there s k n at) in
+      let sums = sum_by-set (λ o. cond (is_some o) 1 0) s.slots k (Some v) None within in
+      let slot : Option Node → ℕ = λ o. cond (is_some o) 1 0 in
+      let one : slot (get s k) ≡ slot (Some n) = ap slot at in record {
+        len = omega (arith, sums, one);
+        capacity = refl;
+        vacant_key = refl;
+      }
+
+  pub moved_to : (place : ℕ) → link_of (Some v) ≡ link_of (Some (record n { place = place })) → IsMoved (graph_of s) (graph_of (with_value s k v)) k place
+  moved_to place same = record {
+    moved = λ l is. ap link_of here ∙ same ∙ ap (λ (z : Link). Some (record z { place = place })) (node_link s k n l at is);
+    others = λ j differs. ap link_of (elsewhere j differs);
+  }
+
+-- ---- dependents
+
+-- one node has other dependents, the rest is the same
+module _ (s t : Slab Node) (k : ℕ) (n v : Node) (at : get s k ≡ Some n) (there : get t k ≡ Some v) (others : (j : ℕ) → j ≢ k → get t j ≡ get s j)
+    (pair : v.pair ≡ n.pair) (by : v.by ≡ n.by) (causes : v.causes.items ≡ n.causes.items) (place : v.place ≡ n.place) where
+  same_node : (l : Link) → graph_of s k ≡ Some l → (m : Link) × (graph_of t k ≡ Some m) × IsSameNode l m × (m.dependents ≡ v.dependents.items) × (l.dependents ≡ n.dependents.items)
+  same_node l is =
+      let e = node_link s k n l at is in (
+        record { pair = v.pair; by = v.by; causes = v.causes.items; dependents = v.dependents.items; place = v.place },
+        ap link_of there,
+        subst (λ (z : Link). IsSameNode z (record { pair = v.pair; by = v.by; causes = v.causes.items; dependents = v.dependents.items; place = v.place })) e (record { pair = pair; by = by; causes = causes; place = place }),
+        refl,
+        ap (λ (z : Link). z.dependents) (sym e),
+      )
+
+  itself : (l : Link) → IsSameNode l l
+  itself l = record { pair = refl; by = refl; causes = refl; place = refl }
+
+  vacant : (j : ℕ) → graph_of s j ≡ None → graph_of t j ≡ None
+  vacant j e = elim (cases_eq j k) [
+    | inl same ↦ absurd (none_some (sym e ∙ ap (graph_of s) same ∙ ap link_of at))
+    | inr differs ↦ ap link_of (others j differs) ∙ e
+  ]
+
+  pub forgets : (key : ℕ) → ((d : ℕ) → Contains v.dependents.items d → Contains n.dependents.items d × (key ≡ d → ⊥)) → ((d : ℕ) → Contains n.dependents.items d → (key ≡ d → ⊥) → Contains v.dependents.items d)
+      → (marks : ℕ → Bool) → marks k ≡ false → HasForgotten (graph_of s) (graph_of t) (λ j d. (k ≡ j) × (key ≡ d) × (marks j ≡ false))
+  forgets key fewer keep marks free_mark = record {
+    none = vacant;
+    some = λ j l is. elim (cases_eq j k) [
+      | inl e ↦
+          let r = same_node l (subst (λ i. graph_of s i ≡ Some l) e is) in (
+            r.0,
+            subst (λ i. graph_of t i ≡ Some r.0) (sym e) r.1,
+            r.2,
+            λ d m. let f = fewer d (subst (λ ds. Contains ds d) r.3 m) in (subst (λ ds. Contains ds d) (sym r.4) f.0, λ gone. f.1 gone.1),
+            λ d m free. subst (λ ds. Contains ds d) (sym r.3) (keep d (subst (λ ds. Contains ds d) r.4 m) (λ same. free (sym e, same, ap marks e ∙ free_mark))),
+          )
+      | inr differs ↦ (l, ap link_of (others j differs) ∙ is, itself l, λ d m. (m, λ gone. differs (sym gone.0)), λ d m free. m)
+    ];
+  }
+
+  pub links : (key : ℕ) → ((d : ℕ) → Contains v.dependents.items d → Contains n.dependents.items d ⊎ (key ≡ d)) → ((d : ℕ) → Contains n.dependents.items d ⊎ (key ≡ d) → Contains v.dependents.items d)
+      → HasLinked (graph_of s) (graph_of t) (k ∷ []) key
+  links key only more = record {
+    none = vacant;
+    some = λ j l is. elim (cases_eq j k) [
+      | inl e ↦
+          let r = same_node l (subst (λ i. graph_of s i ≡ Some l) e is) in
+          let member : Contains (k ∷ []) j = member_same (k ∷ []) k j (sym e) (member_here k []) in (
+            r.0,
+            subst (λ i. graph_of t i ≡ Some r.0) (sym e) r.1,
+            r.2,
+            λ d m. elim (only d (subst (λ ds. Contains ds d) r.3 m)) [ inl o ↦ inl (subst (λ ds. Contains ds d) (sym r.4) o) | inr same ↦ inr (same, member) ],
+            λ d m. subst (λ ds. Contains ds d) (sym r.3) (more d (elim m [ inl o ↦ inl (subst (λ ds. Contains ds d) r.4 o) | inr same ↦ inr same.0 ])),
+          )
+      | inr differs ↦ (
+        l,
+        ap link_of (others j differs) ∙ is,
+        itself l,
+        λ d m. inl m,
+        λ d m. elim m [ inl o ↦ o | inr same ↦ absurd (differs (sym (member_single k j same.1))) ],
+      )
+    ];
+  }
+
+-- the dependents with one more, and those without one
+pub pushed_only : (ds : List ℕ) (key d : ℕ) → Contains (ds ++ key ∷ []) d → Contains ds d ⊎ (key ≡ d)
+pushed_only ds key d m = Contains-push_cases ds key d m
+
+pub pushed_more : (ds : List ℕ) (key d : ℕ) → Contains ds d ⊎ (key ≡ d) → Contains (ds ++ key ∷ []) d
+pushed_more ds key d m = elim m [ inl o ↦ Contains-append_left ds (key ∷ []) d o | inr e ↦ member_same (ds ++ key ∷ []) key d e (Contains-push ds key) ]
+
+pub there_only : (ds : List ℕ) (key d : ℕ) → Contains ds d → Contains ds d ⊎ (key ≡ d)
+there_only ds key d m = inl m
+
+pub there_more : (ds : List ℕ) (key d i : ℕ) → slice_get ds i ≡ Some key → Contains ds d ⊎ (key ≡ d) → Contains ds d
+there_more ds key d i last m = elim m [ inl o ↦ o | inr e ↦ member_same ds key d e (member_get ds i key last) ]
+
+-- the dependents without one
+pub filtered_fewer : (ds : List ℕ) (key d : ℕ) → Contains (filter (λ e. not (nat_eq e key)) ds) d → Contains ds d × (key ≡ d → ⊥)
+filtered_fewer ds key d m =
+    let r = filter_member (λ e. not (nat_eq e key)) ds d m in
+    (r.0, λ e. false≢true (sym (ap not (eq-eqb d key (sym e))) ∙ r.1))
+
+pub filtered_keep : (ds : List ℕ) (key d : ℕ) → Contains ds d → (key ≡ d → ⊥) → Contains (filter (λ e. not (nat_eq e key)) ds) d
+filtered_keep ds key d m n = member_filter (λ e. not (nat_eq e key)) ds d m (differs (nat_eq d key) refl)
+  where
+    differs : (b : Bool) → nat_eq d key ≡ b → not b ≡ true
+    differs false e = refl
+    differs true e = absurd (n (sym (eqb-true d key e)))
+
+-- two nodes under one key of the same graph
+pub same_said : (s t : Slab Node) (k : ℕ) (n m : Node) → graph_of t ≡ graph_of s → get s k ≡ Some n → get t k ≡ Some m
+    → (m.causes.items ≡ n.causes.items) × (m.dependents.items ≡ n.dependents.items) × (m.place ≡ n.place) × (m.by ≡ n.by) × (m.pair ≡ n.pair)
+same_said s t k n m graph at there =
+    let e : link_of (Some m) ≡ link_of (Some n) = sym (ap link_of there) ∙ ap (λ g. g k) graph ∙ ap link_of at in
+    let f = some_same (said m) (said n) e in
+    (ap (λ (z : Link). z.causes) f, ap (λ (z : Link). z.dependents) f, ap (λ (z : Link). z.place) f, ap (λ (z : Link). z.by) f, ap (λ (z : Link). z.pair) f)
+
+-- the causes of a node whose dependents were forgotten
+pub forgotten_causes : (s t : Slab Node) (Gone : ℕ → ℕ → Type 0) (k : ℕ) (n m : Node) → HasForgotten (graph_of s) (graph_of t) Gone → get s k ≡ Some n → get t k ≡ Some m → m.causes.items ≡ n.causes.items
+forgotten_causes s t Gone k n m forgotten at there =
+    let r = forgotten.some k (said n) (ap link_of at) in
+    let f = link_same (graph_of t) k r.0 (said m) r.1 (ap link_of there) in
+    ap (λ (z : Link). z.causes) (sym f) ∙ r.2.causes
+
+-- one node is gone
+pub taken_out : (s t : Slab Node) (k : ℕ) → Updates s t k None → IsTakenOut (graph_of s) (graph_of t) (marks_of s) (marks_of t) k
+taken_out s t k updates = record {
+  gone = ap link_of updates.changed;
+  cleared = ap has_mark updates.changed;
+  others = λ j differs. ap link_of (updates.others j differs);
+  marks = λ j differs. ap has_mark (updates.others j differs);
+}
+
+pub room_then : (s t u : Slab Node) → KeepsRoom s t → KeepsRoom t u → KeepsRoom s u
+room_then s t u a b = record { len = b.len ∙ a.len; capacity = b.capacity ∙ a.capacity; vacant_key = b.vacant_key ∙ a.vacant_key }
+
+-- after a push the last dependent is the one that was pushed
+pub ready_pushed : (s : Slab Node) (k key : ℕ) (n v : Node) → get s k ≡ Some n → v.dependents.items ≡ n.dependents.items ++ key ∷ [] → (j : ℕ) → IsReadyAt s key j → IsReadyAt (with_value s k v) key j
+ready_pushed s k key n v at pushed j ready m found = elim (cases_eq j k) [
+  | inl e ↦
+      let same : v ≡ m = some_same v m (sym (here s k n v at) ∙ sym (ap (get (with_value s k v)) e) ∙ found) in
+      let long = ap length pushed in
+      let more = length-append n.dependents.items (key ∷ []) in
+      let last : length v.dependents.items - 1 ≡ length n.dependents.items = omega (arith, long, more) in
+      subst (IsReady key) same (inr (ap (λ i. slice_get v.dependents.items i) last ∙ ap (λ ds. slice_get ds (length n.dependents.items)) pushed ∙ place_last n.dependents.items key))
+  | inr differs ↦ ready m (sym (elsewhere s k n v at j differs) ∙ found)
+]

@@ -1,0 +1,35 @@
+use Rattle.std.proofs.Common.{◌≡◌, ◌∙◌, ◌-◌, Some, length, slice_get, Contains, refl, sym, ap, subst}
+use Rattle.slab.specs.Slab.{with_value}
+use Rattle.palm_explain.proofs.Writes.{elsewhere, here, links, pushed_more, pushed_only, ready_pushed, same_marks, there_more, there_only}
+use Rattle.palm_explain.proofs.node.add_dependent.Goals as goal
+
+pub returns-in-Some-clause-linked : goal.returns-in-Some-clause-linked
+returns-in-Some-clause-linked c =
+    let s = c.args.nodes.now in
+    let k = c.args.cause in
+    let n = c.index_mut.result.now in
+    let at = c.index_mut.ensures.value in
+    let last : slice_get n.dependents.items (length n.dependents.items - 1) ≡ Some c.args.key = sym (rw c.deref.ensures.value at c.in-Some.ensures.value) ∙ ap Some c.if-last-key.true in
+    links s (with_value s k n) k n n at (here s k n n at) (elsewhere s k n n at) refl refl refl refl c.args.key
+    (there_only n.dependents.items c.args.key) (λ d m. there_more n.dependents.items c.args.key d (length n.dependents.items - 1) last m)
+
+pub returns-in_default-clause-linked : goal.returns-in_default-clause-linked
+returns-in_default-clause-linked c =
+    let s = c.args.nodes.now in
+    let k = c.args.cause in
+    let n = c.index_mut.result.now in
+    let at = c.index_mut.ensures.value in
+    links s (with_value s k (record n { dependents = c.push_reserved.new.self })) k n (record n { dependents = c.push_reserved.new.self }) at
+    (here s k n (record n { dependents = c.push_reserved.new.self }) at) (elsewhere s k n (record n { dependents = c.push_reserved.new.self }) at) refl refl refl refl c.args.key
+    (λ d m. pushed_only n.dependents.items c.args.key d (subst (λ ds. Contains ds d) c.push_reserved.ensures.items m))
+    (λ d m. subst (λ ds. Contains ds d) (sym c.push_reserved.ensures.items) (pushed_more n.dependents.items c.args.key d m))
+
+pub returns-in_default-clause-marks : goal.returns-in_default-clause-marks
+returns-in_default-clause-marks c =
+    let n = c.index_mut.result.now in
+    same_marks c.args.nodes.now c.args.cause n (record n { dependents = c.push_reserved.new.self }) c.index_mut.ensures.value refl
+
+pub returns-in_default-clause-ready : goal.returns-in_default-clause-ready
+returns-in_default-clause-ready c =
+    let n = c.index_mut.result.now in
+    ready_pushed c.args.nodes.now c.args.cause c.args.key n (record n { dependents = c.push_reserved.new.self }) c.index_mut.ensures.value c.push_reserved.ensures.items

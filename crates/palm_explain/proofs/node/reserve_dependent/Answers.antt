@@ -1,0 +1,24 @@
+use Rattle.std.proofs.Common.{Some, refl, ap}
+use Rattle.palm_explain.specs.Graph.{said}
+use Rattle.palm_explain.proofs.Writes.{same_graph, same_marks}
+use Rattle.palm_explain.proofs.node.reserve_dependent.Goals as goal
+
+pub returns-in_err-reserve-clause-graph : goal.returns-in_err-reserve-clause-graph
+returns-in_err-reserve-clause-graph c =
+    let n = c.index_mut.result.now in
+    same_graph c.args.nodes.now c.args.cause n (record n { dependents = c.reserve.new.self }) c.index_mut.ensures.value (ap (λ ds. Some (record (said n) { dependents = ds })) c.reserve.ensures.items)
+
+pub returns-in_err-reserve-clause-marks : goal.returns-in_err-reserve-clause-marks
+returns-in_err-reserve-clause-marks c =
+    let n = c.index_mut.result.now in
+    same_marks c.args.nodes.now c.args.cause n (record n { dependents = c.reserve.new.self }) c.index_mut.ensures.value refl
+
+pub returns-clause-graph : goal.returns-clause-graph
+returns-clause-graph c =
+    let n = c.index_mut.result.now in
+    same_graph c.args.nodes.now c.args.cause n (record n { dependents = c.reserve.new.self }) c.index_mut.ensures.value (ap (λ ds. Some (record (said n) { dependents = ds })) c.reserve.ensures.items)
+
+pub returns-clause-marks : goal.returns-clause-marks
+returns-clause-marks c =
+    let n = c.index_mut.result.now in
+    same_marks c.args.nodes.now c.args.cause n (record n { dependents = c.reserve.new.self }) c.index_mut.ensures.value refl

@@ -1,0 +1,95 @@
+//! The nodes of the graph: what is kept of each removal.
+ghost use Rattle.std.specs.Prelude.{◌≡◌, ◌≢◌, ℕ, false, [], ◌∷◌, OnOk};
+ghost use Rattle.slab.specs.Slab.{get};
+ghost use Rattle.palm_model.specs.Log.{same_cid};
+ghost use Rattle.palm_explain.specs.Graph.{HasForgotten, HasLinked, IsKey, IsMoved, IsReadyAt, KeepsRoom, graph_of, marks_of};
+
+use palm_base::{Cid, NoMemory, Pair};
+use slab::Slab;
+use std::alloc::AllocError;
+
+/// A removal: its pair, the constraint that made it, and how it stands in the graph.
+#[derive(Debug, Drop)]
+pub(crate) struct Node {
+    pub(crate) pair: Pair,
+    pub(crate) by: Cid,
+    /// The keys of the reasons' removals, in the order of the reasons.
+    pub(crate) causes: Vec<usize>,
+    /// The keys of the removals that have this one among their causes.
+    pub(crate) dependents: Vec<usize>,
+    /// The place in the log.
+    pub(crate) place: usize,
+    /// Stands while a walk is on its way. No mark stands between calls.
+    pub(crate) mark: bool,
+}
+
+/// The nodes under their keys.
+pub(crate) type Nodes = Slab<Node>;
+
+/// Whether the constraint made the removal.
+pub(crate) fn is_by(node: &Node, cid: &Cid) -> bool
+    ensures { result ≡ same_cid node.now.by cid.now }
+{
+    node.by == *cid
+}
+
+/// Sets the mark of a removal, or clears it.
+pub(crate) fn set_mark(nodes: &mut Nodes, key: usize, mark: bool)
+    requires { IsKey (graph_of nodes.old) key }
+    ensures graph { graph_of nodes.new ≡ graph_of nodes.old }
+    ensures marked { marks_of nodes.new key ≡ mark }
+    ensures others { (k : ℕ) → k ≢ key → marks_of nodes.new k ≡ marks_of nodes.old k }
+{
+    nodes[key].mark = mark;
+}
+
+/// Moves a removal to another place of the log.
+pub(crate) fn set_place(nodes: &mut Nodes, key: usize, place: usize)
+    requires { IsKey (graph_of nodes.old) key }
+    ensures moved { IsMoved (graph_of nodes.old) (graph_of nodes.new) key place }
+    ensures marks { marks_of nodes.new ≡ marks_of nodes.old }
+{
+    nodes[key].place = place;
+}
+
+/// Makes room for one more dependent of a removal.
+pub(crate) fn reserve_dependent(nodes: &mut Nodes, cause: usize, key: usize) -> Result<(), NoMemory>
+    requires { IsKey (graph_of nodes.old) cause }
+    ensures graph { graph_of nodes.new ≡ graph_of nodes.old }
+    ensures marks { marks_of nodes.new ≡ marks_of nodes.old }
+    ensures ready { OnOk result (IsReadyAt nodes.new key cause) }
+    ensures others { (k : ℕ) → k ≢ cause → get nodes.new k ≡ get nodes.old k }
+    ensures room { KeepsRoom nodes.old nodes.new }
+{
+    nodes[cause].dependents.reserve(1)?;
+    Ok(())
+}
+
+/// Adds a dependent of a removal behind the others, unless it is the last.
+pub(crate) fn add_dependent(nodes: &mut Nodes, cause: usize, key: usize)
+    requires key { IsKey (graph_of nodes.old) cause }
+    requires ready { IsReadyAt nodes.old key cause }
+    ensures linked { HasLinked (graph_of nodes.old) (graph_of nodes.new) (cause ∷ []) key }
+    ensures marks { marks_of nodes.new ≡ marks_of nodes.old }
+    ensures ready { (k : ℕ) → IsReadyAt nodes.old key k → IsReadyAt nodes.new key k }
+    ensures room { KeepsRoom nodes.old nodes.new }
+{
+    let dependents = &mut nodes[cause].dependents;
+    match dependents.last() {
+        Some(last) if *last == key => {}
+        _ => dependents.push_reserved(key),
+    }
+}
+
+/// Takes a dependent of a removal out, unless the removal is marked.
+pub(crate) fn forget_dependent(nodes: &mut Nodes, cause: usize, key: usize)
+    requires { IsKey (graph_of nodes.old) cause }
+    ensures forgotten { HasForgotten (graph_of nodes.old) (graph_of nodes.new)
+        (λ k d. (cause ≡ k) × (key ≡ d) × (marks_of nodes.old k ≡ false)) }
+    ensures marks { marks_of nodes.new ≡ marks_of nodes.old }
+{
+    let node = &mut nodes[cause];
+    if !node.mark {
+        node.dependents.retain(|dependent| *dependent != key);
+    }
+}

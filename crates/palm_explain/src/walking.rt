@@ -1,0 +1,161 @@
+//! Walks from removals to all that they rest on. A reason is removed before what it is a reason for, so a walk goes down the
+//! log, and needs no list of its own.
+ghost use Rattle.std.specs.Prelude.{◌≡◌, ◌≢◌, ℕ, ℤ, ◌<◌, true, false, [], ◌∷◌, length, Contains, IfOk, OnOk};
+ghost use Rattle.palm_base.specs.Tells.{Tells};
+ghost use Rattle.palm_base.specs.declared.terms.Cid.{Cid as CidTerm};
+ghost use Rattle.palm_model.specs.Log.{IsListOf, Rises, log_pairs};
+ghost use Rattle.palm_explain.specs.Explanations.{IsLinked, NamesOfSome};
+ghost use Rattle.palm_explain.specs.Graph.{AreFound, HasMarked, HasNoMark, HasPassed, IsBy, IsCause, IsGraph, IsKey, IsValueKey, NamesAt, graph_of, is_due, log_of, marks_of, pair_at};
+ghost use Rattle.palm_explain.specs.Merging.{IsMerged};
+ghost use Rattle.palm_explain.specs.Rows.{AreFormedRows};
+
+use crate::names::add_name;
+use crate::node::{Nodes, is_by, set_mark};
+use crate::rows::{Row, key_near};
+use palm_base::{Cid, NoMemory, Pair, Value, Var};
+use std::alloc::{AllocError, Global};
+
+/// Marks the causes of a removal.
+fn mark_causes(nodes: &mut Nodes, key: usize)
+    requires keys { (c : ℕ) → IsCause (graph_of nodes.old) c key → IsKey (graph_of nodes.old) c }
+    requires key { IsKey (graph_of nodes.old) key }
+    ensures graph { graph_of nodes.new ≡ graph_of nodes.old }
+    ensures marked { HasMarked (marks_of nodes.old) (marks_of nodes.new) (λ c. IsCause (graph_of nodes.old) c key) }
+{
+    for index in 0..nodes[key].causes.len() {
+        let cause = nodes[key].causes[index];
+        set_mark(nodes, cause, true);
+    }
+}
+
+/// Where the removal has a mark, hands it on to its causes, and answers whether the constraint made the removal.
+fn pass_mark(nodes: &mut Nodes, key: usize, cid: &Cid) -> bool
+    requires key { IsKey (graph_of nodes.old) key }
+    requires keys { (c : ℕ) → IsCause (graph_of nodes.old) c key → IsKey (graph_of nodes.old) c }
+    requires before { (c : ℕ) → IsCause (graph_of nodes.old) c key → c ≢ key }
+    ensures graph { graph_of nodes.new ≡ graph_of nodes.old }
+    ensures passed { marks_of nodes.old key ≡ true → HasPassed (graph_of nodes.old) (marks_of nodes.old) (marks_of nodes.new) key }
+    ensures tells { marks_of nodes.old key ≡ true → Tells result (IsBy (graph_of nodes.old) cid.now key) }
+    ensures stays { marks_of nodes.old key ≡ false → (marks_of nodes.new ≡ marks_of nodes.old) × (result ≡ false) }
+{
+    if !nodes[key].mark {
+        return false;
+    }
+    set_mark(nodes, key, false);
+    mark_causes(nodes, key);
+    is_by(&nodes[key], cid)
+}
+
+/// Whether the removal rests on the constraint.
+pub(crate) fn rests_on(nodes: &mut Nodes, log: &[usize], key: usize, cid: &Cid) -> bool
+    requires linked { IsLinked (log_of (graph_of nodes.old) log.now) }
+    requires graph { IsGraph (graph_of nodes.old) log.now }
+    requires unmarked { HasNoMark nodes.old }
+    requires key { IsKey (graph_of nodes.old) key }
+    ensures graph { graph_of nodes.new ≡ graph_of nodes.old }
+    ensures unmarked { HasNoMark nodes.new }
+    ensures tells { Tells result (NamesAt (graph_of nodes.old) log.now cid.now key) }
+{
+    let mut place = nodes[key].place;
+    set_mark(nodes, key, true);
+    let mut rests = pass_mark(nodes, key, cid);
+    while place > 0 {
+        place -= 1;
+        if pass_mark(nodes, log[place], cid) {
+            rests = true;
+        }
+    }
+    rests
+}
+
+/// Notes that a removal is to be visited, or that it is not.
+fn set_due(due: &mut Vec<bool>, key: usize, is: bool)
+    requires { key < length due.old.items }
+    ensures long { length due.new.items ≡ length due.old.items }
+    ensures set { is_due due.new.items key ≡ is }
+    ensures others { (k : ℕ) → k ≢ key → is_due due.new.items k ≡ is_due due.old.items k }
+{
+    due[key] = is;
+}
+
+/// Notes the removals of these values.
+fn note_values(nodes: &Nodes, rows: &[Row], var: Var, values: &[Value], due: &mut Vec<bool>)
+    requires formed { AreFormedRows rows.now }
+    requires found { AreFound rows.now (graph_of nodes.now) }
+    requires removed { (v : ℤ) → Contains values.now v → (k : ℕ) × IsKey (graph_of nodes.now) k × (pair_at (graph_of nodes.now) k ≡ record { var = var; value = v }) }
+    requires long { (k : ℕ) → IsKey (graph_of nodes.now) k → k < length due.old.items }
+    ensures long { length due.new.items ≡ length due.old.items }
+    ensures noted { HasMarked (is_due due.old.items) (is_due due.new.items) (IsValueKey (graph_of nodes.now) var values.now) }
+{
+    let mut near = 0;
+    for value in values {
+        let pair = Pair { var, value: *value };
+        let key = key_near(rows, &pair, &mut near).unwrap();
+        set_due(due, key, true);
+    }
+}
+
+/// Notes the causes of a removal.
+fn note_causes(nodes: &Nodes, key: usize, due: &mut Vec<bool>)
+    requires key { IsKey (graph_of nodes.now) key }
+    requires long { (c : ℕ) → IsCause (graph_of nodes.now) c key → c < length due.old.items }
+    ensures long { length due.new.items ≡ length due.old.items }
+    ensures noted { HasMarked (is_due due.old.items) (is_due due.new.items) (λ c. IsCause (graph_of nodes.now) c key) }
+{
+    let causes = nodes[key].causes.as_slice();
+    for cause in causes {
+        set_due(due, *cause, true);
+    }
+}
+
+/// Where the removal is noted, notes its causes in its place, and adds the name of its constraint.
+fn visit(
+    nodes: &Nodes,
+    key: usize,
+    due: &mut Vec<bool>,
+    names: &mut Vec<Cid>,
+) -> Result<(), NoMemory>
+    requires key { IsKey (graph_of nodes.now) key }
+    requires long { (k : ℕ) → IsKey (graph_of nodes.now) k → k < length due.old.items }
+    requires keys { (c : ℕ) → IsCause (graph_of nodes.now) c key → IsKey (graph_of nodes.now) c }
+    requires before { (c : ℕ) → IsCause (graph_of nodes.now) c key → c ≢ key }
+    requires names { Rises names.old.items }
+    ensures long { length due.new.items ≡ length due.old.items }
+    ensures passed { is_due due.old.items key ≡ true → HasPassed (graph_of nodes.now) (is_due due.old.items) (is_due due.new.items) key }
+    ensures named { is_due due.old.items key ≡ true → OnOk result ((by : CidTerm) → IsBy (graph_of nodes.now) by key → IsMerged names.old.items (by ∷ []) names.new.items) }
+    ensures stays { is_due due.old.items key ≡ false → (due.new.items ≡ due.old.items) × (names.new.items ≡ names.old.items) }
+{
+    if !due[key] {
+        return Ok(());
+    }
+    set_due(due, key, false);
+    note_causes(nodes, key, due);
+    add_name(names, &nodes[key].by)
+}
+
+/// The names of all constraints on which the removals of these values rest, by rising name.
+pub(crate) fn names_of(
+    alloc: Global,
+    nodes: &Nodes,
+    log: &[usize],
+    rows: &[Row],
+    var: Var,
+    values: &[Value],
+) -> Result<Vec<Cid>, NoMemory>
+    requires linked { IsLinked (log_of (graph_of nodes.now) log.now) }
+    requires graph { IsGraph (graph_of nodes.now) log.now }
+    requires formed { AreFormedRows rows.now }
+    requires found { AreFound rows.now (graph_of nodes.now) }
+    requires removed { (v : ℤ) → Contains values.now v → Contains (log_pairs (log_of (graph_of nodes.now) log.now)) (record { var = var; value = v }) }
+    ensures { IfOk result (λ names. IsListOf (NamesOfSome (log_of (graph_of nodes.now) log.now) var values.now) names.items) }
+{
+    let mut due = vec![in alloc; false; nodes.capacity()]?;
+    let mut names = Vec::new(alloc);
+    note_values(nodes, rows, var, values, &mut due);
+    let mut place = log.len();
+    while place > 0 {
+        place -= 1;
+        visit(nodes, log[place], &mut due, &mut names)?;
+    }
+    Ok(names)
+}

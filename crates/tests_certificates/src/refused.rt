@@ -1,0 +1,103 @@
+//! Forged certificates: one certificate with a line changed, left out or put in.
+use crate::told::are_told;
+use std::test::Fail;
+
+#[test]
+fn forged_certificates_are_refused(rt: HostRuntime) -> Result<(), Fail> {
+    let rows: [(&[u8], &str); 12] = [
+        (
+            b"palm-cert 9\nvar x 1..3\nvar y 1..3\nadd a : x = y\nadd d : y != 2\nstep y 2 by d\nstep x 2 by a from 1\n\
+             claim x 2\nend\n",
+            "refused 1 C1",
+        ),
+        (
+            b"palm-cert 1\nvar x 1..3\nvar y 1..3\nadd a : x = x\nadd d : y != 2\nstep y 2 by d\nstep x 2 by a from 1\n\
+             claim x 2\nend\n",
+            "refused 4 C1",
+        ),
+        (
+            b"palm-cert 1\nvar x 1..3\nvar y 1..3\nadd a : x = q\nadd d : y != 2\nstep y 2 by d\nstep x 2 by a from 1\n\
+             claim x 2\nend\n",
+            "refused 4 C2",
+        ),
+        (
+            b"palm-cert 1\nvar x 1..3\nvar y 1..3\nadd a : x = y\nadd a : y != 2\nstep y 2 by d\nstep x 2 by a from 1\n\
+             claim x 2\nend\n",
+            "refused 5 C2",
+        ),
+        (
+            b"palm-cert 1\nvar x 1..3\nvar y 1..3\nadd a : x = y\nadd d : y != 2\nstep y 2 by a\nstep x 2 by a from 1\n\
+             claim x 2\nend\n",
+            "refused 6 C4",
+        ),
+        (
+            b"palm-cert 1\nvar x 1..3\nvar y 1..3\nadd a : x = y\nadd d : y != 2\nstep y 2 by d\nstep x 2 by a\n\
+             claim x 2\nend\n",
+            "refused 7 C4",
+        ),
+        (
+            b"palm-cert 1\nvar x 1..3\nvar y 1..3\nadd a : x = y\nadd d : y != 2\nstep y 2 by d\nstep x 2 by a from 2\n\
+             claim x 2\nend\n",
+            "refused 7 C3",
+        ),
+        (
+            b"palm-cert 1\nvar x 1..3\nvar y 1..3\nadd a : x = y\nadd d : y != 2\nstep y 2 by d\nstep x 2 by a from 0\n\
+             claim x 2\nend\n",
+            "refused 7 C1",
+        ),
+        (
+            b"palm-cert 1\nvar x 1..3\nvar y 1..3\nadd a : x = y\nadd d : y != 2\nstep y 2 by d\nstep x 2 by",
+            "refused 7 C1",
+        ),
+        (
+            b"palm-cert 1\nvar x 1..3\nvar y 1..3\nadd a : x = y\nadd d : y != 2\nstep y 2 by d\nstep x 2 by a from 1\n\
+             claim conflict y\nend\n",
+            "refused 8 C5",
+        ),
+        (
+            b"palm-cert 1\nvar x 1..3\nvar y 1..3\nadd a : x = y\nadd d : y != 2\nstep y 2 by d\nstep x 2 by a from 1\n\
+             claim x 2\n",
+            "refused 9 C5",
+        ),
+        (
+            b"palm-cert 1\nvar x 1..3\nvar y 1..3\nadd a : x = y\nadd d : y != 2\nstep y 2 by d\nstep x 2 by a from 1\n\
+             claim x 2\nend\nstep y 2 by d\n",
+            "refused 10 C1",
+        ),
+    ];
+    assert!(rt; are_told(rt.alloc(), &rows)?);
+    Ok(())
+}
+
+#[test]
+fn lines_have_their_places_and_their_causes_an_order(rt: HostRuntime) -> Result<(), Fail> {
+    let rows: [(&[u8], &str); 10] = [
+        (b"palm-cert 01\n", "refused 1 C1"),
+        (b"var x 1..3\n", "refused 1 C1"),
+        (b"palm-cert 1\npalm-cert 1\n", "refused 2 C1"),
+        (
+            b"palm-cert 1\nvar x 1..3\nadd c : x != 2\nvar x 1..3\n",
+            "refused 4 C1",
+        ),
+        (
+            b"palm-cert 1\nvar x 1..3\nadd c : x != 2\nstep x 2 by c\nadd d : x != 3\n",
+            "refused 5 C1",
+        ),
+        (b"palm-cert 1\nvar x 1..3\nvar x 1..257\n", "refused 3 C2"),
+        (
+            b"palm-cert 1\nvar x 1..3\nadd c : x != 2\nstep x 2 by c from 4294967296\n",
+            "refused 4 C1",
+        ),
+        (
+            b"palm-cert 1\nvar x 1..3\nadd c : x != 2\nstep x 2 by c from\n",
+            "refused 4 C1",
+        ),
+        (
+            b"palm-cert 1\nvar x 1..3\nadd c : x != 2\nstep x 3 by c from 1\n",
+            "refused 4 C3",
+        ),
+        (b"palm-cert 1\nclaim x 2\nend\n", "refused 2 C2"),
+    ];
+    assert!(rt; are_told(rt.alloc(), &rows)?);
+    Ok(())
+}
