@@ -1,10 +1,11 @@
 -- Support and reasons of comparisons, by what they ask of the other variable.
-use Rattle.std.proofs.Common.{◌≡◌, ℕ, ℤ, ◌+ℤ◌, ◌-ℤ◌, pos, ◌≤ℤ◌, Bool, true, false, cond, ◌<◌, List, [], ◌∷◌, length, filter, Contains, eqb, eq-eqb, ne_eqb, ◌⊎◌, inl, inr, refl, sym, ap, ◌∙◌, subst, arith}
+use Rattle.std.proofs.Common.{◌≡◌, ℕ, ℤ, ◌+ℤ◌, ◌-ℤ◌, ◌-◌, pos, ◌<ℤ◌, ◌≤ℤ◌, Bool, true, false, cond, ◌<◌, List, [], ◌∷◌, length, get_or, filter, Contains, eqb, eq-eqb, ne_eqb, ◌⊎◌, inl, inr, refl, sym, ap, ◌∙◌, subst, arith}
 use Rattle.std.proofs.lemmas.Int.{ints}
-use Rattle.std.proofs.lemmas.List.Elements.{All-contains}
-use Rattle.palm_base.proofs.Members.{member_here, member_there, member_cases, member_single, member_same, filter_agree_members, nat_known}
+use Rattle.std.proofs.lemmas.List.Elements.{All-contains, All-nil}
+use Rattle.palm_base.proofs.Members.{member_here, member_there, member_cases, member_single, member_same, member_filter, filter_member, filter_agree_members, nat_known}
 use Rattle.palm_base.specs.declared.terms.Pair.{Pair}
-use Rattle.palm_domain.specs.Rows.{IsLeastOf, IsGreatestOf}
+use Rattle.palm_domain.specs.Rows.{Ascends, IsLeastOf, IsGreatestOf}
+use Rattle.palm_domain.proofs.Ascending.{get_or-rises}
 use Rattle.palm_model.specs.Domains.{Domains, Has, values_of}
 use Rattle.palm_model.specs.Relation.{Stands, is_standing}
 use Rattle.palm_model.specs.Constraint.{scope, Distinct, IsWellFormed}
@@ -17,6 +18,7 @@ use Rattle.palm_model.specs.declared.constraint.Op.{Op}
 use Rattle.palm_model.specs.declared.constraint.Op.TheVariants.{Eq, Ne, Lt, Le, Gt, Ge}
 use Rattle.palm_model.specs.declared.part.Part.{Part}
 use Rattle.palm_model.specs.declared.part.Part.TheVariants.{CompareVar as CompareVarPart, CompareConst as CompareConstPart}
+use Rattle.palm_model.proofs.Ascending.{ascends_filter, ascending_same}
 use Rattle.palm_model.proofs.Standing.{stands_from_test, test_from_stands}
 use Rattle.palm_model.proofs.Supports.{supported_by_part, lacking_by_part, two, two_first, two_second, support_by_two, support_by_one}
 use Rattle.palm_model.proofs.Trials.{put, put_same}
@@ -85,6 +87,39 @@ unmet_above vs d greatest is high n met = elim is [
   | inl e ↦ subst (λ o. (Stands o greatest d.bound → ⊥) → Stands o met.value d.bound → ⊥) (sym e) (λ n h. n (omega (arith, ints, h, high.greatest met.value met.member))) n met.stands
   | inr e ↦ subst (λ o. (Stands o greatest d.bound → ⊥) → Stands o met.value d.bound → ⊥) (sym e) (λ n h. n (omega (arith, ints, h, high.greatest met.value met.member))) n met.stands
 ]
+
+-- ---- the values that are equal to the bound
+
+no_members : (vs : List ℤ) → ((v : ℤ) → Contains vs v → ⊥) → vs ≡ []
+no_members [] none = refl
+no_members (v ∷ vs) none = absurd (none v (member_here v vs))
+
+meets_bound : (vs : List ℤ) (d : Demand) (w : ℤ) → d.op ≡ Eq → Contains (meeting_values vs d) w → Contains vs w × (d.bound ≡ w)
+meets_bound vs d w is m =
+    let r = filter_member (λ u. is_standing d.op u d.bound) vs w m in
+    let e : w ≡ d.bound = subst (λ o. Stands o w d.bound) is (stands_from_test d.op w d.bound r.1) in
+    (r.0, sym e)
+
+pub bound_alone : (vs : List ℤ) (d : Demand) → d.op ≡ Eq → Ascends vs → Contains vs d.bound → meeting_values vs d ≡ d.bound ∷ []
+bound_alone vs d is up there =
+    ascending_same (meeting_values vs d) (d.bound ∷ []) (ascends_filter (λ w. is_standing d.op w d.bound) vs up) (All-nil (λ w. d.bound <ℤ w), tt)
+    (λ w m. member_same (d.bound ∷ []) d.bound w (meets_bound vs d w is m).1 (member_here d.bound []))
+    (λ w m. member_same (meeting_values vs d) d.bound w (member_single d.bound w m)
+    (member_filter (λ u. is_standing d.op u d.bound) vs d.bound there (test_from_stands d.op d.bound d.bound (subst (λ o. Stands o d.bound d.bound) (sym is) refl))))
+
+pub bound_missing : (vs : List ℤ) (d : Demand) → d.op ≡ Eq → (Contains vs d.bound → ⊥) → meeting_values vs d ≡ []
+bound_missing vs d is missing = no_members (meeting_values vs d) (λ w m. let r = meets_bound vs d w is m in missing (member_same vs w d.bound (sym r.1) r.0))
+
+-- a number that is not from the first to the last value is none of them
+pub bound_outside : (vs : List ℤ) (d : Demand) (read : List ℤ) → read ≡ vs → (first last : ℤ) → d.op ≡ Eq → Ascends read → 0 < length read → first ≡ get_or read 0 first → last ≡ get_or read (length read - 1) last
+    → ((first ≤ℤ d.bound) × (d.bound ≤ℤ last) → ⊥) → meeting_values vs d ≡ []
+bound_outside vs d read same first last is up some at_first at_last outside = bound_missing vs d is (λ m.
+    let k = subst (λ ws. Contains ws d.bound) (sym same) m in
+    let lt : k.0 < length read = k.1 in
+    let here : get_or read k.0 d.bound ≡ d.bound = k.2 in
+    let low = get_or-rises read up 0 k.0 first d.bound (omega arith) lt in
+    let high = get_or-rises read up k.0 (length read - 1) d.bound last (omega (arith, lt)) (omega (arith, lt)) in
+    outside (omega (arith, ints, low, at_first, here), omega (arith, ints, high, at_last, here)))
 
 -- ---- what is asked of the other variable
 

@@ -84,6 +84,33 @@ impl Demand {
         })
     }
 
+    /// The pair of the variable with the bound.
+    fn bound_pair(&self) -> Pair
+        requires { FitsSigned w32 self.now.bound }
+        ensures { result ≡ record { var = self.now.var; value = self.now.bound } }
+    {
+        Pair {
+            var: self.var,
+            value: Value(self.bound as i32),
+        }
+    }
+
+    /// Appends the pair of the variable with the bound, where that is declared: no other value is equal to it.
+    fn push_bound(&self, store: &DomainStore, out: &mut Reasons) -> Result<(), NoMemory>
+        requires declared { self.now.var < length store.now }
+        requires equal { self.now.op ≡ Op.Eq }
+        ensures { OnOk result (out.new.items ≡ out.old.items ++ pairs_of self.now.var (meeting_values (values_of (initial_of store.now) self.now.var) self.now)) }
+    {
+        let values = store.initial_values(self.var);
+        if !self.is_between(&values[0], &values[values.len() - 1]) {
+            return Ok(());
+        }
+        if store.declared(self.bound_pair()) {
+            out.push(self.bound_pair())?;
+        }
+        Ok(())
+    }
+
     /// Appends every declared pair of the variable that meets the demand.
     pub(crate) fn push_declared(
         &self,
@@ -93,6 +120,9 @@ impl Demand {
         requires { self.now.var < length store.now }
         ensures { OnOk result (out.new.items ≡ out.old.items ++ pairs_of self.now.var (meeting_values (values_of (initial_of store.now) self.now.var) self.now)) }
     {
+        if matches!(self.op, Op::Eq) {
+            return self.push_bound(store, out);
+        }
         push_passing(
             store.initial_values(self.var),
             self.var,

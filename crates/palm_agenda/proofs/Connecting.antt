@@ -3,14 +3,15 @@ use Rattle.std.proofs.Common.{◌≡◌, ℕ, ◌<◌, Bool, true, not, List, []
 use Rattle.std.proofs.lemmas.Bool.{cases_Bool}
 use Rattle.std.proofs.lemmas.List.{get_or-map, length-map, map-append}
 use Rattle.std.proofs.lemmas.List.Elements.{Contains-append_left, Contains-append_right, Contains-append_cases}
+use Rattle.std.proofs.lemmas.Option.{slice_get-get_or}
 use Rattle.palm_base.specs.declared.terms.Cid.{Cid}
 use Rattle.palm_base.proofs.Members.{member_here, member_there, member_cases, member_same, member_filter, filter_member, member_map, member_unmap, member_single}
-use Rattle.palm_model.specs.Log.{Rises, cid_before, is_named}
+use Rattle.palm_model.specs.Log.{Rises, cid_before, same_cid, is_named}
 use Rattle.palm_model.specs.State.{without_cid}
-use Rattle.palm_events.proofs.Names.{cid_order, member_not_named, not_named_member}
+use Rattle.palm_events.proofs.Names.{cid_order, cid_same, member_not_named, not_named_member}
 use Rattle.palm_agenda.specs.Names.{IsPartedAt, with_name}
 use Rattle.palm_agenda.specs.Agenda.{Connected, HasPlace, IsConnected, IsOver, names_of, with_connected, without_connected}
-use Rattle.palm_agenda.proofs.Sorted.{IsSortedKeys, filter_passes, filter_fails, inserted, listed_at}
+use Rattle.palm_agenda.proofs.Sorted.{IsSortedKeys, filter_passes, filter_fails, inserted, listed_at, parted_where}
 use Rattle.palm_agenda.proofs.NameLists.{rising, rises_at, removed_by_name}
 
 abbrev pub cid_of : Connected → Cid
@@ -25,6 +26,12 @@ sorted_connected connected rises = record {
       subst (λ a. cid_before a (get_or connected j d).cid ≡ true) (get_or-map cid_of connected i d d.cid li)
       (subst (λ b. cid_before (get_or (names_of connected) i d.cid) b ≡ true) (get_or-map cid_of connected j d d.cid within) h);
 }
+
+-- where a constraint under the name stands, the names are parted
+pub counted_there : (connected : List Connected) → Rises (names_of connected) → (cid name : Cid) (same : Bool) (place : ℕ) (d : Connected) → place < length connected → d ≡ get_or connected place d → name ≡ d.cid
+    → same ≡ same_cid name cid → same ≡ true → IsPartedAt (λ e. cid_before e.cid cid) connected place
+counted_there connected rises cid name same place d within item is told passed =
+    parted_where cid_of cid_before rising connected (sorted_connected connected rises) cid place d (slice_get-get_or connected place d within ∙ ap Some (sym item)) (sym is ∙ cid_same name cid (sym told ∙ passed))
 
 -- ---- names
 

@@ -4,7 +4,7 @@ use Rattle.std.specs.List.{AllWithin}
 use Rattle.std.specs.List.Sorted.{IsPartitionedBy}
 use Rattle.std.proofs.lemmas.Bool.{cases_lt, cases_Bool, false≢true}
 use Rattle.std.proofs.lemmas.List.Elements.{Contains-get_or}
-use Rattle.std.proofs.lemmas.Option.{slice_get-get_or}
+use Rattle.std.proofs.lemmas.Option.{slice_get-get_or, slice_get_within, get_or_from_slice_get}
 use Rattle.palm_base.specs.declared.terms.Cid.{Cid}
 use Rattle.palm_agenda.specs.Names.{IsPartedAt}
 
@@ -95,6 +95,28 @@ module _ {X : Type 0} (key : X → Cid) (before : Cid → Cid → Bool) (strict 
     where
       below : (i j : ℕ) → j ≤ i → (i ≡ j → ⊥) → j < i
       below i j ge ne = elim (cases_lt j i) [ inl l ↦ l | inr le ↦ absurd (ne (omega arith)) ]
+
+  -- where one with the name stands, those before it come before the name, and the others do not
+  pub parted_where : (cid : Cid) (place : ℕ) (x : X) → slice_get xs place ≡ Some x → key x ≡ cid → IsPartedAt (λ y. before (key y) cid) xs place
+  parted_where cid place x at named =
+      let within = slice_get_within xs place x at in
+      let is : (d : X) → key (get_or xs place d) ≡ cid = λ d. ap key (get_or_from_slice_get xs place x d at) ∙ named in
+      record {
+        within = omega (arith, within);
+        before = λ k d ge lt. subst (λ c. before (key (get_or xs k d)) c ≡ true) (is d) (sorted.at k place d lt within);
+        after = λ k d ge lt. elim (cases_lt place k) [
+          | inl l ↦ not_back before strict cid (key (get_or xs k d)) (subst (λ c. before c (key (get_or xs k d)) ≡ true) (is d) (sorted.at place k d l lt))
+          | inr le ↦
+              let e : k ≡ place = omega arith in
+              not_itself_at k d (ap (λ j. key (get_or xs j d)) e ∙ is d)
+        ];
+      }
+    where
+      not_itself_at : (k : ℕ) (d : X) → key (get_or xs k d) ≡ cid → before (key (get_or xs k d)) cid ≡ false
+      not_itself_at k d e = elim (cases_Bool (before (key (get_or xs k d)) cid)) [
+        | inl t ↦ absurd (strict.itself cid (subst (λ c. before c cid ≡ true) e t))
+        | inr f ↦ f
+      ]
 
   module _ (cid : Cid) (place : ℕ) (at : IsPartedAt (λ x. before (key x) cid) xs place) where
     -- whoever has the name stands at the place

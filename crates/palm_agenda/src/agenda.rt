@@ -9,7 +9,7 @@ ghost use Rattle.palm_agenda.specs.Names.{FitsBoth, IsPartedAt};
 ghost use Rattle.palm_agenda.specs.Places.{mark_places};
 
 use crate::connection::{Connection, Places};
-use crate::names::{Names, copy_of, is_before};
+use crate::names::{Names, copy_of, is_before, is_same, likely_place};
 use crate::order::Order;
 use crate::over::{insert_over, make_room, names_over, remove_over};
 use palm_base::{Cid, NoMemory, Var};
@@ -38,12 +38,29 @@ impl Model for Agenda {
     ghost invariant = { λ a. IsKept a.connections.items a.over.items a.pending (vec_capacity a.shown) };
 }
 
+/// The place of the constraint under the name, where the numbers of users leave none out from it to the last one.
+fn counted_place(connections: &[Connection], cid: &Cid) -> Option<usize>
+    requires { Rises (names_of connections.now) }
+    ensures { IfSome result (IsPartedAt (λ d. cid_before d.cid cid.now) connections.now) }
+{
+    let last = connections.last()?;
+    let place = likely_place(connections.len(), last.cid(), cid)?;
+    if is_same(connections[place].cid(), cid) {
+        Some(place)
+    } else {
+        None
+    }
+}
+
 /// How many of the connected constraints have names that come before this one.
 fn place_of(connections: &[Connection], cid: &Cid) -> usize
     requires { Rises (names_of connections.now) }
     ensures { IsPartedAt (λ d. cid_before d.cid cid.now) connections.now result }
 {
-    connections.partition_point(|connection| is_before(connection.cid(), cid))
+    match counted_place(connections, cid) {
+        Some(place) => place,
+        None => connections.partition_point(|connection| is_before(connection.cid(), cid)),
+    }
 }
 
 /// Marks these places of the constraint, as seen from the variable.

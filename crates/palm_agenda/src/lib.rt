@@ -11,4 +11,5 @@ mod over;
 mod tests;
 
 pub use agenda::Agenda;
+pub use names::likely_place;
 pub use order::{LastOrder, Order, RotateOrder};

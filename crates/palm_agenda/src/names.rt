@@ -1,5 +1,5 @@
 //! Names of constraints in their order.
-ghost use Rattle.std.specs.Prelude.{◌≡◌, ◌+◌, ◌<◌, ◌≤◌, [], length, reverse, MatchOption, Some, OnOk, slice_get, vec_capacity};
+ghost use Rattle.std.specs.Prelude.{◌≡◌, ◌+◌, ◌<◌, ◌≤◌, [], length, reverse, IfSome, MatchOption, Some, OnOk, slice_get, vec_capacity};
 ghost use Rattle.std.specs.List.{insert};
 ghost use Rattle.palm_base.specs.Tells.{Tells};
 ghost use Rattle.palm_model.specs.Log.{Rises, cid_before, same_cid};
@@ -10,15 +10,32 @@ use palm_base::{Cid, NoMemory, Pair};
 use std::alloc::Global;
 use std::marker::Model;
 
-/// Whether the first name comes before the second.
+/// Whether the first name comes before the second. Most names are of users.
 pub(crate) fn is_before(first: &Cid, second: &Cid) -> bool
     ensures { result ≡ cid_before first.now second.now }
 {
-    first < second
+    match (first, second) {
+        (Cid::User(first), Cid::User(second)) => first < second,
+        _ => first < second,
+    }
+}
+
+/// Where a name may stand in a rising list of so many names that ends with `last`: its place, where the numbers of
+/// users leave none out from it to the last one.
+pub fn likely_place(count: usize, last: &Cid, cid: &Cid) -> Option<usize>
+    ensures { IfSome result (λ place. place < count) }
+{
+    match (last, cid) {
+        (Cid::User(last), Cid::User(number)) => {
+            let behind = last.checked_sub(*number)? as usize;
+            count.checked_sub(behind + 1)
+        }
+        _ => None,
+    }
 }
 
 /// Whether the two names are one.
-fn is_same(first: &Cid, second: &Cid) -> bool
+pub(crate) fn is_same(first: &Cid, second: &Cid) -> bool
     ensures { result ≡ same_cid first.now second.now }
 {
     first == second

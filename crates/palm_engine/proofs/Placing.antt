@@ -19,7 +19,7 @@ use Rattle.palm_events.proofs.Names.{before_then, cid_same, not_before_itself, m
 use Rattle.palm_events.proofs.States.{without_names_rises}
 use Rattle.palm_agenda.specs.Names.{IsPartedAt}
 use Rattle.palm_agenda.proofs.NameLists.{rising}
-use Rattle.palm_agenda.proofs.Sorted.{IsSortedKeys, parted, listed_at, apart, filter_removes, inserted}
+use Rattle.palm_agenda.proofs.Sorted.{IsSortedKeys, parted, listed_at, apart, filter_removes, inserted, parted_where}
 use Rattle.palm_engine.specs.declared.posted.Posted.{Posted}
 use Rattle.palm_engine.specs.declared.posted.Posted.TheVariants.{Decision, Negation, User as UserPosted}
 use Rattle.palm_engine.specs.Posted.{active_of, actives_of, is_decision, is_negation, negated}
@@ -53,6 +53,12 @@ sorted active xs rises = record { at = sorted_at active xs rises }
 
 pub parted_names : {X : Type 0} (active : X → Active) (xs : List X) (cid : Cid) → Rises (cids_of (map active xs)) → IsPartitionedBy (λ x. cid_before (active x).cid cid) xs
 parted_names active xs cid rises = parted (λ x. (active x).cid) cid_before rising xs (sorted active xs rises) cid
+
+-- where a constraint under the name stands, the names are parted
+pub counted_there : {X : Type 0} (active : X → Active) (xs : List X) → Rises (cids_of (map active xs)) → (cid name : Cid) (same : Bool) (place : ℕ) (x : X) → place < length xs → x ≡ get_or xs place x → name ≡ (active x).cid
+    → same ≡ same_cid name cid → same ≡ true → IsPartedAt (λ y. cid_before (active y).cid cid) xs place
+counted_there active xs rises cid name same place x within item is told passed =
+    parted_where (λ y. (active y).cid) cid_before rising xs (sorted active xs rises) cid place x (slice_get-get_or xs place x within ∙ ap Some (sym item)) (sym is ∙ cid_same name cid (sym told ∙ passed))
 
 -- the constraint under the name stands behind those that come before
 pub owner_placed : {X : Type 0} (active : X → Active) (xs : List X) (cid : Cid) (place : ℕ) → Rises (cids_of (map active xs)) → IsPartedAt (λ x. cid_before (active x).cid cid) xs place

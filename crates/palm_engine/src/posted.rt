@@ -1,5 +1,5 @@
 //! The active constraints of an engine.
-ghost use Rattle.std.specs.Prelude.{◌≡◌, ℕ, ◌+◌, ◌-◌, ◌≤◌, [], true, false, min, length, Contains, Some, OnErr, OnOk, slice_get};
+ghost use Rattle.std.specs.Prelude.{◌≡◌, ℕ, ◌+◌, ◌-◌, ◌≤◌, [], true, false, min, length, Contains, Some, IfSome, OnErr, OnOk, slice_get};
 ghost use Rattle.palm_base.specs.declared.limits.TheConstants.{LAST_COUNT};
 ghost use Rattle.palm_domain.specs.Rows.{initial_of, present_of};
 ghost use Rattle.palm_model.specs.Constraint.{scope, IsWellFormed};
@@ -10,6 +10,7 @@ ghost use Rattle.palm_model.specs.Support.{IsSupported, LacksSupport};
 ghost use Rattle.palm_agenda.specs.Names.{IsPartedAt};
 ghost use Rattle.palm_engine.specs.Posted.{IsInForm, active_of, actives_of, is_decision, is_negation, negated};
 
+use palm_agenda::likely_place;
 use palm_base::{Cid, CidList, NoMemory, Pair, Steps, Var};
 use palm_domain::DomainStore;
 use palm_filter::{Filter, Reasons, ask};
@@ -159,6 +160,20 @@ impl<F: Filter> Posted<F> {
     }
 }
 
+/// The place of the constraint under the name, where the numbers of users leave none out from it to the last one.
+fn counted_place<F: Filter>(posted: &[Posted<F>], cid: &Cid) -> Option<usize>
+    requires { Rises (cids_of (actives_of F.meaning posted.now)) }
+    ensures { IfSome result (IsPartedAt (λ p. cid_before (active_of F.meaning p).cid cid.now) posted.now) }
+{
+    let last = posted.last()?;
+    let place = likely_place(posted.len(), &last.cid(), cid)?;
+    if is_same(&posted[place].cid(), cid) {
+        Some(place)
+    } else {
+        None
+    }
+}
+
 /// How many of the constraints have names that come before this one. The one under the name stands behind these.
 pub(crate) fn place_of<F: Filter>(posted: &[Posted<F>], cid: &Cid) -> usize
     requires { Rises (cids_of (actives_of F.meaning posted.now)) }
@@ -166,7 +181,10 @@ pub(crate) fn place_of<F: Filter>(posted: &[Posted<F>], cid: &Cid) -> usize
     ensures owner { (a : Active) → Contains (actives_of F.meaning posted.now) a → a.cid ≡ cid.now
         → slice_get (actives_of F.meaning posted.now) result ≡ Some a }
 {
-    posted.partition_point(|constraint| is_before(&constraint.cid(), cid))
+    match counted_place(posted, cid) {
+        Some(place) => place,
+        None => posted.partition_point(|constraint| is_before(&constraint.cid(), cid)),
+    }
 }
 
 /// How many of the constraints are decisions. The others stand behind these.

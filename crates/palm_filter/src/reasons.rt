@@ -21,9 +21,10 @@ pub fn push_passing<F: Fn(&Value) -> bool>(
         → ((v : ℤ) (passed : Bool) → FnReturnsAt F.Fn passes v passed → passed ≡ test v)
         → OnOk result (out.new.items ≡ out.old.items ++ pairs_of var (filter test values.now)) }
 {
+    out.reserve(values.len())?;
     for value in values {
         if passes(value) {
-            out.push(Pair { var, value: *value })?;
+            out.push_reserved(Pair { var, value: *value });
         }
     }
     Ok(())
