@@ -1,0 +1,157 @@
+-- Marks that are set one by one: of removals and of constraints.
+use Rattle.std.proofs.Common.{◌≡◌, ◌≢◌, ℕ, ℤ, zero, suc, ◌+◌, ◌<◌, cond, take, drop, get_or, Option, None, All, Bool, true, false, ◌||◌, Some, List, [], ◌∷◌, ◌++◌, map, length, replicate, Contains, inl, inr, refl, sym, ap, ◌∙◌, subst, arith, nat_eq}
+use Rattle.std.specs.Prelude.{IfSome, slice_get, slice_set}
+use Rattle.std.proofs.lemmas.List.{map-append, take_more}
+use Rattle.std.proofs.lemmas.List.Elements.{All-contains}
+use Rattle.std.proofs.Math.Bool.{or-true}
+use Rattle.std.proofs.lemmas.Bool.{cases_lt, eq-eqb, ne_eqb, or_from, or_left, false_from_ne_true}
+use Rattle.std.proofs.lemmas.List.Folds.{list_any-append}
+use Rattle.std.proofs.lemmas.Option.{none-some, same_Some, slice_get_within, get_or_from_slice_get}
+use Rattle.palm_base.specs.declared.terms.Pair.{Pair}
+use Rattle.palm_base.specs.declared.terms.Cid.{Cid}
+use Rattle.palm_base.specs.declared.terms.Cid.TheVariants.{User}
+use Rattle.palm_base.proofs.Members.{map_agree, member_single, member_get, member_here}
+use Rattle.palm_book.specs.Book.{Contents, IsBook}
+use Rattle.palm_book.specs.declared.book.BookCon.{BookCon}
+use Rattle.palm_model.specs.Log.{Removal, log_pairs, same_cid}
+use Rattle.palm_explain.specs.Explanations.{IsLinked}
+use Rattle.palm_cert.specs.Certificate.{asked, is_asked, is_cited, pairs_with}
+use Rattle.palm_cert.specs.Needs.{cites_of, marks_of}
+use Rattle.palm_cert.proofs.Links.{asked_member, linked_apart, member_asked, pair_logged, same_place}
+use Rattle.palm_cert.proofs.Numbers.{pair_at}
+
+-- ---- one mark more
+
+module _ {X : Type 0} (f h : X → Bool) where
+  -- where none passes the second test
+  pub or_none : (xs : List X) → ((j : ℕ) (y : X) → slice_get xs j ≡ Some y → h y ≡ false) → map f xs ≡ map (λ y. f y || h y) xs
+  or_none [] none = refl
+  or_none (x ∷ xs) none = rw (← or_none xs (λ j y at. none (suc j) y at)) (ap (λ b. b ∷ map f xs) (or_last (f x) (h x) (none 0 x refl)))
+    where
+      or_last : (b c : Bool) → c ≡ false → b ≡ (b || c)
+      or_last true c e = refl
+      or_last false c e = sym e
+
+  -- where the one at the place alone passes it
+  pub or_one : (xs : List X) (k : ℕ) (x : X) → slice_get xs k ≡ Some x → h x ≡ true → ((j : ℕ) (y : X) → slice_get xs j ≡ Some y → (j ≡ k → ⊥) → h y ≡ false)
+      → slice_set (map f xs) k true ≡ map (λ y. f y || h y) xs
+  or_one [] k x at here others = absurd (none-some x at)
+  or_one (y ∷ xs) zero x at here others =
+      let e : (f y || h y) ≡ true = ap (λ b. f y || b) (ap h (same_Some y x at) ∙ here) ∙ or-true (f y) in
+      rw (e, ← or_none xs (λ j z is. others (suc j) z is (λ n. absurd (omega (arith, n))))) refl
+  or_one (y ∷ xs) (suc k) x at here others =
+      let none : h y ≡ false = others 0 y refl (λ n. absurd (omega (arith, n))) in
+      let e = or_one xs k x at here (λ j z is n. others (suc j) z is (λ m. n (omega (arith, m)))) in
+      rw (e, ← or_last (f y) (h y) none) refl
+    where
+      or_last : (b c : Bool) → c ≡ false → b ≡ (b || c)
+      or_last true c e = refl
+      or_last false c e = sym e
+
+-- ---- of removals
+
+pub unmarked_pairs : (log : List Removal) → replicate (length log) false ≡ marks_of log []
+unmarked_pairs [] = refl
+unmarked_pairs (r ∷ log) = ap (λ ms. false ∷ ms) (unmarked_pairs log)
+
+marks_more : (log : List Removal) (pairs : List Pair) (p : Pair) → map (λ (r : Removal). is_asked pairs r.pair || is_asked (p ∷ []) r.pair) log ≡ marks_of log (pairs ++ p ∷ [])
+marks_more log pairs p = map_agree _ _ log (λ r m. sym (list_any-append _ pairs (p ∷ [])))
+
+-- a pair without a removal marks none
+pub marks_none : (log : List Removal) (pairs : List Pair) (p : Pair) → (Contains (log_pairs log) p → ⊥) → marks_of log pairs ≡ marks_of log (pairs ++ p ∷ [])
+marks_none log pairs p none =
+    or_none (λ (r : Removal). is_asked pairs r.pair) (λ (r : Removal). is_asked (p ∷ []) r.pair) log
+    (λ j r at. false_from_ne_true (is_asked (p ∷ []) r.pair) (λ t. none (subst (λ (q : Pair). Contains (log_pairs log) q) (sym (member_single p r.pair (asked_member (p ∷ []) r.pair t))) (pair_logged log r (member_get log j r at)))))
+    ∙ marks_more log pairs p
+
+-- a pair marks the removal at its place
+pub marks_one : (log : List Removal) (pairs : List Pair) (p : Pair) (place : ℕ) (r : Removal) → IsLinked log → slice_get log place ≡ Some r → r.pair ≡ p → slice_set (marks_of log pairs) place true ≡ marks_of log (pairs ++ p ∷ [])
+marks_one log pairs p place r linked at is =
+    or_one (λ (s : Removal). is_asked pairs s.pair) (λ (s : Removal). is_asked (p ∷ []) s.pair) log place r at
+    (subst (λ (q : Pair). is_asked (p ∷ []) q ≡ true) (sym is) (member_asked (p ∷ []) p (member_here p [])))
+    (λ j s there other. false_from_ne_true (is_asked (p ∷ []) s.pair) (λ t.
+    other (same_place (log_pairs log) (linked_apart log linked) j place p
+    (pair_at log j s there ∙ ap Some (sym (member_single p s.pair (asked_member (p ∷ []) s.pair t)))) (pair_at log place r at ∙ ap Some is))))
+    ∙ marks_more log pairs p
+
+removal_at : (log : List Removal) (place : ℕ) (p : Pair) → slice_get (log_pairs log) place ≡ Some p → (r : Removal) × (slice_get log place ≡ Some r) × (r.pair ≡ p)
+removal_at [] place p at = absurd (none-some p at)
+removal_at (r ∷ log) zero p at = (r, refl, same_Some r.pair p at)
+removal_at (r ∷ log) (suc place) p at = removal_at log place p at
+
+pub marks_found : (log : List Removal) (pairs : List Pair) (p : Pair) (place : ℕ) → IsLinked log → slice_get (log_pairs log) place ≡ Some p → slice_set (marks_of log pairs) place true ≡ marks_of log (pairs ++ p ∷ [])
+marks_found log pairs p place linked at = let r = removal_at log place p at in marks_one log pairs p place r.0 linked r.1 r.2
+
+-- the values of a variable, with one more
+pub values_more : (x : ℕ) (values : List ℤ) (i : ℕ) (v d : ℤ) → i < length values → v ≡ get_or values i d → pairs_with x (take i values) ++ record { var = x; value = v } ∷ [] ≡ pairs_with x (take (i + 1) values)
+values_more x values i v d lt is =
+    let pair = λ (w : ℤ). let p : Pair = record { var = x; value = w } in p in
+    sym (map-append pair (take i values) (v ∷ [])) ∙ ap (λ (ws : List ℤ). pairs_with x ws) (ap (λ (w : ℤ). take i values ++ w ∷ []) is ∙ sym (take_more values i d lt))
+
+drop_at : (log : List Removal) (place : ℕ) (r : Removal) → slice_get log place ≡ Some r → drop place log ≡ r ∷ drop (suc place) log
+drop_at [] place r at = absurd (none-some r at)
+drop_at (s ∷ log) zero r at = ap (λ (z : Removal). z ∷ log) (same_Some s r at)
+drop_at (s ∷ log) (suc place) r at = drop_at log place r at
+
+-- what one removal more asks for
+pub asked_more : (log : List Removal) (pairs : List Pair) (place : ℕ) (r : Removal) → slice_get log place ≡ Some r
+    → cond (is_asked (asked (drop (suc place) log) pairs) r.pair) (asked (drop (suc place) log) pairs ++ r.reasons) (asked (drop (suc place) log) pairs) ≡ asked (drop place log) pairs
+asked_more log pairs place r at = ap (λ (rs : List Removal). asked rs pairs) (sym (drop_at log place r at))
+
+-- ---- of constraints
+
+pub uncited : (cs : List BookCon) → replicate (length cs) false ≡ map (is_cited []) cs
+uncited [] = refl
+uncited (c ∷ cs) = ap (λ ms. false ∷ ms) (uncited cs)
+
+cites_more : (book : Contents) (rs : List Removal) (r : Removal) → map (λ (c : BookCon). is_cited rs c || is_cited (r ∷ []) c) book.constraints ≡ cites_of book (rs ++ r ∷ [])
+cites_more book rs r = map_agree _ _ book.constraints (λ c m. sym (list_any-append _ rs (r ∷ [])))
+
+by_number : (r : Removal) (n : ℕ) (c : BookCon) → r.by ≡ User n → is_cited (r ∷ []) c ≡ (nat_eq n c.number || false)
+by_number r n c e = ap (λ (b : Cid). same_cid b (User c.number) || false) e
+
+pub cites_none : (book : Contents) (rs : List Removal) (r : Removal) (n : ℕ) → r.by ≡ User n → ((j : ℕ) (c : BookCon) → slice_get book.constraints j ≡ Some c → c.number ≡ n → ⊥) → cites_of book rs ≡ cites_of book (rs ++ r ∷ [])
+cites_none book rs r n e none =
+    or_none (is_cited rs) (is_cited (r ∷ [])) book.constraints
+    (λ j c at. by_number r n c e ∙ or_from (nat_eq n c.number) false (ne_eqb n c.number (λ s. none j c at (sym s))) refl)
+    ∙ cites_more book rs r
+
+pub cites_missing : (book : Contents) (rs : List Removal) (r : Removal) (n : ℕ) → r.by ≡ User n → All (λ c. c.number ≢ n) book.constraints → cites_of book rs ≡ cites_of book (rs ++ r ∷ [])
+cites_missing book rs r n e none = cites_none book rs r n e (λ j c at is. All-contains (λ (d : BookCon). d.number ≢ n) book.constraints c none (member_get book.constraints j c at) is)
+
+same_number : (book : Contents) → IsBook book → (j k : ℕ) (c d : BookCon) → slice_get book.constraints j ≡ Some c → slice_get book.constraints k ≡ Some d → c.number ≡ d.number → j ≡ k
+same_number book is j k c d at there e = elim (cases_lt j k) [
+  | inl lt ↦ absurd (omega (arith, e, number_below j k c d at there lt))
+  | inr le ↦ elim (cases_lt k j) [
+    | inl lt ↦ absurd (omega (arith, e, number_below k j d c there at lt))
+    | inr ge ↦ omega (arith, le, ge)
+  ]
+]
+  where
+    number_below : (i l : ℕ) (a b : BookCon) → slice_get book.constraints i ≡ Some a → slice_get book.constraints l ≡ Some b → i < l → a.number < b.number
+    number_below i l a b x y lt =
+        let below = is.rising i l a lt (slice_get_within book.constraints l b y) in
+        let first = ap (λ (z : BookCon). z.number) (get_or_from_slice_get book.constraints i a a x) in
+        let second = ap (λ (z : BookCon). z.number) (get_or_from_slice_get book.constraints l b a y) in
+        omega (arith, below, first, second)
+
+pub cites_one : (book : Contents) → IsBook book → (rs : List Removal) (r : Removal) (n place : ℕ) (c : BookCon) → r.by ≡ User n → slice_get book.constraints place ≡ Some c → c.number ≡ n → slice_set (cites_of book rs) place true ≡ cites_of book (rs ++ r ∷ [])
+cites_one book is rs r n place c e at number =
+    or_one (is_cited rs) (is_cited (r ∷ [])) book.constraints place c at
+    (by_number r n c e ∙ or_left (nat_eq n c.number) false (eq-eqb n c.number (sym number)))
+    (λ j d there other. by_number r n d e ∙ or_from (nat_eq n d.number) false (ne_eqb n d.number (λ s. other (same_number book is j place d c there at (sym s ∙ sym number)))) refl)
+    ∙ cites_more book rs r
+
+some_number : (o : Option BookCon) (c : BookCon) (n : ℕ) → o ≡ Some c → IfSome o (λ d. d.number ≡ n) → c.number ≡ n
+some_number None c n e h = absurd (none-some c e)
+some_number (Some d) c n e h = ap (λ (z : BookCon). z.number) (sym (same_Some d c e)) ∙ h
+
+some_entry : (cs : List BookCon) (place : ℕ) → place < length cs → (c : BookCon) × (slice_get cs place ≡ Some c)
+some_entry [] place lt = absurd (omega (arith, lt))
+some_entry (c ∷ cs) zero lt = (c, refl)
+some_entry (c ∷ cs) (suc place) lt = some_entry cs place (omega (arith, lt))
+
+pub cites_found : (book : Contents) → IsBook book → (rs : List Removal) (r : Removal) (n place : ℕ) → r.by ≡ User n → IfSome (slice_get book.constraints place) (λ c. c.number ≡ n) × (place < length book.constraints) → slice_set (cites_of book rs) place true ≡ cites_of book (rs ++ r ∷ [])
+cites_found book is rs r n place e found =
+    let c = some_entry book.constraints place found.1 in
+    cites_one book is rs r n place c.0 e c.1 (some_number (slice_get book.constraints place) c.0 n c.1 found.0)

@@ -1,0 +1,15 @@
+pub mod Cites
+pub mod Counting
+pub mod Cutting
+pub mod Earlier
+pub mod Links
+pub mod Logged
+pub mod Made
+pub mod Marked
+pub mod Moving
+pub mod Needed
+pub mod Numbers
+pub mod Reached
+pub mod Saying
+pub mod Uses
+pub mod Writes

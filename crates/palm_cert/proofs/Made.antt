@@ -1,0 +1,55 @@
+-- What was found that a claim needs is what its certificate says.
+use Rattle.std.specs.Prelude.{OnOk}
+use Rattle.std.proofs.Common.{◌≡◌, ℕ, Result, Ok, Err, Bool, List, ◌++◌, length, flat_map, Contains, sym, ap, append_assoc, ◌∙◌, subst}
+use Rattle.std.proofs.lemmas.List.{length-map}
+use Rattle.palm_book.specs.Book.{Contents}
+use Rattle.palm_book.specs.declared.book.BookCon.{BookCon}
+use Rattle.palm_claim.specs.declared.verdict.Claim.{Claim}
+use Rattle.palm_explain.specs.Explanations.{IsLinked}
+use Rattle.palm_lang.specs.Reply.{fixed_text}
+use Rattle.palm_lang.specs.declared.reply.Fixed.TheVariants.{End}
+use Rattle.palm_model.specs.Log.{Removal, log_pairs}
+use Rattle.palm_cert.specs.Certificate.{asked, certificate_text, cited, claim_line, claim_var, claimed, declarations, is_asked, is_cited, step_line, steps_of}
+use Rattle.palm_cert.specs.Needs.{AreNeeds, AreSteps, marked}
+use Rattle.palm_cert.specs.declared.needs.Needs.{Needs}
+use Rattle.palm_cert.proofs.Links.{reasons_steps}
+use Rattle.palm_cert.proofs.Marked.{marked_passed}
+
+module _ (book : Contents) (log : List Removal) (claim : Claim) (needs : Needs) (are : AreNeeds book log claim needs) where
+  steps_found : marked needs.steps.items log ≡ steps_of log (claimed book claim)
+  steps_found = ap (λ (ms : List Bool). marked ms log) are.steps ∙ marked_passed (λ (r : Removal). is_asked (asked log (claimed book claim)) r.pair) log
+
+  cited_found : marked needs.cited.items book.constraints ≡ cited (steps_of log (claimed book claim)) book
+  cited_found =
+      ap (λ (ms : List Bool). marked ms book.constraints) are.cited ∙ marked_passed (is_cited (marked needs.steps.items log)) book.constraints
+      ∙ ap (λ (steps : List Removal). cited steps book) steps_found
+
+  pub steps_made : IsLinked log → AreSteps log needs
+  steps_made linked = record {
+    linked = linked;
+    marks = ap (λ (ms : List Bool). length ms) are.steps ∙ length-map log _;
+    numbers = are.numbers;
+    reasons = λ r p m k.
+        subst (λ (steps : List Removal). Contains (log_pairs steps) p) (sym steps_found)
+        (reasons_steps log (claimed book claim) linked r p (subst (λ (steps : List Removal). Contains steps r) steps_found m) k);
+  }
+
+  -- the parts of the text
+  pub text_made : (cites : List Bool) (x : ℕ) → cites ≡ needs.cited.items → x ≡ claim_var claim
+      → declarations book (marked cites book.constraints) x ++ (flat_map (step_line book (marked needs.steps.items log)) (marked needs.steps.items log) ++ claim_line book.variables claim ++ fixed_text End)
+      ≡ certificate_text book log claim
+  text_made cites x same named =
+      let lines = λ (steps : List Removal). flat_map (step_line book steps) steps ++ claim_line book.variables claim ++ fixed_text End in
+      ap (λ (ms : List Bool). declarations book (marked ms book.constraints) x ++ lines (marked needs.steps.items log)) same
+      ∙ ap (λ (cs : List BookCon). declarations book cs x ++ lines (marked needs.steps.items log)) cited_found
+      ∙ ap (λ (y : ℕ). declarations book (cited (steps_of log (claimed book claim)) book) y ++ lines (marked needs.steps.items log)) named
+      ∙ ap (λ (steps : List Removal). declarations book (cited (steps_of log (claimed book claim)) book) (claim_var claim) ++ lines steps) steps_found
+
+-- what holds at a good answer, and then more
+pub ok_then : {T E A : Type 0} (r : Result T E) (x y z : A) → OnOk r (x ≡ y) → y ≡ z → OnOk r (x ≡ z)
+ok_then (Ok t) x y z e f = e ∙ f
+ok_then (Err error) x y z e f = tt
+
+-- four texts, one after another
+pub in_turn : (first second third last : List ℕ) → first ++ (second ++ third ++ last) ≡ first ++ second ++ (third ++ last)
+in_turn first second third last = ap (λ (t : List ℕ). first ++ t) (append_assoc second third last) ∙ sym (append_assoc first second (third ++ last))

@@ -1,0 +1,137 @@
+-- Constraints with other numbers for their variables: what lacks support in one lacks it in the other.
+use Rattle.std.proofs.Common.{◌≡◌, ℕ, suc, ℤ, pos, ◌+ℤ◌, ◌*ℤ◌, Bool, true, false, cond, List, [], ◌∷◌, ◌++◌, length, map, filter, Contains, refl, sym, ap, ◌∙◌, subst, int_eq}
+use Rattle.std.proofs.lemmas.List.{map-append}
+use Rattle.palm_base.proofs.Members.{member_map}
+use Rattle.palm_model.specs.Constraint.{scope}
+use Rattle.palm_model.specs.Count.{count_among, target_of, target_scope}
+use Rattle.palm_model.specs.Differ.{differ_parts}
+use Rattle.palm_model.specs.Domains.{Domains, Assignment, Has}
+use Rattle.palm_model.specs.Linear.{linear_parts, term_vars, total}
+use Rattle.palm_model.specs.Part.{Holds, parts, scope_of}
+use Rattle.palm_model.specs.Relation.{Stands}
+use Rattle.palm_model.specs.Support.{LacksSupport}
+use Rattle.palm_model.specs.declared.constraint.Con.{Con}
+use Rattle.palm_model.specs.declared.constraint.Con.TheVariants.{CompareVar, CompareConst, Linear, Table, Element, Count, Differ}
+use Rattle.palm_model.specs.declared.constraint.Op.{Op}
+use Rattle.palm_model.specs.declared.constraint.Op.TheVariants.{Eq, Ne, Lt, Le, Gt, Ge}
+use Rattle.palm_model.specs.declared.constraint.Target.{Target}
+use Rattle.palm_model.specs.declared.constraint.Target.TheVariants.{Const, Variable}
+use Rattle.palm_model.specs.declared.constraint.Term.{Term}
+use Rattle.palm_model.specs.declared.part.Part.{Part}
+use Rattle.palm_model.specs.declared.part.Part.TheVariants.{CompareVar as CompareVarPart, CompareConst as CompareConstPart, Linear as LinearPart, Table as TablePart, Element as ElementPart, Count as CountPart, Differ as DifferPart}
+use Rattle.palm_cert.specs.Moved.{moved, moved_target, moved_term}
+use Rattle.palm_model.proofs.Formed.{part_scope}
+
+map_twice : {X Y Z : Type 0} (f : X → Y) (g : Y → Z) (xs : List X) → map g (map f xs) ≡ map (λ x. g (f x)) xs
+map_twice f g [] = refl
+map_twice f g (x ∷ xs) = ap (λ zs. g (f x) ∷ zs) (map_twice f g xs)
+
+-- the variables' other numbers
+module _ (other : ℕ → ℕ) where
+  abbrev pub moved_part : Part → Part
+  moved_part (CompareVarPart left op right offset) = CompareVarPart (other left) op (other right) offset
+  moved_part (CompareConstPart var op value) = CompareConstPart (other var) op value
+  moved_part (LinearPart terms op bound) = LinearPart (map (moved_term other) terms) op bound
+  moved_part (TablePart vars rows) = TablePart (map other vars) rows
+  moved_part (ElementPart outcome index entries) = ElementPart (other outcome) (other index) entries
+  moved_part (CountPart value vars op target) = CountPart value (map other vars) op (moved_target other target)
+  moved_part (DifferPart first second) = DifferPart (other first) (other second)
+
+  -- ---- parts and scopes
+
+  linear_moved : (terms : List Term) (op : Op) (bound : ℤ) → linear_parts (map (moved_term other) terms) op bound ≡ map moved_part (linear_parts terms op bound)
+  linear_moved terms Eq bound = refl
+  linear_moved terms Ne bound = refl
+  linear_moved terms Lt bound = refl
+  linear_moved terms Le bound = refl
+  linear_moved terms Gt bound = refl
+  linear_moved terms Ge bound = refl
+
+  differ_moved : (vars : List ℕ) → differ_parts (map other vars) ≡ map moved_part (differ_parts vars)
+  differ_moved [] = refl
+  differ_moved (x ∷ xs) =
+      ap (λ (ps : List Part). ps ++ differ_parts (map other xs)) (map_twice other (DifferPart (other x)) xs ∙ sym (map_twice (DifferPart x) moved_part xs))
+      ∙ ap (λ (ps : List Part). map moved_part (map (DifferPart x) xs) ++ ps) (differ_moved xs)
+      ∙ sym (map-append moved_part (map (DifferPart x) xs) (differ_parts xs))
+
+  parts_moved : (c : Con) → parts (moved other c) ≡ map moved_part (parts c)
+  parts_moved (CompareVar left op right offset) = refl
+  parts_moved (CompareConst left op value) = refl
+  parts_moved (Linear terms op bound) = linear_moved terms op bound
+  parts_moved (Table vars rows) = refl
+  parts_moved (Element outcome index entries) = refl
+  parts_moved (Count value vars op target) = refl
+  parts_moved (Differ vars) = differ_moved vars
+
+  terms_moved : (terms : List Term) → term_vars (map (moved_term other) terms) ≡ map other (term_vars terms)
+  terms_moved terms = map_twice (moved_term other) (λ (t : Term). t.var) terms ∙ sym (map_twice (λ (t : Term). t.var) other terms)
+
+  target_moved : (target : Target) → target_scope (moved_target other target) ≡ map other (target_scope target)
+  target_moved (Const w) = refl
+  target_moved (Variable x) = refl
+
+  count_moved : (vars : List ℕ) (target : Target) → map other vars ++ target_scope (moved_target other target) ≡ map other (vars ++ target_scope target)
+  count_moved vars target = ap (λ (xs : List ℕ). map other vars ++ xs) (target_moved target) ∙ sym (map-append other vars (target_scope target))
+
+  part_scope_moved : (p : Part) → scope_of (moved_part p) ≡ map other (scope_of p)
+  part_scope_moved (CompareVarPart left op right offset) = refl
+  part_scope_moved (CompareConstPart var op value) = refl
+  part_scope_moved (LinearPart terms op bound) = terms_moved terms
+  part_scope_moved (TablePart vars rows) = refl
+  part_scope_moved (ElementPart outcome index entries) = refl
+  part_scope_moved (CountPart value vars op target) = count_moved vars target
+  part_scope_moved (DifferPart first second) = refl
+
+  pub scope_moved : (c : Con) → scope (moved other c) ≡ map other (scope c)
+  scope_moved (CompareVar left op right offset) = refl
+  scope_moved (CompareConst left op value) = refl
+  scope_moved (Linear terms op bound) = terms_moved terms
+  scope_moved (Table vars rows) = refl
+  scope_moved (Element outcome index entries) = refl
+  scope_moved (Count value vars op target) = count_moved vars target
+  scope_moved (Differ vars) = refl
+
+  -- ---- what holds
+
+  total_moved : (a : Assignment) (terms : List Term) → total a (map (moved_term other) terms) ≡ total (λ y. a (other y)) terms
+  total_moved a [] = refl
+  total_moved a (t ∷ terms) = ap (λ (s : ℤ). (t.factor *ℤ a (other t.var)) +ℤ s) (total_moved a terms)
+
+  count_one : (a : Assignment) (v : ℤ) (b : Bool) (x : ℕ) (xs : List ℕ) → length (filter (λ y. int_eq (a y) v) (map other xs)) ≡ length (filter (λ y. int_eq (a (other y)) v) xs)
+      → length (cond b (other x ∷ filter (λ y. int_eq (a y) v) (map other xs)) (filter (λ y. int_eq (a y) v) (map other xs))) ≡ length (cond b (x ∷ filter (λ y. int_eq (a (other y)) v) xs) (filter (λ y. int_eq (a (other y)) v) xs))
+  count_one a v true x xs e = ap suc e
+  count_one a v false x xs e = e
+
+  counted_moved : (a : Assignment) (v : ℤ) (vars : List ℕ) → count_among a v (map other vars) ≡ count_among (λ y. a (other y)) v vars
+  counted_moved a v [] = refl
+  counted_moved a v (x ∷ xs) = count_one a v (int_eq (a (other x)) v) x xs (counted_moved a v xs)
+
+  target_same : (a : Assignment) (target : Target) → target_of a (moved_target other target) ≡ target_of (λ y. a (other y)) target
+  target_same a (Const w) = refl
+  target_same a (Variable x) = refl
+
+  holds_moved : (p : Part) (a : Assignment) → Holds (moved_part p) a → Holds p (λ y. a (other y))
+  holds_moved (CompareVarPart left op right offset) a h = h
+  holds_moved (CompareConstPart var op value) a h = h
+  holds_moved (LinearPart terms op bound) a h = subst (λ (z : ℤ). Stands op z bound) (total_moved a terms) h
+  holds_moved (TablePart vars rows) a h = subst (λ (row : List ℤ). Contains rows row) (map_twice other a vars) h
+  holds_moved (ElementPart outcome index entries) a h = h
+  holds_moved (CountPart value vars op target) a h =
+      subst (λ (z : ℤ). Stands op (pos (count_among (λ y. a (other y)) value vars)) z) (target_same a target)
+      (subst (λ (n : ℕ). Stands op (pos n) (target_of a (moved_target other target))) (counted_moved a value vars) h)
+  holds_moved (DifferPart first second) a h = h
+
+  -- what lacks support lacks it under the other numbers too, within domains that have no more of the scope's values
+  pub lacks_moved : (d e : Domains) (c : Con) (x : ℕ) (v : ℤ) → ((y : ℕ) (w : ℤ) → Contains (scope c) y → Has e (other y) w → Has d y w) → LacksSupport d c x v → LacksSupport e (moved other c) (other x) v
+  lacks_moved d e c x v back l = record {
+    part = moved_part l.part;
+    is_part = subst (λ (ps : List Part). Contains ps (moved_part l.part)) (sym (parts_moved c)) (member_map moved_part (parts c) l.part l.is_part);
+    over = subst (λ (xs : List ℕ). Contains xs (other x)) (sym (part_scope_moved l.part)) (member_map other (scope_of l.part) x l.over);
+    lacks = λ s. l.lacks (record {
+      assignment = λ y. s.assignment (other y);
+      within = λ y m. back y (s.assignment (other y)) (part_scope c l.part y l.is_part m)
+          (s.within (other y) (subst (λ (xs : List ℕ). Contains xs (other y)) (sym (part_scope_moved l.part)) (member_map other (scope_of l.part) y m)));
+      gives = s.gives;
+      holds = holds_moved l.part s.assignment s.holds;
+    });
+  }

@@ -1,0 +1,93 @@
+use Rattle.std.proofs.Common.{◌++◌, ◌∙◌, List, All, flat_map, sym, ap, subst, append_assoc}
+use Rattle.std.proofs.lemmas.Result.{err_from_is_err_and}
+use Rattle.palm_lang.specs.Reply.{fixed_text}
+use Rattle.palm_lang.specs.declared.reply.Fixed.TheVariants.{End}
+use Rattle.palm_model.specs.Log.{Removal}
+use Rattle.palm_cert.specs.Certificate.{certificate_text, claim_line, declarations, step_line}
+use Rattle.palm_cert.specs.Needs.{IsOfBook, marked}
+use Rattle.palm_cert.proofs.Logged.{claim_declared, log_of_book}
+use Rattle.palm_cert.proofs.Made.{in_turn, steps_made, text_made}
+use Rattle.palm_cert.proofs.Writes.{writes_front, writes_text, writes_then, writes_within}
+use Rattle.palm_cert.proofs.certificate.write_cert.Goals as goal
+
+pub needs_of-requires-clause-logged : goal.needs_of-requires-clause-logged
+needs_of-requires-clause-logged g c =
+    subst (λ (log : List Removal). All (IsOfBook c.args.book.now) log) (sym c.log-log.ensures)
+    (log_of_book c.args.engine.now.state c.args.book.now c.store.ensures.valid c.requires.initial c.requires.active)
+
+pub needs_of-requires-clause-variable : goal.needs_of-requires-clause-variable
+needs_of-requires-clause-variable g c =
+    claim_declared c.args.engine.now.state c.args.book.now c.store.ensures.valid c.requires.initial c.requires.active c.args.claim c.requires.holds
+
+pub write_steps-requires-clause-steps : goal.write_steps-requires-clause-steps
+write_steps-requires-clause-steps g c =
+    steps_made c.args.book.now c.log-log.result.now.log c.args.claim c.in_ok-needs.needs c.in_ok-needs.ensures c.removals.ensures.linked
+
+pub write_steps-requires-clause-logged : goal.write_steps-requires-clause-logged
+write_steps-requires-clause-logged g c =
+    subst (λ (log : List Removal). All (IsOfBook c.args.book.now) log) (sym c.log-log.ensures)
+    (log_of_book c.args.engine.now.state c.args.book.now c.store.ensures.valid c.requires.initial c.requires.active)
+
+pub write_claim-requires : goal.write_claim-requires
+write_claim-requires g c =
+    claim_declared c.args.engine.now.state c.args.book.now c.store.ensures.valid c.requires.initial c.requires.active c.args.claim c.requires.holds
+
+pub returns-in_err-write_declarations : goal.returns-in_err-write_declarations
+returns-in_err-write_declarations g c =
+    let book = c.args.book.now in
+    let log = c.log-log.result.now.log in
+    let needs = c.in_ok-needs.needs in
+    let steps = marked needs.steps.items log in
+    let p = err_from_is_err_and c.from_residual-in_err-write_declarations.result c.from_residual-in_err-write_declarations.ensures.1 in
+    let first = declarations book (marked c.deref.result.now book.constraints) c.claimed_var.result in
+    let second = flat_map (step_line book steps) steps in
+    let text = text_made book log c.args.claim needs c.in_ok-needs.ensures c.deref.result.now c.claimed_var.result c.deref.ensures.value c.claimed_var.ensures
+    ∙ ap (λ (l : List Removal). certificate_text book l c.args.claim) c.log-log.ensures in
+    rw (p.1, p.2)
+    (writes_text _ _ _ _ _ text (writes_front _ _ first (second ++ claim_line book.variables c.args.claim ++ fixed_text End) c.in_err-write_declarations.field-0.0 c.in_err-write_declarations.ensures))
+
+pub returns-in_err-write_steps : goal.returns-in_err-write_steps
+returns-in_err-write_steps g c =
+    let book = c.args.book.now in
+    let log = c.log-log.result.now.log in
+    let needs = c.in_ok-needs.needs in
+    let steps = marked needs.steps.items log in
+    let p = err_from_is_err_and c.from_residual-in_err-write_steps.result c.from_residual-in_err-write_steps.ensures.1 in
+    let first = declarations book (marked c.deref.result.now book.constraints) c.claimed_var.result in
+    let second = flat_map (step_line book steps) steps in
+    let third = claim_line book.variables c.args.claim in
+    let text = text_made book log c.args.claim needs c.in_ok-needs.ensures c.deref.result.now c.claimed_var.result c.deref.ensures.value c.claimed_var.ensures
+    ∙ ap (λ (l : List Removal). certificate_text book l c.args.claim) c.log-log.ensures in
+    rw (p.1, p.2)
+    (writes_within _ _ _ _ first second (third ++ fixed_text End) _ c.in_err-write_steps.field-0.0 (sym text ∙ in_turn first second third (fixed_text End)) c.in_ok-write_declarations.ensures c.in_err-write_steps.ensures)
+
+pub returns-in_err-write_claim : goal.returns-in_err-write_claim
+returns-in_err-write_claim g c =
+    let book = c.args.book.now in
+    let log = c.log-log.result.now.log in
+    let needs = c.in_ok-needs.needs in
+    let steps = marked needs.steps.items log in
+    let p = err_from_is_err_and c.from_residual-in_err-write_claim.result c.from_residual-in_err-write_claim.ensures.1 in
+    let first = declarations book (marked c.deref.result.now book.constraints) c.claimed_var.result in
+    let second = flat_map (step_line book steps) steps in
+    let third = claim_line book.variables c.args.claim in
+    let text = text_made book log c.args.claim needs c.in_ok-needs.ensures c.deref.result.now c.claimed_var.result c.deref.ensures.value c.claimed_var.ensures
+    ∙ ap (λ (l : List Removal). certificate_text book l c.args.claim) c.log-log.ensures in
+    rw (p.1, p.2)
+    (writes_within _ _ _ _ (first ++ second) third (fixed_text End) _ c.in_err-write_claim.field-0.0
+    (sym text ∙ in_turn first second third (fixed_text End) ∙ sym (append_assoc (first ++ second) third (fixed_text End)))
+    (writes_then _ _ _ _ _ _ _ c.in_ok-write_declarations.ensures c.in_ok-write_steps.ensures) c.in_err-write_claim.ensures)
+
+pub returns : goal.returns
+returns g c =
+    let book = c.args.book.now in
+    let log = c.log-log.result.now.log in
+    let needs = c.in_ok-needs.needs in
+    let steps = marked needs.steps.items log in
+    let first = declarations book (marked c.deref.result.now book.constraints) c.claimed_var.result in
+    let second = flat_map (step_line book steps) steps in
+    let third = claim_line book.variables c.args.claim in
+    let text = text_made book log c.args.claim needs c.in_ok-needs.ensures c.deref.result.now c.claimed_var.result c.deref.ensures.value c.claimed_var.ensures
+    ∙ ap (λ (l : List Removal). certificate_text book l c.args.claim) c.log-log.ensures in
+    writes_text _ _ _ _ _ (append_assoc (first ++ second) third (fixed_text End) ∙ sym (in_turn first second third (fixed_text End)) ∙ text)
+    (writes_then _ _ _ _ _ _ _ (writes_then _ _ _ _ _ _ _ (writes_then _ _ _ _ _ _ _ c.in_ok-write_declarations.ensures c.in_ok-write_steps.ensures) c.in_ok-write_claim.ensures) c.write_end.ensures)

@@ -1,0 +1,5 @@
+use Rattle.palm_cert.proofs.Reached.{claim_reached}
+use Rattle.palm_cert.proofs.laws.claims_are_reached.Goals as goal
+
+pub returns : goal.returns
+returns c = claim_reached

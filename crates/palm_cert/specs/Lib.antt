@@ -1,0 +1,5 @@
+pub mod Certificate
+pub mod Moved
+pub mod Needed
+pub mod Needs
+pub mod Writing

@@ -1,0 +1,227 @@
+//! Writing a certificate, a line at a time, so that no whole text is held.
+ghost use Rattle.std.specs.Prelude.{◌≡◌, ◌<◌, length, flat_map, All};
+ghost use Rattle.palm_book.specs.Book.{active_of, initial_of};
+ghost use Rattle.palm_cert.specs.Certificate.{added_line, certificate_text, claim_line, claim_var, declarations, declared_line, header_line, step_line, used};
+ghost use Rattle.palm_cert.specs.Needs.{AreSteps, CanClaim, IsOfBook, declared_at, marked, marked_at};
+ghost use Rattle.palm_cert.specs.Writing.{Writes};
+ghost use Rattle.palm_lang.specs.Reply.{fixed_text};
+
+use crate::lines::{put_added, put_claim, put_declared, put_header, put_step};
+use crate::needs::{Needs, claimed_var, collect_numbers, needs_of, number_of};
+use crate::stop::CertStop;
+use crate::usage::is_used;
+use palm_base::{Failed, NoMemory, Sink, Var, write_all};
+use palm_book::Book;
+use palm_claim::Claim;
+use palm_engine::Engine;
+use palm_explain::ExplainStore;
+use palm_filter::Filter;
+use palm_lang::{Fixed, print_fixed};
+use std::alloc::Global;
+
+/// Writes a certificate of the claim: the variables and constraints that it needs, the removals that it needs as steps
+/// in the order of the log, and the claim. The book's variables and active constraints are the engine's, and the claim's
+/// pair was removed or its variable has no value. At a stop a front of the certificate was written.
+pub fn write_cert<F: Filter, K: Sink>(
+    alloc: Global,
+    engine: &Engine<F>,
+    book: &Book,
+    claim: Claim,
+    out: &mut K,
+) -> Result<(), CertStop>
+    requires initial { engine.now.state.initial ≡ initial_of book.now }
+    requires active { engine.now.state.active ≡ active_of book.now }
+    requires holds { CanClaim engine.now.state claim }
+    ensures { Writes (K.state out.old) (K.state out.new) (certificate_text book.now engine.now.state.log claim) result }
+{
+    let _ = engine.store();
+    let log = engine.log();
+    let _ = log.removals();
+    let needs = needs_of(alloc, book, log, &claim)?;
+    let mut buffer = Vec::new(alloc);
+    write_declarations(book, &needs.cited, claimed_var(&claim), out, &mut buffer)?;
+    let mut numbers = Vec::new(alloc);
+    write_steps(book, log, &needs, &mut numbers, out, &mut buffer)?;
+    write_claim(book, &claim, out, &mut buffer)?;
+    write_end(out, &mut buffer)
+}
+
+/// Writes the header, the variables and the constraints.
+fn write_declarations<K: Sink>(
+    book: &Book,
+    cited: &[bool],
+    claimed: Var,
+    out: &mut K,
+    buffer: &mut Vec<u8>,
+) -> Result<(), CertStop>
+    requires { length cited.now ≡ length book.now.constraints }
+    ensures { Writes (K.state out.old) (K.state out.new) (declarations book.now (marked cited.now book.now.constraints) claimed) result }
+{
+    write_header(out, buffer)?;
+    write_variables(book, cited, claimed, out, buffer)?;
+    write_constraints(book, cited, out, buffer)
+}
+
+/// Writes the first line.
+fn write_header<K: Sink>(out: &mut K, buffer: &mut Vec<u8>) -> Result<(), CertStop>
+    ensures { Writes (K.state out.old) (K.state out.new) header_line result }
+{
+    buffer.clear();
+    put_header(buffer)?;
+    write_text(out, buffer)
+}
+
+/// Writes the variables that are used.
+fn write_variables<K: Sink>(
+    book: &Book,
+    cited: &[bool],
+    claimed: Var,
+    out: &mut K,
+    buffer: &mut Vec<u8>,
+) -> Result<(), CertStop>
+    requires { length cited.now ≡ length book.now.constraints }
+    ensures { Writes (K.state out.old) (K.state out.new) (flat_map (declared_line book.now.variables) (used (marked cited.now book.now.constraints) claimed book.now)) result }
+{
+    for index in 0..book.variables() {
+        write_variable(book, cited, claimed, Var(index), out, buffer)?;
+    }
+    Ok(())
+}
+
+/// Writes a variable, where it is used.
+fn write_variable<K: Sink>(
+    book: &Book,
+    cited: &[bool],
+    claimed: Var,
+    var: Var,
+    out: &mut K,
+    buffer: &mut Vec<u8>,
+) -> Result<(), CertStop>
+    requires marks { length cited.now ≡ length book.now.constraints }
+    requires variable { var < length book.now.variables }
+    ensures { Writes (K.state out.old) (K.state out.new) (declared_at book.now (marked cited.now book.now.constraints) claimed var) result }
+{
+    if !is_used(book, cited, claimed, var) {
+        return Ok(());
+    }
+    let _ = book.variables();
+    buffer.clear();
+    put_declared(book, var, buffer)?;
+    write_text(out, buffer)
+}
+
+/// Writes the constraints that are marked.
+fn write_constraints<K: Sink>(
+    book: &Book,
+    cited: &[bool],
+    out: &mut K,
+    buffer: &mut Vec<u8>,
+) -> Result<(), CertStop>
+    requires { length cited.now ≡ length book.now.constraints }
+    ensures { Writes (K.state out.old) (K.state out.new) (flat_map (added_line book.now.variables) (marked cited.now book.now.constraints)) result }
+{
+    for place in 0..book.constraints() {
+        write_constraint(book, cited, place, out, buffer)?;
+    }
+    Ok(())
+}
+
+/// Writes the constraint at a place, where it is marked.
+fn write_constraint<K: Sink>(
+    book: &Book,
+    cited: &[bool],
+    place: usize,
+    out: &mut K,
+    buffer: &mut Vec<u8>,
+) -> Result<(), CertStop>
+    requires marks { length cited.now ≡ length book.now.constraints }
+    requires place { place < length book.now.constraints }
+    ensures { Writes (K.state out.old) (K.state out.new) (flat_map (added_line book.now.variables) (marked_at cited.now book.now.constraints place)) result }
+{
+    let is_cited = cited[place];
+    if !is_cited {
+        return Ok(());
+    }
+    buffer.clear();
+    put_added(book, book.constraint(place), buffer)?;
+    write_text(out, buffer)
+}
+
+/// Writes the steps, the reasons of one after another in the same memory.
+fn write_steps<K: Sink>(
+    book: &Book,
+    log: &ExplainStore,
+    needs: &Needs,
+    numbers: &mut Vec<usize>,
+    out: &mut K,
+    buffer: &mut Vec<u8>,
+) -> Result<(), CertStop>
+    requires steps { AreSteps log.now.log needs.now }
+    requires logged { All (IsOfBook book.now) log.now.log }
+    ensures { Writes (K.state out.old) (K.state out.new) (flat_map (step_line book.now (marked needs.now.steps.items log.now.log)) (marked needs.now.steps.items log.now.log)) result }
+{
+    for place in 0..log.removals() {
+        write_step(book, log, needs, place, numbers, out, buffer)?;
+    }
+    Ok(())
+}
+
+/// Writes the removal at a place, where it is a step.
+fn write_step<K: Sink>(
+    book: &Book,
+    log: &ExplainStore,
+    needs: &Needs,
+    place: usize,
+    numbers: &mut Vec<usize>,
+    out: &mut K,
+    buffer: &mut Vec<u8>,
+) -> Result<(), CertStop>
+    requires steps { AreSteps log.now.log needs.now }
+    requires logged { All (IsOfBook book.now) log.now.log }
+    requires place { place < length log.now.log }
+    ensures { Writes (K.state out.old) (K.state out.new) (flat_map (step_line book.now (marked needs.now.steps.items log.now.log)) (marked_at needs.now.steps.items log.now.log place)) result }
+{
+    let is_step = needs.steps[place];
+    if !is_step {
+        return Ok(());
+    }
+    collect_numbers(log, needs, place, numbers)?;
+    buffer.clear();
+    let by = number_of(log.by_at(place));
+    put_step(book, &log.pair_at(place), by, numbers, buffer)?;
+    write_text(out, buffer)
+}
+
+/// Writes the claim and the end.
+fn write_claim<K: Sink>(
+    book: &Book,
+    claim: &Claim,
+    out: &mut K,
+    buffer: &mut Vec<u8>,
+) -> Result<(), CertStop>
+    requires { claim_var claim.now < length book.now.variables }
+    ensures { Writes (K.state out.old) (K.state out.new) (claim_line book.now.variables claim.now) result }
+{
+    buffer.clear();
+    put_claim(book, claim, buffer)?;
+    write_text(out, buffer)
+}
+
+/// Writes the last line.
+fn write_end<K: Sink>(out: &mut K, buffer: &mut Vec<u8>) -> Result<(), CertStop>
+    ensures { Writes (K.state out.old) (K.state out.new) (fixed_text Fixed.End) result }
+{
+    buffer.clear();
+    print_fixed(Fixed::End, buffer)?;
+    write_text(out, buffer)
+}
+
+/// Writes a text that was made.
+fn write_text<K: Sink>(out: &mut K, text: &[u8]) -> Result<(), CertStop>
+    ensures { Writes (K.state out.old) (K.state out.new) text.now result }
+{
+    match write_all(out, text) {
+        Ok(()) => Ok(()),
+        Err(Failed) => Err(CertStop::WriteFault),
+    }
+}

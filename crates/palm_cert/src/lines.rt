@@ -1,0 +1,148 @@
+//! The lines of a certificate at the end of what was written. Want of memory may leave a part of one there.
+ghost use Rattle.std.specs.Prelude.{◌≡◌, ◌<◌, ◌++◌, All, codes, decimal, length, map, OnOk};
+ghost use Rattle.std.specs.Fmt.{signed_decimal};
+ghost use Rattle.palm_book.specs.Book.{AreValues, HasNumber, number_name, values_at};
+ghost use Rattle.palm_cert.specs.Certificate.{added_line, claim_line, claim_var, declared_line, from_words, header_line, step_words};
+ghost use Rattle.palm_lang.specs.Reply.{ended};
+ghost use Rattle.palm_model.specs.Constraint.{scope};
+ghost use Rattle.palm_read.specs.Words.{after_spaces, spaced};
+
+use palm_base::{NoMemory, Pair, Value, Var, push_int};
+use palm_book::{Book, BookCon};
+use palm_claim::Claim;
+use palm_lang::{Name, print_con, print_var};
+
+/// A fixed text.
+fn put_text(text: &str, out: &mut Vec<u8>) -> Result<(), NoMemory>
+    ensures { OnOk result (out.new.items ≡ out.old.items ++ text.now) }
+{
+    out.extend_from_slice(text.as_bytes())?;
+    Ok(())
+}
+
+/// A space and a name.
+fn put_name(name: &Name, out: &mut Vec<u8>) -> Result<(), NoMemory>
+    ensures { OnOk result (out.new.items ≡ out.old.items ++ (codes " " ++ name.now)) }
+{
+    put_text(" ", out)?;
+    out.extend_from_slice(name.as_slice())?;
+    Ok(())
+}
+
+/// A space and a value.
+fn put_value(value: &Value, out: &mut Vec<u8>) -> Result<(), NoMemory>
+    ensures { OnOk result (out.new.items ≡ out.old.items ++ (codes " " ++ signed_decimal value.now)) }
+{
+    put_text(" ", out)?;
+    push_int(out, i128::from(value.0))
+}
+
+/// A space and a number.
+fn put_number(number: usize, out: &mut Vec<u8>) -> Result<(), NoMemory>
+    ensures { OnOk result (out.new.items ≡ out.old.items ++ (codes " " ++ decimal number)) }
+{
+    put_text(" ", out)?;
+    push_int(out, number as i128)
+}
+
+/// `palm-cert 1`
+pub fn put_header(out: &mut Vec<u8>) -> Result<(), NoMemory>
+    ensures { OnOk result (out.new.items ≡ out.old.items ++ header_line) }
+{
+    put_text("palm-cert 1\n", out)
+}
+
+/// `var NAME DOMAIN`
+pub fn put_declared(book: &Book, var: Var, out: &mut Vec<u8>) -> Result<(), NoMemory>
+    requires variable { var < length book.now.variables }
+    requires values { AreValues (values_at book.now.variables var) }
+    ensures { OnOk result (out.new.items ≡ out.old.items ++ declared_line book.now.variables var) }
+{
+    print_var(book.variable_name(var), book.initial(var).as_slice(), out)
+}
+
+/// `add NAME : CONSTRAINT`
+pub fn put_added(book: &Book, entry: &BookCon, out: &mut Vec<u8>) -> Result<(), NoMemory>
+    requires { All (λ x. x < length book.now.variables) (scope entry.now.con) }
+    ensures { OnOk result (out.new.items ≡ out.old.items ++ added_line book.now.variables entry.now) }
+{
+    put_text("add", out)?;
+    put_name(&entry.name, out)?;
+    put_text(" : ", out)?;
+    print_con(book, &entry.con, out)?;
+    put_text("\n", out)
+}
+
+/// ` from K K`, where there is a number
+fn put_from(numbers: &[usize], out: &mut Vec<u8>) -> Result<(), NoMemory>
+    ensures { OnOk result (out.new.items ≡ out.old.items ++ after_spaces (from_words numbers.now)) }
+{
+    if numbers.is_empty() {
+        return Ok(());
+    }
+    put_text(" from", out)?;
+    put_numbers(numbers, out)
+}
+
+/// Numbers with a space before each.
+fn put_numbers(numbers: &[usize], out: &mut Vec<u8>) -> Result<(), NoMemory>
+    ensures { OnOk result (out.new.items ≡ out.old.items ++ after_spaces (map decimal numbers.now)) }
+{
+    for number in numbers {
+        put_number(*number, out)?;
+    }
+    Ok(())
+}
+
+/// `step NAME VALUE by NAME`, with the numbers of earlier steps where there are some
+pub fn put_step(
+    book: &Book,
+    pair: &Pair,
+    by: u32,
+    numbers: &[usize],
+    out: &mut Vec<u8>,
+) -> Result<(), NoMemory>
+    requires variable { pair.now.var < length book.now.variables }
+    requires constraint { HasNumber book.now by }
+    ensures { OnOk result (out.new.items ≡ out.old.items ++ ended (spaced (step_words book.now.variables pair.now (number_name book.now.constraints by) numbers.now))) }
+{
+    put_text("step", out)?;
+    put_name(book.variable_name(pair.var), out)?;
+    put_value(&pair.value, out)?;
+    put_text(" by", out)?;
+    put_name(book.constraint_name(by), out)?;
+    put_from(numbers, out)?;
+    put_text("\n", out)
+}
+
+/// `claim NAME VALUE` or `claim conflict NAME`
+pub fn put_claim(book: &Book, claim: &Claim, out: &mut Vec<u8>) -> Result<(), NoMemory>
+    requires { claim_var claim.now < length book.now.variables }
+    ensures { OnOk result (out.new.items ≡ out.old.items ++ claim_line book.now.variables claim.now) }
+{
+    match claim {
+        Claim::Gone(pair) => put_gone(book, pair, out),
+        Claim::Conflict(var) => put_conflict(book, *var, out),
+    }
+}
+
+/// `claim NAME VALUE`
+fn put_gone(book: &Book, pair: &Pair, out: &mut Vec<u8>) -> Result<(), NoMemory>
+    requires { pair.now.var < length book.now.variables }
+    ensures { OnOk result (out.new.items ≡ out.old.items ++ claim_line book.now.variables (Claim.Gone pair.now)) }
+{
+    put_text("claim", out)?;
+    put_name(book.variable_name(pair.var), out)?;
+    put_value(&pair.value, out)?;
+    put_text("\n", out)
+}
+
+/// `claim conflict NAME`
+fn put_conflict(book: &Book, var: Var, out: &mut Vec<u8>) -> Result<(), NoMemory>
+    requires { var < length book.now.variables }
+    ensures { OnOk result (out.new.items ≡ out.old.items ++ claim_line book.now.variables (Claim.Conflict var)) }
+{
+    put_text("claim conflict", out)?;
+    put_name(book.variable_name(var), out)?;
+    put_text("\n", out)
+}

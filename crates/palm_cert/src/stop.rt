@@ -1,0 +1,26 @@
+//! Why a certificate is not written to its end.
+use palm_base::NoMemory;
+use std::alloc::{AllocError, AllocFailed};
+use thiserror::Error;
+
+/// A front of the certificate was written.
+#[derive(Clone, Copy, Debug, PartialEq, Eq, Error)]
+pub enum CertStop {
+    /// A write failed. It comes only where the sink's count of faults rose.
+    #[error("a write failed")]
+    WriteFault,
+    /// An allocation was refused.
+    #[error("out of memory")]
+    NoMemory,
+}
+
+impl From<NoMemory> for CertStop {
+    ghost use Rattle.std.specs.Prelude.{◌≡◌};
+    ghost use Rattle.palm_cert.specs.declared.stop.CertStop.TheVariants.{NoMemory};
+
+    ghost from_gives = { λ _ stop. stop ≡ NoMemory };
+
+    fn from(_error: palm_base::NoMemory) -> CertStop {
+        CertStop::NoMemory
+    }
+}

@@ -1,0 +1,71 @@
+-- Constraints that have a property by themselves, among all of those that are there.
+use Rattle.std.proofs.Common.{ℕ, ℤ, List, Contains, sym, subst}
+use Rattle.palm_base.specs.declared.terms.Cid.{Cid}
+use Rattle.palm_base.specs.declared.terms.Pair.{Pair}
+use Rattle.palm_model.specs.Conflict.{InConflict, IsKeptConflict}
+use Rattle.palm_model.specs.Domains.{Domains, Has}
+use Rattle.palm_model.specs.Log.{Active, IsListOf, Named, NamesOfPair, cons_of, log_pairs}
+use Rattle.palm_model.specs.State.{EngineState, IsEmptyAt, IsValid, present}
+use Rattle.palm_model.specs.declared.constraint.Con.{Con}
+use Rattle.palm_model.proofs.Without.{pair_of}
+use Rattle.palm_events.proofs.Agreeing.{gone_member}
+use Rattle.palm_events.proofs.Conflicts.{kept_conflict}
+use Rattle.palm_events.proofs.Logs.{logged, removal_explained}
+use Rattle.palm_events.proofs.Runs.{named_con}
+use Rattle.palm_laws.proofs.Solutions.{explains_more}
+use Rattle.palm_reduce.specs.Properties.{HasProperty, HaveAlone, IsCause}
+use Rattle.palm_reduce.specs.declared.property.Property.{Property}
+use Rattle.palm_reduce.specs.declared.property.Property.TheVariants.{Conflict, Absence}
+use Rattle.palm_reduce.proofs.Growing.{conflict_more}
+
+-- ---- more constraints, and all of them
+
+named_more : (xs ys : List Active) (names : List Cid) → ((a : Active) → Contains names a.cid → Contains xs a → Contains ys a)
+    → (c : Con) → Named xs (Contains names) c → Named ys (Contains names) c
+named_more xs ys names sub c n = record { owner = n.owner; posted = sub n.owner n.named n.posted; is = n.is; named = n.named }
+
+have_more : (property : Property) (initial : Domains) (xs ys : List Active) (names : List Cid) → ((a : Active) → Contains names a.cid → Contains xs a → Contains ys a)
+    → HaveAlone property initial xs names → HaveAlone property initial ys names
+have_more Conflict initial xs ys names sub alone = conflict_more initial (Named xs (Contains names)) (Named ys (Contains names)) (named_more xs ys names sub) alone
+have_more (Absence pair) initial xs ys names sub alone =
+    explains_more initial (Named xs (Contains names)) (Named ys (Contains names)) pair.var pair.value (named_more xs ys names sub) alone
+
+-- a cause stands where each of its constraints is still there
+pub cause_more : (property : Property) (initial : Domains) (xs ys : List Active) (names : List Cid) → ((a : Active) → Contains names a.cid → Contains xs a → Contains ys a)
+    → IsCause property initial xs names → IsCause property initial ys names
+cause_more property initial xs ys names sub cause = record { rising = cause.rising; alone = have_more property initial xs ys names sub cause.alone }
+
+-- what some have by themselves, all have
+pub cause_holds : (property : Property) (initial : Domains) (active : List Active) (names : List Cid) → IsCause property initial active names → HasProperty property initial active
+cause_holds property initial active names cause = holds property cause.alone
+  where
+    holds : (property : Property) → HaveAlone property initial active names → HasProperty property initial active
+    holds Conflict alone = conflict_more initial (Named active (Contains names)) (Contains (cons_of active)) (named_con active (Contains names)) alone
+    holds (Absence pair) alone =
+        explains_more initial (Named active (Contains names)) (Contains (cons_of active)) pair.var pair.value (named_con active (Contains names)) alone
+
+-- ---- what an engine keeps
+
+-- the kept conflict of an empty variable is one
+pub kept_cause : (s : EngineState) → IsValid s → (x : ℕ) → IsEmptyAt (present s) x → (names : List Cid) → IsKeptConflict s x names → IsCause Conflict s.initial s.active names
+kept_cause s valid x empty names kept = record {
+  rising = kept.rising;
+  alone = conflict_more s.initial (Named s.active (InConflict s x)) (Named s.active (Contains names))
+      (λ c n. record { owner = n.owner; posted = n.posted; is = n.is; named = kept.whole n.owner.cid n.named }) (kept_conflict s valid x empty);
+}
+
+-- the kept explanation of a removed pair is one
+pub kept_absence : (s : EngineState) → IsValid s → (pair : Pair) → Contains (log_pairs s.log) pair → (names : List Cid) → IsListOf (NamesOfPair s.log pair) names → IsCause (Absence pair) s.initial s.active names
+kept_absence s valid pair m names kept =
+    let r = logged s.log pair m in
+    let explained = removal_explained s.initial s.active s.log r.0 valid.founded r.1 in
+    record {
+      rising = kept.rising;
+      alone = λ d inside closed has. explained d inside
+          (λ c p n. closed c p (record { owner = n.owner; posted = n.posted; is = n.is; named = kept.whole n.owner.cid (record { removal = r.0; logged = r.1; is = r.2; names = n.named }) }))
+          (subst (λ (q : Pair). Has d q.var q.value) (sym r.2) has);
+    }
+
+-- a declared pair that is absent was removed
+pub absent_logged : (s : EngineState) (x : ℕ) (v : ℤ) → Has s.initial x v → (Has (present s) x v → ⊥) → Contains (log_pairs s.log) (pair_of x v)
+absent_logged s x v declared absent = gone_member s.initial (log_pairs s.log) x v declared absent

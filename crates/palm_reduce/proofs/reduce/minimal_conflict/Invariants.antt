@@ -1,0 +1,5 @@
+use Rattle.palm_reduce.proofs.reduce.minimal_conflict.Given as goal
+
+-- the ledger is the one that the blank names
+abbrev pub ghosts-reduce : goal.ghosts-reduce
+ghosts-reduce a = record { name = a.blank.name; parts = a.blank.parts }

@@ -1,0 +1,27 @@
+use Rattle.std.proofs.Common.{◌≡◌, ◌∙◌, ℕ, sym, subst, arith}
+use Rattle.palm_book.specs.Book.{active_of, initial_of}
+use Rattle.palm_reduce.specs.Minimal.{IsMinimal}
+use Rattle.palm_reduce.specs.Properties.{HasProperty}
+use Rattle.palm_reduce.specs.Walked.{HasWalked}
+use Rattle.palm_reduce.specs.declared.reduce.Found.{Found}
+use Rattle.palm_reduce.proofs.Passing.{walk_ends, walk_starts}
+use Rattle.palm_reduce.proofs.reduce.walk.Goals as goal
+
+pub loop-place-init : goal.loop-place-init
+loop-place-init g c =
+    let property = c.args.property.now in
+    let book = c.args.book.now in
+    let s = c.args.engine.now.state in
+    let found : Found = record { names = c.new.result; cause = c.args.cause } in (
+      omega (arith, c.constraints-place.ensures.count),
+      subst (λ (n : ℕ). HasWalked property book n found s) (sym c.constraints-place.ensures.count)
+          (walk_starts property book found s c.new.ensures.items c.requires.initial c.requires.active c.requires.cause),
+    )
+
+pub returns : goal.returns
+returns g c =
+    let property = c.args.property.now in
+    let book = c.args.book.now in
+    let done : c.loop-place.place ≡ 0 = omega (arith, c.loop-place-test.false) in
+    subst (IsMinimal (HasProperty property (initial_of book)) (active_of book)) (sym (c.from_vec.ensures ∙ c.reverse.ensures.items))
+    (walk_ends property book c.loop-place.place c.args.cause c.loop-place.found c.loop-place.engine.state done c.requires.cause c.loop-place.invariant.1)

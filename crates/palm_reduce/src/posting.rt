@@ -1,0 +1,67 @@
+//! An engine over the variables and the active constraints of a book.
+ghost use Rattle.std.specs.Prelude.{◌≡◌, ◌<◌, [], length, slice_get, Some, IfOk, OnOk};
+ghost use Rattle.palm_book.specs.Book.{active_of, initial_of, user_at};
+ghost use Rattle.palm_book.specs.declared.book.BookCon.{BookCon as Entry};
+ghost use Rattle.palm_model.specs.Event.{Posts};
+ghost use Rattle.palm_model.specs.Log.{IsActive};
+ghost use Rattle.palm_model.specs.State.{blank};
+ghost use Rattle.palm_reduce.specs.Walked.{AreSame};
+
+use palm_base::{NoMemory, Var};
+use palm_book::{Book, BookCon};
+use palm_engine::Engine;
+use palm_kind::Kind;
+use std::alloc::Global;
+
+/// Declares the variables of a book.
+fn declare_all(engine: &mut Engine<Kind>, book: &Book) -> Result<(), NoMemory>
+    requires { engine.old.state ≡ blank [] }
+    ensures { OnOk result (engine.new.state ≡ blank (initial_of book.now)) }
+{
+    for var in 0..book.variables() {
+        engine.add_variable(book.initial(Var(var)).as_slice())?;
+    }
+    Ok(())
+}
+
+/// Makes the constraint at a place of the book active and pending.
+pub fn post(
+    alloc: Global,
+    engine: &mut Engine<Kind>,
+    book: &Book,
+    place: usize,
+) -> Result<(), NoMemory>
+    requires within { place < length book.now.constraints }
+    requires initial { engine.old.state.initial ≡ initial_of book.now }
+    requires inactive { (c : Entry) → slice_get book.now.constraints place ≡ Some c → IsActive engine.old.state.active (user_at c).cid → ⊥ }
+    ensures { OnOk result ((c : Entry) → slice_get book.now.constraints place ≡ Some c → Posts engine.old.state (user_at c) engine.new.state) }
+{
+    let entry = book.constraint(place);
+    engine.post(entry.number, Kind::from_con(alloc, &entry.con)?)?;
+    Ok(())
+}
+
+/// Makes the active constraints of the book active and pending.
+fn post_all(alloc: Global, engine: &mut Engine<Kind>, book: &Book) -> Result<(), NoMemory>
+    requires { engine.old.state ≡ blank (initial_of book.now) }
+    ensures initial { OnOk result (engine.new.state.initial ≡ initial_of book.now) }
+    ensures active { OnOk result (AreSame engine.new.state.active (active_of book.now)) }
+{
+    for place in 0..book.constraints() {
+        if book.constraint(place).active {
+            post(alloc, engine, book, place)?;
+        }
+    }
+    Ok(())
+}
+
+/// An engine with the variables and the active constraints of a book, all of them pending.
+pub fn engine_of(alloc: Global, book: &Book) -> Result<Engine<Kind>, NoMemory>
+    ensures initial { IfOk result (λ engine. engine.state.initial ≡ initial_of book.now) }
+    ensures active { IfOk result (λ engine. AreSame engine.state.active (active_of book.now)) }
+{
+    let mut engine = Engine::new(alloc);
+    declare_all(&mut engine, book)?;
+    post_all(alloc, &mut engine, book)?;
+    Ok(engine)
+}

@@ -1,0 +1,87 @@
+//! What the constraints of a minimal set have together.
+ghost use Rattle.std.specs.Prelude.{◌≡◌, ◌<◌, false, true, length, IfOk, OnOk};
+ghost use Rattle.palm_base.specs.Tells.{Tells};
+ghost use Rattle.palm_events.specs.Along.{IsStill};
+ghost use Rattle.palm_model.specs.Domains.{Has};
+ghost use Rattle.palm_model.specs.State.{IsValid, present};
+ghost use Rattle.palm_reduce.specs.Properties.{HasProperty, IsCause, MayBeAsked};
+
+use palm_agenda::LastOrder;
+use palm_base::{CidList, NoMemory, Pair, Steps};
+use palm_engine::Engine;
+use palm_kind::Kind;
+use std::sync::ledger::Ledger;
+
+/// What constraints may have together. More constraints have it where fewer have it.
+#[derive(Debug, Drop)]
+pub enum Property {
+    /// They are a conflict.
+    Conflict,
+    /// They explain the absence of the pair.
+    Absence(Pair),
+}
+
+/// Whether the pair is absent.
+fn is_absent(engine: &Engine<Kind>, pair: &Pair) -> bool
+    requires { pair.now.var < length engine.now.state.initial }
+    ensures { Tells result (Has (present engine.now.state) pair.now.var pair.now.value → ⊥) }
+{
+    let Pair { var, value } = *pair;
+    !engine.store().contains(Pair { var, value })
+}
+
+/// Whether the constraints of an engine have the property, after a settling without a limit.
+fn is_met(property: &Property, engine: &Engine<Kind>) -> bool
+    requires valid { IsValid engine.now.state }
+    requires still { IsStill engine.now.state }
+    requires allowed { MayBeAsked property.now engine.now.state.initial engine.now.state.active }
+    ensures { Tells result (HasProperty property.now engine.now.state.initial engine.now.state.active) }
+{
+    match property {
+        Property::Conflict => engine.empty_variable().is_some(),
+        Property::Absence(pair) => is_absent(engine, pair),
+    }
+}
+
+/// Makes `cause` the names of constraints that have the property by themselves, as a settled engine keeps them.
+fn tell_cause(
+    property: &Property,
+    engine: &Engine<Kind>,
+    cause: &mut CidList,
+) -> Result<(), NoMemory>
+    requires valid { IsValid engine.now.state }
+    requires still { IsStill engine.now.state }
+    requires allowed { MayBeAsked property.now engine.now.state.initial engine.now.state.active }
+    requires holds { HasProperty property.now engine.now.state.initial engine.now.state.active }
+    ensures { OnOk result (IsCause property.now engine.now.state.initial engine.now.state.active cause.new) }
+{
+    match property {
+        Property::Conflict => engine.conflict(cause),
+        Property::Absence(pair) => engine.log().explanation(*pair, cause),
+    }
+}
+
+/// Settles an engine, and answers whether its constraints have the property. Where they have it, `cause` becomes the
+/// names of some that have it by themselves.
+pub fn has_property<L: Ledger>(
+    property: &Property,
+    engine: &mut Engine<Kind>,
+    cause: &mut CidList,
+    steps: &mut Steps<L>,
+) -> Result<bool, NoMemory>
+    requires { MayBeAsked property.now engine.old.state.initial engine.old.state.active }
+    ensures tells { IfOk result (λ has. Tells has (HasProperty property.now engine.old.state.initial engine.old.state.active)) }
+    ensures cause { IfOk result (λ has. has ≡ true → IsCause property.now engine.old.state.initial engine.old.state.active cause.new) }
+    ensures kept { IfOk result (λ has. has ≡ false → cause.new ≡ cause.old) }
+    ensures initial { OnOk result (engine.new.state.initial ≡ engine.old.state.initial) }
+    ensures active { OnOk result (engine.new.state.active ≡ engine.old.state.active) }
+    ensures valid { IsValid engine.new.state }
+{
+    let mut order: Option<LastOrder> = None;
+    engine.settle(&mut order, None, steps)?;
+    if !is_met(property, engine) {
+        return Ok(false);
+    }
+    tell_cause(property, engine, cause)?;
+    Ok(true)
+}

@@ -1,0 +1,150 @@
+//! The walk over the active constraints of a book, from the highest number down.
+ghost use Rattle.std.specs.Prelude.{◌≡◌, ◌+◌, ◌<◌, Contains, length, MatchOption, IfOk, OnOk};
+ghost use Rattle.palm_base.specs.Tells.{Tells};
+ghost use Rattle.palm_book.specs.Book.{IsBook, active_of, initial_of};
+ghost use Rattle.palm_model.specs.Domains.{Has};
+ghost use Rattle.palm_model.specs.Log.{Rises};
+ghost use Rattle.palm_reduce.specs.Minimal.{AreConflict, DoExplain, IsMinimal, IsMinimalConflict, IsMinimalExplanation};
+ghost use Rattle.palm_reduce.specs.Properties.{HasProperty, IsCause, MayBeAsked};
+ghost use Rattle.palm_reduce.specs.Walked.{AreSame, HasWalked};
+
+use crate::posting::{engine_of, post};
+use crate::property::{Property, has_property};
+use palm_base::{Cid, CidList, NoMemory, Pair, Steps};
+use palm_book::Book;
+use palm_engine::Engine;
+use palm_kind::Kind;
+use std::alloc::Global;
+use std::marker::Brand;
+use std::sync::ledger::{Blank, Ledger};
+
+/// What a walk has found.
+#[derive(Debug, Drop)]
+pub(crate) struct Found {
+    /// The names of those that stay, the highest first.
+    names: Vec<Cid>,
+    /// The names, by rising name, of some among all that are still there that have the property by themselves.
+    cause: CidList,
+}
+
+/// Whether the name is among the names, which rise.
+fn is_among(name: &Cid, names: &CidList) -> bool
+    requires { Rises names.now }
+    ensures { Tells result (Contains names.now name.now) }
+{
+    names.as_slice().contains(name)
+}
+
+/// Takes the walk past the constraint at a place: it is left out where the rest has the property without it. Nothing is
+/// filtered for a constraint without which the known cause stands.
+fn pass<L: Ledger>(
+    alloc: Global,
+    book: &Book,
+    property: &Property,
+    place: usize,
+    engine: &mut Engine<Kind>,
+    found: &mut Found,
+    steps: &mut Steps<L>,
+) -> Result<(), NoMemory>
+    requires book { IsBook book.now }
+    requires within { place < length book.now.constraints }
+    requires allowed { MayBeAsked property.now (initial_of book.now) (active_of book.now) }
+    requires walked { HasWalked property.now book.now (place + 1) found.old engine.old.state }
+    ensures { OnOk result (HasWalked property.now book.now place found.new engine.new.state) }
+{
+    let entry = book.constraint(place);
+    if !entry.active {
+        return Ok(());
+    }
+    let name = Cid::User(entry.number);
+    engine.withdraw(Cid::User(entry.number));
+    if !is_among(&name, &found.cause) {
+        return Ok(());
+    }
+    if has_property(property, engine, &mut found.cause, steps)? {
+        return Ok(());
+    }
+    post(alloc, engine, book, place)?;
+    found.names.push(name)?;
+    Ok(())
+}
+
+/// Walks over all of the constraints, some of which are known to have the property by themselves, and answers the names
+/// of those that stay, by rising name.
+fn walk<L: Ledger>(
+    alloc: Global,
+    book: &Book,
+    property: &Property,
+    engine: &mut Engine<Kind>,
+    cause: CidList,
+    steps: &mut Steps<L>,
+) -> Result<CidList, NoMemory>
+    requires allowed { MayBeAsked property.now (initial_of book.now) (active_of book.now) }
+    requires initial { engine.old.state.initial ≡ initial_of book.now }
+    requires active { AreSame engine.old.state.active (active_of book.now) }
+    requires cause { IsCause property.now (initial_of book.now) (active_of book.now) cause }
+    ensures { IfOk result (λ names. IsMinimal (HasProperty property.now (initial_of book.now)) (active_of book.now) names) }
+{
+    let mut found = Found {
+        names: Vec::new(alloc),
+        cause,
+    };
+    let mut place = book.constraints();
+    while place > 0 {
+        place -= 1;
+        pass(alloc, book, property, place, engine, &mut found, steps)?;
+    }
+    let Found { mut names, .. } = found;
+    names.reverse();
+    Ok(CidList::from_vec(names))
+}
+
+/// The minimal set for a property, with a counter of its own.
+fn reduce<L: Ledger>(
+    alloc: Global,
+    book: &Book,
+    property: &Property,
+    blank: Blank,
+) -> Result<Option<CidList>, NoMemory>
+    requires named { blank.name ≡ L.name }
+    requires parts { blank.parts ≡ L.parts }
+    requires shared { 0 < L.parts }
+    requires allowed { MayBeAsked property.now (initial_of book.now) (active_of book.now) }
+    ensures { IfOk result (λ answer. MatchOption answer
+        (HasProperty property.now (initial_of book.now) (active_of book.now) → ⊥)
+        (IsMinimal (HasProperty property.now (initial_of book.now)) (active_of book.now))) }
+{
+    let mut steps = Steps::<L>::start(blank);
+    let mut engine = engine_of(alloc, book)?;
+    let mut cause = CidList::new(alloc);
+    if !has_property(property, &mut engine, &mut cause, &mut steps)? {
+        return Ok(None);
+    }
+    let names = walk(alloc, book, property, &mut engine, cause, &mut steps)?;
+    Ok(Some(names))
+}
+
+/// The minimal conflict of the active constraints of a book, by rising name: a walk from the highest number down leaves
+/// each constraint out without which the rest is still a conflict. There is none exactly where they are no conflict. It
+/// filters with an engine of its own and without an order.
+pub fn minimal_conflict(alloc: Global, book: &Book) -> Result<Option<CidList>, NoMemory>
+    ensures { IfOk result (λ answer. MatchOption answer
+        (AreConflict (initial_of book.now) (active_of book.now) → ⊥)
+        (IsMinimalConflict (initial_of book.now) (active_of book.now))) }
+{
+    reduce::<Brand>(alloc, book, &Property::Conflict, Blank::new(1))
+}
+
+/// The minimal explanation of the absence of a pair by the active constraints of a book, by rising name: a walk from the
+/// highest number down leaves each constraint out without which the rest still explains it. There is none exactly where
+/// they do not explain it: the pair is in their greatest closed domains. It filters with an engine of its own and
+/// without an order.
+pub fn minimal_why(alloc: Global, book: &Book, pair: Pair) -> Result<Option<CidList>, NoMemory>
+    requires declared { Has (initial_of book.now) pair.var pair.value }
+    requires filled { AreConflict (initial_of book.now) (active_of book.now) → ⊥ }
+    ensures { IfOk result (λ answer. MatchOption answer
+        (DoExplain (initial_of book.now) pair (active_of book.now) → ⊥)
+        (IsMinimalExplanation (initial_of book.now) (active_of book.now) pair)) }
+{
+    reduce::<Brand>(alloc, book, &Property::Absence(pair), Blank::new(1))
+}
