@@ -1,4 +1,4 @@
--- What clap makes of words without a leading `-`, for a command with the subcommands `run` and `gen`.
+-- What clap makes of words without a leading `-`, for a command with the subcommands `run`, `check` and `gen`.
 use Rattle.std.proofs.Common.{◌≡◌, ℕ, ◌++◌, Bool, true, false, List, [], ◌∷◌, fold, All, Option, Some, None, option_map, codes, refl, sym, ap, ap₂, ◌∙◌, subst, ◌||◌, ◌&&◌, inl, inr, option_and_then, if◌then◌else◌}
 use Rattle.std.specs.Option.{option_map_or}
 use Rattle.std.specs.Str.{bytes_eq}
@@ -26,13 +26,16 @@ use Rattle.clap.specs.Walk.{Held, Names, Row, Rule, Text, Walk, Step, idle, valu
 use Rattle.clap.specs.declared.error.kind.ErrorKind.{ErrorKind}
 use Rattle.clap.specs.declared.error.kind.ErrorKind.TheVariants as kind
 use Rattle.clap.proofs.OnLiterals.{clap_on_literals}
-use Rattle.palm_cli.specs.Words.{IsRun, IsNoCommand}
+use Rattle.palm_cli.specs.Words.{IsRun, IsCheck, IsNoCommand}
 use Rattle.palm_cli.proofs.WordLemmas.{IsBare, HasSize}
 
 -- ---- the command, and the same as it is built
 
 abbrev pub run_text : Text
 run_text = codes "run"
+
+abbrev pub check_text : Text
+check_text = codes "check"
 
 abbrev pub gen_text : Text
 gen_text = codes "gen"
@@ -53,7 +56,7 @@ abbrev pub bare_app : App
 bare_app = record { top = plain_shape (codes "palm"); subs = [] }
 
 abbrev pub palm_app : App
-palm_app = with_subcommand (with_subcommand bare_app (new_app run_text).top) gen_app.top
+palm_app = with_subcommand (with_subcommand (with_subcommand bare_app (new_app run_text).top) (new_app check_text).top) gen_app.top
 
 pub is_free : is_simple_and_free palm_app ≡ true
 unfolding clap_on_literals
@@ -63,8 +66,9 @@ pub is_plain : is_simple palm_app ≡ true
 unfolding clap_on_literals
 is_plain = refl
 
-abbrev run_shape : Shape
-run_shape = record (plain_shape run_text) { is_built = true }
+-- the shape of a subcommand that takes no word
+abbrev alone_shape : Text → Shape
+alone_shape name = record (plain_shape name) { is_built = true }
 
 abbrev gen_shape : Shape
 gen_shape = record (plain_shape gen_text) { is_built = true; rules = filled_from 1 (size_rule ∷ []) }
@@ -73,10 +77,10 @@ abbrev top_shape : Shape
 top_shape = record (plain_shape (codes "palm")) { is_built = true; is_leaf = false }
 
 abbrev built_app : App
-built_app = record { top = top_shape; subs = run_shape ∷ gen_shape ∷ [] }
+built_app = record { top = top_shape; subs = alone_shape run_text ∷ alone_shape check_text ∷ gen_shape ∷ [] }
 
 abbrev names : Names
-names = (run_text, []) ∷ (gen_text, []) ∷ []
+names = (run_text, []) ∷ (check_text, []) ∷ (gen_text, []) ∷ []
 
 is_built : built palm_app ≡ built_app
 is_built = refl
@@ -148,8 +152,8 @@ plain_turn s subs h place w bare met =
     ap (λ (m : Option Text). or_else (other_fault s m w h) (step_fault s place (subcommand_or_other s.rules m idle place w h).0 (subcommand_or_other s.rules m idle place w h).1)) met
     ∙ ap₂ (λ (k : Kinds) (q : Held × Step). or_else k (step_fault s place q.0 q.1)) (no_fault s w h p) (is_value s.rules w place h p)
 
-no_name : (w : Text) → bytes_eq run_text w ≡ false → bytes_eq gen_text w ≡ false → subcommand_met names idle w ≡ None
-no_name w r g = rw (r, g) refl
+no_name : (w : Text) → bytes_eq run_text w ≡ false → bytes_eq check_text w ≡ false → bytes_eq gen_text w ≡ false → subcommand_met names idle w ≡ None
+no_name w r c g = rw (r, c, g) refl
 
 -- ---- the fault of the subcommand that was met
 
@@ -164,6 +168,10 @@ stopped rules subs w name words (x ∷ xs) e =
 meets_run : (ws : List Text) → stop_after [] names (run_text ∷ ws) ≡ Some (run_text, ws)
 unfolding walked
 meets_run ws = stopped [] names (walked [] names (walk_from nothing_held) run_text) run_text [] ws refl
+
+meets_check : (ws : List Text) → stop_after [] names (check_text ∷ ws) ≡ Some (check_text, ws)
+unfolding walked
+meets_check ws = stopped [] names (walked [] names (walk_from nothing_held) check_text) check_text [] ws refl
 
 meets_gen : (ws : List Text) → stop_after [] names (gen_text ∷ ws) ≡ Some (gen_text, ws)
 unfolding walked
@@ -184,13 +192,18 @@ fails_here s subs w ws has below n e =
     fails_first (walk_fault s subs (walk_from nothing_held) (w ∷ ws)) _ (λ z. fails_first (turn_fault s subs (walk_from nothing_held) w) (walk_fault s subs (walked s.rules subs (walk_from nothing_held) w) ws) n z) e
 
 -- a first word that names no subcommand
-stray : (w : Text) (ws : List Text) → IsBare w → bytes_eq run_text w ≡ false → bytes_eq gen_text w ≡ false → built_fault built_app nothing_held (w ∷ ws) ≡ [] → ⊥
-stray w ws bare r g e =
-    fails_here top_shape names w ws _ _ (no_kinds _ kind.UnknownArgument (kind.InvalidSubcommand ∷ []) (plain_turn top_shape names nothing_held 1 w bare (no_name w r g))) e
+stray : (w : Text) (ws : List Text) → IsBare w → bytes_eq run_text w ≡ false → bytes_eq check_text w ≡ false → bytes_eq gen_text w ≡ false
+    → built_fault built_app nothing_held (w ∷ ws) ≡ [] → ⊥
+stray w ws bare r c g e =
+    fails_here top_shape names w ws _ _ (no_kinds _ kind.UnknownArgument (kind.InvalidSubcommand ∷ []) (plain_turn top_shape names nothing_held 1 w bare (no_name w r c g))) e
 
 -- `run` takes no further word
 run_more : (x : Text) (xs : List Text) → IsBare x → entered_fault built_app (Some (run_text, x ∷ xs)) ≡ [] → ⊥
-run_more x xs bare e = fails_here run_shape [] x xs false [] (no_kinds _ kind.UnknownArgument [] (plain_turn run_shape [] nothing_held 1 x bare refl)) e
+run_more x xs bare e = fails_here (alone_shape run_text) [] x xs false [] (no_kinds _ kind.UnknownArgument [] (plain_turn (alone_shape run_text) [] nothing_held 1 x bare refl)) e
+
+-- nor does `check`
+check_more : (x : Text) (xs : List Text) → IsBare x → entered_fault built_app (Some (check_text, x ∷ xs)) ≡ [] → ⊥
+check_more x xs bare e = fails_here (alone_shape check_text) [] x xs false [] (no_kinds _ kind.UnknownArgument [] (plain_turn (alone_shape check_text) [] nothing_held 1 x bare refl)) e
 
 -- ---- `gen` takes one, and no more
 
@@ -223,6 +236,14 @@ run_seen : seen (entered built_app (stop_after [] names (run_text ∷ []))) ≡ 
 unfolding clap_on_literals
 run_seen = refl
 
+check_taken : built_fault built_app nothing_held (check_text ∷ []) ≡ []
+unfolding clap_on_literals
+check_taken = refl
+
+check_seen : seen (entered built_app (stop_after [] names (check_text ∷ []))) ≡ Some (check_text, None)
+unfolding clap_on_literals
+check_seen = refl
+
 no_words : seen (entered built_app (stop_after [] names [])) ≡ None
 no_words = refl
 
@@ -247,19 +268,24 @@ gen_seen x bare = ap (λ (w : Walk). Some (gen_text, first_of size_text (finishe
 
 -- ---- what the words come to
 
--- they are not `run`, and not `gen` and another word
+-- they are not `run`, not `check`, and not `gen` and another word
 pub record IsNeither (words : List Text) : Type 0 where
   pub no_run : IsRun words → ⊥
+  pub no_check : IsCheck words → ⊥
   pub no_gen : (word : Text) → HasSize words word → ⊥
 
 no_command : (words : List Text) → IsNeither words → IsNoCommand words
-no_command words n = record { no_run = n.no_run; no_gen = λ size g. n.no_gen g.word g.whole }
+no_command words n = record { no_run = n.no_run; no_check = n.no_check; no_gen = λ size g. n.no_gen g.word g.whole }
+
+-- the words are this one alone
+abbrev pub IsAlone : List Text → Text → Type 0
+IsAlone words name = words ≡ name ∷ []
 
 -- by the faults that clap finds, and by what is seen of the subcommand that it meets
 pub data Outcome (words : List Text) : Type 0 where
   refused : (fault_of palm_app words ≡ [] → ⊥) → IsNeither words → Outcome words
   nothing : IsNeither words → seen (subcommand_of palm_app words) ≡ None → Outcome words
-  is_run : IsRun words → fault_of palm_app words ≡ [] → seen (subcommand_of palm_app words) ≡ Some (run_text, None) → Outcome words
+  is_alone : (name : Text) → IsAlone words name → fault_of palm_app words ≡ [] → seen (subcommand_of palm_app words) ≡ Some (name, None) → Outcome words
   is_gen : (word : Text) → HasSize words word → fault_of palm_app words ≡ [] → seen (subcommand_of palm_app words) ≡ Some (gen_text, Some word) → Outcome words
 
 refused_by : (words : List Text) → (built_fault built_app nothing_held words ≡ [] → ⊥) → IsNeither words → Outcome words
@@ -286,51 +312,84 @@ not_equal a b f e = let t : bytes_eq a b ≡ true = (bytes_eq-Decides a b).1 e i
 run_is_not_gen : run_text ≡ gen_text → ⊥
 run_is_not_gen = not_equal run_text gen_text refl
 
-other_words : (w : Text) (ws : List Text) → (run_text ≡ w → ⊥) → (gen_text ≡ w → ⊥) → IsNeither (w ∷ ws)
-other_words w ws r g = record {
+run_is_not_check : run_text ≡ check_text → ⊥
+run_is_not_check = not_equal run_text check_text refl
+
+check_is_not_gen : check_text ≡ gen_text → ⊥
+check_is_not_gen = not_equal check_text gen_text refl
+
+other_words : (w : Text) (ws : List Text) → (run_text ≡ w → ⊥) → (check_text ≡ w → ⊥) → (gen_text ≡ w → ⊥) → IsNeither (w ∷ ws)
+other_words w ws r c g = record {
   no_run = λ e. r (sym (heads w run_text ws [] e));
+  no_check = λ e. c (sym (heads w check_text ws [] e));
   no_gen = λ word e. g (sym (heads w gen_text ws (word ∷ []) e));
 }
 
 runs : (ws : List Text) → All IsBare ws → Outcome (run_text ∷ ws)
-runs [] bare = is_run refl (fault_is (run_text ∷ []) ∙ run_taken) (sees (run_text ∷ []) (Some (run_text, None)) run_seen)
+runs [] bare = is_alone run_text refl (fault_is (run_text ∷ []) ∙ run_taken) (sees (run_text ∷ []) (Some (run_text, None)) run_seen)
 runs (x ∷ xs) bare =
     refused_by (run_text ∷ x ∷ xs) (fails_below (run_text ∷ x ∷ xs) run_text (x ∷ xs) (meets_run (x ∷ xs)) (run_more x xs (All-head IsBare x xs bare)))
-    (record { no_run = λ e. longer run_text x run_text xs e; no_gen = λ word e. run_is_not_gen (heads run_text gen_text (x ∷ xs) (word ∷ []) e) })
+    (record {
+      no_run = λ e. longer run_text x run_text xs e;
+      no_check = λ e. longer run_text x check_text xs e;
+      no_gen = λ word e. run_is_not_gen (heads run_text gen_text (x ∷ xs) (word ∷ []) e);
+    })
+
+checks : (ws : List Text) → All IsBare ws → Outcome (check_text ∷ ws)
+checks [] bare = is_alone check_text refl (fault_is (check_text ∷ []) ∙ check_taken) (sees (check_text ∷ []) (Some (check_text, None)) check_seen)
+checks (x ∷ xs) bare =
+    refused_by (check_text ∷ x ∷ xs) (fails_below (check_text ∷ x ∷ xs) check_text (x ∷ xs) (meets_check (x ∷ xs)) (check_more x xs (All-head IsBare x xs bare)))
+    (record {
+      no_run = λ e. longer check_text x run_text xs e;
+      no_check = λ e. longer check_text x check_text xs e;
+      no_gen = λ word e. check_is_not_gen (heads check_text gen_text (x ∷ xs) (word ∷ []) e);
+    })
 
 gens : (ws : List Text) → All IsBare ws → Outcome (gen_text ∷ ws)
 gens [] bare =
-    refused_by (gen_text ∷ []) gen_none (record { no_run = λ e. run_is_not_gen (sym (heads gen_text run_text [] [] e)); no_gen = λ word e. shorter gen_text gen_text word e })
+    refused_by (gen_text ∷ []) gen_none
+    (record {
+      no_run = λ e. run_is_not_gen (sym (heads gen_text run_text [] [] e));
+      no_check = λ e. check_is_not_gen (sym (heads gen_text check_text [] [] e));
+      no_gen = λ word e. shorter gen_text gen_text word e;
+    })
 gens (x ∷ []) bare =
     let h = All-head IsBare x [] bare in
     is_gen x refl (fault_is (gen_text ∷ x ∷ []) ∙ gen_taken x h) (sees (gen_text ∷ x ∷ []) (Some (gen_text, Some x)) (gen_seen x h))
 gens (x ∷ y ∷ ys) bare =
     refused_by (gen_text ∷ x ∷ y ∷ ys) (fails_below (gen_text ∷ x ∷ y ∷ ys) gen_text (x ∷ y ∷ ys) (meets_gen (x ∷ y ∷ ys))
     (gen_more x y ys (All-head IsBare x (y ∷ ys) bare) (All-head IsBare y ys (All-tail IsBare x (y ∷ ys) bare))))
-    (record { no_run = λ e. longer gen_text x run_text (y ∷ ys) e; no_gen = λ word e. much_longer gen_text x y gen_text word ys e })
+    (record {
+      no_run = λ e. longer gen_text x run_text (y ∷ ys) e;
+      no_check = λ e. longer gen_text x check_text (y ∷ ys) e;
+      no_gen = λ word e. much_longer gen_text x y gen_text word ys e;
+    })
 
-by_name : (w : Text) (ws : List Text) → All IsBare (w ∷ ws) → (r g : Bool) → bytes_eq run_text w ≡ r → bytes_eq gen_text w ≡ g → Outcome (w ∷ ws)
-by_name w ws bare true g is too = subst (λ (z : Text). Outcome (z ∷ ws)) ((bytes_eq-Decides run_text w).0 is) (runs ws (All-tail IsBare w ws bare))
-by_name w ws bare false true is too = subst (λ (z : Text). Outcome (z ∷ ws)) ((bytes_eq-Decides gen_text w).0 too) (gens ws (All-tail IsBare w ws bare))
-by_name w ws bare false false is too =
-    refused_by (w ∷ ws) (stray w ws (All-head IsBare w ws bare) is too) (other_words w ws (not_equal run_text w is) (not_equal gen_text w too))
+by_name : (w : Text) (ws : List Text) → All IsBare (w ∷ ws) → (r c g : Bool) → bytes_eq run_text w ≡ r → bytes_eq check_text w ≡ c → bytes_eq gen_text w ≡ g → Outcome (w ∷ ws)
+by_name w ws bare true c g is second third = subst (λ (z : Text). Outcome (z ∷ ws)) ((bytes_eq-Decides run_text w).0 is) (runs ws (All-tail IsBare w ws bare))
+by_name w ws bare false true g is second third = subst (λ (z : Text). Outcome (z ∷ ws)) ((bytes_eq-Decides check_text w).0 second) (checks ws (All-tail IsBare w ws bare))
+by_name w ws bare false false true is second third = subst (λ (z : Text). Outcome (z ∷ ws)) ((bytes_eq-Decides gen_text w).0 third) (gens ws (All-tail IsBare w ws bare))
+by_name w ws bare false false false is second third =
+    refused_by (w ∷ ws) (stray w ws (All-head IsBare w ws bare) is second third)
+    (other_words w ws (not_equal run_text w is) (not_equal check_text w second) (not_equal gen_text w third))
 
 no_list : (a : Text) (xs : List Text) → [] ≡ a ∷ xs → ⊥
 no_list a xs e = cc
 
 pub outcome : (words : List Text) → All IsBare words → Outcome words
-outcome [] bare = nothing (record { no_run = λ e. no_list run_text [] e; no_gen = λ word e. no_list gen_text (word ∷ []) e }) (sees [] None no_words)
-outcome (w ∷ ws) bare = by_name w ws bare (bytes_eq run_text w) (bytes_eq gen_text w) refl refl
+outcome [] bare =
+    nothing (record { no_run = λ e. no_list run_text [] e; no_check = λ e. no_list check_text [] e; no_gen = λ word e. no_list gen_text (word ∷ []) e }) (sees [] None no_words)
+outcome (w ∷ ws) bare = by_name w ws bare (bytes_eq run_text w) (bytes_eq check_text w) (bytes_eq gen_text w) refl refl refl
 
 -- ---- the command as the code makes it
 
-pub palm_from : (size : Arg) (made generate run p0 p1 p2 p3 p4 first palm : Command)
+pub palm_from : (size : Arg) (made generate run check p0 p1 p2 p3 p4 first second palm : Command)
     → rule_of size ≡ size_rule → size.global ≡ false → app_of made ≡ new_app gen_text → (out-Command made).has_globals ≡ false → AddsArg made size generate
-    → app_of run ≡ new_app run_text → (out-Command run).has_globals ≡ false → app_of p0 ≡ new_app (codes "palm")
+    → app_of run ≡ new_app run_text → (out-Command run).has_globals ≡ false → app_of check ≡ new_app check_text → (out-Command check).has_globals ≡ false → app_of p0 ≡ new_app (codes "palm")
     → out-Command p1 ≡ record (out-Command p0) { no_binary_name = true } → out-Command p2 ≡ record (out-Command p1) { disable_help_flag = true }
     → out-Command p3 ≡ record (out-Command p2) { disable_help_subcommand = true } → out-Command p4 ≡ record (out-Command p3) { disable_version_flag = true }
-    → AddsSubcommand p4 run first → AddsSubcommand first generate palm → app_of palm ≡ palm_app
-palm_from size made generate run p0 p1 p2 p3 p4 first palm rule local made_is made_local adds run_is run_local p0_is e1 e2 e3 e4 one two =
+    → AddsSubcommand p4 run first → AddsSubcommand first check second → AddsSubcommand second generate palm → app_of palm ≡ palm_app
+palm_from size made generate run check p0 p1 p2 p3 p4 first second palm rule local made_is made_local adds run_is run_local check_is check_local p0_is e1 e2 e3 e4 one two three =
     let gen_is : app_of generate ≡ gen_app = adds.shape local ∙ ap₂ with_rule made_is rule in
     let gen_local : (out-Command generate).has_globals ≡ false = adds.globals ∙ ap₂ (λ (a b : Bool). a || b) made_local local in
     let p1_is : app_of p1 ≡ on_top (λ s. record s { no_binary_name = true }) (app_of p0) = ap app_of_fields e1 in
@@ -341,7 +400,9 @@ palm_from size made generate run p0 p1 p2 p3 p4 first palm rule local made_is ma
     p4_is ∙ ap (on_top (λ s. record s { disable_version_flag = true })) (p3_is ∙ ap (on_top (λ s. record s { disable_help_subcommand = true }))
     (p2_is ∙ ap (on_top (λ s. record s { disable_help_flag = true })) (p1_is ∙ ap (on_top (λ s. record s { no_binary_name = true })) p0_is))) in
     let first_is : app_of first ≡ with_subcommand bare_app (new_app run_text).top = one.shape run_local ∙ ap₂ with_subcommand bare_is (ap (λ (a : App). a.top) run_is) in
-    two.shape gen_local ∙ ap₂ with_subcommand first_is (ap (λ (a : App). a.top) gen_is)
+    let second_is : app_of second ≡ with_subcommand (with_subcommand bare_app (new_app run_text).top) (new_app check_text).top =
+    two.shape check_local ∙ ap₂ with_subcommand first_is (ap (λ (a : App). a.top) check_is) in
+    three.shape gen_local ∙ ap₂ with_subcommand second_is (ap (λ (a : App). a.top) gen_is)
 
 -- ---- what a parse tells
 
@@ -381,27 +442,37 @@ same_size : (a b : Text) (x y : Option Text) → ◌≡◌ {A = Option (Text × 
 unfolding size_in
 same_size a b x y e = ap size_in e
 
+name_in : Option (Text × Option Text) → Text
+name_in None = []
+name_in (Some p) = p.0
+
+same_name : (a b : Text) (x y : Option Text) → ◌≡◌ {A = Option (Text × Option Text)} (Some (a, x)) (Some (b, y)) → a ≡ b
+unfolding name_in
+same_name a b x y e = ap name_in e
+
 none_by : (words : List Text) → Outcome words → Parsed words None → IsNeither words
 none_by words (refused n none) p = none
 none_by words (nothing none s) p = none
-none_by words (is_run is t s) p = absurd (no_option (run_text, None) (sym s ∙ p.sees))
+none_by words (is_alone name is t s) p = absurd (no_option (name, None) (sym s ∙ p.sees))
 none_by words (is_gen x is t s) p = absurd (no_option (gen_text, Some x) (sym s ∙ p.sees))
 
--- the size that a subcommand has, or that it has none
-abbrev pub AsksFor : List Text → Option Text → Type 0
-AsksFor words None = IsRun words
-AsksFor words (Some x) = HasSize words x
+-- the size behind `gen`, or that the name stands alone
+abbrev pub AsksFor : List Text → Text → Option Text → Type 0
+AsksFor words name None = IsAlone words name
+AsksFor words name (Some x) = HasSize words x
 
-some_by : (words : List Text) (name : Text) (x : Option Text) → Outcome words → Parsed words (Some (name, x)) → AsksFor words x
+some_by : (words : List Text) (name : Text) (x : Option Text) → Outcome words → Parsed words (Some (name, x)) → AsksFor words name x
 some_by words name x (refused n none) p = absurd (n p.taken)
 some_by words name x (nothing none s) p = absurd (no_option (name, x) (sym p.sees ∙ s))
-some_by words name x (is_run is t s) p = subst (λ (z : Option Text). AsksFor words z) (same_size run_text name None x (sym s ∙ p.sees)) is
-some_by words name x (is_gen y is t s) p = subst (λ (z : Option Text). AsksFor words z) (same_size gen_text name (Some y) x (sym s ∙ p.sees)) is
+some_by words name x (is_alone other is t s) p =
+    let named : other ≡ name = same_name other name None x (sym s ∙ p.sees) in
+    subst (λ (z : Option Text). AsksFor words name z) (same_size other name None x (sym s ∙ p.sees)) (subst (IsAlone words) named is)
+some_by words name x (is_gen y is t s) p = subst (λ (z : Option Text). AsksFor words name z) (same_size gen_text name (Some y) x (sym s ∙ p.sees)) is
 
 error_by : (words : List Text) (k : ErrorKind) → Outcome words → IsAmong k (fault_of palm_app words) → IsNeither words
 error_by words k (refused n none) among = none
 error_by words k (nothing none s) among = none
-error_by words k (is_run is t s) among = absurd (subst (λ (z : Kinds). IsAmong k z) t among)
+error_by words k (is_alone name is t s) among = absurd (subst (λ (z : Kinds). IsAmong k z) t among)
 error_by words k (is_gen x is t s) among = absurd (subst (λ (z : Kinds). IsAmong k z) t among)
 
 pub none_asked : (words : List Text) (c : Command) (m : ArgMatches) → All IsBare words → app_of c ≡ palm_app
@@ -411,7 +482,7 @@ none_asked words c m bare is kinds matches name =
 
 pub some_asked : (words : List Text) (c : Command) (m inner : ArgMatches) (name : Text) (x : Option Text) → All IsBare words → app_of c ≡ palm_app
     → (is_simple_and_free (app_of c) ≡ true → fault_of (app_of c) words ≡ []) → HasMatchesOf (app_of c) words m → Some name ≡ subcommand_name_of m
-    → Some (rows_of (found_of inner)) ≡ option_map (λ p. p.1) (subcommand_rows_of m) → x ≡ first_value (found_of inner) size_text → AsksFor words x
+    → Some (rows_of (found_of inner)) ≡ option_map (λ p. p.1) (subcommand_rows_of m) → x ≡ first_value (found_of inner) size_text → AsksFor words name x
 some_asked words c m inner name x bare is kinds matches named rows given =
     let size : first_of size_text (rows_of (found_of inner)) ≡ x = sym (first_value-rows (found_of inner) size_text) ∙ sym given in
     some_by words name x (outcome words bare) (parsed words (Some (name, x)) c m is kinds matches

@@ -1,9 +1,12 @@
+pub mod CheckLemmas
 pub mod CommandLine
 pub mod Endings
 pub mod InnerLines
+pub mod NameLemmas
 pub mod QueenLines
 pub mod RunLemmas
 pub mod SolveLemmas
 pub mod SummaryLemmas
+pub mod Taking
 pub mod TopLemmas
 pub mod WordLemmas

@@ -1,10 +1,10 @@
 -- What `run` keeps from one read to the next, and how it ends.
 use Rattle.std.proofs.Common.{◌≡◌, ℕ, ◌+◌, ◌-◌, ◌<◌, ◌≤◌, ◌⊎◌, inl, inr, List, [], ◌∷◌, ◌++◌, map, flat_map, take, drop, length, All, Option, Some, None, Ok, Err, false, get_or, Global, String, string_bytes, refl, sym, ap, ◌∙◌, subst, arith, append_assoc, append-nil, length-append, min, zero, suc}
 use Rattle.std.proofs.lemmas.List.{take_all, length-take, take-append-drop}
-use Rattle.std.proofs.Math.Seq.{take-append-add, take-append_seam}
+use Rattle.std.proofs.Math.Seq.{take-append-add}
 use Rattle.std.proofs.lemmas.List.Elements.{All-nil, All-cons, All-append, All-head, All-tail}
 use Rattle.palm_base.proofs.Members.{Known, nat_known}
-use Rattle.palm_base.specs.Streams.{SinkState, Consumes, IsAtEnd, Appended, AppendedFront, Rose}
+use Rattle.palm_base.specs.Streams.{SinkState, Consumes, Appended, AppendedFront, Rose}
 use Rattle.palm_base.proofs.StreamLemmas.{consumes_nothing, consumes_both, appended_nothing, appended_both}
 use Rattle.palm_lang.specs.Reply.{ended}
 use Rattle.palm_session.specs.State.{SessionState, fresh}
@@ -16,12 +16,13 @@ use Rattle.palm_session.proofs.Asked.{run_of}
 use Rattle.palm_session.proofs.Keeping.{feeds_long, feeds_long_end, feeds_long_part, finishes_long, finishes_long_part}
 use Rattle.palm_session.specs.declared.limits.TheConstants.{MOST_KEPT_BYTES}
 use Rattle.std.proofs.lemmas.Grind.{flat_map-append}
-use Rattle.palm_cli.specs.Commands.{Streams, IsCalm, FailsToWrite, RunsAll, RunsPart, HasEnd, StopsInTime, IsAll, IsWhole, IsCut, Runs, HasNoFault, TakesAnswerable, TakesTooMuch, first_bytes}
+use Rattle.palm_cli.specs.Commands.{Streams, IsCalm, FailsToWrite, RunsAll, RunsPart, HasEnd, StopsInTime, IsWhole, IsCut, Runs, HasNoFault, TakesAnswerable, TakesTooMuch, first_bytes}
 use Rattle.palm_cli.specs.Serving.{IsFresh, FinishesStatus, FeedsStatus, ReadsPiece, ReadsEnd, PumpsFault, PumpsPiece, Pumps}
 use Rattle.palm_cli.proofs.Endings.{no_end}
+use Rattle.palm_cli.proofs.Taking.{all_left, rose_after, told_once}
 use Rattle.palm_cli.specs.declared.limits.TheConstants.{MOST_INPUT_BYTES, PIECE}
 use Rattle.palm_cli.specs.declared.status.Status.{Status}
-use Rattle.palm_cli.specs.declared.status.Status.TheVariants.{Done, Usage, ReadFault, WriteFault, NoMemory, TooLong}
+use Rattle.palm_cli.specs.declared.status.Status.TheVariants.{Done, Refused, Usage, ReadFault, WriteFault, NoMemory, TooLong}
 
 -- the text: what was taken without a fault, of which the session was fed what can be answered
 pub record Served (guides orders : List ℕ) (before now : Streams) (taken : ℕ) (session : View) : Type 0 where
@@ -107,9 +108,6 @@ module _ (guides orders : List ℕ) where
 
   same_written : (a b : SinkState) (was : Option (List ℕ)) (text rest : List ℕ) (t : SessionState) (n : ℕ) → a ≡ b → FeedsOn (fresh guides orders) text was b.written rest t n → FeedsOn (fresh guides orders) text was a.written rest t n
   same_written a b was text rest t n e f = subst (λ (k : SinkState). FeedsOn (fresh guides orders) text was k.written rest t n) (sym e) f
-
-  rose_after : (a b c : ℕ) → b ≡ a → Rose b c → Rose a c
-  rose_after a b c e r = subst (λ (n : ℕ). Rose n c) e r
 
   fault_runs : (before mid now : Streams) (taken : ℕ) (session : View) → Served guides orders before mid taken session → taken ≤ MOST_INPUT_BYTES
       → PumpsFault mid now ReadFault → Runs guides orders before now ReadFault
@@ -213,11 +211,6 @@ module _ (guides orders : List ℕ) where
     },
   )
 
-  all_left : (left mid : Option (List ℕ)) (text : List ℕ) → Consumes left mid text → IsAtEnd mid → IsAll left text
-  all_left None mid text t e = tt
-  all_left (Some l) None text t e = absurd t
-  all_left (Some l) (Some n) text t e = t ∙ ap (λ (z : List ℕ). text ++ z) e ∙ append-nil text
-
   -- the lines of a text, whole ones and a last one
   lines_of : (text : List ℕ) (lines : List (List ℕ)) (rest : List ℕ) → text ≡ flat_map ended lines ++ rest → All HasNoFeed lines → HasNoFeed rest
       → AreLines text (map without_return lines ++ last_line rest)
@@ -304,6 +297,7 @@ module _ (guides orders : List ℕ) where
   last_runs before mid now taken session Done s le e f = (calm_more before mid now s.calm e.calm f.0, finish_done before mid now taken session f.1.0 f.1.1 s le e f.1.2)
   last_runs before mid now taken session WriteFault s le e f = (fails_more before mid now s.calm e.calm f.0, finish_part before mid now taken session s le e f.1)
   last_runs before mid now taken session NoMemory s le e f = (calm_more before mid now s.calm e.calm f.0, finish_part before mid now taken session s le e f.1)
+  last_runs before mid now taken session Refused s le e f = absurd f
   last_runs before mid now taken session Usage s le e f = f
   last_runs before mid now taken session ReadFault s le e f = absurd f
   last_runs before mid now taken session TooLong s le e f = absurd f
@@ -436,6 +430,7 @@ module _ (guides orders : List ℕ) where
   piece_runs before mid now taken session later Done piece s le r f = (calm_more before mid now s.calm r.calm f.0, more_end before mid now taken session later piece f.1.0 s le r f.1.1)
   piece_runs before mid now taken session later WriteFault piece s le r f = (fails_more before mid now s.calm r.calm f.0, more_part before mid now taken session piece s le r f.1)
   piece_runs before mid now taken session later NoMemory piece s le r f = (calm_more before mid now s.calm r.calm f.0, more_part before mid now taken session piece s le r f.1)
+  piece_runs before mid now taken session later Refused piece s le r f = absurd f
   piece_runs before mid now taken session later Usage piece s le r f = f
   piece_runs before mid now taken session later ReadFault piece s le r f = absurd f
   piece_runs before mid now taken session later TooLong piece s le r f = absurd f
@@ -459,6 +454,7 @@ module _ (guides orders : List ℕ) where
   -- without a fault and within the limit
   pub whole_status : (before after : Streams) (status : Status) → Runs guides orders before after status → HasNoFault before after → TakesAnswerable before after → IsWhole status
   whole_status before after Done r none within = tt
+  whole_status before after Refused r none within = r
   whole_status before after Usage r none within = r
   whole_status before after ReadFault r none within = none.read r.0.read
   whole_status before after WriteFault r none within = none.write r.0.write
@@ -469,19 +465,6 @@ module _ (guides orders : List ℕ) where
         | inr end ↦ no_end (fresh guides orders) r.1.state (first_bytes r.1.text) r.1.rest before.sink.written after.sink.written r.1.asked r.1.feeds end
       ]
 
-  -- where the source tells its bytes, it is known which were taken
-  taken_once : (left : List ℕ) (now_left : Option (List ℕ)) (a b : List ℕ) → Consumes (Some left) now_left a → Consumes (Some left) now_left b → a ≡ b
-  taken_once left None a b t u = absurd t
-  taken_once left (Some n) a b t u =
-      let la : length left ≡ length a + length n = ap length t ∙ length-append a n in
-      let lb : length left ≡ length b + length n = ap length u ∙ length-append b n in
-      let same : length a ≡ length b = omega (arith, la, lb) in
-      sym (take-append_seam a n) ∙ ap (λ (z : List ℕ). take (length a) z) (sym t ∙ u) ∙ ap (λ (k : ℕ). take k (b ++ n)) same ∙ take-append_seam b n
-
-  told_once : (before after : Option (List ℕ)) (left a b : List ℕ) → before ≡ Some left → Consumes before after a → Consumes before after b → a ≡ b
-  told_once before after left a b told t u =
-      taken_once left after a b (subst (λ (z : Option (List ℕ)). Consumes z after a) told t) (subst (λ (z : Option (List ℕ)). Consumes z after b) told u)
-
   -- more bytes than can be answered
   pub cut_status : (before after : Streams) (status : Status) → Runs guides orders before after status → TakesTooMuch before after → (Rose before.sink.faults after.sink.faults → ⊥) → IsCut status
   cut_status before after Done r much none =
@@ -490,6 +473,7 @@ module _ (guides orders : List ℕ) where
         | inl short ↦ absurd (omega (arith, ap length same, short.0, much.long))
         | inr end ↦ absurd (much.unended (subst (λ (z : List ℕ). HasEnd (first_bytes z)) same end))
       ]
+  cut_status before after Refused r much none = r
   cut_status before after Usage r much none = r
   cut_status before after ReadFault r much none =
       absurd (omega (arith, ap length (told_once before.source.left after.source.left much.left r.1.text much.text much.told r.1.takes much.takes), r.1.short, much.long))

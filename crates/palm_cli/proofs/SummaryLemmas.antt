@@ -15,6 +15,7 @@ use Rattle.palm_session.proofs.LawsOfChanges.{IsWithout}
 use Rattle.palm_session.proofs.LawsOfStates.{fresh_is}
 use Rattle.palm_session.proofs.LawsOfTexts.{has_run, run_keeps}
 use Rattle.palm_cli.proofs.InnerLines.{all_generated}
+use Rattle.palm_cli.proofs.Taking.{rose_after}
 use Rattle.palm_cli.proofs.SolveLemmas.{all_bare, all_unbroken, all_go_on}
 use Rattle.palm_cli.specs.Commands.{WritesSummary, status_of}
 use Rattle.palm_cli.specs.Generator.{IsSummary, heading, posing_lines, easing_lines, solve_line, generated_lines, generated_text}
@@ -186,9 +187,6 @@ fails_heading size before after rose f = let t = told_heading size before.writte
 
 pub stops_heading : (size : ℕ) (before after : SinkState) (text : List ℕ) → text ≡ heading size → Rose before.faults after.faults → AppendedFront before.written after.written text → WritesSummary size before after WriteFault
 stops_heading size before after text is rose f = fails_heading size before after rose (subst (λ (z : List ℕ). AppendedFront before.written after.written z) is f)
-
-rose_after : (a b c : ℕ) → b ≡ a → Rose b c → Rose a c
-rose_after a b c e r = subst (λ (n : ℕ). Rose n c) e r
 
 -- the first step stopped
 pub first_stops : (T U : Type 0) (size : ℕ) (before mid after : SinkState) (session later : View) (e : Stop) → session.state ≡ start → mid.faults ≡ before.faults

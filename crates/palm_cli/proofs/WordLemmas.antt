@@ -7,7 +7,7 @@ use Rattle.std.proofs.lemmas.List.Elements.{All-map}
 use Rattle.palm_base.proofs.Members.{all_members, member_cases, member_single, member_map}
 use Rattle.palm_base.specs.Numbers.{AreDigits, digits_number}
 use Rattle.palm_cli.specs.Generator.{IsSize}
-use Rattle.palm_cli.specs.Words.{IsRun, IsGen, IsNoCommand, BeginsWithDash, IsApart}
+use Rattle.palm_cli.specs.Words.{IsRun, IsCheck, IsGen, IsNoCommand, BeginsWithDash, IsApart}
 
 -- a word that does not begin with `-`
 abbrev pub IsBare : List ℕ → Type 0
@@ -37,6 +37,9 @@ apart_name name b bytes e other f (inr help) =
 run_stays : IsApart (codes "run") → ⊥
 run_stays a = apart_name (codes "run") 114 (codes "un") refl (λ e. absurd (omega (arith, e))) refl a
 
+check_stays : IsApart (codes "check") → ⊥
+check_stays a = apart_name (codes "check") 99 (codes "heck") refl (λ e. absurd (omega (arith, e))) refl a
+
 gen_stays : IsApart (codes "gen") → ⊥
 gen_stays a = apart_name (codes "gen") 103 (codes "en") refl (λ e. absurd (omega (arith, e))) refl a
 
@@ -54,6 +57,9 @@ apart_words words a =
       no_run = λ e.
           let is : codes "run" ≡ a.1 = member_single (codes "run") a.1 (subst (λ (z : List (List ℕ)). Contains z a.1) e m) in
           run_stays (subst IsApart (sym is) a.4);
+      no_check = λ e.
+          let is : codes "check" ≡ a.1 = member_single (codes "check") a.1 (subst (λ (z : List (List ℕ)). Contains z a.1) e m) in
+          check_stays (subst IsApart (sym is) a.4);
       no_gen = λ size g.
           elim (member_cases (codes "gen") (g.word ∷ []) a.1 (subst (λ (z : List (List ℕ)). Contains z a.1) g.whole m)) [
             | inl is ↦ gen_stays (subst IsApart (sym is) a.4)
@@ -80,12 +86,33 @@ second a b e = ap (λ (xs : List (List ℕ)). get_or xs 1 []) e
 pub one_size : (words : List (List ℕ)) (m n : ℕ) → IsGen words m → IsGen words n → m ≡ n
 one_size words m n g h = sym g.tells.number ∙ ap digits_number (second g.word h.word (sym g.whole ∙ h.whole)) ∙ h.tells.number
 
+-- a list of one word is none of two
+lengths : (a b c : List ℕ) → a ∷ [] ≡ b ∷ c ∷ [] → ⊥
+lengths a b c e = cc
+
 -- and no two commands
 pub run_no_gen : (words : List (List ℕ)) (n : ℕ) → IsRun words → IsGen words n → ⊥
 run_no_gen words n r g = lengths (codes "run") (codes "gen") g.word (sym r ∙ g.whole)
-  where
-    lengths : (a b c : List ℕ) → a ∷ [] ≡ b ∷ c ∷ [] → ⊥
-    lengths a b c e = cc
+
+pub check_no_gen : (words : List (List ℕ)) (n : ℕ) → IsCheck words → IsGen words n → ⊥
+check_no_gen words n c g = lengths (codes "check") (codes "gen") g.word (sym c ∙ g.whole)
+
+only : (a b : List ℕ) → a ∷ [] ≡ b ∷ [] → a ≡ b
+only a b e = ap (λ (xs : List (List ℕ)). get_or xs 0 []) e
+
+differs : (a b : List ℕ) → bytes_eq a b ≡ false → a ≡ b → ⊥
+differs a b f e = let t : bytes_eq a b ≡ true = (bytes_eq-Decides a b).1 e in cc
+
+pub run_no_check : (words : List (List ℕ)) → IsRun words → IsCheck words → ⊥
+run_no_check words r c = differs (codes "run") (codes "check") refl (only (codes "run") (codes "check") (sym r ∙ c))
+
+-- a word alone that is no command's
+pub other_alone : (word : List ℕ) → (word ≡ codes "run" → ⊥) → (word ≡ codes "check" → ⊥) → IsNoCommand (word ∷ [])
+other_alone word r c = record {
+  no_run = λ e. r (only word (codes "run") e);
+  no_check = λ e. c (only word (codes "check") e);
+  no_gen = λ n g. lengths word (codes "gen") g.word g.whole;
+}
 
 -- the words `gen` and another one
 abbrev pub HasSize : List (List ℕ) → List ℕ → Type 0
@@ -97,11 +124,9 @@ gen_by words word n e s = record { word = word; whole = e; tells = s }
 pub no_gen_by : (words : List (List ℕ)) (word : List ℕ) → HasSize words word → ((n : ℕ) → IsSize word n → ⊥) → IsNoCommand words
 no_gen_by words word e none = record {
   no_run = λ r. lengths (codes "run") (codes "gen") word (sym r ∙ e);
+  no_check = λ c. lengths (codes "check") (codes "gen") word (sym c ∙ e);
   no_gen = λ n g. none n (subst (λ (w : List ℕ). IsSize w n) (second g.word word (sym g.whole ∙ e)) g.tells);
 }
-  where
-    lengths : (a b c : List ℕ) → a ∷ [] ≡ b ∷ c ∷ [] → ⊥
-    lengths a b c e = cc
 
 -- what holds where there is nothing
 pub if_none : {X : Type 0} (P : Type 0) (o : Option X) → P → IfNone o P

@@ -1,6 +1,11 @@
 -- What the commands do: the bytes that are taken, the bytes that are written, and the cause of each status.
-use Rattle.std.specs.Prelude.{◌≡◌, ℕ, ◌<◌, ◌≤◌, ◌⊎◌, List, [], ◌∷◌, ◌++◌, length, take, flat_map, codes, All, Option, Some, None, Result, Ok, Err, ⊤}
+use Rattle.std.specs.Prelude.{◌≡◌, ℕ, ◌<◌, ◌≤◌, ◌⊎◌, List, [], ◌∷◌, ◌++◌, ◌+◌, length, take, flat_map, codes, All, Option, Some, None, Result, Ok, Err, ⊤}
 use Rattle.palm_base.specs.Streams.{SourceState, SinkState, Consumes, Appended, AppendedFront, Rose}
+use Rattle.palm_claim.specs.Verdict.{IsVerdict}
+use Rattle.palm_claim.specs.declared.verdict.Cause.{Cause}
+use Rattle.palm_claim.specs.declared.verdict.Proved.{Proved}
+use Rattle.palm_claim.specs.declared.verdict.Verdict.{Verdict}
+use Rattle.palm_claim.specs.declared.verdict.Verdict.TheVariants as verdict
 use Rattle.palm_lang.specs.Reply.{ended}
 use Rattle.palm_session.specs.State.{SessionState, fresh}
 use Rattle.palm_session.specs.Lines.{HasNoFeed, AreLines, without_return}
@@ -9,11 +14,12 @@ use Rattle.palm_session.specs.Feeding.{FeedsOn}
 use Rattle.palm_session.specs.declared.stop.Stop.{Stop}
 use Rattle.palm_session.specs.declared.stop.Stop.TheVariants as stop
 use Rattle.palm_cli.specs.Generator.{IsSummary}
+use Rattle.palm_cli.specs.Verdicts.{verdict_line, verdict_status}
 use Rattle.palm_cli.specs.declared.limits.TheConstants.{MOST_INPUT_BYTES, PIECE}
 use Rattle.palm_cli.specs.declared.words.Request.{Request}
-use Rattle.palm_cli.specs.declared.words.Request.TheVariants.{Run, Gen}
+use Rattle.palm_cli.specs.declared.words.Request.TheVariants.{Run, Check, Gen}
 use Rattle.palm_cli.specs.declared.status.Status.{Status}
-use Rattle.palm_cli.specs.declared.status.Status.TheVariants.{Done, Usage, ReadFault, WriteFault, NoMemory, TooLong}
+use Rattle.palm_cli.specs.declared.status.Status.TheVariants.{Done, Refused, Usage, ReadFault, WriteFault, NoMemory, TooLong}
 
 -- the source that a command reads and the sink that it writes
 pub record Streams : Type 0 where
@@ -118,11 +124,52 @@ pub record RunsPart (guides orders : List ℕ) (before after : Streams) : Type 0
 -- what `run` does where guides and orders with these numbers were handed in, by the status that it ends with
 abbrev pub Runs : List ℕ → List ℕ → Streams → Streams → Status → Type 0
 Runs guides orders before after Done = IsCalm before after × RunsAll guides orders before after
+Runs guides orders before after Refused = ⊥
 Runs guides orders before after Usage = ⊥
 Runs guides orders before after ReadFault = FailsToRead before after × RunsLines guides orders before after
 Runs guides orders before after WriteFault = FailsToWrite before after × RunsPart guides orders before after
 Runs guides orders before after NoMemory = IsCalm before after × RunsPart guides orders before after
 Runs guides orders before after TooLong = IsCalm before after × RunsOver guides orders before after
+
+-- the whole text was taken: to its end, and within the limit
+pub record TakesText (before after : SourceState) (text : List ℕ) : Type 0 where
+  pub takes : Consumes before.left after.left text
+  pub short : length text ≤ MOST_INPUT_BYTES
+  pub whole : IsAll before.left text
+
+-- no read came after more than the limit were taken: without its last piece the text is within it
+abbrev pub IsInTime : List ℕ → Type 0
+IsInTime text = length text ≤ MOST_INPUT_BYTES + PIECE
+
+-- the whole text was taken, and the line of its verdict was written
+pub record ChecksAll (before after : Streams) (told : Verdict) : Type 0 where
+  pub text : List ℕ
+  pub takes : TakesText before.source after.source text
+  pub is : IsVerdict text told
+  pub written : Appended before.sink.written after.sink.written (verdict_line told)
+
+-- the whole text was taken, and a front of the line of its verdict was written
+pub record ChecksPart (before after : Streams) : Type 0 where
+  pub text : List ℕ
+  pub told : Verdict
+  pub takes : TakesText before.source after.source text
+  pub is : IsVerdict text told
+  pub written : AppendedFront before.sink.written after.sink.written (verdict_line told)
+
+-- these bytes were taken, and nothing was written
+pub record ChecksNone (before after : Streams) (text : List ℕ) : Type 0 where
+  pub takes : Consumes before.source.left after.source.left text
+  pub unwritten : after.sink ≡ before.sink
+
+-- what `check` does, by the status that it ends with
+abbrev pub Checks : Streams → Streams → Status → Type 0
+Checks before after Done = IsCalm before after × (proved : Proved) × ChecksAll before after (verdict.Accepted proved)
+Checks before after Refused = IsCalm before after × (line : ℕ) × (cause : Cause) × ChecksAll before after (verdict.Refused line cause)
+Checks before after Usage = ⊥
+Checks before after ReadFault = FailsToRead before after × (text : List ℕ) × ChecksNone before after text × (length text ≤ MOST_INPUT_BYTES)
+Checks before after WriteFault = FailsToWrite before after × ChecksPart before after
+Checks before after NoMemory = IsCalm before after × (text : List ℕ) × ChecksNone before after text × IsInTime text
+Checks before after TooLong = IsCalm before after × (text : List ℕ) × ChecksNone before after text × (MOST_INPUT_BYTES < length text) × IsInTime text
 
 -- the usage line was written, or a front of it where a write failed or memory ran out
 abbrev pub WritesUsage : SinkState → SinkState → Status → Type 0
@@ -155,6 +202,7 @@ pub record Generates (size : ℕ) (before after : Streams) (status : Status) : T
 abbrev pub Obeys : List ℕ → List ℕ → Option Request → Streams → Streams → Status → Type 0
 Obeys guides orders None before after status = Refuses before after status
 Obeys guides orders (Some Run) before after status = Runs guides orders before after status
+Obeys guides orders (Some Check) before after status = Checks before after status
 Obeys guides orders (Some (Gen size)) before after status = Generates size before after status
 
 -- the status of a command that stopped, or did not
@@ -196,3 +244,24 @@ abbrev pub IsCut : Status → Type 0
 IsCut TooLong = ⊤
 IsCut NoMemory = ⊤
 IsCut _ = ⊥
+
+-- a source that tells its bytes gave a text within the limit that has this verdict
+pub record TakesJudged (before after : Streams) (told : Verdict) : Type 0 where
+  pub left : List ℕ
+  pub text : List ℕ
+  pub tells : before.source.left ≡ Some left
+  pub takes : Consumes before.source.left after.source.left text
+  pub short : length text ≤ MOST_INPUT_BYTES
+  pub is : IsVerdict text told
+
+-- a source that tells its bytes gave more than may be
+pub record TakesOver (before after : Streams) : Type 0 where
+  pub left : List ℕ
+  pub text : List ℕ
+  pub tells : before.source.left ≡ Some left
+  pub takes : Consumes before.source.left after.source.left text
+  pub long : MOST_INPUT_BYTES < length text
+
+-- the status of the verdict, or want of memory
+abbrev pub EndsWith : Verdict → Status → Type 0
+EndsWith told status = (status ≡ verdict_status told) ⊎ (status ≡ NoMemory)

@@ -1,10 +1,11 @@
 -- The exit statuses of the process.
 use Rattle.std.specs.Prelude.{ℕ}
 use Rattle.palm_cli.specs.declared.status.Status.{Status}
-use Rattle.palm_cli.specs.declared.status.Status.TheVariants.{Done, Usage, ReadFault, WriteFault, NoMemory, TooLong}
+use Rattle.palm_cli.specs.declared.status.Status.TheVariants.{Done, Refused, Usage, ReadFault, WriteFault, NoMemory, TooLong}
 
 abbrev pub status_number : Status → ℕ
 status_number Done = 0
+status_number Refused = 1
 status_number Usage = 2
 status_number ReadFault = 3
 status_number WriteFault = 4

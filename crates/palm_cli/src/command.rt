@@ -2,9 +2,11 @@
 ghost use Rattle.std.specs.Prelude.{ℕ, map, string_bytes, vec_len};
 ghost use Rattle.palm_base.specs.Streams.{Rose};
 ghost use Rattle.palm_session.specs.Objects.{numbered};
-ghost use Rattle.palm_cli.specs.Commands.{IsCut, IsWhole, Generates, HasNoFault, Obeys, Refuses, Runs, TakesAnswerable, TakesTooMuch, WritesUsage, streams};
-ghost use Rattle.palm_cli.specs.Words.{IsFit, IsGen, IsNoCommand, IsRun};
+ghost use Rattle.palm_claim.specs.declared.verdict.Verdict.{Verdict};
+ghost use Rattle.palm_cli.specs.Commands.{Checks, EndsWith, IsCut, IsWhole, Generates, HasNoFault, Obeys, Refuses, Runs, TakesAnswerable, TakesJudged, TakesOver, TakesTooMuch, WritesUsage, streams};
+ghost use Rattle.palm_cli.specs.Words.{IsCheck, IsFit, IsGen, IsNoCommand, IsRun};
 
+use crate::checking::check;
 use crate::generator::generate;
 use crate::serving::run;
 use crate::status::Status;
@@ -28,6 +30,9 @@ pub fn top<S: Source, K: Sink, G: Guide, O: Order>(
     ensures runs { IsRun (map string_bytes words.now) →
         Runs (numbered (vec_len guides)) (numbered (vec_len orders))
         (streams (S.state source.old) (K.state sink.old)) (streams (S.state source.new) (K.state sink.new)) result }
+    // `check` reads the source to its end, and writes the line of its verdict; every other end has its cause.
+    ensures checks { IsCheck (map string_bytes words.now) →
+        Checks (streams (S.state source.old) (K.state sink.old)) (streams (S.state source.new) (K.state sink.new)) result }
     // `gen` reads nothing, and writes the summary of the session of so many queens.
     ensures generates { (size : ℕ) → IsGen (map string_bytes words.now) size →
         Generates size (streams (S.state source.old) (K.state sink.old)) (streams (S.state source.new) (K.state sink.new)) result }
@@ -47,6 +52,14 @@ pub fn top<S: Source, K: Sink, G: Guide, O: Order>(
         let after = streams (S.state source.new) (K.state sink.new) in
         IsRun (map string_bytes words.now) → TakesTooMuch before after →
         (Rose (K.state sink.old).faults (K.state sink.new).faults → ⊥) → IsCut result }
+    // Without a fault, the verdict on a text that is not too long is told, unless memory runs out.
+    ensures judged { let before = streams (S.state source.old) (K.state sink.old) in
+        let after = streams (S.state source.new) (K.state sink.new) in
+        (told : Verdict) → IsCheck (map string_bytes words.now) → HasNoFault before after → TakesJudged before after told → EndsWith told result }
+    // A text of which too much was taken is told to be too long.
+    ensures over { let before = streams (S.state source.old) (K.state sink.old) in
+        let after = streams (S.state source.new) (K.state sink.new) in
+        IsCheck (map string_bytes words.now) → TakesOver before after → IsCut result }
 {
     let Ok(request) = request_of(alloc, words) else {
         return Status::NoMemory;
@@ -69,6 +82,7 @@ fn obey<S: Source, K: Sink, G: Guide, O: Order>(
 {
     match request {
         Some(Request::Run) => run(alloc, source, sink, guides, orders),
+        Some(Request::Check) => check(alloc, source, sink),
         Some(Request::Gen { size }) => generate(alloc, size, sink),
         None => refuse(sink),
     }

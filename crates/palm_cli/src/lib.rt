@@ -1,6 +1,7 @@
 //! The commands of palm: words, a source and a sink in; a status out.
 #![tactic(auto)]
 
+mod checking;
 mod command;
 mod generator;
 mod laws;
@@ -8,6 +9,7 @@ mod limits;
 mod queens;
 mod serving;
 mod status;
+mod verdicts;
 mod words;
 
 pub use command::top;

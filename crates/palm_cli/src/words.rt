@@ -1,5 +1,5 @@
 //! The words after the program's name.
-ghost use Rattle.std.specs.Prelude.{ℕ, map, string_bytes, Any, IfOk, IfSome, IfNone};
+ghost use Rattle.std.specs.Prelude.{ℕ, [], ◌∷◌, map, string_bytes, Any, IfOk, IfSome, IfNone};
 ghost use Rattle.palm_base.specs.Tells.{Tells};
 ghost use Rattle.palm_cli.specs.Generator.{IsSize};
 ghost use Rattle.palm_cli.specs.Words.{Asks, IsApart};
@@ -15,6 +15,8 @@ use std::alloc::Global;
 pub enum Request {
     /// `run`: the lines of the source are answered.
     Run,
+    /// `check`: the verdict on the source is told.
+    Check,
     /// `gen N`: the session of so many queens is made and summed up.
     Gen { size: u8 },
 }
@@ -61,6 +63,7 @@ fn parse(alloc: Global, words: &[String]) -> Result<Option<Request>, NoMemory>
         .disable_help_subcommand(true)
         .disable_version_flag(true)
         .subcommand(Command::new(alloc, "run"))?
+        .subcommand(Command::new(alloc, "check"))?
         .subcommand(generate)?;
     let matches = match palm.try_get_matches_from(words) {
         Ok(matches) => matches,
@@ -69,15 +72,26 @@ fn parse(alloc: Global, words: &[String]) -> Result<Option<Request>, NoMemory>
             _ => return Ok(None),
         },
     };
-    let Some((_, inner)) = matches.subcommand() else {
+    let Some((name, inner)) = matches.subcommand() else {
         return Ok(None);
     };
     let Some(word) = inner.get_str("N") else {
-        return Ok(Some(Request::Run));
+        return Ok(request_alone(name));
     };
     match size_of(word.as_bytes()) {
         Some(size) => Ok(Some(Request::Gen { size })),
         None => Ok(None),
+    }
+}
+
+/// What a word asks for that no other word follows.
+fn request_alone(word: &str) -> Option<Request>
+    ensures { Asks (word.now ∷ []) result }
+{
+    match word {
+        "run" => Some(Request::Run),
+        "check" => Some(Request::Check),
+        _ => None,
     }
 }
 

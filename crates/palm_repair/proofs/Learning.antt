@@ -1,37 +1,31 @@
 -- Weights rise, room is made, a nogood is listed, and negations are posted.
-use Rattle.std.proofs.Common.{◌≡◌, ℕ, zero, suc, ◌+◌, ◌<◌, ◌≤◌, Bool, true, false, not, ◌||◌, cond, Option, None, Some, List, [], ◌∷◌, ◌++◌, filter, length, map, slice_set, get_or, take, drop, remove, replicate, Contains, ℤ, ◌⊎◌, inl, inr, refl, sym, ap, ◌∙◌, subst, arith, nat_eq, eq-eqb, eqb-true, take_all}
+use Rattle.std.proofs.Common.{◌≡◌, ℕ, zero, suc, ◌+◌, ◌<◌, ◌≤◌, Bool, true, false, not, ◌||◌, cond, Option, None, Some, List, [], ◌∷◌, ◌++◌, filter, length, map, slice_set, get_or, take, drop, replicate, Contains, ℤ, inl, inr, refl, sym, ap, ◌∙◌, subst, arith, nat_eq, eq-eqb, eqb-true, take_all}
 use Rattle.std.specs.List.{list_any}
-use Rattle.std.proofs.lemmas.Bool.{cases_Bool, cases_eq, false≢true, not-true}
+use Rattle.std.proofs.lemmas.Bool.{cases_Bool}
 use Rattle.std.proofs.lemmas.List.{take_more, length-map}
-use Rattle.std.proofs.lemmas.List.Elements.{Contains-append_cases, Contains-append_left, Contains-append_right, filter-append}
 use Rattle.palm_base.specs.declared.terms.Pair.{Pair}
-use Rattle.palm_base.specs.declared.terms.Cid.{Cid}
 use Rattle.palm_base.specs.declared.terms.Cid.TheVariants.{Decide, Not}
-use Rattle.palm_base.proofs.Members.{member_nil, member_here, member_there, member_cases, member_same, member_single, member_map, member_unmap, member_filter, filter_member, filter_agree_members}
+use Rattle.palm_base.proofs.Members.{member_nil, member_here, member_there, member_cases, member_same}
 use Rattle.palm_model.specs.Constraint.{Distinct}
 use Rattle.palm_model.specs.Domains.{Domains}
-use Rattle.palm_model.specs.Event.{Posts, Withdraws, WithdrawsAll, gone_with, lost_pairs, vars_of, without_names}
-use Rattle.palm_model.specs.Log.{Active, IsActive, Removal, Loses, cids_of, is_named, same_pair}
-use Rattle.palm_model.specs.Log.Loses.{none_left, is_lost, is_kept}
-use Rattle.palm_model.specs.State.{EngineState, IsValid, IsGround, is_user, woken}
+use Rattle.palm_model.specs.Log.{IsActive, same_pair}
+use Rattle.palm_model.specs.State.{EngineState}
 use Rattle.palm_model.proofs.Supports.{not_true}
-use Rattle.palm_events.proofs.Names.{named_member, member_named, pair_same}
-use Rattle.palm_events.proofs.States.{active_cid, cid_active, form_grounds, member_without_names, without_names_member}
+use Rattle.palm_events.proofs.Names.{pair_same}
 use Rattle.palm_engine.specs.Engine.{View, KeepsCounts}
 use Rattle.palm_domain.specs.Rows.{Row, initial_of}
 use Rattle.palm_search.specs.Calls.{SearchView, search_state}
 use Rattle.palm_search.specs.Kept.{HasDecisions}
 use Rattle.palm_search.specs.Turns.{negation_of}
 use Rattle.palm_search.proofs.Deciding.{posted_has}
-use Rattle.palm_repair.specs.Posting.{Nogood, Origin, RepairState, PostsNegation, PostsFor, PostsFrom, PostsAll, undecided, justification, with_origin, active_origins}
-use Rattle.palm_repair.specs.Repair.{Drops, MakesRoom, raised, raised_from, weight_of, negations_from, forced_by}
-use Rattle.palm_repair.specs.Kept.{HasOrigins, IsNogood, IsNumbered, IsRepairing}
+use Rattle.palm_repair.specs.Posting.{Nogood, Origin, RepairState, PostsFor, PostsFrom, PostsAll, undecided, justification, with_origin}
+use Rattle.palm_repair.specs.Repair.{raised, raised_from, weight_of}
+use Rattle.palm_repair.specs.Kept.{HasOrigins, IsNumbered, IsRepairing}
 use Rattle.palm_repair.specs.Learned.{Forces, IsForced, LearnedView, ShowsDecisions, left_open, repair_state}
 use Rattle.palm_repair.specs.Turning.{Moves}
-use Rattle.palm_repair.specs.Turning.Moves.{moves_none, moves_posted, moves_withdrawn, moves_filtered}
-use Rattle.palm_repair.proofs.Forcing.{Leaves, leaves_none, leaves_then, justification_grounds, one_left, numbered_member, posts_for_keeps, posts_for_leaves}
+use Rattle.palm_repair.specs.Turning.Moves.{moves_none, moves_posted}
+use Rattle.palm_repair.proofs.Forcing.{Leaves, leaves_none, leaves_then, justification_grounds, one_left, posts_for_keeps, posts_for_leaves}
 use Rattle.palm_repair.proofs.Reading.{at_member, open_is, split_at}
-use Rattle.palm_repair.proofs.Repairing.{forced_keeps, forced_no_user}
 
 -- ---- places
 

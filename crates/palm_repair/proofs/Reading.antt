@@ -8,7 +8,7 @@ use Rattle.std.proofs.lemmas.List.Elements.{Contains-append_left, Contains-appen
 use Rattle.palm_base.specs.declared.terms.Pair.{Pair}
 use Rattle.palm_base.specs.declared.terms.Cid.{Cid}
 use Rattle.palm_base.specs.declared.terms.Cid.TheVariants.{Decide, Not, User}
-use Rattle.palm_base.proofs.Members.{member_nil, member_here, member_there, member_cases, member_same, member_map, member_take_more, filter_agree_members}
+use Rattle.palm_base.proofs.Members.{member_nil, member_here, member_cases, member_same, member_map, member_take_more, filter_agree_members}
 use Rattle.palm_model.specs.Conflict.{InConflict, InFlat, IsKeptConflict}
 use Rattle.palm_model.specs.Conflict.InFlat.{as_it_is, in_place}
 use Rattle.palm_model.specs.Constraint.{Distinct}

@@ -1,10 +1,9 @@
 -- A run of a repair, turn after turn, and what is left after it.
-use Rattle.std.proofs.Common.{◌≡◌, ℕ, zero, suc, ◌+◌, ◌-◌, ◌<◌, ◌≤◌, Bool, Option, None, Some, List, [], ◌∷◌, ◌++◌, length, map, min, Contains, ◌⊎◌, refl, sym, ap, ◌∙◌, subst, arith, length-append}
-use Rattle.palm_base.specs.declared.terms.Cid.{Cid}
+use Rattle.std.proofs.Common.{◌≡◌, ℕ, ◌+◌, ◌-◌, ◌<◌, ◌≤◌, Bool, None, Some, List, [], ◌∷◌, ◌++◌, length, map, min, Contains, ◌⊎◌, refl, sym, ap, ◌∙◌, subst, arith, length-append}
 use Rattle.palm_base.specs.declared.terms.Pair.{Pair}
 use Rattle.palm_base.proofs.Members.{member_unmap}
 use Rattle.palm_model.specs.Domains.{Domains}
-use Rattle.palm_model.specs.State.{EngineState, IsValid, is_user}
+use Rattle.palm_model.specs.State.{EngineState, IsValid}
 use Rattle.palm_model.specs.Event.{WithdrawsAll}
 use Rattle.palm_events.proofs.Valid.{posts_valid, withdraws_all_valid}
 use Rattle.palm_events.specs.Along.{IsStill}
@@ -17,18 +16,17 @@ use Rattle.palm_engine.proofs.Walking.{filters_then, revisions_filter, walk_filt
 use Rattle.palm_search.specs.declared.turn.Turn.{Turn}
 use Rattle.palm_search.specs.Calls.{SearchView, search_state}
 use Rattle.palm_search.specs.Kept.{HasDecisions, HasOnlyUsers}
-use Rattle.palm_search.specs.Search.{Closes, begun, search_cids}
-use Rattle.palm_search.specs.Turns.{SettlesAfter}
+use Rattle.palm_search.specs.Search.{search_cids}
 use Rattle.palm_search.proofs.Deciding.{settles_has}
 use Rattle.palm_search.proofs.Keeping.{begins}
-use Rattle.palm_search.proofs.Leaving.{Remembers, Returns, Searched, closing_leaves, closing_returns, remembers_filtered, remembers_none, remembers_posted, remembers_withdrawn, run_found, run_unsolved, run_users, searched_filtered, searched_none, searched_posted, searched_withdrawn, settles_still, users_later}
+use Rattle.palm_search.proofs.Leaving.{Remembers, Returns, Searched, closing_leaves, closing_returns, remembers_filtered, remembers_none, remembers_posted, remembers_withdrawn, run_found, run_unsolved, run_users, searched_filtered, searched_none, searched_posted, searched_withdrawn, users_later}
 use Rattle.palm_repair.specs.declared.answer.RepairAnswer.{RepairAnswer}
 use Rattle.palm_repair.specs.declared.answer.RepairAnswer.TheVariants.{Found, NoSolution, Spent}
-use Rattle.palm_repair.specs.Answers.{HasRepaired, IsTrueOf, TellsDropped, end_of}
+use Rattle.palm_repair.specs.Answers.{HasRepaired, IsTrueOf, end_of}
 use Rattle.palm_repair.specs.Kept.{IsRepairing}
 use Rattle.palm_repair.specs.Learned.{LearnedView, repair_state}
 use Rattle.palm_repair.specs.Posting.{RepairState}
-use Rattle.palm_repair.specs.Repair.{RepairFollows, RepairSettles, RepairTakes, RepairTurns, RepairRun, Repairs, repair_begun}
+use Rattle.palm_repair.specs.Repair.{RepairFollows, RepairSettles, RepairTakes, RepairTurns, RepairRun, repair_begun}
 use Rattle.palm_repair.specs.Sets.{most_turns}
 use Rattle.palm_repair.specs.Turning.{Advances, HasRun, HasTurned, IsBeginning, IsCutTurn, IsReady, Moves, TakesRepairTurn}
 use Rattle.palm_repair.specs.Turning.IsCutTurn.{cut_before, cut_within}

@@ -1,5 +1,5 @@
 -- A turn of a repair, and one after another.
-use Rattle.std.proofs.Common.{◌≡◌, ℕ, zero, suc, ◌+◌, ◌-◌, ◌<◌, ◌≤◌, Bool, true, false, cond, nat_eq, Option, None, Some, List, [], ◌∷◌, ◌++◌, length, min, slice_get, take, drop, Contains, ◌⊎◌, inl, inr, refl, sym, ap, ◌∙◌, subst, arith, length-append}
+use Rattle.std.proofs.Common.{◌≡◌, ℕ, zero, suc, ◌+◌, ◌-◌, ◌<◌, ◌≤◌, Bool, true, false, cond, nat_eq, Option, None, Some, List, [], ◌∷◌, ◌++◌, length, slice_get, take, drop, Contains, inl, inr, refl, sym, ap, ◌∙◌, subst, arith, length-append}
 use Rattle.std.specs.List.{list_any}
 use Rattle.std.specs.Prelude.{MatchOption, OnErr, OnOk, Result, Ok, Err, remove, is_some}
 use Rattle.std.proofs.lemmas.List.Elements.{All-contains}
@@ -8,44 +8,33 @@ use Rattle.palm_base.specs.declared.terms.Cid.{Cid}
 use Rattle.palm_base.specs.declared.terms.Cid.TheVariants.{Decide, Not, User}
 use Rattle.palm_base.proofs.Members.{member_nil, member_here, member_there, member_cases, member_same, member_place}
 use Rattle.palm_model.specs.Constraint.{Distinct}
-use Rattle.palm_model.specs.Domains.{Has}
 use Rattle.palm_model.specs.Event.{Posts, Withdraws, gone_with}
-use Rattle.palm_model.specs.Log.{Active, IsActive, Rises, cid_before}
-use Rattle.palm_model.specs.State.{EngineState, IsValid, is_user}
+use Rattle.palm_model.specs.Log.{Active, Rises, cid_before}
+use Rattle.palm_model.specs.State.{EngineState, IsValid}
 use Rattle.palm_model.proofs.Narrowing.{has_declared}
 use Rattle.palm_events.specs.Reasons.{ReasonsAreRight}
 use Rattle.palm_events.proofs.Conflicts.{flat_grounds}
 use Rattle.palm_events.proofs.Names.{not_before_itself}
 use Rattle.palm_events.proofs.States.{gone_grounds}
-use Rattle.palm_engine.specs.Engine.{View, HasSettled, IsInterrupted}
-use Rattle.palm_engine.specs.Settling.{Filters}
-use Rattle.palm_engine.specs.declared.settle.Settle.{Settle}
-use Rattle.palm_engine.proofs.Settled.{settling_filters}
-use Rattle.palm_engine.proofs.Walking.{filters_then, revisions_filter, walk_filters}
 use Rattle.palm_search.specs.declared.turn.Pick.{Pick}
 use Rattle.palm_search.specs.declared.turn.Turn.{Turn}
 use Rattle.palm_search.specs.declared.turn.Turn.TheVariants.{Decide as TurnDecide, Undo as TurnUndo}
 use Rattle.palm_search.specs.Calls.{SearchView, TakesBack, TakesTurn, search_state}
-use Rattle.palm_search.specs.Kept.{HasDecisions, HasOnlyUsers, IsSearching}
-use Rattle.palm_search.specs.Search.{EndsWith, begun}
-use Rattle.palm_search.specs.Turns.{Decides, HasFlatConflict, SettlesAfter, decided_vars, decision_of}
-use Rattle.palm_search.proofs.Deciding.{settles_has}
+use Rattle.palm_search.specs.Turns.{HasFlatConflict, decided_vars, decision_of}
 use Rattle.palm_search.proofs.Going.{vars_member}
 use Rattle.palm_search.proofs.Showing.{split_place}
-use Rattle.palm_repair.specs.declared.answer.RepairAnswer.{RepairAnswer}
-use Rattle.palm_repair.specs.Answers.{TellsDropped, end_of}
 use Rattle.palm_repair.specs.Posting.{Nogood, RepairState, PostsAll, nogood_of}
-use Rattle.palm_repair.specs.Repair.{IsHeaviest, MakesRoom, RepairDecides, RepairUndoes, RepairTakes, RepairSettles, RepairFollows, RepairTurns, RepairRun, raised, raised_from, repair_begun, weight_of}
-use Rattle.palm_repair.specs.Kept.{IsAtTurn, IsNogood, IsRepairing}
+use Rattle.palm_repair.specs.Repair.{IsHeaviest, MakesRoom, RepairUndoes, RepairTakes, RepairFollows, raised, raised_from, weight_of}
+use Rattle.palm_repair.specs.Kept.{IsNogood, IsRepairing}
 use Rattle.palm_repair.specs.Learned.{IsHeaviestAt, LearnedView, repair_state}
-use Rattle.palm_repair.specs.Turning.{HasRun, HasTurned, IsBeginning, IsCutTurn, IsReady, Learns, Moves, TakesRepairTurn, filtered}
-use Rattle.palm_repair.specs.Turning.IsCutTurn.{cut_before, cut_within}
+use Rattle.palm_repair.specs.Turning.{IsCutTurn, IsReady, Learns, Moves, TakesRepairTurn, filtered}
+use Rattle.palm_repair.specs.Turning.IsCutTurn.{cut_within}
 use Rattle.palm_repair.specs.Turning.Moves.{moves_none, moves_posted, moves_withdrawn, moves_filtered}
-use Rattle.palm_repair.proofs.Blocking.{follows_at_turn, starts_at_turn}
-use Rattle.palm_repair.proofs.Existing.{posting_exists, room_exists, settled_exists, settles_short, takes_short}
+use Rattle.palm_repair.proofs.Blocking.{follows_at_turn}
+use Rattle.palm_repair.proofs.Existing.{posting_exists, room_exists, settles_short, takes_short}
 use Rattle.palm_repair.proofs.Forcing.{posts_from_leaves}
 use Rattle.palm_repair.proofs.Refuting.{flat_nogood, nogood_kept, users_withdrawn}
-use Rattle.palm_repair.proofs.Repairing.{decided_repairing, decision_no_user, repair_takes_keep, roomy_repairing, undone, withdrawn_repairing}
+use Rattle.palm_repair.proofs.Repairing.{decided_repairing, decision_no_user, roomy_repairing, undone, withdrawn_repairing}
 
 -- ---- moves
 

@@ -1,5 +1,5 @@
 -- How a repair ended, and what the answer holds of the constraints that were active before it.
-use Rattle.std.specs.Prelude.{◌≡◌, ℕ, ⊤, ◌<◌, ◌⊎◌, Bool, List, Contains, length}
+use Rattle.std.specs.Prelude.{◌≡◌, ℕ, ⊤, ◌<◌, ◌⊎◌, Bool, List, Contains}
 use Rattle.palm_base.specs.declared.terms.Cid.{Cid}
 use Rattle.palm_model.specs.Domains.{Assignment}
 use Rattle.palm_model.specs.Closure.{IsSolution}

@@ -1,5 +1,5 @@
 -- What a repair keeps beside the search, as its calls see it, and what they do to it.
-use Rattle.std.specs.Prelude.{◌≡◌, ℕ, ℤ, ⊤, ◌<◌, ◌≤◌, Bool, true, false, not, Option, None, Some, List, [], ◌∷◌, filter, Contains, slice_get}
+use Rattle.std.specs.Prelude.{◌≡◌, ℕ, ℤ, ◌<◌, ◌≤◌, Bool, false, not, Option, None, Some, List, [], ◌∷◌, filter, Contains, slice_get}
 use Rattle.std.specs.Ordering.{int_eq}
 use Rattle.palm_base.specs.declared.terms.Pair.{Pair}
 use Rattle.palm_base.specs.declared.terms.Cid.{Cid}

@@ -17,45 +17,45 @@ use Rattle.palm_session.proofs.Serving.{absent_refused, none_met}
 
 module _ (s : SessionState) (number : ℕ) where
   pub guide_absent : (Contains s.guides number → ⊥) → Serves s (Guide number) (refusal_text E11) s
-  guide_absent none = absent_refused s (Guide number) tt (λ h. h) (λ h. h) (λ h. h) (λ m. elim m [ inl h ↦ h | inr h ↦ h ]) none
+  guide_absent none = absent_refused s (Guide number) (λ h. h) (λ h. h) (λ h. h) (λ m. elim m [ inl h ↦ h | inr h ↦ h ]) none
 
   pub order_absent : (Contains s.orders number → ⊥) → Serves s (Order number) (refusal_text E11) s
-  order_absent none = absent_refused s (Order number) tt (λ h. h) (λ h. h) (λ h. h) (λ m. elim m [ inl h ↦ h | inr h ↦ h ]) none
+  order_absent none = absent_refused s (Order number) (λ h. h) (λ h. h) (λ h. h) (λ m. elim m [ inl h ↦ h | inr h ↦ h ]) none
 
   pub drop_guide_absent : (Contains s.guides number → ⊥) → Serves s (DropGuide number) (refusal_text E11) s
-  drop_guide_absent none = absent_refused s (DropGuide number) tt (λ h. h) (λ h. h) (λ h. h) (λ m. elim m [ inl h ↦ h | inr h ↦ h ]) none
+  drop_guide_absent none = absent_refused s (DropGuide number) (λ h. h) (λ h. h) (λ h. h) (λ m. elim m [ inl h ↦ h | inr h ↦ h ]) none
 
   pub drop_order_absent : (Contains s.orders number → ⊥) → Serves s (DropOrder number) (refusal_text E11) s
-  drop_order_absent none = absent_refused s (DropOrder number) tt (λ h. h) (λ h. h) (λ h. h) (λ m. elim m [ inl h ↦ h | inr h ↦ h ]) none
+  drop_order_absent none = absent_refused s (DropOrder number) (λ h. h) (λ h. h) (λ h. h) (λ m. elim m [ inl h ↦ h | inr h ↦ h ]) none
 
   pub guide_chosen : Contains s.guides number → Serves s (Guide number) (fixed_text Done) (record s { guide = Some number })
   guide_chosen there =
-      accepts (none_met s (Guide number) tt (λ h. h) (λ h. h) (λ h. h) (λ m. elim m [ inl h ↦ h | inr h ↦ h ]) (λ none. none there) (λ h. h) (λ h. h))
+      accepts (none_met s (Guide number) (λ h. h) (λ h. h) (λ h. h) (λ m. elim m [ inl h ↦ h | inr h ↦ h ]) (λ none. none there) (λ h. h) (λ h. h))
       (accepts_quietly s (record s { guide = Some number }) (Guide number) Nothing (fixed_text Done) (λ w. w.pausable) (record s { guide = Some number }, refl, refl) (λ h. h) refl)
 
   pub order_chosen : Contains s.orders number → Serves s (Order number) (fixed_text Done) (record s { order = Some number })
   order_chosen there =
-      accepts (none_met s (Order number) tt (λ h. h) (λ h. h) (λ h. h) (λ m. elim m [ inl h ↦ h | inr h ↦ h ]) (λ none. none there) (λ h. h) (λ h. h))
+      accepts (none_met s (Order number) (λ h. h) (λ h. h) (λ h. h) (λ m. elim m [ inl h ↦ h | inr h ↦ h ]) (λ none. none there) (λ h. h) (λ h. h))
       (accepts_quietly s (record s { order = Some number }) (Order number) Nothing (fixed_text Done) (λ w. w.pausable) (record s { order = Some number }, refl, refl) (λ h. h) refl)
 
   pub guide_dropped : Contains s.guides number → Serves s (DropGuide number) (fixed_text Done) (without_guide s number)
   guide_dropped there =
-      accepts (none_met s (DropGuide number) tt (λ h. h) (λ h. h) (λ h. h) (λ m. elim m [ inl h ↦ h | inr h ↦ h ]) (λ none. none there) (λ h. h) (λ h. h))
+      accepts (none_met s (DropGuide number) (λ h. h) (λ h. h) (λ h. h) (λ m. elim m [ inl h ↦ h | inr h ↦ h ]) (λ none. none there) (λ h. h) (λ h. h))
       (accepts_quietly s (without_guide s number) (DropGuide number) Nothing (fixed_text Done) (λ w. w.pausable) (without_guide s number, refl, refl) (λ h. h) refl)
 
   pub order_dropped : Contains s.orders number → Serves s (DropOrder number) (fixed_text Done) (without_order s number)
   order_dropped there =
-      accepts (none_met s (DropOrder number) tt (λ h. h) (λ h. h) (λ h. h) (λ m. elim m [ inl h ↦ h | inr h ↦ h ]) (λ none. none there) (λ h. h) (λ h. h))
+      accepts (none_met s (DropOrder number) (λ h. h) (λ h. h) (λ h. h) (λ m. elim m [ inl h ↦ h | inr h ↦ h ]) (λ none. none there) (λ h. h) (λ h. h))
       (accepts_quietly s (without_order s number) (DropOrder number) Nothing (fixed_text Done) (λ w. w.pausable) (without_order s number, refl, refl) (λ h. h) refl)
 
 pub no_guide : (s : SessionState) → Serves s GuideNone (fixed_text Done) (record s { guide = None })
 no_guide s =
-    accepts (none_met s GuideNone tt (λ h. h) (λ h. h) (λ h. h) (λ m. elim m [ inl h ↦ h | inr h ↦ h ]) (λ h. h) (λ h. h) (λ h. h))
+    accepts (none_met s GuideNone (λ h. h) (λ h. h) (λ h. h) (λ m. elim m [ inl h ↦ h | inr h ↦ h ]) (λ h. h) (λ h. h) (λ h. h))
     (accepts_quietly s (record s { guide = None }) GuideNone Nothing (fixed_text Done) (λ w. w.pausable) (record s { guide = None }, refl, refl) (λ h. h) refl)
 
 pub no_order : (s : SessionState) → Serves s OrderNone (fixed_text Done) (record s { order = None })
 no_order s =
-    accepts (none_met s OrderNone tt (λ h. h) (λ h. h) (λ h. h) (λ m. elim m [ inl h ↦ h | inr h ↦ h ]) (λ h. h) (λ h. h) (λ h. h))
+    accepts (none_met s OrderNone (λ h. h) (λ h. h) (λ h. h) (λ m. elim m [ inl h ↦ h | inr h ↦ h ]) (λ h. h) (λ h. h) (λ h. h))
     (accepts_quietly s (record s { order = None }) OrderNone Nothing (fixed_text Done) (λ w. w.pausable) (record s { order = None }, refl, refl) (λ h. h) refl)
 
 -- ---- with what a desk holds

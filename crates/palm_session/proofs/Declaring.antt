@@ -5,8 +5,7 @@ use Rattle.std.proofs.lemmas.List.{get_or_default}
 use Rattle.palm_book.specs.Book.{Entry, name_of}
 use Rattle.palm_book.proofs.Any.{any_member}
 use Rattle.palm_model.specs.Domains.{Domains, Has, values_of}
-use Rattle.palm_read.specs.declared.line.Line.TheVariants.{Why}
-use Rattle.palm_session.specs.Refusals.{AsksUndeclared}
+use Rattle.palm_session.specs.Refusals.{IsUndeclared}
 use Rattle.palm_session.specs.State.{SessionState, IsHeld}
 use Rattle.palm_session.proofs.LawsOfLines.{variable_once}
 
@@ -26,12 +25,12 @@ module _ (s : SessionState) (is : IsHeld s) (name : List ℕ) (x : ℕ) (lt : x 
   has_entry : Has s.engine.initial x v → Contains (get_or s.book.variables x nobody).values v
   has_entry h = subst (λ (vs : List ℤ). Contains vs v) (values_read s.book.variables x) (subst (λ (d : Domains). Has d x v) is.initial h)
 
-  pub undeclared_asked : (Has s.engine.initial x v → ⊥) → AsksUndeclared s (Why name v)
+  pub undeclared_asked : (Has s.engine.initial x v → ⊥) → IsUndeclared s name v
   undeclared_asked none =
       any_member (λ (e : Entry). (e.name ≡ name) × (Contains e.values v → ⊥)) s.book.variables (get_or s.book.variables x nobody) (Contains-get_or s.book.variables x nobody lt)
       (named, λ m. none (entry_has m))
 
-  pub declared_asked : Has s.engine.initial x v → AsksUndeclared s (Why name v) → ⊥
+  pub declared_asked : Has s.engine.initial x v → IsUndeclared s name v → ⊥
   declared_asked h a =
       let here : get_or s.book.variables a.0 nobody ≡ a.1 = get_or_default s.book.variables a.0 nobody a.1 a.2 ∙ a.3 in
       let same : a.0 ≡ x = variable_once s.book.variables is.book.different_variables a.0 x a.2 lt (ap (λ (e : Entry). e.name) here ∙ a.4.0 ∙ sym named) in

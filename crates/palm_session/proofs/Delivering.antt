@@ -11,8 +11,15 @@ use Rattle.palm_lang.specs.declared.reply.Fixed.TheVariants.{End}
 use Rattle.palm_session.specs.Answers.{domains_text, list_text}
 use Rattle.palm_book.specs.declared.book.BookCon.{BookCon}
 use Rattle.palm_base.specs.Streams.{SinkState}
+use Rattle.palm_cert.specs.Certificate.{certificate_text}
+use Rattle.palm_cert.specs.Writing.{Writes}
+use Rattle.palm_cert.specs.declared.stop.CertStop.{CertStop}
+use Rattle.palm_cert.specs.declared.stop.CertStop.TheVariants.{WriteFault as CertFault, NoMemory as CertMemory}
+use Rattle.palm_claim.specs.declared.verdict.Claim.{Claim}
+use Rattle.palm_model.specs.Log.{Removal}
 use Rattle.palm_session.specs.Writing.{Delivers, HasStopCause}
 use Rattle.palm_session.specs.declared.stop.Stop.{Stop}
+use Rattle.palm_session.specs.declared.stop.Stop.TheVariants.{WriteFault, NoMemory}
 use Rattle.std.proofs.lemmas.List.{take-append-drop, take_more, take_all, flat_map_more}
 use Rattle.std.proofs.lemmas.Grind.{flat_map-append}
 
@@ -122,3 +129,26 @@ pub flat_split_end : {X : Type 0} (f : X → List ℕ) (xs : List X) (i : ℕ) (
 flat_split_end f xs i d lt =
     ap (λ (t : List ℕ). t ++ fixed_text End) (flat_split f xs i d lt)
     ∙ append_assoc (flat_map f (take i xs) ++ f (get_or xs i d)) (flat_map f (drop (i + 1) xs)) (fixed_text End)
+
+-- ---- certificates
+
+-- the same certificate
+pub same_certificate : (a b : Contents) (k log : List Removal) (x y : Claim) → a ≡ b → k ≡ log → x ≡ y → certificate_text a k x ≡ certificate_text b log y
+same_certificate a b k log x y book removals claim =
+    ap (λ (z : Contents). certificate_text z k x) book ∙ ap (λ (z : List Removal). certificate_text b z x) removals
+    ∙ ap (λ (z : Claim). certificate_text b log z) claim
+
+-- what is written as a certificate is delivered
+pub delivers_written : {T : Type 0} (s0 s1 : SinkState) (x y : List ℕ) (t : T) → x ≡ y → Writes {T = T} s0 s1 x (Ok t) → Delivers {T = T} s0 s1 y (Ok t)
+delivers_written {T} s0 s1 x y t e w =
+    subst (λ (z : List ℕ). Delivers {T = T} s0 s1 z (Ok t)) e (record { counted = w.counted; ok = w.ok; err = tt })
+
+pub delivers_fault : {T : Type 0} (s0 s1 : SinkState) (x y : List ℕ) (stop : CertStop) → stop ≡ CertFault → x ≡ y → Writes {T = T} s0 s1 x (Err stop) → Delivers {T = T} s0 s1 y (Err WriteFault)
+delivers_fault {T} s0 s1 x y stop is e w =
+    let u = subst (λ (z : CertStop). Writes {T = T} s0 s1 x (Err z)) is w in
+    subst (λ (z : List ℕ). Delivers {T = T} s0 s1 z (Err WriteFault)) e (record { counted = u.counted; ok = tt; err = u.err })
+
+pub delivers_memory : {T : Type 0} (s0 s1 : SinkState) (x y : List ℕ) (stop : CertStop) → stop ≡ CertMemory → x ≡ y → Writes {T = T} s0 s1 x (Err stop) → Delivers {T = T} s0 s1 y (Err NoMemory)
+delivers_memory {T} s0 s1 x y stop is e w =
+    let u = subst (λ (z : CertStop). Writes {T = T} s0 s1 x (Err z)) is w in
+    subst (λ (z : List ℕ). Delivers {T = T} s0 s1 z (Err NoMemory)) e (record { counted = u.counted; ok = tt; err = u.err })

@@ -5,7 +5,7 @@ use Rattle.palm_base.specs.Tells.{Tells}
 use Rattle.palm_base.specs.declared.terms.Cid.{Cid}
 use Rattle.palm_model.specs.State.{HasEmpty, IsEmptyAt, present}
 use Rattle.palm_model.specs.Conflict.{IsKeptConflict}
-use Rattle.palm_session.specs.Answers.{HasConflict}
+use Rattle.palm_session.specs.Answers.{HasConflict, IsLowestEmpty}
 use Rattle.palm_session.specs.State.{SessionState, IsState, IsContradiction}
 use Rattle.palm_session.proofs.LawsOfDomains.{contradiction_is_empty}
 
@@ -31,3 +31,7 @@ pub conflict_of : (s : SessionState) (o : Option ℕ) (names : List Cid) → Tel
     → ((x : ℕ) → IsEmptyAt (present s.engine) x → IsKeptConflict s.engine x names) → HasConflict s names
 conflict_of s None names none only b e f kept = cc
 conflict_of s (Some x) names at only b e f kept = record { var = x; empty = at; lowest = λ y h. omega (arith, only y h); is = kept x at }
+
+-- the only empty variable is the lowest
+pub only_empty : (s : SessionState) (x : ℕ) → IsEmptyAt (present s.engine) x → ((y : ℕ) → IsEmptyAt (present s.engine) y → y ≡ x) → IsLowestEmpty s x
+only_empty s x at only = record { empty = at; lowest = λ y h. omega (arith, only y h) }

@@ -11,7 +11,9 @@ use Rattle.palm_model.specs.Domains.{Has}
 use Rattle.palm_model.specs.Log.{Removal, NamesOfPair, IsListOf, log_pairs}
 use Rattle.palm_model.specs.State.{present}
 use Rattle.palm_model.proofs.Supports.{has_without, without_has}
-use Rattle.palm_session.specs.Answers.{SaysWhy, users_text}
+use Rattle.palm_cert.specs.Certificate.{certificate_text}
+use Rattle.palm_claim.specs.declared.verdict.Claim.TheVariants.{Gone}
+use Rattle.palm_session.specs.Answers.{SaysCert, SaysWhy, users_text}
 use Rattle.palm_session.specs.State.{SessionState}
 
 -- where the log has the pair, and where it has not
@@ -37,3 +39,9 @@ module _ (s : SessionState) (x : ℕ) (v : ℤ) where
       → SaysWhy s (present s.engine) x v (users_text s.book Because names)
   tells_because names logged list =
       inr (λ has. (without_has s.engine.initial (log_pairs s.engine.log) x v has).1 logged, names, list, refl)
+
+  pub certifies_present : Has s.engine.initial x v → (Contains (log_pairs s.engine.log) pair → ⊥) → SaysCert s (present s.engine) pair (fixed_text Present)
+  certifies_present declared unlogged = inl (has_without s.engine.initial (log_pairs s.engine.log) x v declared unlogged, refl)
+
+  pub certifies_absent : Contains (log_pairs s.engine.log) pair → SaysCert s (present s.engine) pair (certificate_text s.book s.engine.log (Gone pair))
+  certifies_absent logged = inr (λ has. (without_has s.engine.initial (log_pairs s.engine.log) x v has).1 logged, refl)

@@ -7,13 +7,21 @@ use Rattle.std.proofs.lemmas.Bool.{cases_lt, cases_Bool, false≢true}
 use Rattle.std.proofs.lemmas.Option.{same_Some, none-some}
 use Rattle.palm_base.specs.declared.terms.Cid.{Cid}
 use Rattle.palm_base.proofs.Members.{Known, known_both, known_not, int_known, list_known, nat_known, member_known}
-use Rattle.palm_model.specs.Domains.{Domains, values_of}
+use Rattle.palm_model.specs.Domains.{AllAscend, Domains, values_of}
 use Rattle.palm_model.proofs.Without.{pair_of}
-use Rattle.palm_book.specs.Book.{Entry}
+use Rattle.palm_base.specs.declared.terms.Pair.{Pair}
+use Rattle.palm_book.specs.Book.{Contents, Entry, active_of, initial_of}
+use Rattle.palm_book.proofs.Actives.{initial_ascend}
 use Rattle.palm_book.specs.declared.book.BookCon.{BookCon}
 use Rattle.palm_events.proofs.Names.{listed_once}
 use Rattle.palm_model.specs.Log.{NamesOfPair, IsListOf}
 use Rattle.palm_model.specs.Conflict.{InConflict}
+use Rattle.palm_model.specs.State.{present}
+use Rattle.palm_cert.specs.Certificate.{certificate_text}
+use Rattle.palm_claim.specs.declared.verdict.Claim.TheVariants.{Gone, Conflict as ConflictClaim}
+use Rattle.palm_reduce.specs.Minimal.{AreConflict, DoExplain}
+use Rattle.palm_reduce.proofs.Growing.{conflict_known, explanation_known}
+use Rattle.palm_reduce.proofs.Reducing.{minimal_one, minimal_some}
 use Rattle.palm_read.specs.Limits.{names_of}
 use Rattle.palm_read.specs.Reading.{IsRead, IsRefusedBy}
 use Rattle.palm_lang.specs.Reply.{fixed_text, refusal_text, ran_text, domain_line}
@@ -29,45 +37,18 @@ use Rattle.palm_lang.specs.declared.reply.Refusal.TheVariants.{E1, E2, E3, E4, E
 use Rattle.palm_read.proofs.Parsing.{one_reading, read_not_refused, one_refusal, each_answered}
 use Rattle.palm_read.proofs.SoundLines.{read_sound}
 use Rattle.palm_session.specs.State.{SessionState, IsState, HasVariable, AreDomains, has_empty}
-use Rattle.palm_session.specs.Refusals.{IsBuilt, IsUnknown, TakesName, NamesNone, NamesNoConstraint, HasNoRoom, NamesNoObject, AsksUndeclared, HasActive, IsInWrongState, Meets, in_order, IsFirst, IsNone, refusal_of, heard}
+use Rattle.palm_session.specs.Refusals.{IsUnknown, TakesName, NamesNone, NamesNoConstraint, HasNoRoom, NamesNoObject, IsUndeclared, AsksUndeclared, HasActive, IsInWrongState, Meets, in_order, IsFirst, IsNone, refusal_of, heard}
 use Rattle.palm_session.specs.Effects.{Effect, Nothing, Settled, Searched, Rests, Filters, Procedure, ByDbt, ByRepair, search_line, Searches, Follows, Does}
-use Rattle.palm_session.specs.Answers.{IsPausable, IsContradictable, domains_text, list_text, log_text, users_text, SaysWhy, HasConflict, SaysConflict, end_text, Says, WaitsFor, Contradicts, Accepts, waits, contradicts, says, Answers, misread, refused, accepted}
+use Rattle.palm_session.specs.Answers.{IsPausable, IsContradictable, domains_text, list_text, log_text, users_text, SaysWhy, HasConflict, SaysConflict, SaysMinimal, SaysMinimalConflict, SaysCert, SaysCertConflict, end_text, Says, WaitsFor, Contradicts, Accepts, waits, contradicts, says, Answers, misread, refused, accepted}
 use Rattle.palm_session.specs.Lines.{without_return}
 use Rattle.palm_session.specs.Replies.{ChoosesObject, chooses_guide, chooses_order}
 use Rattle.palm_session.specs.declared.limits.TheConstants.{MOST_KEPT_BYTES}
 use Rattle.palm_session.proofs.LawsOfChanges.{variable_known, has_variable, IsOther, IsWithout}
-use Rattle.palm_session.proofs.LawsOfDomains.{empty_domains, explanation_names, conflict_exists}
+use Rattle.palm_session.proofs.LawsOfDomains.{empty_domains, explanation_names, conflict_exists, lowest_empty}
 use Rattle.palm_session.proofs.LawsOfLines.{known_either, most_known, some_known, name_known, beyond_known, long_bytes, long_unread, tabu_read, variable_with, variable_once}
 use Rattle.palm_session.proofs.LawsOfStates.{does_keeps, does_exist, does_once, does_without, rests_same, domains_exist, domains_once, bool_known, contradiction_known}
 
 -- ---- whether a refusal holds is known
-
-built_known : (line : Line) → Known (IsBuilt line)
-built_known Comment = inl tt
-built_known (Var name domain) = inl tt
-built_known (Add name shape) = inl tt
-built_known (Relax name) = inl tt
-built_known (Enforce name) = inl tt
-built_known (Retract name) = inl tt
-built_known DomainsLine = inl tt
-built_known (Domain name) = inl tt
-built_known ListLine = inl tt
-built_known Log = inl tt
-built_known (Why name value) = inl tt
-built_known Conflict = inl tt
-built_known Pause = inl tt
-built_known Resume = inl tt
-built_known (Step count) = inl tt
-built_known (SolveDbt budget) = inl tt
-built_known (SolveRepair tabu budget) = inl tt
-built_known (Guide number) = inl tt
-built_known GuideNone = inl tt
-built_known (Order number) = inl tt
-built_known OrderNone = inl tt
-built_known (DropGuide number) = inl tt
-built_known (DropOrder number) = inl tt
-built_known Quit = inl tt
-built_known _ = inr (λ h. h)
 
 constraint_known : (s : SessionState) (name : List ℕ) → Known (Any (λ c. c.name ≡ name) s.book.constraints)
 constraint_known s name = name_known (λ (c : BookCon). c.name) s.book.constraints name
@@ -81,6 +62,8 @@ names_known : (s : SessionState) (line : Line) → Known (NamesNone s line)
 names_known s (Add name shape) = some_known (IsUnknown s) (names_of shape) (λ x. known_not (variable_known s x))
 names_known s (Domain name) = known_not (variable_known s name)
 names_known s (Why name value) = known_not (variable_known s name)
+names_known s (Minimal name value) = known_not (variable_known s name)
+names_known s (Cert name value) = known_not (variable_known s name)
 names_known s _ = inr (λ h. h)
 
 constraints_known : (s : SessionState) (line : Line) → Known (NamesNoConstraint s line)
@@ -101,10 +84,15 @@ objects_known s (DropGuide number) = known_not (member_known nat_known s.guides 
 objects_known s (DropOrder number) = known_not (member_known nat_known s.orders number)
 objects_known s _ = inr (λ h. h)
 
-undeclared_known : (s : SessionState) (line : Line) → Known (AsksUndeclared s line)
-undeclared_known s (Why name value) =
+value_known : (s : SessionState) (name : List ℕ) (value : ℤ) → Known (IsUndeclared s name value)
+value_known s name value =
     some_known (λ (e : Entry). (e.name ≡ name) × (Contains e.values value → ⊥)) s.book.variables
     (λ e. known_both (list_known nat_known e.name name) (known_not (member_known int_known e.values value)))
+
+undeclared_known : (s : SessionState) (line : Line) → Known (AsksUndeclared s line)
+undeclared_known s (Why name value) = value_known s name value
+undeclared_known s (Minimal name value) = value_known s name value
+undeclared_known s (Cert name value) = value_known s name value
 undeclared_known s _ = inr (λ h. h)
 
 active_known : (s : SessionState) (name : List ℕ) (active : Bool) → Known (HasActive s name active)
@@ -121,7 +109,6 @@ wrong_known s (Step count) = bool_known s.paused false
 wrong_known s _ = inr (λ h. h)
 
 meets_known : (s : SessionState) (line : Line) (refusal : Refusal) → Known (Meets s line refusal)
-meets_known s line E2 = known_not (built_known line)
 meets_known s line E3 = takes_known s line
 meets_known s line E4 = names_known s line
 meets_known s line E5 = constraints_known s line
@@ -150,10 +137,6 @@ first_not_none : (holds : Refusal → Type 0) (qs : List Refusal) (r : Refusal) 
 first_not_none holds [] r f n = f
 first_not_none holds (q ∷ qs) r f n = elim f [ inl h ↦ n.0 h.0 | inr m ↦ first_not_none holds qs r m.1 n.1 ]
 
--- a line that was not refused is of a form that is served
-built : (s : SessionState) (line : Line) → IsNone (Meets s line) in_order → IsBuilt line
-built s line none = elim (built_known line) [ inl h ↦ h | inr n ↦ absurd (none.0 n) ]
-
 -- ---- there is something to say
 
 -- the explanation of a value that is not in the greatest closed domains
@@ -170,6 +153,36 @@ conflict_says t is awake d are = elim (cases_Bool (has_empty d)) [
   | inl e ↦
       let c = conflict_exists t is.held (empty_domains t d is awake are e) in
       (users_text t.book ConflictLead c.0, inr (e, c.0, c.1, refl))
+  | inr e ↦ (fixed_text Consistent, inl (e, refl))
+]
+
+minimal_says : (book : Contents) → AllAscend (initial_of book) → (pair : Pair) → (reply : List ℕ) × SaysMinimal book pair reply
+minimal_says book ascend pair = elim (explanation_known (initial_of book) ascend pair (active_of book)) [
+  | inl h ↦
+      let m = minimal_some (DoExplain (initial_of book) pair) (explanation_known (initial_of book) ascend pair) (active_of book) h in
+      (users_text book Because m.0, inr (m.0, m.1, refl))
+  | inr n ↦ (fixed_text Present, inl (n, refl))
+]
+
+minimal_conflict_says : (book : Contents) → AllAscend (initial_of book) → (reply : List ℕ) × SaysMinimalConflict book reply
+minimal_conflict_says book ascend = elim (conflict_known (initial_of book) ascend (active_of book)) [
+  | inl h ↦
+      let m = minimal_some (AreConflict (initial_of book)) (conflict_known (initial_of book) ascend) (active_of book) h in
+      (users_text book ConflictLead m.0, inr (m.0, m.1, refl))
+  | inr n ↦ (fixed_text Consistent, inl (n, refl))
+]
+
+cert_says : (t : SessionState) (d : Domains) (pair : Pair) → (reply : List ℕ) × SaysCert t d pair reply
+cert_says t d pair = elim (member_known int_known (values_of d pair.var) pair.value) [
+  | inl has ↦ (fixed_text Present, inl (has, refl))
+  | inr missing ↦ (certificate_text t.book t.engine.log (Gone pair), inr (missing, refl))
+]
+
+cert_conflict_says : (t : SessionState) → IsState t → t.paused ≡ false → (d : Domains) → AreDomains t d → (reply : List ℕ) × SaysCertConflict t d reply
+cert_conflict_says t is awake d are = elim (cases_Bool (has_empty d)) [
+  | inl e ↦
+      let x = lowest_empty (present t.engine) (empty_domains t d is awake are e) in
+      (certificate_text t.book t.engine.log (ConflictClaim x.0), inr (e, x.0, record { empty = x.1; lowest = x.2 }, refl))
   | inr e ↦ (fixed_text Consistent, inl (e, refl))
 ]
 
@@ -192,49 +205,68 @@ search_says m (ByRepair tabu budget) (Searched end) t f = (end_text t.book end, 
 pub query_same : (s m t : SessionState) (effect : Effect) → m ≡ s → Follows m Rests effect t → t ≡ s
 query_same s m t effect e f = rests_same m effect t f ∙ e
 
-says_exist : (s : SessionState) (line : Line) (effect : Effect) (t : SessionState) → IsNone (Meets s line) in_order → IsBuilt line → IsState t → (WaitsFor s line → ⊥) → Does s line effect t
+says_exist : (s : SessionState) (line : Line) (effect : Effect) (t : SessionState) → IsNone (Meets s line) in_order → IsState t → (WaitsFor s line → ⊥) → Does s line effect t
     → (reply : List ℕ) × Says t line effect reply
-says_exist s Comment effect t none b is goes does = ([], refl)
-says_exist s (Var name domain) effect t none b is goes does = (fixed_text Done, refl)
-says_exist s (Add name shape) effect t none b is goes does = (fixed_text Done, refl)
-says_exist s (Relax name) effect t none b is goes does = (fixed_text Done, refl)
-says_exist s (Enforce name) effect t none b is goes does = (fixed_text Done, refl)
-says_exist s (Retract name) effect t none b is goes does = (fixed_text Done, refl)
-says_exist s DomainsLine effect t none b is goes does = let d = domains_exist t is.held in (domains_text t.book.variables d.0, (d.0, d.1, refl))
-says_exist s (Domain name) effect t none b is goes does =
+says_exist s Comment effect t none is goes does = ([], refl)
+says_exist s (Var name domain) effect t none is goes does = (fixed_text Done, refl)
+says_exist s (Add name shape) effect t none is goes does = (fixed_text Done, refl)
+says_exist s (Relax name) effect t none is goes does = (fixed_text Done, refl)
+says_exist s (Enforce name) effect t none is goes does = (fixed_text Done, refl)
+says_exist s (Retract name) effect t none is goes does = (fixed_text Done, refl)
+says_exist s DomainsLine effect t none is goes does = let d = domains_exist t is.held in (domains_text t.book.variables d.0, (d.0, d.1, refl))
+says_exist s (Domain name) effect t none is goes does =
     let d = domains_exist t is.held in
     let same : t ≡ s = query_same s does.0 t effect does.1 does.2 in
-    let h : HasVariable t name = subst (λ (z : SessionState). HasVariable z name) (sym same) (has_variable s name none.1.1.0) in
+    let h : HasVariable t name = subst (λ (z : SessionState). HasVariable z name) (sym same) (has_variable s name none.1.0) in
     let x = variable_with t.book.variables name h in
     (domain_line name (values_of d.0 x.0), (d.0, x.0, d.1, x.1, x.2, refl))
-says_exist s ListLine effect t none b is goes does = (list_text t.book, refl)
-says_exist s Log effect t none b is goes does = (log_text t.book t.engine.log, refl)
-says_exist s (Why name value) effect t none b is goes does =
+says_exist s ListLine effect t none is goes does = (list_text t.book, refl)
+says_exist s Log effect t none is goes does = (log_text t.book t.engine.log, refl)
+says_exist s (Why name value) effect t none is goes does =
     let d = domains_exist t is.held in
     let same : t ≡ s = query_same s does.0 t effect does.1 does.2 in
-    let h : HasVariable t name = subst (λ (z : SessionState). HasVariable z name) (sym same) (has_variable s name none.1.1.0) in
+    let h : HasVariable t name = subst (λ (z : SessionState). HasVariable z name) (sym same) (has_variable s name none.1.0) in
     let x = variable_with t.book.variables name h in
     let w = why_exists t is d.0 x.0 value in
     (w.0, (d.0, x.0, d.1, x.1, x.2, w.1))
-says_exist s Conflict effect t none b is goes does =
+says_exist s Conflict effect t none is goes does =
     let d = domains_exist t is.held in
     let same : t ≡ s = query_same s does.0 t effect does.1 does.2 in
     let awake : t.paused ≡ false = ap (λ (z : SessionState). z.paused) same ∙ awake_for s Conflict tt goes in
     let c = conflict_says t is awake d.0 d.1 in
     (c.0, (d.0, d.1, c.1))
-says_exist s Pause effect t none b is goes does = (fixed_text Done, refl)
-says_exist s Resume effect t none b is goes does = (fixed_text Done, refl)
-says_exist s (Step count) effect t none b is goes does = step_says does.0 count effect t does.2
-says_exist s (SolveDbt budget) effect t none b is goes does = search_says does.0 (ByDbt budget) effect t does.2
-says_exist s (SolveRepair tabu budget) effect t none b is goes does = search_says does.0 (ByRepair tabu budget) effect t does.2
-says_exist s (Guide number) effect t none b is goes does = (fixed_text Done, refl)
-says_exist s GuideNone effect t none b is goes does = (fixed_text Done, refl)
-says_exist s (Order number) effect t none b is goes does = (fixed_text Done, refl)
-says_exist s OrderNone effect t none b is goes does = (fixed_text Done, refl)
-says_exist s (DropGuide number) effect t none b is goes does = (fixed_text Done, refl)
-says_exist s (DropOrder number) effect t none b is goes does = (fixed_text Done, refl)
-says_exist s Quit effect t none b is goes does = (fixed_text Bye, refl)
-says_exist s _ effect t none b is goes does = absurd b
+says_exist s (Minimal name value) effect t none is goes does =
+    let same : t ≡ s = query_same s does.0 t effect does.1 does.2 in
+    let h : HasVariable t name = subst (λ (z : SessionState). HasVariable z name) (sym same) (has_variable s name none.1.0) in
+    let x = variable_with t.book.variables name h in
+    let w = minimal_says t.book (initial_ascend t.book is.held.book) (pair_of x.0 value) in
+    (w.0, (x.0, x.1, x.2, w.1))
+says_exist s MinimalConflict effect t none is goes does = minimal_conflict_says t.book (initial_ascend t.book is.held.book)
+says_exist s (Cert name value) effect t none is goes does =
+    let d = domains_exist t is.held in
+    let same : t ≡ s = query_same s does.0 t effect does.1 does.2 in
+    let h : HasVariable t name = subst (λ (z : SessionState). HasVariable z name) (sym same) (has_variable s name none.1.0) in
+    let x = variable_with t.book.variables name h in
+    let w = cert_says t d.0 (pair_of x.0 value) in
+    (w.0, (d.0, x.0, d.1, x.1, x.2, w.1))
+says_exist s CertConflict effect t none is goes does =
+    let d = domains_exist t is.held in
+    let same : t ≡ s = query_same s does.0 t effect does.1 does.2 in
+    let awake : t.paused ≡ false = ap (λ (z : SessionState). z.paused) same ∙ awake_for s CertConflict tt goes in
+    let c = cert_conflict_says t is awake d.0 d.1 in
+    (c.0, (d.0, d.1, c.1))
+says_exist s Pause effect t none is goes does = (fixed_text Done, refl)
+says_exist s Resume effect t none is goes does = (fixed_text Done, refl)
+says_exist s (Step count) effect t none is goes does = step_says does.0 count effect t does.2
+says_exist s (SolveDbt budget) effect t none is goes does = search_says does.0 (ByDbt budget) effect t does.2
+says_exist s (SolveRepair tabu budget) effect t none is goes does = search_says does.0 (ByRepair tabu budget) effect t does.2
+says_exist s (Guide number) effect t none is goes does = (fixed_text Done, refl)
+says_exist s GuideNone effect t none is goes does = (fixed_text Done, refl)
+says_exist s (Order number) effect t none is goes does = (fixed_text Done, refl)
+says_exist s OrderNone effect t none is goes does = (fixed_text Done, refl)
+says_exist s (DropGuide number) effect t none is goes does = (fixed_text Done, refl)
+says_exist s (DropOrder number) effect t none is goes does = (fixed_text Done, refl)
+says_exist s Quit effect t none is goes does = (fixed_text Bye, refl)
 
 pausable_known : (line : Line) → Known (IsPausable line)
 pausable_known DomainsLine = inl tt
@@ -285,13 +317,12 @@ accepted_answer : (s : SessionState) → IsState s → (bytes : List ℕ) (line 
 accepted_answer s is bytes line read none = elim (waits_known s line) [
   | inl w ↦ (fixed_text Paused, s, accepted line read none (waits w))
   | inr awake ↦
-      let b = built s line none in
       let sound = read_sound bytes line read in
-      let d = does_exist s line is sound (tabu_read bytes line read) none b in
+      let d = does_exist s line is sound (tabu_read bytes line read) none in
       let it : IsState d.1 = does_keeps s line d.0 d.1 is sound none d.2 in
       elim (contradicts_known d.1 it line) [
         | inl c ↦ (fixed_text Contradiction, d.1, accepted line read none (contradicts d.0 awake d.2 c))
-        | inr n ↦ let r = says_exist s line d.0 d.1 none b it awake d.2 in (r.0, d.1, accepted line read none (says d.0 awake d.2 n r.1))
+        | inr n ↦ let r = says_exist s line d.0 d.1 none it awake d.2 in (r.0, d.1, accepted line read none (says d.0 awake d.2 n r.1))
       ]
 ]
 
@@ -370,6 +401,38 @@ conflict_same t d a b (inr p) (inl q) = absurd (false≢true (sym q.0 ∙ p.0))
 conflict_same t d a b (inr p) (inr q) =
     p.3 ∙ ap (λ (z : List Cid). users_text t.book ConflictLead z) (conflict_names_same t p.1 q.1 p.2 q.2) ∙ sym q.3
 
+minimal_same : (book : Contents) (pair : Pair) (a b : List ℕ) → SaysMinimal book pair a → SaysMinimal book pair b → a ≡ b
+minimal_same book pair a b (inl p) (inl q) = p.1 ∙ sym q.1
+minimal_same book pair a b (inl p) (inr q) = absurd (p.0 q.1.holds)
+minimal_same book pair a b (inr p) (inl q) = absurd (q.0 p.1.holds)
+minimal_same book pair a b (inr p) (inr q) =
+    let names : p.0 ≡ q.0 = minimal_one (DoExplain (initial_of book) pair) (active_of book) p.0 q.0 p.1 q.1 in
+    p.2 ∙ ap (λ (z : List Cid). users_text book Because z) names ∙ sym q.2
+
+minimal_conflict_same : (book : Contents) (a b : List ℕ) → SaysMinimalConflict book a → SaysMinimalConflict book b → a ≡ b
+minimal_conflict_same book a b (inl p) (inl q) = p.1 ∙ sym q.1
+minimal_conflict_same book a b (inl p) (inr q) = absurd (p.0 q.1.holds)
+minimal_conflict_same book a b (inr p) (inl q) = absurd (q.0 p.1.holds)
+minimal_conflict_same book a b (inr p) (inr q) =
+    let names : p.0 ≡ q.0 = minimal_one (AreConflict (initial_of book)) (active_of book) p.0 q.0 p.1 q.1 in
+    p.2 ∙ ap (λ (z : List Cid). users_text book ConflictLead z) names ∙ sym q.2
+
+cert_same : (t : SessionState) (d : Domains) (pair : Pair) (a b : List ℕ) → SaysCert t d pair a → SaysCert t d pair b → a ≡ b
+cert_same t d pair a b (inl p) (inl q) = p.1 ∙ sym q.1
+cert_same t d pair a b (inl p) (inr q) = absurd (q.0 p.0)
+cert_same t d pair a b (inr p) (inl q) = absurd (p.0 q.0)
+cert_same t d pair a b (inr p) (inr q) = p.1 ∙ sym q.1
+
+cert_conflict_same : (t : SessionState) (d : Domains) (a b : List ℕ) → SaysCertConflict t d a → SaysCertConflict t d b → a ≡ b
+cert_conflict_same t d a b (inl p) (inl q) = p.1 ∙ sym q.1
+cert_conflict_same t d a b (inl p) (inr q) = absurd (false≢true (sym p.0 ∙ q.0))
+cert_conflict_same t d a b (inr p) (inl q) = absurd (false≢true (sym q.0 ∙ p.0))
+cert_conflict_same t d a b (inr p) (inr q) =
+    let below : p.1 ≤ q.1 = p.2.lowest q.1 q.2.empty in
+    let above : q.1 ≤ p.1 = q.2.lowest p.1 p.2.empty in
+    let same : p.1 ≡ q.1 = omega (arith, below, above) in
+    p.3 ∙ ap (λ (x : ℕ). certificate_text t.book t.engine.log (ConflictClaim x)) same ∙ sym q.3
+
 step_same : (t : SessionState) (count : ℕ) (effect : Effect) (a b : List ℕ) → Says t (Step count) effect a → Says t (Step count) effect b → a ≡ b
 step_same t count Nothing a b x y = absurd x
 step_same t count (Settled k) a b x y = x ∙ sym y
@@ -405,6 +468,17 @@ says_same t (Why name value) effect a b is x y =
     (subst (λ (z : ℕ). SaysWhy t y.0 z value a) v (subst (λ (z : Domains). SaysWhy t z x.1 value a) d x.5)) y.5
 says_same t Conflict effect a b is x y =
     conflict_same t y.0 a b (subst (λ (z : Domains). SaysConflict t z a) (domains_once t x.0 y.0 x.1 y.1) x.2) y.2
+says_same t (Minimal name value) effect a b is x y =
+    let v : x.0 ≡ y.0 = variable_once t.book.variables is.held.book.different_variables x.0 y.0 x.1 y.1 (x.2 ∙ sym y.2) in
+    minimal_same t.book (pair_of y.0 value) a b (subst (λ (z : ℕ). SaysMinimal t.book (pair_of z value) a) v x.3) y.3
+says_same t MinimalConflict effect a b is x y = minimal_conflict_same t.book a b x y
+says_same t (Cert name value) effect a b is x y =
+    let d : x.0 ≡ y.0 = domains_once t x.0 y.0 x.2 y.2 in
+    let v : x.1 ≡ y.1 = variable_once t.book.variables is.held.book.different_variables x.1 y.1 x.3 y.3 (x.4 ∙ sym y.4) in
+    cert_same t y.0 (pair_of y.1 value) a b
+    (subst (λ (z : ℕ). SaysCert t y.0 (pair_of z value) a) v (subst (λ (z : Domains). SaysCert t z (pair_of x.1 value) a) d x.5)) y.5
+says_same t CertConflict effect a b is x y =
+    cert_conflict_same t y.0 a b (subst (λ (z : Domains). SaysCertConflict t z a) (domains_once t x.0 y.0 x.1 y.1) x.2) y.2
 says_same t Pause effect a b is x y = x ∙ sym y
 says_same t Resume effect a b is x y = x ∙ sym y
 says_same t (Step count) effect a b is x y = step_same t count effect a b x y
@@ -417,7 +491,6 @@ says_same t OrderNone effect a b is x y = x ∙ sym y
 says_same t (DropGuide number) effect a b is x y = x ∙ sym y
 says_same t (DropOrder number) effect a b is x y = x ∙ sym y
 says_same t Quit effect a b is x y = x ∙ sym y
-says_same t _ effect a b is x y = absurd x
 
 abbrev AreOne : List ℕ → List ℕ → SessionState → SessionState → Type 0
 AreOne a b t u = (a ≡ b) × (t ≡ u)

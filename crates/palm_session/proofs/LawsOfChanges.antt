@@ -29,14 +29,14 @@ use Rattle.palm_read.specs.Sound.{IsSound}
 use Rattle.palm_read.specs.declared.line.DomainText.{DomainText}
 use Rattle.palm_read.specs.declared.line.DomainText.TheVariants.{Range, Set}
 use Rattle.palm_read.specs.declared.line.Line.{Line}
-use Rattle.palm_read.specs.declared.line.Line.TheVariants.{Comment, Var, Add, Relax, Enforce, Retract, Domains as DomainsLine, Domain, List as ListLine, Log, Why, Conflict, Pause, Resume, Step, SolveDbt, SolveRepair, Guide, GuideNone, Order, OrderNone, DropGuide, DropOrder, Quit}
+use Rattle.palm_read.specs.declared.line.Line.TheVariants.{Comment, Var, Add, Relax, Enforce, Retract, Domains as DomainsLine, Domain, List as ListLine, Log, Why, Conflict, MinimalConflict, Minimal, Cert, CertConflict, Pause, Resume, Step, SolveDbt, SolveRepair, Guide, GuideNone, Order, OrderNone, DropGuide, DropOrder, Quit}
 use Rattle.palm_read.specs.declared.line.Shape.{Shape}
 use Rattle.palm_events.specs.Along.{IsStill}
 use Rattle.palm_events.proofs.Agreeing.{values_of_more}
 use Rattle.palm_events.proofs.Outcomes.{withdrawal_exists, withdrawal_same}
 use Rattle.palm_events.proofs.Valid.{declares_valid, posts_valid, withdraws_valid}
 use Rattle.palm_session.specs.State.{SessionState, IsHeld, IsState, HasConstraint, HasVariable}
-use Rattle.palm_session.specs.Refusals.{IsBuilt, IsUnknown, HasActive, Meets, in_order, IsNone}
+use Rattle.palm_session.specs.Refusals.{IsUnknown, HasActive, Meets, in_order, IsNone}
 use Rattle.palm_session.specs.Effects.{with_engine, with_variable, with_constraint, with_active_at, without_constraint, without_guide, without_order, next_constraint, IsNamed, WithdrawsWhere, WithdrawsActive, Changes, Rests, Filters, Procedure, ByDbt, ByRepair, search_line, Searches, next, unless_paused}
 use Rattle.palm_session.specs.Objects.{without_number, chosen_without}
 use Rattle.palm_session.proofs.ActiveLists.{turned_cases, active_member, active_added, active_enforced, active_relaxed, active_retracted, active_alike, relaxed_inactive, user_same}
@@ -66,16 +66,16 @@ none_named : {X : Type 0} (f : X → List ℕ) (xs : List X) (name : List ℕ) �
 none_named f xs name none = all_members (λ x. f x ≢ name) xs (λ x m e. none (m.0, x, m.1, m.2, e))
 
 pub line_values : (s : SessionState) (name : List ℕ) (domain : DomainText) → IsSound (Var name domain) → IsNone (Meets s (Var name domain)) in_order → AreValues (values_in domain)
-line_values s name domain sound none = domain_values domain sound.1 (λ h. none.1.1.1.1.0 (inl h))
+line_values s name domain sound none = domain_values domain sound.1 (λ h. none.1.1.1.0 (inl h))
 
 keeps_variable : (s : SessionState) (name : List ℕ) (domain : DomainText) (e : EngineState) → IsHeld s → IsSound (Var name domain) → IsNone (Meets s (Var name domain)) in_order
     → Declares s.engine (values_in domain) e → IsHeld (with_engine (with_variable s name (values_in domain)) e)
 keeps_variable s name domain e is sound none declares =
     let entry : Entry = record { name = name; values = values_in domain } in
-    let room : length s.book.variables < 64 = let r : MOST_VARIABLES ≤ length s.book.variables → ⊥ = λ h. none.1.1.1.1.0 (inr h) in omega (arith, r) in
+    let room : length s.book.variables < 64 = let r : MOST_VARIABLES ≤ length s.book.variables → ⊥ = λ h. none.1.1.1.0 (inr h) in omega (arith, r) in
     record {
       book = IsBook-with_variable s.book s.book refl is.book entry (s.book.variables ++ entry ∷ []) sound.0
-          (none_named (λ (f : Entry). f.name) s.book.variables name none.1.0)
+          (none_named (λ (f : Entry). f.name) s.book.variables name none.0)
           (line_values s name domain sound none) room refl;
       accepted = is.accepted;
       numbered = is.numbered;
@@ -121,16 +121,16 @@ user_posts s is c formed inactive =
 module _ (s : SessionState) (name : List ℕ) (shape : Shape) (con : Con) (is : IsHeld s) (sound : IsSound (Add name shape)) (none : IsNone (Meets s (Add name shape)) in_order) (says : Resolves s.book.variables shape con) where
   added_formed : IsWellFormed (length s.book.variables) con
   added_formed =
-      let narrow_scope : MOST_SCOPE < length (names_of shape) → ⊥ = λ h. none.1.1.1.1.0 (inl (inl h)) in
-      let few_rows : HasManyRows shape → ⊥ = λ h. none.1.1.1.1.0 (inl (inr h)) in
+      let narrow_scope : MOST_SCOPE < length (names_of shape) → ⊥ = λ h. none.1.1.1.0 (inl (inl h)) in
+      let few_rows : HasManyRows shape → ⊥ = λ h. none.1.1.1.0 (inl (inr h)) in
       well_formed s.book.variables shape con says sound.1 sound.2 narrow_scope few_rows
 
   added_book : IsBook (record s.book { constraints = s.book.constraints ++ next_constraint s name con ∷ [] })
   added_book =
       let c : BookCon = next_constraint s name con in
-      let few : MOST_CONSTRAINTS ≤ length s.book.constraints → ⊥ = λ h. none.1.1.1.1.0 (inr (inl h)) in
+      let few : MOST_CONSTRAINTS ≤ length s.book.constraints → ⊥ = λ h. none.1.1.1.0 (inr (inl h)) in
       IsBook-with_constraint s.book s.book refl is.book c (s.book.constraints ++ c ∷ []) sound.0
-      (none_named (λ (d : BookCon). d.name) s.book.constraints name none.1.0)
+      (none_named (λ (d : BookCon). d.name) s.book.constraints name none.0)
       (All-weaker (λ (d : BookCon). d.number ≤ s.accepted) (λ (d : BookCon). d.number < s.accepted + 1) (λ d h. omega (arith, h)) s.book.constraints is.numbered)
       added_formed (omega (arith, few)) refl
 
@@ -148,7 +148,7 @@ module _ (s : SessionState) (name : List ℕ) (shape : Shape) (con : Con) (is : 
   keeps_constraint : (e : EngineState) → Posts s.engine (user_at (next_constraint s name con)) e → IsHeld (with_engine (with_constraint s name con) e)
   keeps_constraint e posts =
       let c : BookCon = next_constraint s name con in
-      let counts : MOST_ADDED ≤ s.accepted → ⊥ = λ h. none.1.1.1.1.0 (inr (inr h)) in
+      let counts : MOST_ADDED ≤ s.accepted → ⊥ = λ h. none.1.1.1.0 (inr (inr h)) in
       record {
         book = added_book;
         accepted = omega (arith, counts);
@@ -267,7 +267,7 @@ changes_keep s m (Var name domain) is sound none h = subst IsHeld (sym h.2) (kee
 changes_keep s m (Add name shape) is sound none h = subst IsHeld (sym h.4) (keeps_constraint s name shape h.0 is sound none h.2 h.1 h.3)
 changes_keep s m (Relax name) is sound none h = subst IsHeld (sym h.5) (keeps_relaxed s is h.0 h.1 h.3.at h.2 h.4)
 changes_keep s m (Enforce name) is sound none h =
-    subst IsHeld (sym h.5) (keeps_enforced s is h.0 h.1 h.3.at h.2 (relaxed_named s name h.0 h.1 h.3 none.1.1.1.1.1.1.1.0) h.4)
+    subst IsHeld (sym h.5) (keeps_enforced s is h.0 h.1 h.3.at h.2 (relaxed_named s name h.0 h.1 h.3 none.1.1.1.1.1.1.0) h.4)
 changes_keep s m (Retract name) is sound none h = subst IsHeld (sym h.5) (keeps_retracted s is h.0 h.1 h.3.at h.2 h.4)
 changes_keep s m DomainsLine is sound none h = subst IsHeld (sym h) is
 changes_keep s m (Domain name) is sound none h = subst IsHeld (sym h) is
@@ -275,21 +275,24 @@ changes_keep s m ListLine is sound none h = subst IsHeld (sym h) is
 changes_keep s m Log is sound none h = subst IsHeld (sym h) is
 changes_keep s m (Why name value) is sound none h = subst IsHeld (sym h) is
 changes_keep s m Conflict is sound none h = subst IsHeld (sym h) is
+changes_keep s m MinimalConflict is sound none h = subst IsHeld (sym h) is
+changes_keep s m (Minimal name value) is sound none h = subst IsHeld (sym h) is
+changes_keep s m (Cert name value) is sound none h = subst IsHeld (sym h) is
+changes_keep s m CertConflict is sound none h = subst IsHeld (sym h) is
 changes_keep s m Pause is sound none h = subst IsHeld (sym h) (held_paused s true is)
 changes_keep s m Resume is sound none h = subst IsHeld (sym h) (held_paused s false is)
 changes_keep s m (Step count) is sound none h = subst IsHeld (sym h) is
 changes_keep s m (SolveDbt budget) is sound none h = subst IsHeld (sym h) is
 changes_keep s m (SolveRepair tabu budget) is sound none h = subst IsHeld (sym h) is
-changes_keep s m (Guide number) is sound none h = subst IsHeld (sym h) (held_guides s s.guides (Some number) (listed s.guides number none.1.1.1.1.1.0) is)
+changes_keep s m (Guide number) is sound none h = subst IsHeld (sym h) (held_guides s s.guides (Some number) (listed s.guides number none.1.1.1.1.0) is)
 changes_keep s m GuideNone is sound none h = subst IsHeld (sym h) (held_guides s s.guides None tt is)
-changes_keep s m (Order number) is sound none h = subst IsHeld (sym h) (held_orders s s.orders (Some number) (listed s.orders number none.1.1.1.1.1.0) is)
+changes_keep s m (Order number) is sound none h = subst IsHeld (sym h) (held_orders s s.orders (Some number) (listed s.orders number none.1.1.1.1.0) is)
 changes_keep s m OrderNone is sound none h = subst IsHeld (sym h) (held_orders s s.orders None tt is)
 changes_keep s m (DropGuide number) is sound none h =
     subst IsHeld (sym h) (held_guides s (without_number number s.guides) (chosen_without number s.guide) (left_chosen number s.guides s.guide is.guide) is)
 changes_keep s m (DropOrder number) is sound none h =
     subst IsHeld (sym h) (held_orders s (without_number number s.orders) (chosen_without number s.order) (left_chosen number s.orders s.order is.order) is)
 changes_keep s m Quit is sound none h = subst IsHeld (sym h) is
-changes_keep s m _ is sound none h = absurd h
 
 -- ---- where nothing follows, nothing waits for filtering
 
@@ -318,6 +321,10 @@ changes_still s m ListLine is h rests awake = stays_still s m is h awake
 changes_still s m Log is h rests awake = stays_still s m is h awake
 changes_still s m (Why name value) is h rests awake = stays_still s m is h awake
 changes_still s m Conflict is h rests awake = stays_still s m is h awake
+changes_still s m MinimalConflict is h rests awake = stays_still s m is h awake
+changes_still s m (Minimal name value) is h rests awake = stays_still s m is h awake
+changes_still s m (Cert name value) is h rests awake = stays_still s m is h awake
+changes_still s m CertConflict is h rests awake = stays_still s m is h awake
 changes_still s m Pause is h rests awake = absurd (false≢true (sym awake ∙ ap (λ (z : SessionState). z.paused) h))
 changes_still s m Resume is h rests awake = let e : Filters None ≡ Rests = rests in cc
 changes_still s m (Step count) is h rests awake = let e : Filters (Some count) ≡ Rests = rests in cc
@@ -330,7 +337,6 @@ changes_still s m OrderNone is h rests awake = untouched_still s m is (ap (λ (z
 changes_still s m (DropGuide number) is h rests awake = untouched_still s m is (ap (λ (z : SessionState). z.engine) h) (ap (λ (z : SessionState). z.paused) h) awake
 changes_still s m (DropOrder number) is h rests awake = untouched_still s m is (ap (λ (z : SessionState). z.engine) h) (ap (λ (z : SessionState). z.paused) h) awake
 changes_still s m Quit is h rests awake = stays_still s m is h awake
-changes_still s m _ is h rests awake = absurd h
 
 -- filtering has a limit only while the session is paused
 not_limited : (b : Bool) (limit : ℕ) → (if b then Rests else Filters None) ≡ Filters (Some limit) → ⊥
@@ -353,11 +359,15 @@ changes_limited s m ListLine none h limit e = absurd (rests_not_limited limit e)
 changes_limited s m Log none h limit e = absurd (rests_not_limited limit e)
 changes_limited s m (Why name value) none h limit e = absurd (rests_not_limited limit e)
 changes_limited s m Conflict none h limit e = absurd (rests_not_limited limit e)
+changes_limited s m MinimalConflict none h limit e = absurd (rests_not_limited limit e)
+changes_limited s m (Minimal name value) none h limit e = absurd (rests_not_limited limit e)
+changes_limited s m (Cert name value) none h limit e = absurd (rests_not_limited limit e)
+changes_limited s m CertConflict none h limit e = absurd (rests_not_limited limit e)
 changes_limited s m Pause none h limit e = absurd (rests_not_limited limit e)
 changes_limited s m Resume none h limit e = absurd (not_limited false limit e)
 changes_limited s m (Step count) none h limit e = elim (cases_Bool s.paused) [
   | inl on ↦ ap (λ (z : SessionState). z.paused) h ∙ on
-  | inr off ↦ absurd (none.1.1.1.1.1.1.1.0 off)
+  | inr off ↦ absurd (none.1.1.1.1.1.1.0 off)
 ]
 changes_limited s m (SolveDbt budget) none h limit e = let f : Searches (ByDbt budget) ≡ Filters (Some limit) = e in cc
 changes_limited s m (SolveRepair tabu budget) none h limit e = let f : Searches (ByRepair tabu budget) ≡ Filters (Some limit) = e in cc
@@ -368,7 +378,6 @@ changes_limited s m OrderNone none h limit e = absurd (rests_not_limited limit e
 changes_limited s m (DropGuide number) none h limit e = absurd (rests_not_limited limit e)
 changes_limited s m (DropOrder number) none h limit e = absurd (rests_not_limited limit e)
 changes_limited s m Quit none h limit e = absurd (rests_not_limited limit e)
-changes_limited s m _ none h limit e = absurd h
 
 -- ---- the change can be made
 
@@ -402,48 +411,51 @@ withdraws_exist s is c = by c.active
     by true = withdrawal_exists s.engine (gone_with s.engine.active (User c.number)) is.valid
     by false = (s.engine, refl)
 
-pub changes_exist : (s : SessionState) (line : Line) → IsHeld s → IsSound line → IsNone (Meets s line) in_order → IsBuilt line → (m : SessionState) × Changes s line m
-changes_exist s Comment is sound none b = (s, refl)
-changes_exist s (Var name domain) is sound none b =
+pub changes_exist : (s : SessionState) (line : Line) → IsHeld s → IsSound line → IsNone (Meets s line) in_order → (m : SessionState) × Changes s line m
+changes_exist s Comment is sound none = (s, refl)
+changes_exist s (Var name domain) is sound none =
     let e : EngineState = record s.engine { initial = s.engine.initial ++ values_in domain ∷ [] } in
     (with_engine (with_variable s name (values_in domain)) e, (e, record { ascend = (line_values s name domain sound none).ascend; after = refl }, refl))
-changes_exist s (Add name shape) is sound none b =
-    let r = constraint_with s.book.variables shape (all_named s (names_of shape) none.1.1.0) in
+changes_exist s (Add name shape) is sound none =
+    let r = constraint_with s.book.variables shape (all_named s (names_of shape) none.1.0) in
     let says : Resolves s.book.variables shape r.0 = record { declared = r.1; says = r.2 } in
     let e : EngineState = posted s.engine (user_at (next_constraint s name r.0)) in
     (with_engine (with_constraint s name r.0) e, (r.0, e, says, added_posts s name shape r.0 is sound none says, refl))
-changes_exist s (Relax name) is sound none b =
-    let n = named_exists s name none.1.1.1.0 in
+changes_exist s (Relax name) is sound none =
+    let n = named_exists s name none.1.1.0 in
     let w = withdrawal_exists s.engine (gone_with s.engine.active (User n.1.number)) is.valid in
     (with_engine (with_active_at s n.0 false) w.0, (n.0, n.1, w.0, n.2, w.1, refl))
-changes_exist s (Enforce name) is sound none b =
-    let n = named_exists s name none.1.1.1.0 in
-    let off = relaxed_named s name n.0 n.1 n.2 none.1.1.1.1.1.1.1.0 in
+changes_exist s (Enforce name) is sound none =
+    let n = named_exists s name none.1.1.0 in
+    let off = relaxed_named s name n.0 n.1 n.2 none.1.1.1.1.1.1.0 in
     let e : EngineState = posted s.engine (user_at n.1) in
     (with_engine (with_active_at s n.0 true) e, (n.0, n.1, e, n.2, user_posts s is n.1 (formed_at s is n.0 n.1 n.2.at) (relaxed_inactive s.book is.book n.0 n.1 n.2.at off), refl))
-changes_exist s (Retract name) is sound none b =
-    let n = named_exists s name none.1.1.1.0 in
+changes_exist s (Retract name) is sound none =
+    let n = named_exists s name none.1.1.0 in
     let w = withdraws_exist s is n.1 in
     (with_engine (without_constraint s n.0) w.0, (n.0, n.1, w.0, n.2, w.1, refl))
-changes_exist s DomainsLine is sound none b = (s, refl)
-changes_exist s (Domain name) is sound none b = (s, refl)
-changes_exist s ListLine is sound none b = (s, refl)
-changes_exist s Log is sound none b = (s, refl)
-changes_exist s (Why name value) is sound none b = (s, refl)
-changes_exist s Conflict is sound none b = (s, refl)
-changes_exist s Pause is sound none b = (record s { paused = true }, refl)
-changes_exist s Resume is sound none b = (record s { paused = false }, refl)
-changes_exist s (Step count) is sound none b = (s, refl)
-changes_exist s (SolveDbt budget) is sound none b = (s, refl)
-changes_exist s (SolveRepair tabu budget) is sound none b = (s, refl)
-changes_exist s (Guide number) is sound none b = (record s { guide = Some number }, refl)
-changes_exist s GuideNone is sound none b = (record s { guide = None }, refl)
-changes_exist s (Order number) is sound none b = (record s { order = Some number }, refl)
-changes_exist s OrderNone is sound none b = (record s { order = None }, refl)
-changes_exist s (DropGuide number) is sound none b = (without_guide s number, refl)
-changes_exist s (DropOrder number) is sound none b = (without_order s number, refl)
-changes_exist s Quit is sound none b = (s, refl)
-changes_exist s _ is sound none b = absurd b
+changes_exist s DomainsLine is sound none = (s, refl)
+changes_exist s (Domain name) is sound none = (s, refl)
+changes_exist s ListLine is sound none = (s, refl)
+changes_exist s Log is sound none = (s, refl)
+changes_exist s (Why name value) is sound none = (s, refl)
+changes_exist s Conflict is sound none = (s, refl)
+changes_exist s MinimalConflict is sound none = (s, refl)
+changes_exist s (Minimal name value) is sound none = (s, refl)
+changes_exist s (Cert name value) is sound none = (s, refl)
+changes_exist s CertConflict is sound none = (s, refl)
+changes_exist s Pause is sound none = (record s { paused = true }, refl)
+changes_exist s Resume is sound none = (record s { paused = false }, refl)
+changes_exist s (Step count) is sound none = (s, refl)
+changes_exist s (SolveDbt budget) is sound none = (s, refl)
+changes_exist s (SolveRepair tabu budget) is sound none = (s, refl)
+changes_exist s (Guide number) is sound none = (record s { guide = Some number }, refl)
+changes_exist s GuideNone is sound none = (record s { guide = None }, refl)
+changes_exist s (Order number) is sound none = (record s { order = Some number }, refl)
+changes_exist s OrderNone is sound none = (record s { order = None }, refl)
+changes_exist s (DropGuide number) is sound none = (without_guide s number, refl)
+changes_exist s (DropOrder number) is sound none = (without_order s number, refl)
+changes_exist s Quit is sound none = (s, refl)
 
 -- ---- in one way
 
@@ -509,6 +521,10 @@ changes_once s m n ListLine is h k = h ∙ sym k
 changes_once s m n Log is h k = h ∙ sym k
 changes_once s m n (Why name value) is h k = h ∙ sym k
 changes_once s m n Conflict is h k = h ∙ sym k
+changes_once s m n MinimalConflict is h k = h ∙ sym k
+changes_once s m n (Minimal name value) is h k = h ∙ sym k
+changes_once s m n (Cert name value) is h k = h ∙ sym k
+changes_once s m n CertConflict is h k = h ∙ sym k
 changes_once s m n Pause is h k = h ∙ sym k
 changes_once s m n Resume is h k = h ∙ sym k
 changes_once s m n (Step count) is h k = h ∙ sym k
@@ -521,7 +537,6 @@ changes_once s m n OrderNone is h k = h ∙ sym k
 changes_once s m n (DropGuide number) is h k = h ∙ sym k
 changes_once s m n (DropOrder number) is h k = h ∙ sym k
 changes_once s m n Quit is h k = h ∙ sym k
-changes_once s m n _ is h k = absurd h
 
 -- ---- which objects are there, and which are chosen
 
@@ -559,6 +574,10 @@ changes_objects s m ListLine h = inr (alike s m s h (record { guides = refl; ord
 changes_objects s m Log h = inr (alike s m s h (record { guides = refl; orders = refl; guide = refl; order = refl }))
 changes_objects s m (Why name value) h = inr (alike s m s h (record { guides = refl; orders = refl; guide = refl; order = refl }))
 changes_objects s m Conflict h = inr (alike s m s h (record { guides = refl; orders = refl; guide = refl; order = refl }))
+changes_objects s m MinimalConflict h = inr (alike s m s h (record { guides = refl; orders = refl; guide = refl; order = refl }))
+changes_objects s m (Minimal name value) h = inr (alike s m s h (record { guides = refl; orders = refl; guide = refl; order = refl }))
+changes_objects s m (Cert name value) h = inr (alike s m s h (record { guides = refl; orders = refl; guide = refl; order = refl }))
+changes_objects s m CertConflict h = inr (alike s m s h (record { guides = refl; orders = refl; guide = refl; order = refl }))
 changes_objects s m Pause h = inr (alike s m (record s { paused = true }) h (record { guides = refl; orders = refl; guide = refl; order = refl }))
 changes_objects s m Resume h = inr (alike s m (record s { paused = false }) h (record { guides = refl; orders = refl; guide = refl; order = refl }))
 changes_objects s m (Step count) h = inr (alike s m s h (record { guides = refl; orders = refl; guide = refl; order = refl }))
@@ -571,7 +590,6 @@ changes_objects s m OrderNone h = inl tt
 changes_objects s m (DropGuide number) h = inl tt
 changes_objects s m (DropOrder number) h = inl tt
 changes_objects s m Quit h = inr (alike s m s h (record { guides = refl; orders = refl; guide = refl; order = refl }))
-changes_objects s m _ h = absurd h
 
 -- nothing follows a line about objects
 pub objects_rest : (s : SessionState) (line : Line) → IsAboutObjects line → next s line ≡ Rests
@@ -606,9 +624,9 @@ module _ (guides orders : List ℕ) (s m : SessionState) (is : IsWithout guides 
 
   -- a line about objects that chooses none of these leaves none chosen
   pub changes_without : (line : Line) → IsNone (Meets s line) in_order → IsAboutObjects line → Changes s line m → IsOther guides orders line → IsWithout guides orders m
-  changes_without (Guide number) none about h other = absurd (other.guide number refl (is.guides_within number (listed s.guides number none.1.1.1.1.1.0)))
+  changes_without (Guide number) none about h other = absurd (other.guide number refl (is.guides_within number (listed s.guides number none.1.1.1.1.0)))
   changes_without GuideNone none about h other = subst (IsWithout guides orders) (sym h) (record { unguided = refl; free = is.free; guides_within = is.guides_within; orders_within = is.orders_within })
-  changes_without (Order number) none about h other = absurd (other.order number refl (is.orders_within number (listed s.orders number none.1.1.1.1.1.0)))
+  changes_without (Order number) none about h other = absurd (other.order number refl (is.orders_within number (listed s.orders number none.1.1.1.1.0)))
   changes_without OrderNone none about h other = subst (IsWithout guides orders) (sym h) (record { unguided = is.unguided; free = refl; guides_within = is.guides_within; orders_within = is.orders_within })
   changes_without (DropGuide number) none about h other = subst (IsWithout guides orders) (sym h) (record {
     unguided = ap (chosen_without number) is.unguided;

@@ -69,6 +69,20 @@ inside_empty d e x long inside empty = record {
   empty = none_nil (values_of d x) (λ v m. member_nil v (subst (λ (vs : List ℤ). Contains vs v) empty.empty (inside x v m)));
 }
 
+-- while filtering does not wait, active constraints that are a conflict contradict
+pub conflict_contradicts : (s : SessionState) → IsHeld s → s.paused ≡ false → IsConflict (initial_of s.book) (Contains (cons_of (active_of s.book))) → IsContradiction s
+conflict_contradicts s is awake conflict =
+    let d = domains_exist s is in
+    record {
+      awake = awake;
+      domains = d.0;
+      greatest = d.1;
+      empty = at_empty d.0 conflict.0 (record {
+        exists = omega (arith, conflict.1, d.1.variables);
+        empty = none_nil (values_of d.0 conflict.0) (λ v m. conflict.2 v d.0 d.1.inside d.1.closed m);
+      });
+    }
+
 -- ---- the engine's domains
 
 -- the greatest closed domains in the engine's own words

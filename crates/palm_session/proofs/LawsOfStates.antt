@@ -1,11 +1,11 @@
 -- What an accepted line leaves is a state that a session can hold, and without an order object nothing else.
-use Rattle.std.proofs.Common.{◌≡◌, ℕ, Bool, true, false, is_some, Option, Some, None, List, [], length, Contains, ◌⊎◌, inl, inr, refl, sym, ap, ◌∙◌, subst, arith}
+use Rattle.std.proofs.Common.{◌≡◌, ℕ, Bool, true, false, is_some, Option, Some, None, List, [], length, Contains, inl, inr, refl, sym, ap, ◌∙◌, subst, arith}
 use Rattle.std.proofs.lemmas.Bool.{false≢true}
 use Rattle.std.proofs.lemmas.List.Elements.{All-nil}
 use Rattle.palm_base.proofs.Members.{Known}
 use Rattle.palm_model.specs.Domains.{Domains, Ascends}
 use Rattle.palm_model.specs.Log.{cons_of}
-use Rattle.palm_model.specs.State.{EngineState, IsValid}
+use Rattle.palm_model.specs.State.{EngineState}
 use Rattle.palm_book.specs.Book.{initial_of, active_of}
 use Rattle.palm_book.proofs.Actives.{initial_ascend}
 use Rattle.palm_read.specs.Sound.{IsSound}
@@ -18,7 +18,7 @@ use Rattle.palm_events.proofs.Valid.{blank_valid}
 use Rattle.palm_engine.specs.Settling.{Revision, FitsOrder}
 use Rattle.palm_engine.proofs.Settled.{settling_filters, settling_valid, settling_still, plainly_exists, plainly_same}
 use Rattle.palm_session.specs.State.{SessionState, IsHeld, IsState, fresh, AreDomains, has_empty, IsContradiction}
-use Rattle.palm_session.specs.Refusals.{IsBuilt, Meets, in_order, IsNone}
+use Rattle.palm_session.specs.Refusals.{Meets, in_order, IsNone}
 use Rattle.palm_session.specs.Effects.{Effect, Nothing, Settled, Searched, with_engine, with_search, Changes, Next, Rests, Filters, Procedure, search_line, HasTabu, Searches, next, SettlesIn, Follows, Does}
 use Rattle.palm_search.specs.declared.turn.Turn.{Turn}
 use Rattle.palm_session.proofs.Searching.{search_in, search_once, searched_state}
@@ -108,9 +108,9 @@ follows_exist m (Searches by) is some =
     let p = search_in m is by (some by refl) in
     (Searched p.end, with_search m p.turns p.engine, (p.turns, p.engine, p.searches, refl))
 
-pub does_exist : (s : SessionState) (line : Line) → IsState s → IsSound line → HasTabu line → IsNone (Meets s line) in_order → IsBuilt line → (effect : Effect) × (t : SessionState) × Does s line effect t
-does_exist s line is sound tabu none b =
-    let c = changes_exist s line is.held sound none b in
+pub does_exist : (s : SessionState) (line : Line) → IsState s → IsSound line → HasTabu line → IsNone (Meets s line) in_order → (effect : Effect) × (t : SessionState) × Does s line effect t
+does_exist s line is sound tabu none =
+    let c = changes_exist s line is.held sound none in
     let some = λ (by : Procedure) (e : next c.0 line ≡ Searches by). subst HasTabu (searches_by c.0 line by e) tabu in
     let f = follows_exist c.0 (next c.0 line) (changes_keep s c.0 line is.held sound none c.1) some in
     (f.0, f.1, (c.0, c.1, f.2))

@@ -18,6 +18,7 @@ pub mod LawsOfDomains
 pub mod LawsOfLines
 pub mod LawsOfStates
 pub mod LawsOfTexts
+pub mod Least
 pub mod Logging
 pub mod Made
 pub mod OneEmpty

@@ -17,7 +17,7 @@ use Rattle.palm_book.specs.declared.book.BookCon.{BookCon}
 use Rattle.palm_read.specs.Domain.{values_in}
 use Rattle.palm_read.specs.Sound.{IsSound}
 use Rattle.palm_read.specs.declared.line.Line.{Line}
-use Rattle.palm_read.specs.declared.line.Line.TheVariants.{Comment, Var, Add, Relax, Enforce, Retract, Domains as DomainsLine, Domain, List as ListLine, Log, Why, Conflict, Pause, Resume, Step as StepLine, SolveDbt, SolveRepair, Guide, GuideNone, Order, OrderNone, DropGuide, DropOrder, Quit}
+use Rattle.palm_read.specs.declared.line.Line.TheVariants.{Comment, Var, Add, Relax, Enforce, Retract, Domains as DomainsLine, Domain, List as ListLine, Log, Why, Conflict, MinimalConflict, Minimal, Cert, CertConflict, Pause, Resume, Step as StepLine, SolveDbt, SolveRepair, Guide, GuideNone, Order, OrderNone, DropGuide, DropOrder, Quit}
 use Rattle.palm_read.proofs.SoundLines.{read_sound}
 use Rattle.palm_events.specs.Along.{IsFiltering, IsStill}
 use Rattle.palm_events.proofs.Agreeing.{values_of_more}
@@ -150,6 +150,10 @@ changes_one s m ListLine is sound none h one = subst HasOne (sym h) one
 changes_one s m Log is sound none h one = subst HasOne (sym h) one
 changes_one s m (Why name value) is sound none h one = subst HasOne (sym h) one
 changes_one s m Conflict is sound none h one = subst HasOne (sym h) one
+changes_one s m MinimalConflict is sound none h one = subst HasOne (sym h) one
+changes_one s m (Minimal name value) is sound none h one = subst HasOne (sym h) one
+changes_one s m (Cert name value) is sound none h one = subst HasOne (sym h) one
+changes_one s m CertConflict is sound none h one = subst HasOne (sym h) one
 changes_one s m Pause is sound none h one = subst HasOne (sym h) one
 changes_one s m Resume is sound none h one = subst HasOne (sym h) one
 changes_one s m (StepLine count) is sound none h one = subst HasOne (sym h) one
@@ -162,7 +166,6 @@ changes_one s m OrderNone is sound none h one = subst HasOne (sym h) one
 changes_one s m (DropGuide number) is sound none h one = subst HasOne (sym h) one
 changes_one s m (DropOrder number) is sound none h one = subst HasOne (sym h) one
 changes_one s m Quit is sound none h one = subst HasOne (sym h) one
-changes_one s m _ is sound none h one = absurd h
 
 settles_one : (m : SessionState) (limit : Option ℕ) (count : ℕ) (e : EngineState) → SettlesIn m limit count e → HasOne m → HasOneEmpty e
 settles_one m limit count e h one =

@@ -74,7 +74,7 @@ added_and_retracted s m t name shape a b none adds retracts =
     follows_book r.1.0 (next r.1.0 (Retract name)) r.0 t r.1.2 ∙ ap (λ (z : SessionState). z.book) taken.5 in
     let named : IsNamed m name taken.0 taken.1 = taken.3 in
     last_book ∙ back s.book m.book (next_constraint s name added.0) taken.1 taken.0 next_book named.at
-    (λ x k e. none.1.0 (any_member (λ (c : BookCon). c.name ≡ name) s.book.constraints x k (ap (λ (c : BookCon). c.name) e ∙ named.named)))
+    (λ x k e. none.0 (any_member (λ (c : BookCon). c.name ≡ name) s.book.constraints x k (ap (λ (c : BookCon). c.name) e ∙ named.named)))
 
 pub same_domains : (s t : SessionState) (d : Domains) → t.book ≡ s.book → AreDomains s d ↔ AreDomains t d
 same_domains s t d e = (

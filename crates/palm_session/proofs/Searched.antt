@@ -1,6 +1,5 @@
 -- What a search tells, and what it leaves.
-use Rattle.std.proofs.Common.{◌≡◌, ℕ, ℤ, Option, List, refl, sym, ap, ◌∙◌, subst}
-use Rattle.palm_base.specs.declared.terms.Cid.{Cid}
+use Rattle.std.proofs.Common.{◌≡◌, ℕ, List, refl, sym, ap, ◌∙◌, subst}
 use Rattle.palm_model.specs.State.{EngineState}
 use Rattle.palm_events.specs.Along.{IsStill}
 use Rattle.palm_read.specs.declared.line.Line.{Line}

@@ -1,15 +1,14 @@
 -- Searches of a session: there is one for each budget and each tabu length, and it leaves all but the journal as it was.
-use Rattle.std.proofs.Common.{◌≡◌, ℕ, ℤ, ◌<◌, ◌⊎◌, Bool, true, false, is_some, Option, Some, None, List, [], ◌∷◌, length, map, All, Contains, inl, inr, refl, sym, ap, ◌∙◌, subst}
+use Rattle.std.proofs.Common.{◌≡◌, ℕ, ℤ, ◌<◌, ◌⊎◌, Bool, true, false, is_some, Option, Some, None, List, [], ◌∷◌, length, Contains, refl, sym, ap, ◌∙◌, subst}
 use Rattle.std.proofs.lemmas.List.{length-map}
 use Rattle.palm_base.specs.declared.terms.Cid.{Cid}
-use Rattle.palm_base.proofs.Members.{all_members}
 use Rattle.palm_model.specs.Closure.{IsSolution}
 use Rattle.palm_model.specs.Domains.{Assignment, Domains}
 use Rattle.palm_model.specs.Log.{Active, IsActive, Named, cons_of, log_pairs}
 use Rattle.palm_model.specs.State.{EngineState, is_user, present}
 use Rattle.palm_model.specs.Trial.{listed, value_count}
 use Rattle.palm_model.proofs.Without.{length_without}
-use Rattle.palm_book.specs.Book.{Entry, IsUser, initial_of, active_of}
+use Rattle.palm_book.specs.Book.{Entry, initial_of, active_of}
 use Rattle.palm_events.specs.Along.{IsStill}
 use Rattle.palm_events.proofs.Reasons.{reasons_right}
 use Rattle.palm_search.specs.Measure.{most_turns}

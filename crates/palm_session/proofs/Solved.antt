@@ -1,5 +1,5 @@
 -- What serving a search does.
-use Rattle.std.proofs.Common.{◌≡◌, ℕ, ℤ, Bool, true, false, is_some, Some, List, length, All, Contains, inl, inr, refl, sym, ap, ◌∙◌, subst}
+use Rattle.std.proofs.Common.{◌≡◌, ℕ, ℤ, Bool, true, false, is_some, Some, List, length, All, refl, sym, ap, ◌∙◌, subst}
 use Rattle.palm_base.specs.declared.terms.Cid.{Cid}
 use Rattle.palm_base.proofs.Members.{all_members}
 use Rattle.palm_model.specs.State.{EngineState}
@@ -30,8 +30,8 @@ use Rattle.palm_session.proofs.Serving.{free_of_refusals}
 use Rattle.palm_session.proofs.Users.{active_user}
 
 search_unrefused : (s : SessionState) (by : Procedure) → IsNone (Meets s (search_line by)) in_order
-search_unrefused s (ByDbt budget) = free_of_refusals s (SolveDbt budget) tt (λ h. h) (λ h. h) (λ h. h) (λ h. h) (λ h. h) (λ h. h) (λ h. h) (λ h. h)
-search_unrefused s (ByRepair tabu budget) = free_of_refusals s (SolveRepair tabu budget) tt (λ h. h) (λ h. h) (λ h. h) (λ h. h) (λ h. h) (λ h. h) (λ h. h) (λ h. h)
+search_unrefused s (ByDbt budget) = free_of_refusals s (SolveDbt budget) (λ h. h) (λ h. h) (λ h. h) (λ h. h) (λ h. h) (λ h. h) (λ h. h) (λ h. h)
+search_unrefused s (ByRepair tabu budget) = free_of_refusals s (SolveRepair tabu budget) (λ h. h) (λ h. h) (λ h. h) (λ h. h) (λ h. h) (λ h. h) (λ h. h) (λ h. h)
 
 pub search_waits : (s : SessionState) (by : Procedure) → s.paused ≡ true → Serves s (search_line by) (fixed_text Paused) s
 search_waits s by paused = accepts (search_unrefused s by) (waits (record { paused = paused; pausable = search_pausable by }))

@@ -54,7 +54,7 @@ told_why s name value reply t is none (says effect goes does quiet said) =
     let here : Says s (Why name value) effect reply = subst (λ (z : SessionState). Says z (Why name value) effect reply) same said in
     let calm : IsContradiction s → ⊥ = λ c. quiet (record { contradiction = subst IsContradiction (sym same) c; contradictable = tt }) in
     says_why s is (awake_for s (Why name value) tt goes) calm name value reply here.0 here.1 here.2 here.3 here.4
-    (declared_value s name value here.1 none.1.1.1.1.1.1.0 here.3 here.4) here.5
+    (declared_value s name value here.1 none.1.1.1.1.1.0 here.3 here.4) here.5
 
 says_conflict : (s : SessionState) → IsState s → (d : Domains) (reply : List ℕ) → SaysConflict s d reply → ToldConflict s.book reply
 says_conflict s is d reply (inl p) = conflict_none p.1

@@ -4,7 +4,7 @@ use Rattle.std.proofs.lemmas.List.{length-map}
 use Rattle.palm_base.specs.declared.terms.Pair.{Pair}
 use Rattle.palm_base.specs.declared.terms.Cid.{Cid}
 use Rattle.palm_base.specs.declared.terms.Cid.TheVariants.{Decide, Not, User}
-use Rattle.palm_base.proofs.Members.{member_nil, member_cases, all_members}
+use Rattle.palm_base.proofs.Members.{member_nil, member_cases, member_unmap, all_members}
 use Rattle.palm_model.specs.Domains.{Domains, Has}
 use Rattle.palm_model.specs.Log.{Active, IsActive, Removal, NamesOfPair, IsListOf, AreRight}
 use Rattle.palm_model.specs.Log.Names.{by_itself}
@@ -20,6 +20,8 @@ use Rattle.palm_session.specs.Answers.{HasConflict}
 use Rattle.palm_session.specs.Logged.{IsLogged, AreLogged, IsNumbered}
 use Rattle.palm_session.proofs.ActiveLists.{active_member}
 use Rattle.palm_session.proofs.LawsOfDomains.{explanation_active, conflict_names_active}
+use Rattle.palm_reduce.proofs.Reducing.{left_within}
+use Rattle.palm_reduce.specs.Minimal.{IsMinimal}
 
 pub active_user : (book : Contents) (c : Cid) → IsActive (active_of book) c → IsUser book c
 active_user book c active =
@@ -63,3 +65,14 @@ is_logged s is r m = record {
 
 pub are_logged : (s : SessionState) → IsHeld s → AreLogged s.book s.engine.log
 are_logged s is = all_members (IsLogged s.book) s.engine.log (is_logged s is)
+
+-- ---- minimal sets
+
+-- the names of a minimal set are those of active constraints
+pub minimal_active : (P : List Active → Type 0) (active : List Active) (names : List Cid) → IsMinimal P active names → (c : Cid) → Contains names c → IsActive active c
+minimal_active P active names minimal c m =
+    let a = member_unmap (λ (a : Active). a.cid) minimal.left c (subst (λ (l : List Cid). Contains l c) minimal.named m) in
+    record { owner = a.0; posted = left_within P [] active minimal.left minimal.walk a.0 a.1; named = a.2 }
+
+pub minimal_users : (book : Contents) (P : List Active → Type 0) (names : List Cid) → IsMinimal P (active_of book) names → All (IsUser book) names
+minimal_users book P names minimal = all_members (IsUser book) names (λ c m. active_user book c (minimal_active P (active_of book) names minimal c m))

@@ -1,11 +1,15 @@
 -- What a session answers to a line, and what it holds afterwards.
 use Rattle.std.specs.Prelude.{◌≡◌, ℕ, ℤ, ◌<◌, ◌≤◌, ◌⊎◌, true, false, List, [], ◌++◌, length, map, flat_map, zip, Some}
 use Rattle.palm_base.specs.declared.terms.Cid.{Cid}
+use Rattle.palm_base.specs.declared.terms.Pair.{Pair}
 use Rattle.palm_model.specs.Domains.{Domains, Has, values_of}
 use Rattle.palm_model.specs.Log.{Removal, NamesOfPair, IsListOf}
 use Rattle.palm_model.specs.State.{IsEmptyAt, present}
 use Rattle.palm_model.specs.Conflict.{IsKeptConflict}
-use Rattle.palm_book.specs.Book.{Entry, Contents, name_of, user_name}
+use Rattle.palm_book.specs.Book.{Entry, Contents, active_of, initial_of, name_of, user_name}
+use Rattle.palm_reduce.specs.Minimal.{AreConflict, DoExplain, IsMinimalConflict, IsMinimalExplanation}
+use Rattle.palm_claim.specs.declared.verdict.Claim.TheVariants.{Gone, Conflict as ConflictClaim}
+use Rattle.palm_cert.specs.Certificate.{certificate_text}
 use Rattle.palm_read.specs.Reading.{IsRead, IsRefusedBy}
 use Rattle.palm_lang.specs.Reply.{fixed_text, refusal_text, ran_text, domain_line, var_line, entry_line, removal_line, names_line, found_line, spent_line}
 use Rattle.palm_lang.specs.declared.reply.Lead.{Lead}
@@ -93,8 +97,34 @@ abbrev pub SaysConflict : SessionState → Domains → List ℕ → Type 0
 SaysConflict s d reply = ((has_empty d ≡ false) × (reply ≡ fixed_text Consistent))
     ⊎ ((has_empty d ≡ true) × (names : List Cid) × HasConflict s names × (reply ≡ users_text s.book ConflictLead names))
 
--- the reply of the line's own to an accepted line, by what is held after it and by what happened; a form without a row
--- of its own has no reply
+-- `present` where the active constraints do not explain the absence of the pair, and else their minimal explanation
+abbrev pub SaysMinimal : Contents → Pair → List ℕ → Type 0
+SaysMinimal book pair reply = ((DoExplain (initial_of book) pair (active_of book) → ⊥) × (reply ≡ fixed_text Present))
+    ⊎ ((names : List Cid) × IsMinimalExplanation (initial_of book) (active_of book) pair names × (reply ≡ users_text book Because names))
+
+-- `consistent` where the active constraints are no conflict, and else their minimal conflict
+abbrev pub SaysMinimalConflict : Contents → List ℕ → Type 0
+SaysMinimalConflict book reply = ((AreConflict (initial_of book) (active_of book) → ⊥) × (reply ≡ fixed_text Consistent))
+    ⊎ ((names : List Cid) × IsMinimalConflict (initial_of book) (active_of book) names × (reply ≡ users_text book ConflictLead names))
+
+-- `present` where the value is one of the greatest closed domains, and else the certificate of its removal by the kept log
+abbrev pub SaysCert : SessionState → Domains → Pair → List ℕ → Type 0
+SaysCert s d pair reply = (Has d pair.var pair.value × (reply ≡ fixed_text Present))
+    ⊎ ((Has d pair.var pair.value → ⊥) × (reply ≡ certificate_text s.book s.engine.log (Gone pair)))
+
+-- the lowest empty variable
+pub record IsLowestEmpty (s : SessionState) (x : ℕ) : Type 0 where
+  pub empty : IsEmptyAt (present s.engine) x
+  pub lowest : (y : ℕ) → IsEmptyAt (present s.engine) y → x ≤ y
+
+-- `consistent` where none of the greatest closed domains is empty, and else the certificate of the lowest empty variable by
+-- the kept log
+abbrev pub SaysCertConflict : SessionState → Domains → List ℕ → Type 0
+SaysCertConflict s d reply = ((has_empty d ≡ false) × (reply ≡ fixed_text Consistent))
+    ⊎ ((has_empty d ≡ true) × (x : ℕ) × IsLowestEmpty s x × (reply ≡ certificate_text s.book s.engine.log (ConflictClaim x)))
+
+-- the reply of the line's own to an accepted line, by what is held after it and by what happened; an effect that the line
+-- cannot have has no reply
 abbrev pub Says : SessionState → Line → Effect → List ℕ → Type 0
 Says s Comment effect reply = reply ≡ []
 Says s (Var name domain) effect reply = reply ≡ fixed_text Done
@@ -122,6 +152,13 @@ Says s Log effect reply = reply ≡ log_text s.book s.engine.log
 Says s (Why name value) effect reply =
     (d : Domains) × (x : ℕ) × AreDomains s d × (x < length s.book.variables) × (name_of s.book.variables x ≡ name) × SaysWhy s d x value reply
 Says s Conflict effect reply = (d : Domains) × AreDomains s d × SaysConflict s d reply
+Says s (Minimal name value) effect reply =
+    (x : ℕ) × (x < length s.book.variables) × (name_of s.book.variables x ≡ name) × SaysMinimal s.book (record { var = x; value = value }) reply
+Says s MinimalConflict effect reply = SaysMinimalConflict s.book reply
+Says s (Cert name value) effect reply =
+    (d : Domains) × (x : ℕ) × AreDomains s d × (x < length s.book.variables) × (name_of s.book.variables x ≡ name)
+    × SaysCert s d (record { var = x; value = value }) reply
+Says s CertConflict effect reply = (d : Domains) × AreDomains s d × SaysCertConflict s d reply
 Says s Quit effect reply = reply ≡ fixed_text Bye
 Says s _ _ reply = ⊥
 

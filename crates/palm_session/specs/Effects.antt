@@ -15,7 +15,7 @@ use Rattle.palm_book.specs.Named.{Resolves}
 use Rattle.palm_book.specs.declared.book.BookCon.{BookCon}
 use Rattle.palm_read.specs.Domain.{values_in}
 use Rattle.palm_read.specs.declared.line.Line.{Line}
-use Rattle.palm_read.specs.declared.line.Line.TheVariants.{Comment, Var, Add, Relax, Enforce, Retract, Domains as DomainsLine, Domain, List as ListLine, Log, Why, Conflict, Pause, Resume, Step, SolveDbt, SolveRepair, Guide, GuideNone, Order, OrderNone, DropGuide, DropOrder, Quit}
+use Rattle.palm_read.specs.declared.line.Line.TheVariants.{Comment, Var, Add, Relax, Enforce, Retract, Domains as DomainsLine, Domain, List as ListLine, Log, Why, Conflict, MinimalConflict, Minimal, Cert, CertConflict, Pause, Resume, Step, SolveDbt, SolveRepair, Guide, GuideNone, Order, OrderNone, DropGuide, DropOrder, Quit}
 use Rattle.palm_session.specs.Objects.{without_number, chosen_without}
 use Rattle.palm_session.specs.State.{SessionState}
 
@@ -116,7 +116,7 @@ WithdrawsWhere false e cid after = after ≡ e
 abbrev pub WithdrawsActive : EngineState → BookCon → EngineState → Type 0
 WithdrawsActive e c after = WithdrawsWhere c.active e (User c.number) after
 
--- what the line changes before anything is filtered; a form without a row of its own changes nothing, and does not happen
+-- what the line changes before anything is filtered
 abbrev pub Changes : SessionState → Line → SessionState → Type 0
 Changes s Comment t = t ≡ s
 Changes s (Var name domain) t = (e : EngineState) × Declares s.engine (values_in domain) e × (t ≡ with_engine (with_variable s name (values_in domain)) e)
@@ -138,6 +138,10 @@ Changes s ListLine t = t ≡ s
 Changes s Log t = t ≡ s
 Changes s (Why name value) t = t ≡ s
 Changes s Conflict t = t ≡ s
+Changes s MinimalConflict t = t ≡ s
+Changes s (Minimal name value) t = t ≡ s
+Changes s (Cert name value) t = t ≡ s
+Changes s CertConflict t = t ≡ s
 Changes s Pause t = t ≡ record s { paused = true }
 Changes s Resume t = t ≡ record s { paused = false }
 Changes s (Step count) t = t ≡ s
@@ -150,7 +154,6 @@ Changes s OrderNone t = t ≡ record s { order = None }
 Changes s (DropGuide number) t = t ≡ without_guide s number
 Changes s (DropOrder number) t = t ≡ without_order s number
 Changes s Quit t = t ≡ s
-Changes s _ t = ⊥
 
 -- ---- what follows
 

@@ -1,42 +1,14 @@
 -- Which lines are refused, and by which refusal.
-use Rattle.std.specs.Prelude.{◌≡◌, ◌≤◌, Bool, true, false, List, [], ◌∷◌, ◌⊎◌, ℕ, length, Any, Contains, Option, Some, None}
+use Rattle.std.specs.Prelude.{◌≡◌, ◌≤◌, Bool, true, false, List, [], ◌∷◌, ◌⊎◌, ℕ, ℤ, length, Any, Contains, Option, Some, None}
 use Rattle.palm_read.specs.Limits.{names_of, IsBeyond}
 use Rattle.palm_read.specs.declared.line.Line.{Line}
-use Rattle.palm_read.specs.declared.line.Line.TheVariants.{Comment, Var, Add, Relax, Enforce, Retract, Domains as DomainsLine, Domain, List as ListLine, Log, Why, Conflict, Pause, Resume, Step, SolveDbt, SolveRepair, Guide, GuideNone, Order, OrderNone, DropGuide, DropOrder, Quit}
+use Rattle.palm_read.specs.declared.line.Line.TheVariants.{Var, Add, Relax, Enforce, Retract, Domain, Why, Minimal, Cert, Pause, Resume, Step, Guide, Order, DropGuide, DropOrder}
 use Rattle.palm_read.specs.declared.parse.LineError.{LineError}
 use Rattle.palm_read.specs.declared.parse.LineError.TheVariants.{Bytes, Form, Range as OutOfRange, Empty, Repeated, NoMemory}
 use Rattle.palm_lang.specs.declared.reply.Refusal.{Refusal}
 use Rattle.palm_lang.specs.declared.reply.Refusal.TheVariants.{E1, E2, E3, E4, E5, E6, E7, E8, E9, E10, E11, E12}
 use Rattle.palm_book.specs.declared.limits.TheConstants.{MOST_VARIABLES, MOST_CONSTRAINTS, MOST_ADDED}
 use Rattle.palm_session.specs.State.{SessionState, HasVariable, HasConstraint}
-
--- the line's form is served
-abbrev pub IsBuilt : Line → Type 0
-IsBuilt Comment = Unit {0}
-IsBuilt (Var name domain) = Unit {0}
-IsBuilt (Add name shape) = Unit {0}
-IsBuilt DomainsLine = Unit {0}
-IsBuilt (Domain name) = Unit {0}
-IsBuilt ListLine = Unit {0}
-IsBuilt (Relax name) = Unit {0}
-IsBuilt (Enforce name) = Unit {0}
-IsBuilt (Retract name) = Unit {0}
-IsBuilt Log = Unit {0}
-IsBuilt (Why name value) = Unit {0}
-IsBuilt Conflict = Unit {0}
-IsBuilt Pause = Unit {0}
-IsBuilt Resume = Unit {0}
-IsBuilt (Step count) = Unit {0}
-IsBuilt (SolveDbt budget) = Unit {0}
-IsBuilt (SolveRepair tabu budget) = Unit {0}
-IsBuilt (Guide number) = Unit {0}
-IsBuilt GuideNone = Unit {0}
-IsBuilt (Order number) = Unit {0}
-IsBuilt OrderNone = Unit {0}
-IsBuilt (DropGuide number) = Unit {0}
-IsBuilt (DropOrder number) = Unit {0}
-IsBuilt Quit = Unit {0}
-IsBuilt _ = ⊥
 
 -- a name of a variable is wanted and there is none
 abbrev pub IsUnknown : SessionState → List ℕ → Type 0
@@ -53,6 +25,8 @@ abbrev pub NamesNone : SessionState → Line → Type 0
 NamesNone s (Add name shape) = Any (IsUnknown s) (names_of shape)
 NamesNone s (Domain name) = IsUnknown s name
 NamesNone s (Why name value) = IsUnknown s name
+NamesNone s (Minimal name value) = IsUnknown s name
+NamesNone s (Cert name value) = IsUnknown s name
 NamesNone s _ = ⊥
 
 -- no present constraint has the name that the line gives
@@ -76,9 +50,15 @@ NamesNoObject s (DropGuide number) = Contains s.guides number → ⊥
 NamesNoObject s (DropOrder number) = Contains s.orders number → ⊥
 NamesNoObject s _ = ⊥
 
+-- the variable with the name was not declared with the value
+abbrev pub IsUndeclared : SessionState → List ℕ → ℤ → Type 0
+IsUndeclared s name value = Any (λ e. (e.name ≡ name) × (Contains e.values value → ⊥)) s.book.variables
+
 -- the line asks for a value that its variable was not declared with
 abbrev pub AsksUndeclared : SessionState → Line → Type 0
-AsksUndeclared s (Why name value) = Any (λ e. (e.name ≡ name) × (Contains e.values value → ⊥)) s.book.variables
+AsksUndeclared s (Why name value) = IsUndeclared s name value
+AsksUndeclared s (Minimal name value) = IsUndeclared s name value
+AsksUndeclared s (Cert name value) = IsUndeclared s name value
 AsksUndeclared s _ = ⊥
 
 -- a present constraint has the name and is active, or is relaxed
@@ -96,7 +76,6 @@ IsInWrongState s _ = ⊥
 
 -- the condition of a refusal, on a line that was read
 abbrev pub Meets : SessionState → Line → Refusal → Type 0
-Meets s line E2 = IsBuilt line → ⊥
 Meets s line E3 = TakesName s line
 Meets s line E4 = NamesNone s line
 Meets s line E5 = NamesNoConstraint s line
@@ -108,7 +87,7 @@ Meets s line _ = ⊥
 
 -- the order in which a session looks for refusals of a line that was read
 abbrev pub in_order : List Refusal
-in_order = E2 ∷ E3 ∷ E4 ∷ E5 ∷ E7 ∷ E11 ∷ E12 ∷ E10 ∷ []
+in_order = E3 ∷ E4 ∷ E5 ∷ E7 ∷ E11 ∷ E12 ∷ E10 ∷ []
 
 -- the first of the list that holds
 abbrev pub IsFirst : (Refusal → Type 0) → List Refusal → Refusal → Type 0

@@ -3,6 +3,8 @@ use Rattle.std.specs.Prelude.{◌≡◌, ◌<◌, ℕ, List, [], length, All, So
 use Rattle.palm_model.specs.Domains.{values_of}
 use Rattle.palm_model.specs.State.{present}
 use Rattle.palm_book.specs.Book.{IsUser, name_of}
+use Rattle.palm_cert.specs.Certificate.{certificate_text}
+use Rattle.palm_cert.specs.Needs.{CanClaim}
 use Rattle.palm_lang.specs.Reply.{fixed_text, refusal_text, ran_text, domain_line, found_line, spent_line}
 use Rattle.palm_session.specs.Answers.{domains_text, list_text, log_text, users_text}
 use Rattle.palm_session.specs.Refusals.{refusal_of}
@@ -12,7 +14,7 @@ use Rattle.palm_lang.specs.declared.reply.Refusal.{Refusal}
 use Rattle.palm_session.specs.declared.going.Going.{Going}
 use Rattle.palm_session.specs.declared.going.Going.TheVariants.{More}
 use Rattle.palm_session.specs.declared.reply.Reply.{Reply}
-use Rattle.palm_session.specs.declared.reply.Reply.TheVariants.{Nothing, Word, Refused, Ran, Domains, Domain, Listing, Log, Users, Found, Spent}
+use Rattle.palm_session.specs.declared.reply.Reply.TheVariants.{Nothing, Word, Refused, Ran, Domains, Domain, Listing, Log, Users, Certificate, Found, Spent}
 
 -- the text of a reply to a line, by what is held after it
 abbrev pub reply_text : SessionState → Reply → List ℕ
@@ -25,13 +27,15 @@ reply_text s (Domain x) = domain_line (name_of s.book.variables x) (values_of (p
 reply_text s Listing = list_text s.book
 reply_text s Log = log_text s.book s.engine.log
 reply_text s (Users lead names) = users_text s.book lead names
+reply_text s (Certificate claim) = certificate_text s.book s.engine.log claim
 reply_text s (Found values) = found_line s.book.variables values
 reply_text s (Spent turns dropped) = spent_line turns dropped
 
--- what a reply is about is in the book
+-- what a reply is about is in the book, and what a certificate claims holds
 abbrev pub ReplyFits : SessionState → Reply → Type 0
 ReplyFits s (Domain x) = x < length s.book.variables
 ReplyFits s (Users lead names) = All (IsUser s.book) names
+ReplyFits s (Certificate claim) = CanClaim s.engine claim
 ReplyFits s (Found values) = length values ≡ length s.book.variables
 ReplyFits s _ = Unit {0}
 

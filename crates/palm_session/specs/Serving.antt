@@ -1,6 +1,8 @@
 -- What a desk is seen as, and what serving a line that was read does to it.
-use Rattle.std.specs.Prelude.{◌≡◌, ℕ, ◌+◌, ◌-◌, ◌≤◌, min, Bool, true, false, List, ◌++◌, ◌⊎◌, ⊤, Option, None, Some, slice_get}
+use Rattle.std.specs.Prelude.{◌≡◌, ℕ, ℤ, ◌+◌, ◌-◌, ◌<◌, ◌≤◌, min, Bool, true, false, List, ◌++◌, length, ◌⊎◌, ⊤, Option, None, Some, Result, Ok, Err, slice_get}
 use Rattle.palm_base.specs.declared.limits.TheConstants.{LAST_COUNT}
+use Rattle.palm_base.specs.declared.terms.Pair.{Pair}
+use Rattle.palm_model.specs.Domains.{Has}
 use Rattle.palm_model.specs.Log.{Removal, log_pairs}
 use Rattle.palm_model.specs.State.{EngineState}
 use Rattle.palm_engine.specs.Engine.{View}
@@ -11,16 +13,17 @@ use Rattle.palm_dbt.specs.declared.answer.Answer.{Answer}
 use Rattle.palm_dbt.specs.declared.answer.Answer.TheVariants.{Found as DbtFound, NoSolution as DbtNoSolution, Spent as DbtSpent}
 use Rattle.palm_repair.specs.declared.answer.RepairAnswer.{RepairAnswer}
 use Rattle.palm_repair.specs.declared.answer.RepairAnswer.TheVariants.{Found as RepairFound, NoSolution as RepairNoSolution, Spent as RepairSpent}
-use Rattle.palm_book.specs.Book.{Contents}
+use Rattle.palm_book.specs.Book.{Contents, name_of}
 use Rattle.palm_book.specs.declared.book.BookCon.{BookCon}
 use Rattle.palm_read.specs.declared.line.Line.{Line}
 use Rattle.palm_lang.specs.Reply.{fixed_text, refusal_text}
 use Rattle.palm_lang.specs.declared.reply.Fixed.{Fixed}
 use Rattle.palm_lang.specs.declared.reply.Fixed.TheVariants.{Contradiction, Paused}
 use Rattle.palm_lang.specs.declared.reply.Refusal.{Refusal}
+use Rattle.palm_lang.specs.declared.reply.Refusal.TheVariants.{E4, E12}
 use Rattle.palm_session.specs.Objects.{ObjectsView}
-use Rattle.palm_session.specs.State.{SessionState, IsContradiction, fresh}
-use Rattle.palm_session.specs.Refusals.{IsFirst, IsNone, Meets, in_order}
+use Rattle.palm_session.specs.State.{SessionState, HasVariable, IsContradiction, fresh}
+use Rattle.palm_session.specs.Refusals.{IsFirst, IsNone, IsUndeclared, IsUnknown, Meets, in_order}
 use Rattle.palm_session.specs.Effects.{SearchEnd, Found, NoSolution, Spent, Effect, Changes, Next, Rests, Filters, Procedure, Searches, SettlesIn, SearchesIn, Follows, next, with_engine, with_search}
 use Rattle.palm_session.specs.Answers.{Accepts}
 
@@ -124,6 +127,20 @@ Withholds s (Some _) = ⊥
 pub data TellsOpenly (s : SessionState) (IsOwn : List ℕ → Type 0) (text : List ℕ) : Type 0 where
   tells_word : (word : Fixed) → Withholds s (Some word) → text ≡ fixed_text word → TellsOpenly s IsOwn text
   tells_own : Withholds s None → IsOwn text → TellsOpenly s IsOwn text
+
+-- the declared pair of the variable with the name
+pub record IsPairOf (s : SessionState) (name : List ℕ) (value : ℤ) (pair : Pair) : Type 0 where
+  pub variable : pair.var < length s.book.variables
+  pub named : name_of s.book.variables pair.var ≡ name
+  pub valued : pair.value ≡ value
+  pub declared : Has s.engine.initial pair.var pair.value
+
+-- the pair that a line asks for, or the refusal of a name or a value that is not declared
+abbrev pub FindsPair : SessionState → List ℕ → ℤ → Result Pair Refusal → Type 0
+FindsPair s name value (Ok pair) = IsPairOf s name value pair
+FindsPair s name value (Err E4) = IsUnknown s name
+FindsPair s name value (Err E12) = HasVariable s name × IsUndeclared s name value
+FindsPair s name value (Err _) = ⊥
 
 -- what serving a line that was read does: its first refusal changes nothing, and without one it is accepted
 pub data Serves : SessionState → Line → List ℕ → SessionState → Type 0 where

@@ -9,6 +9,7 @@ use Rattle.palm_book.specs.Book.{Contents, initial_of, active_of, name_of}
 use Rattle.palm_lang.specs.Reply.{fixed_text, found_line, spent_line}
 use Rattle.palm_lang.specs.declared.reply.Fixed.TheVariants.{Contradiction, Paused, Present, Consistent}
 use Rattle.palm_lang.specs.declared.reply.Lead.TheVariants.{Because, Conflict as ConflictLead, NoSolution as NoSolutionLead}
+use Rattle.palm_reduce.specs.Minimal.{IsMinimalConflict, IsMinimalExplanation}
 use Rattle.palm_search.specs.Measure.{most_turns}
 use Rattle.palm_repair.specs.Sets.{most_turns as most_repair_turns}
 use Rattle.palm_session.specs.Answers.{users_text}
@@ -59,6 +60,22 @@ pub data ToldConflict (book : Contents) (reply : List ℕ) : Type 0 where
   conflict_paused : reply ≡ fixed_text Paused → ToldConflict book reply
   conflict_none : reply ≡ fixed_text Consistent → ToldConflict book reply
   conflict_named : (names : List Cid) → IsConflictOf book names → reply ≡ users_text book ConflictLead names → ToldConflict book reply
+
+-- what is told of a value by a minimal set: a word, or the minimal explanation, which is an explanation
+pub data ToldMinimal (book : Contents) (name : List ℕ) (value : ℤ) (reply : List ℕ) : Type 0 where
+  minimal_paused : reply ≡ fixed_text Paused → ToldMinimal book name value reply
+  minimal_contradiction : reply ≡ fixed_text Contradiction → ToldMinimal book name value reply
+  minimal_present : reply ≡ fixed_text Present → ToldMinimal book name value reply
+  minimal_because : (x : ℕ) (names : List Cid) → x < length book.variables → name_of book.variables x ≡ name → IsExplanation book names x value
+      → IsMinimalExplanation (initial_of book) (active_of book) (record { var = x; value = value }) names
+      → reply ≡ users_text book Because names → ToldMinimal book name value reply
+
+-- what is told of conflicts by a minimal set: a word, or the minimal conflict, which is a conflict
+pub data ToldMinimalConflict (book : Contents) (reply : List ℕ) : Type 0 where
+  least_paused : reply ≡ fixed_text Paused → ToldMinimalConflict book reply
+  least_none : reply ≡ fixed_text Consistent → ToldMinimalConflict book reply
+  least_named : (names : List Cid) → IsConflictOf book names → IsMinimalConflict (initial_of book) (active_of book) names
+      → reply ≡ users_text book ConflictLead names → ToldMinimalConflict book reply
 
 -- a search leaves what the session holds as it was, but for the journal and for what is pending
 pub record KeepsAllButJournal (s t : SessionState) : Type 0 where

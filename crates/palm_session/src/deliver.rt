@@ -1,6 +1,8 @@
 //! Writing replies, a line at a time, so that no whole reply is held.
 ghost use Rattle.std.specs.Prelude.{◌≡◌, ◌<◌, length, flat_map, All, OnOk};
 ghost use Rattle.palm_book.specs.Book.{AreValues, IsUser, name_of, values_at};
+ghost use Rattle.palm_cert.specs.Certificate.{certificate_text};
+ghost use Rattle.palm_cert.specs.Needs.{CanClaim};
 ghost use Rattle.palm_domain.specs.Rows.{present_of, present_values};
 ghost use Rattle.palm_explain.specs.Explanations.{reasons_of};
 ghost use Rattle.palm_lang.specs.Reply.{fixed_text, refusal_text, ran_text, domain_line, var_line, entry_at, entry_line, found_line, spent_line};
@@ -16,6 +18,8 @@ use crate::reply::Reply;
 use crate::stop::Stop;
 use palm_agenda::Order;
 use palm_base::{Cid, CidList, Failed, NoMemory, Pair, Sink, Value, ValueList, Var, write_all};
+use palm_cert::{CertStop, write_cert};
+use palm_claim::Claim;
 use palm_domain::DomainStore;
 use palm_explain::ExplainStore;
 use palm_guide::Guide;
@@ -45,6 +49,7 @@ pub fn deliver<G: Guide, O: Order, K: Sink>(
         Reply::Listing => write_list(desk.book(), out, buffer),
         Reply::Log => write_log(desk, out, buffer),
         Reply::Users { lead, names } => write_names(desk.book(), *lead, names, out, buffer),
+        Reply::Certificate(claim) => write_certificate(desk, claim, out),
         Reply::Found(values) => write_found(desk.book(), values, out, buffer),
         Reply::Spent { turns, dropped } => write_spent(*turns, *dropped, out, buffer),
     }
@@ -91,6 +96,36 @@ fn write_names<K: Sink>(
     buffer.clear();
     print_names(book, lead, names, buffer)?;
     write_text(out, buffer)
+}
+
+/// The same claim.
+fn copy_of(claim: &Claim) -> Claim
+    ensures { result ≡ claim.now }
+{
+    match claim {
+        Claim::Gone(Pair { var, value }) => Claim::Gone(Pair {
+            var: Var(var.0),
+            value: Value(value.0),
+        }),
+        Claim::Conflict(var) => Claim::Conflict(Var(var.0)),
+    }
+}
+
+/// Writes the certificate of a claim.
+fn write_certificate<G: Guide, O: Order, K: Sink>(
+    desk: &Desk<G, O>,
+    claim: &Claim,
+    out: &mut K,
+) -> Result<(), Stop>
+    requires held { IsHeld desk.now.state }
+    requires holds { CanClaim desk.now.state.engine claim.now }
+    ensures { Delivers (K.state out.old) (K.state out.new) (certificate_text desk.now.state.book desk.now.state.engine.log claim.now) result }
+{
+    match write_cert(desk.alloc, desk.engine(), desk.book(), copy_of(claim), out) {
+        Ok(()) => Ok(()),
+        Err(CertStop::WriteFault) => Err(Stop::WriteFault),
+        Err(CertStop::NoMemory) => Err(Stop::NoMemory),
+    }
 }
 
 /// Writes a value for each variable.

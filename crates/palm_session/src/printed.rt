@@ -3,14 +3,14 @@
 ghost use Rattle.std.specs.Prelude.{◌≡◌, ◌↔◌, ℕ, ℤ, false, List};
 ghost use Rattle.palm_model.specs.Domains.{Domains};
 ghost use Rattle.palm_model.specs.State.{HasEmpty, IsEmptyAt, present};
-ghost use Rattle.palm_read.specs.declared.line.Line.TheVariants.{Add, Retract, Domains as DomainsLine, Why, Conflict};
+ghost use Rattle.palm_read.specs.declared.line.Line.TheVariants.{Add, Retract, Domains as DomainsLine, Why, Conflict, Minimal, MinimalConflict};
 ghost use Rattle.palm_read.specs.declared.line.Shape.{Shape};
 ghost use Rattle.palm_session.specs.State.{SessionState, IsState, fresh, AreDomains, IsContradiction};
 ghost use Rattle.palm_session.specs.Refusals.{Meets, IsNone, in_order};
 ghost use Rattle.palm_session.specs.Answers.{Accepts};
 ghost use Rattle.palm_session.specs.Effects.{Procedure, search_line};
 ghost use Rattle.palm_session.specs.Replies.{Run};
-ghost use Rattle.palm_session.specs.Told.{KeepsAllButJournal, ToldWhy, ToldConflict, ToldSearch};
+ghost use Rattle.palm_session.specs.Told.{KeepsAllButJournal, ToldWhy, ToldConflict, ToldMinimal, ToldMinimalConflict, ToldSearch};
 
 /// While filtering does not wait and nothing contradicts, the engine's present domains are the greatest closed domains of
 /// the active constraints.
@@ -33,6 +33,19 @@ pub fn kept_explanations_explain()
 pub fn kept_conflicts_conflict()
     ensures { (s t : SessionState) (reply : List ℕ)
         → IsState s → Accepts s Conflict reply t → ToldConflict s.book reply }
+{}
+
+/// What `minimal NAME VALUE` names are active constraints that explain the value's absence, and they are the minimal
+/// explanation.
+pub fn minimal_explanations_explain()
+    ensures { (s t : SessionState) (name reply : List ℕ) (value : ℤ)
+        → Accepts s (Minimal name value) reply t → ToldMinimal s.book name value reply }
+{}
+
+/// What `minimal conflict` names are active constraints that are a conflict, and they are the minimal conflict.
+pub fn minimal_conflicts_conflict()
+    ensures { (s t : SessionState) (reply : List ℕ)
+        → Accepts s MinimalConflict reply t → ToldMinimalConflict s.book reply }
 {}
 
 /// The values that `solve` tells satisfy all active constraints, and the constraints that it names are active and have no

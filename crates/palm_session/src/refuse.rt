@@ -1,8 +1,8 @@
 //! Refusals of lines that were read, in the order in which they are looked for.
-ghost use Rattle.std.specs.Prelude.{◌≡◌, ◌⊎◌, IfNone, IfSome};
+ghost use Rattle.std.specs.Prelude.{◌≡◌, ◌⊎◌};
 ghost use Rattle.palm_base.specs.Tells.{Tells};
 ghost use Rattle.palm_read.specs.Limits.{IsBeyond};
-ghost use Rattle.palm_session.specs.Refusals.{IsBuilt, TakesName, HasNoRoom, Meets, IsFirst, in_order, refusal_of};
+ghost use Rattle.palm_session.specs.Refusals.{HasNoRoom, TakesName, refusal_of};
 ghost use Rattle.palm_session.specs.State.{HasVariable, HasConstraint};
 
 use crate::desk::Desk;
@@ -26,54 +26,7 @@ pub fn refusal_of(error: LineError) -> Option<Refusal>
     }
 }
 
-/// Whether the line's form is served.
-fn is_built(line: &Line) -> bool
-    ensures { Tells result (IsBuilt line.now) }
-{
-    match line {
-        Line::Comment
-        | Line::Var { .. }
-        | Line::Add { .. }
-        | Line::Relax(_)
-        | Line::Enforce(_)
-        | Line::Retract(_)
-        | Line::Domains
-        | Line::Domain(_)
-        | Line::List
-        | Line::Log
-        | Line::Why { .. }
-        | Line::Conflict
-        | Line::Pause
-        | Line::Resume
-        | Line::Step(_)
-        | Line::SolveDbt { .. }
-        | Line::SolveRepair { .. }
-        | Line::Guide(_)
-        | Line::GuideNone
-        | Line::Order(_)
-        | Line::OrderNone
-        | Line::DropGuide(_)
-        | Line::DropOrder(_)
-        | Line::Quit => true,
-        _ => false,
-    }
-}
-
 impl<G: Guide, O: Order> Desk<G, O> {
-    /// The first refusal of a line that is looked for before the names in its variables' places.
-    pub fn early_refusal(&self, line: &Line) -> Option<Refusal>
-        ensures none { IfNone result (IsBuilt line.now × (TakesName self.now.state line.now → ⊥)) }
-        ensures first { IfSome result (IsFirst (Meets self.now.state line.now) in_order) }
-    {
-        if !is_built(line) {
-            Some(Refusal::E2)
-        } else if self.takes_name(line) {
-            Some(Refusal::E3)
-        } else {
-            None
-        }
-    }
-
     /// Whether a variable has the name.
     fn has_variable(&self, name: &Name) -> bool
         ensures { Tells result (HasVariable self.now.state name.now) }
@@ -95,7 +48,7 @@ impl<G: Guide, O: Order> Desk<G, O> {
     }
 
     /// Whether the line declares or adds a name that stands for something already.
-    fn takes_name(&self, line: &Line) -> bool
+    pub fn takes_name(&self, line: &Line) -> bool
         ensures { Tells result (TakesName self.now.state line.now) }
     {
         match line {

@@ -1,5 +1,6 @@
 //! What is replied to a line, before it is written.
 use palm_base::{CidList, ValueList, Var};
+use palm_claim::Claim;
 use palm_lang::{Fixed, Lead, Refusal};
 
 /// A reply. What it shows of the book, the domains and the log is read when it is written.
@@ -23,6 +24,8 @@ pub enum Reply {
     Log,
     /// The names of users' constraints behind a word.
     Users { lead: Lead, names: CidList },
+    /// The certificate of a claim.
+    Certificate(Claim),
     /// One value for each variable.
     Found(ValueList),
     /// How many turns were taken, and how many nogoods dropped, where that is told.

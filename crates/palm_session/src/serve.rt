@@ -4,7 +4,7 @@ ghost use Rattle.palm_base.specs.Tells.{Tells};
 ghost use Rattle.palm_read.specs.Limits.{IsBeyond};
 ghost use Rattle.palm_read.specs.Sound.{IsSound};
 ghost use Rattle.palm_session.specs.Effects.{HasTabu};
-ghost use Rattle.palm_session.specs.Refusals.{IsBuilt, HasNoRoom, TakesName};
+ghost use Rattle.palm_session.specs.Refusals.{HasNoRoom, TakesName};
 ghost use Rattle.palm_session.specs.ReplyText.{reply_text, ReplyFits};
 ghost use Rattle.palm_session.specs.Serving.{AsksFor, Serves, Spends};
 ghost use Rattle.palm_session.specs.State.{IsState};
@@ -14,7 +14,7 @@ use crate::reply::Reply;
 use palm_agenda::Order;
 use palm_base::{NoMemory, Steps};
 use palm_guide::Guide;
-use palm_lang::{Fixed, Line};
+use palm_lang::{Fixed, Line, Refusal};
 use std::sync::ledger::Ledger;
 
 impl<G: Guide, O: Order> Desk<G, O> {
@@ -29,10 +29,10 @@ impl<G: Guide, O: Order> Desk<G, O> {
         ensures fits { IfOk result (ReplyFits self.new.state) }
     {
         let is_over = self.goes_beyond(&line);
-        match self.early_refusal(&line) {
-            Some(refusal) => Ok(Reply::Refused(refusal)),
-            None => self.serve_named(line, is_over, steps),
+        if self.takes_name(&line) {
+            return Ok(Reply::Refused(Refusal::E3));
         }
+        self.serve_named(line, is_over, steps)
     }
 
     /// Serves a line whose names are looked up now; it is told whether the line goes beyond a limit.
@@ -45,7 +45,6 @@ impl<G: Guide, O: Order> Desk<G, O> {
         requires sound { IsSound line }
         requires tabu { HasTabu line }
         requires state { IsState self.old.state }
-        requires built { IsBuilt line }
         requires free { TakesName self.old.state line → ⊥ }
         requires over { Tells is_over (IsBeyond line ⊎ HasNoRoom self.old.state line) }
         ensures serves { IfOk result (λ reply. Serves self.old.state line (reply_text self.new.state reply) self.new.state) }
@@ -66,6 +65,10 @@ impl<G: Guide, O: Order> Desk<G, O> {
             Line::Log => Ok(self.unless_paused(Reply::Log)),
             Line::Why { name, value } => self.serve_why(&name, value),
             Line::Conflict => self.serve_conflict(),
+            Line::Minimal { name, value } => self.serve_minimal(&name, value),
+            Line::MinimalConflict => self.serve_minimal_conflict(),
+            Line::Cert { name, value } => Ok(self.serve_cert(&name, value)),
+            Line::CertConflict => Ok(self.serve_cert_conflict()),
             Line::Pause => Ok(self.serve_pause()),
             Line::Resume => self.serve_resume(steps),
             Line::Step(count) => self.serve_step(count, steps),
@@ -78,7 +81,6 @@ impl<G: Guide, O: Order> Desk<G, O> {
             Line::DropGuide(number) => Ok(self.serve_drop_guide(number)),
             Line::DropOrder(number) => Ok(self.serve_drop_order(number)),
             Line::Quit => Ok(Reply::Word(Fixed::Bye)),
-            _ => unreachable!(),
         }
     }
 }

@@ -1,8 +1,10 @@
 //! Tests of the engine, of its log and of its orders, over public calls.
 #![tactic(auto)]
 
-pub mod calls;
-pub mod choice;
+#[cfg(test)]
+mod calls;
+#[cfg(test)]
+mod choice;
 #[cfg(test)]
 mod decisions;
 #[cfg(test)]
@@ -13,7 +15,9 @@ mod log;
 mod orders;
 #[cfg(test)]
 mod questions;
-pub mod removals;
-pub mod samples;
+#[cfg(test)]
+mod removals;
+#[cfg(test)]
+mod samples;
 #[cfg(test)]
 mod withdrawals;

@@ -11,4 +11,5 @@ mod kind;
 mod model;
 #[cfg(test)]
 mod store;
-pub mod testing;
+#[cfg(test)]
+mod testing;

@@ -133,3 +133,16 @@ fn changes_are_refused(rt: HostRuntime) -> Result<(), Fail> {
     assert!(rt; are_answered(rt.alloc(), &sessions)?);
     Ok(())
 }
+
+#[test]
+fn minimal_sets_are_named(rt: HostRuntime) -> Result<(), Fail> {
+    let sessions: [(&[u8], &str); 1] = [(
+        b"var x 1..2\nvar y 1..2\nadd c : y != 1\nrelax c\nadd a : x != 1\nadd b : x = y\nenforce c\nwhy y 1\n\
+          minimal y 1\nminimal y 2\nminimal conflict\nadd e : y != 2\nconflict\nminimal conflict\n\
+          minimal y 1\nminimal y 3\nminimal z 1\npause\nminimal y 1\nminimal conflict\n",
+        "ok\nok\nok\nok\nok\nok\nok\nbecause a b\nbecause c\npresent\nconsistent\ncontradiction\nconflict a b e\n\
+         conflict c e\ncontradiction\nerror E12 value never declared\nerror E4 unknown variable\nok\npaused\npaused\n",
+    )];
+    assert!(rt; are_answered(rt.alloc(), &sessions)?);
+    Ok(())
+}

@@ -1,7 +1,11 @@
 //! Tests of the program's one call, `top`, over sources and sinks in memory: worked sessions with the expected replies,
-//! streams that fail, other words, and the order of reads and writes.
+//! certificates, streams that fail, other words, and the order of reads and writes.
 #![tactic(auto)]
 
+#[cfg(test)]
+mod certificates;
+#[cfg(test)]
+mod certified;
 #[cfg(test)]
 mod changes;
 #[cfg(test)]

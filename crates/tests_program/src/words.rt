@@ -54,12 +54,14 @@ fn is_refused(alloc: Global, words: &[&str]) -> Result<bool, NoMemory> {
 
 #[test]
 fn other_words_get_the_usage_line(rt: HostRuntime) -> Result<(), Fail> {
-    let lists: [&[&str]; 16] = [
+    let lists: [&[&str]; 18] = [
         &[],
         &["help"],
         &["runs"],
         &["run", "--"],
         &["run", "run"],
+        &["check", "run"],
+        &["checks"],
         &["gen"],
         &["gen", "0"],
         &["gen", "000"],

@@ -3,9 +3,13 @@
 
 #[cfg(test)]
 mod dbt;
-pub mod guides;
-pub mod journal;
-pub mod problems;
+#[cfg(test)]
+mod guides;
+#[cfg(test)]
+mod journal;
+#[cfg(test)]
+mod problems;
 #[cfg(test)]
 mod repair;
-pub mod searches;
+#[cfg(test)]
+mod searches;

@@ -293,12 +293,11 @@ fn constrain(alloc: Global, engine: &mut Engine<Kind>, problem: &Problem) -> Res
     }
 }
 
-/// The engine of the problem.
-pub fn engine_of(alloc: Global, problem: &Problem) -> Result<Engine<Kind>, NoMemory>
-    ensures { IfOk result (λ engine. HasOnlyUsers engine.state) }
+/// Gives a new engine the variables and constraints of the problem.
+pub fn pose(alloc: Global, engine: &mut Engine<Kind>, problem: &Problem) -> Result<(), NoMemory>
+    requires { HasOnlyUsers engine.old.state }
+    ensures { HasOnlyUsers engine.new.state }
 {
-    let mut engine = Engine::new(alloc);
-    declare(&mut engine, problem)?;
-    constrain(alloc, &mut engine, problem)?;
-    Ok(engine)
+    declare(engine, problem)?;
+    constrain(alloc, engine, problem)
 }

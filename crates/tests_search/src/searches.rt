@@ -3,7 +3,7 @@ ghost use Rattle.std.specs.Prelude.{◌≡◌, ◌<◌, [], OnOk};
 ghost use Rattle.palm_search.specs.Kept.{HasOnlyUsers};
 
 use crate::journal::{End, Wanted, are_turns, is_end, is_repair_end};
-use crate::problems::{Problem, engine_of};
+use crate::problems::{Problem, pose};
 use palm_agenda::LastOrder;
 use palm_base::{NoMemory, Steps, Var};
 use palm_dbt::{Answer, solve};
@@ -154,26 +154,42 @@ fn is_answered<G: Guide>(
     }
 }
 
-/// Whether the search answers as it is to, by these turns, and leaves no decision, no negation and the domains as they
-/// were.
+/// Whether a search of the problem in a new engine answers as it is to, by these turns, and leaves no decision, no negation
+/// and the domains as they were.
+fn is_searched_in<G: Guide>(
+    alloc: Global,
+    engine: &mut Engine<Kind>,
+    search: &mut Search,
+    guide: &mut Option<G>,
+    case: &Case<'_>,
+) -> Result<bool, NoMemory>
+    requires fresh { search.old ≡ record { decisions = []; journal = [] } }
+    requires users { HasOnlyUsers engine.old.state }
+{
+    pose(alloc, engine, &case.problem)?;
+    settle_counted::<Kind, Brand>(engine, Blank::new(1))?;
+    let before = counts_of(alloc, engine.store())?;
+    let answered = is_answered(alloc, engine, search, guide, case)?;
+    let after = counts_of(alloc, engine.store())?;
+    Ok(
+        answered
+            && is_journal(search, case.turns)
+            && search.decisions().is_empty()
+            && engine.first_negation().is_none()
+            && before.as_slice() == after.as_slice(),
+    )
+}
+
+/// Whether a search of an engine of its own does this. The engine is given up in one place, since each place costs its
+/// proof.
 pub fn is_searched<G: Guide>(
     alloc: Global,
     case: &Case<'_>,
     guide: &mut Option<G>,
 ) -> Result<bool, NoMemory> {
-    let mut engine: Engine<Kind> = engine_of(alloc, &case.problem)?;
-    settle_counted::<Kind, Brand>(&mut engine, Blank::new(1))?;
-    let before = counts_of(alloc, engine.store())?;
+    let mut engine = Engine::new(alloc);
     let mut search = Search::begin(alloc);
-    let answered = is_answered(alloc, &mut engine, &mut search, guide, case)?;
-    let after = counts_of(alloc, engine.store())?;
-    Ok(
-        answered
-            && is_journal(&search, case.turns)
-            && search.decisions().is_empty()
-            && engine.first_negation().is_none()
-            && before.as_slice() == after.as_slice(),
-    )
+    is_searched_in(alloc, &mut engine, &mut search, guide, case)
 }
 
 /// Whether a search without a guide does this.

@@ -1,10 +1,17 @@
-use Rattle.std.proofs.Common.{[]}
+use Rattle.std.proofs.Common.{[], inr, refl}
+use Rattle.palm_cli.proofs.CheckLemmas.{judged_status, over_status}
 use Rattle.palm_cli.proofs.RunLemmas.{whole_status, cut_status}
-use Rattle.palm_cli.proofs.TopLemmas.{fits, runs_by, generates_by, refuses_by, summed_whole, wants_run, wants_gen, wants_usage}
+use Rattle.palm_cli.proofs.TopLemmas.{fits, runs_by, checks_by, generates_by, refuses_by, summed_whole, wants_run, wants_check, wants_gen, wants_usage}
 use Rattle.palm_cli.proofs.command.top.Goals as goal
 
 pub returns-in_default-clause-runs : goal.returns-in_default-clause-runs
 returns-in_default-clause-runs g c = λ run. wants_run _ _ _
+
+pub returns-in_default-clause-checks : goal.returns-in_default-clause-checks
+returns-in_default-clause-checks g c = λ check. wants_check _
+
+pub returns-in_default-clause-judged : goal.returns-in_default-clause-judged
+returns-in_default-clause-judged g c = λ told check none takes. inr refl
 
 pub returns-in_default-clause-generates : goal.returns-in_default-clause-generates
 returns-in_default-clause-generates g c = λ size gen. wants_gen size _
@@ -17,6 +24,9 @@ obey-requires g c = fits _ c.in-Ok.request c.in-Ok.ensures
 
 pub returns-clause-runs : goal.returns-clause-runs
 returns-clause-runs g c = runs_by _ _ _ _ _ _ c.in-Ok.request c.in-Ok.ensures c.obey.ensures
+
+pub returns-clause-checks : goal.returns-clause-checks
+returns-clause-checks g c = checks_by _ _ _ _ _ _ c.in-Ok.request c.in-Ok.ensures c.obey.ensures
 
 pub returns-clause-generates : goal.returns-clause-generates
 returns-clause-generates g c = generates_by _ _ _ _ _ _ c.in-Ok.request c.in-Ok.ensures c.obey.ensures
@@ -35,3 +45,11 @@ returns-clause-summed g c = λ size gen none.
 pub returns-clause-cut : goal.returns-clause-cut
 returns-clause-cut g c = λ run much none.
     cut_status _ _ _ _ _ (runs_by _ _ _ _ _ _ c.in-Ok.request c.in-Ok.ensures c.obey.ensures run) much none
+
+pub returns-clause-judged : goal.returns-clause-judged
+returns-clause-judged g c = λ told check none takes.
+    judged_status _ _ told _ (checks_by _ _ _ _ _ _ c.in-Ok.request c.in-Ok.ensures c.obey.ensures check) none takes
+
+pub returns-clause-over : goal.returns-clause-over
+returns-clause-over g c = λ check takes.
+    over_status _ _ _ (checks_by _ _ _ _ _ _ c.in-Ok.request c.in-Ok.ensures c.obey.ensures check) takes

@@ -1,4 +1,4 @@
-use Rattle.std.proofs.Common.{◌≡◌, ◌<◌, length, sym, ap, ◌∙◌, subst, length-set, Some}
+use Rattle.std.proofs.Common.{◌<◌, length, sym, ap, ◌∙◌, subst, length-set, Some}
 use Rattle.palm_repair.proofs.Reading.{at_member, shows_more}
 use Rattle.palm_repair.proofs.nogood.decided_values.Goals as goal
 

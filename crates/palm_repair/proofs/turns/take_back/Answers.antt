@@ -1,5 +1,4 @@
 use Rattle.std.proofs.Common.{◌<◌, length, Contains, refl, sym, ap, ◌∙◌, subst, arith}
-use Rattle.std.specs.Prelude.{is_some}
 use Rattle.palm_engine.specs.Engine.{View}
 use Rattle.palm_model.specs.Constraint.{Distinct}
 use Rattle.palm_search.specs.Turns.{decided_vars}

@@ -4,9 +4,7 @@ use Rattle.palm_events.proofs.Reasons.{reasons_right}
 use Rattle.palm_engine.specs.Engine.{HasSettled}
 use Rattle.palm_engine.proofs.Walking.{filters_none}
 use Rattle.palm_repair.specs.Answers.{HasRepaired}
-use Rattle.palm_repair.specs.Turning.{IsBeginning}
 use Rattle.palm_repair.proofs.Running.{answer_true, interrupted_filters, moved_leaves, moved_returns, repaired, settled_filters}
-use Rattle.palm_repair.proofs.Stepping.{on_err}
 use Rattle.palm_repair.proofs.whole.repair.Goals as goal
 
 -- ---- memory ran out in the run

@@ -1,4 +1,4 @@
-use Rattle.std.proofs.Common.{◌≡◌, sym, ap, subst}
+use Rattle.std.proofs.Common.{sym, ap, subst}
 use Rattle.palm_repair.specs.Learned.{LearnedView, repair_state}
 use Rattle.palm_repair.specs.Posting.{PostsAll}
 use Rattle.palm_repair.specs.Repair.{MakesRoom}

@@ -1,5 +1,7 @@
-use Rattle.palm_session.specs.Serving.{refuses}
+use Rattle.palm_base.proofs.Telling.{tells_true}
+use Rattle.palm_session.proofs.Serving.{name_refused}
 use Rattle.palm_session.proofs.desk.Desk.serve.Goals as goal
 
-pub returns-in-Some-clause-serves : goal.returns-in-Some-clause-serves
-returns-in-Some-clause-serves g c = refuses c.in-Some.refusal c.in-Some.ensures.first
+pub returns-then-takes_name-clause-serves : goal.returns-then-takes_name-clause-serves
+returns-then-takes_name-clause-serves g c =
+    name_refused c.args.self.now.state c.args.line (tells_true _ c.takes_name.result c.takes_name.ensures c.if-takes_name.true)

@@ -17,13 +17,13 @@ use Rattle.palm_session.proofs.desk.Desk.serve_add.Goals as goal
 pub returns-in-Err-UnknownName-clause-serves : goal.returns-in-Err-UnknownName-clause-serves
 returns-in-Err-UnknownName-clause-serves g c =
     let none : Any (IsUnknownName c.self.inside.book.variables) (names_of c.args.shape) = search rules in
-    unknown_refused c.args.self.now.state (Add c.args.name c.args.shape) tt c.requires.free
+    unknown_refused c.args.self.now.state (Add c.args.name c.args.shape) c.requires.free
     (subst (λ (d : DeskView). Any (IsUnknownName d.state.book.variables) (names_of c.args.shape)) c.self.view_is none)
 
 pub returns-then-is_over-clause-serves : goal.returns-then-is_over-clause-serves
 returns-then-is_over-clause-serves g c =
     let says = subst (λ (d : DeskView). Resolves d.state.book.variables c.args.shape c.in-Ok.con) c.self.view_is c.in-Ok.ensures.says in
-    over_refused c.args.self.now.state (Add c.args.name c.args.shape) tt c.requires.free
+    over_refused c.args.self.now.state (Add c.args.name c.args.shape) c.requires.free
     (known c.args.self.now.state.book.variables c.args.shape c.in-Ok.con says) (λ m. m) (tells_true _ c.args.is_over c.requires.over c.if-is_over.true)
 
 pub add-requires-clause-formed : goal.add-requires-clause-formed
@@ -39,7 +39,7 @@ filtered-requires g c =
     let line = Add c.args.name c.args.shape in
     let says = subst (λ (d : DeskView). Resolves d.state.book.variables c.args.shape c.in-Ok.con) c.self.view_is c.in-Ok.ensures.says in
     let none : IsNone (Meets s line) in_order =
-    none_met s line tt c.requires.free (known s.book.variables c.args.shape c.in-Ok.con says) (λ h. h) (tells_false _ c.args.is_over c.requires.over c.if-is_over.false) (λ h. h) (λ h. h) (λ h. h) in
+    none_met s line c.requires.free (known s.book.variables c.args.shape c.in-Ok.con says) (λ h. h) (tells_false _ c.args.is_over c.requires.over c.if-is_over.false) (λ h. h) (λ h. h) (λ h. h) in
     let added = c.in_ok-add.ensures.ok in
     let changes : Changes s line m = (c.in-Ok.con, added.0, says, added.1, added.2) in
     record { held = changes_keep s m line c.requires.state.held c.requires.sound none changes }
@@ -52,7 +52,7 @@ returns-clause-serves g c =
     let line = Add c.args.name c.args.shape in
     let says = subst (λ (d : DeskView). Resolves d.state.book.variables c.args.shape c.in-Ok.con) c.self.view_is c.in-Ok.ensures.says in
     let none : IsNone (Meets s line) in_order =
-    none_met s line tt c.requires.free (known s.book.variables c.args.shape c.in-Ok.con says) (λ h. h) (tells_false _ c.args.is_over c.requires.over c.if-is_over.false) (λ h. h) (λ h. h) (λ h. h) in
+    none_met s line c.requires.free (known s.book.variables c.args.shape c.in-Ok.con says) (λ h. h) (tells_false _ c.args.is_over c.requires.over c.if-is_over.false) (λ h. h) (λ h. h) (λ h. h) in
     let added = c.in_ok-add.ensures.ok in
     let changes : Changes s line m = (c.in-Ok.con, added.0, says, added.1, added.2) in
     served_after s m t line _ (reply_text t) none changes refl c.filtered.result (λ h. h) tt (λ effect. refl) c.filtered.ensures.followed c.filtered.ensures.tells
@@ -65,7 +65,7 @@ returns-clause-asks g c =
     let line = Add c.args.name c.args.shape in
     let says = subst (λ (d : DeskView). Resolves d.state.book.variables c.args.shape c.in-Ok.con) c.self.view_is c.in-Ok.ensures.says in
     let none : IsNone (Meets s line) in_order =
-    none_met s line tt c.requires.free (known s.book.variables c.args.shape c.in-Ok.con says) (λ h. h) (tells_false _ c.args.is_over c.requires.over c.if-is_over.false) (λ h. h) (λ h. h) (λ h. h) in
+    none_met s line c.requires.free (known s.book.variables c.args.shape c.in-Ok.con says) (λ h. h) (tells_false _ c.args.is_over c.requires.over c.if-is_over.false) (λ h. h) (λ h. h) (λ h. h) in
     let added = c.in_ok-add.ensures.ok in
     let changes : Changes s line m = (c.in-Ok.con, added.0, says, added.1, added.2) in
     asked_after s m t line _ (reply_text t) none changes refl c.filtered.result c.filtered.ensures.followed

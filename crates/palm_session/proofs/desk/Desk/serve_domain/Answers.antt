@@ -18,4 +18,4 @@ returns-in-None-clause-serves g c =
     let name = c.args.name.now in
     let none : All (λ (e : Entry). e.name ≢ name) c.args.self.now.state.book.variables =
     subst (λ (d : DeskView). All (λ (e : Entry). e.name ≢ name) d.state.book.variables) c.self.view_is c.in-None.ensures.none in
-    unknown_refused c.args.self.now.state (Domain name) tt (λ h. h) (none_named c.args.self.now.state.book.variables name none)
+    unknown_refused c.args.self.now.state (Domain name) (λ h. h) (none_named c.args.self.now.state.book.variables name none)

@@ -14,7 +14,7 @@ use Rattle.palm_session.proofs.desk.Desk.serve_retract.Goals as goal
 pub returns-in_default-clause-serves : goal.returns-in_default-clause-serves
 returns-in_default-clause-serves g c =
     let none : All (λ (d : BookCon). d.name ≢ c.args.name.now) c.self.inside.book.constraints = search rules in
-    unnamed_refused c.args.self.now.state (Retract c.args.name.now) tt (λ h. h) (λ h. h)
+    unnamed_refused c.args.self.now.state (Retract c.args.name.now) (λ h. h) (λ h. h)
     (no_constraint c.args.self.now.state.book.constraints c.args.name.now (subst (λ (d : DeskView). All (λ (e : BookCon). e.name ≢ c.args.name.now) d.state.book.constraints) c.self.view_is none))
 
 pub filtered-requires : goal.filtered-requires
