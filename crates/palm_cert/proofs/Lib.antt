@@ -1,7 +1,10 @@
+pub mod Built
 pub mod Cites
 pub mod Counting
 pub mod Cutting
+pub mod Declared
 pub mod Earlier
+pub mod Lengths
 pub mod Links
 pub mod Logged
 pub mod Made
@@ -10,6 +13,7 @@ pub mod Moving
 pub mod Needed
 pub mod Numbers
 pub mod Reached
+pub mod Readable
 pub mod Saying
 pub mod Uses
 pub mod Writes

@@ -11,12 +11,12 @@ use Rattle.palm_read.specs.Bounds.{a_value}
 use Rattle.palm_read.specs.Name.{IsNameText}
 use Rattle.palm_read.specs.Piece.{Natural}
 use Rattle.palm_read.specs.Words.{spaced}
-use Rattle.palm_read.proofs.Layouts.{Words, lays_natural, words_keyword, words_name, words_none, words_number, words_plain, words_spell, words_weaker}
+use Rattle.palm_read.proofs.Layouts.{Words, lays_natural, words_keyword, words_name, words_none, words_number, words_plain, words_short, words_spell, words_weaker}
 use Rattle.palm_read.proofs.PrintedParts.{lays_value}
 use Rattle.palm_read.proofs.Ranges.{IsWithin}
 use Rattle.palm_cert.specs.Certificate.{claim_words, from_words, step_words}
 
-value_within : (v : ℤ) → IsValue v → IsWithin (a_value v)
+pub value_within : (v : ℤ) → IsValue v → IsWithin (a_value v)
 value_within v is = (is.above, is.below)
 
 words_numbers : (ks : List ℕ) → All IsStepNumber ks → Words (length ks * 11) (map decimal ks) (map Natural ks)
@@ -30,26 +30,50 @@ words_from [] small = words_weaker 5 words_none (omega arith)
 words_from (k ∷ ks) small = words_keyword (codes "from") refl (words_numbers (k ∷ ks) small)
 
 module _ (variables : List Entry) where
+  words_step : (pair : Pair) (by : List ℕ) (ks : List ℕ) → IsNameText (name_of variables pair.var) → IsNameText by → IsValue pair.value → All IsStepNumber ks
+      → Words (100 + length ks * 11) (step_words variables pair by ks) (step_pieces (name_of variables pair.var) pair.value by ks)
+  words_step pair by ks named cited value small =
+      words_weaker (100 + length ks * 11) (words_keyword (codes "step") refl (words_name (name_of variables pair.var) named (words_number (lays_value pair.value (value_within pair.value value)) (words_keyword (codes "by") refl (words_name by cited (words_from ks small)))))) (omega arith)
+
+  -- how long the line of a step is
+  pub step_length : (pair : Pair) (by : List ℕ) (ks : List ℕ) → IsNameText (name_of variables pair.var) → IsNameText by → IsValue pair.value → All IsStepNumber ks
+      → length (spaced (step_words variables pair by ks)) ≤ 100 + length ks * 11
+  step_length pair by ks named cited value small =
+      words_short (step_words variables pair by ks) (step_pieces (name_of variables pair.var) pair.value by ks) (words_step pair by ks named cited value small)
+
   pub step_says : (pair : Pair) (by : List ℕ) (ks : List ℕ) → IsNameText (name_of variables pair.var) → IsNameText by → IsValue pair.value → All IsStepNumber ks
       → length (spaced (step_words variables pair by ks)) ≤ 65536 → Says (spaced (step_words variables pair by ks)) (Step (name_of variables pair.var) pair.value by ks)
   step_says pair by ks named cited value small short =
-      let name = name_of variables pair.var in
-      let words = words_keyword (codes "step") refl (words_name name named (words_number (lays_value pair.value (value_within pair.value value)) (words_keyword (codes "by") refl (words_name by cited (words_from ks small))))) in
-      let pieces = step_pieces name pair.value by ks in
+      let words = words_step pair by ks named cited value small in
+      let pieces = step_pieces (name_of variables pair.var) pair.value by ks in
       (record { short = short; says = refl; plain = words_plain (step_words variables pair by ks) pieces words }, words_spell (step_words variables pair by ks) pieces words, (value, small))
+
+  words_value_claim : (pair : Pair) → IsNameText (name_of variables pair.var) → IsValue pair.value → Words 100 (claim_words variables (Gone pair)) (value_claim_pieces (name_of variables pair.var) pair.value)
+  words_value_claim pair named value =
+      words_weaker 100 (words_keyword (codes "claim") refl (words_name (name_of variables pair.var) named (words_number (lays_value pair.value (value_within pair.value value)) words_none))) (omega arith)
+
+  pub value_claim_length : (pair : Pair) → IsNameText (name_of variables pair.var) → IsValue pair.value → length (spaced (claim_words variables (Gone pair))) ≤ 100
+  value_claim_length pair named value =
+      words_short (claim_words variables (Gone pair)) (value_claim_pieces (name_of variables pair.var) pair.value) (words_value_claim pair named value)
 
   pub value_claim_says : (pair : Pair) → IsNameText (name_of variables pair.var) → IsValue pair.value
       → length (spaced (claim_words variables (Gone pair))) ≤ 65536 → Says (spaced (claim_words variables (Gone pair))) (ValueClaim (name_of variables pair.var) pair.value)
   value_claim_says pair named value short =
-      let name = name_of variables pair.var in
-      let words = words_keyword (codes "claim") refl (words_name name named (words_number (lays_value pair.value (value_within pair.value value)) words_none)) in
-      let pieces = value_claim_pieces name pair.value in
+      let words = words_value_claim pair named value in
+      let pieces = value_claim_pieces (name_of variables pair.var) pair.value in
       (record { short = short; says = refl; plain = words_plain (claim_words variables (Gone pair)) pieces words }, words_spell (claim_words variables (Gone pair)) pieces words, value)
+
+  words_conflict_claim : (x : ℕ) → IsNameText (name_of variables x) → Words 100 (claim_words variables (Conflict x)) (conflict_claim_pieces (name_of variables x))
+  words_conflict_claim x named =
+      words_weaker 100 (words_keyword (codes "claim") refl (words_keyword (codes "conflict") refl (words_name (name_of variables x) named words_none))) (omega arith)
+
+  pub conflict_claim_length : (x : ℕ) → IsNameText (name_of variables x) → length (spaced (claim_words variables (Conflict x))) ≤ 100
+  conflict_claim_length x named =
+      words_short (claim_words variables (Conflict x)) (conflict_claim_pieces (name_of variables x)) (words_conflict_claim x named)
 
   pub conflict_claim_says : (x : ℕ) → IsNameText (name_of variables x)
       → length (spaced (claim_words variables (Conflict x))) ≤ 65536 → Says (spaced (claim_words variables (Conflict x))) (ConflictClaim (name_of variables x))
   conflict_claim_says x named short =
-      let name = name_of variables x in
-      let words = words_keyword (codes "claim") refl (words_keyword (codes "conflict") refl (words_name name named words_none)) in
-      let pieces = conflict_claim_pieces name in
+      let words = words_conflict_claim x named in
+      let pieces = conflict_claim_pieces (name_of variables x) in
       (record { short = short; says = refl; plain = words_plain (claim_words variables (Conflict x)) pieces words }, words_spell (claim_words variables (Conflict x)) pieces words, tt)

@@ -21,6 +21,8 @@ ghost use Rattle.palm_cert.specs.Needed.{IsNeeded};
 ghost use Rattle.palm_cert.specs.Needs.{CanClaim};
 ghost use Rattle.palm_explain.specs.Explanations.{IsLinked, NamesOfSome};
 ghost use Rattle.palm_cert.specs.Moved.{moved};
+ghost use Rattle.palm_cert.specs.Readable.{AreReadable};
+ghost use Rattle.palm_cert.specs.Scoped.{HasScopedReasons};
 ghost use Rattle.palm_model.specs.Constraint.{scope};
 ghost use Rattle.palm_model.specs.Domains.{Domains, Has};
 ghost use Rattle.palm_model.specs.Support.{LacksSupport};
@@ -76,6 +78,12 @@ pub fn steps_and_claims_say_what_was_written()
     ensures conflict { (variables : List Entry) (x : ℕ) → IsNameText (name_of variables x)
         → length (spaced (claim_words variables (Conflict x))) ≤ MOST_LINE_BYTES
         → Says (spaced (claim_words variables (Conflict x))) (ConflictClaim (name_of variables x)) }
+{}
+
+/// Each line of the certificate of a claim says, by the words of palm_claim, what was written, and stays within the limits.
+pub fn lines_say_what_was_written()
+    ensures { (s : EngineState) (book : Contents) (claim : Claim) → IsBook book → IsValid s → s.initial ≡ initial_of book → s.active ≡ active_of book
+        → CanClaim s claim → HasScopedReasons s → AreReadable book (steps_of s.log (claimed book claim)) claim }
 {}
 
 /// What lacks support in a constraint lacks it under other numbers of the variables, within domains that have no more of

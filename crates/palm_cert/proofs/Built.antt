@@ -1,0 +1,299 @@
+-- Lines with names, numbers and lists within the limits: their texts read as these lines.
+use Rattle.std.proofs.Common.{◌≡◌, ℕ, ℤ, pos, negsuc, suc, ◌<◌, ◌≤◌, Bool, true, false, Some, List, [], ◌∷◌, ◌++◌, length, map, flat_map, codes, All, refl, sym, ap, subst, arith}
+use Rattle.std.specs.Prelude.{Any, ◌<ℤ◌}
+use Rattle.std.proofs.lemmas.Int.{ints}
+use Rattle.std.proofs.lemmas.List.Elements.{All-nil, All-cons, All-head, All-tail, All-append, All-weaker, recursion_from_All}
+use Rattle.palm_base.specs.Ascending.{Ascends}
+use Rattle.palm_model.specs.Limits.{IsUpTo, IsValue}
+use Rattle.palm_model.specs.Table.{IsRow}
+use Rattle.palm_read.specs.Bounds.{Bounded, a_value, up_to}
+use Rattle.palm_read.specs.Bytes.{after_blanks, is_note}
+use Rattle.palm_read.specs.Comparison.{OffsetForm, Plus, Minus, offset_numbers, offset_of, offset_pieces}
+use Rattle.palm_read.specs.Count.{TargetForm, Number, Variable, IsSoundTarget, line_target, line_target_names, target_numbers, target_pieces}
+use Rattle.palm_read.specs.Domain.{DomainForm, Interval, Members, IsLarge, IsSoundDomain, domain_pieces, set_of}
+use Rattle.palm_read.specs.Form.{ShapeForm, CompareVarForm, CompareConstForm, LinearForm, TableForm, ElementForm, CountForm, DifferForm, Form, DeclareForm, AddForm}
+use Rattle.palm_read.specs.Grammar.{IsProper, IsProperShape, pieces, shape_pieces}
+use Rattle.palm_read.specs.Limits.{HasNothing, HasRepeat, IsBeyond, IsInRange, Repeats, names_of, shape_numbers}
+use Rattle.palm_read.specs.Linear.{TermForm, IsSoundTerm, linear_first_term, linear_later_term, linear_terms, linear_unsigned_term, signed, term_of}
+use Rattle.palm_read.specs.Name.{IsNameText}
+use Rattle.palm_read.specs.Piece.{Piece, Named, Mark, Integer, in_parentheses, listed, op_text}
+use Rattle.palm_read.specs.Reader.Checks.{LacksSomething}
+use Rattle.palm_read.specs.Reading.{IsRead, a_form, line_of, shape_of}
+use Rattle.palm_read.specs.Sound.{IsSoundShape}
+use Rattle.palm_read.specs.Text.{line_words, text_of}
+use Rattle.palm_read.specs.declared.line.DomainText.{DomainText}
+use Rattle.palm_read.specs.declared.line.DomainText.TheVariants.{Range, Set}
+use Rattle.palm_read.specs.declared.line.Line.{Line}
+use Rattle.palm_read.specs.declared.line.Line.TheVariants.{Add, Var}
+use Rattle.palm_read.specs.declared.line.NameTarget.{NameTarget}
+use Rattle.palm_read.specs.declared.line.NameTarget.TheVariants.{Const as ConstTarget, Variable as VariableTarget}
+use Rattle.palm_read.specs.declared.line.NameTerm.{NameTerm}
+use Rattle.palm_read.specs.declared.line.Shape.{Shape}
+use Rattle.palm_read.specs.declared.line.Shape.TheVariants.{CompareVar, CompareConst, Linear, Table, Element, Count, Differ}
+use Rattle.palm_read.proofs.Canonical.{canonical, canonical_line, canonical_once, canonical_proper, canonical_range, canonical_something, numbers_within}
+use Rattle.palm_read.proofs.Layouts.{words_plain, words_short, words_spell}
+use Rattle.palm_read.proofs.PrintedForms.{words_line}
+use Rattle.palm_read.proofs.PrintedParts.{HasNames}
+use Rattle.palm_read.proofs.Ranges.{IsWithin, a_bound, term_numbers}
+use Rattle.palm_read.proofs.Refusals.{in_nothing, in_repeat}
+use Rattle.palm_read.proofs.Sets.{Rises, member_set, rises_set, same_rising, set_member}
+use Rattle.palm_cert.proofs.Saying.{value_within}
+
+-- ---- a form with names is printed as a text that reads as its line
+
+says_something : (form : Form) → is_note (after_blanks (text_of (line_of form))) ≡ false
+says_something (DeclareForm name domain) = refl
+says_something _ = refl
+
+form_read : (form : Form) → IsProper form → IsInRange form → (HasNothing form → ⊥) → (HasRepeat form → ⊥) → (IsBeyond (line_of form) → ⊥) → HasNames (pieces form) → IsRead (text_of (line_of form)) (line_of form)
+form_read form proper range some once near names =
+    let printed = words_line form proper some (numbers_within form range) names near in
+    let words = line_words (line_of form) in
+    let short : length (text_of (line_of form)) ≤ 65536 = omega (arith, words_short words (pieces (canonical form)) printed) in
+    a_form (canonical form) (record { short = short; says = says_something form; plain = words_plain words (pieces (canonical form)) printed })
+    (record { proper = canonical_proper form proper; spells = words_spell words (pieces (canonical form)) printed })
+    (canonical_range form range) (canonical_something form some) (canonical_once form once) (sym (canonical_line form))
+
+-- ---- names among pieces
+
+names_both : (ps qs : List Piece) → HasNames ps → HasNames qs → HasNames (ps ++ qs)
+names_both [] qs h k = k
+names_both (Named name ∷ ps) qs h k = (h.0, names_both ps qs h.1 k)
+names_both (p ∷ ps) qs h k = names_both ps qs h k
+
+names_later : (vs : List ℤ) → HasNames (flat_map (λ v. Mark (codes ",") ∷ Integer v ∷ []) vs)
+names_later [] = tt
+names_later (v ∷ vs) = names_later vs
+
+names_listed : (vs : List ℤ) → HasNames (listed vs)
+names_listed [] = tt
+names_listed (v ∷ vs) = names_later vs
+
+names_row : (vs : List ℤ) → HasNames (in_parentheses vs)
+names_row vs = names_both (listed vs) (Mark (codes ")") ∷ []) (names_listed vs) tt
+
+names_rows : (rows : List (List ℤ)) → HasNames (flat_map in_parentheses rows)
+names_rows [] = tt
+names_rows (row ∷ rows) = names_both (in_parentheses row) (flat_map in_parentheses rows) (names_row row) (names_rows rows)
+
+names_named : (names : List (List ℕ)) → All IsNameText names → HasNames (map Named names)
+names_named [] h = tt
+names_named (name ∷ names) h = (All-head IsNameText name names h, names_named names (All-tail IsNameText name names h))
+
+names_domain : (d : DomainForm) → HasNames (domain_pieces d)
+names_domain (Interval low high) = tt
+names_domain (Members vs) = names_both (listed vs) (Mark (codes "}") ∷ []) (names_listed vs) tt
+
+-- ---- numbers of values
+
+values_within : (vs : List ℤ) → All IsValue vs → All IsWithin (map a_value vs)
+values_within [] h = All-nil IsWithin
+values_within (v ∷ vs) h =
+    All-cons IsWithin (a_value v) (map a_value vs) (value_within v (All-head IsValue v vs h)) (values_within vs (All-tail IsValue v vs h))
+
+one_within : (b : Bounded) → IsWithin b → All IsWithin (b ∷ [])
+one_within b w = All-cons IsWithin b [] w (All-nil IsWithin)
+
+rows_within : (n : ℕ) (rows : List (List ℤ)) → All (IsRow n) rows → All IsWithin (flat_map (map a_value) rows)
+rows_within n [] h = All-nil IsWithin
+rows_within n (row ∷ rows) h =
+    All-append IsWithin (map a_value row) (flat_map (map a_value) rows) (values_within row (All-head (IsRow n) row rows h).1) (rows_within n rows (All-tail (IsRow n) row rows h))
+
+-- ---- variables
+
+rises : (vs : List ℤ) → Ascends vs → Rises vs
+rises [] h = tt
+rises (v ∷ vs) h = (recursion_from_All (λ w. v <ℤ w) vs h.0, rises vs h.1)
+
+pub set_same : (vs : List ℤ) → Ascends vs → set_of vs ≡ vs
+set_same vs h = same_rising (set_of vs) vs (rises_set vs) (rises vs h) (set_member vs) (member_set vs)
+
+-- a name with values reads back
+pub var_read : (name : List ℕ) (domain : DomainText) → IsNameText name → IsSoundDomain domain → (IsLarge domain → ⊥) → IsRead (text_of (Var name domain)) (Var name domain)
+var_read name (Range low high) named sound near =
+    let range = All-cons IsWithin (a_value low) (a_value high ∷ []) (value_within low sound.0) (one_within (a_value high) (value_within high sound.1)) in
+    form_read (DeclareForm name (Interval low high)) tt range (λ less. absurd (omega (arith, ints, less, sound.2))) (λ h. h) near (named, tt)
+var_read name (Set vs) named sound near =
+    let same = set_same vs sound.1 in
+    let many : IsLarge (Set (set_of vs)) → ⊥ = λ h. near (subst (λ (ws : List ℤ). 256 < length ws) same h) in
+    let none : vs ≡ [] → ⊥ = λ e. absurd (omega (arith, sound.0, ap length e)) in
+    subst (λ (ws : List ℤ). IsRead (text_of (Var name (Set ws))) (Var name (Set ws))) same
+    (form_read (DeclareForm name (Members vs)) tt (values_within vs sound.2) none (λ h. h) many (named, names_domain (Members vs)))
+
+-- ---- the form of a constraint
+
+abbrev minus_of : ℤ → Bool
+minus_of (pos n) = false
+minus_of (negsuc n) = true
+
+abbrev size_of : ℤ → ℕ
+size_of (pos n) = n
+size_of (negsuc n) = suc n
+
+abbrev offset_form : ℤ → OffsetForm
+offset_form (pos n) = Plus n
+offset_form (negsuc n) = Minus (suc n)
+
+abbrev term_form : NameTerm → TermForm
+term_form t = record { minus = minus_of t.factor; factor = Some (size_of t.factor); name = t.name }
+
+abbrev target_form : NameTarget → TargetForm
+target_form (ConstTarget w) = Number w
+target_form (VariableTarget name) = Variable name
+
+abbrev shape_form : Shape → ShapeForm
+shape_form (CompareVar left op right offset) = CompareVarForm left op right (offset_form offset)
+shape_form (CompareConst left op value) = CompareConstForm left op value
+shape_form (Linear terms op bound) = LinearForm (map term_form terms) op bound
+shape_form (Table vars rows) = TableForm vars rows
+shape_form (Element outcome index entries) = ElementForm outcome index entries
+shape_form (Count value vars op target) = CountForm value vars op (target_form target)
+shape_form (Differ vars) = DifferForm vars
+
+-- ---- it says the constraint
+
+offset_same : (z : ℤ) → offset_of (offset_form z) ≡ z
+offset_same (pos n) = refl
+offset_same (negsuc n) = refl
+
+signed_same : (z : ℤ) → signed (minus_of z) (size_of z) ≡ z
+signed_same (pos n) = refl
+signed_same (negsuc n) = refl
+
+terms_same : (ts : List NameTerm) → map term_of (map term_form ts) ≡ ts
+terms_same [] = refl
+terms_same (t ∷ ts) = rw (signed_same t.factor, terms_same ts) refl
+
+target_same : (t : NameTarget) → line_target (target_form t) ≡ t
+target_same (ConstTarget w) = refl
+target_same (VariableTarget name) = refl
+
+shape_same : (s : Shape) → shape_of (shape_form s) ≡ s
+shape_same (CompareVar left op right offset) = ap (λ (z : ℤ). CompareVar left op right z) (offset_same offset)
+shape_same (CompareConst left op value) = refl
+shape_same (Linear terms op bound) = ap (λ (ts : List NameTerm). Linear ts op bound) (terms_same terms)
+shape_same (Table vars rows) = refl
+shape_same (Element outcome index entries) = refl
+shape_same (Count value vars op target) = ap (λ (t : NameTarget). Count value vars op t) (target_same target)
+shape_same (Differ vars) = refl
+
+-- ---- it is a form within the limits
+
+row_lengths : (n : ℕ) (rows : List (List ℤ)) → All (IsRow n) rows → All (λ row. length row ≡ n) rows
+row_lengths n rows h = All-weaker (IsRow n) (λ (row : List ℤ). length row ≡ n) (λ row r. r.0) rows h
+
+some_forms : (ts : List NameTerm) → 0 < length ts → 0 < length (map term_form ts)
+some_forms [] h = h
+some_forms (t ∷ ts) h = omega arith
+
+proper : (s : Shape) → IsSoundShape s → IsProperShape (shape_form s)
+proper (CompareVar left op right offset) h = tt
+proper (CompareConst left op value) h = tt
+proper (Linear terms op bound) h = (some_forms terms h.0, h.2)
+proper (Table vars rows) h = (h.0, row_lengths (length vars) rows h.2)
+proper (Element outcome index entries) h = tt
+proper (Count value vars op target) h = h.0
+proper (Differ vars) h = h
+
+offset_within : (z : ℤ) → IsUpTo 2000000 z → All IsWithin (offset_numbers (offset_form z))
+offset_within (pos n) h = one_within (up_to 2000000 n) (omega (arith, ints), omega (arith, ints, h.below))
+offset_within (negsuc n) h = one_within (up_to 2000000 (suc n)) (omega (arith, ints), omega (arith, ints, h.above))
+
+size_within : (z : ℤ) → IsUpTo 100000 z → IsWithin (up_to 100000 (size_of z))
+size_within (pos n) h = (omega (arith, ints), omega (arith, ints, h.below))
+size_within (negsuc n) h = (omega (arith, ints), omega (arith, ints, h.above))
+
+terms_within : (ts : List NameTerm) → All IsSoundTerm ts → All IsWithin (flat_map term_numbers (map term_form ts))
+terms_within [] h = All-nil IsWithin
+terms_within (t ∷ ts) h =
+    All-cons IsWithin (up_to 100000 (size_of t.factor)) (flat_map term_numbers (map term_form ts)) (size_within t.factor (All-head IsSoundTerm t ts h).1) (terms_within ts (All-tail IsSoundTerm t ts h))
+
+target_within : (t : NameTarget) → IsSoundTarget t → All IsWithin (target_numbers (target_form t))
+target_within (ConstTarget w) h = one_within (a_value w) (value_within w h)
+target_within (VariableTarget name) h = All-nil IsWithin
+
+in_range : (s : Shape) → IsSoundShape s → All IsWithin (shape_numbers (shape_form s))
+in_range (CompareVar left op right offset) h = offset_within offset h
+in_range (CompareConst left op value) h = one_within (a_value value) (value_within value h)
+in_range (Linear terms op bound) h =
+    All-append IsWithin (flat_map term_numbers (map term_form terms)) (a_bound bound ∷ []) (terms_within terms h.1) (one_within (a_bound bound) (h.3.above, h.3.below))
+in_range (Table vars rows) h = rows_within (length vars) rows h.2
+in_range (Element outcome index entries) h = values_within entries h.1
+in_range (Count value vars op target) h =
+    All-cons IsWithin (a_value value) (target_numbers (target_form target)) (value_within value h.1) (target_within target h.2)
+in_range (Differ vars) h = All-nil IsWithin
+
+no_zero : (ts : List NameTerm) → All IsSoundTerm ts → Any (λ t. t.factor ≡ pos 0) ts → ⊥
+no_zero ts h a = let sound : IsSoundTerm a.1 = subst IsSoundTerm a.3 (h a.0 a.1 a.2) in sound.0 a.4
+
+nothing_lacks : (name : List ℕ) (s : Shape) → IsSoundShape s → LacksSomething (Add name s) → ⊥
+nothing_lacks name (Linear terms op bound) h lacks = no_zero terms h.1 lacks
+nothing_lacks name (Table vars rows) h lacks = absurd (omega (arith, h.1, ap length lacks))
+nothing_lacks name (Element outcome index entries) h lacks = absurd (omega (arith, h.0, ap length lacks))
+nothing_lacks name _ h lacks = lacks
+
+-- ---- its names are names
+
+names_offset : (z : ℤ) → HasNames (offset_pieces (offset_form z))
+names_offset (pos n) = tt
+names_offset (negsuc n) = tt
+
+first_name : (minus : Bool) (n : ℕ) (name : List ℕ) (more : List Piece) → IsNameText name → HasNames more → HasNames (linear_first_term minus (linear_unsigned_term (Some n) name) ++ more)
+first_name true n name more t h = (t, h)
+first_name false n name more t h = (t, h)
+
+later_name : (minus : Bool) (n : ℕ) (name : List ℕ) (more : List Piece) → IsNameText name → HasNames more → HasNames (linear_later_term minus (linear_unsigned_term (Some n) name) ++ more)
+later_name true n name more t h = (t, h)
+later_name false n name more t h = (t, h)
+
+abbrev later_pieces : List TermForm → List Piece
+later_pieces ts = flat_map (λ u. linear_later_term u.minus (linear_unsigned_term u.factor u.name)) ts
+
+later_names : (ts : List NameTerm) → All IsNameText (map (λ t. t.name) ts) → HasNames (later_pieces (map term_form ts))
+later_names [] h = tt
+later_names (t ∷ ts) h =
+    later_name (minus_of t.factor) (size_of t.factor) t.name (later_pieces (map term_form ts)) (All-head IsNameText t.name (map (λ (u : NameTerm). u.name) ts) h)
+    (later_names ts (All-tail IsNameText t.name (map (λ (u : NameTerm). u.name) ts) h))
+
+names_terms : (ts : List NameTerm) → All IsNameText (map (λ t. t.name) ts) → HasNames (linear_terms (map term_form ts))
+names_terms [] h = tt
+names_terms (t ∷ ts) h =
+    first_name (minus_of t.factor) (size_of t.factor) t.name (later_pieces (map term_form ts)) (All-head IsNameText t.name (map (λ (u : NameTerm). u.name) ts) h)
+    (later_names ts (All-tail IsNameText t.name (map (λ (u : NameTerm). u.name) ts) h))
+
+all_left : (xs ys : List (List ℕ)) → All IsNameText (xs ++ ys) → All IsNameText xs
+all_left [] ys h = All-nil IsNameText
+all_left (x ∷ xs) ys h = All-cons IsNameText x xs (All-head IsNameText x (xs ++ ys) h) (all_left xs ys (All-tail IsNameText x (xs ++ ys) h))
+
+all_right : (xs ys : List (List ℕ)) → All IsNameText (xs ++ ys) → All IsNameText ys
+all_right [] ys h = h
+all_right (x ∷ xs) ys h = all_right xs ys (All-tail IsNameText x (xs ++ ys) h)
+
+names_target : (t : NameTarget) → All IsNameText (line_target_names t) → HasNames (target_pieces (target_form t))
+names_target (ConstTarget w) h = tt
+names_target (VariableTarget name) h = (All-head IsNameText name [] h, tt)
+
+names_shape : (s : Shape) → All IsNameText (names_of s) → HasNames (shape_pieces (shape_form s))
+names_shape (CompareVar left op right offset) h =
+    (All-head IsNameText left (right ∷ []) h, (All-head IsNameText right [] (All-tail IsNameText left (right ∷ []) h), names_offset offset))
+names_shape (CompareConst left op value) h = (All-head IsNameText left [] h, tt)
+names_shape (Linear terms op bound) h =
+    names_both (linear_terms (map term_form terms)) (Mark (op_text op) ∷ Integer bound ∷ []) (names_terms terms h) tt
+names_shape (Table vars rows) h =
+    names_both (map Named vars) (Mark (codes ":") ∷ flat_map in_parentheses rows) (names_named vars h) (names_rows rows)
+names_shape (Element outcome index entries) h =
+    (All-head IsNameText outcome (index ∷ []) h, (All-head IsNameText index [] (All-tail IsNameText outcome (index ∷ []) h), names_row entries))
+names_shape (Count value vars op target) h =
+    names_both (map Named vars) (Mark (op_text op) ∷ target_pieces (target_form target)) (names_named vars (all_left vars (line_target_names target) h))
+    (names_target target (all_right vars (line_target_names target) h))
+names_shape (Differ vars) h = names_named vars h
+
+-- a constraint with a name reads back
+pub add_read : (name : List ℕ) (s : Shape) → IsNameText name → All IsNameText (names_of s) → (Repeats (names_of s) → ⊥) → IsSoundShape s → (IsBeyond (Add name s) → ⊥) → IsRead (text_of (Add name s)) (Add name s)
+add_read name s named names once sound near =
+    let form = AddForm name (shape_form s) in
+    let same : line_of form ≡ Add name s = ap (λ (t : Shape). Add name t) (shape_same s) in
+    let none : HasNothing form → ⊥ = λ h. nothing_lacks name s sound (subst LacksSomething same (in_nothing form h)) in
+    let apart : HasRepeat form → ⊥ = λ h. once (subst (λ (t : Shape). Repeats (names_of t)) (shape_same s) (in_repeat form h)) in
+    subst (λ (l : Line). IsRead (text_of l) l) same
+    (form_read form (proper s sound) (in_range s sound) none apart (λ b. near (subst IsBeyond same b)) (named, names_shape s names))
