@@ -2,4 +2,5 @@ pub mod Certificate
 pub mod Moved
 pub mod Needed
 pub mod Needs
+pub mod Scoped
 pub mod Writing
