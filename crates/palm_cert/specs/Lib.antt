@@ -2,5 +2,6 @@ pub mod Certificate
 pub mod Moved
 pub mod Needed
 pub mod Needs
+pub mod Readable
 pub mod Scoped
 pub mod Writing
