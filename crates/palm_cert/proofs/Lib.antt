@@ -1,6 +1,9 @@
+pub mod Accepted
+pub mod Before
 pub mod Cites
 pub mod Counting
 pub mod Cutting
+pub mod Declaring
 pub mod Earlier
 pub mod Links
 pub mod Logged
@@ -9,7 +12,10 @@ pub mod Marked
 pub mod Moving
 pub mod Needed
 pub mod Numbers
+pub mod Passing
+pub mod Proving
 pub mod Reached
+pub mod Renumbering
 pub mod Saying
 pub mod Uses
 pub mod Writes

@@ -17,7 +17,7 @@ use Rattle.palm_cert.specs.Needs.{CanClaim}
 use Rattle.palm_cert.proofs.Links.{pair_logged, pair_removal}
 use Rattle.palm_cert.proofs.Needed.{needed_step, right_linked}
 
-values_same : (variables : List Entry) (x : ℕ) → values_of (initial_of (record { variables = variables; constraints = [] })) x ≡ values_at variables x
+pub values_same : (variables : List Entry) (x : ℕ) → values_of (initial_of (record { variables = variables; constraints = [] })) x ≡ values_at variables x
 values_same [] x = refl
 values_same (e ∷ variables) zero = refl
 values_same (e ∷ variables) (suc x) = values_same variables x

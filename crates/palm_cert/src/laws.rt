@@ -4,7 +4,7 @@ ghost use Rattle.palm_base.specs.declared.terms.Pair.{Pair};
 ghost use Rattle.palm_base.specs.declared.terms.Cid.TheVariants.{User};
 ghost use Rattle.palm_book.specs.declared.book.BookCon.{BookCon};
 ghost use Rattle.palm_book.specs.Book.{Contents, Entry, IsBook, active_of, initial_of, name_of, user_name};
-ghost use Rattle.palm_cert.specs.Certificate.{claim_words, claimed, is_cited, numbers_of, pairs_with, step_words, steps_of};
+ghost use Rattle.palm_cert.specs.Certificate.{certificate_text, cited, claim_words, claimed, is_cited, numbers_of, pairs_with, step_words, steps_of};
 ghost use Rattle.palm_claim.specs.Lines.{lines_of};
 ghost use Rattle.palm_lang.specs.Reply.{ended};
 ghost use Rattle.palm_read.specs.Bytes.{is_plain};
@@ -16,6 +16,11 @@ ghost use Rattle.palm_read.specs.Name.{IsNameText};
 ghost use Rattle.palm_read.specs.Words.{spaced};
 ghost use Rattle.palm_read.specs.declared.limits.TheConstants.{MOST_LINE_BYTES};
 ghost use Rattle.palm_claim.specs.Step.{IsReached, IsRight};
+ghost use Rattle.palm_claim.specs.Verdict.{IsVerdict};
+ghost use Rattle.palm_claim.specs.declared.verdict.Proved.{Proved};
+ghost use Rattle.palm_claim.specs.declared.verdict.Verdict.TheVariants.{Accepted};
+ghost use Rattle.palm_cert.specs.Readable.{AreReadable};
+ghost use Rattle.palm_cert.specs.SameClaim.{IsSameClaim};
 ghost use Rattle.palm_claim.specs.declared.verdict.Claim.{Claim};
 ghost use Rattle.palm_cert.specs.Needed.{IsNeeded};
 ghost use Rattle.palm_cert.specs.Needs.{CanClaim};
@@ -88,4 +93,12 @@ pub fn numbers_of_variables_do_not_matter()
 /// A text of plain lines, each ended by a line feed, has these lines.
 pub fn ended_lines_are_cut_apart()
     ensures { (lines : List (List ℕ)) → All (λ line. All (λ b. is_plain b ≡ true) line) lines → lines_of (flat_map ended lines) ≡ lines }
+{}
+
+/// A certificate whose lines say what was written is accepted by the checker's definition, and what is accepted is the
+/// claim that was to be made, of the constraints that the claim needs.
+pub fn readable_certificates_are_accepted()
+    ensures { (s : EngineState) (book : Contents) (claim : Claim) → IsBook book → IsValid s → s.initial ≡ initial_of book → s.active ≡ active_of book
+        → CanClaim s claim → AreReadable book (steps_of s.log (claimed book claim)) claim
+        → (proved : Proved) × IsVerdict (certificate_text book s.log claim) (Accepted proved) × IsSameClaim book (cited (steps_of s.log (claimed book claim)) book) claim proved }
 {}
