@@ -1,5 +1,5 @@
 -- The certificate of a claim is accepted, where each of its lines says what was written.
-use Rattle.std.proofs.Common.{◌≡◌, ◌≢◌, ℕ, ◌<◌, ◌≤◌, ◌||◌, List, [], ◌∷◌, ◌++◌, length, filter, flat_map, nat_eq, eq-eqb, All, Contains, refl, sym, ap, ◌∙◌, subst, append_assoc, true, arith}
+use Rattle.std.proofs.Common.{◌≡◌, ◌≢◌, ℕ, ◌<◌, ◌≤◌, List, [], ◌∷◌, ◌++◌, length, flat_map, nat_eq, eq-eqb, All, Contains, refl, sym, ap, subst, append_assoc, true, arith}
 use Rattle.std.specs.List.{list_any, range_with_len}
 use Rattle.std.proofs.lemmas.Bool.{or_left, or_right}
 use Rattle.std.proofs.lemmas.List.Elements.{All-contains, Contains-append_right}
@@ -9,12 +9,12 @@ use Rattle.std.proofs.lemmas.List.Kept.{AllPairs-filter}
 use Rattle.palm_base.specs.declared.terms.Pair.{Pair}
 use Rattle.palm_base.specs.declared.terms.Cid.{Cid}
 use Rattle.palm_base.specs.declared.terms.Cid.TheVariants.{User}
-use Rattle.palm_base.proofs.Members.{filter_member, member_filter, member_here, member_same}
-use Rattle.palm_book.specs.Book.{Contents, Entry, IsBook, active_of, initial_of}
+use Rattle.palm_base.proofs.Members.{filter_member, member_filter, member_here}
+use Rattle.palm_book.specs.Book.{Contents, IsBook, active_of, initial_of}
 use Rattle.palm_book.specs.declared.book.BookCon.{BookCon}
 use Rattle.palm_book.proofs.Any.{any_member}
-use Rattle.palm_claim.specs.Draft.{Draft, blank}
-use Rattle.palm_claim.specs.Step.{IsReached, pairs_at}
+use Rattle.palm_claim.specs.Draft.{blank}
+use Rattle.palm_claim.specs.Step.{pairs_at}
 use Rattle.palm_claim.specs.Verdict.{IsVerdict}
 use Rattle.palm_claim.specs.Claim.{IsOver}
 use Rattle.palm_claim.specs.declared.statement.Stage.TheVariants.{Closed}
@@ -22,7 +22,6 @@ use Rattle.palm_claim.specs.declared.verdict.Claim.{Claim}
 use Rattle.palm_claim.specs.declared.verdict.Claim.TheVariants.{Conflict, Gone}
 use Rattle.palm_claim.specs.declared.verdict.Proved.{Proved}
 use Rattle.palm_claim.specs.declared.verdict.Verdict.TheVariants.{Accepted}
-use Rattle.palm_claim.specs.declared.statement.Statement.{Statement}
 use Rattle.palm_claim.specs.declared.statement.Statement.TheVariants.{ConflictClaim, ValueClaim}
 use Rattle.palm_events.proofs.Names.{same_cid_itself}
 use Rattle.palm_lang.specs.Reply.{fixed_text}
@@ -37,11 +36,11 @@ use Rattle.palm_cert.specs.Needs.{CanClaim}
 use Rattle.palm_cert.specs.Readable.{AreReadable, claim_statement}
 use Rattle.palm_cert.specs.SameClaim.{IsSameClaim}
 use Rattle.palm_cert.proofs.Before.{before_from, filter_shorter, range_has, range_rises, range_within}
-use Rattle.palm_cert.proofs.Declaring.{AreDeclared, HaveRead, Lists, declarations_read, list_open}
+use Rattle.palm_cert.proofs.Declaring.{AreDeclared, Lists, declarations_read, list_open}
 use Rattle.palm_cert.proofs.Earlier.{owner_named, step_declared, step_owner, steps_numbered}
 use Rattle.palm_cert.proofs.Links.{pair_removal}
 use Rattle.palm_cert.proofs.Logged.{claim_declared, declared_from}
-use Rattle.palm_cert.proofs.Proving.{HaveProved, IsClaimed, IsStep, claim_reads, other_claim, own, proved_by, proving, steps_read}
+use Rattle.palm_cert.proofs.Proving.{IsClaimed, IsStep, claim_reads, other_claim, own, proved_by, proving, steps_read}
 use Rattle.palm_cert.proofs.Reached.{claim_reached}
 use Rattle.palm_cert.proofs.Passing.{Reads, accepted, reads_then}
 use Rattle.palm_cert.proofs.Renumbering.{entry_member, place_declared, place_name}

@@ -1,9 +1,9 @@
 -- The first lines of a certificate pass: the header, the variables and the constraints.
-use Rattle.std.proofs.Common.{◌≡◌, ◌≢◌, ℕ, ℤ, ◌+◌, ◌<◌, ◌≤◌, true, List, [], ◌∷◌, ◌++◌, length, map, flat_map, codes, AllPairs, Any, Contains, inl, inr, refl, sym, ap, ◌∙◌, subst, append_assoc, append-nil, arith}
+use Rattle.std.proofs.Common.{◌≡◌, ◌≢◌, ℕ, ℤ, ◌+◌, ◌<◌, ◌≤◌, true, List, [], ◌∷◌, ◌++◌, length, flat_map, codes, AllPairs, Contains, inl, inr, refl, sym, ap, ◌∙◌, subst, append_assoc, append-nil, arith}
 use Rattle.std.proofs.lemmas.List.{length-append, length-map, map-append}
 use Rattle.std.proofs.lemmas.List.Elements.{Contains-append_left, Contains-append_right, Contains-push, Contains-push_cases}
 use Rattle.palm_base.proofs.Members.{member_here, member_map, member_nil, member_unmap}
-use Rattle.palm_book.specs.Book.{Contents, Entry, name_of, values_at}
+use Rattle.palm_book.specs.Book.{Contents, Entry, name_of}
 use Rattle.palm_book.specs.Named.{named}
 use Rattle.palm_book.specs.declared.book.BookCon.{BookCon}
 use Rattle.palm_book.proofs.Any.{member_any}
@@ -13,7 +13,6 @@ use Rattle.palm_claim.specs.Statement.{Says}
 use Rattle.palm_claim.specs.declared.statement.Stage.{Stage}
 use Rattle.palm_claim.specs.declared.statement.Stage.TheVariants.{Claimed, Closed, Declaring, Listing, Proving, Unopened}
 use Rattle.palm_claim.specs.declared.statement.Statement.TheVariants.{Constraint, Header, Variable}
-use Rattle.palm_claim.specs.declared.verdict.Claim.{Claim}
 use Rattle.palm_model.specs.Constraint.{scope}
 use Rattle.palm_read.specs.declared.line.Line.TheVariants.{Add, Var}
 use Rattle.palm_read.specs.declared.line.Shape.{Shape}

@@ -1,25 +1,24 @@
 -- The last lines of a certificate pass: the steps, the claim and the end.
-use Rattle.std.proofs.Common.{◌≡◌, ◌≢◌, ℕ, ℤ, pos, ◌+◌, ◌-◌, ◌<◌, ◌≤◌, true, List, [], ◌∷◌, ◌++◌, length, map, flat_map, get_or, codes, All, AllPairs, Any, Contains, inl, inr, refl, sym, ap, ◌∙◌, subst, append_assoc, append-nil, arith}
+use Rattle.std.proofs.Common.{◌≡◌, ◌≢◌, ℕ, ℤ, pos, ◌-◌, ◌<◌, ◌≤◌, List, [], ◌∷◌, ◌++◌, length, map, flat_map, codes, All, AllPairs, Any, Contains, inl, inr, refl, sym, ap, ◌∙◌, subst, append_assoc, append-nil, arith}
 use Rattle.std.proofs.lemmas.List.{get_or-map, length-map, map-append}
 use Rattle.std.proofs.lemmas.List.Elements.{All-contains, Contains-append_right}
 use Rattle.palm_base.specs.declared.terms.Pair.{Pair}
 use Rattle.palm_base.proofs.Members.{member_here, member_map, member_same, member_unmap}
-use Rattle.palm_book.specs.Book.{Contents, Entry, initial_of, name_of, user_name, values_at}
+use Rattle.palm_book.specs.Book.{Contents, Entry, initial_of, name_of, user_name}
 use Rattle.palm_book.specs.declared.book.BookCon.{BookCon}
 use Rattle.palm_book.proofs.Any.{any_member, member_any}
-use Rattle.palm_claim.specs.Draft.{Draft, HasConstraint, HasVariable, IsDeclared, IsOpen, IsPair, IsVariable, MayStand}
+use Rattle.palm_claim.specs.Draft.{Draft, HasConstraint, HasVariable, IsDeclared, IsOpen, IsPair, IsVariable}
 use Rattle.palm_claim.specs.Statement.{Says}
 use Rattle.palm_claim.specs.Step.{IsReached, IsRight, pair_at, pairs_at}
 use Rattle.palm_claim.specs.declared.statement.Stage.{Stage}
-use Rattle.palm_claim.specs.declared.statement.Stage.TheVariants.{Claimed, Closed, Declaring, Listing, Proving, Unopened}
+use Rattle.palm_claim.specs.declared.statement.Stage.TheVariants.{Claimed, Closed, Proving}
 use Rattle.palm_claim.specs.declared.statement.Statement.TheVariants.{ConflictClaim, End, Step, ValueClaim}
 use Rattle.palm_claim.specs.declared.verdict.Claim.{Claim}
 use Rattle.palm_claim.specs.declared.verdict.Claim.TheVariants.{Conflict, Gone}
 use Rattle.palm_claim.proofs.Unique.{pair_is, variable_is}
 use Rattle.palm_lang.specs.Reply.{ended, fixed_text}
 use Rattle.palm_lang.specs.declared.reply.Fixed.TheVariants.{End as EndText}
-use Rattle.palm_model.specs.Constraint.{scope}
-use Rattle.palm_model.specs.Domains.{Domains, Has, values_of, without}
+use Rattle.palm_model.specs.Domains.{Has, values_of, without}
 use Rattle.palm_model.specs.Log.{Removal, log_pairs}
 use Rattle.palm_model.specs.Support.{LacksSupport}
 use Rattle.palm_model.specs.declared.constraint.Con.{Con}

@@ -1,5 +1,5 @@
 -- What must be known of a certificate's lines before it can be judged: each says what was written.
-use Rattle.std.specs.Prelude.{◌≡◌, ℕ, ◌<◌, List, [], ◌∷◌, ◌++◌, length, codes, Contains}
+use Rattle.std.specs.Prelude.{◌≡◌, ℕ, ◌<◌, List, length, codes, Contains}
 use Rattle.palm_book.specs.Book.{Contents, Entry, name_of, user_name, values_at}
 use Rattle.palm_book.specs.Named.{named}
 use Rattle.palm_book.specs.declared.book.BookCon.{BookCon}
