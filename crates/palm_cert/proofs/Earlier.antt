@@ -13,7 +13,7 @@ use Rattle.palm_book.proofs.BookLemmas.{number_name_at}
 use Rattle.palm_claim.specs.Step.{IsRight, pair_at, pairs_at}
 use Rattle.palm_events.proofs.Agreeing.{lacks_in}
 use Rattle.palm_explain.specs.Explanations.{IsLinked}
-use Rattle.palm_model.specs.Domains.{Domains, without}
+use Rattle.palm_model.specs.Domains.{Domains, Has, without}
 use Rattle.palm_model.specs.Log.{Active, AreRight, IsWellFounded, Removal, log_pairs}
 use Rattle.palm_model.specs.Log.{IsRight as IsRightRemoval}
 use Rattle.palm_model.specs.State.{EngineState, IsValid}
@@ -78,20 +78,22 @@ module _ (s : EngineState) (book : Contents) (is : IsBook book) (valid : IsValid
       all_members (λ (k : ℕ). (1 ≤ k) × (k ≤ length earlier)) (numbers_of (earlier ++ r ∷ later) r.reasons)
       (number_earlier earlier r later (right_linked s.initial s.active [] (earlier ++ r ∷ later) founded) right.reasons)
 
-  pub step_right : IsRight book (log_pairs earlier) r.pair (user_name book.constraints r.by) (numbers_of (earlier ++ r ∷ later) r.reasons)
-  step_right =
+  -- the constraint that made the removal, among the book's, in which its pair lacks support behind the earlier steps
+  pub record HasOwner : Type 0 where
+    pub owner : BookCon
+    pub listed : Contains book.constraints owner
+    pub by : User owner.number ≡ r.by
+    pub lacks : LacksSupport (without (initial_of book) (pairs_at (log_pairs earlier) (numbers_of (earlier ++ r ∷ later) r.reasons))) owner.con r.pair.var r.pair.value
+
+  pub step_owner : HasOwner
+  step_owner =
       let o = right.owner in
       let q = member_unmap user_at (filter (λ (c : BookCon). c.active) book.constraints) o (subst (λ (l : List Active). Contains l o) active right.posted) in
-      let k = filter_member (λ (c : BookCon). c.active) book.constraints q.0 q.1 in
-      let at = member_place book.constraints q.0 k.0 in
-      let by : User q.0.number ≡ r.by = ap (λ (a : Active). a.cid) q.2 ∙ right.named in
       let reasons = pairs_at (log_pairs earlier) (numbers_of (earlier ++ r ∷ later) r.reasons) in
       record {
         owner = q.0;
-        listed = k.0;
-        named =
-            number_name_at book.constraints at.0 q.0.number q.0 is.rising at.1 (subst (λ o. IfSome o (λ (d : BookCon). d.number ≡ q.0.number)) (sym at.1) refl)
-            ∙ ap (λ (c : Cid). user_name book.constraints c) by;
+        listed = (filter_member (λ (c : BookCon). c.active) book.constraints q.0 q.1).0;
+        by = ap (λ (a : Active). a.cid) q.2 ∙ right.named;
         lacks =
             subst (λ (d : Domains). LacksSupport (without d reasons) q.0.con r.pair.var r.pair.value) initial
             (lacks_in (without s.initial r.reasons) (without s.initial reasons) q.0.con r.pair.var r.pair.value
@@ -99,3 +101,16 @@ module _ (s : EngineState) (book : Contents) (is : IsBook book) (valid : IsValid
             (reason_numbered earlier r later (right_linked s.initial s.active [] (earlier ++ r ∷ later) founded) right.reasons) x v has)
             (subst (λ (c : Con). LacksSupport (without s.initial r.reasons) c r.pair.var r.pair.value) (sym (ap (λ (a : Active). a.con) q.2)) right.lacks));
       }
+
+  pub owner_named : (o : HasOwner) → o.owner.name ≡ user_name book.constraints r.by
+  owner_named o =
+      let at = member_place book.constraints o.owner o.listed in
+      number_name_at book.constraints at.0 o.owner.number o.owner is.rising at.1 (subst (λ z. IfSome z (λ (d : BookCon). d.number ≡ o.owner.number)) (sym at.1) refl)
+      ∙ ap (λ (c : Cid). user_name book.constraints c) o.by
+
+  pub step_right : IsRight book (log_pairs earlier) r.pair (user_name book.constraints r.by) (numbers_of (earlier ++ r ∷ later) r.reasons)
+  step_right = record { owner = step_owner.owner; listed = step_owner.listed; named = owner_named step_owner; lacks = step_owner.lacks }
+
+  -- the pair was declared
+  pub step_declared : Has (initial_of book) r.pair.var r.pair.value
+  step_declared = subst (λ (d : Domains). Has d r.pair.var r.pair.value) initial right.declared

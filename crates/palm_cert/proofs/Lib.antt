@@ -1,8 +1,11 @@
+pub mod Accepted
+pub mod Before
 pub mod Built
 pub mod Cites
 pub mod Counting
 pub mod Cutting
 pub mod Declared
+pub mod Declaring
 pub mod Earlier
 pub mod Lengths
 pub mod Links
@@ -12,8 +15,11 @@ pub mod Marked
 pub mod Moving
 pub mod Needed
 pub mod Numbers
+pub mod Passing
+pub mod Proving
 pub mod Reached
 pub mod Readable
+pub mod Renumbering
 pub mod Saying
 pub mod Uses
 pub mod Writes

@@ -92,7 +92,7 @@ step_read book steps log place r pair by n numbers at there named e is =
 
 -- ---- the whole log
 
-declared_from : (initial : Domains) (active : List Active) (earlier rest : List Removal) → AreRight initial active earlier rest → (r : Removal) → Contains rest r → Has initial r.pair.var r.pair.value
+pub declared_from : (initial : Domains) (active : List Active) (earlier rest : List Removal) → AreRight initial active earlier rest → (r : Removal) → Contains rest r → Has initial r.pair.var r.pair.value
 declared_from initial active earlier [] right r m = absurd (member_nil r m)
 declared_from initial active earlier (s ∷ rest) right r m = elim (member_cases s rest r m) [
   | inl e ↦ subst (λ (z : Removal). Has initial z.pair.var z.pair.value) e right.0.declared

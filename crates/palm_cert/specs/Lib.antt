@@ -3,5 +3,6 @@ pub mod Moved
 pub mod Needed
 pub mod Needs
 pub mod Readable
+pub mod SameClaim
 pub mod Scoped
 pub mod Writing

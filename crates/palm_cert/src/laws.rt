@@ -3,19 +3,16 @@ ghost use Rattle.std.specs.Prelude.{◌≡◌, ◌↔◌, ◌≤◌, ◌++◌, �
 ghost use Rattle.palm_base.specs.declared.terms.Pair.{Pair};
 ghost use Rattle.palm_base.specs.declared.terms.Cid.TheVariants.{User};
 ghost use Rattle.palm_book.specs.declared.book.BookCon.{BookCon};
-ghost use Rattle.palm_book.specs.Book.{Contents, Entry, IsBook, active_of, initial_of, name_of, user_name};
-ghost use Rattle.palm_cert.specs.Certificate.{claim_words, claimed, is_cited, numbers_of, pairs_with, step_words, steps_of};
+ghost use Rattle.palm_book.specs.Book.{Contents, IsBook, active_of, initial_of, user_name};
+ghost use Rattle.palm_cert.specs.Certificate.{certificate_text, cited, claimed, is_cited, numbers_of, pairs_with, steps_of};
 ghost use Rattle.palm_claim.specs.Lines.{lines_of};
 ghost use Rattle.palm_lang.specs.Reply.{ended};
 ghost use Rattle.palm_read.specs.Bytes.{is_plain};
-ghost use Rattle.palm_claim.specs.Statement.{IsStepNumber, Says};
-ghost use Rattle.palm_claim.specs.declared.statement.Statement.TheVariants.{ConflictClaim, Step, ValueClaim};
-ghost use Rattle.palm_claim.specs.declared.verdict.Claim.TheVariants.{Conflict, Gone};
-ghost use Rattle.palm_model.specs.Limits.{IsValue};
-ghost use Rattle.palm_read.specs.Name.{IsNameText};
-ghost use Rattle.palm_read.specs.Words.{spaced};
-ghost use Rattle.palm_read.specs.declared.limits.TheConstants.{MOST_LINE_BYTES};
 ghost use Rattle.palm_claim.specs.Step.{IsReached, IsRight};
+ghost use Rattle.palm_claim.specs.Verdict.{IsVerdict};
+ghost use Rattle.palm_claim.specs.declared.verdict.Proved.{Proved};
+ghost use Rattle.palm_claim.specs.declared.verdict.Verdict.TheVariants.{Accepted};
+ghost use Rattle.palm_cert.specs.SameClaim.{IsSameClaim};
 ghost use Rattle.palm_claim.specs.declared.verdict.Claim.{Claim};
 ghost use Rattle.palm_cert.specs.Needed.{IsNeeded};
 ghost use Rattle.palm_cert.specs.Needs.{CanClaim};
@@ -67,19 +64,6 @@ pub fn claims_are_reached()
         → IsReached book (log_pairs (steps_of s.log (claimed book claim))) claim }
 {}
 
-/// The lines of steps and claims that are short enough say, by the words of palm_claim, what was written.
-pub fn steps_and_claims_say_what_was_written()
-    ensures step { (variables : List Entry) (pair : Pair) (by : List ℕ) (numbers : List ℕ) → IsNameText (name_of variables pair.var) → IsNameText by → IsValue pair.value
-        → All IsStepNumber numbers → length (spaced (step_words variables pair by numbers)) ≤ MOST_LINE_BYTES
-        → Says (spaced (step_words variables pair by numbers)) (Step (name_of variables pair.var) pair.value by numbers) }
-    ensures value { (variables : List Entry) (pair : Pair) → IsNameText (name_of variables pair.var) → IsValue pair.value
-        → length (spaced (claim_words variables (Gone pair))) ≤ MOST_LINE_BYTES
-        → Says (spaced (claim_words variables (Gone pair))) (ValueClaim (name_of variables pair.var) pair.value) }
-    ensures conflict { (variables : List Entry) (x : ℕ) → IsNameText (name_of variables x)
-        → length (spaced (claim_words variables (Conflict x))) ≤ MOST_LINE_BYTES
-        → Says (spaced (claim_words variables (Conflict x))) (ConflictClaim (name_of variables x)) }
-{}
-
 /// Each line of the certificate of a claim says, by the words of palm_claim, what was written, and stays within the limits.
 pub fn lines_say_what_was_written()
     ensures { (s : EngineState) (book : Contents) (claim : Claim) → IsBook book → IsValid s → s.initial ≡ initial_of book → s.active ≡ active_of book
@@ -96,4 +80,12 @@ pub fn numbers_of_variables_do_not_matter()
 /// A text of plain lines, each ended by a line feed, has these lines.
 pub fn ended_lines_are_cut_apart()
     ensures { (lines : List (List ℕ)) → All (λ line. All (λ b. is_plain b ≡ true) line) lines → lines_of (flat_map ended lines) ≡ lines }
+{}
+
+/// A certificate is accepted by the checker's definition, and what is accepted is the claim that was to be made, of the
+/// constraints that the claim needs.
+pub fn certificates_are_accepted()
+    ensures { (s : EngineState) (book : Contents) (claim : Claim) → IsBook book → IsValid s → s.initial ≡ initial_of book → s.active ≡ active_of book
+        → CanClaim s claim → HasScopedReasons s
+        → (proved : Proved) × IsVerdict (certificate_text book s.log claim) (Accepted proved) × IsSameClaim book (cited (steps_of s.log (claimed book claim)) book) claim proved }
 {}

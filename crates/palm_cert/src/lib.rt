@@ -10,9 +10,9 @@ mod usage;
 
 pub use certificate::write_cert;
 pub use laws::{
-    claims_are_reached, constraints_are_those_of_the_explanation, ended_lines_are_cut_apart,
-    lines_say_what_was_written, numbers_of_variables_do_not_matter,
-    steps_and_claims_say_what_was_written, steps_are_right_behind_earlier_ones,
-    steps_are_right_by_themselves, steps_are_what_the_claim_needs,
+    certificates_are_accepted, claims_are_reached, constraints_are_those_of_the_explanation,
+    ended_lines_are_cut_apart, lines_say_what_was_written, numbers_of_variables_do_not_matter,
+    steps_are_right_behind_earlier_ones, steps_are_right_by_themselves,
+    steps_are_what_the_claim_needs,
 };
 pub use stop::CertStop;

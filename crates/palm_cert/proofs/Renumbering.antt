@@ -1,0 +1,131 @@
+-- The variables of a certificate: those of the book that are used, each with the number of its place among them.
+use Rattle.std.proofs.Common.{◌≡◌, ◌≢◌, ℕ, zero, suc, ◌<◌, Bool, true, false, cond, Some, List, [], ◌∷◌, length, map, get_or, All, AllPairs, Contains, nat_eq, eq-eqb, eqb-true, refl, sym, ap, ◌∙◌, subst, arith}
+use Rattle.std.specs.Prelude.{slice_get}
+use Rattle.std.proofs.lemmas.Bool.{false≢true}
+use Rattle.std.proofs.lemmas.List.{get_or-map, length-map}
+use Rattle.std.proofs.lemmas.List.Elements.{Contains-append_left, Contains-append_right, Contains-get_or}
+use Rattle.std.proofs.lemmas.Option.{get_or_from_slice_get, none-some, same_Some, slice_get_within}
+use Rattle.palm_base.proofs.Members.{all_members, member_get, member_here, member_nil, member_same, member_tail, member_there, member_unmap}
+use Rattle.palm_book.specs.Book.{Entry, name_of, values_at}
+use Rattle.palm_book.specs.Named.{Resolves, named, named_target, named_term}
+use Rattle.palm_model.specs.Constraint.{scope}
+use Rattle.palm_model.specs.Count.{target_scope}
+use Rattle.palm_model.specs.Linear.{term_vars}
+use Rattle.palm_model.specs.declared.constraint.Con.{Con}
+use Rattle.palm_model.specs.declared.constraint.Con.TheVariants.{CompareVar as CompareVarCon, CompareConst as CompareConstCon, Linear as LinearCon, Table as TableCon, Element as ElementCon, Count as CountCon, Differ as DifferCon}
+use Rattle.palm_model.specs.declared.constraint.Target.{Target}
+use Rattle.palm_model.specs.declared.constraint.Target.TheVariants.{Const, Variable}
+use Rattle.palm_model.specs.declared.constraint.Term.{Term}
+use Rattle.palm_read.specs.declared.line.NameTarget.{NameTarget}
+use Rattle.palm_read.specs.declared.line.NameTarget.TheVariants.{Variable as VariableTarget}
+use Rattle.palm_read.specs.declared.line.NameTerm.{NameTerm}
+use Rattle.palm_read.specs.declared.line.Shape.TheVariants.{CompareVar, CompareConst, Linear, Table, Element, Count, Differ}
+use Rattle.palm_cert.specs.Moved.{moved, moved_target, moved_term}
+use Rattle.palm_cert.proofs.Moving.{scope_moved}
+
+-- the place of a variable among some
+abbrev pub place_in : List ℕ → ℕ → ℕ
+place_in [] x = 0
+place_in (y ∷ ys) x = cond (nat_eq y x) 0 (suc (place_in ys x))
+
+placed_cases : (y x : ℕ) (ys : List ℕ) (b : Bool) → nat_eq y x ≡ b → (Contains ys x → slice_get ys (place_in ys x) ≡ Some x) → Contains (y ∷ ys) x → slice_get (y ∷ ys) (cond b 0 (suc (place_in ys x))) ≡ Some x
+placed_cases y x ys true e rest m = ap Some (eqb-true y x e)
+placed_cases y x ys false e rest m = rest (member_tail y ys x (λ s. false≢true (sym e ∙ eq-eqb y x s)) m)
+
+pub placed : (xs : List ℕ) (x : ℕ) → Contains xs x → slice_get xs (place_in xs x) ≡ Some x
+placed [] x m = absurd (member_nil x m)
+placed (y ∷ ys) x m = placed_cases y x ys (nat_eq y x) refl (placed ys x) m
+
+get_map : {X Y : Type 0} (f : X → Y) (xs : List X) (k : ℕ) (x : X) → slice_get xs k ≡ Some x → slice_get (map f xs) k ≡ Some (f x)
+get_map f [] k x at = absurd (none-some x at)
+get_map f (y ∷ xs) zero x at = ap (λ z. Some (f z)) (same_Some y x at)
+get_map f (y ∷ xs) (suc k) x at = get_map f xs k x at
+
+module _ (variables : List Entry) where
+  -- the variable's name and values
+  abbrev pub entry : ℕ → Entry
+  entry x = record { name = name_of variables x; values = values_at variables x }
+
+  -- the variables of the certificate
+  abbrev pub entries : List ℕ → List Entry
+  entries xs = map entry xs
+
+  -- a variable of the certificate is one of the book
+  pub entry_member : (xs : List ℕ) → ((x : ℕ) → Contains xs x → x < length variables) → (e : Entry) → Contains (entries xs) e → Contains variables e
+  entry_member xs declared e m =
+      let r = member_unmap entry xs e m in
+      let none : Entry = record { name = []; values = [] } in
+      member_same variables (get_or variables r.0 none) e r.2 (Contains-get_or variables r.0 none (declared r.0 r.1))
+
+  -- names that differ in the book differ in the certificate
+  pub entries_apart : (xs : List ℕ) → ((x : ℕ) → Contains xs x → x < length variables) → AllPairs (λ x y. x < y) xs → AllPairs (λ (e f : Entry). e.name ≢ f.name) variables → AllPairs (λ (e f : Entry). e.name ≢ f.name) (entries xs)
+  entries_apart xs declared rises apart i j d below within same =
+      let long = length-map xs entry in
+      let second : j < length xs = omega (arith, long, within) in
+      let first : i < length xs = omega (arith, below, second) in
+      let at : (k : ℕ) → k < length xs → (get_or (entries xs) k d).name ≡ name_of variables (get_or xs k 0) = λ k lt. ap (λ (e : Entry). e.name) (get_or-map entry xs k 0 d lt) in
+      apart (get_or xs i 0) (get_or xs j 0) (record { name = []; values = [] }) (rises i j 0 below second) (declared (get_or xs j 0) (Contains-get_or xs j 0 second))
+      (sym (at i first) ∙ same ∙ at j second)
+
+  module _ (xs : List ℕ) (x : ℕ) (m : Contains xs x) where
+    entry_placed : slice_get (entries xs) (place_in xs x) ≡ Some (entry x)
+    entry_placed = get_map entry xs (place_in xs x) x (placed xs x m)
+
+    pub place_declared : place_in xs x < length (entries xs)
+    place_declared = slice_get_within (entries xs) (place_in xs x) (entry x) entry_placed
+
+    pub place_member : Contains (entries xs) (entry x)
+    place_member = member_get (entries xs) (place_in xs x) (entry x) entry_placed
+
+    pub place_name : name_of (entries xs) (place_in xs x) ≡ name_of variables x
+    place_name = ap (λ (e : Entry). e.name) (get_or_from_slice_get (entries xs) (place_in xs x) (entry x) (record { name = []; values = [] }) entry_placed)
+
+    pub place_values : values_at (entries xs) (place_in xs x) ≡ values_at variables x
+    place_values = ap (λ (e : Entry). e.values) (get_or_from_slice_get (entries xs) (place_in xs x) (entry x) (record { name = []; values = [] }) entry_placed)
+
+  -- ---- a constraint with the other numbers says the same
+
+  module _ (more : List Entry) (other : ℕ → ℕ) where
+    vars_named : (ys : List ℕ) → ((y : ℕ) → Contains ys y → name_of more (other y) ≡ name_of variables y) → map (name_of more) (map other ys) ≡ map (name_of variables) ys
+    vars_named [] same = refl
+    vars_named (y ∷ ys) same =
+        ap (λ (name : List ℕ). name ∷ map (name_of more) (map other ys)) (same y (member_here y ys))
+        ∙ ap (λ (names : List (List ℕ)). name_of variables y ∷ names) (vars_named ys (λ z m. same z (member_there y ys z m)))
+
+    terms_named : (ts : List Term) → ((y : ℕ) → Contains (term_vars ts) y → name_of more (other y) ≡ name_of variables y) → map (named_term more) (map (moved_term other) ts) ≡ map (named_term variables) ts
+    terms_named [] same = refl
+    terms_named (t ∷ ts) same =
+        let build : List ℕ → NameTerm = λ name. record { factor = t.factor; name = name } in
+        ap (λ (name : List ℕ). build name ∷ map (named_term more) (map (moved_term other) ts)) (same t.var (member_here t.var (term_vars ts)))
+        ∙ ap (λ (terms : List NameTerm). named_term variables t ∷ terms) (terms_named ts (λ z m. same z (member_there t.var (term_vars ts) z m)))
+
+    target_named : (target : Target) → ((y : ℕ) → Contains (target_scope target) y → name_of more (other y) ≡ name_of variables y) → named_target more (moved_target other target) ≡ named_target variables target
+    target_named (Const w) same = refl
+    target_named (Variable x) same = ap VariableTarget (same x (member_here x []))
+
+    pub named_moved : (c : Con) → ((y : ℕ) → Contains (scope c) y → name_of more (other y) ≡ name_of variables y) → named more (moved other c) ≡ named variables c
+    named_moved (CompareVarCon left op right offset) same =
+        ap (λ (name : List ℕ). CompareVar name op (name_of more (other right)) offset) (same left (member_here left (right ∷ [])))
+        ∙ ap (λ (name : List ℕ). CompareVar (name_of variables left) op name offset) (same right (member_there left (right ∷ []) right (member_here right [])))
+    named_moved (CompareConstCon left op value) same = ap (λ (name : List ℕ). CompareConst name op value) (same left (member_here left []))
+    named_moved (LinearCon terms op bound) same = ap (λ (ts : List NameTerm). Linear ts op bound) (terms_named terms same)
+    named_moved (TableCon vars rows) same = ap (λ (names : List (List ℕ)). Table names rows) (vars_named vars same)
+    named_moved (ElementCon outcome index entries) same =
+        ap (λ (name : List ℕ). Element name (name_of more (other index)) entries) (same outcome (member_here outcome (index ∷ [])))
+        ∙ ap (λ (name : List ℕ). Element (name_of variables outcome) name entries) (same index (member_there outcome (index ∷ []) index (member_here index [])))
+    named_moved (CountCon value vars op target) same =
+        ap (λ (names : List (List ℕ)). Count value names op (named_target more (moved_target other target)))
+        (vars_named vars (λ y m. same y (Contains-append_left vars (target_scope target) y m)))
+        ∙ ap (λ (t : NameTarget). Count value (map (name_of variables) vars) op t)
+        (target_named target (λ y m. same y (Contains-append_right vars (target_scope target) y m)))
+    named_moved (DifferCon vars) same = ap (λ (names : List (List ℕ)). Differ names) (vars_named vars same)
+
+  pub resolved : (xs : List ℕ) (c : Con) → ((y : ℕ) → Contains (scope c) y → Contains xs y) → Resolves (entries xs) (named variables c) (moved (place_in xs) c)
+  resolved xs c used = record {
+    declared =
+        subst (λ (ys : List ℕ). All (λ y. y < length (entries xs)) ys) (sym (scope_moved (place_in xs) c))
+        (all_members (λ (y : ℕ). y < length (entries xs)) (map (place_in xs) (scope c)) (λ y m.
+        let r = member_unmap (place_in xs) (scope c) y m in
+        subst (λ (z : ℕ). z < length (entries xs)) r.2 (place_declared xs r.0 (used r.0 r.1))));
+    says = named_moved (entries xs) (place_in xs) c (λ y m. place_name xs y (used y m));
+  }
