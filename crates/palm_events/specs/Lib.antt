@@ -1,3 +1,2 @@
 pub mod Along
 pub mod Reasons
-pub mod Scoped
