@@ -8,6 +8,7 @@ pub mod Objects
 pub mod Refusals
 pub mod Replies
 pub mod ReplyText
+pub mod Scoped
 pub mod Serving
 pub mod State
 pub mod Told

@@ -3,7 +3,8 @@ ghost use Rattle.std.specs.Prelude.{◌≡◌, ◌↔◌, ℕ, None, List, take}
 ghost use Rattle.palm_session.specs.State.{SessionState, IsState, fresh};
 ghost use Rattle.palm_session.specs.Answers.{Answers};
 ghost use Rattle.palm_session.specs.Lines.{without_return};
-ghost use Rattle.palm_session.specs.Replies.{ChoosesNone, Ends, Replies};
+ghost use Rattle.palm_session.specs.Replies.{ChoosesNone, Ends, Replies, Run};
+ghost use Rattle.palm_session.specs.Scoped.{HasScopedReasons};
 
 use crate::limits::MOST_KEPT_BYTES;
 
@@ -22,6 +23,16 @@ pub fn each_line_has_an_answer()
 pub fn states_stay()
     ensures { (s : SessionState) (bytes reply : List ℕ) (t : SessionState)
         → IsState s → Answers s bytes reply t → IsState t }
+{}
+
+/// The reasons of a log lie in the scopes of the constraints that took their values out, and are of other variables: so it is
+/// in a fresh session, every line keeps it so, and so it is in every session.
+pub fn reasons_lie_in_scopes()
+    ensures begins { (guides orders : List ℕ) → HasScopedReasons (fresh guides orders).engine }
+    ensures stays { (s : SessionState) (bytes reply : List ℕ) (t : SessionState)
+        → IsState s → HasScopedReasons s.engine → Answers s bytes reply t → HasScopedReasons t.engine }
+    ensures runs { (guides orders : List ℕ) (lines : List (List ℕ)) (replies : List ℕ) (t : SessionState)
+        → Run (fresh guides orders) lines replies t → HasScopedReasons t.engine }
 {}
 
 /// While no guide and no order is chosen, no line has two replies, or leaves two states.

@@ -26,7 +26,8 @@ mod waiting;
 pub use going::Going;
 pub use laws::{
     a_text_has_an_output, a_text_has_one_output, each_line_has_an_answer, fresh_states_are_states,
-    no_line_has_two_answers, states_stay, the_first_bytes_decide, the_first_bytes_end,
+    no_line_has_two_answers, reasons_lie_in_scopes, states_stay, the_first_bytes_decide,
+    the_first_bytes_end,
 };
 pub use limits::MOST_KEPT_BYTES;
 pub use printed::{
