@@ -1,9 +1,9 @@
 //! What is asked of the value of one variable.
-ghost use Rattle.std.specs.Prelude.{◌≡◌, ◌++◌, ◌<◌, ◌≤ℤ◌, length, true, Contains, FitsSigned, OnOk};
+ghost use Rattle.std.specs.Prelude.{◌≡◌, ◌++◌, ◌<◌, ◌≤ℤ◌, ◌⊎◌, length, true, Contains, FitsSigned, OnOk};
 ghost use Rattle.std.specs.Int.{w32};
 ghost use Rattle.filter_compare.specs.Comparison.{IsMet, flipped_of, meeting_values};
 ghost use Rattle.palm_base.specs.Tells.{Tells};
-ghost use Rattle.palm_domain.specs.Rows.{initial_of, present_of};
+ghost use Rattle.palm_domain.specs.Rows.{Ascends, initial_of, present_of};
 ghost use Rattle.palm_model.specs.Relation.{Stands, is_standing};
 ghost use Rattle.palm_model.specs.Domains.{values_of};
 ghost use Rattle.palm_model.specs.Removed.{pairs_of};
@@ -120,14 +120,39 @@ impl Demand {
         requires { self.now.var < length store.now }
         ensures { OnOk result (out.new.items ≡ out.old.items ++ pairs_of self.now.var (meeting_values (values_of (initial_of store.now) self.now.var) self.now)) }
     {
-        if matches!(self.op, Op::Eq) {
-            return self.push_bound(store, out);
+        let values = store.initial_values(self.var);
+        match self.op {
+            Op::Eq => self.push_bound(store, out),
+            Op::Ne => push_passing(values, self.var, |value| self.is_met_by(value), out),
+            Op::Lt | Op::Le => self.push_all(self.lower(values), out),
+            Op::Gt | Op::Ge => self.push_all(self.higher(values), out),
         }
-        push_passing(
-            store.initial_values(self.var),
-            self.var,
-            |value| self.is_met_by(value),
-            out,
-        )
+    }
+
+    /// The values that meet the demand to be low: the first ones of an ascending list.
+    fn lower<'a>(&self, values: &'a [Value]) -> &'a [Value]
+        requires ascend { Ascends values.now }
+        requires low { (self.now.op ≡ Op.Lt) ⊎ (self.now.op ≡ Op.Le) }
+        ensures { result.now ≡ meeting_values values.now self.now }
+    {
+        let end = values.partition_point(|value| self.is_met_by(value));
+        &values[..end]
+    }
+
+    /// The values that meet the demand to be high: the last ones of an ascending list.
+    fn higher<'a>(&self, values: &'a [Value]) -> &'a [Value]
+        requires ascend { Ascends values.now }
+        requires high { (self.now.op ≡ Op.Gt) ⊎ (self.now.op ≡ Op.Ge) }
+        ensures { result.now ≡ meeting_values values.now self.now }
+    {
+        let start = values.partition_point(|value| !self.is_met_by(value));
+        &values[start..]
+    }
+
+    /// Appends the pair of the variable with each of the values.
+    fn push_all(&self, values: &[Value], out: &mut Reasons) -> Result<(), NoMemory>
+        ensures { OnOk result (out.new.items ≡ out.old.items ++ pairs_of self.now.var values.now) }
+    {
+        push_passing(values, self.var, |_| true, out)
     }
 }

@@ -5,4 +5,5 @@ pub mod Comparisons
 pub mod Values
 pub mod KeptValues
 pub mod RowMarks
+pub mod Standing
 pub mod StoreRows

@@ -1,20 +1,21 @@
 //! The ones of a word.
-ghost use Rattle.std.specs.Prelude.{◌≡◌, ℕ, ◌-◌, ◌^◌, ◌<◌, ◌≤◌};
+ghost use Rattle.std.specs.Prelude.{◌≡◌, ℕ, ◌-◌, ◌^◌, ◌<◌, ◌≤◌, IfNone, IfSome};
 ghost use Rattle.std.specs.Int.{bit_at};
 
-/// The place of the first one from `from` on, and 64 where there is none.
-pub(crate) fn first_one(word: u64, from: usize) -> usize
+/// The place of the first one from `from` on.
+pub(crate) fn first_one(word: u64, from: usize) -> Option<usize>
     requires { from < 64 }
-    ensures from { from ≤ result }
-    ensures within { result ≤ 64 }
-    ensures one { result < 64 → bit_at word result ≡ 1 }
-    ensures zeros { (k : ℕ) → from ≤ k → k < result → bit_at word k ≡ 0 }
+    ensures from { IfSome result (λ one. from ≤ one) }
+    ensures within { IfSome result (λ one. one < 64) }
+    ensures one { IfSome result (λ one. bit_at word one ≡ 1) }
+    ensures before { IfSome result (λ one. (k : ℕ) → from ≤ k → k < one → bit_at word k ≡ 0) }
+    ensures none { IfNone result ((k : ℕ) → from ≤ k → k < 64 → bit_at word k ≡ 0) }
 {
     let rest = word >> from;
     if rest == 0 {
-        64
+        None
     } else {
-        from + rest.trailing_zeros() as usize
+        Some(from + rest.trailing_zeros() as usize)
     }
 }
 

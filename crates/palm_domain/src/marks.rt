@@ -66,8 +66,7 @@ impl Marks {
     {
         let mut at = from;
         while at < MOST_VALUES {
-            let one = first_one(self.words[at / 64], at % 64);
-            if one < 64 {
+            if let Some(one) = first_one(self.words[at / 64], at % 64) {
                 return at / 64 * 64 + one;
             }
             at = at / 64 * 64 + 64;

@@ -1,5 +1,5 @@
 //! The place of a value in an ascending list.
-ghost use Rattle.std.specs.Prelude.{◌≡◌, ℕ, ℤ, pos, ◌+ℤ◌, ◌<◌, ◌≤◌, ◌≤ℤ◌, length, slice_index_or, slice_get, MatchOption, Contains};
+ghost use Rattle.std.specs.Prelude.{◌≡◌, ℕ, ℤ, pos, ◌+ℤ◌, ◌<◌, ◌≤◌, ◌≤ℤ◌, length, slice_index_or, slice_get, IfSome, MatchOption, Contains};
 ghost use Rattle.std.specs.Int.{int_gap};
 ghost use Rattle.palm_domain.specs.Places.{IsPlaceFrom};
 ghost use Rattle.palm_domain.specs.Rows.{Ascends};
@@ -11,11 +11,10 @@ pub(crate) fn place_from(values: &[Value], value: Value) -> usize
     requires { Ascends values.now }
     ensures { IsPlaceFrom values.now value result }
 {
-    let end = end_of_lower(values, value);
-    if end == 0 || values[end - 1] < value {
-        return end;
+    match gapless_place(values, value) {
+        Some(place) => place,
+        None => sparse_place_from(values, value),
     }
-    search(values, value, end)
 }
 
 /// The place of the first value above `value`, and the list's length where there is none.
@@ -23,11 +22,9 @@ pub(crate) fn place_after(values: &[Value], value: Value) -> usize
     requires { Ascends values.now }
     ensures { IsPlaceFrom values.now (value +ℤ pos 1) result }
 {
-    let place = place_from(values, value);
-    if place < values.len() && values[place] == value {
-        place + 1
-    } else {
-        place
+    match gapless_place(values, value) {
+        Some(place) => place + 1,
+        None => sparse_place_after(values, value),
     }
 }
 
@@ -38,7 +35,61 @@ pub(crate) fn place_of(values: &[Value], value: Value) -> Option<usize>
         (Contains values.now value → ⊥)
         (λ place. slice_get values.now place ≡ Some value) }
 {
-    let place = place_from(values, value);
+    match gapless_place(values, value) {
+        Some(place) => Some(place),
+        None => sparse_place_of(values, value),
+    }
+}
+
+/// The place of the value, where the list has all numbers from its first to it.
+#[inline(always)]
+fn gapless_place(values: &[Value], value: Value) -> Option<usize>
+    ensures { IfSome result (λ place. slice_get values.now place ≡ Some value) }
+{
+    let place = values.first()?.0.abs_diff(value.0) as usize;
+    if place < values.len() && values[place] == value {
+        Some(place)
+    } else {
+        None
+    }
+}
+
+/// The place of the first value that is at least `value`, whatever numbers the list leaves out.
+#[inline(never)]
+fn sparse_place_from(values: &[Value], value: Value) -> usize
+    requires { Ascends values.now }
+    ensures { IsPlaceFrom values.now value result }
+{
+    let end = end_of_lower(values, value);
+    if end == 0 || values[end - 1] < value {
+        return end;
+    }
+    search(values, value, end)
+}
+
+/// The place of the first value above `value`, whatever numbers the list leaves out.
+#[inline(never)]
+fn sparse_place_after(values: &[Value], value: Value) -> usize
+    requires { Ascends values.now }
+    ensures { IsPlaceFrom values.now (value +ℤ pos 1) result }
+{
+    let place = sparse_place_from(values, value);
+    if place < values.len() && values[place] == value {
+        place + 1
+    } else {
+        place
+    }
+}
+
+/// The place of the value, whatever numbers the list leaves out.
+#[inline(never)]
+fn sparse_place_of(values: &[Value], value: Value) -> Option<usize>
+    requires { Ascends values.now }
+    ensures { MatchOption result
+        (Contains values.now value → ⊥)
+        (λ place. slice_get values.now place ≡ Some value) }
+{
+    let place = sparse_place_from(values, value);
     if place < values.len() && values[place] == value {
         Some(place)
     } else {

@@ -1,7 +1,10 @@
 //! The filter of a constraint, whatever its kind.
-ghost use Rattle.std.specs.Prelude.{◌≡◌, ℕ, IfOk};
+ghost use Rattle.std.specs.Prelude.{◌≡◌, ℕ, IfOk, Contains, false, length, true};
+ghost use Rattle.palm_domain.specs.Rows.{present_of};
 ghost use Rattle.palm_kind.specs.Kind.{con_of};
-ghost use Rattle.palm_model.specs.Constraint.{IsWellFormed};
+ghost use Rattle.palm_model.specs.Constraint.{IsWellFormed, scope};
+ghost use Rattle.palm_model.specs.Domains.{Has};
+ghost use Rattle.palm_model.specs.Support.{IsSupported, LacksSupport};
 
 use filter_compare::CompareFilter;
 use filter_differ::DifferFilter;
@@ -68,11 +71,11 @@ impl Filter for Kind {
     fn supported(&self, store: &DomainStore, pair: Pair) -> bool {
         match self {
             Kind::Compare(filter) => filter.supported(store, pair),
-            Kind::Linear(filter) => filter.supported(store, pair),
-            Kind::Table(filter) => filter.supported(store, pair),
-            Kind::Element(filter) => filter.supported(store, pair),
-            Kind::Count(filter) => filter.supported(store, pair),
-            Kind::Differ(filter) => filter.supported(store, pair),
+            Kind::Linear(filter) => supported_apart(filter, store, pair),
+            Kind::Table(filter) => supported_apart(filter, store, pair),
+            Kind::Element(filter) => supported_apart(filter, store, pair),
+            Kind::Count(filter) => supported_apart(filter, store, pair),
+            Kind::Differ(filter) => supported_apart(filter, store, pair),
         }
     }
 
@@ -86,4 +89,17 @@ impl Filter for Kind {
             Kind::Differ(filter) => filter.reason(store, pair, out),
         }
     }
+}
+
+/// Asks a filter by a call of its own. So a comparison, whose answer takes a few instructions, pays for no other kind's
+/// frame.
+#[inline(never)]
+fn supported_apart<F: Filter>(filter: &F, store: &DomainStore, pair: Pair) -> bool
+    requires formed { IsWellFormed (length store.now) (F.meaning filter.now) }
+    requires over { Contains (scope (F.meaning filter.now)) pair.var }
+    requires present { Has (present_of store.now) pair.var pair.value }
+    ensures supported { result ≡ true → IsSupported (present_of store.now) (F.meaning filter.now) pair.var pair.value }
+    ensures lacking { result ≡ false → LacksSupport (present_of store.now) (F.meaning filter.now) pair.var pair.value }
+{
+    filter.supported(store, pair)
 }

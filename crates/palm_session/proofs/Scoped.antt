@@ -21,7 +21,7 @@ use Rattle.palm_model.specs.declared.constraint.Op.{Op}
 use Rattle.palm_model.specs.declared.constraint.Op.TheVariants.{Eq, Ne}
 use Rattle.palm_model.proofs.Formed.{well_formed_formed}
 use Rattle.palm_model.proofs.Without.{ascend_without, length_without, without_inside}
-use Rattle.palm_session.specs.Scoped.{IsScoped, HasScopedReasons}
+use Rattle.palm_cert.specs.Scoped.{IsScoped, HasScopedReasons}
 use Rattle.palm_events.proofs.Logs.{left_member, left_keeps}
 use Rattle.palm_events.proofs.Reasons.{reasons_right}
 use Rattle.palm_events.proofs.Runs.{step_valid}

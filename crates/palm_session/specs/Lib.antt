@@ -8,7 +8,6 @@ pub mod Objects
 pub mod Refusals
 pub mod Replies
 pub mod ReplyText
-pub mod Scoped
 pub mod Serving
 pub mod State
 pub mod Told

@@ -6,8 +6,8 @@ use Rattle.std.proofs.lemmas.Nat.Bits.{bit_at-trailing_zeros, bit_at_above}
 use Rattle.palm_domain.proofs.WordOnes.{bit_at-shr, zeros_from_shr}
 use Rattle.palm_domain.proofs.bits.first_one.Goals as goal
 
-pub returns-then-rest-eq0-clause-zeros : goal.returns-then-rest-eq0-clause-zeros
-returns-then-rest-eq0-clause-zeros c k low _ = zeros_from_shr c.args.word c.args.from k c.if-rest-eq0.true low
+pub returns-then-rest-eq0-clause-none : goal.returns-then-rest-eq0-clause-none
+returns-then-rest-eq0-clause-none c k low _ = zeros_from_shr c.args.word c.args.from k c.if-rest-eq0.true low
 
 -- the first one of the rest, as a place of the word
 found : (word from : ℕ) → word < 2 ^ 64 → (word / 2 ^ from ≡ 0 → ⊥) → (from + trailing_zeros w64 (word / 2 ^ from) < 64) × (bit_at word (from + trailing_zeros w64 (word / 2 ^ from)) ≡ 1) × ((k : ℕ) → from ≤ k → k < from + trailing_zeros w64 (word / 2 ^ from) → bit_at word k ≡ 0)
@@ -27,7 +27,7 @@ returns-else-rest-eq0-clause-within c =
     let f = found c.args.word c.args.from c.ranges.word.fits c.if-rest-eq0.false in omega (arith, f.0)
 
 pub returns-else-rest-eq0-clause-one : goal.returns-else-rest-eq0-clause-one
-returns-else-rest-eq0-clause-one c _ = (found c.args.word c.args.from c.ranges.word.fits c.if-rest-eq0.false).1
+returns-else-rest-eq0-clause-one c = (found c.args.word c.args.from c.ranges.word.fits c.if-rest-eq0.false).1
 
-pub returns-else-rest-eq0-clause-zeros : goal.returns-else-rest-eq0-clause-zeros
-returns-else-rest-eq0-clause-zeros c = (found c.args.word c.args.from c.ranges.word.fits c.if-rest-eq0.false).2
+pub returns-else-rest-eq0-clause-before : goal.returns-else-rest-eq0-clause-before
+returns-else-rest-eq0-clause-before c = (found c.args.word c.args.from c.ranges.word.fits c.if-rest-eq0.false).2
