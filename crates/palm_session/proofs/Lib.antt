@@ -1,6 +1,7 @@
 pub mod Accepting
 pub mod ActiveLists
 pub mod Asked
+pub mod Certified
 pub mod Chosen
 pub mod Deciding
 pub mod Declaring

@@ -21,7 +21,7 @@ use Rattle.palm_session.proofs.LawsOfDomains.{printed_domains, explanation_activ
 use Rattle.palm_session.proofs.LawsOfStates.{domains_once}
 
 -- a value that may be asked for is declared
-declared_value : (s : SessionState) (name : List ℕ) (value : ℤ) (x : ℕ) → (AsksUndeclared s (Why name value) → ⊥) → x < length s.book.variables → name_of s.book.variables x ≡ name → Has (initial_of s.book) x value
+pub declared_value : (s : SessionState) (name : List ℕ) (value : ℤ) (x : ℕ) → (AsksUndeclared s (Why name value) → ⊥) → x < length s.book.variables → name_of s.book.variables x ≡ name → Has (initial_of s.book) x value
 declared_value s name value x asks lt named =
     let nothing : Entry = record { name = []; values = [] } in
     let entry : Entry = get_or s.book.variables x nothing in

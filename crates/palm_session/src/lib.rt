@@ -33,8 +33,8 @@ pub use limits::MOST_KEPT_BYTES;
 pub use printed::{
     adding_and_retracting_gives_back_the_domains, contradictions_are_empty_domains,
     kept_conflicts_conflict, kept_explanations_explain, minimal_conflicts_conflict,
-    minimal_explanations_explain, one_domain_is_empty_at_most, printed_domains_are_the_engines,
-    searches_leave_all_but_the_journal, searches_tell_the_truth,
+    minimal_explanations_explain, one_domain_is_empty_at_most, printed_certificates_are_accepted,
+    printed_domains_are_the_engines, searches_leave_all_but_the_journal, searches_tell_the_truth,
 };
 pub use session::Session;
 pub use stop::Stop;

@@ -1,16 +1,17 @@
-//! Laws of what a session prints: its engine's domains are the greatest closed ones, its explanations explain, and its
-//! conflicts have no solution.
+//! Laws of what a session prints: its engine's domains are the greatest closed ones, its explanations explain, its
+//! conflicts have no solution, and its certificates are accepted.
 ghost use Rattle.std.specs.Prelude.{◌≡◌, ◌↔◌, ℕ, ℤ, false, List};
+ghost use Rattle.palm_cert.specs.Scoped.{HasScopedReasons};
 ghost use Rattle.palm_model.specs.Domains.{Domains};
 ghost use Rattle.palm_model.specs.State.{HasEmpty, IsEmptyAt, present};
-ghost use Rattle.palm_read.specs.declared.line.Line.TheVariants.{Add, Retract, Domains as DomainsLine, Why, Conflict, Minimal, MinimalConflict};
+ghost use Rattle.palm_read.specs.declared.line.Line.TheVariants.{Add, Retract, Domains as DomainsLine, Why, Conflict, Minimal, MinimalConflict, Cert, CertConflict};
 ghost use Rattle.palm_read.specs.declared.line.Shape.{Shape};
 ghost use Rattle.palm_session.specs.State.{SessionState, IsState, fresh, AreDomains, IsContradiction};
 ghost use Rattle.palm_session.specs.Refusals.{Meets, IsNone, in_order};
 ghost use Rattle.palm_session.specs.Answers.{Accepts};
 ghost use Rattle.palm_session.specs.Effects.{Procedure, search_line};
 ghost use Rattle.palm_session.specs.Replies.{Run};
-ghost use Rattle.palm_session.specs.Told.{KeepsAllButJournal, ToldWhy, ToldConflict, ToldMinimal, ToldMinimalConflict, ToldSearch};
+ghost use Rattle.palm_session.specs.Told.{KeepsAllButJournal, ToldCert, ToldCertConflict, ToldWhy, ToldConflict, ToldMinimal, ToldMinimalConflict, ToldSearch};
 
 /// While filtering does not wait and nothing contradicts, the engine's present domains are the greatest closed domains of
 /// the active constraints.
@@ -46,6 +47,16 @@ pub fn minimal_explanations_explain()
 pub fn minimal_conflicts_conflict()
     ensures { (s t : SessionState) (reply : List ℕ)
         → Accepts s MinimalConflict reply t → ToldMinimalConflict s.book reply }
+{}
+
+/// The certificate that `cert NAME VALUE` prints is accepted by the checker's definition, with the claim that the value is
+/// gone, of the constraints that the kept log needs for it.
+pub fn printed_certificates_are_accepted()
+    ensures value { (s t : SessionState) (name reply : List ℕ) (value : ℤ)
+        → IsState s → HasScopedReasons s.engine → IsNone (Meets s (Cert name value)) in_order → Accepts s (Cert name value) reply t
+        → ToldCert s name value reply }
+    ensures conflict { (s t : SessionState) (reply : List ℕ)
+        → IsState s → HasScopedReasons s.engine → Accepts s CertConflict reply t → ToldCertConflict s reply }
 {}
 
 /// The values that `solve` tells satisfy all active constraints, and the constraints that it names are active and have no

@@ -1,0 +1,78 @@
+-- The certificates that `cert` prints are accepted, in every session.
+use Rattle.std.proofs.Common.{◌≡◌, ℕ, ℤ, ◌<◌, List, length, Contains, false, inl, inr, refl, sym, ◌∙◌, subst}
+use Rattle.std.proofs.lemmas.Bool.{cases_Bool, false≢true}
+use Rattle.palm_model.specs.Domains.{Domains, Has, is_among}
+use Rattle.palm_model.specs.Log.{log_pairs}
+use Rattle.palm_model.proofs.Without.{pair_of, among_member, has_without, member_among}
+use Rattle.palm_book.specs.Book.{initial_of, name_of}
+use Rattle.palm_read.specs.declared.line.Line.TheVariants.{Cert, CertConflict}
+use Rattle.palm_cert.specs.Certificate.{certificate_text}
+use Rattle.palm_cert.specs.Needs.{CanClaim}
+use Rattle.palm_cert.specs.Scoped.{HasScopedReasons}
+use Rattle.palm_cert.proofs.Accepted.{certificate_accepted}
+use Rattle.palm_cert.proofs.Logged.{claim_declared}
+use Rattle.palm_cert.proofs.Readable.{readable}
+use Rattle.palm_claim.specs.declared.verdict.Claim.{Claim}
+use Rattle.palm_claim.specs.declared.verdict.Claim.TheVariants.{Gone, Conflict as ConflictClaim}
+use Rattle.palm_session.specs.State.{SessionState, IsState, AreDomains, IsContradiction}
+use Rattle.palm_session.specs.Refusals.{Meets, in_order, IsNone}
+use Rattle.palm_session.specs.Answers.{SaysCert, SaysCertConflict, Says, Accepts, waits, contradicts, says}
+use Rattle.palm_session.specs.Told.{IsAccepted, ToldCert, ToldCertConflict}
+use Rattle.palm_session.specs.Told.ToldCert.{cert_paused, cert_contradiction, cert_present, cert_accepted}
+use Rattle.palm_session.specs.Told.ToldCertConflict.{claim_paused, claim_none, claim_accepted}
+use Rattle.palm_session.proofs.LawsOfAnswers.{awake_for, query_same}
+use Rattle.palm_session.proofs.LawsOfDomains.{printed_domains}
+use Rattle.palm_session.proofs.LawsOfStates.{domains_once}
+use Rattle.palm_session.proofs.Telling.{declared_value}
+
+-- what is printed for a claim that holds is accepted
+accepts : (s : SessionState) → IsState s → HasScopedReasons s.engine → (claim : Claim) → CanClaim s.engine claim → (text : List ℕ) → text ≡ certificate_text s.book s.engine.log claim
+    → IsAccepted s.book s.engine.log claim text
+accepts s is scoped claim can text printed =
+    let held = is.held in
+    let read = readable s.engine s.book claim held.book held.valid held.initial held.active can scoped in
+    let r = certificate_accepted s.engine s.book claim held.book held.valid held.initial held.active can read in
+    subst (λ (z : List ℕ). IsAccepted s.book s.engine.log claim z) (sym printed) (record { proved = r.0; verdict = r.1; same = r.2 })
+
+-- a declared value that is not present was removed
+removed : (s : SessionState) → IsState s → s.paused ≡ false → (IsContradiction s → ⊥) → (d : Domains) (x : ℕ) (value : ℤ) → AreDomains s d → Has (initial_of s.book) x value → (Has d x value → ⊥)
+    → Contains (log_pairs s.engine.log) (pair_of x value)
+removed s is awake none d x value are has missing =
+    let same = domains_once s d _ are (printed_domains s is awake none) in
+    let pairs = log_pairs s.engine.log in
+    elim (cases_Bool (is_among pairs x value)) [
+      | inl t ↦ among_member pairs x value t
+      | inr f ↦ absurd (missing (subst (λ (z : Domains). Has z x value) (sym same)
+          (has_without s.engine.initial pairs x value (subst (λ (z : Domains). Has z x value) (sym is.held.initial) has) (λ m. false≢true (sym f ∙ member_among pairs x value m)))))
+    ]
+
+says_cert : (s : SessionState) → IsState s → HasScopedReasons s.engine → s.paused ≡ false → (IsContradiction s → ⊥) → (name : List ℕ) (value : ℤ) (reply : List ℕ) (d : Domains) (x : ℕ) → AreDomains s d → x < length s.book.variables → name_of s.book.variables x ≡ name
+    → Has (initial_of s.book) x value → SaysCert s d (pair_of x value) reply → ToldCert s name value reply
+says_cert s is scoped awake none name value reply d x are lt named has (inl p) = cert_present p.1
+says_cert s is scoped awake none name value reply d x are lt named has (inr p) =
+    cert_accepted x lt named (accepts s is scoped (Gone (pair_of x value)) (removed s is awake none d x value are has p.0) reply p.1)
+
+pub told_cert : (s t : SessionState) (name reply : List ℕ) (value : ℤ) → IsState s → HasScopedReasons s.engine → IsNone (Meets s (Cert name value)) in_order → Accepts s (Cert name value) reply t → ToldCert s name value reply
+told_cert s t name reply value is scoped none (waits w) = cert_paused refl
+told_cert s t name reply value is scoped none (contradicts effect goes does c) = cert_contradiction refl
+told_cert s t name reply value is scoped none (says effect goes does quiet said) =
+    let same : t ≡ s = query_same s does.0 t effect does.1 does.2 in
+    let here : Says s (Cert name value) effect reply = subst (λ (z : SessionState). Says z (Cert name value) effect reply) same said in
+    let calm : IsContradiction s → ⊥ = λ c. quiet (record { contradiction = subst IsContradiction (sym same) c; contradictable = tt }) in
+    says_cert s is scoped (awake_for s (Cert name value) tt goes) calm name value reply here.0 here.1 here.2 here.3 here.4
+    (declared_value s name value here.1 none.1.1.1.1.1.0 here.3 here.4) here.5
+
+says_conflict : (s : SessionState) → IsState s → HasScopedReasons s.engine → (d : Domains) (reply : List ℕ) → SaysCertConflict s d reply → ToldCertConflict s reply
+says_conflict s is scoped d reply (inl p) = claim_none p.1
+says_conflict s is scoped d reply (inr p) =
+    let held = is.held in
+    let empty = p.2.empty in
+    claim_accepted p.1 (claim_declared s.engine s.book held.valid held.initial held.active (ConflictClaim p.1) empty) (accepts s is scoped (ConflictClaim p.1) empty reply p.3)
+
+pub told_cert_conflict : (s t : SessionState) (reply : List ℕ) → IsState s → HasScopedReasons s.engine → Accepts s CertConflict reply t → ToldCertConflict s reply
+told_cert_conflict s t reply is scoped (waits w) = claim_paused refl
+told_cert_conflict s t reply is scoped (contradicts effect goes does c) = absurd c.contradictable
+told_cert_conflict s t reply is scoped (says effect goes does quiet said) =
+    let same : t ≡ s = query_same s does.0 t effect does.1 does.2 in
+    let here : Says s CertConflict effect reply = subst (λ (z : SessionState). Says z CertConflict effect reply) same said in
+    says_conflict s is scoped here.0 reply here.2
