@@ -20,7 +20,7 @@ pub(crate) struct Thread {
 pub(crate) struct Threads {
     names: Vec<Cid>,
     threads: Vec<Thread>,
-    /// The place that was looked for last: a constraint mostly removes several values in a row.
+    /// The place that was looked for last: a constraint mostly removes several values in a row, and then often the next one does.
     near: usize,
 }
 
@@ -52,6 +52,10 @@ impl Threads {
     {
         if self.has_at(self.near, cid) {
             return Ok(self.near);
+        }
+        let behind = self.near.wrapping_add(1);
+        if self.has_at(behind, cid) {
+            return Ok(behind);
         }
         match self.names.binary_search(cid) {
             Ok(place) => Ok(place),
@@ -101,6 +105,10 @@ impl Threads {
     {
         if self.has_at(self.near, cid) {
             return Some(self.near);
+        }
+        let before = self.near.wrapping_sub(1);
+        if self.has_at(before, cid) {
+            return Some(before);
         }
         match self.names.binary_search(cid) {
             Ok(place) => Some(place),
