@@ -4,7 +4,8 @@ use Rattle.std.proofs.lemmas.Bool.{cases_eq, false≢true}
 use Rattle.std.proofs.lemmas.List.{take_more, take_all}
 use Rattle.std.proofs.lemmas.List.Elements.{Contains-append_left, Contains-push}
 use Rattle.palm_base.proofs.Members.{member_nil, member_cases, member_here, member_there, member_same, member_single, member_take, member_take_more}
-use Rattle.palm_explain.specs.Graph.{Graph, HasForgotten, HasLinked, HasMarked, IsAmongFirst, IsCause, IsKey, IsSameNode, Link}
+use Rattle.palm_model.specs.Constraint.{Distinct}
+use Rattle.palm_explain.specs.Graph.{AreOnce, Graph, HasForgotten, HasLinked, HasMarked, IsAmongFirst, IsCause, IsKey, IsSameNode, IsTailed, Link}
 use Rattle.palm_explain.proofs.Graphs.{link_same}
 
 pub same_then : (l m n : Link) → IsSameNode l m → IsSameNode m n → IsSameNode l n
@@ -27,6 +28,7 @@ pub linked_none : (g : Graph) (key : ℕ) → HasLinked g g [] key
 linked_none g key = record {
   none = λ k e. e;
   some = λ k l at. (l, at, same_itself l, λ d m. inl m, λ d m. elim m [ inl o ↦ o | inr e ↦ absurd (member_nil k e.1) ]);
+  once = λ k l m at has tailed. subst (λ (z : Link). IsTailed key z.dependents) (link_same g k l m at has) tailed;
 }
 
 pub linked_next : (g h f : Graph) (causes : List ℕ) (i c key : ℕ) → i < length causes → c ≡ get_or causes i c → HasLinked g h (take i causes) key → HasLinked h f (c ∷ []) key → HasLinked g f (take (i + 1) causes) key
@@ -50,6 +52,7 @@ linked_next g h f causes i c key lt at one two = record {
           ]
         ],
       );
+  once = λ k l n is has tailed. let m = one.some k l is in two.once k m.0 n m.1 has (one.once k l m.0 is m.1 tailed);
 }
 
 pub linked_all : (g h : Graph) (causes : List ℕ) (i key : ℕ) → length causes ≤ i → HasLinked g h (take i causes) key → HasLinked g h causes key
@@ -68,6 +71,7 @@ pub forgotten_none : (g : Graph) (Gone : ℕ → ℕ → Type 0) → ((k d : ℕ
 forgotten_none g Gone never = record {
   none = λ k e. e;
   some = λ k l at. (l, at, same_itself l, λ d m. (m, never k d), λ d m free. m);
+  once = λ k l m at has once. subst (λ (z : Link). Distinct z.dependents) (link_same g k l m at has) once;
 }
 
 pub forgotten_then : (g h f : Graph) (First Second Gone : ℕ → ℕ → Type 0) → ((k d : ℕ) → First k d → Gone k d) → ((k d : ℕ) → Second k d → Gone k d) → ((k d : ℕ) → Gone k d → First k d ⊎ Second k d)
@@ -83,6 +87,7 @@ forgotten_then g h f First Second Gone left right split one two = record {
         λ d q. let b = n.3 d q in let a = m.3 d b.0 in (a.0, λ gone. elim (split k d gone) [ inl p ↦ a.1 p | inr p ↦ b.1 p ]),
         λ d q free. n.4 d (m.4 d q (λ p. free (left k d p))) (λ p. free (right k d p)),
       );
+  once = λ k l n is has once. let m = one.some k l is in two.once k m.0 n m.1 has (one.once k l m.0 is m.1 once);
 }
 
 pub forgotten_like : (g h : Graph) (Gone Same : ℕ → ℕ → Type 0) → ((k d : ℕ) → Gone k d → Same k d) → ((k d : ℕ) → Same k d → Gone k d) → HasForgotten g h Gone → HasForgotten g h Same
@@ -91,7 +96,19 @@ forgotten_like g h Gone Same to back forgotten = record {
   some = λ k l at.
       let m = forgotten.some k l at in
       (m.0, m.1, m.2, λ d q. let a = m.3 d q in (a.0, λ s. a.1 (back k d s)), λ d q free. m.4 d q (λ gone. free (to k d gone)));
+  once = forgotten.once;
 }
+
+-- no dependent stands twice afterwards
+pub forgotten_once : (g h : Graph) (Gone : ℕ → ℕ → Type 0) → AreOnce g → HasForgotten g h Gone → AreOnce h
+forgotten_once g h Gone once forgotten k m has = was (g k) refl
+  where
+    none_some : {x : Link} → None ≡ Some x → ⊥
+    none_some e = cc
+
+    was : (o : Option Link) → g k ≡ o → Distinct m.dependents
+    was (Some l) at = forgotten.once k l m at has (once k l at)
+    was None at = absurd (none_some (sym (forgotten.none k at) ∙ has))
 
 -- ---- marks
 
@@ -161,8 +178,25 @@ module _ (listed : Link → List ℕ) (g : Graph) (key : ℕ) (l : Link) (at : g
   listed_next old middle new i x lt is marked set others =
       marked_then old middle new (IsAmongFirst i listed g key) (λ k. x ≡ k) (IsAmongFirst (i + 1) listed g key) (first_left i x lt is) (first_last i x lt is) (first_cases i x lt is) marked (marked_one middle new x set others)
 
+  -- where one more mark came, or none that was not there
+  pub listed_more : (old middle new : ℕ → Bool) (i x : ℕ) → i < length (listed l) → x ≡ get_or (listed l) i x → HasMarked old middle (IsAmongFirst i listed g key) → HasMarked middle new (λ k. x ≡ k) → HasMarked old new (IsAmongFirst (i + 1) listed g key)
+  listed_more old middle new i x lt is marked one =
+      marked_then old middle new (IsAmongFirst i listed g key) (λ k. x ≡ k) (IsAmongFirst (i + 1) listed g key) (first_left i x lt is) (first_last i x lt is) (first_cases i x lt is) marked one
+
   pub listed_all : (old new : ℕ → Bool) (i : ℕ) → length (listed l) ≤ i → HasMarked old new (IsAmongFirst i listed g key) → HasMarked old new (λ d. (m : Link) × (g key ≡ Some m) × Contains (listed m) d)
   listed_all old new i le marked = marked_like old new (IsAmongFirst i listed g key) (λ d. (m : Link) × (g key ≡ Some m) × Contains (listed m) d) (first_all i le) (all_first i le) marked
+
+-- the marks of a list of keys, one after another
+pub keys_next : (old middle new : ℕ → Bool) (keys : List ℕ) (i x : ℕ) → i < length keys → x ≡ get_or keys i x → HasMarked old middle (Contains (take i keys)) → HasMarked middle new (λ k. x ≡ k) → HasMarked old new (Contains (take (i + 1) keys))
+keys_next old middle new keys i x lt is marked one =
+    marked_then old middle new (Contains (take i keys)) (λ k. x ≡ k) (Contains (take (i + 1) keys)) (λ k m. more_left keys i x k lt is m) (λ k e. more_last keys i x k lt is e) (λ k m. member_take_more keys i x k lt is m) marked one
+
+pub keys_all : (old new : ℕ → Bool) (keys : List ℕ) (i : ℕ) → length keys ≤ i → HasMarked old new (Contains (take i keys)) → HasMarked old new (Contains keys)
+keys_all old new keys i le marked = subst (λ ks. HasMarked old new (Contains ks)) (take_all i keys le) marked
+
+-- a mark that is there already
+pub marked_there : (old : ℕ → Bool) (key : ℕ) → old key ≡ true → HasMarked old old (λ k. key ≡ k)
+marked_there old key is = record { stay = λ k m. m; more = λ k e. ap old (sym e) ∙ is; only = λ k m. inl m }
 
 -- a mark that is cleared and handed on
 pub handed_on : (g : Graph) (old middle new : ℕ → Bool) (key : ℕ) (More : ℕ → Type 0) → middle key ≡ false → ((k : ℕ) → k ≢ key → middle k ≡ old k) → HasMarked middle new More → (More key → ⊥)

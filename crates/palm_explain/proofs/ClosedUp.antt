@@ -1,13 +1,16 @@
 -- The graph that a withdrawal leaves.
-use Rattle.std.proofs.Common.{◌≡◌, ℕ, Bool, true, false, not, List, map, Option, Some, None, Contains, slice_get, inl, inr, refl, sym, ap, ◌∙◌, subst}
+use Rattle.std.proofs.Common.{◌≡◌, ◌≤◌, ℕ, Bool, true, false, not, List, map, Option, Some, None, Contains, slice_get, ◌⊎◌, inl, inr, refl, sym, ap, ◌∙◌, subst}
 use Rattle.std.proofs.lemmas.Bool.{cases_Bool, false≢true}
 use Rattle.palm_base.specs.declared.terms.Cid.{Cid}
 use Rattle.palm_base.proofs.Members.{map_agree, member_filter, member_place}
+use Rattle.palm_model.specs.Constraint.{Distinct}
 use Rattle.palm_explain.specs.declared.rows.Row.{Row}
-use Rattle.palm_explain.specs.Graph.{AreFound, Graph, HasClosedUp, HasForgotten, IsCause, IsDependent, IsGraph, IsKey, IsPlaced, IsSameNode, Link, NamesAt, log_of, pair_at, removal_at}
+use Rattle.palm_explain.specs.declared.threads.Threads.{Threads}
+use Rattle.palm_explain.specs.Graph.{AreFound, Graph, HasClosedUp, HasForgotten, IsBy, IsCause, IsDependent, IsGraph, IsKey, IsPlaced, IsSameNode, Link, NamesAt, log_of, pair_at, removal_at}
 use Rattle.palm_explain.specs.Lost.{AreTold, kept_of}
 use Rattle.palm_explain.specs.Rows.{key_at}
-use Rattle.palm_explain.proofs.Graphs.{key_member, link_same, member_key, names_cause, pair_is, removal_is}
+use Rattle.palm_explain.specs.Threads.{AreThreaded}
+use Rattle.palm_explain.proofs.Graphs.{key_member, link_same, member_key, names_cause, names_own, pair_is, removal_is}
 use Rattle.palm_explain.proofs.Keeping.{told_false, told_true}
 
 -- a forgotten dependent: lost, of a removal that is not
@@ -31,6 +34,13 @@ forgotten_placed g h keys Gone placed forgotten = record {
         subst (λ i. slice_get keys i ≡ Some k) (sym n.2.place ∙ ap (λ (z : Link). z.place) same) (placed.logged k l at)
     was k m has None at = absurd (none_some (sym (forgotten.none k at) ∙ has))
 
+-- what holds of the places holds where dependents are forgotten
+pub forgotten_earliest : (g h : Graph) (Gone : ℕ → ℕ → Type 0) (start k : ℕ) (m : Link) → HasForgotten g h Gone → ((l : Link) → g k ≡ Some l → start ≤ l.place) → IsKey g k → h k ≡ Some m → start ≤ m.place
+forgotten_earliest g h Gone start k m forgotten earliest key has =
+    let n = forgotten.some k key.0 key.1 in
+    let same : n.0 ≡ m = link_same h k n.0 m n.1 has in
+    subst (λ p. start ≤ p) (sym n.2.place ∙ ap (λ (z : Link). z.place) same) (earliest key.0 key.1)
+
 module _ (g h f : Graph) (keys left : List ℕ) (cid : Cid) (lost : ℕ → Bool) (graph : IsGraph g keys) (told : AreTold g keys cid lost)
     (forgotten : HasForgotten g h (IsGone g lost)) (closed : HasClosedUp h lost keys f left) where
   -- what a node that is left was before
@@ -45,6 +55,7 @@ module _ (g h f : Graph) (keys left : List ℕ) (cid : Cid) (lost : ℕ → Bool
     fewer : (d : ℕ) → Contains m.dependents d → Contains was.dependents d
     none : (d : ℕ) → Contains m.dependents d → lost d ≡ true → ⊥
     keep : (d : ℕ) → Contains was.dependents d → lost d ≡ false → Contains m.dependents d
+    once : Distinct was.dependents → Distinct m.dependents
 
   none_some : {X : Type 0} {x : X} → None ≡ Some x → ⊥
   none_some e = cc
@@ -78,6 +89,7 @@ module _ (g h f : Graph) (keys left : List ℕ) (cid : Cid) (lost : ℕ → Bool
         fewer = λ d c. (fewer d c).0;
         none = λ d c gone. (fewer d c).1 (gone, stays, graph.caused d k (l, at, (fewer d c).0));
         keep = λ d c free. subst (λ (z : Link). Contains z.dependents d) moved (subst (λ (z : Link). Contains z.dependents d) one (o.4 d c (λ is. false≢true (sym free ∙ is.0))));
+        once = λ once. subst (λ (z : Link). Distinct z.dependents) moved (forgotten.once k l n.0 at n.1 once);
       }
 
   left_from : (k : ℕ) (m : Link) (o : Option Link) → f k ≡ Some m → g k ≡ o → IsLeft k m
@@ -139,6 +151,7 @@ module _ (g h f : Graph) (keys left : List ℕ) (cid : Cid) (lost : ℕ → Bool
     };
     depends = left_depends;
     caused = left_caused;
+    once = λ k m has. let mine = is_left k m has in mine.once (graph.once k mine.was mine.had);
     apart = left_apart;
   }
 
@@ -156,3 +169,27 @@ module _ (g h f : Graph) (keys left : List ℕ) (cid : Cid) (lost : ℕ → Bool
 
   pub left_found : (rows : List Row) → AreFound rows g → AreFound rows f
   left_found rows found k m has = let mine = is_left k m has in ap (key_at rows) mine.pair ∙ found k mine.was mine.had
+
+  -- who made the removals that are left
+  by_left : (c : Cid) (k : ℕ) → IsBy g c k → lost k ≡ false → IsBy f c k
+  by_left c k by stays =
+      let n = key_left k (by.0, by.1) stays in
+      let mine = is_left k n.0 n.1 in (n.0, n.1, mine.by ∙ ap (λ (z : Link). z.by) (link_same g k mine.was by.0 mine.had by.1) ∙ by.2)
+
+  -- its threads have exactly them
+  pub left_threaded : (threads : Threads) → AreThreaded threads g (λ k. IsBy g cid k ⊎ (lost k ≡ true)) → AreThreaded threads f (λ k. ⊥)
+  left_threaded threads threaded = record {
+    formed = threaded.formed;
+    sound = λ c k m.
+        let r = threaded.sound c k m in
+        let stays : lost k ≡ false = elim (cases_Bool (lost k)) [ inl t ↦ absurd (r.1 (inr t)) | inr e ↦ e ] in
+        (by_left c k r.0 stays, λ never. never);
+    whole = λ c k by out.
+        let mine = is_left k by.0 by.1 in
+        threaded.whole c k (mine.was, mine.had, sym mine.by ∙ by.2) (λ o. elim o [
+          | inl own ↦
+              told_false (lost k) (NamesAt g keys cid k) (told k (key_member g keys k graph.places (own.0, own.1))) mine.stays (names_own g keys k own.0 cid own.1 own.2)
+          | inr t ↦ false≢true (sym mine.stays ∙ t)
+        ]);
+    once = threaded.once;
+  }

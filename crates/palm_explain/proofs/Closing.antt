@@ -2,7 +2,7 @@
 use Rattle.std.proofs.Common.{◌≡◌, ◌≢◌, ℕ, zero, suc, ◌+◌, ◌<◌, ◌≤◌, Bool, true, false, not, cond, List, [], ◌∷◌, ◌++◌, length, take, drop, set, get_or, Option, Some, None, Contains, slice_get, inl, inr, refl, sym, ap, ◌∙◌, subst, arith}
 use Rattle.std.proofs.lemmas.Bool.{cases_Bool, false≢true}
 use Rattle.std.proofs.lemmas.Option.{slice_get_within, slice_get-get_or}
-use Rattle.std.proofs.lemmas.List.{append-nil, drop-set-lt, length-append, length-set, take_all, take_more_set}
+use Rattle.std.proofs.lemmas.List.{append-nil, drop-set-lt, length-append, length-set, length-take-le, take_all, take_more_set}
 use Rattle.std.proofs.lemmas.List.Elements.{filter-append, Contains-push_cases}
 use Rattle.palm_base.proofs.Members.{filter_member, member_nil, member_here, member_there, member_cases, member_filter, member_get, member_place}
 use Rattle.palm_explain.specs.Graph.{Graph, HasClosedUp, IsKey, IsMoved, IsPlaced, IsTakenOut, Link}
@@ -13,7 +13,7 @@ use Rattle.palm_explain.proofs.PuttingBack.{take_next, taken_one}
 
 -- ---- places before and from a place on
 
-taken_place : {X : Type 0} (n : ℕ) (xs : List X) (x : X) → Contains (take n xs) x → (i : ℕ) × (i < n) × (slice_get xs i ≡ Some x)
+pub taken_place : {X : Type 0} (n : ℕ) (xs : List X) (x : X) → Contains (take n xs) x → (i : ℕ) × (i < n) × (slice_get xs i ≡ Some x)
 taken_place zero xs x m = absurd (member_nil x m)
 taken_place (suc n) [] x m = absurd (member_nil x m)
 taken_place (suc n) (y ∷ xs) x m = elim (member_cases y (take n xs) x m) [
@@ -25,6 +25,12 @@ dropped_place : {X : Type 0} (n : ℕ) (xs : List X) (x : X) → Contains (drop 
 dropped_place zero xs x m = let r = member_place xs x m in (r.0, omega arith, r.1)
 dropped_place (suc n) [] x m = absurd (member_nil x m)
 dropped_place (suc n) (y ∷ xs) x m = let r = dropped_place n xs x m in (suc r.0, omega (arith, r.1), r.2)
+
+pub place_dropped : {X : Type 0} (n : ℕ) (xs : List X) (i : ℕ) (x : X) → n ≤ i → slice_get xs i ≡ Some x → Contains (drop n xs) x
+place_dropped zero xs i x le at = member_get xs i x at
+place_dropped (suc n) [] i x le at = cc
+place_dropped (suc n) (y ∷ xs) zero x le at = absurd (omega (arith, le))
+place_dropped (suc n) (y ∷ xs) (suc i) x le at = place_dropped n xs i x (omega (arith, le)) at
 
 pub drop_first : {X : Type 0} (xs : List X) (i : ℕ) (x : X) → slice_get xs i ≡ Some x → drop i xs ≡ x ∷ drop (suc i) xs
 drop_first [] i x at = cc
@@ -61,18 +67,47 @@ pub record IsClosing (g : Graph) (marks : ℕ → Bool) (old : List ℕ) (f : Gr
   pub later : (k : ℕ) → Contains (drop place old) k → (f k ≡ g k) × (now k ≡ marks k)
   pub none : (k : ℕ) → g k ≡ None → (f k ≡ None) × (now k ≡ false)
 
-pub closing_none : (g : Graph) (marks : ℕ → Bool) (old : List ℕ) → ((k : ℕ) → g k ≡ None → marks k ≡ false) → IsClosing g marks old g marks old 0 0
-closing_none g marks old none = record {
-  long = refl;
-  rest = refl;
-  first = refl;
-  few = refl;
-  behind = omega arith;
-  kept = λ j k at. cc;
-  gone = λ k m is. absurd (member_nil k m);
-  later = λ k m. (refl, refl);
-  none = λ k e. (e, none k e);
-}
+kept_all : (marks : ℕ → Bool) (xs : List ℕ) → ((k : ℕ) → Contains xs k → marks k ≡ false) → kept_of marks xs ≡ xs
+kept_all marks [] none = refl
+kept_all marks (x ∷ xs) none =
+    ap (λ b. cond (not b) (x ∷ kept_of marks xs) (kept_of marks xs)) (none x (member_here x xs)) ∙ ap (λ l. x ∷ l) (kept_all marks xs (λ k m. none k (member_there x xs k m)))
+
+taken_at : (n : ℕ) (xs : List ℕ) (i x : ℕ) → slice_get (take n xs) i ≡ Some x → slice_get xs i ≡ Some x
+taken_at zero xs i x at = cc
+taken_at (suc n) [] i x at = cc
+taken_at (suc n) (y ∷ xs) zero x at = at
+taken_at (suc n) (y ∷ xs) (suc i) x at = taken_at n xs i x at
+
+-- where no mark stands before a place the log is closed up below it
+module _ (g : Graph) (marks : ℕ → Bool) (old : List ℕ) (start : ℕ) (placed : IsPlaced g old) (within : start ≤ length old) (earliest : (k : ℕ) (l : Link) → marks k ≡ true → g k ≡ Some l → start ≤ l.place)
+    (none : (k : ℕ) → g k ≡ None → marks k ≡ false) where
+  unmarked_before : (k : ℕ) → Contains (take start old) k → marks k ≡ false
+  unmarked_before k m =
+      let t = taken_place start old k m in
+      let l = placed.placed t.0 k t.2 in
+      elim (cases_Bool (marks k)) [
+        | inl is ↦ let le = earliest k l.0 is l.1 in let p = l.2 in absurd (omega (arith, t.1, le, p))
+        | inr e ↦ e
+      ]
+
+  all_kept : kept_of marks (take start old) ≡ take start old
+  all_kept = kept_all marks (take start old) unmarked_before
+
+  pub closing_start : IsClosing g marks old g marks old start start
+  closing_start = record {
+    long = refl;
+    rest = refl;
+    first = sym all_kept;
+    few = sym (ap length all_kept ∙ length-take-le start old within);
+    behind = omega arith;
+    kept = λ j k at.
+        let was = subst (λ l. slice_get l j ≡ Some k) all_kept at in
+        let l = placed.placed j k (taken_at start old j k was) in
+        (l.0, l.1, l.1 ∙ ap (λ p. Some (record l.0 { place = p })) l.2, unmarked_before k (member_get (take start old) j k was));
+    gone = λ k m is. absurd (false≢true (sym (unmarked_before k m) ∙ is));
+    later = λ k m. (refl, refl);
+    none = λ k e. (e, none k e);
+  }
 
 module _ (g : Graph) (marks : ℕ → Bool) (old : List ℕ) (f h : Graph) (now next : ℕ → Bool) (keys : List ℕ) (place end k : ℕ) (placed : IsPlaced g old)
     (closing : IsClosing g marks old f now keys place end) (at : slice_get old place ≡ Some k) where

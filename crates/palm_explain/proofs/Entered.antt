@@ -2,10 +2,12 @@
 use Rattle.std.proofs.Common.{◌≡◌, ◌≢◌, ℕ, zero, suc, List, [], ◌∷◌, ◌++◌, length, map, Option, Some, None, Contains, slice_get, ◌⊎◌, inl, inr, refl, sym, ap, ap₂, ◌∙◌, subst}
 use Rattle.std.proofs.lemmas.Bool.{cases_eq}
 use Rattle.std.proofs.lemmas.List.{map-append}
+use Rattle.palm_base.specs.declared.terms.Cid.{Cid}
 use Rattle.palm_base.proofs.Members.{member_nil, member_same, map_agree}
 use Rattle.palm_model.specs.Log.{Removal, log_pairs}
 use Rattle.palm_explain.specs.declared.rows.Row.{Row}
-use Rattle.palm_explain.specs.Graph.{AreFound, Graph, HasLinked, IsCause, IsDependent, IsGraph, IsKey, IsPlaced, IsSameNode, Link, log_of, pair_at, removal_at}
+use Rattle.palm_model.specs.Constraint.{Distinct}
+use Rattle.palm_explain.specs.Graph.{AreFound, AreOnce, Graph, HasLinked, IsBy, IsCause, IsDependent, IsGraph, IsKey, IsPlaced, IsSameNode, IsTailed, Link, log_of, pair_at, removal_at}
 use Rattle.palm_explain.specs.Rows.{key_at}
 use Rattle.palm_explain.proofs.Graphs.{cause_key, key_pair, member_key, pair_is, removal_is, some_same}
 
@@ -37,6 +39,7 @@ pub record IsEntered (g f : Graph) (key : ℕ) (new : Link) : Type 0 where
   pub some : (k : ℕ) (l : Link) → g k ≡ Some l → (m : Link) × (f k ≡ Some m) × IsSameNode l m
       × ((d : ℕ) → Contains m.dependents d → Contains l.dependents d ⊎ ((key ≡ d) × Contains new.causes k))
       × ((d : ℕ) → Contains l.dependents d ⊎ ((key ≡ d) × Contains new.causes k) → Contains m.dependents d)
+  pub once : (k : ℕ) (l m : Link) → g k ≡ Some l → f k ≡ Some m → IsTailed key l.dependents → IsTailed key m.dependents
 
 -- linked, and then stored under a vacant key
 pub entered : (g h f : Graph) (key : ℕ) (new : Link) → HasLinked g h new.causes key → g key ≡ None → f key ≡ Some new → new.dependents ≡ [] → ((k : ℕ) → k ≢ key → f k ≡ h k) → IsEntered g f key new
@@ -48,6 +51,9 @@ entered g h f key new linked vacant there alone others = record {
   some = λ k l at.
       let n : k ≢ key = λ e. none_some (sym (subst (λ j. g j ≡ Some l) e at) ∙ vacant) in
       let m = linked.some k l at in (m.0, others k n ∙ m.1, m.2, m.3, m.4);
+  once = λ k l m at has tailed.
+      let n : k ≢ key = λ e. none_some (sym (subst (λ j. g j ≡ Some l) e at) ∙ vacant) in
+      linked.once k l m at (sym (others k n) ∙ has) tailed;
 }
   where
     none_some : {X : Type 0} {x : X} → Some x ≡ None → ⊥
@@ -90,6 +96,16 @@ module _ (g f : Graph) (keys : List ℕ) (key : ℕ) (new : Link) (graph : IsGra
       ap (λ cs. map (pair_at f) cs) m.2.causes ∙ map_agree (pair_at f) (pair_at g) at.0.causes (λ c n. pair_stays c (cause_key g keys c k graph (at.0, at.1, n))) in
       removal_is f k m.0 m.1 ∙ (λ i. record { pair = m.2.pair i; by = m.2.by i; reasons = reasons i }) ∙ sym (removal_is g k at.0 at.1)
 
+  -- who made the removals
+  pub entered_by : (c : Cid) (k : ℕ) → IsBy f c k → IsBy g c k ⊎ ((key ≡ k) × (new.by ≡ c))
+  entered_by c k b = elim (node_cases k b.0 b.1) [
+    | inl e ↦ inr (e.0, ap (λ (z : Link). z.by) e.1 ∙ b.2)
+    | inr o ↦ inl (o.0, o.1, sym o.2.by ∙ b.2)
+  ]
+
+  pub by_entered : (c : Cid) (k : ℕ) → IsBy g c k → IsBy f c k
+  by_entered c k b = let m = is.some k b.0 b.1 in (m.0, m.1, m.2.by ∙ b.2)
+
   module _ (place : new.place ≡ length keys) (causes : (c : ℕ) → Contains new.causes c → IsKey g c) (fresh : Contains (log_pairs (log_of g keys)) new.pair → ⊥) where
     entered_placed : IsPlaced f (keys ++ key ∷ [])
     entered_placed = record {
@@ -125,6 +141,14 @@ module _ (g f : Graph) (keys : List ℕ) (key : ℕ) (new : Link) (graph : IsGra
       ]
     ]
 
+    entered_once : AreOnce f
+    entered_once k m has = elim (node_cases k m has) [
+      | inl e ↦ subst (λ (z : Link). Distinct z.dependents) e.1 (subst Distinct (sym is.alone) tt)
+      | inr o ↦
+          let free : Contains o.0.dependents key → ⊥ = λ d. let a = graph.caused key k (o.0, o.1, d) in old_key key a.0 a.1 refl in
+          (is.once k o.0 m o.1 has (graph.once k o.0 o.1, λ d. absurd (free d))).0
+    ]
+
     new_apart : (k : ℕ) → IsKey g k → pair_at f key ≡ pair_at f k → ⊥
     new_apart k at same =
         fresh (member_same (log_pairs (log_of g keys)) (pair_at g k) new.pair (sym (pair_stays k at) ∙ sym same ∙ pair_is f key new is.there) (key_pair g keys k graph.places at))
@@ -142,7 +166,7 @@ module _ (g f : Graph) (keys : List ℕ) (key : ℕ) (new : Link) (graph : IsGra
     ]
 
     pub entered_graph : IsGraph f (keys ++ key ∷ [])
-    entered_graph = record { places = entered_placed; depends = entered_depends; caused = entered_caused; apart = entered_apart }
+    entered_graph = record { places = entered_placed; depends = entered_depends; caused = entered_caused; once = entered_once; apart = entered_apart }
 
     -- the log has the removal behind the others
     pub entered_log : (r : Removal) → r.pair ≡ new.pair → r.by ≡ new.by → map (pair_at g) new.causes ≡ r.reasons → log_of f (keys ++ key ∷ []) ≡ log_of g keys ++ r ∷ []

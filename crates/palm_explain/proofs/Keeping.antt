@@ -1,12 +1,11 @@
 -- What stays when a name goes: of the log, of the lost pairs, and of the pairs that a store lacks.
-use Rattle.std.proofs.Common.{◌≡◌, ℕ, ℤ, ◌<◌, Bool, true, false, not, cond, List, [], ◌∷◌, length, get_or, Contains, All, inl, inr, refl, sym, ap, ◌∙◌, subst, arith, nat_eq}
-use Rattle.indexmap.specs.IndexSet.{insert_all}
+use Rattle.std.proofs.Common.{◌≡◌, ℕ, ℤ, ◌<◌, Bool, true, false, not, cond, List, [], ◌∷◌, length, get_or, Contains, All, inl, inr, refl, sym, ap, ◌∙◌, subst, arith}
 use Rattle.std.proofs.lemmas.Bool.{cases_Bool}
 use Rattle.std.proofs.lemmas.List.{same_lists, get_or_default, length-map}
 use Rattle.palm_base.specs.Tells.{Tells}
 use Rattle.palm_base.specs.declared.terms.Pair.{Pair}
 use Rattle.palm_base.specs.declared.terms.Cid.{Cid}
-use Rattle.palm_base.proofs.Members.{member_nil, member_here, member_there, member_same, member_single, member_map, member_unmap}
+use Rattle.palm_base.proofs.Members.{member_here, member_there, member_same, member_single, member_map, member_unmap}
 use Rattle.palm_domain.specs.Rows.{Row, Ascends, IsDeclared, IsPresent, initial_of, present_of}
 use Rattle.palm_domain.proofs.Ascending.{same_ascending}
 use Rattle.palm_model.specs.Domains.{Domains, Has, without}
@@ -21,7 +20,7 @@ use Rattle.palm_explain.specs.Graph.{Graph, log_of, removal_at}
 use Rattle.palm_explain.specs.Lost.{AreTold, HasBack, kept_of, lost_of}
 use Rattle.palm_explain.proofs.Linked.{left_linked, pairs_more}
 use Rattle.palm_explain.proofs.Withdrawn.{lost_logged, lost_or_left, lost_names, names_lost}
-use Rattle.palm_explain.proofs.PuttingBack.{lost_entry, entry_lost, entry_logged, noted_member, member_noted}
+use Rattle.palm_explain.proofs.PuttingBack.{lost_entry, entry_lost, entry_logged}
 
 -- ---- the log
 
@@ -86,20 +85,18 @@ log_lost_of g cid lost es told p m =
     let r = lost_names (log_of g es) (cid ∷ []) (log_of g (kept_of lost es)) (loses_kept g cid lost es told) p m in
     member_same (lost_of g lost es) r.0.pair p r.2 (named_lost g cid lost es told r.0 r.1 r.3)
 
-vars_more : (ps qs : List Pair) → ((p : Pair) → Contains ps p → Contains qs p) → (x : ℕ) → Contains (vars_of ps) x → Contains (vars_of qs) x
+pub vars_more : (ps qs : List Pair) → ((p : Pair) → Contains ps p → Contains qs p) → (x : ℕ) → Contains (vars_of ps) x → Contains (vars_of qs) x
 vars_more ps qs sub x m =
     let p = member_unmap (λ (z : Pair). z.var) ps x m in member_same (vars_of qs) p.0.var x p.2 (member_map (λ (z : Pair). z.var) qs p.0 (sub p.0 p.1))
 
 -- the variables that are noted are those of the lost pairs
-pub noted_vars : (g : Graph) (cid : Cid) (lost : ℕ → Bool) (es keys : List ℕ) → IsLinked (log_of g es) → AreTold g es cid lost → keys ≡ insert_all nat_eq [] (vars_of (lost_of g lost es)) → (x : ℕ)
+pub noted_vars : (g : Graph) (cid : Cid) (lost : ℕ → Bool) (es keys : List ℕ) → IsLinked (log_of g es) → AreTold g es cid lost → (x : ℕ)
+    → (Contains keys x → Contains (vars_of (lost_of g lost es)) x) × (Contains (vars_of (lost_of g lost es)) x → Contains keys x)
     → (Contains keys x → Contains (vars_of (lost_pairs (log_of g es) (log_of g (kept_of lost es)))) x) × (Contains (vars_of (lost_pairs (log_of g es) (log_of g (kept_of lost es)))) x → Contains keys x)
-noted_vars g cid lost es keys linked told noted x =
+noted_vars g cid lost es keys linked told x noted =
     let gone = lost_pairs (log_of g es) (log_of g (kept_of lost es)) in (
-      λ m. elim (noted_member [] (vars_of (lost_of g lost es)) x (subst (λ l. Contains l x) noted m)) [
-        | inl n ↦ absurd (member_nil x n)
-        | inr n ↦ vars_more (lost_of g lost es) gone (lost_of_log g cid lost es linked told) x n
-      ],
-      λ m. subst (λ l. Contains l x) (sym noted) (member_noted [] (vars_of (lost_of g lost es)) x (inr (vars_more gone (lost_of g lost es) (log_lost_of g cid lost es told) x m))),
+      λ m. vars_more (lost_of g lost es) gone (lost_of_log g cid lost es linked told) x (noted.0 m),
+      λ m. noted.1 (vars_more gone (lost_of g lost es) (log_lost_of g cid lost es told) x m),
     )
 
 -- ---- the store

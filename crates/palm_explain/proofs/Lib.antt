@@ -17,3 +17,7 @@ mod Changes
 mod Stores
 mod Reading
 mod Visits
+mod Chains
+mod ThreadKeys
+mod Going
+mod Once

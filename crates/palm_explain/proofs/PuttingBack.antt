@@ -3,24 +3,20 @@ use Rattle.std.proofs.Common.{◌≡◌, ℕ, zero, suc, ◌+◌, ◌<◌, ◌�
 use Rattle.std.specs.List.{list_any}
 use Rattle.indexmap.specs.IndexSet.{insert_all, insert_key}
 use Rattle.std.proofs.lemmas.Bool.{false≢true}
-use Rattle.std.proofs.lemmas.List.{map-append, length-append, length-map, length-take-le, take-append-drop, take_all}
+use Rattle.std.proofs.lemmas.List.{map-append, length-append, length-map, length-take-le, take_all}
 use Rattle.std.proofs.lemmas.List.Elements.{filter-append, Contains-append_left, Contains-append_right, Contains-append_cases, Contains-push, Contains-push_cases}
 use Rattle.std.proofs.lemmas.List.Filters.{length-filter_both}
 use Rattle.std.proofs.lemmas.List.Sums.{fold-append}
 use Rattle.palm_base.specs.declared.terms.Pair.{Pair}
-use Rattle.palm_base.proofs.Members.{member_nil, member_here, member_there, member_cases, member_same, member_map, member_unmap, filter_member, member_filter, member_take, member_drop, nat_known, int_known}
-use Rattle.palm_domain.specs.Rows.{Row, GainsPair, IsDeclared, IsPresent, initial_of}
+use Rattle.palm_base.proofs.Members.{member_nil, member_here, member_there, member_cases, member_same, member_map, member_unmap, filter_member, member_filter, nat_known, int_known}
+use Rattle.palm_domain.specs.Rows.{Row, GainsPair, IsPresent, initial_of}
 use Rattle.palm_model.specs.Constraint.{Distinct}
 use Rattle.palm_model.specs.Event.{vars_of}
-use Rattle.palm_model.specs.Domains.{values_of}
-use Rattle.palm_model.specs.Log.{log_pairs}
-use Rattle.palm_model.proofs.Without.{pair_of, without_has}
+use Rattle.palm_model.proofs.Without.{pair_of}
 use Rattle.palm_model.proofs.Supports.{any_member, member_any}
-use Rattle.palm_events.proofs.Logs.{pair_logged}
 use Rattle.palm_explain.specs.Graph.{Graph, log_of, removal_at}
 use Rattle.palm_explain.specs.Lost.{HasBack, kept_of, lost_at, lost_of}
-use Rattle.palm_explain.specs.Explanations.{IsLinked, LacksExactly}
-use Rattle.palm_explain.proofs.Linked.{later_fresh, linked_later}
+use Rattle.palm_explain.proofs.Once.{distinct_push}
 
 -- ---- lost pairs
 
@@ -56,7 +52,7 @@ kept_and_lost g lost es =
     let a = length-map (filter lost es) (λ k. (removal_at g k).pair) in
     let b = length-filter_both lost (λ k. not (lost k)) (λ k. refl) es in omega (arith, a, b)
 
-lost_few : (g : Graph) (lost : ℕ → Bool) (es : List ℕ) → length (lost_of g lost es) ≤ length es
+pub lost_few : (g : Graph) (lost : ℕ → Bool) (es : List ℕ) → length (lost_of g lost es) ≤ length es
 lost_few g lost es = let a = kept_and_lost g lost es in omega (arith, a)
 
 pub taken_one : {X : Type 0} (xs : List X) (i : ℕ) (x : X) → slice_get xs i ≡ Some x → take 1 (drop i xs) ≡ x ∷ []
@@ -112,15 +108,15 @@ back_then before middle after ps qs one two = record {
 -- ---- below a place
 
 -- the lost pairs of the places below this one are back, their variables are noted, and there is room for the others
-pub record IsBackBelow (g : Graph) (lost : ℕ → Bool) (es : List ℕ) (before now : List Row) (old keys : List ℕ) (spare place : ℕ) : Type 0 where
+pub record IsBackBelow (g : Graph) (lost : ℕ → Bool) (es : List ℕ) (total : ℕ) (before now : List Row) (old keys : List ℕ) (spare place : ℕ) : Type 0 where
   pub back : HasBack before now (lost_of g lost (take place es))
   pub noted : keys ≡ insert_all nat_eq old (vars_of (lost_of g lost (take place es)))
-  pub room : length es ≤ spare + length (lost_of g lost (take place es))
+  pub room : total ≤ spare + length (lost_of g lost (take place es))
 
-pub back_below_next : (g : Graph) (lost : ℕ → Bool) (es : List ℕ) (before middle now : List Row) (old keys later : List ℕ) (room spare place : ℕ)
-    → IsBackBelow g lost es before middle old keys room place → HasBack middle now (lost_at g lost es place) → later ≡ insert_all nat_eq keys (vars_of (lost_at g lost es place))
-    → room ≤ spare + length (lost_at g lost es place) → IsBackBelow g lost es before now old later spare (place + 1)
-back_below_next g lost es before middle now old keys later room spare place below back noted fits =
+pub back_below_next : (g : Graph) (lost : ℕ → Bool) (es : List ℕ) (total : ℕ) (before middle now : List Row) (old keys later : List ℕ) (room spare place : ℕ)
+    → IsBackBelow g lost es total before middle old keys room place → HasBack middle now (lost_at g lost es place) → later ≡ insert_all nat_eq keys (vars_of (lost_at g lost es place))
+    → room ≤ spare + length (lost_at g lost es place) → IsBackBelow g lost es total before now old later spare (place + 1)
+back_below_next g lost es total before middle now old keys later room spare place below back noted fits =
     let next = lost_next g lost es place in
     let some = lost_of g lost (take place es) in
     let here = lost_at g lost es place in record {
@@ -133,38 +129,14 @@ back_below_next g lost es before middle now old keys later room spare place belo
     }
 
 -- past the last place all lost pairs are back
-pub back_below_all : (g : Graph) (lost : ℕ → Bool) (es : List ℕ) (before now : List Row) (old keys : List ℕ) (room place : ℕ) → IsBackBelow g lost es before now old keys room place → length es ≤ place → HasBack before now (lost_of g lost es)
-back_below_all g lost es before now old keys room place below le = subst (λ l. HasBack before now (lost_of g lost l)) (take_all place es le) below.back
+pub back_below_all : (g : Graph) (lost : ℕ → Bool) (es : List ℕ) (total : ℕ) (before now : List Row) (old keys : List ℕ) (room place : ℕ) → IsBackBelow g lost es total before now old keys room place → length es ≤ place → HasBack before now (lost_of g lost es)
+back_below_all g lost es total before now old keys room place below le = subst (λ l. HasBack before now (lost_of g lost l)) (take_all place es le) below.back
 
 -- there is room for one more
-pub back_below_room : (g : Graph) (lost : ℕ → Bool) (es : List ℕ) (before now : List Row) (old keys : List ℕ) (room place : ℕ) → IsBackBelow g lost es before now old keys room place → place < length es → 0 < room
-back_below_room g lost es before now old keys room place below lt =
+pub back_below_room : (g : Graph) (lost : ℕ → Bool) (es : List ℕ) (total : ℕ) (before now : List Row) (old keys : List ℕ) (room place : ℕ) → IsBackBelow g lost es total before now old keys room place → length es ≤ total → place < length es → 0 < room
+back_below_room g lost es total before now old keys room place below all lt =
     let few = lost_few g lost (take place es) in
-    let short = length-take-le place es (omega arith) in omega (arith, below.room, few, short)
-
--- the pair at a place has another one than the pairs before it
-places_apart : (g : Graph) (es : List ℕ) (i : ℕ) → IsLinked (log_of g es) → (j k : ℕ) → Contains (take i es) j → Contains (drop i es) k → (removal_at g j).pair ≡ (removal_at g k).pair → ⊥
-places_apart g es i linked j k m n same =
-    let split : log_of g es ≡ log_of g (take i es) ++ log_of g (drop i es) = ap (log_of g) (sym (take-append-drop i es)) ∙ map-append (removal_at g) (take i es) (drop i es) in
-    let later = linked_later [] (log_of g (take i es)) (log_of g (drop i es)) (subst IsLinked split linked) in
-    later_fresh (log_of g (take i es)) (log_of g (drop i es)) later (removal_at g k) (entry_logged g (drop i es) k n)
-    (member_same (log_pairs (log_of g (take i es))) (removal_at g j).pair (removal_at g k).pair same (pair_logged (log_of g (take i es)) (removal_at g j) (entry_logged g (take i es) j m)))
-
--- the pair at the place is still out
-pub back_below_out : (g : Graph) (lost : ℕ → Bool) (es : List ℕ) (before now : List Row) (old keys : List ℕ) (room place : ℕ) → IsLinked (log_of g es) → LacksExactly before (log_pairs (log_of g es))
-    → IsBackBelow g lost es before now old keys room place → (p : Pair) → Contains (lost_at g lost es place) p → IsDeclared now p.var p.value × (IsPresent now p.var p.value → ⊥)
-back_below_out g lost es before now old keys room place linked lacks below p m =
-    let e = lost_entry g lost (take 1 (drop place es)) p m in
-    let dropped = member_take 1 (drop place es) e.0 e.1 in
-    let in_log : Contains (log_pairs (log_of g es)) p = member_same (log_pairs (log_of g es)) (removal_at g e.0).pair p e.2 (pair_logged (log_of g es) (removal_at g e.0) (entry_logged g es e.0 (member_drop place es e.0 dropped))) in (
-      subst (λ lists. Contains (values_of lists p.var) p.value) (sym below.back.initial) (lacks.declared p in_log),
-      λ h. elim (below.back.sound p.var p.value h) [
-        | inl k ↦ (without_has (initial_of before) (log_pairs (log_of g es)) p.var p.value (subst (λ lists. Contains (values_of lists p.var) p.value) lacks.present k)).1 in_log
-        | inr k ↦
-            let d = lost_entry g lost (take place es) p k in
-            places_apart g es place linked d.0 e.0 d.1 dropped (d.2 ∙ sym e.2)
-      ],
-    )
+    let short = length-take-le place es (omega arith) in omega (arith, below.room, few, short, all, lt)
 
 -- ---- noted variables
 
@@ -174,13 +146,6 @@ any_same k ks h = let r = any_member (nat_eq k) ks h in member_same ks r.0 k (sy
 insert_cases : (ks : List ℕ) (k : ℕ) (b : Bool) → list_any (nat_eq k) ks ≡ b → (insert_key nat_eq ks k ≡ ks) × Contains ks k ⊎ (insert_key nat_eq ks k ≡ ks ++ k ∷ []) × (Contains ks k → ⊥)
 insert_cases ks k true e = inl (ap (λ c. cond c ks (ks ++ k ∷ [])) e, any_same k ks e)
 insert_cases ks k false e = inr (ap (λ c. cond c ks (ks ++ k ∷ [])) e, λ m. false≢true (sym e ∙ member_any (nat_eq k) ks k m (eq-eqb k k refl)))
-
-distinct_push : (ks : List ℕ) (k : ℕ) → Distinct ks → (Contains ks k → ⊥) → Distinct (ks ++ k ∷ [])
-distinct_push [] k once free = (member_nil k, tt)
-distinct_push (j ∷ ks) k once free = (
-  λ m. elim (Contains-push_cases ks k j m) [ inl n ↦ once.0 n | inr e ↦ free (member_same (j ∷ ks) j k (sym e) (member_here j ks)) ],
-  distinct_push ks k once.1 (λ m. free (member_there j ks k m)),
-)
 
 distinct_inserted : (ks : List ℕ) (k : ℕ) → Distinct ks → Distinct (insert_key nat_eq ks k)
 distinct_inserted ks k once = elim (insert_cases ks k (list_any (nat_eq k) ks) refl) [

@@ -1,5 +1,5 @@
 -- Lists of names that rise: looking a name up by halves, and adding one.
-use Rattle.std.proofs.Common.{◌≡◌, ℕ, zero, suc, ℤ, ◌+◌, ◌<◌, ◌≤◌, ◌<ℤ◌, true, ◌&&◌, List, [], ◌∷◌, ◌++◌, length, get_or, take, drop, Contains, Ordering, Less, Equal, Greater, Result, Ok, Err, is_ok, int_lt, nat_eq, ◌⊎◌, ⊎_elim, inl, inr, refl, sym, ap, ◌∙◌, subst, arith, eq-eqb}
+use Rattle.std.proofs.Common.{◌≡◌, ℕ, zero, suc, ℤ, ◌+◌, ◌<◌, ◌≤◌, ◌<ℤ◌, true, ◌&&◌, List, [], ◌∷◌, ◌++◌, length, get_or, take, drop, slice_get, Some, Contains, Ordering, Less, Equal, Greater, Result, Ok, Err, is_ok, int_lt, nat_eq, ◌⊎◌, ⊎_elim, inl, inr, refl, sym, ap, ◌∙◌, subst, arith, eq-eqb}
 use Rattle.std.specs.Prelude.{nat_lt}
 use Rattle.std.specs.List.{insert}
 use Rattle.std.specs.List.Sorted.{IsBinarySearchResult, IsSearchInRange, IsPartitionPoint}
@@ -9,6 +9,7 @@ use Rattle.std.proofs.lemmas.Int.{ints}
 use Rattle.std.proofs.lemmas.Bool.{and_from, or_left, or_right, lt-ltb, cases_lt}
 use Rattle.std.proofs.lemmas.List.{get_or-take, get_or-drop, length-take-le, length-drop, take-append-drop, take_more}
 use Rattle.std.proofs.lemmas.List.Elements.{All-contains, Contains-append_left, Contains-append_right, Contains-append_cases}
+use Rattle.std.proofs.lemmas.Option.{slice_get-get_or}
 use Rattle.palm_base.specs.declared.terms.Pair.{Pair}
 use Rattle.palm_base.specs.declared.terms.Cid.{Cid}
 use Rattle.palm_base.specs.declared.terms.Cid.TheVariants.{Decide, Not, User}
@@ -118,6 +119,9 @@ module _ (cmp : Cid → Cid → Ordering) (rank : Ranks cmp) where
   pub found : (names : List Cid) (t : Cid) (i : ℕ) → i < length names → IsBinarySearchResult (λ y. cmp y t) names (Ok i) → Contains names t
   found names t i lt h = (i, lt, is_same (get_or names i t) t (h t))
 
+  stands : (names : List Cid) (t : Cid) (i : ℕ) → i < length names → IsBinarySearchResult (λ y. cmp y t) names (Ok i) → slice_get names i ≡ Some t
+  stands names t i lt h = slice_get-get_or names i t lt ∙ ap Some (is_same (get_or names i t) t (h t))
+
   not_found : (names : List Cid) (t : Cid) (i : ℕ) → Rises names → IsBinarySearchResult (λ y. cmp y t) names (Err i) → Contains names t → ⊥
   not_found names t i rises h m =
       let parts = parted names t i rises h in
@@ -191,6 +195,16 @@ pub added : (cmp : Cid → Cid → Ordering) → Ranks cmp → (names : List Cid
 added cmp rank names t (Ok k) i e rises within h = cc
 added cmp rank names t (Err k) i e rises within h =
     let same : k ≡ i = cc in subst (λ n. IsMerged names (t ∷ []) (insert names n t)) same (inserted cmp rank names t k rises within h)
+
+-- where the search finds the name, it stands at the place that the search tells, and else nowhere
+pub place_found : (cmp : Cid → Cid → Ordering) → Ranks cmp → (names : List Cid) (t : Cid) (r : Result ℕ ℕ) (i : ℕ) → r ≡ Ok i → IsSearchInRange r (length names) → IsBinarySearchResult (λ y. cmp y t) names r → slice_get names i ≡ Some t
+place_found cmp rank names t (Err k) i e within h = cc
+place_found cmp rank names t (Ok k) i e within h = let same : k ≡ i = cc in subst (λ n. slice_get names n ≡ Some t) same (stands cmp rank names t k within h)
+
+pub place_missing : (cmp : Cid → Cid → Ordering) → Ranks cmp → (names : List Cid) (t : Cid) (r : Result ℕ ℕ) (i : ℕ) → r ≡ Err i → Rises names → IsSearchInRange r (length names) → IsBinarySearchResult (λ y. cmp y t) names r
+    → (i ≤ length names) × (Contains names t → ⊥)
+place_missing cmp rank names t (Ok k) i e rises within h = cc
+place_missing cmp rank names t (Err k) i e rises within h = let same : k ≡ i = cc in (subst (λ n. n ≤ length names) same within, not_found cmp rank names t k rises h)
 
 -- ---- merging
 

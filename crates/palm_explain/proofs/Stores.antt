@@ -1,27 +1,33 @@
 -- What holds between calls: after a removal is entered, and after a withdrawal.
-use Rattle.std.proofs.Common.{◌≡◌, ℕ, ◌+◌, ◌≤◌, true, false, List, [], ◌∷◌, ◌++◌, length, map, Option, Some, None, Contains, All, nat_eq, Result, Ok, Err, OnOk, inl, inr, refl, sym, ap, ◌∙◌, subst, arith}
+use Rattle.std.proofs.Common.{◌≡◌, ℕ, ◌+◌, ◌≤◌, true, false, List, [], ◌∷◌, ◌++◌, length, map, Option, Some, None, Contains, All, Result, Ok, Err, OnOk, ◌⊎◌, inl, inr, refl, sym, ap, ◌∙◌, subst, arith}
 use Rattle.std.proofs.lemmas.List.{length-append}
 use Rattle.std.proofs.lemmas.Bool.{cases_eq}
-use Rattle.indexmap.specs.IndexSet.{insert_all}
+use Rattle.std.proofs.lemmas.List.Elements.{Contains-append_left, Contains-push, Contains-push_cases}
 use Rattle.slab.specs.Slab.{Slab, Updates, get}
 use Rattle.palm_base.specs.declared.terms.Pair.{Pair}
 use Rattle.palm_base.specs.declared.terms.Cid.{Cid}
 use Rattle.palm_base.proofs.Members.{member_same}
+use Rattle.palm_events.proofs.Names.{cid_known}
 use Rattle.palm_domain.specs.Rows.{Row as StoreRow, Ascends, initial_of, present_of}
+use Rattle.palm_model.specs.Constraint.{Distinct}
 use Rattle.palm_model.specs.Event.{lost_pairs, vars_of}
 use Rattle.palm_model.specs.Log.{Loses, log_pairs}
 use Rattle.palm_explain.specs.declared.node.Node.{Node}
 use Rattle.palm_explain.specs.declared.rows.Row.{Row}
+use Rattle.palm_explain.specs.declared.threads.Threads.{Threads}
 use Rattle.palm_explain.specs.Explanations.{IsLink, IsLinked, LacksExactly}
-use Rattle.palm_explain.specs.Graph.{AreFound, HasClosedUp, HasForgotten, HasLinked, HasNoMark, IsCause, IsGraph, IsKept, IsKey, Link, graph_of, has_mark, link_of, log_of, marks_of, pair_at}
+use Rattle.palm_explain.specs.Graph.{AreFound, HasClosedUp, HasForgotten, HasLinked, HasNoMark, IsBy, IsCause, IsGraph, IsKept, IsKey, Link, graph_of, has_mark, link_of, log_of, marks_of, pair_at}
 use Rattle.palm_explain.specs.Lost.{AreTold, HasBack, kept_of, lost_of}
 use Rattle.palm_explain.specs.Rows.{AreFormedRows, key_at}
-use Rattle.palm_explain.proofs.ClosedUp.{IsGone, left_found, left_graph, left_log}
-use Rattle.palm_explain.proofs.Entered.{IsEntered, entered, entered_found, entered_graph, entered_log}
+use Rattle.palm_explain.specs.Threads.{AreFormedThreads, AreThreaded, thread_of}
+use Rattle.palm_explain.proofs.ClosedUp.{IsGone, left_found, left_graph, left_log, left_threaded}
+use Rattle.palm_explain.proofs.Entered.{IsEntered, by_entered, entered, entered_by, entered_found, entered_graph, entered_log}
 use Rattle.palm_explain.proofs.Graphs.{key_pair, pair_is}
 use Rattle.palm_explain.proofs.Keeping.{kept_linked, lacks_kept, loses_kept, noted_vars}
 use Rattle.palm_explain.proofs.Linked.{linked_push}
+use Rattle.palm_explain.proofs.Once.{distinct_push}
 use Rattle.palm_explain.proofs.PuttingBack.{kept_and_lost}
+use Rattle.palm_explain.proofs.ThreadKeys.{once_with}
 
 pub on_ok : {T E : Type 0} (r : Result T E) (P Q : Type 0) → (P → Q) → OnOk r P → OnOk r Q
 on_ok (Ok x) P Q f p = f p
@@ -74,15 +80,15 @@ module _ (s t u : Slab Node) (keys : List ℕ) (rows : List Row) (spare key : �
     (are_reasons : map (pair_at (graph_of s)) n.causes.items ≡ reasons) (are_keys : (c : ℕ) → Contains n.causes.items c → IsKey (graph_of s) c) (found : key_at rows n.pair ≡ Some key)
     (linked : HasLinked (graph_of s) (graph_of t) n.causes.items key) (marks : marks_of t ≡ marks_of s) (free : get t key ≡ None) (updates : Updates t u key (Some n))
     (alone : n.dependents.items ≡ []) (place : n.place ≡ length keys) (unmarked : n.mark ≡ false) (room : length keys + 1 ≤ spare) where
+  none_some : {x : Link} → None ≡ Some x → ⊥
+  none_some e = cc
+
   abbrev new : Link
   new = record { pair = n.pair; by = n.by; causes = n.causes.items; dependents = n.dependents.items; place = n.place }
 
   vacant_from : (o : Option Link) → graph_of s key ≡ o → graph_of s key ≡ None
   vacant_from None e = e
   vacant_from (Some l) e = let m = linked.some key l e in absurd (none_some (sym (ap link_of free) ∙ m.1))
-    where
-      none_some : {x : Link} → None ≡ Some x → ⊥
-      none_some e = cc
 
   is_entered : IsEntered (graph_of s) (graph_of u) key new
   is_entered =
@@ -106,6 +112,33 @@ module _ (s t u : Slab Node) (keys : List ℕ) (rows : List Row) (spare key : �
     formed = kept.formed;
     found = entered_found (graph_of s) (graph_of u) keys key new kept.graph is_entered place are_keys fresh rows kept.found found;
     room = let more = length-append keys (key ∷ []) in omega (arith, more, room);
+  }
+
+  -- its thread has one more key
+  pub threaded_entered : (before after : Threads) → AreThreaded before (graph_of s) (λ k. ⊥) → AreFormedThreads after → thread_of after n.by ≡ thread_of before n.by ++ key ∷ []
+      → ((c : Cid) → (n.by ≡ c → ⊥) → thread_of after c ≡ thread_of before c) → AreThreaded after (graph_of u) (λ k. ⊥)
+  threaded_entered before after threaded formed added others = record {
+    formed = formed;
+    sound = λ c k m. (
+      elim (cid_known n.by c) [
+        | inl e ↦ elim (Contains-push_cases (thread_of before n.by) key k (subst (λ l. Contains l k) (ap (thread_of after) (sym e) ∙ added) m)) [
+          | inl o ↦ by_entered (graph_of s) (graph_of u) keys key new kept.graph is_entered c k (threaded.sound c k (subst (λ z. Contains (thread_of before z) k) e o)).0
+          | inr same ↦ (new, subst (λ j. graph_of u j ≡ Some new) same (ap link_of updates.changed), e)
+        ]
+        | inr differs ↦ by_entered (graph_of s) (graph_of u) keys key new kept.graph is_entered c k (threaded.sound c k (subst (λ l. Contains l k) (others c differs) m)).0
+      ],
+      λ never. never,
+    );
+    whole = λ c k by out. elim (entered_by (graph_of s) (graph_of u) keys key new kept.graph is_entered c k by) [
+      | inl o ↦ elim (cid_known n.by c) [
+        | inl e ↦
+            subst (λ z. Contains (thread_of after z) k) e
+            (subst (λ l. Contains l k) (sym added) (Contains-append_left (thread_of before n.by) (key ∷ []) k (subst (λ z. Contains (thread_of before z) k) (sym e) (threaded.whole c k o out))))
+        | inr differs ↦ subst (λ l. Contains l k) (sym (others c differs)) (threaded.whole c k o out)
+      ]
+      | inr e ↦ subst (λ z. Contains (thread_of after z) k) e.1 (subst (λ l. Contains l k) (sym added) (member_same (thread_of before n.by ++ key ∷ []) key k e.0 (Contains-push (thread_of before n.by) key)))
+    ];
+    once = once_with before after n.by threaded.once (subst Distinct (sym added) (distinct_push (thread_of before n.by) key (threaded.once n.by) (λ m. let by = (threaded.sound n.by key m).0 in none_some (sym (vacant_from (graph_of s key) refl) ∙ by.1)))) others;
   }
 
 -- ---- withdrawing
@@ -145,9 +178,13 @@ module _ (s m t u : Slab Node) (keys left : List ℕ) (rows : List Row) (spare l
       subst (λ l. LacksExactly after (log_pairs l)) (sym log_left)
       (lacks_kept (graph_of s) cid (marks_of m) keys before after kept.linked told lacks (subst (λ g. HasBack before after (lost_of g (marks_of m) keys)) graph back) ascend present)
 
-  pub vars_withdrawn : (vars : List ℕ) → vars ≡ insert_all nat_eq [] (vars_of (lost_of (graph_of m) (marks_of m) keys)) → (x : ℕ)
+  pub vars_withdrawn : (vars : List ℕ) (x : ℕ) → (Contains vars x → Contains (vars_of (lost_of (graph_of m) (marks_of m) keys)) x) × (Contains (vars_of (lost_of (graph_of m) (marks_of m) keys)) x → Contains vars x)
       → (Contains vars x → Contains (vars_of (lost_pairs (log_of (graph_of s) keys) (log_of (graph_of u) left))) x)
       × (Contains (vars_of (lost_pairs (log_of (graph_of s) keys) (log_of (graph_of u) left))) x → Contains vars x)
-  vars_withdrawn vars noted x =
+  vars_withdrawn vars x noted =
       subst (λ l. (Contains vars x → Contains (vars_of (lost_pairs (log_of (graph_of s) keys) l)) x) × (Contains (vars_of (lost_pairs (log_of (graph_of s) keys) l)) x → Contains vars x)) (sym log_left)
-      (noted_vars (graph_of s) cid (marks_of m) keys vars kept.linked told (noted ∙ ap (λ g. insert_all nat_eq [] (vars_of (lost_of g (marks_of m) keys))) graph) x)
+      (noted_vars (graph_of s) cid (marks_of m) keys vars kept.linked told x
+      (subst (λ g. (Contains vars x → Contains (vars_of (lost_of g (marks_of m) keys)) x) × (Contains (vars_of (lost_of g (marks_of m) keys)) x → Contains vars x)) graph noted))
+
+  pub threaded_withdrawn : (threads : Threads) → AreThreaded threads (graph_of s) (λ k. IsBy (graph_of s) cid k ⊎ (marks_of m k ≡ true)) → AreThreaded threads (graph_of u) (λ k. ⊥)
+  threaded_withdrawn threads threaded = left_threaded (graph_of s) (graph_of t) (graph_of u) keys left cid (marks_of m) kept.graph told gone shut threads threaded

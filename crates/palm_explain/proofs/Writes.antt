@@ -1,14 +1,15 @@
 -- What a write to one node changes, and what it does not.
-use Rattle.std.proofs.Common.{◌≡◌, ◌≢◌, ℕ, ◌-◌, Bool, true, false, cond, List, [], ◌∷◌, ◌++◌, length, filter, not, Option, Some, None, is_some, IsSome, Contains, slice_get, ◌⊎◌, inl, inr, refl, sym, ap, ◌∙◌, subst, arith, nat_eq, eq-eqb, eqb-true}
-use Rattle.std.proofs.lemmas.Bool.{cases_eq, false≢true}
+use Rattle.std.proofs.Common.{◌≡◌, ◌≢◌, ℕ, ◌-◌, Bool, false, cond, List, [], ◌∷◌, ◌++◌, length, Option, Some, None, is_some, IsSome, Contains, slice_get, ◌⊎◌, inl, inr, refl, sym, ap, ◌∙◌, subst, arith}
+use Rattle.std.proofs.lemmas.Bool.{cases_eq}
 use Rattle.std.proofs.lemmas.List.Elements.{Contains-append_left, Contains-push, Contains-push_cases}
 use Rattle.std.proofs.lemmas.List.{length-append}
 use Rattle.std.proofs.lemmas.List.Sums.{sum_by-set}
 use Rattle.slab.specs.Slab.{ContainsKey, Slab, Updates, get, with_value}
 use Rattle.slab.proofs.SlabLemmas.{ContainsKey-within, Updates-with_value}
-use Rattle.palm_base.proofs.Members.{filter_member, member_filter, member_get, member_here, member_same, member_single}
+use Rattle.palm_base.proofs.Members.{member_get, member_here, member_same, member_single}
+use Rattle.palm_model.specs.Constraint.{Distinct}
 use Rattle.palm_explain.specs.declared.node.Node.{Node}
-use Rattle.palm_explain.specs.Graph.{HasForgotten, HasLinked, IsKey, IsMoved, IsReady, IsReadyAt, IsSameNode, IsTakenOut, KeepsRoom, Link, graph_of, has_mark, link_of, marks_of, said}
+use Rattle.palm_explain.specs.Graph.{HasForgotten, HasLinked, IsKey, IsMoved, IsReady, IsReadyAt, IsSameNode, IsTailed, IsTakenOut, KeepsRoom, Link, graph_of, has_mark, link_of, marks_of, said}
 use Rattle.palm_explain.proofs.Entered.{place_last}
 use Rattle.palm_explain.proofs.Graphs.{link_same, some_same}
 
@@ -104,9 +105,20 @@ module _ (s t : Slab Node) (k : ℕ) (n v : Node) (at : get s k ≡ Some n) (the
     | inr differs ↦ ap link_of (others j differs) ∙ e
   ]
 
+  -- what passes on to the other dependents passes on everywhere
+  dependents_by : (P : List ℕ → Type 0) → (P n.dependents.items → P v.dependents.items) → (j : ℕ) (l m : Link) → graph_of s j ≡ Some l → graph_of t j ≡ Some m → P l.dependents → P m.dependents
+  dependents_by P passes j l m is has p = elim (cases_eq j k) [
+    | inl e ↦
+        let r = same_node l (subst (λ i. graph_of s i ≡ Some l) e is) in
+        let same : r.0 ≡ m = link_same (graph_of t) k r.0 m r.1 (subst (λ i. graph_of t i ≡ Some m) e has) in
+        subst (λ (z : Link). P z.dependents) same (subst P (sym r.3) (passes (subst P r.4 p)))
+    | inr differs ↦ subst (λ (z : Link). P z.dependents) (link_same (graph_of t) j l m (ap link_of (others j differs) ∙ is) has) p
+  ]
+
   pub forgets : (key : ℕ) → ((d : ℕ) → Contains v.dependents.items d → Contains n.dependents.items d × (key ≡ d → ⊥)) → ((d : ℕ) → Contains n.dependents.items d → (key ≡ d → ⊥) → Contains v.dependents.items d)
+      → (Distinct n.dependents.items → Distinct v.dependents.items)
       → (marks : ℕ → Bool) → marks k ≡ false → HasForgotten (graph_of s) (graph_of t) (λ j d. (k ≡ j) × (key ≡ d) × (marks j ≡ false))
-  forgets key fewer keep marks free_mark = record {
+  forgets key fewer keep once marks free_mark = record {
     none = vacant;
     some = λ j l is. elim (cases_eq j k) [
       | inl e ↦
@@ -119,11 +131,12 @@ module _ (s t : Slab Node) (k : ℕ) (n v : Node) (at : get s k ≡ Some n) (the
           )
       | inr differs ↦ (l, ap link_of (others j differs) ∙ is, itself l, λ d m. (m, λ gone. differs (sym gone.0)), λ d m free. m)
     ];
+    once = dependents_by Distinct once;
   }
 
   pub links : (key : ℕ) → ((d : ℕ) → Contains v.dependents.items d → Contains n.dependents.items d ⊎ (key ≡ d)) → ((d : ℕ) → Contains n.dependents.items d ⊎ (key ≡ d) → Contains v.dependents.items d)
-      → HasLinked (graph_of s) (graph_of t) (k ∷ []) key
-  links key only more = record {
+      → (IsTailed key n.dependents.items → IsTailed key v.dependents.items) → HasLinked (graph_of s) (graph_of t) (k ∷ []) key
+  links key only more tailed = record {
     none = vacant;
     some = λ j l is. elim (cases_eq j k) [
       | inl e ↦
@@ -143,6 +156,7 @@ module _ (s t : Slab Node) (k : ℕ) (n v : Node) (at : get s k ≡ Some n) (the
         λ d m. elim m [ inl o ↦ o | inr same ↦ absurd (differs (sym (member_single k j same.1))) ],
       )
     ];
+    once = dependents_by (IsTailed key) tailed;
   }
 
 -- the dependents with one more, and those without one
@@ -157,19 +171,6 @@ there_only ds key d m = inl m
 
 pub there_more : (ds : List ℕ) (key d i : ℕ) → slice_get ds i ≡ Some key → Contains ds d ⊎ (key ≡ d) → Contains ds d
 there_more ds key d i last m = elim m [ inl o ↦ o | inr e ↦ member_same ds key d e (member_get ds i key last) ]
-
--- the dependents without one
-pub filtered_fewer : (ds : List ℕ) (key d : ℕ) → Contains (filter (λ e. not (nat_eq e key)) ds) d → Contains ds d × (key ≡ d → ⊥)
-filtered_fewer ds key d m =
-    let r = filter_member (λ e. not (nat_eq e key)) ds d m in
-    (r.0, λ e. false≢true (sym (ap not (eq-eqb d key (sym e))) ∙ r.1))
-
-pub filtered_keep : (ds : List ℕ) (key d : ℕ) → Contains ds d → (key ≡ d → ⊥) → Contains (filter (λ e. not (nat_eq e key)) ds) d
-filtered_keep ds key d m n = member_filter (λ e. not (nat_eq e key)) ds d m (differs (nat_eq d key) refl)
-  where
-    differs : (b : Bool) → nat_eq d key ≡ b → not b ≡ true
-    differs false e = refl
-    differs true e = absurd (n (sym (eqb-true d key e)))
 
 -- two nodes under one key of the same graph
 pub same_said : (s t : Slab Node) (k : ℕ) (n m : Node) → graph_of t ≡ graph_of s → get s k ≡ Some n → get t k ≡ Some m

@@ -4,6 +4,7 @@ use Rattle.slab.specs.Slab.{Slab, get, slab_len}
 use Rattle.palm_base.specs.declared.terms.Pair.{Pair}
 use Rattle.palm_base.specs.declared.terms.Cid.{Cid}
 use Rattle.palm_base.specs.declared.terms.Cid.TheVariants.{User}
+use Rattle.palm_model.specs.Constraint.{Distinct}
 use Rattle.palm_model.specs.Log.{Removal, Names}
 use Rattle.palm_explain.specs.declared.node.Node.{Node}
 use Rattle.palm_explain.specs.declared.rows.Row.{Row}
@@ -93,16 +94,21 @@ IsBy g cid k = (l : Link) × (g k ≡ Some l) × (l.by ≡ cid)
 abbrev pub IsValueKey : Graph → ℕ → List ℤ → ℕ → Type 0
 IsValueKey g x values k = (v : ℤ) × Contains values v × IsKey g k × (pair_at g k ≡ record { var = x; value = v })
 
+-- no node lists a dependent twice
+abbrev pub AreOnce : Graph → Type 0
+AreOnce g = (k : ℕ) (l : Link) → g k ≡ Some l → Distinct l.dependents
+
 -- the keys of the log are those of the nodes, each at its node's place
 pub record IsPlaced (g : Graph) (keys : List ℕ) : Type 0 where
   pub placed : (i k : ℕ) → slice_get keys i ≡ Some k → (l : Link) × (g k ≡ Some l) × (l.place ≡ i)
   pub logged : (k : ℕ) (l : Link) → g k ≡ Some l → slice_get keys l.place ≡ Some k
 
--- besides, the links in both directions agree, and no pair stands under two keys
+-- besides, the links in both directions agree, none stands twice, and no pair stands under two keys
 pub record IsGraph (g : Graph) (keys : List ℕ) : Type 0 where
   pub places : IsPlaced g keys
   pub depends : (k c : ℕ) → IsCause g c k → IsDependent g k c
   pub caused : (k c : ℕ) → IsDependent g k c → IsCause g c k
+  pub once : AreOnce g
   pub apart : (j k : ℕ) → IsKey g j → IsKey g k → pair_at g j ≡ pair_at g k → j ≡ k
 
 -- ---- changes
@@ -127,12 +133,17 @@ pub record IsSameNode (l m : Link) : Type 0 where
   pub causes : m.causes ≡ l.causes
   pub place : m.place ≡ l.place
 
+-- no key stands twice, and this one at the end or not at all
+abbrev pub IsTailed : ℕ → List ℕ → Type 0
+IsTailed key ds = Distinct ds × (Contains ds key → slice_get ds (length ds - 1) ≡ Some key)
+
 -- the removal under the key is now a dependent of each of these, and nothing else has changed
 pub record HasLinked (g h : Graph) (causes : List ℕ) (key : ℕ) : Type 0 where
   pub none : (k : ℕ) → g k ≡ None → h k ≡ None
   pub some : (k : ℕ) (l : Link) → g k ≡ Some l → (m : Link) × (h k ≡ Some m) × IsSameNode l m
       × ((d : ℕ) → Contains m.dependents d → Contains l.dependents d ⊎ ((key ≡ d) × Contains causes k))
       × ((d : ℕ) → Contains l.dependents d ⊎ ((key ≡ d) × Contains causes k) → Contains m.dependents d)
+  pub once : (k : ℕ) (l m : Link) → g k ≡ Some l → h k ≡ Some m → IsTailed key l.dependents → IsTailed key m.dependents
 
 -- the removals under k have lost exactly the dependents d that are gone for them, and nothing else has changed
 pub record HasForgotten (g h : Graph) (Gone : ℕ → ℕ → Type 0) : Type 0 where
@@ -140,6 +151,7 @@ pub record HasForgotten (g h : Graph) (Gone : ℕ → ℕ → Type 0) : Type 0 w
   pub some : (k : ℕ) (l : Link) → g k ≡ Some l → (m : Link) × (h k ≡ Some m) × IsSameNode l m
       × ((d : ℕ) → Contains m.dependents d → Contains l.dependents d × (Gone k d → ⊥))
       × ((d : ℕ) → Contains l.dependents d → (Gone k d → ⊥) → Contains m.dependents d)
+  pub once : (k : ℕ) (l m : Link) → g k ≡ Some l → h k ≡ Some m → Distinct l.dependents → Distinct m.dependents
 
 -- the node under the key is gone, and nothing else has changed
 pub record IsTakenOut (g h : Graph) (old new : ℕ → Bool) (key : ℕ) : Type 0 where

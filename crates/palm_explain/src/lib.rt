@@ -2,11 +2,14 @@
 #![tactic(auto)]
 
 mod entering;
+mod keys;
 mod laws;
+mod marking;
 mod names;
 mod node;
 mod rows;
 mod store;
+mod threads;
 mod walking;
 mod withdrawing;
 

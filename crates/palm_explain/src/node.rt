@@ -2,8 +2,10 @@
 ghost use Rattle.std.specs.Prelude.{◌≡◌, ◌≢◌, ℕ, false, [], ◌∷◌, OnOk};
 ghost use Rattle.slab.specs.Slab.{get};
 ghost use Rattle.palm_model.specs.Log.{same_cid};
-ghost use Rattle.palm_explain.specs.Graph.{HasForgotten, HasLinked, IsKey, IsMoved, IsReadyAt, KeepsRoom, graph_of, marks_of};
+ghost use Rattle.palm_explain.specs.Chain.{nexts_of};
+ghost use Rattle.palm_explain.specs.Graph.{AreOnce, HasForgotten, HasLinked, IsKey, IsMoved, IsReadyAt, KeepsRoom, graph_of, marks_of};
 
+use crate::keys::take_out;
 use palm_base::{Cid, NoMemory, Pair};
 use slab::Slab;
 use std::alloc::AllocError;
@@ -21,6 +23,8 @@ pub(crate) struct Node {
     pub(crate) place: usize,
     /// Stands while a walk is on its way. No mark stands between calls.
     pub(crate) mark: bool,
+    /// The key of the removal behind this one in the chain of those that a withdrawal loses, while it is on its way.
+    pub(crate) next: usize,
 }
 
 /// The nodes under their keys.
@@ -37,10 +41,22 @@ pub(crate) fn is_by(node: &Node, cid: &Cid) -> bool
 pub(crate) fn set_mark(nodes: &mut Nodes, key: usize, mark: bool)
     requires { IsKey (graph_of nodes.old) key }
     ensures graph { graph_of nodes.new ≡ graph_of nodes.old }
+    ensures nexts { nexts_of nodes.new ≡ nexts_of nodes.old }
     ensures marked { marks_of nodes.new key ≡ mark }
     ensures others { (k : ℕ) → k ≢ key → marks_of nodes.new k ≡ marks_of nodes.old k }
 {
     nodes[key].mark = mark;
+}
+
+/// Links a removal to the one behind it in the chain.
+pub(crate) fn set_next(nodes: &mut Nodes, key: usize, next: usize)
+    requires { IsKey (graph_of nodes.old) key }
+    ensures graph { graph_of nodes.new ≡ graph_of nodes.old }
+    ensures marks { marks_of nodes.new ≡ marks_of nodes.old }
+    ensures linked { nexts_of nodes.new key ≡ next }
+    ensures others { (k : ℕ) → k ≢ key → nexts_of nodes.new k ≡ nexts_of nodes.old k }
+{
+    nodes[key].next = next;
 }
 
 /// Moves a removal to another place of the log.
@@ -83,13 +99,14 @@ pub(crate) fn add_dependent(nodes: &mut Nodes, cause: usize, key: usize)
 
 /// Takes a dependent of a removal out, unless the removal is marked.
 pub(crate) fn forget_dependent(nodes: &mut Nodes, cause: usize, key: usize)
-    requires { IsKey (graph_of nodes.old) cause }
+    requires key { IsKey (graph_of nodes.old) cause }
+    requires once { AreOnce (graph_of nodes.old) }
     ensures forgotten { HasForgotten (graph_of nodes.old) (graph_of nodes.new)
         (λ k d. (cause ≡ k) × (key ≡ d) × (marks_of nodes.old k ≡ false)) }
     ensures marks { marks_of nodes.new ≡ marks_of nodes.old }
 {
     let node = &mut nodes[cause];
     if !node.mark {
-        node.dependents.retain(|dependent| *dependent != key);
+        take_out(&mut node.dependents, key);
     }
 }

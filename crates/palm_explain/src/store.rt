@@ -8,10 +8,12 @@ ghost use Rattle.palm_model.specs.Log.{IsListOf, Loses, NamesOfPair, log_pairs};
 ghost use Rattle.palm_explain.specs.Explanations.{IsLinked, LacksExactly, NamesOfSome, log_bys, reasons_of};
 
 use crate::entering::{causes_of, link, reserve_links};
+use crate::marking::mark_lost;
 use crate::node::{Node, Nodes};
 use crate::rows::{Row, key_of, put_key};
+use crate::threads::Threads;
 use crate::walking::{names_of, rests_on};
-use crate::withdrawing::{close_up, forget_marked, mark_lost, put_back};
+use crate::withdrawing::{close_up, forget_marked, forget_threads, put_back};
 use indexmap::IndexSet;
 use palm_base::{Cid, CidList, NoMemory, Pair, Value, Var};
 use palm_domain::DomainStore;
@@ -28,6 +30,7 @@ pub struct ExplainStore {
     /// The keys of the nodes in the order of the removals.
     log: Vec<usize>,
     rows: Vec<Row>,
+    threads: Threads,
     /// The variables of which the last withdrawal put values back.
     restored: IndexSet<Var>,
 }
@@ -35,13 +38,14 @@ pub struct ExplainStore {
 impl Model for ExplainStore {
     ghost use Rattle.indexmap.specs.IndexSet.{spare};
     ghost use Rattle.palm_explain.specs.Explanations.{Explanations};
-    ghost use Rattle.palm_explain.specs.Graph.{IsKept, graph_of, log_of};
+    ghost use Rattle.palm_explain.specs.Graph.{graph_of, log_of};
+    ghost use Rattle.palm_explain.specs.Whole.{IsWhole};
 
     ghost Value = { Explanations };
 
     ghost view = { λ s. record { log = log_of (graph_of s.nodes) s.log.items; restored = s.restored.keys } };
 
-    ghost invariant = { λ s. IsKept s.nodes s.log.items s.rows.items (spare s.restored) };
+    ghost invariant = { λ s. IsWhole s.nodes s.log.items s.rows.items (spare s.restored) s.threads };
 }
 
 impl ExplainStore {
@@ -53,6 +57,7 @@ impl ExplainStore {
             nodes: Slab::new(alloc),
             log: Vec::new(alloc),
             rows: Vec::new(alloc),
+            threads: Threads::new(alloc),
             restored: IndexSet::new(alloc),
         }
     }
@@ -73,6 +78,7 @@ impl ExplainStore {
         self.log.reserve(1)?;
         self.nodes.reserve(1)?;
         reserve_links(&mut self.nodes, &causes, key)?;
+        self.threads.push(&by, key)?;
         link(&mut self.nodes, &causes, key);
         self.nodes.insert_reserved(Node {
             pair,
@@ -81,6 +87,7 @@ impl ExplainStore {
             dependents: Vec::new(alloc),
             place,
             mark: false,
+            next: 0,
         });
         self.log.push_reserved(key);
         Ok(())
@@ -192,10 +199,13 @@ impl ExplainStore {
     {
         self.restored.clear();
         let log = self.log.as_slice();
-        mark_lost(&mut self.nodes, log, &cid);
-        put_back(&self.nodes, log, store, &mut self.restored);
-        forget_marked(&mut self.nodes, log);
-        close_up(&mut self.nodes, &mut self.log);
+        let own = self.threads.take(&cid);
+        let first = own.first().copied().unwrap_or(0);
+        let count = mark_lost(&mut self.nodes, log, &own);
+        let start = put_back(&self.nodes, log, first, count, store, &mut self.restored);
+        forget_threads(&self.nodes, &mut self.threads, log, start, &cid);
+        forget_marked(&mut self.nodes, log, start);
+        close_up(&mut self.nodes, &mut self.log, start);
     }
 
     /// The variables of which the last withdrawal put values back, each once.

@@ -1,11 +1,13 @@
-use Rattle.std.proofs.Common.{◌≡◌, ◌∙◌, false, filter, not, nat_eq, Contains, refl, sym, ap, subst, rules}
+use Rattle.std.proofs.Common.{◌≡◌, ◌∙◌, false, refl, sym, ap, subst}
 use Rattle.std.proofs.lemmas.Bool.{false≢true}
-use Rattle.std.proofs.lemmas.Fn.{filter_same}
-use Rattle.palm_explain.specs.Graph.{HasForgotten, graph_of, marks_of}
+use Rattle.palm_explain.specs.Graph.{HasForgotten, graph_of, link_of, marks_of, said}
 use Rattle.palm_explain.proofs.Changes.{forgotten_none}
-use Rattle.palm_explain.proofs.Writes.{elsewhere, filtered_fewer, filtered_keep, forgets, here, node_mark, same_graph, same_marks}
+use Rattle.palm_explain.proofs.Writes.{elsewhere, forgets, here, node_mark, same_graph, same_marks}
 use Rattle.slab.specs.Slab.{with_value}
 use Rattle.palm_explain.proofs.node.forget_dependent.Goals as goal
+
+pub take_out-requires : goal.take_out-requires
+take_out-requires c = c.requires.once c.args.cause (said c.index_mut-node.result.now) (ap link_of c.index_mut-node.ensures.value)
 
 pub returns-then-not-node-clause-forgotten : goal.returns-then-not-node-clause-forgotten
 returns-then-not-node-clause-forgotten c =
@@ -13,15 +15,14 @@ returns-then-not-node-clause-forgotten c =
     let k = c.args.cause in
     let n = c.index_mut-node.result.now in
     let at = c.index_mut-node.ensures.value in
-    let kept : c.retain.new.self.items ≡ filter (λ d. not (nat_eq d c.args.key)) n.dependents.items = filter_same _ _ _ (λ x b f' q. search rules) _ _ c.retain.ensures.filtered in
-    forgets s (with_value s k (record n { dependents = c.retain.new.self })) k n (record n { dependents = c.retain.new.self }) at
-    (here s k n (record n { dependents = c.retain.new.self }) at) (elsewhere s k n (record n { dependents = c.retain.new.self }) at) refl refl refl refl c.args.key
-    (λ d m. filtered_fewer n.dependents.items c.args.key d (subst (λ ds. Contains ds d) kept m)) (λ d m free. subst (λ ds. Contains ds d) (sym kept) (filtered_keep n.dependents.items c.args.key d m free))
+    forgets s (with_value s k (record n { dependents = c.take_out.new.keys })) k n (record n { dependents = c.take_out.new.keys }) at
+    (here s k n (record n { dependents = c.take_out.new.keys }) at) (elsewhere s k n (record n { dependents = c.take_out.new.keys }) at) refl refl refl refl c.args.key
+    c.take_out.ensures.gone c.take_out.ensures.stay (λ once. c.take_out.ensures.once)
     (marks_of s) (node_mark s k n at ∙ c.if-not-node.true)
 
 pub returns-then-not-node-clause-marks : goal.returns-then-not-node-clause-marks
 returns-then-not-node-clause-marks c =
-    same_marks c.args.nodes.now c.args.cause c.index_mut-node.result.now (record c.index_mut-node.result.now { dependents = c.retain.new.self }) c.index_mut-node.ensures.value refl
+    same_marks c.args.nodes.now c.args.cause c.index_mut-node.result.now (record c.index_mut-node.result.now { dependents = c.take_out.new.keys }) c.index_mut-node.ensures.value refl
 
 pub returns-else-not-node-clause-forgotten : goal.returns-else-not-node-clause-forgotten
 returns-else-not-node-clause-forgotten c =

@@ -1,11 +1,11 @@
 use Rattle.std.proofs.Common.{◌≡◌, ◌∙◌, ◌+◌, ◌<◌, ◌≤◌, ℕ, false, get_or, length, inl, inr, sym, ap, arith}
 use Rattle.palm_explain.specs.Graph.{IsAmongFirst, IsCause, graph_of, link_of, marks_of, said}
-use Rattle.palm_explain.proofs.Changes.{all_first, first_all, first_cases, first_last, first_left, forgotten_key, forgotten_like, forgotten_then}
+use Rattle.palm_explain.proofs.Changes.{all_first, first_all, first_cases, first_last, first_left, forgotten_key, forgotten_like, forgotten_once, forgotten_then}
 use Rattle.palm_explain.proofs.Writes.{forgotten_causes}
 use Rattle.palm_explain.proofs.withdrawing.forget.Goals as goal
 
-pub forget_dependent-requires : goal.forget_dependent-requires
-forget_dependent-requires c =
+pub forget_dependent-requires-clause-key : goal.forget_dependent-requires-clause-key
+forget_dependent-requires-clause-key c =
     let s = c.args.nodes.now in
     let n = c.index.result.now in
     let m = c.index-in-loop-index.result.now in
@@ -15,6 +15,9 @@ forget_dependent-requires c =
     let lt : c.loop-index.index < length n.causes.items = omega (arith, c.loop-index-test.true, c.len-index-end.ensures, n.causes.ok.0) in
     let is : get_or n.causes.items c.loop-index.index d ≡ d = ap (λ ds. get_or ds c.loop-index.index d) (sym same) ∙ sym c.index-cause.ensures in
     forgotten_key (graph_of s) (graph_of c.loop-index.nodes) Gone d c.loop-index.invariant.forgotten (c.requires.keys d ((said n), ap link_of c.index.ensures, (c.loop-index.index, lt, is)))
+
+pub forget_dependent-requires-clause-once : goal.forget_dependent-requires-clause-once
+forget_dependent-requires-clause-once c = forgotten_once (graph_of c.args.nodes.now) (graph_of c.loop-index.nodes) _ c.requires.once c.loop-index.invariant.forgotten
 
 pub loop-index-preserved : goal.loop-index-preserved
 loop-index-preserved c =

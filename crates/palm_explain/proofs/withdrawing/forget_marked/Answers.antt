@@ -1,9 +1,10 @@
-use Rattle.std.proofs.Common.{◌≡◌, ◌∙◌, ◌-◌, suc, Some, true, false, ◌∷◌, drop, slice_get, slice_index_or, sym, ap, subst, arith, Contains}
+use Rattle.std.proofs.Common.{◌≡◌, ◌≤◌, ◌∙◌, ◌-◌, suc, Some, true, false, ◌∷◌, drop, slice_get, slice_index_or, ap, arith}
 use Rattle.std.proofs.lemmas.Option.{slice_get-get_or}
 use Rattle.palm_explain.specs.Graph.{IsCause, graph_of, marks_of}
-use Rattle.palm_explain.proofs.Changes.{IsGoneFrom, cause_back, forgotten_key, forgotten_like, gone_next, gone_same}
-use Rattle.palm_explain.proofs.Closing.{drop_first}
-use Rattle.palm_explain.proofs.Graphs.{cause_key, key_member}
+use Rattle.palm_explain.proofs.Chains.{mark_key}
+use Rattle.palm_explain.proofs.Changes.{IsGoneFrom, cause_back, forgotten_key, forgotten_like, forgotten_once, gone_next, gone_same}
+use Rattle.palm_explain.proofs.Closing.{drop_first, place_dropped}
+use Rattle.palm_explain.proofs.Graphs.{cause_key}
 use Rattle.palm_explain.proofs.Writes.{node_mark}
 use Rattle.palm_explain.proofs.withdrawing.forget_marked.Goals as goal
 
@@ -13,7 +14,11 @@ forget-requires-clause-keys c q m =
     let h = graph_of c.loop-place.nodes in
     let key = slice_index_or c.args.log.now (c.loop-place.place - 1) 0 in
     let Gone = IsGoneFrom g (marks_of c.args.nodes.now) c.args.log.now c.loop-place.place in
-    forgotten_key g h Gone q c.loop-place.invariant.forgotten (cause_key g c.args.log.now q key (record { places = c.requires.places; depends = c.requires.depends; caused = c.requires.caused; apart = c.requires.apart }) (cause_back g h Gone q key c.loop-place.invariant.forgotten m))
+    forgotten_key g h Gone q c.loop-place.invariant.forgotten (cause_key g c.args.log.now q key c.requires.graph (cause_back g h Gone q key c.loop-place.invariant.forgotten m))
+
+pub forget-requires-clause-once : goal.forget-requires-clause-once
+forget-requires-clause-once c =
+    forgotten_once (graph_of c.args.nodes.now) (graph_of c.loop-place.nodes) (IsGoneFrom (graph_of c.args.nodes.now) (marks_of c.args.nodes.now) c.args.log.now c.loop-place.place) c.requires.graph.once c.loop-place.invariant.forgotten
 
 pub loop-place-preserved-then-index : goal.loop-place-preserved-then-index
 loop-place-preserved-then-index c =
@@ -46,8 +51,11 @@ returns-clause-forgotten c =
     let g = graph_of c.args.nodes.now in
     let marks = marks_of c.args.nodes.now in
     let log = c.args.log.now in
-    let none : c.loop-place.place ≡ 0 = omega (arith, c.loop-place-test.false) in
+    let le : c.loop-place.place ≤ c.args.start = omega (arith, c.loop-place-test.false) in
     forgotten_like g (graph_of c.loop-place.nodes) (IsGoneFrom g marks log c.loop-place.place) (λ k d. (marks d ≡ true) × (marks k ≡ false) × IsCause g k d)
     (λ k d m. (m.1, m.2, m.3))
-    (λ k d m. (subst (λ i. Contains (drop i log) d) (sym none) (key_member g log d c.requires.places (m.2.0, m.2.1)), m.0, m.1, m.2))
+    (λ k d m.
+    let l = mark_key c.args.nodes.now d m.0 in
+    let early = c.requires.earliest d l.0 m.0 l.1 in
+    (place_dropped c.loop-place.place log l.0.place d (omega (arith, le, early)) (c.requires.graph.places.logged d l.0 l.1), m.0, m.1, m.2))
     c.loop-place.invariant.forgotten

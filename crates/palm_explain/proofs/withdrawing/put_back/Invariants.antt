@@ -1,8 +1,19 @@
+use Rattle.std.proofs.Common.{◌≡◌, ◌≤◌, ℕ, ◌-◌, List, Some, length, take, slice_get, Contains}
 use Rattle.indexmap.specs.IndexSet.{spare}
-use Rattle.palm_explain.specs.Graph.{graph_of, marks_of}
+use Rattle.palm_explain.specs.Chain.{IsLine}
+use Rattle.palm_explain.specs.Graph.{Link, graph_of, marks_of}
 use Rattle.palm_explain.proofs.PuttingBack.{IsBackBelow}
 use Rattle.palm_explain.proofs.withdrawing.put_back.Given as goal
 
--- the pairs below the place are back
+-- the pairs of the chain below the place are back
 abbrev pub invariant-loop-place : goal.invariant-loop-place
-invariant-loop-place l = IsBackBelow (graph_of l.nodes) (marks_of l.nodes) l.log l.fn.store l.store l.fn.restored.keys l.restored.keys (spare l.restored) l.place
+invariant-loop-place l = record {
+  cursor : (chain : List ℕ) → IsLine l.nodes l.first l.count chain → (k : ℕ) → slice_get chain l.place ≡ Some k → l.key ≡ k;
+  below : (chain : List ℕ) → IsLine l.nodes l.first l.count chain
+      → IsBackBelow (graph_of l.nodes) (marks_of l.nodes) chain (length l.log) l.fn.store l.store l.fn.restored.keys l.restored.keys (spare l.restored) l.place;
+  within : l.start ≤ length l.log;
+  earliest : (chain : List ℕ) → IsLine l.nodes l.first l.count chain → (k : ℕ) (m : Link) → Contains (take l.place chain) k → graph_of l.nodes k ≡ Some m → l.start ≤ m.place;
+}
+
+abbrev pub decreases-loop-place : goal.decreases-loop-place
+decreases-loop-place l = l.count - l.place

@@ -32,7 +32,7 @@ index-requires-3 c =
     let below = rw (← c.self.view_is) at c.requires.index in
     let low : c.args.index < length n.causes.items = omega (arith, below, count) in
     let is = c.index-cause.ensures ∙ get_or_default n.causes.items c.args.index c.index-cause.result.now 0 low in
-    subst (λ k. ContainsKey s k) (sym is) (key_there s (get_or n.causes.items c.args.index 0) (read_cause s keys c.args.place n lt at c.args.index c.self.invariant.graph low))
+    subst (λ k. ContainsKey s k) (sym is) (key_there s (get_or n.causes.items c.args.index 0) (read_cause s keys c.args.place n lt at c.args.index c.self.invariant.kept.graph low))
 
 pub returns : goal.returns
 returns c =

@@ -1,53 +1,106 @@
-use Rattle.std.proofs.Common.{◌∷◌, [], nat_eq, sym, ap, ◌∙◌, subst, Contains}
-use Rattle.indexmap.specs.IndexSet.{insert_all, spare}
+use Rattle.std.proofs.Common.{◌≡◌, ◌⊎◌, true, ◌∷◌, [], inl, inr, sym, ap, ◌∙◌, subst, Contains}
+use Rattle.indexmap.specs.IndexSet.{spare}
+use Rattle.palm_base.proofs.Members.{member_nil}
 use Rattle.palm_model.specs.Constraint.{Distinct}
 use Rattle.palm_model.specs.Event.{lost_pairs, vars_of}
 use Rattle.palm_model.specs.Log.{Loses}
 use Rattle.palm_explain.specs.Explanations.{Explanations}
-use Rattle.palm_explain.specs.Graph.{IsPlaced, graph_of, log_of, marks_of}
+use Rattle.palm_explain.specs.Graph.{IsBy, IsGraph, IsPlaced, graph_of, log_of, marks_of}
 use Rattle.palm_explain.specs.Lost.{lost_of}
-use Rattle.palm_explain.proofs.ClosedUp.{forgotten_placed}
-use Rattle.palm_explain.proofs.PuttingBack.{distinct_noted}
-use Rattle.palm_explain.proofs.Stores.{kept_withdrawn, lacks_withdrawn, loses_withdrawn, vars_withdrawn}
+use Rattle.palm_explain.specs.Threads.{AreThreaded}
+use Rattle.palm_explain.proofs.Chains.{mark_key}
+use Rattle.palm_explain.proofs.ClosedUp.{forgotten_earliest, forgotten_placed}
+use Rattle.palm_explain.proofs.Stores.{kept_withdrawn, lacks_withdrawn, loses_withdrawn, threaded_withdrawn, vars_withdrawn}
+use Rattle.palm_explain.proofs.ThreadKeys.{taken_sound, taken_whole, threaded_taken}
 use Rattle.palm_explain.proofs.store.ExplainStore.withdraw.Goals as goal
 
-pub close_up-requires : goal.close_up-requires
-close_up-requires c =
-    forgotten_placed (graph_of c.mark_lost.new.nodes) (graph_of c.forget_marked.new.nodes) c.self.inside.log.items _
-    (subst (λ g. IsPlaced g c.self.inside.log.items) (sym c.mark_lost.ensures.graph) c.self.invariant.graph.places) c.forget_marked.ensures.forgotten
+pub mark_lost-count-requires-clause-own : goal.mark_lost-count-requires-clause-own
+mark_lost-count-requires-clause-own c k m =
+    let is = c.deref-2.ensures.value ∙ c.take-own.ensures.taken in
+    let by = taken_sound c.self.inside.threads (graph_of c.self.inside.nodes) c.args.cid c.deref-2.result.now c.self.invariant.threaded is k m in
+    (by.0, by.1)
+
+pub forget_threads-requires-clause-places : goal.forget_threads-requires-clause-places
+forget_threads-requires-clause-places c =
+    rw (← c.as_slice-log.ensures.value) at (subst (λ g. IsPlaced g c.self.inside.log.items) (sym c.mark_lost-count.ensures.graph) c.self.invariant.kept.graph.places)
+
+pub forget_threads-requires-clause-once : goal.forget_threads-requires-clause-once
+forget_threads-requires-clause-once c =
+    let taken = threaded_taken c.self.inside.threads c.take-own.new.self (graph_of c.self.inside.nodes) c.args.cid c.self.invariant.threaded c.take-own.ensures.formed c.take-own.ensures.none c.take-own.ensures.others in taken.once
+
+pub forget_marked-requires-clause-graph : goal.forget_marked-requires-clause-graph
+forget_marked-requires-clause-graph c = rw (← c.as_slice-log.ensures.value) at (subst (λ g. IsGraph g c.self.inside.log.items) (sym c.mark_lost-count.ensures.graph) c.self.invariant.kept.graph)
+
+pub close_up-requires-clause-places : goal.close_up-requires-clause-places
+close_up-requires-clause-places c =
+    forgotten_placed (graph_of c.mark_lost-count.new.nodes) (graph_of c.forget_marked.new.nodes) c.self.inside.log.items _
+    (subst (λ g. IsPlaced g c.self.inside.log.items) (sym c.mark_lost-count.ensures.graph) c.self.invariant.kept.graph.places) c.forget_marked.ensures.forgotten
+
+pub close_up-requires-clause-within : goal.close_up-requires-clause-within
+close_up-requires-clause-within c = rw c.as_slice-log.ensures.value at c.put_back-start.ensures.within
+
+pub close_up-requires-clause-earliest : goal.close_up-requires-clause-earliest
+close_up-requires-clause-earliest c k m mark at =
+    let s = c.mark_lost-count.new.nodes in
+    let marked : marks_of s k ≡ true = sym (ap (λ q. q k) c.forget_marked.ensures.marks) ∙ mark in
+    forgotten_earliest (graph_of s) (graph_of c.forget_marked.new.nodes) _ c.put_back-start.result k m c.forget_marked.ensures.forgotten (λ l is. c.put_back-start.ensures.earliest k l marked is) (mark_key s k marked) at
 
 pub invariant_of-self : goal.invariant_of-self
 invariant_of-self c =
-    kept_withdrawn c.self.inside.nodes c.mark_lost.new.nodes c.forget_marked.new.nodes c.close_up.new.nodes c.self.inside.log.items c.close_up.new.log.items c.self.inside.rows.items (spare c.self.inside.restored) (spare c.put_back.new.restored) c.args.cid c.self.invariant
-    c.mark_lost.ensures.graph (rw c.as_slice-log.ensures.value at c.mark_lost.ensures.told) c.forget_marked.ensures.forgotten c.forget_marked.ensures.marks c.close_up.ensures.closed c.close_up.ensures.unmarked
-    (rw c.as_slice-log.ensures.value at c.put_back.ensures.room)
+    let is = c.deref-2.ensures.value ∙ c.take-own.ensures.taken in
+    let told =
+    rw c.as_slice-log.ensures.value at (c.mark_lost-count.ensures.told c.args.cid (taken_sound c.self.inside.threads (graph_of c.self.inside.nodes) c.args.cid c.deref-2.result.now c.self.invariant.threaded is)
+    (taken_whole c.self.inside.threads (graph_of c.self.inside.nodes) c.args.cid c.deref-2.result.now c.self.invariant.threaded is)) in
+    let graph = c.mark_lost-count.ensures.graph in
+    let taken = threaded_taken c.self.inside.threads c.take-own.new.self (graph_of c.self.inside.nodes) c.args.cid c.self.invariant.threaded c.take-own.ensures.formed c.take-own.ensures.none c.take-own.ensures.others in
+    let forgot = c.forget_threads.ensures.forgotten (subst (λ g. AreThreaded c.take-own.new.self g (IsBy g c.args.cid)) (sym graph) taken) in
+    record {
+      kept = kept_withdrawn c.self.inside.nodes c.mark_lost-count.new.nodes c.forget_marked.new.nodes c.close_up.new.nodes c.self.inside.log.items c.close_up.new.log.items c.self.inside.rows.items (spare c.self.inside.restored) (spare c.put_back-start.new.restored) c.args.cid c.self.invariant.kept
+          c.mark_lost-count.ensures.graph told c.forget_marked.ensures.forgotten c.forget_marked.ensures.marks c.close_up.ensures.closed c.close_up.ensures.unmarked
+          (rw c.as_slice-log.ensures.value at c.put_back-start.ensures.room);
+      threaded = threaded_withdrawn c.self.inside.nodes c.mark_lost-count.new.nodes c.forget_marked.new.nodes c.close_up.new.nodes c.self.inside.log.items c.close_up.new.log.items c.self.inside.rows.items (spare c.self.inside.restored) (spare c.put_back-start.new.restored) c.args.cid c.self.invariant.kept
+          c.mark_lost-count.ensures.graph told c.forget_marked.ensures.forgotten c.forget_marked.ensures.marks c.close_up.ensures.closed c.close_up.ensures.unmarked
+          (rw c.as_slice-log.ensures.value at c.put_back-start.ensures.room)
+          c.forget_threads.new.threads (subst (λ g. AreThreaded c.forget_threads.new.threads g (λ k. IsBy g c.args.cid k ⊎ (marks_of c.mark_lost-count.new.nodes k ≡ true))) graph forgot);
+    }
 
 pub returns-clause-loses : goal.returns-clause-loses
 returns-clause-loses c =
+    let is = c.deref-2.ensures.value ∙ c.take-own.ensures.taken in
+    let told =
+    rw c.as_slice-log.ensures.value at (c.mark_lost-count.ensures.told c.args.cid (taken_sound c.self.inside.threads (graph_of c.self.inside.nodes) c.args.cid c.deref-2.result.now c.self.invariant.threaded is)
+    (taken_whole c.self.inside.threads (graph_of c.self.inside.nodes) c.args.cid c.deref-2.result.now c.self.invariant.threaded is)) in
     subst (λ (v : Explanations). Loses v.log (c.args.cid ∷ []) v.log (log_of (graph_of c.close_up.new.nodes) c.close_up.new.log.items)) c.self.view_is
-    (loses_withdrawn c.self.inside.nodes c.mark_lost.new.nodes c.forget_marked.new.nodes c.close_up.new.nodes c.self.inside.log.items c.close_up.new.log.items c.self.inside.rows.items (spare c.self.inside.restored) (spare c.put_back.new.restored) c.args.cid c.self.invariant
-    c.mark_lost.ensures.graph (rw c.as_slice-log.ensures.value at c.mark_lost.ensures.told) c.forget_marked.ensures.forgotten c.forget_marked.ensures.marks c.close_up.ensures.closed c.close_up.ensures.unmarked
-    (rw c.as_slice-log.ensures.value at c.put_back.ensures.room))
+    (loses_withdrawn c.self.inside.nodes c.mark_lost-count.new.nodes c.forget_marked.new.nodes c.close_up.new.nodes c.self.inside.log.items c.close_up.new.log.items c.self.inside.rows.items (spare c.self.inside.restored) (spare c.put_back-start.new.restored) c.args.cid c.self.invariant.kept
+    c.mark_lost-count.ensures.graph told c.forget_marked.ensures.forgotten c.forget_marked.ensures.marks c.close_up.ensures.closed c.close_up.ensures.unmarked
+    (rw c.as_slice-log.ensures.value at c.put_back-start.ensures.room))
 
 pub returns-clause-lacks : goal.returns-clause-lacks
 returns-clause-lacks c =
-    lacks_withdrawn c.self.inside.nodes c.mark_lost.new.nodes c.forget_marked.new.nodes c.close_up.new.nodes c.self.inside.log.items c.close_up.new.log.items c.self.inside.rows.items (spare c.self.inside.restored) (spare c.put_back.new.restored) c.args.cid c.self.invariant
-    c.mark_lost.ensures.graph (rw c.as_slice-log.ensures.value at c.mark_lost.ensures.told) c.forget_marked.ensures.forgotten c.forget_marked.ensures.marks c.close_up.ensures.closed c.close_up.ensures.unmarked
-    (rw c.as_slice-log.ensures.value at c.put_back.ensures.room)
-    c.args.store.now c.put_back.new.store (rw (← c.self.view_is) at c.requires.lacks) (rw c.as_slice-log.ensures.value at c.put_back.ensures.back) c.put_back.ensures.ascend.1 c.put_back.ensures.ascend.0
+    let is = c.deref-2.ensures.value ∙ c.take-own.ensures.taken in
+    let told =
+    rw c.as_slice-log.ensures.value at (c.mark_lost-count.ensures.told c.args.cid (taken_sound c.self.inside.threads (graph_of c.self.inside.nodes) c.args.cid c.deref-2.result.now c.self.invariant.threaded is)
+    (taken_whole c.self.inside.threads (graph_of c.self.inside.nodes) c.args.cid c.deref-2.result.now c.self.invariant.threaded is)) in
+    lacks_withdrawn c.self.inside.nodes c.mark_lost-count.new.nodes c.forget_marked.new.nodes c.close_up.new.nodes c.self.inside.log.items c.close_up.new.log.items c.self.inside.rows.items (spare c.self.inside.restored) (spare c.put_back-start.new.restored) c.args.cid c.self.invariant.kept
+    c.mark_lost-count.ensures.graph told c.forget_marked.ensures.forgotten c.forget_marked.ensures.marks c.close_up.ensures.closed c.close_up.ensures.unmarked
+    (rw c.as_slice-log.ensures.value at c.put_back-start.ensures.room)
+    c.args.store.now c.put_back-start.new.store (rw (← c.self.view_is) at c.requires.lacks) (rw c.as_slice-log.ensures.value at c.put_back-start.ensures.back) c.put_back-start.ensures.ascend.1 c.put_back-start.ensures.ascend.0
 
 pub returns-clause-once : goal.returns-clause-once
-returns-clause-once c =
-    let vars = vars_of (lost_of (graph_of c.mark_lost.new.nodes) (marks_of c.mark_lost.new.nodes) c.as_slice-log.result.now) in
-    subst Distinct (sym (c.put_back.ensures.noted ∙ ap (λ l. insert_all nat_eq l vars) c.clear.ensures.empty)) (distinct_noted [] vars tt)
+returns-clause-once c = c.put_back-start.ensures.once (subst Distinct (sym c.clear.ensures.empty) tt)
 
 pub returns-clause-restored : goal.returns-clause-restored
 returns-clause-restored c x =
-    let vars = vars_of (lost_of (graph_of c.mark_lost.new.nodes) (marks_of c.mark_lost.new.nodes) c.as_slice-log.result.now) in
-    let noted = c.put_back.ensures.noted ∙ ap (λ l. insert_all nat_eq l vars) c.clear.ensures.empty in
-    let keys = c.put_back.new.restored.keys in
+    let vars = vars_of (lost_of (graph_of c.mark_lost-count.new.nodes) (marks_of c.mark_lost-count.new.nodes) c.self.inside.log.items) in
+    let noted : (Contains c.put_back-start.new.restored.keys x → Contains [] x ⊎ Contains vars x) × (Contains [] x ⊎ Contains vars x → Contains c.put_back-start.new.restored.keys x) =
+    rw (c.as_slice-log.ensures.value, c.clear.ensures.empty) at (c.put_back-start.ensures.noted x) in
+    let keys = c.put_back-start.new.restored.keys in
+    let is = c.deref-2.ensures.value ∙ c.take-own.ensures.taken in
+    let told =
+    rw c.as_slice-log.ensures.value at (c.mark_lost-count.ensures.told c.args.cid (taken_sound c.self.inside.threads (graph_of c.self.inside.nodes) c.args.cid c.deref-2.result.now c.self.invariant.threaded is)
+    (taken_whole c.self.inside.threads (graph_of c.self.inside.nodes) c.args.cid c.deref-2.result.now c.self.invariant.threaded is)) in
     subst (λ (v : Explanations). (Contains keys x → Contains (vars_of (lost_pairs v.log (log_of (graph_of c.close_up.new.nodes) c.close_up.new.log.items))) x)
     × (Contains (vars_of (lost_pairs v.log (log_of (graph_of c.close_up.new.nodes) c.close_up.new.log.items))) x → Contains keys x)) c.self.view_is
-    (vars_withdrawn c.self.inside.nodes c.mark_lost.new.nodes c.forget_marked.new.nodes c.close_up.new.nodes c.self.inside.log.items c.close_up.new.log.items c.self.inside.rows.items (spare c.self.inside.restored) (spare c.put_back.new.restored) c.args.cid c.self.invariant
-    c.mark_lost.ensures.graph (rw c.as_slice-log.ensures.value at c.mark_lost.ensures.told) c.forget_marked.ensures.forgotten c.forget_marked.ensures.marks c.close_up.ensures.closed c.close_up.ensures.unmarked
-    (rw c.as_slice-log.ensures.value at c.put_back.ensures.room) keys (rw c.as_slice-log.ensures.value at noted) x)
+    (vars_withdrawn c.self.inside.nodes c.mark_lost-count.new.nodes c.forget_marked.new.nodes c.close_up.new.nodes c.self.inside.log.items c.close_up.new.log.items c.self.inside.rows.items (spare c.self.inside.restored) (spare c.put_back-start.new.restored) c.args.cid c.self.invariant.kept
+    c.mark_lost-count.ensures.graph told c.forget_marked.ensures.forgotten c.forget_marked.ensures.marks c.close_up.ensures.closed c.close_up.ensures.unmarked
+    (rw c.as_slice-log.ensures.value at c.put_back-start.ensures.room) keys x (λ m. elim (noted.0 m) [ inl none ↦ absurd (member_nil x none) | inr n ↦ n ], λ m. noted.1 (inr m)))

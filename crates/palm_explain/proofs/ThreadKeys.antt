@@ -1,0 +1,209 @@
+-- The threads of constraints: one is found by its name, changed at its place, and put in where there is none.
+use Rattle.std.proofs.Common.{◌≡◌, ℕ, zero, suc, ◌≤◌, ◌<◌, Bool, true, false, cond, List, [], ◌∷◌, length, drop, set, get_or, slice_get, Contains, Some, ◌⊎◌, inl, inr, refl, sym, ap, ◌∙◌, subst, arith}
+use Rattle.std.specs.List.{insert}
+use Rattle.std.proofs.lemmas.Bool.{cases_Bool}
+use Rattle.std.proofs.lemmas.Option.{slice_get_within, slice_get-get_or}
+use Rattle.std.proofs.lemmas.List.Elements.{All-contains}
+use Rattle.palm_base.specs.declared.terms.Cid.{Cid}
+use Rattle.palm_base.proofs.Members.{member_cases, member_get, member_here, member_nil, member_same, member_there}
+use Rattle.palm_model.specs.Constraint.{Distinct}
+use Rattle.palm_model.specs.Log.{Rises, cid_before, same_cid}
+use Rattle.palm_events.proofs.Names.{cid_known, cid_same, not_before_itself, same_cid_itself}
+use Rattle.palm_explain.specs.declared.threads.Thread.{Thread}
+use Rattle.palm_explain.specs.declared.threads.Threads.{Threads}
+use Rattle.palm_explain.specs.Graph.{Graph, IsBy, Link}
+use Rattle.palm_explain.specs.Threads.{AreFormedThreads, AreThreaded, thread_in, thread_of}
+use Rattle.palm_explain.proofs.Graphs.{link_same, some_same}
+
+not_same : (a b : Cid) → (a ≡ b → ⊥) → same_cid a b ≡ false
+not_same a b n = elim (cases_Bool (same_cid a b)) [ inl t ↦ absurd (n (cid_same a b t)) | inr f ↦ f ]
+
+skip : (n c : Cid) (t : Thread) (names : List Cid) (threads : List Thread) → (n ≡ c → ⊥) → thread_in (n ∷ names) (t ∷ threads) c ≡ thread_in names threads c
+skip n c t names threads differs = ap (λ b. cond b t.keys.items (thread_in names threads c)) (not_same n c differs)
+
+here : (c : Cid) (t : Thread) (names : List Cid) (threads : List Thread) → thread_in (c ∷ names) (t ∷ threads) c ≡ t.keys.items
+here c t names threads = ap (λ b. cond b t.keys.items (thread_in names threads c)) (same_cid_itself c)
+
+after_first : (n : Cid) (names : List Cid) → Rises (n ∷ names) → (c : Cid) → Contains names c → n ≡ c → ⊥
+after_first n names rises c m e = not_before_itself c (subst (λ z. cid_before z c ≡ true) e (All-contains (λ d. cid_before n d ≡ true) names c rises.0 m))
+
+-- ---- by place
+
+pub found_thread : (names : List Cid) (threads : List Thread) (i : ℕ) (c : Cid) (t : Thread) → Rises names → slice_get names i ≡ Some c → slice_get threads i ≡ Some t → thread_in names threads c ≡ t.keys.items
+found_thread [] threads i c t rises at is = cc
+found_thread (n ∷ names) [] i c t rises at is = cc
+found_thread (n ∷ names) (s ∷ threads) zero c t rises at is =
+    let e : n ≡ c = some_same n c at in
+    let f : s ≡ t = some_same s t is in
+    subst (λ z. thread_in (z ∷ names) (s ∷ threads) c ≡ t.keys.items) (sym e) (here c s names threads ∙ ap (λ (z : Thread). z.keys.items) f)
+found_thread (n ∷ names) (s ∷ threads) (suc i) c t rises at is =
+    skip n c s names threads (after_first n names rises c (member_get names i c at)) ∙ found_thread names threads i c t rises.1 at is
+
+pub none_there : (names : List Cid) (threads : List Thread) (c : Cid) → (Contains names c → ⊥) → thread_in names threads c ≡ []
+none_there [] threads c n = refl
+none_there (m ∷ names) [] c n = refl
+none_there (m ∷ names) (t ∷ threads) c n =
+    skip m c t names threads (λ e. n (member_same (m ∷ names) m c e (member_here m names))) ∙ none_there names threads c (λ k. n (member_there m names c k))
+
+set_at : (threads : List Thread) (i : ℕ) (t : Thread) → i < length threads → slice_get (set threads i t) i ≡ Some t
+set_at [] i t lt = absurd (omega (arith, lt))
+set_at (s ∷ threads) zero t lt = refl
+set_at (s ∷ threads) (suc i) t lt = set_at threads i t (omega (arith, lt))
+
+-- another thread at the place
+pub set_thread : (names : List Cid) (threads : List Thread) (i : ℕ) (c : Cid) (t : Thread) → Rises names → slice_get names i ≡ Some c → i < length threads → thread_in names (set threads i t) c ≡ t.keys.items
+set_thread names threads i c t rises at lt = found_thread names (set threads i t) i c t rises at (set_at threads i t lt)
+
+pub set_others : (names : List Cid) (threads : List Thread) (i : ℕ) (c : Cid) (t : Thread) (d : Cid) → slice_get names i ≡ Some c → (c ≡ d → ⊥) → thread_in names (set threads i t) d ≡ thread_in names threads d
+set_others [] threads i c t d at n = refl
+set_others (m ∷ names) [] i c t d at n = refl
+set_others (m ∷ names) (s ∷ threads) zero c t d at n =
+    let differs : m ≡ d → ⊥ = λ e. n (sym (some_same m c at) ∙ e) in
+    skip m d t names threads differs ∙ sym (skip m d s names threads differs)
+set_others (m ∷ names) (s ∷ threads) (suc i) c t d at n = ap (λ r. cond (same_cid m d) s.keys.items r) (set_others names threads i c t d at n)
+
+-- a thread with the same keys
+pub set_like : (names : List Cid) (threads : List Thread) (i : ℕ) (s t : Thread) (d : Cid) → slice_get threads i ≡ Some s → t.keys.items ≡ s.keys.items → thread_in names (set threads i t) d ≡ thread_in names threads d
+set_like [] threads i s t d at same = refl
+set_like (m ∷ names) [] i s t d at same = refl
+set_like (m ∷ names) (q ∷ threads) zero s t d at same =
+    ap (λ ks. cond (same_cid m d) ks (thread_in names threads d)) (same ∙ ap (λ (z : Thread). z.keys.items) (sym (some_same q s at)))
+set_like (m ∷ names) (q ∷ threads) (suc i) s t d at same = ap (λ r. cond (same_cid m d) q.keys.items r) (set_like names threads i s t d at same)
+
+-- one more name with an empty thread
+pub insert_same : (names : List Cid) (threads : List Thread) (i : ℕ) (c : Cid) (t : Thread) (d : Cid) → i ≤ length names → length threads ≡ length names → (Contains names c → ⊥) → t.keys.items ≡ []
+    → thread_in (insert names i c) (insert threads i t) d ≡ thread_in names threads d
+insert_same names threads zero c t d le long absent empty = elim (cid_known c d) [
+  | inl e ↦ subst (λ z. thread_in (c ∷ names) (t ∷ threads) z ≡ thread_in names threads z) e (here c t names threads ∙ empty ∙ sym (none_there names threads c absent))
+  | inr n ↦ skip c d t names threads n
+]
+insert_same [] threads (suc i) c t d le long absent empty = absurd (omega (arith, le))
+insert_same (m ∷ names) [] (suc i) c t d le long absent empty = absurd (omega (arith, long))
+insert_same (m ∷ names) (s ∷ threads) (suc i) c t d le long absent empty =
+    ap (λ r. cond (same_cid m d) s.keys.items r) (insert_same names threads i c t d (omega (arith, le)) (omega (arith, long)) (λ k. absent (member_there m names c k)) empty)
+
+-- ---- what the threads hold
+
+by_one : (g : Graph) (k : ℕ) (a b : Cid) → IsBy g a k → IsBy g b k → a ≡ b
+by_one g k a b x y = sym x.2 ∙ ap (λ (z : Link). z.by) (link_same g k x.0 y.0 x.1 y.1) ∙ y.2
+
+-- no key stands twice where one thread has changed
+pub once_with : (t u : Threads) (cid : Cid) → ((c : Cid) → Distinct (thread_of t c)) → Distinct (thread_of u cid) → ((c : Cid) → (cid ≡ c → ⊥) → thread_of u c ≡ thread_of t c) → (c : Cid) → Distinct (thread_of u c)
+once_with t u cid old new others c = elim (cid_known cid c) [
+  | inl e ↦ subst (λ z. Distinct (thread_of u z)) e new
+  | inr n ↦ subst Distinct (sym (others c n)) (old c)
+]
+
+-- the same threads of a graph that says the same
+pub threaded_same : (t u : Threads) (g h : Graph) (Out : ℕ → Type 0) → AreThreaded t g Out → AreFormedThreads u → ((c : Cid) → thread_of u c ≡ thread_of t c) → h ≡ g → AreThreaded u h Out
+threaded_same t u g h Out threaded formed same graph =
+    subst (λ f. AreThreaded u f Out) (sym graph) (record {
+      formed = formed;
+      sound = λ c k m. threaded.sound c k (subst (λ l. Contains l k) (same c) m);
+      whole = λ c k by out. subst (λ l. Contains l k) (sym (same c)) (threaded.whole c k by out);
+      once = λ c. subst Distinct (sym (same c)) (threaded.once c);
+    })
+
+pub threaded_like : (t : Threads) (g : Graph) (Out Same : ℕ → Type 0) → ((k : ℕ) → Out k → Same k) → ((k : ℕ) → Same k → Out k) → AreThreaded t g Out → AreThreaded t g Same
+threaded_like t g Out Same to back threaded = record {
+  formed = threaded.formed;
+  sound = λ c k m. let r = threaded.sound c k m in (r.0, λ s. r.1 (back k s));
+  whole = λ c k by out. threaded.whole c k by (λ o. out (to k o));
+  once = threaded.once;
+}
+
+-- one thread was taken whole
+pub threaded_taken : (t u : Threads) (g : Graph) (cid : Cid) → AreThreaded t g (λ k. ⊥) → AreFormedThreads u → thread_of u cid ≡ [] → ((c : Cid) → (cid ≡ c → ⊥) → thread_of u c ≡ thread_of t c) → AreThreaded u g (IsBy g cid)
+threaded_taken t u g cid threaded formed none others = record {
+  formed = formed;
+  sound = λ c k m. elim (cid_known cid c) [
+    | inl e ↦ absurd (member_nil k (subst (λ l. Contains l k) (ap (thread_of u) (sym e) ∙ none) m))
+    | inr n ↦ let by = (threaded.sound c k (subst (λ l. Contains l k) (others c n) m)).0 in (by, λ own. n (by_one g k cid c own by))
+  ];
+  whole = λ c k by out. elim (cid_known cid c) [
+    | inl e ↦ absurd (out (subst (λ z. IsBy g z k) (sym e) by))
+    | inr n ↦ subst (λ l. Contains l k) (sym (others c n)) (threaded.whole c k by (λ never. never))
+  ];
+  once = once_with t u cid threaded.once (subst Distinct (sym none) tt) others;
+}
+
+-- one key was taken out
+pub threaded_forgot : (t u : Threads) (g : Graph) (Out : ℕ → Type 0) (cid : Cid) (key : ℕ) → AreThreaded t g Out → IsBy g cid key → AreFormedThreads u
+    → ((k : ℕ) → Contains (thread_of u cid) k → Contains (thread_of t cid) k × (key ≡ k → ⊥)) → ((k : ℕ) → Contains (thread_of t cid) k → (key ≡ k → ⊥) → Contains (thread_of u cid) k)
+    → Distinct (thread_of u cid) → ((c : Cid) → (cid ≡ c → ⊥) → thread_of u c ≡ thread_of t c) → AreThreaded u g (λ k. Out k ⊎ (key ≡ k))
+threaded_forgot t u g Out cid key threaded is formed fewer keep once others = record {
+  formed = formed;
+  sound = λ c k m. elim (cid_known cid c) [
+    | inl e ↦
+        let f = fewer k (subst (λ z. Contains (thread_of u z) k) (sym e) m) in
+        let r = threaded.sound c k (subst (λ z. Contains (thread_of t z) k) e f.0) in
+        (r.0, λ o. elim o [ inl p ↦ r.1 p | inr q ↦ f.1 q ])
+    | inr n ↦
+        let r = threaded.sound c k (subst (λ l. Contains l k) (others c n) m) in
+        (r.0, λ o. elim o [ inl p ↦ r.1 p | inr q ↦ n (by_one g k cid c (subst (λ z. IsBy g cid z) q is) r.0) ])
+  ];
+  whole = λ c k by out. elim (cid_known cid c) [
+    | inl e ↦ subst (λ z. Contains (thread_of u z) k) e (keep k (subst (λ z. Contains (thread_of t z) k) (sym e) (threaded.whole c k by (λ p. out (inl p)))) (λ q. out (inr q)))
+    | inr n ↦ subst (λ l. Contains l k) (sym (others c n)) (threaded.whole c k by (λ p. out (inl p)))
+  ];
+  once = once_with t u cid threaded.once once others;
+}
+
+-- the constraint's own, and the marked ones from a place of the log on
+abbrev pub IsOutFrom : Graph → Cid → (ℕ → Bool) → List ℕ → ℕ → ℕ → Type 0
+IsOutFrom g cid marks log i k = IsBy g cid k ⊎ (Contains (drop i log) k × (marks k ≡ true))
+
+none_dropped : (xs : List ℕ) (k : ℕ) → Contains (drop (length xs) xs) k → ⊥
+none_dropped [] k m = member_nil k m
+none_dropped (x ∷ xs) k m = none_dropped xs k m
+
+pub threaded_end : (t : Threads) (g : Graph) (cid : Cid) (marks : ℕ → Bool) (log : List ℕ) (end : ℕ) → end ≡ length log → AreThreaded t g (IsBy g cid) → AreThreaded t g (IsOutFrom g cid marks log end)
+threaded_end t g cid marks log end is =
+    threaded_like t g (IsBy g cid) (IsOutFrom g cid marks log end) (λ k by. inl by) (λ k o. elim o [
+      | inl by ↦ by
+      | inr m ↦ absurd (none_dropped log k (subst (λ i. Contains (drop i log) k) is m.0))
+    ])
+
+-- the one before the place is out too, where it is marked
+pub threaded_from : (t : Threads) (g : Graph) (cid : Cid) (marks : ℕ → Bool) (log : List ℕ) (place next key : ℕ) (Now : ℕ → Type 0) → drop place log ≡ key ∷ drop next log
+    → ((k : ℕ) → Now k → IsOutFrom g cid marks log next k ⊎ ((key ≡ k) × (marks k ≡ true))) → ((k : ℕ) → IsOutFrom g cid marks log next k ⊎ ((key ≡ k) × (marks k ≡ true)) → Now k)
+    → AreThreaded t g Now → AreThreaded t g (IsOutFrom g cid marks log place)
+threaded_from t g cid marks log place next key Now rest_is to back =
+    threaded_like t g Now (IsOutFrom g cid marks log place)
+    (λ k now. elim (to k now) [
+      | inl o ↦ elim o [ inl by ↦ inl by | inr m ↦ inr (subst (λ l. Contains l k) (sym rest_is) (member_there key (drop next log) k m.0), m.1) ]
+      | inr e ↦ inr (subst (λ l. Contains l k) (sym rest_is) (member_same (key ∷ drop next log) key k e.0 (member_here key (drop next log))), e.1)
+    ])
+    (λ k o. elim o [
+      | inl by ↦ back k (inl (inl by))
+      | inr m ↦ elim (member_cases key (drop next log) k (subst (λ l. Contains l k) rest_is m.0)) [ inl e ↦ back k (inr (e, m.1)) | inr n ↦ back k (inl (inr (n, m.1))) ]
+    ])
+
+-- what was taken is all that the constraint removed
+pub taken_sound : (t : Threads) (g : Graph) (cid : Cid) (own : List ℕ) → AreThreaded t g (λ k. ⊥) → own ≡ thread_of t cid → (k : ℕ) → Contains own k → IsBy g cid k
+taken_sound t g cid own threaded is k m = (threaded.sound cid k (subst (λ l. Contains l k) is m)).0
+
+pub taken_whole : (t : Threads) (g : Graph) (cid : Cid) (own : List ℕ) → AreThreaded t g (λ k. ⊥) → own ≡ thread_of t cid → (k : ℕ) → IsBy g cid k → Contains own k
+taken_whole t g cid own threaded is k by = subst (λ l. Contains l k) (sym is) (threaded.whole cid k by (λ never. never))
+
+-- ---- names and places
+
+pub name_at : (names : List Cid) (place : ℕ) (c d : Cid) → place < length names → d ≡ get_or names place d → same_cid d c ≡ true → slice_get names place ≡ Some c
+name_at names place c d lt at same = slice_get-get_or names place d lt ∙ ap Some (sym at ∙ cid_same d c same)
+
+pub insert_at : (names : List Cid) (i : ℕ) (c : Cid) → i ≤ length names → slice_get (insert names i c) i ≡ Some c
+insert_at names zero c le = refl
+insert_at [] (suc i) c le = absurd (omega (arith, le))
+insert_at (m ∷ names) (suc i) c le = insert_at names i c (omega (arith, le))
+
+pub set_long : (threads : List Thread) (i : ℕ) (t : Thread) → length (set threads i t) ≡ length threads
+set_long [] i t = refl
+set_long (s ∷ threads) zero t = refl
+set_long (s ∷ threads) (suc i) t = ap suc (set_long threads i t)
+
+-- the thread at the place of a name
+pub thread_there : (names : List Cid) (threads : List Thread) (i : ℕ) (c : Cid) → length threads ≡ length names → slice_get names i ≡ Some c → i < length threads
+thread_there names threads i c long at = let lt = slice_get_within names i c at in omega (arith, lt, long)
+
+pub thread_at : (threads : List Thread) (i : ℕ) (t : Thread) → i < length threads → t ≡ get_or threads i t → slice_get threads i ≡ Some t
+thread_at threads i t lt at = slice_get-get_or threads i t lt ∙ ap Some (sym at)
