@@ -1,30 +1,47 @@
 -- What an agenda keeps, after each of its calls.
-use Rattle.std.proofs.Common.{◌≡◌, ℕ, ◌+◌, ◌<◌, ◌≤◌, Bool, true, false, not, ◌||◌, if◌then◌else◌, List, [], ◌∷◌, map, reverse, length, get_or, set, take, slice_get, insert, remove, Contains, All, Option, None, Some, ◌⊎◌, ◌↔◌, inl, inr, refl, sym, ap, ◌∙◌, subst, arith, nat_eq, eq-eqb, eqb-true, length-set}
+use Rattle.std.proofs.Common.{◌≡◌, ℕ, ◌+◌, ◌<◌, ◌≤◌, Bool, true, false, not, ◌||◌, if◌then◌else◌, List, [], ◌∷◌, map, reverse, length, get_or, set, take, slice_get, insert, remove, Contains, All, Option, None, Some, zero, suc, ◌⊎◌, ◌↔◌, inl, inr, refl, sym, ap, ◌∙◌, subst, arith, nat_eq, nat_lt, lt-ltb, le-ltb, IfNone, eq-eqb, eqb-true, length-set}
 use Rattle.std.specs.Option.{MatchOption}
 use Rattle.std.proofs.lemmas.Bool.{cases_Bool, false≢true}
-use Rattle.std.proofs.lemmas.List.{length-map, length-replicate, take_all}
-use Rattle.std.proofs.lemmas.List.Edits.{length-insert}
+use Rattle.std.proofs.lemmas.List.{get_or-map, length-map, length-replicate, nil_from_length, take_all}
+use Rattle.std.proofs.lemmas.List.Edits.{length-insert, length-remove}
 use Rattle.std.proofs.lemmas.List.Folds.{list_any_more}
 use Rattle.std.proofs.lemmas.Option.{slice_get_within, slice_get-get_or, get_or_from_slice_get}
 use Rattle.palm_base.specs.declared.terms.Cid.{Cid}
-use Rattle.palm_base.proofs.Members.{member_same, member_map, member_unmap, all_members, map_agree, member_take, member_take_more}
+use Rattle.palm_base.proofs.Members.{member_get, member_nil, member_same, member_map, member_unmap, all_members, map_agree, member_take_more}
 use Rattle.palm_base.specs.Tells.{Tells}
 use Rattle.palm_model.proofs.Supports.{any_member, member_any}
 use Rattle.palm_model.specs.Log.{Rises, cid_before, is_named, same_cid}
 use Rattle.palm_model.specs.State.{without_cid}
 use Rattle.palm_events.proofs.Names.{cid_same, same_cid_itself, member_named}
-use Rattle.palm_events.proofs.States.{without_cid_member, without_cid_rises}
-use Rattle.palm_agenda.specs.Names.{Roomy, HasRoomFor, FitsBoth, IsPartedAt, names_at, with_name}
-use Rattle.palm_agenda.specs.Agenda.{Connected, HasMarks, IsConnected, IsMarked, IsOver, HasPlace, names_of, marked_whole, marked_where, changed_at, changed_among, mark_others, is_over, unmarked, with_connected, without_connected}
+use Rattle.palm_events.proofs.States.{without_cid_rises}
+use Rattle.palm_agenda.specs.Flags.{FlagRow, IsFirst, count_raised, flagged}
+use Rattle.palm_agenda.specs.Names.{Roomy, IsPartedAt, names_at}
+use Rattle.palm_agenda.specs.Agenda.{Connected, HasMarks, IsConnected, IsFormed, IsMarked, Takes, index_within, IsOver, HasPlace, names_of, marked_whole, marked_where, changed_at, changed_among, mark_others, is_over, unmarked, with_connected, without_connected}
 use Rattle.palm_agenda.specs.Kept.{IsKept}
 use Rattle.palm_agenda.specs.Places.{is_place, mark_places}
 use Rattle.palm_agenda.specs.declared.connection.Places.{Places}
 use Rattle.palm_agenda.specs.declared.connection.Places.TheVariants.{Own, Others}
-use Rattle.palm_agenda.proofs.Connecting.{cid_of, connected_name, names_with, names_without, over_connected, over_with, over_without, stands, connected_at, disconnected_at, with_connected_cases, with_connected_here, member_with_connected, without_connected_member, member_without_connected, sorted_connected}
+use Rattle.palm_agenda.proofs.Connecting.{cid_of, name_connected, names_with, names_without, over_connected, over_with, over_without, stands, connected_at, disconnected_at, with_connected_cases, without_connected_member, sorted_connected}
+use Rattle.palm_agenda.proofs.Flagged.{flagged_length, flagged_member, flagged_rises, inserted_set, lowered_without, raised_set, removed_lowered, first_flagged}
 use Rattle.palm_agenda.proofs.Marking.{marks_length, marks_none, marks_twice}
-use Rattle.palm_agenda.proofs.NameLists.{fits_among, filter_short, length_within, member_reverse, reverse_member, rises_different, room_among, room_of_both, with_name_cases, with_name_rises, with_name_set, rising}
+use Rattle.palm_agenda.proofs.NameLists.{filter_short, member_reverse, reverse_member, with_name_rises, rising}
 use Rattle.palm_agenda.proofs.Rows.{front_last, front_more, row_within}
 use Rattle.palm_agenda.proofs.Sorted.{map_sets, apart}
+
+if_true : {X : Type 0} (b : Bool) (x y : X) → b ≡ true → (if b then x else y) ≡ x
+if_true b x y e = ap (λ v. if v then x else y) e
+
+if_false : {X : Type 0} (b : Bool) (x y : X) → b ≡ false → (if b then x else y) ≡ y
+if_false b x y e = ap (λ v. if v then x else y) e
+
+-- the names at raised flags are of connected constraints, and rise
+pub formed_of : (connected : List Connected) (flags : List Bool) → Rises (names_of connected) → All HasMarks connected → IsFormed (record { connected = connected; pending = flagged (names_of connected) flags })
+formed_of connected flags rises marks = record {
+  rising = rises;
+  pending_rising = flagged_rises (names_of connected) flags rises;
+  pending_connected = λ c m. name_connected connected c (flagged_member (names_of connected) flags c m);
+  marks = marks;
+}
 
 -- ---- a change of marks
 
@@ -75,83 +92,107 @@ module _ (f : Connected → Connected) (keeps : KeepsScopes f) where
       let has : HasMarks r.0 = subst HasMarks k.2 (all k.0 r.0 k.1) in
       subst HasMarks r.2 (keeps.many r.0 ∙ has ∙ ap length (sym (keeps.scope r.0))))
 
-  pub kept_after : (connected : List Connected) (over : List Roomy) (pending : Roomy) (shown : ℕ) → IsKept connected over pending shown → IsKept (map f connected) over pending shown
-  kept_after connected over pending shown kept = record {
-    formed = record {
-      rising = subst Rises (sym (names_kept connected)) kept.formed.rising;
-      pending_rising = kept.formed.pending_rising;
-      pending_connected = λ c m. connected_kept connected c (kept.formed.pending_connected c m);
-      marks = marks_kept connected kept.formed.marks;
-    };
+  pub kept_after : (connected : List Connected) (over : List Roomy) (flags : List Bool) (shown : ℕ) → IsKept connected over flags shown → IsKept (map f connected) over flags shown
+  kept_after connected over flags shown kept = record {
+    formed = formed_of (map f connected) flags (subst Rises (sym (names_kept connected)) kept.formed.rising) (marks_kept connected kept.formed.marks);
     over_names = λ x c. (
       λ m. (over_kept connected x c).1 ((kept.over_names x c).0 m),
       λ is. (kept.over_names x c).1 ((over_kept connected x c).0 is),
     );
-    pending_room = omega (arith, length-map connected f, kept.pending_room);
+    flag_each = omega (arith, length-map connected f, kept.flag_each);
     shown_room = omega (arith, length-map connected f, kept.shown_room);
   }
 
 -- ---- a change of what is pending
 
-pub pending_after : (connected : List Connected) (over : List Roomy) (pending now : Roomy) (shown room : ℕ) → IsKept connected over pending shown → Rises now.names → ((c : Cid) → Contains now.names c → IsConnected connected c)
-    → now.room ≡ pending.room → shown ≤ room → IsKept connected over now room
-pending_after connected over pending now shown room kept rises among same grows = record {
-  formed = record { rising = kept.formed.rising; pending_rising = rises; pending_connected = among; marks = kept.formed.marks };
+pub pending_after : (connected : List Connected) (over : List Roomy) (flags now : List Bool) (shown room : ℕ) → IsKept connected over flags shown → length now ≡ length flags → shown ≤ room → IsKept connected over now room
+pending_after connected over flags now shown room kept same grows = record {
+  formed = formed_of connected now kept.formed.rising kept.formed.marks;
   over_names = kept.over_names;
-  pending_room = omega (arith, same, kept.pending_room);
+  flag_each = omega (arith, same, kept.flag_each);
   shown_room = omega (arith, kept.shown_room, grows);
 }
 
--- a connected name is put in
-pub put_after : (connected : List Connected) (over : List Roomy) (pending now : Roomy) (shown : ℕ) (cid : Cid) → IsKept connected over pending shown → IsConnected connected cid → now.names ≡ with_name cid pending.names → now.room ≡ pending.room → IsKept connected over now shown
-put_after connected over pending now shown cid kept there is same =
-    pending_after connected over pending now shown shown kept (subst Rises (sym is) (with_name_rises cid pending.names kept.formed.pending_rising))
-    (λ c m. elim (with_name_cases cid pending.names c (subst (λ names. Contains names c) is m)) [
-      | inl k ↦ kept.formed.pending_connected c k
-      | inr e ↦ subst (IsConnected connected) (sym e) there
-    ]) same (omega arith)
+-- a flag is raised or lowered
+pub set_after : (connected : List Connected) (over : List Roomy) (flags now : List Bool) (shown room place : ℕ) (flag : Bool) → IsKept connected over flags shown → now ≡ set flags place flag → shown ≤ room → IsKept connected over now room
+set_after connected over flags now shown room place flag kept is grows = pending_after connected over flags now shown room kept (ap length is ∙ length-set flags place flag) grows
 
-pub pending_set : (cid : Cid) (names now : List Cid) → now ≡ with_name cid names → (c : Cid) → Contains now c ↔ (Contains names c ⊎ (c ≡ cid))
-pending_set cid names now is c = subst (λ ns. Contains ns c ↔ (Contains names c ⊎ (c ≡ cid))) (sym is) (with_name_set cid names c)
+-- the first flag is lowered, where one is raised
+pub first_after : (connected : List Connected) (over : List Roomy) (flags now : FlagRow) (shown : ℕ) (taken : Option ℕ) → IsKept connected over flags.flags shown
+    → MatchOption taken ((count_raised flags.flags ≡ 0) × (now ≡ flags)) (λ place. IsFirst flags.flags place × (now.flags ≡ set flags.flags place false)) → IsKept connected over now.flags shown
+first_after connected over flags now shown None kept is = subst (λ (f : FlagRow). IsKept connected over f.flags shown) (sym is.1) kept
+first_after connected over flags now shown (Some place) kept is = set_after connected over flags.flags now.flags shown shown place false kept is.1 (omega arith)
 
--- a name is taken out
-pub taken_after : (connected : List Connected) (over : List Roomy) (pending now : Roomy) (shown room : ℕ) (cid : Cid) → IsKept connected over pending shown → now.names ≡ without_cid cid pending.names → now.room ≡ pending.room → shown ≤ room → IsKept connected over now room
-taken_after connected over pending now shown room cid kept is same grows =
-    pending_after connected over pending now shown room kept (subst Rises (sym is) (without_cid_rises cid pending.names kept.formed.pending_rising))
-    (λ c m. kept.formed.pending_connected c (without_cid_member cid pending.names c (subst (λ names. Contains names c) is m)).0) same grows
+-- no name is pending where no flag is raised
+pub none_pending : (connected : List Connected) (over : List Roomy) (flags : List Bool) (shown : ℕ) → IsKept connected over flags shown → count_raised flags ≡ 0 → flagged (names_of connected) flags ≡ []
+none_pending connected over flags shown kept none =
+    nil_from_length (flagged (names_of connected) flags) (flagged_length (names_of connected) flags (kept.flag_each ∙ sym (length-map connected cid_of)) ∙ none)
 
--- the first name is taken out, where there is one
-pub first_after : (connected : List Connected) (over : List Roomy) (pending now : Roomy) (shown : ℕ) (taken : Option Cid) → IsKept connected over pending shown
-    → MatchOption taken ((pending.names ≡ []) × (now ≡ pending)) (λ c. (slice_get pending.names 0 ≡ Some c) × (now.names ≡ without_cid c pending.names) × (now.room ≡ pending.room)) → IsKept connected over now shown
-first_after connected over pending now shown None kept is = subst (λ (p : Roomy). IsKept connected over p shown) (sym is.1) kept
-first_after connected over pending now shown (Some c) kept is = taken_after connected over pending now shown shown c kept is.1 is.2 (omega arith)
+pub tells_none : (connected : List Connected) (over : List Roomy) (flags : List Bool) (shown : ℕ) → IsKept connected over flags shown → (told : Bool) → Tells told (count_raised flags ≡ 0) → Tells told (flagged (names_of connected) flags ≡ [])
+tells_none connected over flags shown kept true told = none_pending connected over flags shown kept told
+tells_none connected over flags shown kept false told = λ e. told (sym (flagged_length (names_of connected) flags (kept.flag_each ∙ sym (length-map connected cid_of))) ∙ ap length e)
 
--- the pending names are no more than the connected ones
-pub pending_few : (connected : List Connected) (over : List Roomy) (pending : Roomy) (shown : ℕ) → IsKept connected over pending shown → length pending.names ≤ length connected
-pending_few connected over pending shown kept =
-    let few = length_within pending.names (names_of connected) (rises_different pending.names kept.formed.pending_rising) (λ c m. connected_name connected c (kept.formed.pending_connected c m)) in
-    omega (arith, few, length-map connected cid_of)
+-- a name is pending where a flag is raised
+pub some_pending : (connected : List Connected) (over : List Roomy) (flags : List Bool) (shown : ℕ) → IsKept connected over flags shown → (told : Bool) → Tells told (count_raised flags ≡ 0) → told ≡ false
+    → (names : List Cid) → names ≡ flagged (names_of connected) flags → names ≡ [] → ⊥
+some_pending connected over flags shown kept told tells is names shows none =
+    let other : Tells false (flagged (names_of connected) flags ≡ []) = subst (λ b. Tells b (flagged (names_of connected) flags ≡ [])) is (tells_none connected over flags shown kept told tells) in
+    other (sym shows ∙ none)
 
--- a connected name finds room among the pending ones
-pub room_connected : (connected : List Connected) (over : List Roomy) (pending : Roomy) (shown : ℕ) (cid : Cid) → IsKept connected over pending shown → IsConnected connected cid → HasRoomFor cid pending
-room_connected connected over pending shown cid kept is =
-    room_among cid pending (names_of connected) kept.formed.pending_rising (λ c m. connected_name connected c (kept.formed.pending_connected c m)) (connected_name connected cid is)
-    (omega (arith, kept.pending_room, length-map connected cid_of))
+pub no_pending : (connected : List Connected) (over : List Roomy) (flags : List Bool) (shown : ℕ) → IsKept connected over flags shown → (told : Bool) → Tells told (count_raised flags ≡ 0) → told ≡ true → flagged (names_of connected) flags ≡ []
+no_pending connected over flags shown kept told tells is = none_pending connected over flags shown kept (subst (λ b. Tells b (count_raised flags ≡ 0)) is tells)
 
--- the names over a variable fit beside the pending ones
-pub fits_over : (connected : List Connected) (over : List Roomy) (pending : Roomy) (shown x : ℕ) (names : List Cid) → IsKept connected over pending shown → names ≡ reverse (names_at over x) → FitsBoth pending.room pending.names names
-fits_over connected over pending shown x names kept is =
-    fits_among pending.room pending.names names (names_of connected) (λ c m. connected_name connected c (kept.formed.pending_connected c m))
-    (λ c m. connected_name connected c (over_connected connected x c ((kept.over_names x c).0 (reverse_member (names_at over x) c (subst (λ cs. Contains cs c) is m)))))
-    (omega (arith, kept.pending_room, length-map connected cid_of))
+-- a name that is shown is of a connected constraint
+pub shown_connected : (connected : List Connected) (over : List Roomy) (flags : List Bool) (shown : ℕ) → IsKept connected over flags shown → (names looked : List Cid) → names ≡ flagged (names_of connected) flags → looked ≡ names
+    → (index : ℕ) (cid : Cid) → slice_get looked index ≡ Some cid → IsConnected connected cid
+shown_connected connected over flags shown kept names looked shows is index cid at =
+    kept.formed.pending_connected cid (subst (λ cs. Contains cs cid) (is ∙ shows) (member_get looked index cid at))
+
+-- the first name is handed out
+pub first_taken : (connected : List Connected) (over : List Roomy) (flags now : List Bool) (shown : ℕ) → IsKept connected over flags shown → (place : ℕ) → IsFirst flags place → now ≡ set flags place false
+    → (looked : List Connected) → looked ≡ connected → (cid : Cid) → slice_get (names_of looked) place ≡ Some cid → Takes (flagged (names_of connected) flags) (flagged (names_of connected) now) 0 cid
+first_taken connected over flags now shown kept place first is looked looked_is cid named =
+    let within : place < length flags = slice_get_within flags place true first.raised in
+    let same = kept.flag_each in
+    let many = length-map connected cid_of in
+    let at : (c : Cid) → get_or (names_of connected) place c ≡ cid = λ c. ap (λ ds. get_or (names_of ds) place c) (sym looked_is) ∙ get_or_from_slice_get (names_of looked) place cid c named in
+    let front = first_flagged cid (names_of connected) flags place (omega arith) within at (λ b. get_or_from_slice_get flags place true b first.raised) first.before in
+    record {
+      chosen = ap (slice_get (flagged (names_of connected) flags)) (index_none (length (flagged (names_of connected) flags))) ∙ front;
+      pending = ap (flagged (names_of connected)) is ∙ lowered_without cid (names_of connected) flags place kept.formed.rising (omega arith) within at;
+    }
+  where
+    index_none : (n : ℕ) → index_within 0 n ≡ 0
+    index_none n = either (nat_lt 0 n) 0
+      where
+        either : (b : Bool) (x : ℕ) → (if b then x else x) ≡ x
+        either true x = refl
+        either false x = refl
+
+pub given_none : {X P Q : Type 0} (r : Option X) → P → Q → IfNone r (P × Q)
+given_none None p q = (p, q)
+given_none (Some x) p q = tt
+
+-- the name at the answered index
+pub chosen_within : (names : List Cid) (answer index : ℕ) (d cid : Cid) → answer < length names → index ≡ answer → d ≡ get_or names index d → cid ≡ d → slice_get names (index_within answer (length names)) ≡ Some cid
+chosen_within names answer index d cid lt is item same =
+    ap (slice_get names) (if_true (nat_lt answer (length names)) answer 0 (lt-ltb answer (length names) lt) ∙ sym is) ∙ slice_get-get_or names index d (omega (arith, is)) ∙ ap Some (sym item ∙ sym same)
+
+pub chosen_first : (names : List Cid) (answer index : ℕ) (d cid : Cid) → length names ≤ answer → (names ≡ [] → ⊥) → index ≡ 0 → d ≡ get_or names index d → cid ≡ d → slice_get names (index_within answer (length names)) ≡ Some cid
+chosen_first [] answer index d cid past some is item same = absurd (some refl)
+chosen_first (c ∷ names) answer index d cid past some is item same =
+    ap (slice_get (c ∷ names)) (if_false (nat_lt answer (length (c ∷ names))) answer 0 (le-ltb answer (length (c ∷ names)) past) ∙ sym is) ∙ slice_get-get_or (c ∷ names) index d (omega (arith, is)) ∙ ap Some (sym item ∙ sym same)
+
+-- the answered name is handed out
+pub answered_taken : (connected : List Connected) (over : List Roomy) (flags now : List Bool) (shown : ℕ) (kept : IsKept connected over flags shown) (names looked : List Cid) → names ≡ flagged (names_of connected) flags → looked ≡ names
+    → (answer : ℕ) (cid : Cid) → slice_get looked (index_within answer (length looked)) ≡ Some cid → flagged (names_of connected) now ≡ without_cid cid (flagged (names_of connected) flags)
+    → Takes (flagged (names_of connected) flags) (flagged (names_of connected) now) answer cid
+answered_taken connected over flags now shown kept names looked shows is answer cid at less = record {
+  chosen = subst (λ cs. slice_get cs (index_within answer (length cs)) ≡ Some cid) (is ∙ shows) at;
+  pending = less;
+}
 
 -- ---- which marks change
-
-if_true : {X : Type 0} (b : Bool) (x y : X) → b ≡ true → (if b then x else y) ≡ x
-if_true b x y e = ap (λ v. if v then x else y) e
-
-if_false : {X : Type 0} (b : Bool) (x y : X) → b ≡ false → (if b then x else y) ≡ y
-if_false b x y e = ap (λ v. if v then x else y) e
 
 keeps_where : (test : ℕ → Bool) → KeepsScopes (marked_where test)
 keeps_where test = record { cid = λ d. refl; scope = λ d. refl; many = λ d. marks_length test d.scope d.marks }
@@ -233,6 +274,26 @@ module _ (connected : List Connected) (rises : Rises (names_of connected)) (cid 
   pub owner_is : (is : IsConnected connected cid) (d : Connected) → d ≡ get_or connected place d → d ≡ is.owner
   owner_is is d e = e ∙ get_or_from_slice_get connected place is.owner d (stands connected rises cid place at is.owner is.listed is.named)
 
+  -- its name stands there among the names
+  pub name_here : IsConnected connected cid → (c : Cid) → get_or (names_of connected) place c ≡ cid
+  name_here is c =
+      get_or-map cid_of connected place is.owner c (place_within is)
+      ∙ ap cid_of (get_or_from_slice_get connected place is.owner is.owner (stands connected rises cid place at is.owner is.listed is.named)) ∙ is.named
+
+  -- its flag is raised
+  pub raised_at : (flags now : List Bool) → length flags ≡ length connected → IsConnected connected cid → now ≡ set flags place true → (c : Cid)
+      → Contains (flagged (names_of connected) now) c ↔ (Contains (flagged (names_of connected) flags) c ⊎ (c ≡ cid))
+  raised_at flags now same is becomes c =
+      let within = place_within is in
+      subst (λ fs. Contains (flagged (names_of connected) fs) c ↔ (Contains (flagged (names_of connected) flags) c ⊎ (c ≡ cid))) (sym becomes)
+      (raised_set cid (names_of connected) flags place (omega (arith, length-map connected cid_of)) (omega arith) (name_here is) c)
+
+  -- its flag is lowered
+  pub lowered_at : (flags now : List Bool) → length flags ≡ length connected → IsConnected connected cid → now ≡ set flags place false → flagged (names_of connected) now ≡ without_cid cid (flagged (names_of connected) flags)
+  lowered_at flags now same is becomes =
+      let within = place_within is in
+      ap (flagged (names_of connected)) becomes ∙ lowered_without cid (names_of connected) flags place rises (omega (arith, length-map connected cid_of)) (omega arith) (name_here is)
+
   pub changed_here : (f : Connected → Connected) (is : IsConnected connected cid) (d now : Connected) → d ≡ get_or connected place d → now ≡ f d → set connected place now ≡ map (changed_at cid f) connected
   changed_here f is d now e becomes =
       map_sets (changed_at cid f) connected place now (place_within is)
@@ -303,57 +364,64 @@ woken_marks places x names connected all = map_agree (changed_among names (mark_
 
 -- ---- one more constraint and one fewer
 
--- more room, and the same names
-pub grown_after : (connected : List Connected) (over later : List Roomy) (pending now : Roomy) (shown room : ℕ) → IsKept connected over pending shown → ((x : ℕ) → names_at later x ≡ names_at over x)
-    → now.names ≡ pending.names → pending.room ≤ now.room → shown ≤ room → IsKept connected later now room
-grown_after connected over later pending now shown room kept names same wider longer = record {
-  formed = record {
-    rising = kept.formed.rising;
-    pending_rising = subst Rises (sym same) kept.formed.pending_rising;
-    pending_connected = λ c m. kept.formed.pending_connected c (subst (λ cs. Contains cs c) same m);
-    marks = kept.formed.marks;
-  };
+map_insert : {X Y : Type 0} (f : X → Y) (xs : List X) (i : ℕ) (x : X) → map f (insert xs i x) ≡ insert (map f xs) i (f x)
+map_insert f [] zero x = refl
+map_insert f [] (suc i) x = refl
+map_insert f (y ∷ xs) zero x = refl
+map_insert f (y ∷ xs) (suc i) x = ap (λ ys. f y ∷ ys) (map_insert f xs i x)
+
+map_remove : {X Y : Type 0} (f : X → Y) (xs : List X) (i : ℕ) → map f (remove xs i) ≡ remove (map f xs) i
+map_remove f [] zero = refl
+map_remove f [] (suc i) = refl
+map_remove f (y ∷ xs) zero = refl
+map_remove f (y ∷ xs) (suc i) = ap (λ ys. f y ∷ ys) (map_remove f xs i)
+
+-- more room, and the same names and flags
+pub grown_after : (connected : List Connected) (over later : List Roomy) (flags now : List Bool) (shown room : ℕ) → IsKept connected over flags shown → ((x : ℕ) → names_at later x ≡ names_at over x)
+    → now ≡ flags → shown ≤ room → IsKept connected later now room
+grown_after connected over later flags now shown room kept names same longer = record {
+  formed = formed_of connected now kept.formed.rising kept.formed.marks;
   over_names = λ x c. subst (λ cs. Contains cs c ↔ IsOver connected x c) (sym (names x)) (kept.over_names x c);
-  pending_room = omega (arith, kept.pending_room, wider);
+  flag_each = ap length same ∙ kept.flag_each;
   shown_room = omega (arith, kept.shown_room, longer);
 }
 
-module _ (connected : List Connected) (over later : List Roomy) (pending now : Roomy) (shown room : ℕ) (cid : Cid) (scope : List ℕ) (place : ℕ) (kept : IsKept connected over pending shown)
+module _ (connected : List Connected) (over later : List Roomy) (flags now : List Bool) (shown room : ℕ) (cid : Cid) (scope : List ℕ) (place : ℕ) (kept : IsKept connected over flags shown)
     (at : IsPartedAt (λ d. cid_before d.cid cid) connected place) (absent : IsConnected connected cid → ⊥) where
   inserted_is : insert connected place (marked_whole cid scope) ≡ with_connected (marked_whole cid scope) connected
   inserted_is = connected_at connected kept.formed.rising cid place at absent (marked_whole cid scope) refl
 
   pub connected_after : (after : List Connected) → after ≡ insert connected place (marked_whole cid scope)
       → ((x : ℕ) (c : Cid) → Contains (names_at later x) c ↔ (Contains (names_at over x) c ⊎ (Contains scope x × (c ≡ cid))))
-      → now.names ≡ with_name cid pending.names → length connected + 1 ≤ now.room → length connected + 1 ≤ room → IsKept after later now room
-  connected_after after is names pending_is wide long =
+      → now ≡ insert flags place true → length connected + 1 ≤ room → IsKept after later now room
+  connected_after after is names now_is long =
       let whole = marked_whole cid scope in
       let e : after ≡ with_connected whole connected = is ∙ inserted_is in
       let many : length after ≡ length connected + 1 = ap length is ∙ length-insert connected place whole at.within in
       record {
-        formed = record {
-          rising = subst (λ ds. Rises (names_of ds)) (sym e) (subst Rises (sym (names_with whole connected)) (with_name_rises cid (names_of connected) kept.formed.rising));
-          pending_rising = subst Rises (sym pending_is) (with_name_rises cid pending.names kept.formed.pending_rising);
-          pending_connected = λ c m. subst (λ ds. IsConnected ds c) (sym e) (elim (with_name_cases cid pending.names c (subst (λ cs. Contains cs c) pending_is m)) [
-            | inl k ↦
-                let old = kept.formed.pending_connected c k in
-                record { owner = old.owner; listed = member_with_connected whole connected old.owner absent old.listed; named = old.named }
-            | inr s ↦ record { owner = whole; listed = with_connected_here whole connected; named = sym s }
-          ]);
-          marks = subst (All HasMarks) (sym e) (all_members HasMarks (with_connected whole connected) (λ d m. elim (with_connected_cases whole connected d m) [
-            | inl s ↦ subst HasMarks s (length-replicate (length scope) true)
-            | inr k ↦ subst HasMarks k.2 (kept.formed.marks k.0 d k.1)
-          ]));
-        };
+        formed = formed_of after now (subst (λ ds. Rises (names_of ds)) (sym e) (subst Rises (sym (names_with whole connected)) (with_name_rises cid (names_of connected) kept.formed.rising)))
+            (subst (All HasMarks) (sym e) (all_members HasMarks (with_connected whole connected) (λ d m. elim (with_connected_cases whole connected d m) [
+              | inl s ↦ subst HasMarks s (length-replicate (length scope) true)
+              | inr k ↦ subst HasMarks k.2 (kept.formed.marks k.0 d k.1)
+            ])));
         over_names = λ x c. subst (λ ds. Contains (names_at later x) c ↔ IsOver ds x c) (sym e) (
           λ m. (over_with whole connected x c absent).1 (elim ((names x c).0 m) [ inl k ↦ inl ((kept.over_names x c).0 k) | inr both ↦ inr both ]),
           λ h. (names x c).1 (elim ((over_with whole connected x c absent).0 h) [ inl k ↦ inl ((kept.over_names x c).1 k) | inr both ↦ inr both ]),
         );
-        pending_room = omega (arith, many, wide);
+        flag_each = let more = length-insert flags place true (omega (arith, kept.flag_each, at.within)) in omega (arith, ap length now_is, more, many, kept.flag_each);
         shown_room = omega (arith, many, long);
       }
 
-module _ (connected : List Connected) (over : List Roomy) (pending : Roomy) (shown : ℕ) (cid : Cid) (place : ℕ) (d : Connected) (kept : IsKept connected over pending shown)
+  -- the new one is pending
+  pub pending_with : (after : List Connected) → after ≡ insert connected place (marked_whole cid scope) → now ≡ insert flags place true → (c : Cid)
+      → Contains (flagged (names_of after) now) c ↔ (Contains (flagged (names_of connected) flags) c ⊎ (c ≡ cid))
+  pending_with after is now_is c =
+      let names_is : names_of after ≡ insert (names_of connected) place cid = ap names_of is ∙ map_insert cid_of connected place (marked_whole cid scope) in
+      subst (λ names. Contains (flagged names now) c ↔ (Contains (flagged (names_of connected) flags) c ⊎ (c ≡ cid))) (sym names_is)
+      (subst (λ fs. Contains (flagged (insert (names_of connected) place cid) fs) c ↔ (Contains (flagged (names_of connected) flags) c ⊎ (c ≡ cid))) (sym now_is)
+      (inserted_set cid (names_of connected) flags place (kept.flag_each ∙ sym (length-map connected cid_of)) c))
+
+module _ (connected : List Connected) (over : List Roomy) (flags : List Bool) (shown : ℕ) (cid : Cid) (place : ℕ) (d : Connected) (kept : IsKept connected over flags shown)
     (at : IsPartedAt (λ e. cid_before e.cid cid) connected place) (there : IsConnected connected cid) (item : d ≡ get_or connected place d) where
   owner_here : d ≡ there.owner
   owner_here = owner_is connected kept.formed.rising cid place at there d item
@@ -368,24 +436,26 @@ module _ (connected : List Connected) (over : List Roomy) (pending : Roomy) (sho
   pub removed_is : remove connected place ≡ without_connected cid connected
   removed_is = disconnected_at connected kept.formed.rising cid place at there
 
-  pub disconnected_after : (after : List Connected) (later : List Roomy) (now : Roomy) (scope : List ℕ) → after ≡ remove connected place → scope ≡ d.scope
+  -- it is pending no longer
+  pub pending_without : (after : List Connected) (now : List Bool) → after ≡ remove connected place → now ≡ remove flags place → flagged (names_of after) now ≡ without_cid cid (flagged (names_of connected) flags)
+  pending_without after now is now_is =
+      let within = place_within connected kept.formed.rising cid place at there in
+      let same = kept.flag_each in
+      ap (λ ds. flagged (names_of ds) now) is ∙ ap (flagged (names_of (remove connected place))) now_is
+      ∙ ap (λ names. flagged names (remove flags place)) (map_remove cid_of connected place)
+      ∙ removed_lowered (names_of connected) flags place (omega (arith, length-map connected cid_of)) (omega arith)
+      ∙ lowered_at connected kept.formed.rising cid place at flags (set flags place false) kept.flag_each there refl
+
+  pub disconnected_after : (after : List Connected) (later : List Roomy) (now : List Bool) (scope : List ℕ) → after ≡ remove connected place → scope ≡ d.scope
       → ((x : ℕ) (c : Cid) → Contains (names_at later x) c ↔ (Contains (names_at over x) c × (Contains scope x → c ≡ cid → ⊥)))
-      → now.names ≡ without_cid cid pending.names → now.room ≡ pending.room → IsKept after later now shown
-  disconnected_after after later now scope is scope_is names pending_is same =
+      → now ≡ remove flags place → IsKept after later now shown
+  disconnected_after after later now scope is scope_is names now_is =
       let e : after ≡ without_connected cid connected = is ∙ removed_is in
       let few : length after ≤ length connected = omega (arith, ap length e, filter_short (λ (f : Connected). not (is_named (cid ∷ []) f.cid)) connected) in
       record {
-        formed = record {
-          rising = subst (λ ds. Rises (names_of ds)) (sym e) (subst Rises (sym (names_without cid connected)) (without_cid_rises cid (names_of connected) kept.formed.rising));
-          pending_rising = subst Rises (sym pending_is) (without_cid_rises cid pending.names kept.formed.pending_rising);
-          pending_connected = λ c m.
-              let r = without_cid_member cid pending.names c (subst (λ cs. Contains cs c) pending_is m) in
-              let old = kept.formed.pending_connected c r.0 in
-              subst (λ ds. IsConnected ds c) (sym e)
-              (record { owner = old.owner; listed = member_without_connected cid connected old.owner old.listed (λ s. r.1 (sym old.named ∙ s)); named = old.named });
-          marks = subst (All HasMarks) (sym e) (all_members HasMarks (without_connected cid connected) (λ f m.
-              let k = (without_connected_member cid connected f m).0 in subst HasMarks k.2 (kept.formed.marks k.0 f k.1)));
-        };
+        formed = formed_of after now (subst (λ ds. Rises (names_of ds)) (sym e) (subst Rises (sym (names_without cid connected)) (without_cid_rises cid (names_of connected) kept.formed.rising)))
+            (subst (All HasMarks) (sym e) (all_members HasMarks (without_connected cid connected) (λ f m.
+            let k = (without_connected_member cid connected f m).0 in subst HasMarks k.2 (kept.formed.marks k.0 f k.1))));
         over_names = λ x c. subst (λ ds. Contains (names_at later x) c ↔ IsOver ds x c) (sym e) (
           λ m.
               let r = (names x c).0 m in
@@ -395,7 +465,11 @@ module _ (connected : List Connected) (over : List Roomy) (pending : Roomy) (sho
               let r = (over_without cid connected x c).0 h in
               (names x c).1 ((kept.over_names x c).1 r.0, λ m s. r.1 s),
         );
-        pending_room = omega (arith, few, same, kept.pending_room);
+        flag_each =
+            let within = place_within connected kept.formed.rising cid place at there in
+            let fewer = length-remove connected place within in
+            let less = length-remove flags place (omega (arith, kept.flag_each)) in
+            omega (arith, ap length is, ap length now_is, kept.flag_each);
         shown_room = omega (arith, few, kept.shown_room);
       }
     where
@@ -406,36 +480,31 @@ module _ (connected : List Connected) (over : List Roomy) (pending : Roomy) (sho
 
 -- ---- waking
 
-pub woken_after : (places : Places) (x : ℕ) (names : List Cid) (connected : List Connected) (over : List Roomy) (pending now : Roomy) (shown : ℕ) → IsKept connected over pending shown → names ≡ reverse (names_at over x)
-    → ((c : Cid) → Contains now.names c ↔ (Contains pending.names c ⊎ Contains names c)) → Rises now.names → now.room ≡ pending.room → (after : List Connected) → after ≡ map (changed_among names (mark_places places x)) connected
-    → IsKept after over now shown
-woken_after places x names connected over pending now shown kept is set rises same after becomes =
+pub woken_after : (places : Places) (x : ℕ) (names : List Cid) (connected : List Connected) (over : List Roomy) (flags now : List Bool) (shown : ℕ) → IsKept connected over flags shown → length now ≡ length flags
+    → (after : List Connected) → after ≡ map (changed_among names (mark_places places x)) connected → IsKept after over now shown
+woken_after places x names connected over flags now shown kept same after becomes =
     subst (λ ds. IsKept ds over now shown) (sym becomes)
     (kept_after (changed_among names (mark_places places x)) (keeps_among names (mark_places places x) (keeps_places places x)) connected over now shown
-    (pending_after connected over pending now shown shown kept rises
-    (λ c m. elim ((set c).0 m) [
-      | inl k ↦ kept.formed.pending_connected c k
-      | inr k ↦ over_connected connected x c ((kept.over_names x c).0 (reverse_member (names_at over x) c (subst (λ cs. Contains cs c) is k)))
-    ]) same (omega arith)))
+    (pending_after connected over flags now shown shown kept same (omega arith)))
 
-pub names_are_over : (x : ℕ) (names : List Cid) (connected : List Connected) (over : List Roomy) (pending : Roomy) (shown : ℕ) → IsKept connected over pending shown → names ≡ reverse (names_at over x)
+pub names_are_over : (x : ℕ) (names : List Cid) (connected : List Connected) (over : List Roomy) (flags : List Bool) (shown : ℕ) → IsKept connected over flags shown → names ≡ reverse (names_at over x)
     → (c : Cid) → Contains names c ↔ IsOver connected x c
-names_are_over x names connected over pending shown kept is c = (
+names_are_over x names connected over flags shown kept is c = (
   λ m. (kept.over_names x c).0 (reverse_member (names_at over x) c (subst (λ cs. Contains cs c) is m)),
   λ h. subst (λ cs. Contains cs c) (sym is) (member_reverse (names_at over x) c ((kept.over_names x c).1 h)),
 )
 
-pub woken_pending : (x : ℕ) (names : List Cid) (connected : List Connected) (over : List Roomy) (pending now : Roomy) (shown : ℕ) → IsKept connected over pending shown → names ≡ reverse (names_at over x)
-    → ((c : Cid) → Contains now.names c ↔ (Contains pending.names c ⊎ Contains names c)) → (c : Cid) → Contains now.names c ↔ (Contains pending.names c ⊎ IsOver connected x c)
-woken_pending x names connected over pending now shown kept is set c = (
-  λ m. elim ((set c).0 m) [ inl k ↦ inl k | inr k ↦ inr ((names_are_over x names connected over pending shown kept is c).0 k) ],
-  λ h. (set c).1 (elim h [ inl k ↦ inl k | inr k ↦ inr ((names_are_over x names connected over pending shown kept is c).1 k) ]),
+pub woken_pending : (x : ℕ) (names : List Cid) (connected : List Connected) (over : List Roomy) (flags : List Bool) (shown : ℕ) → IsKept connected over flags shown → names ≡ reverse (names_at over x)
+    → (pending now : List Cid) → ((c : Cid) → Contains now c ↔ (Contains pending c ⊎ Contains names c)) → (c : Cid) → Contains now c ↔ (Contains pending c ⊎ IsOver connected x c)
+woken_pending x names connected over flags shown kept is pending now set c = (
+  λ m. elim ((set c).0 m) [ inl k ↦ inl k | inr k ↦ inr ((names_are_over x names connected over flags shown kept is c).0 k) ],
+  λ h. (set c).1 (elim h [ inl k ↦ inl k | inr k ↦ inr ((names_are_over x names connected over flags shown kept is c).1 k) ]),
 )
 
-pub woken_connected : (places : Places) (x : ℕ) (names : List Cid) (connected : List Connected) (over : List Roomy) (pending : Roomy) (shown : ℕ) → IsKept connected over pending shown → names ≡ reverse (names_at over x)
+pub woken_connected : (places : Places) (x : ℕ) (names : List Cid) (connected : List Connected) (over : List Roomy) (flags : List Bool) (shown : ℕ) → IsKept connected over flags shown → names ≡ reverse (names_at over x)
     → (after : List Connected) → after ≡ map (changed_among names (mark_places places x)) connected → after ≡ map (mark_places places x) connected
-woken_connected places x names connected over pending shown kept is after becomes =
-    becomes ∙ woken_marks places x names connected (λ c h. (names_are_over x names connected over pending shown kept is c).1 h)
+woken_connected places x names connected over flags shown kept is after becomes =
+    becomes ∙ woken_marks places x names connected (λ c h. (names_are_over x names connected over flags shown kept is c).1 h)
 
 -- ---- reading
 
@@ -471,27 +540,34 @@ rises_changed f keeps first after is rises = subst (λ ds. Rises (names_of ds)) 
 pub over_changed : (f : Connected → Connected) → KeepsScopes f → (first after : List Connected) (x : ℕ) (c : Cid) → after ≡ map f first → IsOver first x c → IsOver after x c
 over_changed f keeps first after x c is over = subst (λ ds. IsOver ds x c) (sym is) ((over_kept f keeps first x c).1 over)
 
-pub put_set : (first now after more : List Cid) (i : ℕ) (cid : Cid) → i < length more → cid ≡ get_or more i cid → ((c : Cid) → Contains now c ↔ (Contains first c ⊎ Contains (take i more) c)) → after ≡ with_name cid now
-    → (c : Cid) → Contains after c ↔ (Contains first c ⊎ Contains (take (i + 1) more) c)
-put_set first now after more i cid lt item so_far is c = subst (λ names. Contains names c ↔ (Contains first c ⊎ Contains (take (i + 1) more) c)) (sym is) (
-  λ m. elim (with_name_cases cid now c m) [
+-- one more name is pending
+pub put_set : (first now after more : List Cid) (i : ℕ) (cid : Cid) → i < length more → cid ≡ get_or more i cid → ((c : Cid) → Contains now c ↔ (Contains first c ⊎ Contains (take i more) c))
+    → ((c : Cid) → Contains after c ↔ (Contains now c ⊎ (c ≡ cid))) → (c : Cid) → Contains after c ↔ (Contains first c ⊎ Contains (take (i + 1) more) c)
+put_set first now after more i cid lt item so_far put c = (
+  λ m. elim ((put c).0 m) [
     | inl k ↦ elim ((so_far c).0 k) [ inl n ↦ inl n | inr n ↦ inr (front_more more i cid c lt n) ]
     | inr e ↦ inr (member_same (take (i + 1) more) cid c (sym e) (front_last more i cid lt item))
   ],
   λ h. elim h [
-    | inl n ↦ (with_name_set cid now c).1 (inl ((so_far c).1 (inl n)))
+    | inl n ↦ (put c).1 (inl ((so_far c).1 (inl n)))
     | inr n ↦ elim (member_take_more more i cid c lt item n) [
-      | inl k ↦ (with_name_set cid now c).1 (inl ((so_far c).1 (inr k)))
-      | inr e ↦ (with_name_set cid now c).1 (inr (sym e))
+      | inl k ↦ (put c).1 (inl ((so_far c).1 (inr k)))
+      | inr e ↦ (put c).1 (inr (sym e))
     ]
   ],
 )
 
-pub room_in_both : (cid : Cid) (now : Roomy) (first more : List Cid) (room i : ℕ) → i < length more → cid ≡ get_or more i cid → FitsBoth room first more → now.room ≡ room → Rises now.names
-    → ((c : Cid) → Contains now.names c ↔ (Contains first c ⊎ Contains (take i more) c)) → HasRoomFor cid now
-room_in_both cid now first more room i lt item fits same rises so_far =
-    room_of_both cid now first more (subst (λ r. FitsBoth r first more) (sym same) fits) rises
-    (λ c m. elim ((so_far c).0 m) [ inl k ↦ inl k | inr k ↦ inr (member_take i more c k) ]) (i, lt, sym item)
+-- the flag of a constraint is raised, and its marks change
+pub woken_at : (connected after : List Connected) (flags now : List Bool) (cid : Cid) (place x : ℕ) (f : Connected → Connected) → KeepsScopes f → Rises (names_of connected) → length flags ≡ length connected
+    → IsPartedAt (λ d. cid_before d.cid cid) connected place → IsOver connected x cid → after ≡ map (changed_at cid f) connected → now ≡ set flags place true → (c : Cid)
+    → Contains (flagged (names_of after) now) c ↔ (Contains (flagged (names_of connected) flags) c ⊎ (c ≡ cid))
+woken_at connected after flags now cid place x f keeps rises same at over becomes now_is c =
+    let names_is : names_of after ≡ names_of connected = ap names_of becomes ∙ names_kept (changed_at cid f) (keeps_at cid f keeps) connected in
+    subst (λ names. Contains (flagged names now) c ↔ (Contains (flagged (names_of connected) flags) c ⊎ (c ≡ cid))) (sym names_is)
+    (raised_at connected rises cid place at flags now same (over_connected connected x cid over) now_is c)
 
 pub put_all_set : (first now more : List Cid) (i : ℕ) → length more ≤ i → ((c : Cid) → Contains now c ↔ (Contains first c ⊎ Contains (take i more) c)) → (c : Cid) → Contains now c ↔ (Contains first c ⊎ Contains more c)
 put_all_set first now more i past so_far c = subst (λ names. Contains now c ↔ (Contains first c ⊎ Contains names c)) (take_all i more past) (so_far c)
+
+pub none_put : (names : List Cid) (c : Cid) → Contains names c ↔ (Contains names c ⊎ Contains {X = Cid} [] c)
+none_put names c = (λ m. inl m, λ h. elim h [ inl m ↦ m | inr m ↦ absurd (member_nil c m) ])

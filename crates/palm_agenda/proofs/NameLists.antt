@@ -1,19 +1,18 @@
--- Lists of names: in rising and falling order, with a name and without it, and how long they are.
-use Rattle.std.proofs.Common.{◌≡◌, ℕ, zero, suc, ◌-◌, ◌<◌, ◌≤◌, Bool, true, false, not, List, [], ◌∷◌, ◌++◌, reverse, length, get_or, slice_get, insert, remove, filter, Contains, Option, None, Some, ◌⊎◌, ◌↔◌, inl, inr, refl, sym, ap, ◌∙◌, subst, arith}
-use Rattle.std.specs.Option.{MatchOption, option_to_list}
+-- Lists of names: in rising and falling order, with a name and without it.
+use Rattle.std.proofs.Common.{◌≡◌, ℕ, zero, suc, ◌-◌, ◌<◌, ◌≤◌, Bool, true, false, not, List, [], ◌∷◌, ◌++◌, reverse, length, get_or, slice_get, insert, remove, filter, Contains, Some, ◌⊎◌, inl, inr, refl, sym, ap, ◌∙◌, subst, arith}
 use Rattle.std.proofs.lemmas.Bool.{cases_Bool}
 use Rattle.std.proofs.lemmas.Grind.{reverse_onto}
-use Rattle.std.proofs.lemmas.List.{append_assoc, append-nil, nil_from_length, get_or-reverse, length-reverse, reverse-append, reverse-reverse}
+use Rattle.std.proofs.lemmas.List.{append_assoc, get_or-reverse, length-reverse, reverse-append, reverse-reverse}
 use Rattle.std.proofs.lemmas.List.Elements.{Contains-append_left, Contains-append_right, Contains-append_cases, filter-append}
-use Rattle.std.proofs.lemmas.Option.{slice_get_read, slice_get-get_or, slice_get_within, get_or_from_slice_get}
+use Rattle.std.proofs.lemmas.Option.{slice_get_within, get_or_from_slice_get}
 use Rattle.palm_base.specs.declared.terms.Cid.{Cid}
-use Rattle.palm_base.proofs.Members.{member_nil, member_here, member_there, member_cases, member_same, member_filter, filter_member, member_known, member_single, member_get, all_members}
+use Rattle.palm_base.proofs.Members.{member_nil, member_here, member_there, member_cases, member_same, member_filter, filter_member, member_single, member_get, all_members}
 use Rattle.palm_base.specs.Tells.{Tells}
 use Rattle.palm_model.specs.Log.{Rises, cid_before, is_named}
 use Rattle.palm_model.specs.State.{without_cid}
-use Rattle.palm_events.proofs.Names.{before_then, cid_known, cid_order, not_before_itself, rises_append, rising_same, member_named, member_not_named}
+use Rattle.palm_events.proofs.Names.{before_then, cid_order, not_before_itself, rises_append, rising_same, member_named, member_not_named}
 use Rattle.palm_events.proofs.States.{without_cid_member, member_without_cid, without_cid_rises}
-use Rattle.palm_agenda.specs.Names.{IsPartedAt, Roomy, AreDifferent, HasRoomFor, FitsBoth, with_name}
+use Rattle.palm_agenda.specs.Names.{IsPartedAt, Roomy, HasRoomFor, with_name}
 use Rattle.palm_agenda.proofs.Sorted.{IsStrict, IsSortedKeys, filter_removes, filter_fails, filter_passes, inserted, listed_at, apart}
 
 abbrev pub roomy : List Cid → ℕ → Roomy
@@ -118,12 +117,6 @@ member_with_name cid names c m = elim (cid_order c cid) [
   ]
 ]
 
-pub with_name_set : (cid : Cid) (names : List Cid) (c : Cid) → Contains (with_name cid names) c ↔ (Contains names c ⊎ (c ≡ cid))
-with_name_set cid names c = (
-  with_name_cases cid names c,
-  λ h. elim h [ inl m ↦ member_with_name cid names c m | inr e ↦ member_same (with_name cid names) cid c (sym e) (with_name_here cid names) ],
-)
-
 rises_names : (test : Cid → Bool) (names : List Cid) → Rises names → Rises (filter test names)
 rises_names test [] rises = tt
 rises_names test (c ∷ names) rises = elim (cases_Bool (test c)) [
@@ -165,7 +158,7 @@ without_cid_same cid names rises absent =
 not_itself : (c : Cid) → not (is_named (c ∷ []) c) ≡ false
 not_itself c = ap not (member_named (c ∷ []) c (member_here c []))
 
-not_other : (c d : Cid) → (d ≡ c → ⊥) → not (is_named (c ∷ []) d) ≡ true
+pub not_other : (c d : Cid) → (d ≡ c → ⊥) → not (is_named (c ∷ []) d) ≡ true
 not_other c d ne = member_not_named (c ∷ []) d (λ m. ne (sym (member_single c d m)))
 
 -- what stands at one place of a list in order is removed by its name
@@ -200,13 +193,6 @@ module _ (xs : List Cid) (rises : Rises (reverse xs)) (cid : Cid) where
 
 -- ---- how many
 
-pub rises_different : (names : List Cid) → Rises names → AreDifferent names
-rises_different [] rises = tt
-rises_different (c ∷ names) rises = (
-  λ m. not_before_itself c (subst (λ d. cid_before c d ≡ true) m.2 (rises.0 m.0 c m.1)),
-  rises_different names rises.1,
-)
-
 pub filter_short : {X : Type 0} (test : X → Bool) (xs : List X) → length (filter test xs) ≤ length xs
 filter_short test [] = omega arith
 filter_short test (x ∷ xs) = elim (cases_Bool (test x)) [
@@ -214,63 +200,12 @@ filter_short test (x ∷ xs) = elim (cases_Bool (test x)) [
   | inr f ↦ omega (arith, ap length (filter_fails test x xs f), filter_short test xs)
 ]
 
-without_shorter : (cid : Cid) (names : List Cid) → Contains names cid → length (without_cid cid names) < length names
-without_shorter cid [] m = absurd (member_nil cid m)
-without_shorter cid (c ∷ names) m = elim (cid_known c cid) [
-  | inl e ↦
-      let fails : not (is_named (cid ∷ []) c) ≡ false = subst (λ d. not (is_named (cid ∷ []) d) ≡ false) (sym e) (not_itself cid) in
-      omega (arith, ap length (filter_fails (λ d. not (is_named (cid ∷ []) d)) c names fails), filter_short (λ d. not (is_named (cid ∷ []) d)) names)
-  | inr n ↦
-      let k : Contains names cid = elim (member_cases c names cid m) [ inl e ↦ absurd (n e) | inr k ↦ k ] in
-      omega (arith, ap length (filter_passes (λ d. not (is_named (cid ∷ []) d)) c names (not_other cid c n)), without_shorter cid names k)
-]
-
--- different names among others are no more than those
-pub length_within : (names all : List Cid) → AreDifferent names → ((c : Cid) → Contains names c → Contains all c) → length names ≤ length all
-length_within [] all once within = omega arith
-length_within (c ∷ names) all once within =
-    let rest = length_within names (without_cid c all) once.1 (λ d m. member_without_cid c all d (within d (member_there c names d m)) (λ e. once.0 (member_same names d c e m))) in
-    let less = without_shorter c all (within c (member_here c names)) in
-    omega arith
-
--- a name among those that all fit finds room
-pub room_among : (cid : Cid) (list : Roomy) (all : List Cid) → Rises list.names → ((c : Cid) → Contains list.names c → Contains all c) → Contains all cid → length all ≤ list.room → HasRoomFor cid list
-room_among cid list all rises within there room = elim (member_known cid_known list.names cid) [
-  | inl m ↦ inl m
-  | inr n ↦
-      let less = length_within (cid ∷ list.names) all (n, rises_different list.names rises)
-      (λ c m. elim (member_cases cid list.names c m) [ inl e ↦ member_same all cid c e there | inr k ↦ within c k ]) in
-      inr (omega arith)
-]
-
-pub room_of_both : (cid : Cid) (list : Roomy) (names more : List Cid) → FitsBoth list.room names more → Rises list.names → ((c : Cid) → Contains list.names c → Contains names c ⊎ Contains more c) → Contains more cid → HasRoomFor cid list
-room_of_both cid list names more fits rises within there = elim (member_known cid_known list.names cid) [
-  | inl m ↦ inl m
-  | inr n ↦
-      let less = fits.fits (cid ∷ list.names) (n, rises_different list.names rises)
-      (λ c m. elim (member_cases cid list.names c m) [ inl e ↦ inr (member_same more cid c e there) | inr k ↦ within c k ]) in
-      inr (omega arith)
-]
-
--- both lists are among names that all fit
-pub fits_among : (room : ℕ) (names more all : List Cid) → ((c : Cid) → Contains names c → Contains all c) → ((c : Cid) → Contains more c → Contains all c) → length all ≤ room → FitsBoth room names more
-fits_among room names more all within also least = record {
-  fits = λ each once from.
-      let less = length_within each all once (λ c m. elim (from c m) [ inl k ↦ within c k | inr k ↦ also c k ]) in
-      omega arith;
-}
-
--- ---- the first one and the one at a place
+-- ---- the first one
 
 pub first_cut : (cid : Cid) (names : List Cid) → Rises (cid ∷ names) → without_cid cid (cid ∷ names) ≡ names
 first_cut cid names rises =
     filter_fails (λ d. not (is_named (cid ∷ []) d)) cid names (not_itself cid)
     ∙ sym (without_cid_same cid names rises.1 (λ m. not_before_itself cid (subst (λ d. cid_before cid d ≡ true) m.2 (rises.0 m.0 cid m.1))))
-
--- the name at a place, counted from the end of a falling list
-pub get_falling : (xs : List Cid) (place : ℕ) (c : Cid) → place < length xs → c ≡ get_or xs (length xs - 1 - place) c → slice_get (reverse xs) place ≡ Some c
-get_falling xs place c within is =
-    slice_get-get_or (reverse xs) place c (omega (arith, length-reverse xs)) ∙ ap Some (get_or-reverse xs place c within ∙ sym is)
 
 -- ---- what the calls of a list leave
 
@@ -279,20 +214,6 @@ pub put_room : (names : List Cid) (cid : Cid) (list : Roomy) (capacity : ℕ) �
 put_room names cid list capacity is room absent =
     let at : HasRoomFor cid (record { names = reverse names; room = capacity }) = subst (HasRoomFor cid) is room in
     elim at [ inl m ↦ absurd (absent (reverse_member names cid m)) | inr lt ↦ omega (arith, length-reverse names) ]
-
--- the last one of a falling list is taken
-pub taken_last : (old new : List Cid) (room capacity : ℕ) (taken : Option Cid) → Rises (reverse old) → old ≡ new ++ option_to_list taken → (taken ≡ None → length old ≡ 0) → capacity ≡ room
-    → MatchOption taken ((reverse old ≡ []) × (roomy (reverse new) capacity ≡ roomy (reverse old) room))
-    (λ c. (slice_get (reverse old) 0 ≡ Some c) × (reverse new ≡ without_cid c (reverse old)) × (capacity ≡ room))
-taken_last old new room capacity None rises is none same =
-    let e : old ≡ new = is ∙ append-nil new in
-    (ap reverse (nil_from_length old (none refl)), ap (λ xs. roomy (reverse xs) capacity) (sym e) ∙ ap (roomy (reverse old)) same)
-taken_last old new room capacity (Some c) rises is none same =
-    let e : reverse old ≡ c ∷ reverse new = ap reverse is ∙ reverse-append new (c ∷ []) in (
-      ap (λ names. slice_get names 0) e,
-      sym (ap (without_cid c) e ∙ first_cut c (reverse new) (subst Rises e rises)),
-      same,
-    )
 
 -- whether a name stands at its place tells whether it is there
 module _ (xs parts looked : List Cid) (rises : Rises (reverse xs)) (cid : Cid) (place : ℕ) (parted_is : parts ≡ xs) (looked_is : looked ≡ xs)
@@ -324,19 +245,3 @@ module _ (xs parts looked : List Cid) (rises : Rises (reverse xs)) (cid : Cid) (
 
   pub told_gone : told ≡ false → reverse xs ≡ without_cid cid (reverse xs)
   told_gone e = without_cid_same cid (reverse xs) rises (λ m. told_absent e (reverse_member xs cid m))
-
--- the name at a place from the front is taken
-module _ (xs : List Cid) (rises : Rises (reverse xs)) (now : Roomy) (room : ℕ) (view : roomy (reverse xs) room ≡ now) (place : ℕ) (c : Cid) (n : ℕ) (many : n ≡ length xs)
-    (within : place < length now.names) (is : c ≡ get_or xs (n - 1 - place) c) (after : List Cid) (removed : after ≡ remove xs (n - 1 - place)) where
-  place_within : place < length xs
-  place_within =
-      let h : place < length (reverse xs) = subst (λ (r : Roomy). place < length r.names) (sym view) within in
-      omega (arith, length-reverse xs)
-
-  pub cut_at : reverse after ≡ without_cid c (reverse xs)
-  cut_at =
-      let lt = place_within in
-      ap reverse removed ∙ cut_falling xs rises c (n - 1 - place) (slice_get_read xs (length xs) (n - 1 - place) c refl (omega arith) is)
-
-  pub cut_at_rises : Rises (reverse after)
-  cut_at_rises = subst Rises (sym cut_at) (without_cid_rises c (reverse xs) rises)

@@ -1,4 +1,5 @@
 pub mod Agenda
+pub mod Flags
 pub mod Kept
 pub mod Names
 pub mod Orders

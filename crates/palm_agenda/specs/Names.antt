@@ -1,5 +1,5 @@
 -- Lists of names that keep room for more.
-use Rattle.std.specs.Prelude.{◌≡◌, ⊤, ℕ, ◌<◌, ◌⊎◌, List, [], ◌∷◌, ◌++◌, filter, Contains, slice_index_or, slice_set, length, ◌≤◌, Bool, true, false}
+use Rattle.std.specs.Prelude.{◌≡◌, ℕ, ◌<◌, ◌⊎◌, List, [], ◌∷◌, ◌++◌, filter, Contains, slice_index_or, slice_set, length, ◌≤◌, Bool, true, false}
 use Rattle.std.specs.List.{AllWithin}
 use Rattle.palm_base.specs.declared.terms.Cid.{Cid}
 use Rattle.palm_model.specs.Log.{cid_before}
@@ -43,12 +43,3 @@ pub record IsPartedAt {X : Type 0} (test : X → Bool) (xs : List X) (place : �
 pub record HasSpace (rows : List Roomy) (x : ℕ) : Type 0 where
   pub within : x < length rows
   pub room : length (names_at rows x) < (row_at rows x).room
-
--- no name stands twice
-abbrev pub AreDifferent : List Cid → Type 0
-AreDifferent [] = ⊤
-AreDifferent (c ∷ cs) = (Contains cs c → ⊥) × AreDifferent cs
-
--- the names of the one list and of the other fit together
-pub record FitsBoth (room : ℕ) (names more : List Cid) : Type 0 where
-  pub fits : (all : List Cid) → AreDifferent all → ((c : Cid) → Contains all c → Contains names c ⊎ Contains more c) → length all ≤ room

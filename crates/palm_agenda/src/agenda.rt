@@ -1,14 +1,16 @@
 //! The connected constraints, and those of them that wait to be revised.
-ghost use Rattle.std.specs.Prelude.{◌≡◌, ℕ, ◌≤◌, ◌↔◌, ◌⊎◌, [], length, map, Contains, MatchOption, IfSome, IfNone, IsSomeAnd, Some, OnOk, OnErr, is_some, vec_capacity};
+ghost use Rattle.std.specs.Prelude.{◌≡◌, ℕ, ◌<◌, ◌≤◌, ◌↔◌, ◌⊎◌, [], ◌∷◌, ◌++◌, length, map, Contains, MatchOption, IfSome, IfNone, IsSomeAnd, Some, OnOk, OnErr, is_some, slice_get, vec_capacity};
 ghost use Rattle.palm_base.specs.Tells.{Tells};
 ghost use Rattle.palm_base.specs.declared.terms.Cid.{Cid as CidTerm};
 ghost use Rattle.palm_model.specs.Log.{Rises, cid_before};
 ghost use Rattle.palm_model.specs.State.{without_cid};
-ghost use Rattle.palm_agenda.specs.Agenda.{Connected, HasPlace, IsConnected, IsFormed, IsMarked, IsOver, Takes, changed_among, changed_at, marked_whole, mark_others, mark_own, names_of, unmarked, with_connected, without_connected};
-ghost use Rattle.palm_agenda.specs.Names.{FitsBoth, IsPartedAt};
+ghost use Rattle.palm_agenda.specs.Agenda.{Connected, HasPlace, IsConnected, IsFormed, IsMarked, IsOver, Takes, changed_among, changed_at, index_within, marked_whole, mark_others, mark_own, names_of, unmarked, with_connected, without_connected};
+ghost use Rattle.palm_agenda.specs.Flags.{flagged};
+ghost use Rattle.palm_agenda.specs.Names.{IsPartedAt};
 ghost use Rattle.palm_agenda.specs.Places.{mark_places};
 
 use crate::connection::{Connection, Places};
+use crate::flags::Flags;
 use crate::names::{Names, copy_of, is_before, is_same, likely_place};
 use crate::order::Order;
 use crate::over::{insert_over, make_room, names_over, remove_over};
@@ -16,26 +18,27 @@ use palm_base::{Cid, NoMemory, Var};
 use std::alloc::Global;
 use std::marker::Model;
 
-/// The connected constraints by rising name, the names of the constraints over each variable, and the pending names.
-/// There is room for every name among the pending ones, and among those that an order is shown.
+/// The connected constraints by rising name, a flag for each of them that is raised where it is pending, and the names of
+/// the constraints over each variable. There is room for every name among those that an order is shown.
 #[derive(Debug, Drop)]
 pub struct Agenda {
     connections: Vec<Connection>,
+    pending: Flags,
     over: Vec<Names>,
-    pending: Names,
     shown: Vec<Cid>,
 }
 
 impl Model for Agenda {
     ghost use Rattle.std.specs.Prelude.{vec_capacity};
-    ghost use Rattle.palm_agenda.specs.Agenda.{Waiting};
+    ghost use Rattle.palm_agenda.specs.Agenda.{Waiting, names_of};
+    ghost use Rattle.palm_agenda.specs.Flags.{flagged};
     ghost use Rattle.palm_agenda.specs.Kept.{IsKept};
 
     ghost Value = { Waiting };
 
-    ghost view = { λ a. record { connected = a.connections.items; pending = a.pending.names } };
+    ghost view = { λ a. record { connected = a.connections.items; pending = flagged (names_of a.connections.items) a.pending.flags } };
 
-    ghost invariant = { λ a. IsKept a.connections.items a.over.items a.pending (vec_capacity a.shown) };
+    ghost invariant = { λ a. IsKept a.connections.items a.over.items a.pending.flags (vec_capacity a.shown) };
 }
 
 /// The place of the constraint under the name, where the numbers of users leave none out from it to the last one.
@@ -63,25 +66,46 @@ fn place_of(connections: &[Connection], cid: &Cid) -> usize
     }
 }
 
-/// Marks these places of the constraint, as seen from the variable.
-fn mark_named(connections: &mut Vec<Connection>, cid: &Cid, places: Places, var: &Var)
+/// Makes the constraint pending, and marks these places of it, as seen from the variable.
+fn wake_named(
+    connections: &mut Vec<Connection>,
+    pending: &mut Flags,
+    cid: &Cid,
+    places: Places,
+    var: &Var,
+)
     requires rising { Rises (names_of connections.old.items) }
+    requires flags { length pending.old.flags ≡ length connections.old.items }
     requires over { IsOver connections.old.items var.now cid.now }
-    ensures { connections.new.items ≡ map (changed_at cid.now (mark_places places var.now)) connections.old.items }
+    ensures marks { connections.new.items ≡ map (changed_at cid.now (mark_places places var.now)) connections.old.items }
+    ensures pending { (c : CidTerm) → Contains (flagged (names_of connections.new.items) pending.new.flags) c
+        ↔ (Contains (flagged (names_of connections.old.items) pending.old.flags) c ⊎ (c ≡ cid.now)) }
+    ensures flags { length pending.new.flags ≡ length pending.old.flags }
 {
     let place = place_of(connections, cid);
     let connection = &mut connections[place];
     connection.mark(places, var);
+    pending.raise(place);
 }
 
-/// Marks these places of each of the constraints, as seen from the variable.
-fn mark_each(connections: &mut Vec<Connection>, names: &[Cid], places: Places, var: &Var)
+/// Makes each of the constraints pending, and marks these places of it, as seen from the variable.
+fn wake_each(
+    connections: &mut Vec<Connection>,
+    pending: &mut Flags,
+    names: &[Cid],
+    places: Places,
+    var: &Var,
+)
     requires rising { Rises (names_of connections.old.items) }
+    requires flags { length pending.old.flags ≡ length connections.old.items }
     requires over { (c : CidTerm) → Contains names.now c → IsOver connections.old.items var.now c }
-    ensures { connections.new.items ≡ map (changed_among names.now (mark_places places var.now)) connections.old.items }
+    ensures marks { connections.new.items ≡ map (changed_among names.now (mark_places places var.now)) connections.old.items }
+    ensures pending { (c : CidTerm) → Contains (flagged (names_of connections.new.items) pending.new.flags) c
+        ↔ (Contains (flagged (names_of connections.old.items) pending.old.flags) c ⊎ Contains names.now c) }
+    ensures flags { length pending.new.flags ≡ length pending.old.flags }
 {
     for cid in names {
-        mark_named(connections, cid, places, var);
+        wake_named(connections, pending, cid, places, var);
     }
 }
 
@@ -96,29 +120,46 @@ fn unmark_named(connections: &mut Vec<Connection>, cid: &Cid, place: usize)
     connection.unmark(place);
 }
 
-/// Makes each of the names pending.
-fn insert_each(pending: &mut Names, names: &[Cid])
-    requires rising { Rises pending.old.names }
-    requires room { FitsBoth pending.old.room pending.old.names names.now }
-    ensures names { (c : CidTerm) → Contains pending.new.names c ↔ (Contains pending.old.names c ⊎ Contains names.now c) }
-    ensures rising { Rises pending.new.names }
-    ensures room { pending.new.room ≡ pending.old.room }
+/// Writes one more name, where there is room.
+fn show_one(shown: &mut Vec<Cid>, cid: &Cid)
+    requires { length shown.old.items < vec_capacity shown.old }
+    ensures names { shown.new.items ≡ shown.old.items ++ cid.now ∷ [] }
+    ensures room { vec_capacity shown.old ≤ vec_capacity shown.new }
 {
-    for cid in names {
-        pending.insert(cid);
-    }
+    let pushed = shown.push(copy_of(cid));
+    prove!(pushed.is_ok());
 }
 
-/// Writes the names from the first to the last.
-fn show(shown: &mut Vec<Cid>, pending: &Names)
-    requires { length pending.now.names ≤ vec_capacity shown.old }
-    ensures names { shown.new.items ≡ pending.now.names }
+/// Writes the names of the constraints whose flags are raised.
+fn show(shown: &mut Vec<Cid>, connections: &[Connection], flags: &[bool])
+    requires room { length connections.now ≤ vec_capacity shown.old }
+    requires flags { length flags.now ≡ length connections.now }
+    ensures names { shown.new.items ≡ flagged (names_of connections.now) flags.now }
     ensures room { vec_capacity shown.old ≤ vec_capacity shown.new }
 {
     shown.clear();
-    let copied = shown.extend_from_slice(pending.falling());
-    prove!(copied.is_ok());
-    shown.reverse();
+    for place in 0..connections.len() {
+        if flags[place] {
+            show_one(shown, connections[place].cid());
+        }
+    }
+}
+
+/// The name of the constraint at the place.
+fn name_at(connections: &[Connection], place: usize) -> Cid
+    requires { place < length connections.now }
+    ensures { slice_get (names_of connections.now) place ≡ Some result }
+{
+    copy_of(connections[place].cid())
+}
+
+/// The name at the answered index, and the first one where it is out of range.
+fn chosen(shown: &[Cid], answer: usize) -> Cid
+    requires { shown.now ≡ [] → ⊥ }
+    ensures { slice_get shown.now (index_within answer (length shown.now)) ≡ Some result }
+{
+    let index = if answer < shown.len() { answer } else { 0 };
+    copy_of(&shown[index])
 }
 
 impl Agenda {
@@ -128,8 +169,8 @@ impl Agenda {
     {
         Agenda {
             connections: Vec::new(alloc),
+            pending: Flags::new(alloc),
             over: Vec::new(alloc),
-            pending: Names::new(alloc),
             shown: Vec::new(alloc),
         }
     }
@@ -146,13 +187,13 @@ impl Agenda {
         let count = self.connections.len() + 1;
         let connection = Connection::new(alloc, copy_of(&cid), scope)?;
         make_room(&mut self.over, scope)?;
-        self.pending.reserve(count - self.pending.len())?;
+        self.pending.reserve()?;
         self.shown.clear();
         self.shown.reserve(count)?;
         let place = place_of(&self.connections, &cid);
         self.connections.insert(place, connection)?;
+        self.pending.insert(place);
         insert_over(&mut self.over, scope, &cid);
-        self.pending.insert(&cid);
         Ok(())
     }
 
@@ -164,8 +205,8 @@ impl Agenda {
     {
         let place = place_of(&self.connections, &cid);
         let connection = self.connections.remove(place);
+        self.pending.remove(place);
         remove_over(&mut self.over, connection.scope(), &cid);
-        self.pending.remove(&cid);
     }
 
     /// A value of the variable was taken out: each constraint over it is pending, and its places of other variables
@@ -176,8 +217,13 @@ impl Agenda {
         ensures formed { IsFormed self.new }
     {
         let names = names_over(&self.over, &var);
-        mark_each(&mut self.connections, names, Places::Others, &var);
-        insert_each(&mut self.pending, names);
+        wake_each(
+            &mut self.connections,
+            &mut self.pending,
+            names,
+            Places::Others,
+            &var,
+        );
     }
 
     /// A value of the variable was put back: each constraint over it is pending, and its places of the variable are
@@ -188,8 +234,13 @@ impl Agenda {
         ensures formed { IsFormed self.new }
     {
         let names = names_over(&self.over, &var);
-        mark_each(&mut self.connections, names, Places::Own, &var);
-        insert_each(&mut self.pending, names);
+        wake_each(
+            &mut self.connections,
+            &mut self.pending,
+            names,
+            Places::Own,
+            &var,
+        );
     }
 
     /// Makes one constraint pending.
@@ -199,7 +250,8 @@ impl Agenda {
         ensures pending { (c : CidTerm) → Contains self.new.pending c ↔ (Contains self.old.pending c ⊎ (c ≡ cid)) }
         ensures formed { IsFormed self.new }
     {
-        self.pending.insert(&cid);
+        let place = place_of(&self.connections, &cid);
+        self.pending.raise(place);
     }
 
     /// A mark for each place of the constraint's scope: whether values of the place's variable may lack support.
@@ -234,7 +286,7 @@ impl Agenda {
         ensures tells { Tells result (self.now.pending ≡ []) }
         ensures formed { IsFormed self.now }
     {
-        self.pending.len() == 0
+        self.pending.is_empty()
     }
 
     /// The constraint that is revised next, which is pending no longer: the first one without an order, and with one
@@ -261,7 +313,8 @@ impl Agenda {
         ensures some { IfSome result (λ c. Takes self.old.pending self.new.pending 0 c) }
         ensures connected { self.new.connected ≡ self.old.connected }
     {
-        self.pending.take_first()
+        let place = self.pending.lower_first()?;
+        Some(name_at(&self.connections, place))
     }
 
     /// The pending constraint that the order answers when it is asked once, which is pending no longer. The order is not
@@ -271,13 +324,14 @@ impl Agenda {
         ensures some { IfSome result (λ c. (answer : ℕ) × Takes self.old.pending self.new.pending answer c × O.answers order.old self.old.pending answer (O.state order.new)) }
         ensures connected { self.new.connected ≡ self.old.connected }
     {
-        let count = self.pending.len();
-        if count == 0 {
+        if self.pending.is_empty() {
             return None;
         }
-        show(&mut self.shown, &self.pending);
+        show(&mut self.shown, &self.connections, self.pending.as_slice());
         let answer = order.next(&self.shown);
-        let place = if answer < count { answer } else { 0 };
-        Some(self.pending.take_at(place))
+        let cid = chosen(&self.shown, answer);
+        let place = place_of(&self.connections, &cid);
+        self.pending.lower(place);
+        Some(cid)
     }
 }

@@ -4,6 +4,7 @@
 
 mod agenda;
 mod connection;
+mod flags;
 mod names;
 mod order;
 mod over;

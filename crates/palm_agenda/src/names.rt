@@ -1,5 +1,5 @@
 //! Names of constraints in their order.
-ghost use Rattle.std.specs.Prelude.{◌≡◌, ◌+◌, ◌<◌, ◌≤◌, [], length, reverse, IfSome, MatchOption, Some, OnOk, slice_get, vec_capacity};
+ghost use Rattle.std.specs.Prelude.{◌≡◌, ◌+◌, ◌<◌, ◌≤◌, [], length, reverse, IfSome, Some, OnOk, slice_get, vec_capacity};
 ghost use Rattle.std.specs.List.{insert};
 ghost use Rattle.palm_base.specs.Tells.{Tells};
 ghost use Rattle.palm_model.specs.Log.{Rises, cid_before, same_cid};
@@ -84,14 +84,6 @@ impl Names {
         }
     }
 
-    /// How many names there are.
-    pub(crate) fn len(&self) -> usize
-        ensures count { result ≡ length self.now.names }
-        ensures rising { Rises self.now.names }
-    {
-        self.falling.len()
-    }
-
     /// The names from the last one to the first.
     pub(crate) fn falling(&self) -> &[Cid]
         ensures { result.now ≡ reverse self.now.names }
@@ -130,28 +122,6 @@ impl Names {
         if stands_at(&self.falling, place, cid) {
             self.falling.remove(place);
         }
-    }
-
-    /// Takes the first name out.
-    pub(crate) fn take_first(&mut self) -> Option<Cid>
-        ensures { MatchOption result
-            ((self.old.names ≡ []) × (self.new ≡ self.old))
-            (λ c. (slice_get self.old.names 0 ≡ Some c)
-            × (self.new.names ≡ without_cid c self.old.names)
-            × (self.new.room ≡ self.old.room)) }
-    {
-        self.falling.pop()
-    }
-
-    /// Takes the name at the place out, counted from the first one.
-    pub(crate) fn take_at(&mut self, place: usize) -> Cid
-        requires { place < length self.old.names }
-        ensures chosen { slice_get self.old.names place ≡ Some result }
-        ensures names { self.new.names ≡ without_cid result self.old.names }
-        ensures room { self.new.room ≡ self.old.room }
-    {
-        let last = self.falling.len() - 1;
-        self.falling.remove(last - place)
     }
 }
 

@@ -1,59 +1,41 @@
-use Rattle.std.proofs.Common.{◌≡◌, ◌∙◌, ap, refl, subst, arith, ◌+◌, ◌≤◌, inr, length, insert, vec_capacity}
+use Rattle.std.proofs.Common.{◌≡◌, ◌∙◌, ap, refl, subst, arith, insert, true, vec_capacity}
 use Rattle.palm_agenda.specs.Agenda.{Waiting, IsConnected, marked_whole}
-use Rattle.palm_agenda.specs.Names.{with_name}
 use Rattle.palm_agenda.proofs.Connecting.{connected_at, parted_in}
-use Rattle.palm_agenda.proofs.Keeping.{connected_after, grown_after, pending_few, pending_set}
+use Rattle.palm_agenda.proofs.Keeping.{connected_after, grown_after, pending_with}
 use Rattle.palm_agenda.proofs.agenda.Agenda.connect.Goals as goal
-use Rattle.palm_agenda.proofs.agenda.Agenda.connect.Goals.{After-insert-2}
+use Rattle.palm_agenda.proofs.agenda.Agenda.connect.Goals.{After-insert_over}
 
 pub invariant_of-self : goal.invariant_of-self
 invariant_of-self c =
-    grown_after c.self.inside.connections.items c.self.inside.over.items c.make_room.new.over.items c.self.inside.pending c.self.inside.pending _ _ c.self.invariant c.make_room.ensures.names refl (omega arith) (omega arith)
-
-pub overflow_sub-count : goal.overflow_sub-count
-overflow_sub-count c =
-    let few = pending_few c.self.inside.connections.items c.self.inside.over.items c.self.inside.pending _ c.self.invariant in
-    omega arith
+    grown_after c.self.inside.connections.items c.self.inside.over.items c.make_room.new.over.items c.self.inside.pending.flags c.self.inside.pending.flags _ _ c.self.invariant c.make_room.ensures.names refl (omega arith)
 
 pub invariant_of-self-in_err-reserve : goal.invariant_of-self-in_err-reserve
 invariant_of-self-in_err-reserve c =
-    grown_after c.self.inside.connections.items c.self.inside.over.items c.make_room.new.over.items c.self.inside.pending c.reserve.new.self _ _ c.self.invariant c.make_room.ensures.names c.reserve.ensures.names c.reserve.ensures.grows (omega arith)
+    grown_after c.self.inside.connections.items c.self.inside.over.items c.make_room.new.over.items c.self.inside.pending.flags c.reserve.new.self.flags _ _ c.self.invariant c.make_room.ensures.names c.reserve.ensures.flags (omega arith)
 
 pub invariant_of-self-in_err-reserve-2 : goal.invariant_of-self-in_err-reserve-2
 invariant_of-self-in_err-reserve-2 c =
-    grown_after c.self.inside.connections.items c.self.inside.over.items c.make_room.new.over.items c.self.inside.pending c.reserve.new.self _ _ c.self.invariant c.make_room.ensures.names c.reserve.ensures.names c.reserve.ensures.grows (omega arith)
+    grown_after c.self.inside.connections.items c.self.inside.over.items c.make_room.new.over.items c.self.inside.pending.flags c.reserve.new.self.flags _ _ c.self.invariant c.make_room.ensures.names c.reserve.ensures.flags (omega arith)
 
 pub invariant_of-self-in_err-insert : goal.invariant_of-self-in_err-insert
 invariant_of-self-in_err-insert c =
     rw c.in_err-insert.ensures.items
-    (grown_after c.self.inside.connections.items c.self.inside.over.items c.make_room.new.over.items c.self.inside.pending c.reserve.new.self _ _ c.self.invariant c.make_room.ensures.names c.reserve.ensures.names c.reserve.ensures.grows (omega arith))
+    (grown_after c.self.inside.connections.items c.self.inside.over.items c.make_room.new.over.items c.self.inside.pending.flags c.reserve.new.self.flags _ _ c.self.invariant c.make_room.ensures.names c.reserve.ensures.flags (omega arith))
 
-pub insert-requires-2 : goal.insert-requires-2
-insert-requires-2 c =
-    let few = pending_few c.self.inside.connections.items c.self.inside.over.items c.self.inside.pending _ c.self.invariant in
-    let many : length c.reserve.new.self.names ≡ length c.self.inside.pending.names = ap length c.reserve.ensures.names in
-    inr (omega (arith, few, many, c.in_ok-reserve.ensures.ok))
-
-is_inserted : (c : After-insert-2) → c.insert.new.self.items ≡ insert c.self.inside.connections.items c.place_of-place.result (marked_whole c.args.cid c.args.scope.now)
+is_inserted : (c : After-insert_over) → c.insert.new.self.items ≡ insert c.self.inside.connections.items c.place_of-place.result (marked_whole c.args.cid c.args.scope.now)
 is_inserted c =
     c.in_ok-insert.ensures.items
     ∙ ap (insert c.self.inside.connections.items c.place_of-place.result) (c.in_ok-connection.ensures ∙ ap (λ cid. marked_whole cid c.args.scope.now) c.copy_of.ensures)
 
-is_absent : (c : After-insert-2) → IsConnected c.self.inside.connections.items c.args.cid → ⊥
+is_absent : (c : After-insert_over) → IsConnected c.self.inside.connections.items c.args.cid → ⊥
 is_absent c is = c.requires (subst (λ (w : Waiting). IsConnected w.connected c.args.cid) c.self.view_is is)
 
 pub invariant_of-self-2 : goal.invariant_of-self-2
 invariant_of-self-2 c =
-    connected_after c.self.inside.connections.items c.make_room.new.over.items c.insert_over.new.over.items c.reserve.new.self c.insert-2.new.self _ _ c.args.cid c.args.scope.now c.place_of-place.result
-    (grown_after c.self.inside.connections.items c.self.inside.over.items c.make_room.new.over.items c.self.inside.pending c.reserve.new.self _ (vec_capacity c.reserve-2.new.self) c.self.invariant c.make_room.ensures.names c.reserve.ensures.names c.reserve.ensures.grows (omega arith))
+    connected_after c.self.inside.connections.items c.make_room.new.over.items c.insert_over.new.over.items c.reserve.new.self.flags c.insert-2.new.self.flags _ _ c.args.cid c.args.scope.now c.place_of-place.result
+    (grown_after c.self.inside.connections.items c.self.inside.over.items c.make_room.new.over.items c.self.inside.pending.flags c.reserve.new.self.flags _ (vec_capacity c.reserve-2.new.self) c.self.invariant c.make_room.ensures.names c.reserve.ensures.flags (omega arith))
     (parted_in c.deref.result.now c.self.inside.connections.items c.args.cid c.place_of-place.result c.deref.ensures.value c.place_of-place.ensures) (is_absent c)
-    c.insert.new.self.items (is_inserted c) c.insert_over.ensures c.insert-2.ensures.names (wide c) (omega (arith, c.in_ok-reserve-2.ensures.ok))
-  where
-    wide : (c : After-insert-2) → length c.self.inside.connections.items + 1 ≤ c.insert-2.new.self.room
-    wide c =
-        let few = pending_few c.self.inside.connections.items c.self.inside.over.items c.self.inside.pending _ c.self.invariant in
-        let many : length c.reserve.new.self.names ≡ length c.self.inside.pending.names = ap length c.reserve.ensures.names in
-        omega (arith, few, many, c.in_ok-reserve.ensures.ok, c.insert-2.ensures.room)
+    c.insert.new.self.items (is_inserted c) c.insert_over.ensures c.insert-2.ensures (omega (arith, c.in_ok-reserve-2.ensures.ok))
 
 pub returns-clause-connected : goal.returns-clause-connected
 returns-clause-connected c =
@@ -64,7 +46,10 @@ returns-clause-connected c =
 
 pub returns-clause-pending : goal.returns-clause-pending
 returns-clause-pending c =
-    rw (← c.self.view_is) (pending_set c.args.cid c.self.inside.pending.names c.insert-2.new.self.names (c.insert-2.ensures.names ∙ ap (with_name c.args.cid) c.reserve.ensures.names))
+    rw (← c.self.view_is)
+    (pending_with c.self.inside.connections.items c.self.inside.over.items c.self.inside.over.items c.self.inside.pending.flags c.insert-2.new.self.flags _ 0 c.args.cid c.args.scope.now c.place_of-place.result c.self.invariant
+    (parted_in c.deref.result.now c.self.inside.connections.items c.args.cid c.place_of-place.result c.deref.ensures.value c.place_of-place.ensures) (is_absent c)
+    c.insert.new.self.items (is_inserted c) (c.insert-2.ensures ∙ ap (λ fs. insert fs c.place_of-place.result true) c.reserve.ensures.flags))
 
 pub returns-clause-formed : goal.returns-clause-formed
 returns-clause-formed c = (invariant_of-self-2 c).formed

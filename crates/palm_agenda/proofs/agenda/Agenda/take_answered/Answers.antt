@@ -1,12 +1,49 @@
-use Rattle.std.proofs.Common.{arith}
-use Rattle.palm_agenda.proofs.Keeping.{pending_few, taken_after}
+use Rattle.std.proofs.Common.{◌≡◌, ◌∙◌, [], ap, arith, false, length, refl, subst}
+use Rattle.palm_agenda.specs.Agenda.{Takes, Waiting, index_within, names_of}
+use Rattle.palm_agenda.specs.Flags.{flagged}
+use Rattle.palm_agenda.proofs.Connecting.{parted_in}
+use Rattle.palm_agenda.proofs.Keeping.{answered_taken, lowered_at, no_pending, place_within, set_after, shown_connected, some_pending}
 use Rattle.palm_agenda.proofs.agenda.Agenda.take_answered.Goals as goal
 
-pub show-requires : goal.show-requires
-show-requires g c =
-    let few = pending_few c.self.inside.connections.items c.self.inside.over.items c.self.inside.pending _ c.self.invariant in
-    omega (arith, few, c.self.invariant.shown_room)
+pub returns-then-is_empty-clause-none : goal.returns-then-is_empty-clause-none
+returns-then-is_empty-clause-none g c = (
+  subst (λ (w : Waiting). w.pending ≡ []) c.self.view_is
+      (no_pending c.self.inside.connections.items c.self.inside.over.items c.self.inside.pending.flags _ c.self.invariant c.is_empty.result c.is_empty.ensures c.if-is_empty.true),
+  refl,
+  refl,
+)
+
+pub chosen-cid-requires : goal.chosen-cid-requires
+chosen-cid-requires g c = λ none.
+    some_pending c.self.inside.connections.items c.self.inside.over.items c.self.inside.pending.flags _ c.self.invariant c.is_empty.result c.is_empty.ensures c.if-is_empty.false
+    c.deref-3.result.now
+    (c.deref-3.ensures.value ∙ c.show.ensures.names ∙ ap (λ ds. flagged (names_of ds) c.as_slice.result.now) c.deref.ensures.value ∙ ap (flagged (names_of c.self.inside.connections.items)) c.as_slice.ensures) none
+
+pub lower-requires : goal.lower-requires
+lower-requires g c =
+    let shows = c.show.ensures.names ∙ ap (λ ds. flagged (names_of ds) c.as_slice.result.now) c.deref.ensures.value ∙ ap (flagged (names_of c.self.inside.connections.items)) c.as_slice.ensures in
+    let within = place_within c.self.inside.connections.items c.self.invariant.formed.rising c.chosen-cid.result c.place_of-place.result
+    (parted_in c.deref-4.result.now c.self.inside.connections.items c.chosen-cid.result c.place_of-place.result c.deref-4.ensures.value c.place_of-place.ensures)
+    (shown_connected c.self.inside.connections.items c.self.inside.over.items c.self.inside.pending.flags _ c.self.invariant c.show.new.shown.items c.deref-3.result.now shows c.deref-3.ensures.value
+    (index_within c.next-answer.result (length c.deref-3.result.now)) c.chosen-cid.result c.chosen-cid.ensures) in
+    let same = c.self.invariant.flag_each in
+    omega arith
 
 pub invariant_of-self : goal.invariant_of-self
 invariant_of-self g c =
-    taken_after c.self.inside.connections.items c.self.inside.over.items c.self.inside.pending c.take_at.new.self _ _ c.take_at.result c.self.invariant c.take_at.ensures.names c.take_at.ensures.room c.show.ensures.room
+    set_after c.self.inside.connections.items c.self.inside.over.items c.self.inside.pending.flags c.lower.new.self.flags _ _ c.place_of-place.result false c.self.invariant c.lower.ensures c.show.ensures.room
+
+pub returns-clause-some : goal.returns-clause-some
+returns-clause-some g c =
+    let shows = c.show.ensures.names ∙ ap (λ ds. flagged (names_of ds) c.as_slice.result.now) c.deref.ensures.value ∙ ap (flagged (names_of c.self.inside.connections.items)) c.as_slice.ensures in (
+      c.next-answer.result,
+      subst (λ (w : Waiting). Takes w.pending (flagged (names_of c.self.inside.connections.items) c.lower.new.self.flags) c.next-answer.result c.chosen-cid.result) c.self.view_is
+          (answered_taken c.self.inside.connections.items c.self.inside.over.items c.self.inside.pending.flags c.lower.new.self.flags _ c.self.invariant c.show.new.shown.items c.deref-3.result.now shows c.deref-3.ensures.value
+          c.next-answer.result c.chosen-cid.result c.chosen-cid.ensures
+          (lowered_at c.self.inside.connections.items c.self.invariant.formed.rising c.chosen-cid.result c.place_of-place.result
+          (parted_in c.deref-4.result.now c.self.inside.connections.items c.chosen-cid.result c.place_of-place.result c.deref-4.ensures.value c.place_of-place.ensures)
+          c.self.inside.pending.flags c.lower.new.self.flags c.self.invariant.flag_each
+          (shown_connected c.self.inside.connections.items c.self.inside.over.items c.self.inside.pending.flags _ c.self.invariant c.show.new.shown.items c.deref-3.result.now shows c.deref-3.ensures.value
+          (index_within c.next-answer.result (length c.deref-3.result.now)) c.chosen-cid.result c.chosen-cid.ensures) c.lower.ensures)),
+      subst (λ cs. g.O.Order.answers c.args.order.now cs c.next-answer.result (g.O.Order.state c.next-answer.new.self)) (c.deref-2.ensures.value ∙ shows ∙ ap (λ (w : Waiting). w.pending) c.self.view_is) c.next-answer.ensures,
+    )

@@ -1,6 +1,29 @@
-use Rattle.palm_agenda.proofs.Keeping.{first_after}
+use Rattle.std.proofs.Common.{◌≡◌, ◌∙◌, List, [], ap, arith, false, length, subst, true}
+use Rattle.std.proofs.lemmas.Option.{slice_get_within}
+use Rattle.palm_agenda.specs.Agenda.{Connected, Waiting, names_of}
+use Rattle.palm_agenda.specs.Flags.{FlagRow, flagged}
+use Rattle.palm_agenda.proofs.Keeping.{first_taken, given_none, none_pending, set_after}
 use Rattle.palm_agenda.proofs.agenda.Agenda.take_first.Goals as goal
 
-pub invariant_of-self : goal.invariant_of-self
-invariant_of-self c =
-    first_after c.self.inside.connections.items c.self.inside.over.items c.self.inside.pending c.take_first.new.self _ c.take_first.result c.self.invariant c.take_first.ensures
+pub returns-in_err-place-clause-none : goal.returns-in_err-place-clause-none
+returns-in_err-place-clause-none c =
+    given_none _
+    (subst (λ (w : Waiting). w.pending ≡ []) c.self.view_is (none_pending c.self.inside.connections.items c.self.inside.over.items c.self.inside.pending.flags _ c.self.invariant c.in_err-place.ensures.0))
+    (ap (λ (f : FlagRow). record { connected = c.self.inside.connections.items; pending = flagged (names_of c.self.inside.connections.items) f.flags }) c.in_err-place.ensures.1 ∙ c.self.view_is)
+
+pub name_at-requires : goal.name_at-requires
+name_at-requires c =
+    let within = slice_get_within c.self.inside.pending.flags c.in_ok-place.place true c.in_ok-place.ensures.0.raised in
+    let same = c.self.invariant.flag_each in
+    let many = ap (λ (ds : List Connected). length ds) c.deref.ensures.value in
+    omega arith
+
+pub invariant_of-self-2 : goal.invariant_of-self-2
+invariant_of-self-2 c =
+    set_after c.self.inside.connections.items c.self.inside.over.items c.self.inside.pending.flags c.lower_first.new.self.flags _ _ c.in_ok-place.place false c.self.invariant c.in_ok-place.ensures.1 (omega arith)
+
+pub returns-clause-some : goal.returns-clause-some
+returns-clause-some c =
+    rw (← c.self.view_is)
+    (first_taken c.self.inside.connections.items c.self.inside.over.items c.self.inside.pending.flags c.lower_first.new.self.flags _ c.self.invariant c.in_ok-place.place c.in_ok-place.ensures.0 c.in_ok-place.ensures.1
+    c.deref.result.now c.deref.ensures.value c.name_at.result c.name_at.ensures)

@@ -1,8 +1,16 @@
-use Rattle.palm_agenda.specs.Agenda.{changed_at, unmarked}
-use Rattle.palm_agenda.proofs.Keeping.{keeps_at, keeps_unmarked, kept_after}
+use Rattle.std.proofs.Common.{◌∙◌, ap}
+use Rattle.palm_agenda.specs.Agenda.{changed_at, names_of, unmarked}
+use Rattle.palm_agenda.specs.Flags.{flagged}
+use Rattle.palm_agenda.proofs.Keeping.{keeps_at, keeps_unmarked, kept_after, names_kept}
 use Rattle.palm_agenda.proofs.agenda.Agenda.unmark.Goals as goal
 
 pub invariant_of-self : goal.invariant_of-self
 invariant_of-self c =
     rw c.unmark_named.ensures
-    (kept_after (changed_at c.args.cid (unmarked c.args.place)) (keeps_at c.args.cid (unmarked c.args.place) (keeps_unmarked c.args.place)) c.self.inside.connections.items c.self.inside.over.items c.self.inside.pending _ c.self.invariant)
+    (kept_after (changed_at c.args.cid (unmarked c.args.place)) (keeps_at c.args.cid (unmarked c.args.place) (keeps_unmarked c.args.place)) c.self.inside.connections.items c.self.inside.over.items c.self.inside.pending.flags _ c.self.invariant)
+
+pub returns-clause-pending : goal.returns-clause-pending
+returns-clause-pending c =
+    rw (← c.self.view_is)
+    (ap (λ ds. flagged (names_of ds) c.self.inside.pending.flags) c.unmark_named.ensures
+    ∙ ap (λ names. flagged names c.self.inside.pending.flags) (names_kept (changed_at c.args.cid (unmarked c.args.place)) (keeps_at c.args.cid (unmarked c.args.place) (keeps_unmarked c.args.place)) c.self.inside.connections.items))

@@ -1,18 +1,27 @@
-use Rattle.std.proofs.Common.{subst, sym}
+use Rattle.std.proofs.Common.{arith, subst, sym, true}
 use Rattle.palm_agenda.specs.Agenda.{Waiting, IsConnected}
-use Rattle.palm_agenda.proofs.Keeping.{room_connected, put_after, pending_set}
+use Rattle.palm_agenda.proofs.Connecting.{parted_in}
+use Rattle.palm_agenda.proofs.Keeping.{place_within, raised_at, set_after}
 use Rattle.palm_agenda.proofs.agenda.Agenda.wake_one.Goals as goal
 
-pub insert-requires : goal.insert-requires
-insert-requires c = room_connected c.self.inside.connections.items c.self.inside.over.items c.self.inside.pending _ c.args.cid c.self.invariant (subst (λ (w : Waiting). IsConnected w.connected c.args.cid) (sym c.self.view_is) c.requires)
+pub raise-requires : goal.raise-requires
+raise-requires c =
+    let within = place_within c.self.inside.connections.items c.self.invariant.formed.rising c.args.cid c.place_of-place.result
+    (parted_in c.deref.result.now c.self.inside.connections.items c.args.cid c.place_of-place.result c.deref.ensures.value c.place_of-place.ensures)
+    (subst (λ (w : Waiting). IsConnected w.connected c.args.cid) (sym c.self.view_is) c.requires) in
+    let same = c.self.invariant.flag_each in
+    omega arith
 
 pub invariant_of-self : goal.invariant_of-self
 invariant_of-self c =
-    put_after c.self.inside.connections.items c.self.inside.over.items c.self.inside.pending c.insert.new.self _ c.args.cid c.self.invariant
-    (subst (λ (w : Waiting). IsConnected w.connected c.args.cid) (sym c.self.view_is) c.requires) c.insert.ensures.names c.insert.ensures.room
+    set_after c.self.inside.connections.items c.self.inside.over.items c.self.inside.pending.flags c.raise.new.self.flags _ _ c.place_of-place.result true c.self.invariant c.raise.ensures (omega arith)
 
 pub returns-clause-pending : goal.returns-clause-pending
-returns-clause-pending c = rw (← c.self.view_is) (pending_set c.args.cid c.self.inside.pending.names c.insert.new.self.names c.insert.ensures.names)
+returns-clause-pending c =
+    rw (← c.self.view_is)
+    (raised_at c.self.inside.connections.items c.self.invariant.formed.rising c.args.cid c.place_of-place.result
+    (parted_in c.deref.result.now c.self.inside.connections.items c.args.cid c.place_of-place.result c.deref.ensures.value c.place_of-place.ensures)
+    c.self.inside.pending.flags c.raise.new.self.flags c.self.invariant.flag_each (subst (λ (w : Waiting). IsConnected w.connected c.args.cid) (sym c.self.view_is) c.requires) c.raise.ensures)
 
 pub returns-clause-formed : goal.returns-clause-formed
 returns-clause-formed c = (invariant_of-self c).formed
