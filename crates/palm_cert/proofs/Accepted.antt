@@ -15,13 +15,10 @@ use Rattle.palm_book.specs.declared.book.BookCon.{BookCon}
 use Rattle.palm_book.proofs.Any.{any_member}
 use Rattle.palm_claim.specs.Draft.{blank}
 use Rattle.palm_claim.specs.Step.{pairs_at}
-use Rattle.palm_claim.specs.Verdict.{IsVerdict}
 use Rattle.palm_claim.specs.Claim.{IsOver}
 use Rattle.palm_claim.specs.declared.statement.Stage.TheVariants.{Closed}
 use Rattle.palm_claim.specs.declared.verdict.Claim.{Claim}
 use Rattle.palm_claim.specs.declared.verdict.Claim.TheVariants.{Conflict, Gone}
-use Rattle.palm_claim.specs.declared.verdict.Proved.{Proved}
-use Rattle.palm_claim.specs.declared.verdict.Verdict.TheVariants.{Accepted}
 use Rattle.palm_claim.specs.declared.statement.Statement.TheVariants.{ConflictClaim, ValueClaim}
 use Rattle.palm_events.proofs.Names.{same_cid_itself}
 use Rattle.palm_lang.specs.Reply.{fixed_text}
@@ -34,6 +31,7 @@ use Rattle.palm_model.specs.Support.{LacksSupport}
 use Rattle.palm_cert.specs.Certificate.{certificate_text, cited, claim_line, claim_var, claimed, declarations, is_cited, is_used, numbers_of, proof_lines, step_line, steps_of, used}
 use Rattle.palm_cert.specs.Needs.{CanClaim}
 use Rattle.palm_cert.specs.Readable.{AreReadable, claim_statement}
+use Rattle.palm_cert.specs.Accepted.{IsAccepted}
 use Rattle.palm_cert.specs.SameClaim.{IsSameClaim}
 use Rattle.palm_cert.proofs.Before.{before_from, filter_shorter, range_has, range_rises, range_within}
 use Rattle.palm_cert.proofs.Declaring.{AreDeclared, Lists, declarations_read, list_open}
@@ -145,7 +143,7 @@ claimable s book valid initial (Conflict x) can = tt
 
 pub certificate_accepted : (s : EngineState) (book : Contents) (claim : Claim) → IsBook book → IsValid s → s.initial ≡ initial_of book → s.active ≡ active_of book
     → CanClaim s claim → AreReadable book (steps_of s.log (claimed book claim)) claim
-    → (proved : Proved) × IsVerdict (certificate_text book s.log claim) (Accepted proved) × IsSameClaim book (cited (steps_of s.log (claimed book claim)) book) claim proved
+    → IsAccepted book s.log claim (certificate_text book s.log claim)
 certificate_accepted s book claim is valid initial active can read =
     let steps = steps_of s.log (claimed book claim) in
     let x = claim_var claim in
@@ -166,8 +164,9 @@ certificate_accepted s book claim is valid initial active can read =
     let listed = flat_map (step_line book steps) steps in
     let claims = claim_line book.variables claim in
     let rest = subst (λ (t : List ℕ). Reads start t end) (sym (append_assoc listed claims (fixed_text End))) (reads_then start middle end listed (claims ++ fixed_text End) second.reads third) in
-    let whole = reads_then blank start end (declarations book cs x) (proof_lines book steps claim) first.reads rest in (
-      record { claim = mine; book = own book us cs acc are lists },
-      accepted (certificate_text book s.log claim) mine (own book us cs acc are lists) proved whole,
-      same_claim book us cs acc are lists claim used,
-    )
+    let whole = reads_then blank start end (declarations book cs x) (proof_lines book steps claim) first.reads rest in
+    record {
+      proved = record { claim = mine; book = own book us cs acc are lists };
+      verdict = accepted (certificate_text book s.log claim) mine (own book us cs acc are lists) proved whole;
+      same = same_claim book us cs acc are lists claim used;
+    }

@@ -30,7 +30,7 @@ use Rattle.palm_read.proofs.Layouts.{words_keyword, words_none, words_plain, wor
 use Rattle.palm_cert.specs.Certificate.{asked, claim_words, claimed, is_asked, numbers_of, step_words, steps_of}
 use Rattle.palm_cert.specs.Needs.{CanClaim}
 use Rattle.palm_cert.specs.Readable.{AreReadable, claim_statement}
-use Rattle.palm_cert.specs.Scoped.{HasScopedReasons}
+use Rattle.palm_events.specs.Scoped.{HasScopedReasons}
 use Rattle.palm_cert.proofs.Declared.{are_values, name_text, named_near, named_read, variable_says}
 use Rattle.palm_cert.proofs.Lengths.{are_step_numbers, numbers_few, over_few, over_member, pairs_over, within_book}
 use Rattle.palm_cert.proofs.Links.{Apart, linked_apart, pair_logged, pair_removal}

@@ -1,5 +1,5 @@
 -- Steps of writing.
-use Rattle.std.proofs.Common.{◌≡◌, ℕ, List, [], subst, ◌++◌, refl, sym, ap, ◌∙◌, append_assoc, Result, Ok, Err}
+use Rattle.std.proofs.Common.{◌≡◌, ℕ, List, [], subst, ◌++◌, refl, sym, ap, ◌∙◌, append_assoc, Result, Ok, Err, OnOk}
 use Rattle.palm_base.proofs.StreamLemmas.{appended_both, appended_nothing}
 use Rattle.palm_base.specs.Streams.{SinkState}
 use Rattle.palm_cert.specs.Writing.{Writes, HasStopCause}
@@ -17,6 +17,11 @@ writes_nothing s text = record {
 -- no text
 pub writes_none : {T : Type 0} (s : SinkState) (t : T) → Writes {T = T} s s [] (Ok t)
 writes_none s t = record { counted = refl; ok = appended_nothing s.written; err = tt }
+
+-- what holds of a text holds of it where it was written
+pub at_ok : {T E : Type 0} {P : Type 0} (r : Result T E) → P → OnOk r P
+at_ok (Ok t) p = p
+at_ok (Err e) p = tt
 
 -- the last write of a longer text
 pub writes_then : {T U : Type 0} (s0 s1 s2 : SinkState) (x y : List ℕ) (t : T) (r : Result U CertStop)

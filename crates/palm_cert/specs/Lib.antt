@@ -1,8 +1,8 @@
+pub mod Accepted
 pub mod Certificate
 pub mod Moved
 pub mod Needed
 pub mod Needs
 pub mod Readable
 pub mod SameClaim
-pub mod Scoped
 pub mod Writing

@@ -1,6 +1,7 @@
 //! Writing a certificate, a line at a time, so that no whole text is held.
-ghost use Rattle.std.specs.Prelude.{◌≡◌, ◌<◌, length, flat_map, All};
+ghost use Rattle.std.specs.Prelude.{◌≡◌, ◌<◌, length, flat_map, All, OnOk};
 ghost use Rattle.palm_book.specs.Book.{active_of, initial_of};
+ghost use Rattle.palm_cert.specs.Accepted.{IsAccepted};
 ghost use Rattle.palm_cert.specs.Certificate.{added_line, certificate_text, claim_line, claim_var, declarations, declared_line, header_line, step_line, used};
 ghost use Rattle.palm_cert.specs.Needs.{AreSteps, CanClaim, IsOfBook, declared_at, marked, marked_at};
 ghost use Rattle.palm_cert.specs.Writing.{Writes};
@@ -21,7 +22,8 @@ use std::alloc::Global;
 
 /// Writes a certificate of the claim: the variables and constraints that it needs, the removals that it needs as steps
 /// in the order of the log, and the claim. The book's variables and active constraints are the engine's, and the claim's
-/// pair was removed or its variable has no value. At a stop a front of the certificate was written.
+/// pair was removed or its variable has no value. The checker's definition accepts what is written, with this claim. At a
+/// stop a front of the certificate was written.
 pub fn write_cert<F: Filter, K: Sink>(
     alloc: Global,
     engine: &Engine<F>,
@@ -32,9 +34,11 @@ pub fn write_cert<F: Filter, K: Sink>(
     requires initial { engine.now.state.initial ≡ initial_of book.now }
     requires active { engine.now.state.active ≡ active_of book.now }
     requires holds { CanClaim engine.now.state claim }
-    ensures { Writes (K.state out.old) (K.state out.new) (certificate_text book.now engine.now.state.log claim) result }
+    ensures text { Writes (K.state out.old) (K.state out.new) (certificate_text book.now engine.now.state.log claim) result }
+    ensures accepted { OnOk result (IsAccepted book.now engine.now.state.log claim (certificate_text book.now engine.now.state.log claim)) }
 {
     let _ = engine.store();
+    let _ = book.variables();
     let log = engine.log();
     let _ = log.removals();
     let needs = needs_of(alloc, book, log, &claim)?;

@@ -9,17 +9,14 @@ ghost use Rattle.palm_claim.specs.Lines.{lines_of};
 ghost use Rattle.palm_lang.specs.Reply.{ended};
 ghost use Rattle.palm_read.specs.Bytes.{is_plain};
 ghost use Rattle.palm_claim.specs.Step.{IsReached, IsRight};
-ghost use Rattle.palm_claim.specs.Verdict.{IsVerdict};
-ghost use Rattle.palm_claim.specs.declared.verdict.Proved.{Proved};
-ghost use Rattle.palm_claim.specs.declared.verdict.Verdict.TheVariants.{Accepted};
-ghost use Rattle.palm_cert.specs.SameClaim.{IsSameClaim};
+ghost use Rattle.palm_cert.specs.Accepted.{IsAccepted};
 ghost use Rattle.palm_claim.specs.declared.verdict.Claim.{Claim};
 ghost use Rattle.palm_cert.specs.Needed.{IsNeeded};
 ghost use Rattle.palm_cert.specs.Needs.{CanClaim};
 ghost use Rattle.palm_explain.specs.Explanations.{IsLinked, NamesOfSome};
 ghost use Rattle.palm_cert.specs.Moved.{moved};
 ghost use Rattle.palm_cert.specs.Readable.{AreReadable};
-ghost use Rattle.palm_cert.specs.Scoped.{HasScopedReasons};
+ghost use Rattle.palm_events.specs.Scoped.{HasScopedReasons};
 ghost use Rattle.palm_model.specs.Constraint.{scope};
 ghost use Rattle.palm_model.specs.Domains.{Domains, Has};
 ghost use Rattle.palm_model.specs.Support.{LacksSupport};
@@ -83,9 +80,8 @@ pub fn ended_lines_are_cut_apart()
 {}
 
 /// A certificate is accepted by the checker's definition, and what is accepted is the claim that was to be made, of the
-/// constraints that the claim needs.
+/// constraints that the claim needs. `write_cert` ensures it of every engine.
 pub fn certificates_are_accepted()
     ensures { (s : EngineState) (book : Contents) (claim : Claim) → IsBook book → IsValid s → s.initial ≡ initial_of book → s.active ≡ active_of book
-        → CanClaim s claim → HasScopedReasons s
-        → (proved : Proved) × IsVerdict (certificate_text book s.log claim) (Accepted proved) × IsSameClaim book (cited (steps_of s.log (claimed book claim)) book) claim proved }
+        → CanClaim s claim → HasScopedReasons s → IsAccepted book s.log claim (certificate_text book s.log claim) }
 {}

@@ -7,7 +7,9 @@ use Rattle.palm_model.specs.Support.{IsSupported}
 use Rattle.palm_model.specs.Log.{Active}
 use Rattle.palm_model.specs.State.{EngineState, HasEmpty, IsValid, present}
 use Rattle.palm_model.specs.Event.{Removes, removal_of}
+use Rattle.palm_events.specs.Scoped.{HasScopedReasons}
 use Rattle.palm_events.proofs.Reasons.{reasons_right}
+use Rattle.palm_events.proofs.Scoped.{removes_scoped}
 use Rattle.palm_events.proofs.Valid.{removes_valid, removed_has}
 use Rattle.palm_engine.specs.Settling.{Walks}
 use Rattle.palm_engine.specs.Settling.Walks.{walked_all, walked_empty, walked_past, walked_out}
@@ -79,6 +81,14 @@ walk_valid a _ _ _ _ (walked_all s) valid = valid
 walk_valid a _ _ _ _ (walked_empty pairs s empty) valid = valid
 walk_valid a _ _ _ _ (walked_past p pairs s n t supported walk) valid = walk_valid a pairs s n t walk valid
 walk_valid a _ _ _ _ (walked_out p pairs s m n t removes walk) valid = walk_valid a pairs m n t walk (removes_valid reasons_right s m a p removes valid)
+
+-- the reasons stay in the scopes of their constraints
+pub walk_scoped : (a : Active) (pairs : List Pair) (s : EngineState) (n : ℕ) (t : EngineState) → Walks a pairs s n t → IsValid s → HasScopedReasons s → HasScopedReasons t
+walk_scoped a _ _ _ _ (walked_all s) valid scoped = scoped
+walk_scoped a _ _ _ _ (walked_empty pairs s empty) valid scoped = scoped
+walk_scoped a _ _ _ _ (walked_past p pairs s n t supported walk) valid scoped = walk_scoped a pairs s n t walk valid scoped
+walk_scoped a _ _ _ _ (walked_out p pairs s m n t removes walk) valid scoped =
+    walk_scoped a pairs m n t walk (removes_valid reasons_right s m a p removes valid) (removes_scoped s m a p valid removes scoped)
 
 -- no value comes back
 pub walk_has : (a : Active) (pairs : List Pair) (s : EngineState) (n : ℕ) (t : EngineState) → Walks a pairs s n t → (x : ℕ) (v : ℤ) → Has (present t) x v → Has (present s) x v

@@ -20,6 +20,7 @@ use Rattle.palm_model.proofs.Ascending.{domains_same}
 use Rattle.palm_model.proofs.Without.{ascend_without, has_without, length_without, pair_of, without_has}
 use Rattle.palm_events.proofs.Agreeing.{has_more, more_has, values_of_more}
 use Rattle.palm_events.proofs.Names.{named_member, rising_same}
+use Rattle.palm_events.proofs.Scoped.{posts_scoped}
 use Rattle.palm_events.proofs.States.{over_member, awake_named, awake_over, woken_active, member_woken, woken_rises, without_cid_member, member_without_cid, without_names_member, member_without_names, without_names_rises, with_posted_rises, with_posted_here, member_with_posted}
 use Rattle.palm_events.proofs.Valid.{active_declared, declares_valid, left_grows, left_same, posts_valid}
 use Rattle.palm_explain.specs.Explanations.{Explanations, LacksExactly}
@@ -279,6 +280,7 @@ pub activated_engine : (f : Filtering) (w : Waiting) (a : Active) (active after 
 activated_engine f w a active after inactive is engine = record {
   kept = subst (IsKept (record f { agenda = w })) (sym is.posted) (posted_kept f w a active inactive is.formed is.connected engine.kept);
   valid = posts_valid (state_of f active) (state_of (record f { agenda = w }) after) a (activated_posts f w a active after inactive is engine) engine.valid;
+  scoped = posts_scoped (state_of f active) (state_of (record f { agenda = w }) after) a (activated_posts f w a active after inactive is engine) engine.scoped;
 }
 
 pub unchanged_engine : (f : Filtering) (w : Waiting) (active after : List Active) → after ≡ active → w ≡ f.agenda → IsEngine f active → IsEngine (record f { agenda = w }) after
@@ -360,6 +362,7 @@ declared_engine f store values active ascends filled e engine =
         empty = subst (λ d. IsEmptyKept d f.empty) (sym now) (more_empty (present_of f.store) values filled f.empty kept.empty);
       };
       valid = declares_valid s t values (declared_state f store values active ascends e) engine.valid;
+      scoped = engine.scoped;
     }
   where
     more_filled : (d : Domains) (vs : List ℤ) → 0 < length vs → (x : ℕ) → (x < length d → 0 < length (values_of d x)) → x < length (d ++ vs ∷ []) → 0 < length (values_of (d ++ vs ∷ []) x)

@@ -9,6 +9,7 @@ use Rattle.palm_model.specs.Log.{Active, Rises, cids_of, log_pairs}
 use Rattle.palm_model.specs.State.{EngineState, HasEmpty, AllFilled, IsValid, present, woken, without_cid}
 use Rattle.palm_events.proofs.Reasons.{reasons_right}
 use Rattle.palm_events.proofs.Runs.{run_valid}
+use Rattle.palm_events.proofs.Scoped.{run_scoped}
 use Rattle.palm_events.proofs.States.{without_cid_rises, without_cid_member}
 use Rattle.palm_explain.specs.Explanations.{Explanations, LacksExactly}
 use Rattle.palm_agenda.specs.Agenda.{IsConnected, IsFormed, HasMarks, Waiting, index_within, names_of}
@@ -23,7 +24,7 @@ use Rattle.palm_engine.specs.Revising.{HasCounted, IsTaken, HasRevised, HasPartl
 use Rattle.palm_engine.specs.Revising.TakesNone.{none_filled, none_allowed, none_pending}
 use Rattle.palm_engine.specs.Work.{effort, named_sizes, most_asked}
 use Rattle.palm_engine.proofs.Ending.{revision_falls}
-use Rattle.palm_engine.proofs.Joined.{walk_valid}
+use Rattle.palm_engine.proofs.Joined.{walk_scoped, walk_valid}
 use Rattle.palm_engine.proofs.Places.{kept_empty}
 use Rattle.palm_engine.proofs.Progress.{counted_none, counted_then}
 use Rattle.palm_engine.proofs.Settles.{pending_is_active, pending_waits}
@@ -171,7 +172,11 @@ run_more limit ordered active before f g h count old mid new cid removed run tak
     let filters = revision_filters m r t one in
     let more : length (rs ++ r ∷ []) ≡ length rs + 1 = length-append rs (r ∷ []) in
     record {
-      engine = record { kept = kept; valid = run_valid reasons_right m filters.steps t filters.run run.engine.valid };
+      engine = record {
+        kept = kept;
+        valid = run_valid reasons_right m filters.steps t filters.run run.engine.valid;
+        scoped = run_scoped m filters.steps t filters.run run.engine.valid run.engine.scoped;
+      };
       revisions = rs ++ r ∷ [];
       ran = revisions_more s rs m r t run.ran one;
       fits = fits_more ordered rs r run.fits takes.fits;
@@ -220,7 +225,11 @@ pub stopped_engine : (limit : Option ℕ) (ordered : Bool) (active : List Active
     → HasPartlyRevised active cid (state_in_revision g active cid) (state_of h active) → IsKept h active → IsEngine h active
 stopped_engine limit ordered active f g h ran cid takes engine part kept =
     let one = subst (λ s. HasPartlyRevised active cid s (state_of h active)) (taken_state limit ordered ran active f g cid takes engine) part in
-    record { kept = kept; valid = walk_valid one.owner one.walked (state_of f active) one.removed (state_of h active) one.walk engine.valid }
+    record {
+      kept = kept;
+      valid = walk_valid one.owner one.walked (state_of f active) one.removed (state_of h active) one.walk engine.valid;
+      scoped = walk_scoped one.owner one.walked (state_of f active) one.removed (state_of h active) one.walk engine.valid engine.scoped;
+    }
 
 pub run_stopped : (limit : Option ℕ) (ordered : Bool) (active : List Active) (before f g h : Filtering) (count old mid : ℕ) (cid : Cid) (view : View) → view.state ≡ state_of before active → HasRun limit ordered active before f count old mid → TakesNext limit ordered count f g cid
     → HasPartlyRevised active cid (state_in_revision g active cid) (state_of h active)

@@ -11,9 +11,10 @@ use Rattle.palm_base.proofs.Members.{member_nil, member_here, member_there, memb
 use Rattle.palm_model.specs.Log.{Active, Removal, Loses, Rises, cids_of, is_named}
 use Rattle.palm_model.specs.Log.Loses.{none_left, is_kept}
 use Rattle.palm_model.specs.State.{EngineState, IsGround, IsValid, is_awake, is_over, woken}
-use Rattle.palm_model.specs.Event.{Withdraws, WithdrawsAll, lost_pairs, vars_of, without_names, withdrawn}
+use Rattle.palm_model.specs.Event.{Withdraws, WithdrawsAll, gone_with, lost_pairs, vars_of, without_names, withdrawn}
 use Rattle.palm_model.proofs.Supports.{any_member}
 use Rattle.palm_events.proofs.Names.{named_member, member_not_named, not_named_member, rising_same, single}
+use Rattle.palm_events.proofs.Scoped.{withdraws_scoped}
 use Rattle.palm_events.proofs.States.{awake_named, awake_over, member_woken, over_member, woken_active, woken_rises, without_names_member, without_names_rises, form_grounds, held_not_ground}
 use Rattle.palm_events.proofs.Valid.{withdraws_valid}
 use Rattle.palm_explain.proofs.Withdrawn.{adds_up, lost_in_two, two_lost, lost_logged}
@@ -303,5 +304,11 @@ pub withdrawn_engine : (f m g : Filtering) (active middle after : List Active) (
     → IsEngine g after × Withdraws (state_of f active) cid (state_of g after)
 withdrawn_engine f m g active middle after cid a engine named left one two kept =
     let withdraws = withdraws_both (state_of f active) (state_of m middle) (state_of g after) cid engine.valid (left ∙ ap (λ c. without_names (c ∷ []) active) named)
-    (subst (λ c. WithdrawsAll (state_of f active) (c ∷ []) (state_of m middle)) named one) two in
-    (record { kept = kept; valid = withdraws_valid (state_of f active) (state_of g after) cid withdraws engine.valid }, withdraws)
+    (subst (λ c. WithdrawsAll (state_of f active) (c ∷ []) (state_of m middle)) named one) two in (
+      record {
+        kept = kept;
+        valid = withdraws_valid (state_of f active) (state_of g after) cid withdraws engine.valid;
+        scoped = withdraws_scoped (state_of f active) (state_of g after) (gone_with active cid) withdraws engine.scoped;
+      },
+      withdraws,
+    )

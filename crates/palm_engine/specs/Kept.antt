@@ -7,6 +7,7 @@ use Rattle.palm_model.specs.Constraint.{scope}
 use Rattle.palm_model.specs.Support.{IsSupported}
 use Rattle.palm_model.specs.Log.{Active, log_pairs}
 use Rattle.palm_model.specs.State.{EngineState, IsValid, IsEmptyAt, AllFilled, woken}
+use Rattle.palm_events.specs.Scoped.{HasScopedReasons}
 use Rattle.palm_explain.specs.Explanations.{LacksExactly}
 use Rattle.palm_agenda.specs.Agenda.{Connected, IsFormed}
 use Rattle.palm_engine.specs.declared.filtering.Filtering.{Filtering}
@@ -53,3 +54,4 @@ pub record IsKept (f : Filtering) (active : List Active) : Type 0 where
 pub record IsEngine (f : Filtering) (active : List Active) : Type 0 where
   pub kept : IsKept f active
   pub valid : IsValid (state_of f active)
+  pub scoped : HasScopedReasons (state_of f active)

@@ -12,6 +12,7 @@ ghost use Rattle.palm_model.specs.Domains.{Has};
 ghost use Rattle.palm_model.specs.Event.{Declares, Posts, Withdraws};
 ghost use Rattle.palm_model.specs.Log.{IsActive, IsListOf, pair_before};
 ghost use Rattle.palm_model.specs.State.{AreGrounds, HasEmpty, IsEmptyAt, IsValid, blank, present};
+ghost use Rattle.palm_events.specs.Scoped.{HasScopedReasons};
 ghost use Rattle.palm_engine.specs.Engine.{HasAsked, HasSettled, IsInterrupted, KeepsCounts};
 ghost use Rattle.palm_engine.specs.Posted.{active_of, decision, negation, user};
 
@@ -215,6 +216,7 @@ impl<F: Filter> Engine<F> {
         ensures initial { initial_of result.now ≡ self.now.state.initial }
         ensures present { present_of result.now ≡ present self.now.state }
         ensures valid { IsValid self.now.state }
+        ensures scoped { HasScopedReasons self.now.state }
     {
         &self.filtering.store
     }

@@ -5,6 +5,7 @@ pub mod Names
 pub mod Outcomes
 pub mod Reasons
 pub mod Runs
+pub mod Scoped
 pub mod States
 pub mod Undone
 pub mod Valid

@@ -24,6 +24,6 @@ pub use logged::{
 };
 pub use undoing::{posting_and_withdrawing_gives_back_the_log, runs_give_back_the_log};
 pub use validity::{
-    runs_are_valid, states_without_constraints_are_valid, steps_keep_validity,
-    withdrawals_keep_validity, withdrawals_wake,
+    reasons_stay_in_scopes, runs_are_valid, states_without_constraints_are_valid,
+    steps_keep_validity, withdrawals_keep_validity, withdrawals_wake,
 };

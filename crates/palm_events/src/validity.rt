@@ -1,4 +1,4 @@
-//! Laws on valid states: every step keeps them so, in any order.
+//! Laws on valid states: every step keeps them so, in any order, and keeps each reason in the scope of its constraint.
 ghost use Rattle.std.specs.Prelude.{◌↔◌, ◌⊎◌, List, Contains};
 ghost use Rattle.palm_base.specs.declared.terms.Cid.{Cid};
 ghost use Rattle.palm_base.specs.declared.terms.Pair.{Pair};
@@ -8,6 +8,7 @@ ghost use Rattle.palm_model.specs.Domains.{Domains, AllAscend};
 ghost use Rattle.palm_model.specs.State.{EngineState, IsValid, blank};
 ghost use Rattle.palm_model.specs.Event.{Step, StepLeads, Runs, WithdrawsAll, lost_pairs};
 ghost use Rattle.palm_events.specs.Along.{KeepsGrounds};
+ghost use Rattle.palm_events.specs.Scoped.{HasScopedReasons};
 
 /// The state without constraints is valid.
 pub fn states_without_constraints_are_valid()
@@ -29,6 +30,14 @@ pub fn withdrawals_keep_validity()
 pub fn runs_are_valid()
     ensures { (initial : Domains) (steps : List Step) (t : EngineState)
         → AllAscend initial → Runs (blank initial) steps t → IsValid t }
+{}
+
+/// Without constraints there is no reason outside a scope. From a valid state on every step and every run leaves the reasons
+/// in the scopes of the constraints that took the values out, and of other variables.
+pub fn reasons_stay_in_scopes()
+    ensures begins { (initial : Domains) → HasScopedReasons (blank initial) }
+    ensures step { (s t : EngineState) (step : Step) → StepLeads s step t → IsValid s → HasScopedReasons s → HasScopedReasons t }
+    ensures run { (s t : EngineState) (steps : List Step) → Runs s steps t → IsValid s → HasScopedReasons s → HasScopedReasons t }
 {}
 
 /// After a withdrawal exactly those constraints are pending that are still active and were pending before, or are over a

@@ -8,7 +8,7 @@ use Rattle.palm_book.specs.Book.{initial_of, name_of}
 use Rattle.palm_read.specs.declared.line.Line.TheVariants.{Cert, CertConflict}
 use Rattle.palm_cert.specs.Certificate.{certificate_text}
 use Rattle.palm_cert.specs.Needs.{CanClaim}
-use Rattle.palm_cert.specs.Scoped.{HasScopedReasons}
+use Rattle.palm_events.specs.Scoped.{HasScopedReasons}
 use Rattle.palm_cert.proofs.Accepted.{certificate_accepted}
 use Rattle.palm_cert.proofs.Logged.{claim_declared}
 use Rattle.palm_cert.proofs.Readable.{readable}
@@ -17,7 +17,8 @@ use Rattle.palm_claim.specs.declared.verdict.Claim.TheVariants.{Gone, Conflict a
 use Rattle.palm_session.specs.State.{SessionState, IsState, AreDomains, IsContradiction}
 use Rattle.palm_session.specs.Refusals.{Meets, in_order, IsNone}
 use Rattle.palm_session.specs.Answers.{SaysCert, SaysCertConflict, Says, Accepts, waits, contradicts, says}
-use Rattle.palm_session.specs.Told.{IsAccepted, ToldCert, ToldCertConflict}
+use Rattle.palm_cert.specs.Accepted.{IsAccepted}
+use Rattle.palm_session.specs.Told.{ToldCert, ToldCertConflict}
 use Rattle.palm_session.specs.Told.ToldCert.{cert_paused, cert_contradiction, cert_present, cert_accepted}
 use Rattle.palm_session.specs.Told.ToldCertConflict.{claim_paused, claim_none, claim_accepted}
 use Rattle.palm_session.proofs.LawsOfAnswers.{awake_for, query_same}
@@ -31,8 +32,8 @@ accepts : (s : SessionState) → IsState s → HasScopedReasons s.engine → (cl
 accepts s is scoped claim can text printed =
     let held = is.held in
     let read = readable s.engine s.book claim held.book held.valid held.initial held.active can scoped in
-    let r = certificate_accepted s.engine s.book claim held.book held.valid held.initial held.active can read in
-    subst (λ (z : List ℕ). IsAccepted s.book s.engine.log claim z) (sym printed) (record { proved = r.0; verdict = r.1; same = r.2 })
+    let is_accepted = certificate_accepted s.engine s.book claim held.book held.valid held.initial held.active can read in
+    subst (λ (z : List ℕ). IsAccepted s.book s.engine.log claim z) (sym printed) is_accepted
 
 -- a declared value that is not present was removed
 removed : (s : SessionState) → IsState s → s.paused ≡ false → (IsContradiction s → ⊥) → (d : Domains) (x : ℕ) (value : ℤ) → AreDomains s d → Has (initial_of s.book) x value → (Has d x value → ⊥)

@@ -27,7 +27,6 @@ pub mod Places
 pub mod Presents
 pub mod ReadOnce
 pub mod Retracting
-pub mod Scoped
 pub mod ScopedLines
 pub mod Searched
 pub mod Searching

@@ -21,11 +21,11 @@ use Rattle.palm_session.specs.Refusals.{Meets, in_order, IsNone}
 use Rattle.palm_session.specs.Effects.{SearchEnd, Effect, Nothing, Settled, Searched, Next, Rests, Filters, Procedure, Searches, next, next_constraint, SettlesIn, SearchesIn, Follows, Does, Changes, WithdrawsActive}
 use Rattle.palm_session.specs.Answers.{WaitsFor, Accepts, waits, contradicts, says, Answers, misread, refused, accepted}
 use Rattle.palm_session.specs.Replies.{Run}
-use Rattle.palm_cert.specs.Scoped.{IsScoped, HasScopedReasons}
+use Rattle.palm_events.specs.Scoped.{IsScoped, HasScopedReasons}
 use Rattle.palm_session.proofs.LawsOfAnswers.{answers_keep}
 use Rattle.palm_session.proofs.LawsOfChanges.{changes_keep, withdraws_cases}
 use Rattle.palm_session.proofs.LawsOfStates.{fresh_is}
-use Rattle.palm_session.proofs.Scoped.{blank_scoped, step_scoped, run_scoped}
+use Rattle.palm_events.proofs.Scoped.{blank_scoped, step_scoped, run_scoped}
 use Rattle.palm_session.proofs.Searched.{still_before}
 use Rattle.palm_session.proofs.Searching.{search_leaves_still, search_log}
 

@@ -4,14 +4,9 @@ use Rattle.palm_base.specs.declared.terms.Cid.{Cid}
 use Rattle.palm_model.specs.Closure.{Explains, IsConflict, IsSolution}
 use Rattle.palm_model.specs.Domains.{Assignment}
 use Rattle.palm_model.specs.Trial.{listed, value_count}
-use Rattle.palm_model.specs.Log.{IsActive, Named, Removal, cons_of}
-use Rattle.palm_cert.specs.Certificate.{cited, claimed, steps_of}
-use Rattle.palm_cert.specs.SameClaim.{IsSameClaim}
-use Rattle.palm_claim.specs.Verdict.{IsVerdict}
-use Rattle.palm_claim.specs.declared.verdict.Claim.{Claim}
+use Rattle.palm_model.specs.Log.{IsActive, Named, cons_of}
+use Rattle.palm_cert.specs.Accepted.{IsAccepted}
 use Rattle.palm_claim.specs.declared.verdict.Claim.TheVariants.{Gone, Conflict as ConflictClaim}
-use Rattle.palm_claim.specs.declared.verdict.Proved.{Proved}
-use Rattle.palm_claim.specs.declared.verdict.Verdict.TheVariants.{Accepted}
 use Rattle.palm_book.specs.Book.{Contents, initial_of, active_of, name_of}
 use Rattle.palm_lang.specs.Reply.{fixed_text, found_line, spent_line}
 use Rattle.palm_lang.specs.declared.reply.Fixed.TheVariants.{Contradiction, Paused, Present, Consistent}
@@ -83,13 +78,6 @@ pub data ToldMinimalConflict (book : Contents) (reply : List ℕ) : Type 0 where
   least_none : reply ≡ fixed_text Consistent → ToldMinimalConflict book reply
   least_named : (names : List Cid) → IsConflictOf book names → IsMinimalConflict (initial_of book) (active_of book) names
       → reply ≡ users_text book ConflictLead names → ToldMinimalConflict book reply
-
--- the certificate is accepted by the checker's definition, with the claim that was to be made, of the constraints that the
--- claim needs
-pub record IsAccepted (book : Contents) (log : List Removal) (claim : Claim) (text : List ℕ) : Type 0 where
-  pub proved : Proved
-  pub verdict : IsVerdict text (Accepted proved)
-  pub same : IsSameClaim book (cited (steps_of log (claimed book claim)) book) claim proved
 
 -- what is told of a value by a certificate: a word, or a text that is accepted with the claim that the value is gone
 pub data ToldCert (s : SessionState) (name : List ℕ) (value : ℤ) (reply : List ℕ) : Type 0 where

@@ -4,7 +4,7 @@ ghost use Rattle.palm_session.specs.State.{SessionState, IsState, fresh};
 ghost use Rattle.palm_session.specs.Answers.{Answers};
 ghost use Rattle.palm_session.specs.Lines.{without_return};
 ghost use Rattle.palm_session.specs.Replies.{ChoosesNone, Ends, Replies, Run};
-ghost use Rattle.palm_cert.specs.Scoped.{HasScopedReasons};
+ghost use Rattle.palm_events.specs.Scoped.{HasScopedReasons};
 
 use crate::limits::MOST_KEPT_BYTES;
 

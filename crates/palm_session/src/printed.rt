@@ -1,7 +1,7 @@
 //! Laws of what a session prints: its engine's domains are the greatest closed ones, its explanations explain, its
 //! conflicts have no solution, and its certificates are accepted.
 ghost use Rattle.std.specs.Prelude.{◌≡◌, ◌↔◌, ℕ, ℤ, false, List};
-ghost use Rattle.palm_cert.specs.Scoped.{HasScopedReasons};
+ghost use Rattle.palm_events.specs.Scoped.{HasScopedReasons};
 ghost use Rattle.palm_model.specs.Domains.{Domains};
 ghost use Rattle.palm_model.specs.State.{HasEmpty, IsEmptyAt, present};
 ghost use Rattle.palm_read.specs.declared.line.Line.TheVariants.{Add, Retract, Domains as DomainsLine, Why, Conflict, Minimal, MinimalConflict, Cert, CertConflict};

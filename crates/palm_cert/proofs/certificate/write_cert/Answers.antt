@@ -5,9 +5,11 @@ use Rattle.palm_lang.specs.declared.reply.Fixed.TheVariants.{End}
 use Rattle.palm_model.specs.Log.{Removal}
 use Rattle.palm_cert.specs.Certificate.{certificate_text, claim_line, declarations, step_line}
 use Rattle.palm_cert.specs.Needs.{IsOfBook, marked}
+use Rattle.palm_cert.proofs.Accepted.{certificate_accepted}
 use Rattle.palm_cert.proofs.Logged.{claim_declared, log_of_book}
 use Rattle.palm_cert.proofs.Made.{in_turn, steps_made, text_made}
-use Rattle.palm_cert.proofs.Writes.{writes_front, writes_text, writes_then, writes_within}
+use Rattle.palm_cert.proofs.Readable.{readable}
+use Rattle.palm_cert.proofs.Writes.{at_ok, writes_front, writes_text, writes_then, writes_within}
 use Rattle.palm_cert.proofs.certificate.write_cert.Goals as goal
 
 pub needs_of-requires-clause-logged : goal.needs_of-requires-clause-logged
@@ -32,8 +34,8 @@ pub write_claim-requires : goal.write_claim-requires
 write_claim-requires g c =
     claim_declared c.args.engine.now.state c.args.book.now c.store.ensures.valid c.requires.initial c.requires.active c.args.claim c.requires.holds
 
-pub returns-in_err-write_declarations : goal.returns-in_err-write_declarations
-returns-in_err-write_declarations g c =
+pub returns-in_err-write_declarations-clause-text : goal.returns-in_err-write_declarations-clause-text
+returns-in_err-write_declarations-clause-text g c =
     let book = c.args.book.now in
     let log = c.log-log.result.now.log in
     let needs = c.in_ok-needs.needs in
@@ -46,8 +48,8 @@ returns-in_err-write_declarations g c =
     rw (p.1, p.2)
     (writes_text _ _ _ _ _ text (writes_front _ _ first (second ++ claim_line book.variables c.args.claim ++ fixed_text End) c.in_err-write_declarations.field-0.0 c.in_err-write_declarations.ensures))
 
-pub returns-in_err-write_steps : goal.returns-in_err-write_steps
-returns-in_err-write_steps g c =
+pub returns-in_err-write_steps-clause-text : goal.returns-in_err-write_steps-clause-text
+returns-in_err-write_steps-clause-text g c =
     let book = c.args.book.now in
     let log = c.log-log.result.now.log in
     let needs = c.in_ok-needs.needs in
@@ -61,8 +63,8 @@ returns-in_err-write_steps g c =
     rw (p.1, p.2)
     (writes_within _ _ _ _ first second (third ++ fixed_text End) _ c.in_err-write_steps.field-0.0 (sym text ∙ in_turn first second third (fixed_text End)) c.in_ok-write_declarations.ensures c.in_err-write_steps.ensures)
 
-pub returns-in_err-write_claim : goal.returns-in_err-write_claim
-returns-in_err-write_claim g c =
+pub returns-in_err-write_claim-clause-text : goal.returns-in_err-write_claim-clause-text
+returns-in_err-write_claim-clause-text g c =
     let book = c.args.book.now in
     let log = c.log-log.result.now.log in
     let needs = c.in_ok-needs.needs in
@@ -78,8 +80,8 @@ returns-in_err-write_claim g c =
     (sym text ∙ in_turn first second third (fixed_text End) ∙ sym (append_assoc (first ++ second) third (fixed_text End)))
     (writes_then _ _ _ _ _ _ _ c.in_ok-write_declarations.ensures c.in_ok-write_steps.ensures) c.in_err-write_claim.ensures)
 
-pub returns : goal.returns
-returns g c =
+pub returns-clause-text : goal.returns-clause-text
+returns-clause-text g c =
     let book = c.args.book.now in
     let log = c.log-log.result.now.log in
     let needs = c.in_ok-needs.needs in
@@ -91,3 +93,11 @@ returns g c =
     ∙ ap (λ (l : List Removal). certificate_text book l c.args.claim) c.log-log.ensures in
     writes_text _ _ _ _ _ (append_assoc (first ++ second) third (fixed_text End) ∙ sym (in_turn first second third (fixed_text End)) ∙ text)
     (writes_then _ _ _ _ _ _ _ (writes_then _ _ _ _ _ _ _ (writes_then _ _ _ _ _ _ _ c.in_ok-write_declarations.ensures c.in_ok-write_steps.ensures) c.in_ok-write_claim.ensures) c.write_end.ensures)
+
+pub returns-clause-accepted : goal.returns-clause-accepted
+returns-clause-accepted g c =
+    let s = c.args.engine.now.state in
+    let book = c.args.book.now in
+    let claim = c.args.claim in
+    let read = readable s book claim c.variables.ensures.valid c.store.ensures.valid c.requires.initial c.requires.active c.requires.holds c.store.ensures.scoped in
+    at_ok c.write_end.result (certificate_accepted s book claim c.variables.ensures.valid c.store.ensures.valid c.requires.initial c.requires.active c.requires.holds read)

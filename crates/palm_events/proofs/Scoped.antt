@@ -21,7 +21,7 @@ use Rattle.palm_model.specs.declared.constraint.Op.{Op}
 use Rattle.palm_model.specs.declared.constraint.Op.TheVariants.{Eq, Ne}
 use Rattle.palm_model.proofs.Formed.{well_formed_formed}
 use Rattle.palm_model.proofs.Without.{ascend_without, length_without, without_inside}
-use Rattle.palm_cert.specs.Scoped.{IsScoped, HasScopedReasons}
+use Rattle.palm_events.specs.Scoped.{IsScoped, HasScopedReasons}
 use Rattle.palm_events.proofs.Logs.{left_member, left_keeps}
 use Rattle.palm_events.proofs.Reasons.{reasons_right}
 use Rattle.palm_events.proofs.Runs.{step_valid}
@@ -61,13 +61,13 @@ module _ (initial : Domains) (pairs : List Pair) (x : ℕ) (v : ℤ) where
 pub blank_scoped : (initial : Domains) → HasScopedReasons (blank initial)
 blank_scoped initial r m = absurd (member_nil r m)
 
-posts_scoped : (s t : EngineState) (a : Active) → Posts s a t → HasScopedReasons s → HasScopedReasons t
+pub posts_scoped : (s t : EngineState) (a : Active) → Posts s a t → HasScopedReasons s → HasScopedReasons t
 posts_scoped s t a h scoped = subst HasScopedReasons (sym h.after) (λ r m.
     let is = scoped r m in
     record { owner = is.owner; posted = member_with_posted a s.active is.owner h.inactive is.posted; named = is.named; others = is.others })
 
 -- a removal that stays does not name its own constraint among those that go
-withdraws_scoped : (s t : EngineState) (gone : List Cid) → WithdrawsAll s gone t → HasScopedReasons s → HasScopedReasons t
+pub withdraws_scoped : (s t : EngineState) (gone : List Cid) → WithdrawsAll s gone t → HasScopedReasons s → HasScopedReasons t
 withdraws_scoped s t gone h scoped = subst HasScopedReasons (sym h.after) (λ r m.
     let is = scoped r (left_member s.log gone s.log h.left h.loses r m) in
     record {
@@ -78,7 +78,7 @@ withdraws_scoped s t gone h scoped = subst HasScopedReasons (sym h.after) (λ r 
       others = is.others;
     })
 
-removes_scoped : (s t : EngineState) (a : Active) (p : Pair) → IsValid s → Removes s a p t → HasScopedReasons s → HasScopedReasons t
+pub removes_scoped : (s t : EngineState) (a : Active) (p : Pair) → IsValid s → Removes s a p t → HasScopedReasons s → HasScopedReasons t
 removes_scoped s t a p valid h scoped = subst HasScopedReasons (sym h.after) (λ r m. elim (Contains-push_cases s.log (removal_of s a p) r m) [
   | inl before ↦ scoped r before
   | inr e ↦ subst (λ (q : Removal). IsScoped s.active q) e (record {
