@@ -22,7 +22,7 @@ pub(crate) fn causes_of(
     ensures reasons { IfOk result (λ causes. map (pair_at (graph_of nodes.now)) causes.items ≡ reasons.now) }
     ensures keys { IfOk result (λ causes. (k : ℕ) → Contains causes.items k → IsKey (graph_of nodes.now) k) }
 {
-    let mut causes = Vec::new(alloc);
+    let mut causes = Vec::with_capacity(alloc, reasons.len())?;
     let mut near = 0;
     for reason in reasons {
         causes.push(key_near(rows, reason, &mut near).unwrap())?;

@@ -2,7 +2,8 @@
 ghost use Rattle.std.specs.Prelude.{◌≡◌, ℕ, Contains, MatchOption, Some, slice_get};
 ghost use Rattle.palm_model.specs.Constraint.{Distinct};
 
-/// The last place of a key.
+/// The last place of a key. (Out of line: beside its caller's loop it takes three times the instructions.)
+#[inline(never)]
 fn last_place(keys: &[usize], key: usize) -> Option<usize>
     ensures { MatchOption result (Contains keys.now key → ⊥) (λ place. slice_get keys.now place ≡ Some key) }
 {

@@ -1,6 +1,7 @@
 //! The log of removals: it explains each removed value, and withdraws a constraint from all that rests on it.
 #![tactic(auto)]
 
+mod emptied;
 mod entering;
 mod keys;
 mod laws;

@@ -7,6 +7,7 @@ ghost use Rattle.palm_model.specs.Event.{lost_pairs, vars_of};
 ghost use Rattle.palm_model.specs.Log.{IsListOf, Loses, NamesOfPair, log_pairs};
 ghost use Rattle.palm_explain.specs.Explanations.{IsLinked, LacksExactly, NamesOfSome, log_bys, reasons_of};
 
+use crate::emptied::Emptied;
 use crate::entering::{causes_of, link, reserve_links};
 use crate::marking::mark_lost;
 use crate::node::{Node, Nodes};
@@ -33,6 +34,7 @@ pub struct ExplainStore {
     threads: Threads,
     /// The variables of which the last withdrawal put values back.
     restored: IndexSet<Var>,
+    emptied: Emptied,
 }
 
 impl Model for ExplainStore {
@@ -59,6 +61,7 @@ impl ExplainStore {
             rows: Vec::new(alloc),
             threads: Threads::new(alloc),
             restored: IndexSet::new(alloc),
+            emptied: Emptied::new(alloc),
         }
     }
 
@@ -69,10 +72,11 @@ impl ExplainStore {
         ensures ok { OnOk result (self.new ≡ record self.old { log = self.old.log ++ record { pair = pair; by = by; reasons = reasons.now } ∷ [] }) }
         ensures err { OnErr result (self.new ≡ self.old) }
     {
-        let alloc = *self.log.allocator();
         let key = self.nodes.vacant_key();
         let place = self.log.len();
         put_key(&mut self.rows, &pair, key)?;
+        self.emptied.make_room(place + 1)?;
+        let alloc = *self.log.allocator();
         let causes = causes_of(alloc, &self.nodes, &self.rows, reasons)?;
         self.restored.reserve(place + 1)?;
         self.log.reserve(1)?;
@@ -84,7 +88,7 @@ impl ExplainStore {
             pair,
             by,
             causes,
-            dependents: Vec::new(alloc),
+            dependents: self.emptied.take(),
             place,
             mark: false,
             next: 0,
@@ -205,7 +209,7 @@ impl ExplainStore {
         let start = put_back(&self.nodes, log, first, count, store, &mut self.restored);
         forget_threads(&self.nodes, &mut self.threads, log, start, &cid);
         forget_marked(&mut self.nodes, log, start);
-        close_up(&mut self.nodes, &mut self.log, start);
+        close_up(&mut self.nodes, &mut self.log, &mut self.emptied, start);
     }
 
     /// The variables of which the last withdrawal put values back, each once.

@@ -5,6 +5,7 @@ ghost use Rattle.palm_model.specs.Constraint.{Distinct};
 ghost use Rattle.palm_explain.specs.Threads.{AreFormedThreads, thread_of};
 
 use crate::keys::take_out;
+use crate::names::stands_at;
 use palm_base::{Cid, NoMemory};
 use std::alloc::{AllocError, AllocFailed, Global};
 use std::mem;
@@ -40,7 +41,7 @@ impl Threads {
     fn has_at(&self, place: usize, cid: &Cid) -> bool
         ensures { result ≡ true → slice_get self.now.names.items place ≡ Some cid.now }
     {
-        place < self.names.len() && self.names[place] == *cid
+        stands_at(&self.names, place, cid)
     }
 
     /// The place of a constraint's thread, which is made where there is none.

@@ -114,6 +114,7 @@ fn visit(
     key: usize,
     due: &mut Vec<bool>,
     names: &mut Vec<Cid>,
+    near: &mut usize,
 ) -> Result<(), NoMemory>
     requires key { IsKey (graph_of nodes.now) key }
     requires long { (k : ℕ) → IsKey (graph_of nodes.now) k → k < length due.old.items }
@@ -130,7 +131,7 @@ fn visit(
     }
     set_due(due, key, false);
     note_causes(nodes, key, due);
-    add_name(names, &nodes[key].by)
+    add_name(names, near, &nodes[key].by)
 }
 
 /// The names of all constraints on which the removals of these values rest, by rising name.
@@ -151,11 +152,12 @@ pub(crate) fn names_of(
 {
     let mut due = vec![in alloc; false; nodes.capacity()]?;
     let mut names = Vec::new(alloc);
+    let mut near = 0;
     note_values(nodes, rows, var, values, &mut due);
     let mut place = log.len();
     while place > 0 {
         place -= 1;
-        visit(nodes, log[place], &mut due, &mut names)?;
+        visit(nodes, log[place], &mut due, &mut names, &mut near)?;
     }
     Ok(names)
 }

@@ -12,6 +12,7 @@ ghost use Rattle.palm_explain.specs.Graph.{AreOnce, HasClosedUp, HasForgotten, H
 ghost use Rattle.palm_explain.specs.Lost.{HasBack, lost_of};
 ghost use Rattle.palm_explain.specs.Threads.{AreFormedThreads, AreThreaded, thread_of};
 
+use crate::emptied::Emptied;
 use crate::node::{Node, Nodes, forget_dependent, is_by, set_place};
 use crate::threads::Threads;
 use indexmap::IndexSet;
@@ -140,9 +141,15 @@ pub(crate) fn forget_marked(nodes: &mut Nodes, log: &[usize], start: usize)
     }
 }
 
-/// Moves the removal to a place, where no mark stands at it, and takes it out of the nodes otherwise. Answers the place
-/// for the next one.
-fn close_up_at(nodes: &mut Nodes, log: &mut Vec<usize>, place: usize, end: usize) -> usize
+/// Moves the removal to a place, where no mark stands at it, and takes it out of the nodes otherwise. Answers
+/// the place for the next one.
+fn close_up_at(
+    nodes: &mut Nodes,
+    log: &mut Vec<usize>,
+    emptied: &mut Emptied,
+    place: usize,
+    end: usize,
+) -> usize
     requires key { (k : ℕ) → slice_get log.old.items place ≡ Some k → IsKey (graph_of nodes.old) k }
     requires within { place < length log.old.items }
     requires behind { end ≤ place }
@@ -155,7 +162,7 @@ fn close_up_at(nodes: &mut Nodes, log: &mut Vec<usize>, place: usize, end: usize
 {
     let key = log[place];
     if nodes[key].mark {
-        nodes.remove(key);
+        emptied.keep(nodes.remove(key).dependents);
         return end;
     }
     set_place(nodes, key, end);
@@ -163,8 +170,8 @@ fn close_up_at(nodes: &mut Nodes, log: &mut Vec<usize>, place: usize, end: usize
     end + 1
 }
 
-/// Takes the marked removals out, none of which stands before the start; the others keep their order.
-pub(crate) fn close_up(nodes: &mut Nodes, log: &mut Vec<usize>, start: usize)
+/// Takes the marked removals out, none of which stands before the start, and keeps their lists of dependents; the others keep their order.
+pub(crate) fn close_up(nodes: &mut Nodes, log: &mut Vec<usize>, emptied: &mut Emptied, start: usize)
     requires places { IsPlaced (graph_of nodes.old) log.old.items }
     requires within { start ≤ length log.old.items }
     requires earliest { (k : ℕ) (l : Link) → marks_of nodes.old k ≡ true → graph_of nodes.old k ≡ Some l → start ≤ l.place }
@@ -173,7 +180,7 @@ pub(crate) fn close_up(nodes: &mut Nodes, log: &mut Vec<usize>, start: usize)
 {
     let mut end = start;
     for place in start..log.len() {
-        end = close_up_at(nodes, log, place, end);
+        end = close_up_at(nodes, log, emptied, place, end);
     }
     log.truncate(end);
 }

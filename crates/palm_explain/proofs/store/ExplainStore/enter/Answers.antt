@@ -28,6 +28,13 @@ pub causes_of-requires-clause-removed : goal.causes_of-requires-clause-removed
 causes_of-requires-clause-removed c p m =
     pair_key (graph_of c.self.inside.nodes) c.self.inside.log.items p c.self.invariant.kept.graph.places ((rw (← c.self.view_is) at c.requires.earlier) p m)
 
+pub invariant_of-self-in_err-make_room : goal.invariant_of-self-in_err-make_room
+invariant_of-self-in_err-make_room c =
+    let s = c.self.inside.nodes in
+    let keys = c.self.inside.log.items in
+    let rows = kept_with_rows s keys c.self.inside.rows.items c.put_key.new.rows.items (spare c.self.inside.restored) c.args.pair c.self.invariant.kept (rw (← c.self.view_is) at c.requires.fresh) c.put_key.ensures.formed c.put_key.ensures.others in
+    record { kept = rows; threaded = c.self.invariant.threaded }
+
 pub invariant_of-self-in_err-causes : goal.invariant_of-self-in_err-causes
 invariant_of-self-in_err-causes c =
     let s = c.self.inside.nodes in
@@ -144,7 +151,7 @@ invariant_of-self-2 c =
     let t = c.link.new.nodes in
     let u = c.insert_reserved.new.self in
     let key = c.vacant_key-key.result in
-    let n : Node = record { pair = c.args.pair; by = c.args.by; causes = c.in_ok-causes.causes; dependents = c.new.result; place = c.len-place.result; mark = false; next = 0 } in
+    let n : Node = record { pair = c.args.pair; by = c.args.by; causes = c.in_ok-causes.causes; dependents = c.take.result; place = c.len-place.result; mark = false; next = 0 } in
     let g = c.reserve_links.ensures.graph ∙ graph in
     let place : c.len-place.result ≡ length keys = c.len-place.ensures ∙ c.self.inside.log.ok.0 in
     let same : c.insert_reserved.result ≡ key =
@@ -157,8 +164,8 @@ invariant_of-self-2 c =
     let pushed = c.push_reserved.ensures.items ∙ ap (λ l. l ++ key ∷ []) c.reserve-2.ensures.items in
     record {
       kept = subst (λ ks. IsKept u ks c.put_key.new.rows.items (spare c.reserve.new.self)) (sym pushed)
-          (kept_entered s t u keys c.put_key.new.rows.items (spare c.reserve.new.self) key n c.args.reasons.now more (rw (← c.self.view_is) at c.requires.fresh) (rw (← c.self.view_is) at c.requires.earlier) c.in_ok-causes.ensures.reasons c.in_ok-causes.ensures.keys c.in_ok-put_key.ensures.there linked (c.link.ensures.marks ∙ c.reserve_links.ensures.marks ∙ marks) free updates c.new.ensures.items place refl wide);
-      threaded = threaded_entered s t u keys c.put_key.new.rows.items (spare c.reserve.new.self) key n c.args.reasons.now more (rw (← c.self.view_is) at c.requires.fresh) (rw (← c.self.view_is) at c.requires.earlier) c.in_ok-causes.ensures.reasons c.in_ok-causes.ensures.keys c.in_ok-put_key.ensures.there linked (c.link.ensures.marks ∙ c.reserve_links.ensures.marks ∙ marks) free updates c.new.ensures.items place refl wide
+          (kept_entered s t u keys c.put_key.new.rows.items (spare c.reserve.new.self) key n c.args.reasons.now more (rw (← c.self.view_is) at c.requires.fresh) (rw (← c.self.view_is) at c.requires.earlier) c.in_ok-causes.ensures.reasons c.in_ok-causes.ensures.keys c.in_ok-put_key.ensures.there linked (c.link.ensures.marks ∙ c.reserve_links.ensures.marks ∙ marks) free updates c.take.ensures place refl wide);
+      threaded = threaded_entered s t u keys c.put_key.new.rows.items (spare c.reserve.new.self) key n c.args.reasons.now more (rw (← c.self.view_is) at c.requires.fresh) (rw (← c.self.view_is) at c.requires.earlier) c.in_ok-causes.ensures.reasons c.in_ok-causes.ensures.keys c.in_ok-put_key.ensures.there linked (c.link.ensures.marks ∙ c.reserve_links.ensures.marks ∙ marks) free updates c.take.ensures place refl wide
           c.self.inside.threads c.push.new.self c.self.invariant.threaded c.push.ensures.formed c.in_ok-push.ensures.added c.push.ensures.others;
     }
 
@@ -174,7 +181,7 @@ returns-clause-ok c =
     let t = c.link.new.nodes in
     let u = c.insert_reserved.new.self in
     let key = c.vacant_key-key.result in
-    let n : Node = record { pair = c.args.pair; by = c.args.by; causes = c.in_ok-causes.causes; dependents = c.new.result; place = c.len-place.result; mark = false; next = 0 } in
+    let n : Node = record { pair = c.args.pair; by = c.args.by; causes = c.in_ok-causes.causes; dependents = c.take.result; place = c.len-place.result; mark = false; next = 0 } in
     let g = c.reserve_links.ensures.graph ∙ graph in
     let place : c.len-place.result ≡ length keys = c.len-place.ensures ∙ c.self.inside.log.ok.0 in
     let same : c.insert_reserved.result ≡ key =
@@ -185,6 +192,6 @@ returns-clause-ok c =
     let updates : Updates t u key (Some n) = subst (λ k. Updates t u k (Some n)) same c.insert_reserved.ensures.updates in
     let wide : length keys + 1 ≤ spare c.reserve.new.self = omega (arith, c.in_ok-reserve.ensures.ok, place) in
     let pushed = c.push_reserved.ensures.items ∙ ap (λ l. l ++ key ∷ []) c.reserve-2.ensures.items in
-    let log = ap (log_of (graph_of u)) pushed ∙ log_entered s t u keys c.put_key.new.rows.items (spare c.reserve.new.self) key n c.args.reasons.now more (rw (← c.self.view_is) at c.requires.fresh) (rw (← c.self.view_is) at c.requires.earlier) c.in_ok-causes.ensures.reasons c.in_ok-causes.ensures.keys c.in_ok-put_key.ensures.there linked (c.link.ensures.marks ∙ c.reserve_links.ensures.marks ∙ marks) free updates c.new.ensures.items place refl wide ∙ ap (λ (v : Explanations). v.log ++ record { pair = c.args.pair; by = c.args.by; reasons = c.args.reasons.now } ∷ []) c.self.view_is in
+    let log = ap (log_of (graph_of u)) pushed ∙ log_entered s t u keys c.put_key.new.rows.items (spare c.reserve.new.self) key n c.args.reasons.now more (rw (← c.self.view_is) at c.requires.fresh) (rw (← c.self.view_is) at c.requires.earlier) c.in_ok-causes.ensures.reasons c.in_ok-causes.ensures.keys c.in_ok-put_key.ensures.there linked (c.link.ensures.marks ∙ c.reserve_links.ensures.marks ∙ marks) free updates c.take.ensures place refl wide ∙ ap (λ (v : Explanations). v.log ++ record { pair = c.args.pair; by = c.args.by; reasons = c.args.reasons.now } ∷ []) c.self.view_is in
     let restored = c.reserve.ensures.keys ∙ ap (λ (v : Explanations). v.restored) c.self.view_is in
     (λ i. record { log = log i; restored = restored i })
