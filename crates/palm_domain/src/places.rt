@@ -41,12 +41,14 @@ pub(crate) fn place_of(values: &[Value], value: Value) -> Option<usize>
     }
 }
 
-/// The place of the value, where the list has all numbers from its first to it.
+/// The place of the value, where the list has all numbers from its first to it. The difference of a value below the
+/// first wraps, to a place behind any list's end.
 #[inline(always)]
 fn gapless_place(values: &[Value], value: Value) -> Option<usize>
     ensures { IfSome result (λ place. slice_get values.now place ≡ Some value) }
 {
-    let place = values.first()?.0.abs_diff(value.0) as usize;
+    let first = values.first()?;
+    let place = value.0.wrapping_sub(first.0).cast_unsigned() as usize;
     if place < values.len() && values[place] == value {
         Some(place)
     } else {
