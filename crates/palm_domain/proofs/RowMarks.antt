@@ -1,5 +1,5 @@
 -- What is kept beside the marks of a row, and what it says of the row.
-use Rattle.std.proofs.Common.{◌≡◌, ℕ, ℤ, ◌+◌, ◌-◌, ◌<◌, ◌≤◌, ◌<ℤ◌, ◌≤ℤ◌, Bool, true, false, not, ltb, min, max, pos, List, length, get_or, slice_get, Some, Contains, sym, ap, subst, ◌∙◌, arith, inl, inr, ⊎_elim, lt-ltb, le-ltb}
+use Rattle.std.proofs.Common.{◌≡◌, ℕ, ℤ, ◌+◌, ◌-◌, ◌<◌, ◌≤◌, ◌<ℤ◌, ◌≤ℤ◌, Bool, true, false, not, ltb, min, max, pos, List, length, get_or, slice_get, Option, None, Some, IfNone, IfSome, unwrap_or, Contains, sym, ap, subst, ◌∙◌, arith, inl, inr, ⊎_elim, lt-ltb, le-ltb}
 use Rattle.std.proofs.lemmas.Int.{ints}
 use Rattle.std.proofs.lemmas.Bool.{cases_lt, cases_eq, both_ways, not-true, not-false, false_from_ne_true}
 use Rattle.std.proofs.lemmas.List.{get_or_default}
@@ -48,6 +48,28 @@ row xs ys = record { initial = xs; present = ys }
 pub row-changed : (change : List ℤ → List ℤ) (xs ys zs : List ℤ) (r : Row) → row xs ys ≡ r → zs ≡ change ys → row xs zs ≡ row r.initial (change r.present)
 row-changed change xs ys zs r e same =
     subst (λ (s : Row). row xs zs ≡ row s.initial (change s.present)) e (ap (row xs) same)
+
+-- ---- the first marked place, and the place behind all where there is none
+
+pub record IsFirstFrom (m : ℕ → Bool) (from first : ℕ) : Type 0 where
+  pub from_le : from ≤ first
+  pub small : first ≤ 256
+  pub marked : first < 256 → m first ≡ true
+  pub between : (k : ℕ) → from ≤ k → k < first → m k ≡ false
+
+pub IsFirstFrom-unwrap_or : (m : ℕ → Bool) (from : ℕ) (o : Option ℕ) → from ≤ 256 → IfSome o (λ p. from ≤ p) → IfSome o (λ p. p < 256) → IfSome o (λ p. m p ≡ true) → IfSome o (λ p. (k : ℕ) → from ≤ k → k < p → m k ≡ false) → IfNone o ((k : ℕ) → from ≤ k → k < 256 → m k ≡ false) → IsFirstFrom m from (unwrap_or o 256)
+IsFirstFrom-unwrap_or m from None l above small marked between none = record {
+  from_le = l;
+  small = omega arith;
+  marked = λ lt. absurd (omega arith);
+  between = none;
+}
+IsFirstFrom-unwrap_or m from (Some p) l above small marked between none = record {
+  from_le = above;
+  small = omega arith;
+  marked = λ lt. marked;
+  between = between;
+}
 
 -- ---- what a row says
 
@@ -135,10 +157,10 @@ module _ (m : ℕ → Bool) (xs : List ℤ) (count first end : ℕ) (marks : Are
             (λ ge. omega (arith, ints, get_or-rises xs marks.ascends found r.0 read w ge r.1, is, r.2)) (cases_lt r.0 found);
       }
 
-  pub next_none : (low : ℤ) (place : ℕ) → IsPlaceFrom xs low place → ((k : ℕ) → place ≤ k → k < 256 → m k ≡ false) → (w : ℤ) → Contains (kept m 0 xs) w → w <ℤ low
+  pub next_none : (low : ℤ) (place : ℕ) → IsPlaceFrom xs low place → ((k : ℕ) → place ≤ k → k < end → m k ≡ false) → (w : ℤ) → Contains (kept m 0 xs) w → w <ℤ low
   next_none low place from none w h =
       let r = kept_member m xs w h in
-      ⊎_elim (λ below. omega (arith, ints, from.below r.0 w below, r.2)) (λ ge. absurd (both_ways (m r.0) (none r.0 ge (omega (arith, marks.small, r.1))) r.3)) (cases_lt r.0 place)
+      ⊎_elim (λ below. omega (arith, ints, from.below r.0 w below, r.2)) (λ ge. absurd (both_ways (m r.0) (none r.0 ge (end_gt r.0 r.3)) r.3)) (cases_lt r.0 place)
 
   pub next_removed_is : (n : ℕ → Bool) → ((k : ℕ) → k < 256 → n k ≡ not (m k)) → (low read : ℤ) (place found : ℕ) → IsPlaceFrom xs low place → place ≤ found → found < length xs → n found ≡ true → ((k : ℕ) → place ≤ k → k < found → n k ≡ false) → read ≡ get_or xs found read → IsNextRemovedFrom xs (kept m 0 xs) low read
   next_removed_is n flips low read place found from above l mark between is =

@@ -115,12 +115,9 @@ impl Domain {
             ((w : ℤ) → Contains self.now.present w → w <ℤ value)
             (IsNextFrom self.now.present value) }
     {
-        let place = self.marks.next_set(place_from(&self.initial, value));
-        if place < MOST_VALUES {
-            Some(self.initial[place])
-        } else {
-            None
-        }
+        let from = place_from(&self.initial, value);
+        let place = self.marks.next_set(from, usize::from(self.end))?;
+        Some(self.initial[place])
     }
 
     /// The least present value above `value`.
@@ -129,12 +126,9 @@ impl Domain {
             ((w : ℤ) → Contains self.now.present w → w <ℤ (value +ℤ pos 1))
             (IsNextFrom self.now.present (value +ℤ pos 1)) }
     {
-        let place = self.marks.next_set(place_after(&self.initial, value));
-        if place < MOST_VALUES {
-            Some(self.initial[place])
-        } else {
-            None
-        }
+        let from = place_after(&self.initial, value);
+        let place = self.marks.next_set(from, usize::from(self.end))?;
+        Some(self.initial[place])
     }
 
     /// The least declared value that is not present and is at least `value`.
@@ -143,10 +137,8 @@ impl Domain {
             ((w : ℤ) → Contains self.now.initial w → value ≤ℤ w → Contains self.now.present w)
             (IsNextRemovedFrom self.now.initial self.now.present value) }
     {
-        let place = self
-            .marks
-            .flipped()
-            .next_set(place_from(&self.initial, value));
+        let from = place_from(&self.initial, value);
+        let place = self.marks.flipped().next_set(from, self.initial.len())?;
         if place < self.initial.len() {
             Some(self.initial[place])
         } else {
@@ -160,10 +152,8 @@ impl Domain {
             ((w : ℤ) → Contains self.now.initial w → (value +ℤ pos 1) ≤ℤ w → Contains self.now.present w)
             (IsNextRemovedFrom self.now.initial self.now.present (value +ℤ pos 1)) }
     {
-        let place = self
-            .marks
-            .flipped()
-            .next_set(place_after(&self.initial, value));
+        let from = place_after(&self.initial, value);
+        let place = self.marks.flipped().next_set(from, self.initial.len())?;
         if place < self.initial.len() {
             Some(self.initial[place])
         } else {
@@ -180,7 +170,10 @@ impl Domain {
         let place = place_from(&self.initial, value);
         self.marks.clear(place);
         self.count -= 1;
-        self.first = self.marks.next_set(usize::from(self.first)) as u16;
+        self.first = self
+            .marks
+            .next_set(usize::from(self.first), MOST_VALUES)
+            .unwrap_or(MOST_VALUES) as u16;
         self.end = self.marks.end_below(usize::from(self.end)) as u16;
     }
 

@@ -1,5 +1,5 @@
 //! A mark for each value that a variable may be declared with.
-ghost use Rattle.std.specs.Prelude.{◌≡◌, ◌≢◌, ℕ, ◌-◌, ◌<◌, ◌≤◌, true, false, not, nat_lt};
+ghost use Rattle.std.specs.Prelude.{◌≡◌, ◌≢◌, ℕ, ◌-◌, ◌<◌, ◌≤◌, true, false, not, nat_lt, IfNone, IfSome};
 ghost use Rattle.palm_domain.specs.Marks.{is_marked};
 
 use crate::bits::{first_one, low_ones, ones_end};
@@ -55,23 +55,25 @@ impl Marks {
         self.words[place / 64] &= !(1 << (place % 64));
     }
 
-    /// The first marked place from `from` on, and `MOST_VALUES` where there is none.
-    pub(crate) fn next_set(&self, from: usize) -> usize
-        requires { from ≤ MOST_VALUES }
-        ensures from { from ≤ result }
-        ensures within { result ≤ MOST_VALUES }
-        ensures marked { result < MOST_VALUES → is_marked self.now.words result ≡ true }
-        ensures between { (k : ℕ) →
-            from ≤ k → k < result → is_marked self.now.words k ≡ false }
+    /// The first marked place from `from` on, where one below `end` is marked. No word behind that of `end` is read.
+    pub(crate) fn next_set(&self, from: usize, end: usize) -> Option<usize>
+        requires { end ≤ MOST_VALUES }
+        ensures from { IfSome result (λ place. from ≤ place) }
+        ensures within { IfSome result (λ place. place < MOST_VALUES) }
+        ensures marked { IfSome result (λ place. is_marked self.now.words place ≡ true) }
+        ensures between { IfSome result (λ place. (k : ℕ) →
+            from ≤ k → k < place → is_marked self.now.words k ≡ false) }
+        ensures none { IfNone result ((k : ℕ) →
+            from ≤ k → k < end → is_marked self.now.words k ≡ false) }
     {
         let mut at = from;
-        while at < MOST_VALUES {
+        while at < end {
             if let Some(one) = first_one(self.words[at / 64], at % 64) {
-                return at / 64 * 64 + one;
+                return Some(at / 64 * 64 + one);
             }
             at = at / 64 * 64 + 64;
         }
-        MOST_VALUES
+        None
     }
 
     /// One past the last marked place below `before`, and 0 where there is none.

@@ -1,16 +1,17 @@
-use Rattle.std.proofs.Common.{arith, subst}
+use Rattle.std.proofs.Common.{subst}
 use Rattle.palm_domain.specs.Rows.{Row, IsNextFrom}
 use Rattle.palm_domain.proofs.RowMarks.{next_is, next_none}
 use Rattle.palm_domain.proofs.domain.Domain.next_from.Goals as goal
 
-pub returns-then-place-lt-MOST_VALUES : goal.returns-then-place-lt-MOST_VALUES
-returns-then-place-lt-MOST_VALUES c =
-    let from = rw c.deref.ensures.value at c.place_from.ensures in
-    let found = c.next_set-place.ensures in
-    let next = next_is _ _ _ _ _ c.self.invariant c.args.value c.index.result.now c.place_from.result c.next_set-place.result from found.from (found.marked c.if-place-lt-MOST_VALUES.true) found.between c.index.ensures in
+pub returns : goal.returns
+returns c =
+    let from = rw c.deref.ensures.value at c.place_from-from.ensures in
+    let found = c.in_ok-place.ensures in
+    let next = next_is _ _ _ _ _ c.self.invariant c.args.value c.index.result.now c.place_from-from.result c.in_ok-place.place from found.from found.marked found.between c.index.ensures in
     subst (λ (r : Row). IsNextFrom r.present c.args.value c.index.result.now) c.self.view_is next
 
-pub returns-else-place-lt-MOST_VALUES : goal.returns-else-place-lt-MOST_VALUES
-returns-else-place-lt-MOST_VALUES c w h =
-    let from = rw c.deref.ensures.value at c.place_from.ensures in
-    next_none _ _ _ _ _ c.self.invariant c.args.value c.place_from.result from (λ k ge lt. c.next_set-place.ensures.between k ge (omega arith)) w (rw (← c.self.view_is) at h)
+pub returns-in_err-place : goal.returns-in_err-place
+returns-in_err-place c =
+    let from = rw c.deref.ensures.value at c.place_from-from.ensures in
+    let none = rw c.from.ensures at c.in_err-place.ensures.none in
+    rw c.from_residual.ensures (λ w h. next_none _ _ _ _ _ c.self.invariant c.args.value c.place_from-from.result from none w (rw (← c.self.view_is) at h))

@@ -1,7 +1,7 @@
 use Rattle.std.proofs.Common.{arith}
 use Rattle.palm_domain.specs.Rows.{values_without}
 use Rattle.palm_domain.proofs.KeptValues.{kept_cleared}
-use Rattle.palm_domain.proofs.RowMarks.{row-changed, present_place, AreMarks-cleared}
+use Rattle.palm_domain.proofs.RowMarks.{row-changed, present_place, AreMarks-cleared, IsFirstFrom-unwrap_or}
 use Rattle.palm_domain.proofs.domain.Domain.take_out.Goals as goal
 
 pub clear-requires : goal.clear-requires
@@ -14,9 +14,11 @@ pub invariant_of-self : goal.invariant_of-self
 invariant_of-self c =
     let from = rw c.deref.ensures.value at c.place_from-place.ensures in
     let at = present_place _ _ _ _ _ c.self.invariant c.args.value c.place_from-place.result from (rw (← c.self.view_is) at c.requires) in
-    let next = rw c.from.ensures at c.next_set.ensures in
+    let found = rw c.from.ensures at c.next_set.ensures in
+    let next = IsFirstFrom-unwrap_or _ _ _ c.self.invariant.first_small found.from found.within found.marked found.between found.none in
+    let first = rw (← c.unwrap_or.ensures) at next in
     let last = rw c.from-2.ensures at c.end_below.ensures in
-    AreMarks-cleared _ _ _ _ _ c.self.invariant _ c.place_from-place.result c.args.value at.0 at.1 at.2 c.clear.ensures.here c.clear.ensures.others c.next_set.result c.end_below.result next.from next.within next.marked next.between last.within last.marked last.between
+    AreMarks-cleared _ _ _ _ _ c.self.invariant _ c.place_from-place.result c.args.value at.0 at.1 at.2 c.clear.ensures.here c.clear.ensures.others c.unwrap_or.result c.end_below.result first.from_le first.small first.marked first.between last.within last.marked last.between
 
 pub returns : goal.returns
 returns c =

@@ -4,7 +4,7 @@ use Rattle.palm_domain.proofs.MarkPlaces.{is_marked_one, is_marked_zeros, no_mar
 use Rattle.palm_domain.proofs.marks.Marks.next_set.Goals as goal
 
 pub returns-in-Some-clause-marked : goal.returns-in-Some-clause-marked
-returns-in-Some-clause-marked c l =
+returns-in-Some-clause-marked c =
     is_marked_one c.args.self.now.words (c.loop-at.at / 64) c.in-Some.one c.in-Some.ensures.within c.in-Some.ensures.one
 
 pub returns-in-Some-clause-between : goal.returns-in-Some-clause-between
@@ -20,7 +20,6 @@ loop-at-preserved c =
     let at = c.loop-at.at in
     record {
       from = omega arith;
-      within = omega arith;
       between = no_mark_before words c.args.from at (at / 64 * 64 + 64) c.loop-at.invariant.between
           (λ k low high. is_marked_zeros words (at / 64) (at % 64) 64 (omega arith) c.in_default.ensures.none k (omega arith) high);
     }

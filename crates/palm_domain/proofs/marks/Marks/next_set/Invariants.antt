@@ -3,7 +3,7 @@ use Rattle.palm_domain.specs.Marks.{is_marked}
 use Rattle.palm_domain.proofs.marks.Marks.next_set.Given as goal
 
 abbrev pub invariant-loop-at : goal.invariant-loop-at
-invariant-loop-at l = record { from : l.from ≤ l.at; within : l.at ≤ 256; between : (k : ℕ) → l.from ≤ k → k < l.at → is_marked l.self.words k ≡ false }
+invariant-loop-at l = record { from : l.from ≤ l.at; between : (k : ℕ) → l.from ≤ k → k < l.at → is_marked l.self.words k ≡ false }
 
 abbrev pub decreases-loop-at : goal.decreases-loop-at
-decreases-loop-at l = 256 - l.at
+decreases-loop-at l = l.end - l.at
