@@ -1,5 +1,5 @@
 -- The places of a value stand together where places are sorted by their values.
-use Rattle.std.proofs.Common.{◌≡◌, ℕ, zero, suc, ℤ, pos, eqb, eq-eqb, ◌+◌, ◌-◌, ◌<◌, ◌≤◌, ◌<ℤ◌, ◌≤ℤ◌, Bool, true, false, List, [], ◌∷◌, ◌++◌, length, take, drop, get_or, Contains, slice_get, Some, int_cmp, is_lt, is_le, inl, inr, refl, sym, ap, ◌∙◌, subst, arith}
+use Rattle.std.proofs.Common.{◌≡◌, ℕ, zero, suc, ℤ, pos, eqb, eq-eqb, ◌+ℤ◌, ◌+◌, ◌-◌, ◌<◌, ◌≤◌, ◌<ℤ◌, ◌≤ℤ◌, Bool, true, false, List, [], ◌∷◌, ◌++◌, length, take, drop, get_or, Contains, slice_get, Some, int_cmp, is_lt, is_le, inl, inr, refl, sym, ap, ◌∙◌, subst, arith}
 use Rattle.std.specs.List.Sorted.{IsPermutation, IsSortedByKey, IsPartitionedBy, IsPartitionPoint}
 use Rattle.std.proofs.lemmas.Cmp.{int_cmp_total}
 use Rattle.std.proofs.lemmas.Int.{ints}
@@ -14,7 +14,7 @@ use Rattle.std.proofs.lemmas.Map.Keys.{IsDistinct-IsPermutation}
 use Rattle.palm_base.proofs.Members.{member_cases, member_here, member_nil, member_there}
 use Rattle.palm_domain.proofs.Comparisons.{lt_from_is_lt, ge_from_is_lt, le_from_is_le, gt_from_is_le}
 use Rattle.palm_model.specs.Constraint.{Distinct}
-use Rattle.palm_filter.specs.Index.{IsIndex, value_at}
+use Rattle.palm_filter.specs.Index.{IsIndex, IsStart, value_at}
 
 -- ---- the places of a list, one after another
 
@@ -137,50 +137,65 @@ module _ (values : List ℤ) (places : List ℕ) (index : IsIndex values places)
       let low = le_from_is_le (value_at values (get_or places j d)) v (sym h) in
       is_le_from_le (value_at values (get_or places i d)) v (omega (arith, ints, up, low))
 
-  module _ (from end : ℕ) (from_within : from ≤ length places) (end_within : end ≤ length places)
-      (at_from : IsPartitionPoint (λ k. is_lt (int_cmp (value_at values k) v) ≡ true) (λ k. is_lt (int_cmp (value_at values k) v) ≡ false) places from)
-      (at_end : IsPartitionPoint (λ k. is_le (int_cmp (value_at values k) v) ≡ true) (λ k. is_le (int_cmp (value_at values k) v) ≡ false) places end) where
-    pub ordered : from ≤ end
-    ordered = elim (cases_lt end from) [
-      | inl lt ↦
-          let low = lt_from_is_lt (value_at values (get_or places end 0)) v (sym (at_from.0 end 0 (omega arith) lt)) in
-          let high = gt_from_is_le (value_at values (get_or places end 0)) v (sym (at_end.1 end 0 (omega arith) (omega arith))) in
-          absurd (omega (arith, ints, low, high))
-      | inr ge ↦ ge
-    ]
+  pub start_by_halves : (from : ℕ) → from ≤ length places → IsPartitionPoint (λ k. is_lt (int_cmp (value_at values k) v) ≡ true) (λ k. is_lt (int_cmp (value_at values k) v) ≡ false) places from → IsStart values places v from
+  start_by_halves from within at = record {
+    within = within;
+    before = λ i d lt. lt_from_is_lt (value_at values (get_or places i d)) v (sym (at.0 i d (omega arith) lt));
+    after = λ i d ge lt. ge_from_is_lt (value_at values (get_or places i d)) v (sym (at.1 i d ge lt));
+  }
 
-    stands_at : (x d : ℕ) → from ≤ x → x < end → slice_get values (get_or places x d) ≡ Some v
-    stands_at x d ge lt =
-        let k = get_or places x d in
-        let low = ge_from_is_lt (value_at values k) v (sym (at_from.1 x d ge (omega arith))) in
-        let high = le_from_is_le (value_at values k) v (sym (at_end.0 x d (omega arith) lt)) in
-        let same : value_at values k ≡ v = omega (arith, ints, low, high) in
-        let inside : k < length values = index.within k (Contains-get_or places x d (omega arith)) in
-        slice_get-get_or values k (pos 0) inside ∙ ap Some same
+  pub next_by_halves : (end : ℕ) → end ≤ length places → IsPartitionPoint (λ k. is_le (int_cmp (value_at values k) v) ≡ true) (λ k. is_le (int_cmp (value_at values k) v) ≡ false) places end → IsStart values places (v +ℤ pos 1) end
+  next_by_halves end within at = record {
+    within = within;
+    before = λ i d lt. let low = le_from_is_le (value_at values (get_or places i d)) v (sym (at.0 i d (omega arith) lt)) in omega (arith, ints, low);
+    after = λ i d ge lt. let high = gt_from_is_le (value_at values (get_or places i d)) v (sym (at.1 i d ge lt)) in omega (arith, ints, high);
+  }
 
-    pub part_stands : (k : ℕ) → Contains (take (end - from) (drop from places)) k → slice_get values k ≡ Some v
-    part_stands k m =
-        let x = m.0 in
-        let x_low : x < end - from = omega (arith, m.1, length-take (end - from) (drop from places)) in
-        let e : get_or places (from + x) k ≡ k = sym (get_or-take (end - from) (drop from places) x k x_low ∙ get_or-drop from places x k) ∙ m.2 in
-        subst (λ z. slice_get values z ≡ Some v) e (stands_at (from + x) k (omega arith) (omega arith))
+-- ---- from the start of a number up to that of the next one
 
-    pub part_every : (k : ℕ) → slice_get values k ≡ Some v → Contains (take (end - from) (drop from places)) k
-    part_every k h =
-        let inside : k < length values = slice_get_within values k v h in
-        let same : value_at values k ≡ v = get_or_from_slice_get values k v (pos 0) h in
-        let m = index.every k inside in
-        let j = m.0 in
-        let at : value_at values (get_or places j k) ≡ v = ap (value_at values) m.2 ∙ same in
-        let j_from : from ≤ j = elim (cases_lt j from) [
-          | inl lt ↦ let low = lt_from_is_lt (value_at values (get_or places j k)) v (sym (at_from.0 j k (omega arith) lt)) in absurd (omega (arith, ints, low, at))
-          | inr ge ↦ ge
-        ] in
-        let j_end : j < end = elim (cases_lt j end) [
-          | inl lt ↦ lt
-          | inr ge ↦ let high = gt_from_is_le (value_at values (get_or places j k)) v (sym (at_end.1 j k ge m.1)) in absurd (omega (arith, ints, high, at))
-        ] in
-        let back : from + (j - from) ≡ j = omega arith in
-        let here : get_or (take (end - from) (drop from places)) (j - from) k ≡ k =
-        get_or-take (end - from) (drop from places) (j - from) k (omega arith) ∙ get_or-drop from places (j - from) k ∙ ap (λ z. get_or places z k) back ∙ m.2 in
-        (j - from, omega (arith, length-take (end - from) (drop from places), length-drop from places), here)
+module _ (values : List ℤ) (places : List ℕ) (index : IsIndex values places) (v : ℤ) (from end : ℕ) (start : IsStart values places v from) (next : IsStart values places (v +ℤ pos 1) end) where
+  pub ordered : from ≤ end
+  ordered = elim (cases_lt end from) [
+    | inl lt ↦
+        let low = start.before end 0 lt in
+        let high = next.after end 0 (omega arith) (omega (arith, start.within)) in
+        absurd (omega (arith, ints, low, high))
+    | inr ge ↦ ge
+  ]
+
+  stands_at : (x d : ℕ) → from ≤ x → x < end → slice_get values (get_or places x d) ≡ Some v
+  stands_at x d ge lt =
+      let k = get_or places x d in
+      let inside_places : x < length places = omega (arith, next.within) in
+      let low = start.after x d ge inside_places in
+      let high = next.before x d lt in
+      let same : value_at values k ≡ v = omega (arith, ints, low, high) in
+      let inside : k < length values = index.within k (Contains-get_or places x d inside_places) in
+      slice_get-get_or values k (pos 0) inside ∙ ap Some same
+
+  pub part_stands : (k : ℕ) → Contains (take (end - from) (drop from places)) k → slice_get values k ≡ Some v
+  part_stands k m =
+      let x = m.0 in
+      let x_low : x < end - from = omega (arith, m.1, length-take (end - from) (drop from places)) in
+      let e : get_or places (from + x) k ≡ k = sym (get_or-take (end - from) (drop from places) x k x_low ∙ get_or-drop from places x k) ∙ m.2 in
+      subst (λ z. slice_get values z ≡ Some v) e (stands_at (from + x) k (omega arith) (omega arith))
+
+  pub part_every : (k : ℕ) → slice_get values k ≡ Some v → Contains (take (end - from) (drop from places)) k
+  part_every k h =
+      let inside : k < length values = slice_get_within values k v h in
+      let same : value_at values k ≡ v = get_or_from_slice_get values k v (pos 0) h in
+      let m = index.every k inside in
+      let j = m.0 in
+      let at : value_at values (get_or places j k) ≡ v = ap (value_at values) m.2 ∙ same in
+      let j_from : from ≤ j = elim (cases_lt j from) [
+        | inl lt ↦ let low = start.before j k lt in absurd (omega (arith, ints, low, at))
+        | inr ge ↦ ge
+      ] in
+      let j_end : j < end = elim (cases_lt j end) [
+        | inl lt ↦ lt
+        | inr ge ↦ let high = next.after j k ge m.1 in absurd (omega (arith, ints, high, at))
+      ] in
+      let back : from + (j - from) ≡ j = omega arith in
+      let here : get_or (take (end - from) (drop from places)) (j - from) k ≡ k =
+      get_or-take (end - from) (drop from places) (j - from) k (omega arith) ∙ get_or-drop from places (j - from) k ∙ ap (λ z. get_or places z k) back ∙ m.2 in
+      (j - from, omega (arith, length-take (end - from) (drop from places), length-drop from places), here)

@@ -3,26 +3,29 @@ ghost use Rattle.std.specs.Prelude.{◌≡◌, ℕ, Contains, Some, IfOk, slice_
 ghost use Rattle.palm_filter.specs.Index.{IsIndex, value_at};
 ghost use Rattle.palm_model.specs.Constraint.{Distinct};
 
+use crate::starts::{Starts, value_at};
 use palm_base::{NoMemory, Value};
 use std::alloc::Global;
 use std::marker::Model;
 
-/// A list of values that finds the places of a value by halves: it keeps the places in the order of their values.
+/// A list of values that finds the places of a value. It keeps the places in the order of their values, and, where the
+/// values lie close together, where the places of each number start; else the places are found by halves.
 #[derive(Debug, Drop)]
 pub struct ValueIndex {
     values: Vec<Value>,
     places: Vec<usize>,
+    starts: Starts,
 }
 
 impl Model for ValueIndex {
     ghost use Rattle.std.specs.Prelude.{List, ℤ};
-    ghost use Rattle.palm_filter.specs.Index.{IsIndex};
+    ghost use Rattle.palm_filter.specs.Index.{IsStarted};
 
     ghost Value = { List ℤ };
 
     ghost view = { λ i. i.values.items };
 
-    ghost invariant = { λ i. IsIndex i.values.items i.places.items };
+    ghost invariant = { λ i. IsStarted i.values.items i.places.items i.starts.least i.starts.list.items };
 }
 
 /// The places of the values, in the order of the values.
@@ -35,13 +38,6 @@ fn sorted_places(alloc: Global, values: &[Value]) -> Result<Vec<usize>, NoMemory
     }
     places.sort_unstable_by_key(|place| value_at(values, *place));
     Ok(places)
-}
-
-/// The value at the place, and 0 where there is none.
-fn value_at(values: &[Value], place: usize) -> Value
-    ensures { result ≡ value_at values.now place }
-{
-    values.get(place).copied().unwrap_or_default()
 }
 
 /// Every place where the value stands, once, of places in the order of their values.
@@ -61,9 +57,12 @@ impl ValueIndex {
     pub fn new(alloc: Global, values: &[Value]) -> Result<ValueIndex, NoMemory>
         ensures { IfOk result (λ index. index ≡ values.now) }
     {
+        let places = sorted_places(alloc, values)?;
+        let starts = Starts::new(alloc, values, &places)?;
         Ok(ValueIndex {
             values: Vec::from_slice(alloc, values)?,
-            places: sorted_places(alloc, values)?,
+            places,
+            starts,
         })
     }
 
@@ -80,6 +79,12 @@ impl ValueIndex {
         ensures every { (k : ℕ) → slice_get self.now k ≡ Some value.now → Contains result.now k }
         ensures once { Distinct result.now }
     {
-        places_of(&self.values, &self.places, value)
+        match self.starts.distance_of(value) {
+            Some(distance) => {
+                &self.places[self.starts.list[distance]..self.starts.list[distance + 1]]
+            }
+            None if self.starts.is_empty() => places_of(&self.values, &self.places, value),
+            None => &[],
+        }
     }
 }

@@ -6,6 +6,7 @@ mod filter;
 mod index;
 mod laws;
 mod reasons;
+mod starts;
 
 pub use alone::is_alone;
 pub use filter::{Filter, Reasons, ask};

@@ -38,6 +38,22 @@ fn places_of_a_value_are_found(rt: HostRuntime) -> Result<(), Fail> {
     assert_eq!(rt; index.places(&Value(7)), [3].as_slice());
     assert_eq!(rt; index.places(&Value(3)).len(), 2);
     assert_eq!(rt; index.places(&Value(4)).len(), 0);
+    assert_eq!(rt; index.places(&Value(-2)).len(), 0);
+    assert_eq!(rt; index.places(&Value(8)).len(), 0);
     assert_eq!(rt; index.values(), values.as_slice());
+    Ok(())
+}
+
+#[test]
+fn places_of_the_outermost_values_are_found(rt: HostRuntime) -> Result<(), Fail> {
+    let apart = [Value(i32::MAX), Value(i32::MIN), Value(i32::MAX)];
+    let index = ValueIndex::new(rt.alloc(), &apart)?;
+    assert_eq!(rt; index.places(&Value(i32::MIN)), [1].as_slice());
+    assert_eq!(rt; index.places(&Value(i32::MAX)).len(), 2);
+    assert_eq!(rt; index.places(&Value(0)).len(), 0);
+    let close = [Value(i32::MAX), Value(i32::MAX - 2)];
+    let index = ValueIndex::new(rt.alloc(), &close)?;
+    assert_eq!(rt; index.places(&Value(i32::MAX)), [0].as_slice());
+    assert_eq!(rt; index.places(&Value(i32::MIN)).len(), 0);
     Ok(())
 }
