@@ -1,13 +1,14 @@
 -- Support by a difference, and its reason as it is written.
-use Rattle.std.proofs.Common.{◌≡◌, ℕ, ℤ, suc, ◌+◌, ◌<◌, Bool, true, false, not, ◌&&◌, cond, List, [], ◌∷◌, length, take, drop, filter, get_or, All, Contains, eqb, refl, sym, ap, ◌∙◌, subst, arith}
+use Rattle.std.proofs.Common.{◌≡◌, ℕ, ℤ, suc, ◌+◌, ◌<◌, ◌<ℤ◌, Bool, true, false, not, ◌&&◌, cond, List, [], ◌∷◌, length, take, drop, filter, get_or, All, Contains, eqb, int_eq, inl, inr, refl, sym, ap, ◌∙◌, subst, arith}
 use Rattle.std.proofs.Math.Seq.{drop-cons}
+use Rattle.std.proofs.lemmas.Bool.{cases_Bool}
 use Rattle.std.proofs.lemmas.Int.{ints}
 use Rattle.std.proofs.lemmas.List.Elements.{All-contains}
-use Rattle.palm_base.proofs.Members.{member_here, member_take, filter_member}
+use Rattle.palm_base.proofs.Members.{member_here, member_there, member_take, filter_member}
 use Rattle.palm_base.specs.declared.terms.Pair.{Pair}
-use Rattle.palm_domain.specs.Rows.{IsLeastOf, IsGreatestOf}
+use Rattle.palm_domain.proofs.Comparisons.{same_from_int_eq, apart_from_int_eq}
 use Rattle.palm_model.specs.Constraint.{scope, Distinct, IsWellFormed}
-use Rattle.palm_model.specs.Domains.{Domains, Has, values_of}
+use Rattle.palm_model.specs.Domains.{Domains, Ascends, Has, values_of}
 use Rattle.palm_model.specs.Part.{scope_of}
 use Rattle.palm_model.specs.Differ.{differ_reason}
 use Rattle.palm_model.specs.Support.{HasSupport, IsSupported, LacksSupport}
@@ -19,16 +20,18 @@ use Rattle.palm_model.proofs.Reasons.{others_member}
 use Rattle.palm_reason.proofs.DifferReason.{part_apart, partner, partner_member, room_lacks}
 use Rattle.filter_differ.specs.Differ.{HasOther, LeavesRoom, TakesRoom, is_lone, first_lone}
 
--- ---- the ends of a domain
+-- ---- another value of a domain
 
-pub other_none : (vs : List ℤ) (v : ℤ) → length vs ≡ 0 → HasOther vs v → ⊥
-other_none vs v e o = omega (arith, e, o.member.1)
-
-pub other_ends : (vs : List ℤ) (v least greatest : ℤ) → IsLeastOf vs least → IsGreatestOf vs greatest → least ≡ v → greatest ≡ v → HasOther vs v → ⊥
-other_ends vs v least greatest low high e f o =
-    let above = low.least o.value o.member in
-    let below = high.greatest o.value o.member in
-    o.apart (omega (arith, ints, above, below, e, f))
+-- two values of a domain differ, so that one of them is another one
+pub other_many : (vs : List ℤ) (v : ℤ) → Ascends vs → 1 < length vs → HasOther vs v
+other_many [] v up lt = absurd (omega (arith, lt))
+other_many (w ∷ []) v up lt = absurd (omega (arith, lt))
+other_many (w ∷ u ∷ ws) v up lt =
+    let above = All-contains (λ z. w <ℤ z) (u ∷ ws) u up.0 (member_here u ws) in
+    elim (cases_Bool (int_eq w v)) [
+      | inr e ↦ record { value = w; member = member_here w (u ∷ ws); apart = apart_from_int_eq w v e }
+      | inl e ↦ record { value = u; member = member_there w (u ∷ ws) u (member_here u ws); apart = λ s. omega (arith, ints, above, same_from_int_eq w v e, s) }
+    ]
 
 -- ---- support
 

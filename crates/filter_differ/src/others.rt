@@ -14,7 +14,10 @@ fn has_other(store: &DomainStore, var: &Var, value: &Value) -> bool
     requires { var.now < length store.now }
     ensures { Tells result (HasOther (values_of (present_of store.now) var.now) value.now) }
 {
-    store.count(*var) > 0 && (store.least(*var) != *value || store.greatest(*var) != *value)
+    // A store's values ascend, as `variables` tells, so that two of them differ.
+    prove!(store.variables() > 0);
+    let count = store.count(*var);
+    count > 1 || (count == 1 && store.least(*var) != *value)
 }
 
 /// Whether each of the variables but the pair's own has another present value than the pair's.

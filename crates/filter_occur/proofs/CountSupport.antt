@@ -1,8 +1,10 @@
 -- Support in a count, and its reasons as they are written.
-use Rattle.std.proofs.Common.{◌≡◌, ℕ, ℤ, ◌-◌, ◌<◌, ◌≤◌, List, ◌++◌, length, filter, All, Contains, refl, sym, ap, ◌∙◌, subst, arith, length-append}
+use Rattle.std.proofs.Common.{◌≡◌, ℕ, ℤ, pos, ◌-◌, ◌<◌, ◌≤◌, List, ◌++◌, length, filter, All, Contains, inl, inr, refl, sym, ap, ◌∙◌, subst, arith, int_lt, length-append}
+use Rattle.std.proofs.lemmas.Bool.{cases_Bool}
 use Rattle.std.proofs.lemmas.List.Elements.{All-contains, Contains-append_left, Contains-append_right}
 use Rattle.palm_base.proofs.Members.{filter_agree_members, all_members}
 use Rattle.palm_base.specs.declared.terms.Pair.{Pair}
+use Rattle.palm_domain.proofs.Comparisons.{lt_from_int_lt, ge_from_int_lt}
 use Rattle.palm_model.specs.Domains.{Domains, Has, AllAscend, values_of}
 use Rattle.palm_model.specs.Count.{target_scope, is_within_counts, is_target_fit, target_pairs, count_reason}
 use Rattle.palm_model.specs.Constraint.{scope, Distinct, IsWellFormed}
@@ -14,7 +16,7 @@ use Rattle.palm_model.specs.declared.constraint.Con.{Con}
 use Rattle.palm_model.specs.declared.constraint.Target.TheVariants.{Variable}
 use Rattle.palm_model.specs.declared.part.Part.TheVariants.{Count as CountPart}
 use Rattle.palm_model.proofs.Supports.{supported_by_part, lacking_by_part}
-use Rattle.filter_occur.specs.Count.{count_of, values_where, low_count, high_count, AreCounts, CanReach}
+use Rattle.filter_occur.specs.Count.{count_of, values_where, target_values, low_count, high_count, AreCounts, AreCountsTo, CanReach, IsCountReached, IsEnough}
 use Rattle.filter_occur.specs.declared.counts.Counts.{Counts}
 use Rattle.filter_occur.specs.declared.rule.CountRule.{CountRule}
 use Rattle.palm_reason.proofs.CountNumbers.{passed_few, low_high, distinct_front}
@@ -83,6 +85,30 @@ module _ (o : CountRule) (m : Con) (n : ℕ) (is : count_of o ≡ m) (formed : I
 
   pub gives_reason : (initial present : Domains) (x : ℕ) (v : ℤ) (out : List Pair) → out ≡ count_reason initial present o.value o.vars o.op o.target x v → out ≡ reason initial present m x v
   gives_reason initial present x v out e = e ∙ ap (λ k. reason initial present k x v) is
+
+-- ---- from what was counted to what is told
+
+module _ (d : Domains) (x : ℕ) (v : ℤ) (o : CountRule) (enough : ℤ) (counts : Counts) (few : length o.vars ≤ MOST_SCOPE) (are : AreCountsTo d x v o enough counts) where
+  pub reach_from_counted : IsCountReached counts o.op (target_values d x v o.target) → CanReach d x v o
+  reach_from_counted r = record {
+    counts = record { low = low_count (values_where d x v) o.value o.vars; high = high_count (values_where d x v) o.value o.vars };
+    are = record {
+      low = refl;
+      high = refl;
+      ordered = low_high (values_where d x v) o.value o.vars;
+      small = omega (arith, few, passed_few (λ y. is_listed (values_where d x v y) o.value) o.vars);
+      filled = are.filled;
+    };
+    reached = record { number = r.number; from = subst (λ n. n ≤ r.number) are.low r.from; to = omega (arith, r.to, are.most); target = r.target; member = r.member; stands = r.stands };
+  }
+
+  pub counted_from_reach : IsEnough o.op (target_values d x v o.target) enough → CanReach d x v o → IsCountReached counts o.op (target_values d x v o.target)
+  counted_from_reach is r = elim (cases_Bool (int_lt (pos counts.high) enough)) [
+    | inl t ↦
+        let same : counts.high ≡ r.counts.high = are.high (lt_from_int_lt (pos counts.high) enough t) ∙ sym r.are.high in
+        record { number = r.reached.number; from = omega (arith, r.reached.from, are.low, r.are.low); to = omega (arith, r.reached.to, same); target = r.reached.target; member = r.reached.member; stands = r.reached.stands }
+    | inr t ↦ is counts r.counts are.ordered (ge_from_int_lt (pos counts.high) enough t) (r.are.low ∙ sym are.low) r.reached
+  ]
 
 -- ---- the declared values of the target
 

@@ -1,4 +1,5 @@
 pub mod Counting
 pub mod CountSupport
+pub mod Enough
 pub mod Reached
 pub mod Written

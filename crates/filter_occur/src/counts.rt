@@ -1,8 +1,8 @@
 //! How many of some variables have a value: at least so many, and at most so many.
-ghost use Rattle.std.specs.Prelude.{◌≡◌, ◌++◌, ◌-◌, ◌<◌, ◌≤◌, [], ◌∷◌, length, filter, OnOk};
-ghost use Rattle.filter_occur.specs.Count.{IsCountReached};
+ghost use Rattle.std.specs.Prelude.{◌≡◌, ◌++◌, ◌-◌, ◌<◌, ◌≤◌, ℤ, List, [], ◌∷◌, length, filter, OnOk};
+ghost use Rattle.filter_occur.specs.Count.{IsCountReached, IsEnough};
 ghost use Rattle.palm_base.specs.Tells.{Tells};
-ghost use Rattle.palm_domain.specs.Rows.{initial_of, present_of};
+ghost use Rattle.palm_domain.specs.Rows.{IsGreatestOf, IsLeastOf, initial_of, present_of};
 ghost use Rattle.palm_model.specs.Domains.{values_of};
 ghost use Rattle.palm_model.specs.Count.{is_within_counts};
 ghost use Rattle.palm_model.specs.Removed.{pairs_of};
@@ -11,6 +11,30 @@ use palm_base::{NoMemory, Value, Var};
 use palm_domain::DomainStore;
 use palm_filter::{Reasons, push_passing};
 use palm_model::{MOST_SCOPE, Op, number_of, stands};
+
+/// The high number that is enough for the relation to values from the least to the greatest: where the high number
+/// may be higher still, the answer is the same.
+pub(crate) fn enough_between(op: Op, least: &Value, greatest: &Value) -> i64
+    ensures { (values : List ℤ) → IsLeastOf values least.now → IsGreatestOf values greatest.now → IsEnough op values result }
+{
+    match op {
+        Op::Lt | Op::Le => 0,
+        Op::Eq => number_of(greatest),
+        Op::Ge => number_of(least),
+        Op::Ne | Op::Gt => number_of(least) + 1,
+    }
+}
+
+/// The high number that is enough for the relation to the present values of the variable.
+pub(crate) fn enough_for(op: Op, store: &DomainStore, target: Var) -> i64
+    requires { target < length store.now }
+    ensures { IsEnough op (values_of (present_of store.now) target) result }
+{
+    if store.count(target) == 0 {
+        return 0;
+    }
+    enough_between(op, &store.least(target), &store.greatest(target))
+}
 
 /// Every number from the lower to the higher one is the count in some assignment.
 #[derive(Debug, Drop)]

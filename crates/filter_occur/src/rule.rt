@@ -1,14 +1,15 @@
 //! The number of some variables that have a value, and the target that it is compared with.
 ghost use Rattle.std.specs.Prelude.{◌≡◌, ◌++◌, ◌<◌, ◌≤◌, [], ◌∷◌, length, flat_map, if◌then◌else◌, All, Contains, IfNone, IfSome, MatchOption, OnOk};
-ghost use Rattle.filter_occur.specs.Count.{AreCounts, CanReach, IsChance, IsCountReached, target_values, values_where};
+ghost use Rattle.filter_occur.specs.Count.{AreCounts, AreCountsTo, CanReach, IsChance, IsCountReached, IsEnough, target_values, values_where};
 ghost use Rattle.palm_base.specs.Tells.{Tells};
 ghost use Rattle.palm_domain.specs.Rows.{initial_of, present_of};
 ghost use Rattle.palm_model.specs.Constraint.{Distinct};
 ghost use Rattle.palm_model.specs.Count.{target_scope, count_reason, counted_pairs, high_pairs, low_pairs, needs_high, needs_low, target_pairs};
+ghost use Rattle.palm_model.specs.Domains.{values_of};
 ghost use Rattle.palm_model.specs.Reason.{AreFilled};
 ghost use Rattle.palm_model.specs.Removed.{others};
 
-use crate::counts::Counts;
+use crate::counts::{Counts, enough_between, enough_for};
 use palm_base::{NoMemory, Pair, Value, Var, VarList};
 use palm_domain::DomainStore;
 use palm_filter::{Reasons, is_alone, is_missing, push_removed};
@@ -23,11 +24,26 @@ pub struct CountRule {
     pub target: Target,
 }
 
-/// Whether a variable has the counted value as its only one, and whether it has it at all.
+/// What a variable tells of the counted value without a search for it: that it has it alone, that it lacks it, or that
+/// it has several values.
 #[derive(Debug, Drop)]
-pub struct Chance {
-    pub certain: bool,
-    pub possible: bool,
+pub enum Chance {
+    Certain,
+    Impossible,
+    Open,
+}
+
+impl Chance {
+    /// The chance of the counted value where a variable has one value alone.
+    fn of_one(only: &Value, counted: &Value) -> Chance
+        ensures { IsChance (only.now ∷ []) counted.now result }
+    {
+        if *only == *counted {
+            Chance::Certain
+        } else {
+            Chance::Impossible
+        }
+    }
 }
 
 /// Whether a number can be too high because variables have no other value.
@@ -52,9 +68,26 @@ impl CountRule {
         requires few { length self.now.vars ≤ MOST_SCOPE }
         ensures { Tells result (CanReach (present_of store.now) pair.now.var pair.now.value self.now) }
     {
-        match self.counts(store, pair) {
+        match self.counts_to(store, pair, self.enough(store, pair)) {
             Some(counts) => self.is_count_reached(&counts, store, pair),
             None => false,
+        }
+    }
+
+    /// The high number that is enough for the relation to the target, where the variable of the pair has its value.
+    fn enough(&self, store: &DomainStore, pair: &Pair) -> i64
+        requires { All (λ y. y < length store.now) (target_scope self.now.target) }
+        ensures { IsEnough self.now.op (target_values (present_of store.now) pair.now.var pair.now.value self.now.target) result }
+    {
+        match &self.target {
+            Target::Const(number) => enough_between(self.op, number, number),
+            Target::Variable(target) => {
+                if *target == pair.var {
+                    enough_between(self.op, &pair.value, &pair.value)
+                } else {
+                    enough_for(self.op, store, *target)
+                }
+            }
         }
     }
 
@@ -85,18 +118,38 @@ impl CountRule {
         ensures counts { IfSome result (AreCounts (present_of store.now) pair.now.var pair.now.value self.now) }
         ensures empty { IfNone result (All (λ y. 0 < length (values_where (present_of store.now) pair.now.var pair.now.value y)) self.now.vars → ⊥) }
     {
+        self.counts_to(store, pair, i64::MAX)
+    }
+
+    /// The counts, where the high one is raised by variables with several values only until it is enough.
+    #[inline(always)]
+    fn counts_to(&self, store: &DomainStore, pair: &Pair, enough: i64) -> Option<Counts>
+        requires declared { All (λ y. y < length store.now) self.now.vars }
+        requires few { length self.now.vars ≤ MOST_SCOPE }
+        ensures counts { IfSome result (AreCountsTo (present_of store.now) pair.now.var pair.now.value self.now enough) }
+        ensures empty { IfNone result (All (λ y. 0 < length (values_where (present_of store.now) pair.now.var pair.now.value y)) self.now.vars → ⊥) }
+    {
         let mut low = 0;
         let mut high = 0;
         for var in self.vars.as_slice() {
-            let chance = self.chance(store, *var, pair)?;
-            low += u32::from(chance.certain);
-            high += u32::from(chance.possible);
+            match self.chance(store, *var, pair)? {
+                Chance::Certain => {
+                    low += 1;
+                    high += 1;
+                }
+                Chance::Impossible => {}
+                Chance::Open => {
+                    if i64::from(high) < enough && self.is_possible(store, *var) {
+                        high += 1;
+                    }
+                }
+            }
         }
         Some(Counts { low, high })
     }
 
-    /// Whether the variable has the value, where the variable of the pair has its value. There is no answer where the
-    /// domain is empty.
+    /// What the variable tells of the counted value, where the variable of the pair has its value. There is no answer
+    /// where the domain is empty.
     fn chance(&self, store: &DomainStore, var: Var, pair: &Pair) -> Option<Chance>
         requires { var < length store.now }
         ensures { MatchOption result
@@ -104,23 +157,26 @@ impl CountRule {
             (IsChance (values_where (present_of store.now) pair.now.var pair.now.value var) self.now.value) }
     {
         if var == pair.var {
-            let own = pair.value == self.value;
-            return Some(Chance {
-                certain: own,
-                possible: own,
-            });
+            return Some(Chance::of_one(&pair.value, &self.value));
         }
         let count = store.count(var);
-        if count == 0 {
-            return None;
+        if count > 1 {
+            Some(Chance::Open)
+        } else if count == 1 {
+            Some(Chance::of_one(&store.least(var), &self.value))
+        } else {
+            None
         }
-        let possible = store.contains(Pair {
+    }
+
+    /// Whether the variable has the counted value.
+    fn is_possible(&self, store: &DomainStore, var: Var) -> bool
+        requires { var < length store.now }
+        ensures { Tells result (Contains (values_of (present_of store.now) var) self.now.value) }
+    {
+        store.contains(Pair {
             var,
             value: self.value,
-        });
-        Some(Chance {
-            certain: possible && count == 1,
-            possible,
         })
     }
 }
