@@ -19,13 +19,15 @@ use std::alloc::Global;
 use std::marker::Model;
 
 /// The connected constraints by rising name, a flag for each of them that is raised where it is pending, and the names of
-/// the constraints over each variable. There is room for every name among those that an order is shown.
+/// the constraints over each variable. There is room for every name among those that an order is shown. The place of the
+/// constraint that was taken last is where one is looked for first.
 #[derive(Debug, Drop)]
 pub struct Agenda {
     connections: Vec<Connection>,
     pending: Flags,
     over: Vec<Names>,
     shown: Vec<Cid>,
+    near: usize,
 }
 
 impl Model for Agenda {
@@ -41,17 +43,40 @@ impl Model for Agenda {
     ghost invariant = { λ a. IsKept a.connections.items a.over.items a.pending.flags (vec_capacity a.shown) };
 }
 
-/// The place of the constraint under the name, where the numbers of users leave none out from it to the last one.
-fn counted_place(connections: &[Connection], cid: &Cid) -> Option<usize>
+/// The place of the constraint under the name, where it is the one at `near`.
+#[inline(always)]
+fn near_place(connections: &[Connection], near: usize, cid: &Cid) -> Option<usize>
     requires { Rises (names_of connections.now) }
     ensures { IfSome result (IsPartedAt (λ d. cid_before d.cid cid.now) connections.now) }
 {
-    let last = connections.last()?;
-    let place = likely_place(connections.len(), last.cid(), cid)?;
-    if is_same(connections[place].cid(), cid) {
-        Some(place)
+    if near < connections.len() && is_same(connections[near].cid(), cid) {
+        Some(near)
     } else {
         None
+    }
+}
+
+/// The place of the constraint under the name, where the numbers of users leave none out from it to the one at `near`.
+fn counted_place(connections: &[Connection], near: usize, cid: &Cid) -> Option<usize>
+    requires { Rises (names_of connections.now) }
+    ensures { IfSome result (IsPartedAt (λ d. cid_before d.cid cid.now) connections.now) }
+{
+    if near >= connections.len() {
+        return None;
+    }
+    let place = likely_place(near + 1, connections[near].cid(), cid)?;
+    near_place(connections, place, cid)
+}
+
+/// How many of the connected constraints have names that come before this one, counted from the one at `near`.
+#[inline(never)]
+fn place_from(connections: &[Connection], near: usize, cid: &Cid) -> usize
+    requires { Rises (names_of connections.now) }
+    ensures { IsPartedAt (λ d. cid_before d.cid cid.now) connections.now result }
+{
+    match counted_place(connections, near, cid) {
+        Some(place) => place,
+        None => connections.partition_point(|connection| is_before(connection.cid(), cid)),
     }
 }
 
@@ -60,16 +85,27 @@ fn place_of(connections: &[Connection], cid: &Cid) -> usize
     requires { Rises (names_of connections.now) }
     ensures { IsPartedAt (λ d. cid_before d.cid cid.now) connections.now result }
 {
-    match counted_place(connections, cid) {
+    place_from(connections, connections.len().wrapping_sub(1), cid)
+}
+
+/// How many of the connected constraints have names that come before this one, which is looked for at `near` first.
+#[inline(always)]
+fn place_near(connections: &[Connection], near: usize, cid: &Cid) -> usize
+    requires { Rises (names_of connections.now) }
+    ensures { IsPartedAt (λ d. cid_before d.cid cid.now) connections.now result }
+{
+    match near_place(connections, near, cid) {
         Some(place) => place,
-        None => connections.partition_point(|connection| is_before(connection.cid(), cid)),
+        None => place_of(connections, cid),
     }
 }
 
-/// Makes the constraint pending, and marks these places of it, as seen from the variable.
+/// Makes the constraint pending, and marks these places of it, as seen from the variable. It is counted from the one at
+/// `near`, which is it from then on.
 fn wake_named(
     connections: &mut Vec<Connection>,
     pending: &mut Flags,
+    near: &mut usize,
     cid: &Cid,
     places: Places,
     var: &Var,
@@ -82,10 +118,11 @@ fn wake_named(
         ↔ (Contains (flagged (names_of connections.old.items) pending.old.flags) c ⊎ (c ≡ cid.now)) }
     ensures flags { length pending.new.flags ≡ length pending.old.flags }
 {
-    let place = place_of(connections, cid);
+    let place = place_from(connections, *near, cid);
     let connection = &mut connections[place];
     connection.mark(places, var);
     pending.raise(place);
+    *near = place;
 }
 
 /// Makes each of the constraints pending, and marks these places of it, as seen from the variable.
@@ -104,18 +141,19 @@ fn wake_each(
         ↔ (Contains (flagged (names_of connections.old.items) pending.old.flags) c ⊎ Contains names.now c) }
     ensures flags { length pending.new.flags ≡ length pending.old.flags }
 {
+    let mut near = connections.len().wrapping_sub(1);
     for cid in names {
-        wake_named(connections, pending, cid, places, var);
+        wake_named(connections, pending, &mut near, cid, places, var);
     }
 }
 
-/// Takes a mark of the constraint away.
-fn unmark_named(connections: &mut Vec<Connection>, cid: &Cid, place: usize)
+/// Takes a mark of the constraint away, which is looked for at `near` first.
+fn unmark_named(connections: &mut Vec<Connection>, near: usize, cid: &Cid, place: usize)
     requires rising { Rises (names_of connections.old.items) }
     requires connected { HasPlace connections.old.items cid.now place }
     ensures { connections.new.items ≡ map (changed_at cid.now (unmarked place)) connections.old.items }
 {
-    let at = place_of(connections, cid);
+    let at = place_near(connections, near, cid);
     let connection = &mut connections[at];
     connection.unmark(place);
 }
@@ -172,6 +210,7 @@ impl Agenda {
             pending: Flags::new(alloc),
             over: Vec::new(alloc),
             shown: Vec::new(alloc),
+            near: 0,
         }
     }
 
@@ -250,7 +289,7 @@ impl Agenda {
         ensures pending { (c : CidTerm) → Contains self.new.pending c ↔ (Contains self.old.pending c ⊎ (c ≡ cid)) }
         ensures formed { IsFormed self.new }
     {
-        let place = place_of(&self.connections, &cid);
+        let place = place_near(&self.connections, self.near, &cid);
         self.pending.raise(place);
     }
 
@@ -260,7 +299,7 @@ impl Agenda {
         ensures marks { (d : Connected) → Contains self.now.connected d → d.cid ≡ cid → result.now ≡ d.marks }
         ensures whole { (d : Connected) → Contains self.now.connected d → d.cid ≡ cid → length result.now ≡ length d.scope }
     {
-        let place = place_of(&self.connections, &cid);
+        let place = place_near(&self.connections, self.near, &cid);
         self.connections[place].marks()
     }
 
@@ -278,7 +317,7 @@ impl Agenda {
         ensures connected { self.new.connected ≡ map (changed_at cid (unmarked place)) self.old.connected }
         ensures pending { self.new.pending ≡ self.old.pending }
     {
-        unmark_named(&mut self.connections, &cid, place);
+        unmark_named(&mut self.connections, self.near, &cid, place);
     }
 
     /// Whether no constraint is pending. What it ensures besides holds of every agenda.
@@ -314,6 +353,7 @@ impl Agenda {
         ensures connected { self.new.connected ≡ self.old.connected }
     {
         let place = self.pending.lower_first()?;
+        self.near = place;
         Some(name_at(&self.connections, place))
     }
 
@@ -332,6 +372,7 @@ impl Agenda {
         let cid = chosen(&self.shown, answer);
         let place = place_of(&self.connections, &cid);
         self.pending.lower(place);
+        self.near = place;
         Some(cid)
     }
 }

@@ -6,21 +6,21 @@ use Rattle.palm_agenda.proofs.agenda.wake_named.Goals as goal
 
 pub raise-requires : goal.raise-requires
 raise-requires c =
-    let within = place_within c.args.connections.now.items c.requires.rising c.args.cid.now c.place_of-place.result
-    (parted_in c.deref.result.now c.args.connections.now.items c.args.cid.now c.place_of-place.result c.deref.ensures.value c.place_of-place.ensures)
+    let within = place_within c.args.connections.now.items c.requires.rising c.args.cid.now c.place_from-place.result
+    (parted_in c.deref.result.now c.args.connections.now.items c.args.cid.now c.place_from-place.result c.deref.ensures.value c.place_from-place.ensures)
     (over_connected c.args.connections.now.items c.args.var.now c.args.cid.now c.requires.over) in
     let same = c.requires.flags in
     omega arith
 
 pub returns-clause-marks : goal.returns-clause-marks
 returns-clause-marks c =
-    marked_here c.args.connections.now.items c.requires.rising c.args.cid.now c.place_of-place.result
-    (parted_in c.deref.result.now c.args.connections.now.items c.args.cid.now c.place_of-place.result c.deref.ensures.value c.place_of-place.ensures)
+    marked_here c.args.connections.now.items c.requires.rising c.args.cid.now c.place_from-place.result
+    (parted_in c.deref.result.now c.args.connections.now.items c.args.cid.now c.place_from-place.result c.deref.ensures.value c.place_from-place.ensures)
     c.args.places c.args.var.now c.requires.over c.index_mut-connection.result.now c.mark.new.self c.index_mut-connection.ensures.value c.mark.ensures
 
 pub returns-clause-pending : goal.returns-clause-pending
 returns-clause-pending c =
-    woken_at c.args.connections.now.items _ c.args.pending.now.flags c.raise.new.self.flags c.args.cid.now c.place_of-place.result c.args.var.now (mark_places c.args.places c.args.var.now)
+    woken_at c.args.connections.now.items _ c.args.pending.now.flags c.raise.new.self.flags c.args.cid.now c.place_from-place.result c.args.var.now (mark_places c.args.places c.args.var.now)
     (keeps_places c.args.places c.args.var.now) c.requires.rising c.requires.flags
-    (parted_in c.deref.result.now c.args.connections.now.items c.args.cid.now c.place_of-place.result c.deref.ensures.value c.place_of-place.ensures)
+    (parted_in c.deref.result.now c.args.connections.now.items c.args.cid.now c.place_from-place.result c.deref.ensures.value c.place_from-place.ensures)
     c.requires.over (returns-clause-marks c) c.raise.ensures

@@ -5,7 +5,7 @@ use Rattle.palm_agenda.specs.Agenda.{Connected}
 use Rattle.palm_agenda.proofs.NameLists.{rising}
 use Rattle.palm_agenda.proofs.Sorted.{parted}
 use Rattle.palm_agenda.proofs.Connecting.{sorted_connected}
-use Rattle.palm_agenda.proofs.agenda.place_of.Goals as goal
+use Rattle.palm_agenda.proofs.agenda.place_from.Goals as goal
 
 pub returns-in-None : goal.returns-in-None
 returns-in-None c =
