@@ -12,7 +12,8 @@ use palm_model::Con;
 use std::alloc::Global;
 use std::marker::Model;
 
-/// Filters variables that differ. It asks for support in one pass over the other variables, by the ends of their domains.
+/// Filters variables that differ. It asks for support in one pass over the other variables, by how many values each has
+/// and by its only one.
 #[derive(Debug, Drop)]
 pub struct DifferFilter {
     vars: VarList,
