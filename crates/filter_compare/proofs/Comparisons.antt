@@ -1,6 +1,6 @@
 -- Support and reasons of comparisons, by what they ask of the other variable.
 use Rattle.std.proofs.Common.{◌≡◌, ℕ, ℤ, ◌+ℤ◌, ◌-ℤ◌, ◌-◌, pos, ◌<ℤ◌, ◌≤ℤ◌, Bool, true, false, cond, ◌<◌, List, [], ◌∷◌, length, get_or, filter, Contains, eqb, eq-eqb, ne_eqb, ◌⊎◌, inl, inr, refl, sym, ap, ◌∙◌, subst, arith}
-use Rattle.std.proofs.lemmas.Int.{ints}
+use Rattle.std.proofs.lemmas.Int.{ints, by_lt_z}
 use Rattle.std.proofs.lemmas.List.Elements.{All-contains, All-nil}
 use Rattle.palm_base.proofs.Members.{member_here, member_there, member_cases, member_single, member_same, member_filter, filter_member, filter_agree_members, nat_known}
 use Rattle.palm_base.specs.declared.terms.Pair.{Pair}
@@ -60,21 +60,21 @@ test_flipped op v w k = bool_same (is_standing op v (w +ℤ k)) (is_standing (fl
 pub met_by : (vs : List ℤ) (d : Demand) (v : ℤ) → Contains vs v → Stands d.op v d.bound → IsMet vs d
 met_by vs d v m h = record { value = v; member = m; stands = h }
 
-pub unmet_none : (vs : List ℤ) (d : Demand) → length vs ≡ 0 → IsMet vs d → ⊥
-unmet_none vs d e met = omega (arith, met.member.1)
+pub unmet_none : (vs : List ℤ) (d : Demand) → (0 < length vs → ⊥) → IsMet vs d → ⊥
+unmet_none vs d n met = n (omega (arith, met.member.1))
 
 pub unmet_equal : (vs : List ℤ) (d : Demand) → d.op ≡ Eq → (Contains vs d.bound → ⊥) → IsMet vs d → ⊥
 unmet_equal vs d is n met = n (member_same vs met.value d.bound (subst (λ o. Stands o met.value d.bound) is met.stands) met.member)
 
-pub unmet_outside : (vs : List ℤ) (d : Demand) (least greatest : ℤ) → d.op ≡ Eq → IsLeastOf vs least → IsGreatestOf vs greatest → (least ≤ℤ d.bound → d.bound ≤ℤ greatest → ⊥) → IsMet vs d → ⊥
-unmet_outside vs d least greatest is low high n met =
-    let e : met.value ≡ d.bound = subst (λ o. Stands o met.value d.bound) is met.stands in
-    n (subst (λ z. least ≤ℤ z) e (low.least met.value met.member)) (subst (λ z. z ≤ℤ greatest) e (high.greatest met.value met.member))
-
-pub unmet_other : (vs : List ℤ) (d : Demand) (least greatest : ℤ) → d.op ≡ Ne → IsLeastOf vs least → IsGreatestOf vs greatest → (Stands d.op least d.bound → ⊥) → (Stands d.op greatest d.bound → ⊥) → IsMet vs d → ⊥
-unmet_other vs d least greatest is low high n m met =
-    subst (λ o. (Stands o least d.bound → ⊥) → (Stands o greatest d.bound → ⊥) → Stands o met.value d.bound → ⊥) (sym is)
-    (λ n m apart. n (λ e. m (λ f. apart (omega (arith, ints, e, f, low.least met.value met.member, high.greatest met.value met.member))))) n m met.stands
+-- of two values one is not the bound
+pub met_by_two : (vs : List ℤ) (d : Demand) → d.op ≡ Ne → Ascends vs → 1 < length vs → IsMet vs d
+met_by_two [] d is up two = absurd (omega (arith, two))
+met_by_two (v ∷ []) d is up two = absurd (omega (arith, two))
+met_by_two (v ∷ w ∷ vs) d is up two =
+    let above : v <ℤ w = up.0 0 w (omega arith) in
+    by_lt_z v d.bound
+    (λ lt. met_by (v ∷ w ∷ vs) d v (member_here v (w ∷ vs)) (subst (λ o. Stands o v d.bound) (sym is) (λ e. omega (arith, ints, e, lt))))
+    (λ le. met_by (v ∷ w ∷ vs) d w (member_there v (w ∷ vs) w (member_here w vs)) (subst (λ o. Stands o w d.bound) (sym is) (λ e. omega (arith, ints, e, le, above))))
 
 pub unmet_below : (vs : List ℤ) (d : Demand) (least : ℤ) → (d.op ≡ Lt) ⊎ (d.op ≡ Le) → IsLeastOf vs least → (Stands d.op least d.bound → ⊥) → IsMet vs d → ⊥
 unmet_below vs d least is low n met = elim is [
@@ -110,16 +110,20 @@ bound_alone vs d is up there =
 pub bound_missing : (vs : List ℤ) (d : Demand) → d.op ≡ Eq → (Contains vs d.bound → ⊥) → meeting_values vs d ≡ []
 bound_missing vs d is missing = no_members (meeting_values vs d) (λ w m. let r = meets_bound vs d w is m in missing (member_same vs w d.bound (sym r.1) r.0))
 
+-- a member is from the first to the last value
+pub member_between : (vs : List ℤ) (v first last : ℤ) → Ascends vs → 0 < length vs → first ≡ get_or vs 0 first → last ≡ get_or vs (length vs - 1) last → Contains vs v → (first ≤ℤ v) × (v ≤ℤ last)
+member_between vs v first last up some at_first at_last k =
+    let lt : k.0 < length vs = k.1 in
+    let here : get_or vs k.0 v ≡ v = k.2 in
+    let low = get_or-rises vs up 0 k.0 first v (omega arith) lt in
+    let high = get_or-rises vs up k.0 (length vs - 1) v last (omega (arith, lt)) (omega (arith, lt)) in
+    (omega (arith, ints, low, at_first, here), omega (arith, ints, high, at_last, here))
+
 -- a number that is not from the first to the last value is none of them
 pub bound_outside : (vs : List ℤ) (d : Demand) (read : List ℤ) → read ≡ vs → (first last : ℤ) → d.op ≡ Eq → Ascends read → 0 < length read → first ≡ get_or read 0 first → last ≡ get_or read (length read - 1) last
     → ((first ≤ℤ d.bound) × (d.bound ≤ℤ last) → ⊥) → meeting_values vs d ≡ []
-bound_outside vs d read same first last is up some at_first at_last outside = bound_missing vs d is (λ m.
-    let k = subst (λ ws. Contains ws d.bound) (sym same) m in
-    let lt : k.0 < length read = k.1 in
-    let here : get_or read k.0 d.bound ≡ d.bound = k.2 in
-    let low = get_or-rises read up 0 k.0 first d.bound (omega arith) lt in
-    let high = get_or-rises read up k.0 (length read - 1) d.bound last (omega (arith, lt)) (omega (arith, lt)) in
-    outside (omega (arith, ints, low, at_first, here), omega (arith, ints, high, at_last, here)))
+bound_outside vs d read same first last is up some at_first at_last outside =
+    bound_missing vs d is (λ m. outside (member_between read d.bound first last up some at_first at_last (subst (λ ws. Contains ws d.bound) (sym same) m)))
 
 -- ---- what is asked of the other variable
 

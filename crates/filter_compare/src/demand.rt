@@ -41,19 +41,44 @@ impl Demand {
         requires { self.now.var < length store.now }
         ensures { Tells result (IsMet (values_of (present_of store.now) self.now.var) self.now) }
     {
-        if store.count(self.var) == 0 {
-            return false;
-        }
-        let least = store.least(self.var);
-        let greatest = store.greatest(self.var);
         match self.op {
-            Op::Eq => self.is_between(&least, &greatest) && self.is_present(store),
-            Op::Ne => self.is_met_by(&least) || self.is_met_by(&greatest),
-            Op::Lt => self.is_met_by(&least),
-            Op::Le => self.is_met_by(&least),
-            Op::Gt => self.is_met_by(&greatest),
-            Op::Ge => self.is_met_by(&greatest),
+            Op::Eq => self.is_present(store),
+            Op::Ne => self.has_other(store),
+            Op::Lt => self.least_meets(store),
+            Op::Le => self.least_meets(store),
+            Op::Gt => self.greatest_meets(store),
+            Op::Ge => self.greatest_meets(store),
         }
+    }
+
+    /// Whether the variable has a present value, and the least one meets the demand.
+    fn least_meets(&self, store: &DomainStore) -> bool
+        requires declared { self.now.var < length store.now }
+        requires low { (self.now.op ≡ Op.Lt) ⊎ (self.now.op ≡ Op.Le) }
+        ensures { Tells result (IsMet (values_of (present_of store.now) self.now.var) self.now) }
+    {
+        store.count(self.var) > 0 && self.is_met_by(&store.least(self.var))
+    }
+
+    /// Whether the variable has a present value, and the greatest one meets the demand.
+    fn greatest_meets(&self, store: &DomainStore) -> bool
+        requires declared { self.now.var < length store.now }
+        requires high { (self.now.op ≡ Op.Gt) ⊎ (self.now.op ≡ Op.Ge) }
+        ensures { Tells result (IsMet (values_of (present_of store.now) self.now.var) self.now) }
+    {
+        store.count(self.var) > 0 && self.is_met_by(&store.greatest(self.var))
+    }
+
+    /// Whether a present value of the variable is another one than the bound.
+    fn has_other(&self, store: &DomainStore) -> bool
+        requires declared { self.now.var < length store.now }
+        requires differs { self.now.op ≡ Op.Ne }
+        ensures { Tells result (IsMet (values_of (present_of store.now) self.now.var) self.now) }
+    {
+        // The store tells here that its values ascend: of two values one is not the bound.
+        let _ = store.variables();
+        let count = store.count(self.var);
+        count > 1 || count == 1 && self.is_met_by(&store.least(self.var))
     }
 
     /// Whether the value meets the demand.
@@ -74,14 +99,20 @@ impl Demand {
 
     /// Whether the bound itself is a present value of the variable.
     fn is_present(&self, store: &DomainStore) -> bool
-        requires declared { self.now.var < length store.now }
-        requires fits { FitsSigned w32 self.now.bound }
+        requires { self.now.var < length store.now }
         ensures { Tells result (Contains (values_of (present_of store.now) self.now.var) self.now.bound) }
     {
-        store.contains(Pair {
-            var: self.var,
-            value: Value(self.bound as i32),
-        })
+        match i32::try_from(self.bound) {
+            Ok(bound) => store.contains(Pair {
+                var: self.var,
+                value: Value(bound),
+            }),
+            // A number that no value can be is not between two values.
+            Err(_) => {
+                let values = store.initial_values(self.var);
+                self.is_between(&values[0], &values[values.len() - 1])
+            }
+        }
     }
 
     /// The pair of the variable with the bound.

@@ -1,10 +1,11 @@
 -- Support in a sum, by the least and the greatest that it can be.
-use Rattle.std.proofs.Common.{◌≡◌, ℕ, List, [], ◌∷◌, Contains, All, ℤ, ◌<ℤ◌, ◌⊎◌, inl, inr, refl, sym, ap, ◌∙◌, subst, arith}
+use Rattle.std.proofs.Common.{◌≡◌, ℕ, List, [], ◌∷◌, Contains, All, ℤ, ◌<ℤ◌, ◌≤ℤ◌, ◌⊎◌, inl, inr, refl, sym, ap, ◌∙◌, subst, arith}
 use Rattle.std.proofs.lemmas.Int.{ints, by_lt_z}
 use Rattle.std.proofs.lemmas.List.Elements.{All-contains}
 use Rattle.palm_base.proofs.Members.{member_here, member_there, member_cases, member_single, member_map, all_members, int_known}
 use Rattle.palm_model.specs.Domains.{Domains, Has}
-use Rattle.palm_model.specs.Constraint.{Distinct}
+use Rattle.palm_model.specs.Constraint.{Distinct, scope}
+use Rattle.palm_model.specs.Relation.{Stands}
 use Rattle.palm_model.specs.Linear.{term_vars, linear_parts, least_total, greatest_total}
 use Rattle.palm_model.specs.Support.{HasSupport, IsSupported, LacksSupport}
 use Rattle.palm_model.specs.declared.constraint.Con.{Con}
@@ -15,7 +16,10 @@ use Rattle.palm_model.specs.declared.constraint.Term.{Term}
 use Rattle.palm_model.specs.declared.part.Part.TheVariants.{Linear as LinearPart}
 use Rattle.palm_model.proofs.Supports.{supported_by_part, lacking_by_part}
 use Rattle.palm_reason.proofs.LinearReason.{AreFilledBeside, least_support, greatest_support, least_bounds, greatest_bounds, lacking_part}
-use Rattle.filter_linear.specs.Linear.{IsFilledBeside, IsSpan, IsMetWithin}
+use Rattle.filter_linear.specs.Linear.{CanBeMet, IsEnd, IsFilledBeside, IsMetAt, IsMetWithin, IsSpan, end_total, linear_of, span_of}
+use Rattle.filter_linear.specs.declared.end.End.{End}
+use Rattle.filter_linear.specs.declared.end.End.TheVariants.{Least, Greatest}
+use Rattle.filter_linear.specs.declared.rule.LinearRule.{LinearRule}
 use Rattle.filter_linear.specs.declared.span.Span.{Span}
 
 module _ (d : Domains) (terms : List Term) (x : ℕ) (v : ℤ) where
@@ -104,17 +108,56 @@ module _ (d : Domains) (terms : List Term) (x : ℕ) (v : ℤ) where
   support_fills op bound s = all_members (IsFilledBeside d x) terms (λ t m n.
       let h = s.within t.var (member_map (λ (u : Term). u.var) terms t m) in omega (arith, h.1))
 
--- ---- a filter's answers, for its meaning m
+-- ---- a filter's answers
 
-pub span_supported : (d : Domains) (terms : List Term) (op : Op) (bound : ℤ) (x : ℕ) (v : ℤ) (s : Span) (m : Con) → Linear terms op bound ≡ m → IsSpan d terms x v s → Distinct (term_vars terms) → Has d x v → IsMetWithin op bound s → IsSupported d m x v
-span_supported d terms op bound x v s m is span distinct has met =
-    subst (λ k. IsSupported d k x v) is (met_supported d terms x v op bound distinct has span.filled (subst (λ z. IsMetWithin op bound z) (whole_is d terms x v s span) met))
+-- whether a sum within the span can stand in the relation is known
+met_known : (op : Op) (bound : ℤ) (s : Span) → IsMetWithin op bound s ⊎ (IsMetWithin op bound s → ⊥)
+met_known Eq bound s = by_lt_z bound s.least (λ lt. inr (λ m. omega (arith, ints, lt, m.0))) (λ le. by_lt_z s.greatest bound (λ lt. inr (λ m. omega (arith, ints, lt, m.1))) (λ ge. inl (le, ge)))
+met_known Ne bound s = elim (int_known s.least bound) [
+  | inl e ↦ elim (int_known s.greatest bound) [ inl f ↦ inr (λ m. m e f) | inr n ↦ inl (λ _ f. n f) ]
+  | inr n ↦ inl (λ e _. n e)
+]
+met_known Lt bound s = by_lt_z s.least bound (λ lt. inl lt) (λ le. inr (λ m. omega (arith, ints, le, m)))
+met_known Le bound s = by_lt_z bound s.least (λ lt. inr (λ m. omega (arith, ints, lt, m))) (λ le. inl le)
+met_known Gt bound s = by_lt_z bound s.greatest (λ lt. inl lt) (λ le. inr (λ m. omega (arith, ints, le, m)))
+met_known Ge bound s = by_lt_z s.greatest bound (λ lt. inr (λ m. omega (arith, ints, lt, m))) (λ le. inl le)
 
-pub span_lacking : (d : Domains) (terms : List Term) (op : Op) (bound : ℤ) (x : ℕ) (v : ℤ) (s : Span) (m : Con) → Linear terms op bound ≡ m → IsSpan d terms x v s → Contains (term_vars terms) x → (IsMetWithin op bound s → ⊥) → LacksSupport d m x v
-span_lacking d terms op bound x v s m is span over unmet =
-    subst (λ k. LacksSupport d k x v) is (unmet_lacking d terms x v op bound over (λ met. unmet (subst (λ z. IsMetWithin op bound z) (sym (whole_is d terms x v s span)) met)))
+module _ (d : Domains) (rule : LinearRule) (x : ℕ) (v : ℤ) where
+  pub met_by_span : (s : Span) → IsSpan d rule.terms x v s → IsMetWithin rule.op rule.bound s → CanBeMet d rule x v
+  met_by_span s span met = record { filled = span.filled; met = subst (λ z. IsMetWithin rule.op rule.bound z) (whole_is d rule.terms x v s span) met }
 
-pub empty_lacking : (d : Domains) (terms : List Term) (op : Op) (bound : ℤ) (x : ℕ) (v : ℤ) (m : Con) → Linear terms op bound ≡ m → (All (IsFilledBeside d x) terms → ⊥) → Contains (term_vars terms) x → LacksSupport d m x v
-empty_lacking d terms op bound x v m is n over =
-    let p = some_part d terms x v op bound in
-    subst (λ k. LacksSupport d k x v) is (lacking_part d terms x v op p.0 bound p.1 over (λ s. n (support_fills d terms x v p.0 bound s)))
+  pub unmet_by_span : (s : Span) → IsSpan d rule.terms x v s → (IsMetWithin rule.op rule.bound s → ⊥) → CanBeMet d rule x v → ⊥
+  unmet_by_span s span unmet can = unmet (subst (λ z. IsMetWithin rule.op rule.bound z) (sym (whole_is d rule.terms x v s span)) can.met)
+
+  met_at : (end : End) (n : ℤ) → IsMetAt rule.op end → n ≡ end_total end d rule.terms x v → Stands rule.op n rule.bound → IsMetWithin rule.op rule.bound (span_of d rule.terms x v)
+  met_at Least n (inl o) is met = subst (λ p. IsMetWithin p rule.bound (span_of d rule.terms x v)) (sym o) (subst (λ z. z <ℤ rule.bound) is (subst (λ p. Stands p n rule.bound) o met))
+  met_at Least n (inr o) is met = subst (λ p. IsMetWithin p rule.bound (span_of d rule.terms x v)) (sym o) (subst (λ z. z ≤ℤ rule.bound) is (subst (λ p. Stands p n rule.bound) o met))
+  met_at Greatest n (inl o) is met = subst (λ p. IsMetWithin p rule.bound (span_of d rule.terms x v)) (sym o) (subst (λ z. rule.bound <ℤ z) is (subst (λ p. Stands p n rule.bound) o met))
+  met_at Greatest n (inr o) is met = subst (λ p. IsMetWithin p rule.bound (span_of d rule.terms x v)) (sym o) (subst (λ z. rule.bound ≤ℤ z) is (subst (λ p. Stands p n rule.bound) o met))
+
+  stands_at : (end : End) (n : ℤ) → IsMetAt rule.op end → n ≡ end_total end d rule.terms x v → IsMetWithin rule.op rule.bound (span_of d rule.terms x v) → Stands rule.op n rule.bound
+  stands_at Least n (inl o) is met = subst (λ p. Stands p n rule.bound) (sym o) (subst (λ z. z <ℤ rule.bound) (sym is) (subst (λ p. IsMetWithin p rule.bound (span_of d rule.terms x v)) o met))
+  stands_at Least n (inr o) is met = subst (λ p. Stands p n rule.bound) (sym o) (subst (λ z. z ≤ℤ rule.bound) (sym is) (subst (λ p. IsMetWithin p rule.bound (span_of d rule.terms x v)) o met))
+  stands_at Greatest n (inl o) is met = subst (λ p. Stands p n rule.bound) (sym o) (subst (λ z. rule.bound <ℤ z) (sym is) (subst (λ p. IsMetWithin p rule.bound (span_of d rule.terms x v)) o met))
+  stands_at Greatest n (inr o) is met = subst (λ p. Stands p n rule.bound) (sym o) (subst (λ z. rule.bound ≤ℤ z) (sym is) (subst (λ p. IsMetWithin p rule.bound (span_of d rule.terms x v)) o met))
+
+  pub met_by_end : (end : End) (n : ℤ) → IsMetAt rule.op end → IsEnd end d rule.terms x v n → Stands rule.op n rule.bound → CanBeMet d rule x v
+  met_by_end end n at is met = record { filled = is.filled; met = met_at end n at is.is met }
+
+  pub unmet_by_end : (end : End) (n : ℤ) → IsMetAt rule.op end → IsEnd end d rule.terms x v n → (Stands rule.op n rule.bound → ⊥) → CanBeMet d rule x v → ⊥
+  unmet_by_end end n at is unmet can = unmet (stands_at end n at is.is can.met)
+
+  -- for the filter's meaning m
+  pub met_answers : (m : Con) → linear_of rule ≡ m → Distinct (scope m) → Has d x v → CanBeMet d rule x v → IsSupported d m x v
+  met_answers m is distinct has can =
+      subst (λ k. IsSupported d k x v) is (met_supported d rule.terms x v rule.op rule.bound (subst (λ k. Distinct (scope k)) (sym is) distinct) has can.filled can.met)
+
+  pub unmet_answers : (m : Con) → linear_of rule ≡ m → Contains (scope m) x → (CanBeMet d rule x v → ⊥) → LacksSupport d m x v
+  unmet_answers m is over unmet =
+      let over_terms : Contains (term_vars rule.terms) x = subst (λ k. Contains (scope k) x) (sym is) over in
+      subst (λ k. LacksSupport d k x v) is (elim (met_known rule.op rule.bound (span_of d rule.terms x v)) [
+        | inl met ↦
+            let p = some_part d rule.terms x v rule.op rule.bound in
+            lacking_part d rule.terms x v rule.op p.0 rule.bound p.1 over_terms (λ s. unmet (record { filled = support_fills d rule.terms x v p.0 rule.bound s; met = met }))
+        | inr n ↦ unmet_lacking d rule.terms x v rule.op rule.bound over_terms n
+      ])

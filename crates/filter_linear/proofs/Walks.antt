@@ -18,7 +18,9 @@ use Rattle.palm_model.proofs.Reasons.{member_not_listed}
 use Rattle.palm_model.proofs.Standing.{stands_from_test, test_from_stands}
 use Rattle.palm_model.specs.declared.constraint.Op.TheVariants.{Lt}
 use Rattle.palm_model.proofs.Sums.{round_up_to, up_to_more, round_factor, sum_up_to, sum_read}
-use Rattle.filter_linear.specs.Linear.{IsProduct, IsTermSpan, IsFilledBeside, IsShare, IsSpan, least_share, greatest_share, is_beyond, values_beyond, beyond_reason}
+use Rattle.filter_linear.specs.Linear.{IsProduct, IsTermSpan, IsFilledBeside, IsShare, IsSpan, IsEnd, IsShareEnd, IsTermEnd, end_share, end_total, least_share, greatest_share, is_beyond, values_beyond, beyond_reason}
+use Rattle.filter_linear.specs.declared.end.End.{End}
+use Rattle.filter_linear.specs.declared.end.End.TheVariants.{Least, Greatest}
 use Rattle.filter_linear.specs.declared.reasons.Side.{Side}
 use Rattle.filter_linear.specs.declared.reasons.Side.TheVariants.{Below, Above}
 use Rattle.filter_linear.specs.declared.span.Span.{Span}
@@ -54,43 +56,61 @@ falls f k h =
     (λ lt. absurd (both_ways (int_lt (pos 0) f) (subst (λ z. int_lt (pos 0) z ≡ false) (round_factor f k) h) (test_from_stands Lt (pos 0) f lt)))
     (λ le. le)
 
-module _ (d : Domains) (t : Term) (low high m n : ℤ) (least : IsLeastOf (values_of d t.var) low) (greatest : IsGreatestOf (values_of d t.var) high) (at_low : m ≡ t.factor *ℤ low) (at_high : n ≡ t.factor *ℤ high) (low_small : IsProduct m) (high_small : IsProduct n) where
-  in_products : (w : ℤ) → Has d t.var w → Contains (products d t) (t.factor *ℤ w)
-  in_products w h = member_map (λ u. t.factor *ℤ u) (values_of d t.var) w h
+in_products : (d : Domains) (t : Term) (w : ℤ) → Has d t.var w → Contains (products d t) (t.factor *ℤ w)
+in_products d t w h = member_map (λ u. t.factor *ℤ u) (values_of d t.var) w h
 
-  each_product : (P : ℤ → Type 0) → ((w : ℤ) → Has d t.var w → P (t.factor *ℤ w)) → (k : ℤ) → Contains (products d t) k → P k
-  each_product P each k h = let r = member_unmap (λ u. t.factor *ℤ u) (values_of d t.var) k h in subst P r.2 (each r.0 r.1)
+each_product : (d : Domains) (t : Term) (P : ℤ → Type 0) → ((w : ℤ) → Has d t.var w → P (t.factor *ℤ w)) → (k : ℤ) → Contains (products d t) k → P k
+each_product d t P each k h = let r = member_unmap (λ u. t.factor *ℤ u) (values_of d t.var) k h in subst P r.2 (each r.0 r.1)
 
-  some_value : 0 < length (values_of d t.var)
-  some_value = omega (arith, least.member.1)
+module _ (d : Domains) (t : Term) (low m : ℤ) (least : IsLeastOf (values_of d t.var) low) (at_low : m ≡ t.factor *ℤ low) (small : IsProduct m) (factor : IsFactor t) where
+  pub rising_least : int_lt (pos 0) (to_z w32 (of_z w32 t.factor)) ≡ true → IsTermEnd Least d t m
+  rising_least test = record {
+    is =
+        at_low
+        ∙ least_is (products d t) (t.factor *ℤ low) (in_products d t low least.member) (each_product d t (λ k. (t.factor *ℤ low) ≤ℤ k) (λ w h. product_rises t.factor low w (rises t.factor factor.1 test) (least.least w h)));
+    filled = omega (arith, least.member.1);
+    small = small;
+  }
 
-  pub rising_span : IsFactor t → int_lt (pos 0) (to_z w32 (of_z w32 t.factor)) ≡ true → IsTermSpan d t (record { least = to_z w64 (of_z w64 m); greatest = to_z w64 (of_z w64 n) })
-  rising_span factor test =
-      let p = rises t.factor factor.1 test in record {
-        least =
-            round_product m low_small ∙ at_low
-            ∙ least_is (products d t) (t.factor *ℤ low) (in_products low least.member) (each_product (λ k. (t.factor *ℤ low) ≤ℤ k) (λ w h. product_rises t.factor low w p (least.least w h)));
-        greatest =
-            round_product n high_small ∙ at_high
-            ∙ greatest_is (products d t) (t.factor *ℤ high) (in_products high greatest.member) (each_product (λ k. k ≤ℤ (t.factor *ℤ high)) (λ w h. product_rises t.factor w high p (greatest.greatest w h)));
-        filled = some_value;
-        least_small = subst IsProduct (sym (round_product m low_small)) low_small;
-        greatest_small = subst IsProduct (sym (round_product n high_small)) high_small;
-      }
+  pub falling_greatest : int_lt (pos 0) (to_z w32 (of_z w32 t.factor)) ≡ false → IsTermEnd Greatest d t m
+  falling_greatest test = record {
+    is =
+        at_low
+        ∙ greatest_is (products d t) (t.factor *ℤ low) (in_products d t low least.member) (each_product d t (λ k. k ≤ℤ (t.factor *ℤ low)) (λ w h. product_falls t.factor low w (falls t.factor factor.1 test) (least.least w h)));
+    filled = omega (arith, least.member.1);
+    small = small;
+  }
 
-  pub falling_span : IsFactor t → int_lt (pos 0) (to_z w32 (of_z w32 t.factor)) ≡ false → IsTermSpan d t (record { least = to_z w64 (of_z w64 n); greatest = to_z w64 (of_z w64 m) })
-  falling_span factor test =
-      let p = falls t.factor factor.1 test in record {
-        least =
-            round_product n high_small ∙ at_high
-            ∙ least_is (products d t) (t.factor *ℤ high) (in_products high greatest.member) (each_product (λ k. (t.factor *ℤ high) ≤ℤ k) (λ w h. product_falls t.factor w high p (greatest.greatest w h)));
-        greatest =
-            round_product m low_small ∙ at_low
-            ∙ greatest_is (products d t) (t.factor *ℤ low) (in_products low least.member) (each_product (λ k. k ≤ℤ (t.factor *ℤ low)) (λ w h. product_falls t.factor low w p (least.least w h)));
-        filled = some_value;
-        least_small = subst IsProduct (sym (round_product n high_small)) high_small;
-        greatest_small = subst IsProduct (sym (round_product m low_small)) low_small;
-      }
+module _ (d : Domains) (t : Term) (high n : ℤ) (greatest : IsGreatestOf (values_of d t.var) high) (at_high : n ≡ t.factor *ℤ high) (small : IsProduct n) (factor : IsFactor t) where
+  pub rising_greatest : int_lt (pos 0) (to_z w32 (of_z w32 t.factor)) ≡ true → IsTermEnd Greatest d t n
+  rising_greatest test = record {
+    is =
+        at_high
+        ∙ greatest_is (products d t) (t.factor *ℤ high) (in_products d t high greatest.member) (each_product d t (λ k. k ≤ℤ (t.factor *ℤ high)) (λ w h. product_rises t.factor w high (rises t.factor factor.1 test) (greatest.greatest w h)));
+    filled = omega (arith, greatest.member.1);
+    small = small;
+  }
+
+  pub falling_least : int_lt (pos 0) (to_z w32 (of_z w32 t.factor)) ≡ false → IsTermEnd Least d t n
+  falling_least test = record {
+    is =
+        at_high
+        ∙ least_is (products d t) (t.factor *ℤ high) (in_products d t high greatest.member) (each_product d t (λ k. (t.factor *ℤ high) ≤ℤ k) (λ w h. product_falls t.factor w high (falls t.factor factor.1 test) (greatest.greatest w h)));
+    filled = omega (arith, greatest.member.1);
+    small = small;
+  }
+
+pub span_of_ends : (d : Domains) (t : Term) (m n : ℤ) → IsTermEnd Least d t m → IsTermEnd Greatest d t n → IsTermSpan d t (record { least = to_z w64 (of_z w64 m); greatest = to_z w64 (of_z w64 n) })
+span_of_ends d t m n low high =
+    let e = round_product m low.small in
+    let f = round_product n high.small in
+    record {
+      least = e ∙ low.is;
+      greatest = f ∙ high.is;
+      filled = low.filled;
+      least_small = subst IsProduct (sym e) low.small;
+      greatest_small = subst IsProduct (sym f) high.small;
+    }
 
 -- ---- the least and the greatest sum so far
 
@@ -160,6 +180,47 @@ module _ (d : Domains) (terms : List Term) (x : ℕ) (v : ℤ) where
         greatest = is.greatest ∙ ap (λ (ts : List Term). greatest_total d ts x v) whole;
         filled = All-from_all_within (IsFilledBeside d x) terms (subst (λ n. AllWithin (IsFilledBeside d x) terms 0 n) at_end is.filled);
       }
+
+-- ---- one end of the sum so far
+
+-- the end of what the first i terms can be together
+pub record IsEndTo (end : End) (d : Domains) (terms : List Term) (x : ℕ) (v : ℤ) (i : ℕ) (n : ℤ) : Type 0 where
+  pub is : n ≡ end_total end d (take i terms) x v
+  pub filled : AllWithin (IsFilledBeside d x) terms 0 i
+  pub small : IsUpTo (i * GREATEST_PRODUCT) n
+
+module _ (end : End) (d : Domains) (terms : List Term) (x : ℕ) (v : ℤ) where
+  pub end_none : IsEndTo end d terms x v 0 (pos 0)
+  end_none = record {
+    is = by_end end;
+    filled = AllWithin-none (IsFilledBeside d x) terms 0;
+    small = record { above = omega (arith, ints); below = omega (arith, ints) };
+  }
+    where
+      by_end : (end : End) → pos 0 ≡ end_total end d [] x v
+      by_end Least = refl
+      by_end Greatest = refl
+
+  pub end_more : (i : ℕ) (t : Term) (m n : ℤ) → i < length terms → length terms ≤ MOST_SCOPE → t ≡ get_or terms i t → IsEndTo end d terms x v i m → IsShareEnd end d x v t n
+      → IsEndTo end d terms x v (i + 1) (to_z w64 (of_z w64 (m +ℤ to_z w64 (of_z w64 n))))
+  end_more i t m n lt few at so_far share =
+      let up_to : i ≤ MOST_SCOPE = omega arith in
+      let e = subst (λ z. to_z w64 (of_z w64 (z +ℤ to_z w64 (of_z w64 n))) ≡ m +ℤ n) (round_sum i m up_to so_far.small) (step_read i m n up_to so_far.small share.small) in
+      record {
+        is = e ∙ by_end end so_far.is share.is;
+        filled = AllWithin-more (IsFilledBeside d x) terms 0 i so_far.filled (λ u. subst (IsFilledBeside d x) (at_any terms i t u lt at) share.filled);
+        small = subst (λ z. IsUpTo ((i + 1) * GREATEST_PRODUCT) z) (sym e) (sum_up_to i m n so_far.small share.small);
+      }
+    where
+      by_end : (end : End) → m ≡ end_total end d (take i terms) x v → n ≡ end_share end d x v t → m +ℤ n ≡ end_total end d (take (i + 1) terms) x v
+      by_end Least e f = least_more d terms x v i t m n lt at e f
+      by_end Greatest e f = greatest_more d terms x v i t m n lt at e f
+
+  pub end_end : (i : ℕ) (n : ℤ) → i ≤ MOST_SCOPE → length terms ≤ i → i ≤ length terms → IsEndTo end d terms x v i n → IsEnd end d terms x v (to_z w64 (of_z w64 n))
+  end_end i n few past upto is = record {
+    is = round_sum i n few is.small ∙ is.is ∙ ap (λ (ts : List Term). end_total end d ts x v) (take_all i terms past);
+    filled = All-from_all_within (IsFilledBeside d x) terms (subst (λ k. AllWithin (IsFilledBeside d x) terms 0 k) (omega arith) is.filled);
+  }
 
 -- ---- the pairs so far
 

@@ -1,6 +1,6 @@
 -- The constraint of a sum: what it can be at least and at most where one variable has its value, and the removed values
 -- beyond the present ones.
-use Rattle.std.specs.Prelude.{◌≡◌, ℕ, ℤ, ◌*ℤ◌, ◌<◌, ◌<ℤ◌, ◌≤ℤ◌, Bool, List, All, length, nat_eq, int_lt, if◌then◌else◌}
+use Rattle.std.specs.Prelude.{◌≡◌, ℕ, ℤ, ◌*ℤ◌, ◌<◌, ◌<ℤ◌, ◌≤ℤ◌, ◌⊎◌, Bool, List, All, length, nat_eq, int_lt, if◌then◌else◌}
 use Rattle.palm_base.specs.declared.terms.Pair.{Pair}
 use Rattle.palm_model.specs.Limits.{IsUpTo}
 use Rattle.palm_model.specs.Domains.{Domains, values_of}
@@ -11,6 +11,8 @@ use Rattle.palm_model.specs.declared.constraint.Con.TheVariants.{Linear}
 use Rattle.palm_model.specs.declared.constraint.Op.{Op}
 use Rattle.palm_model.specs.declared.constraint.Op.TheVariants.{Eq, Ne, Lt, Le, Gt, Ge}
 use Rattle.palm_model.specs.declared.constraint.Term.{Term}
+use Rattle.filter_linear.specs.declared.end.End.{End}
+use Rattle.filter_linear.specs.declared.end.End.TheVariants.{Least, Greatest}
 use Rattle.filter_linear.specs.declared.reasons.Side.{Side}
 use Rattle.filter_linear.specs.declared.reasons.Side.TheVariants.{Below, Above}
 use Rattle.filter_linear.specs.declared.span.Span.{Span}
@@ -67,6 +69,54 @@ IsMetWithin Lt bound s = s.least <ℤ bound
 IsMetWithin Le bound s = s.least ≤ℤ bound
 IsMetWithin Gt bound s = bound <ℤ s.greatest
 IsMetWithin Ge bound s = bound ≤ℤ s.greatest
+
+-- ---- one end of what a sum can be
+
+-- the end of the numbers
+abbrev pub end_of : End → List ℤ → ℤ
+end_of Least ns = least_of ns
+end_of Greatest ns = greatest_of ns
+
+-- the end of what a term can be where x has the value v
+abbrev pub end_share : End → Domains → ℕ → ℤ → Term → ℤ
+end_share Least d x v t = least_share d x v t
+end_share Greatest d x v t = greatest_share d x v t
+
+-- the end of what the sum can be where x has the value v
+abbrev pub end_total : End → Domains → List Term → ℕ → ℤ → ℤ
+end_total Least d terms x v = least_total d terms x v
+end_total Greatest d terms x v = greatest_total d terms x v
+
+-- the end of what the term can be, and its variable has some value
+pub record IsTermEnd (end : End) (d : Domains) (t : Term) (n : ℤ) : Type 0 where
+  pub is : n ≡ end_of end (products d t)
+  pub filled : 0 < length (values_of d t.var)
+  pub small : IsProduct n
+
+-- the end of what the term can be where x has the value v, and its variable is x or has some value
+pub record IsShareEnd (end : End) (d : Domains) (x : ℕ) (v : ℤ) (t : Term) (n : ℤ) : Type 0 where
+  pub is : n ≡ end_share end d x v t
+  pub filled : IsFilledBeside d x t
+  pub small : IsProduct n
+
+-- the end of what the sum can be where x has the value v, and every other variable has some value
+pub record IsEnd (end : End) (d : Domains) (terms : List Term) (x : ℕ) (v : ℤ) (n : ℤ) : Type 0 where
+  pub is : n ≡ end_total end d terms x v
+  pub filled : All (IsFilledBeside d x) terms
+
+-- the relation looks at this end alone
+abbrev pub IsMetAt : Op → End → Type 0
+IsMetAt op Least = (op ≡ Lt) ⊎ (op ≡ Le)
+IsMetAt op Greatest = (op ≡ Gt) ⊎ (op ≡ Ge)
+
+-- all that the sum can be where x has the value v
+abbrev pub span_of : Domains → List Term → ℕ → ℤ → Span
+span_of d terms x v = record { least = least_total d terms x v; greatest = greatest_total d terms x v }
+
+-- every other variable than x has some value, and the sum can stand in the relation to the bound where x has the value v
+pub record CanBeMet (d : Domains) (rule : LinearRule) (x : ℕ) (v : ℤ) : Type 0 where
+  pub filled : All (IsFilledBeside d x) rule.terms
+  pub met : IsMetWithin rule.op rule.bound (span_of d rule.terms x v)
 
 -- ---- removed values beyond the present ones
 

@@ -5,7 +5,6 @@ ghost use Rattle.palm_model.specs.Constraint.{IsWellFormed};
 
 use crate::reasons::push_reason;
 use crate::rule::LinearRule;
-use crate::span::Span;
 use palm_base::{NoMemory, Pair, VarList};
 use palm_domain::DomainStore;
 use palm_filter::{Filter, Reasons, whole_or_none};
@@ -75,10 +74,7 @@ impl Filter for LinearFilter {
     }
 
     fn supported(&self, store: &DomainStore, pair: Pair) -> bool {
-        match Span::of_sum(self.rule.terms.as_slice(), store, &pair) {
-            Some(span) => self.rule.is_met_within(&span),
-            None => false,
-        }
+        self.rule.is_met(store, &pair)
     }
 
     fn reason(&self, store: &DomainStore, pair: Pair, out: &mut Reasons) -> Result<(), NoMemory> {

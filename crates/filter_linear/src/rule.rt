@@ -1,6 +1,6 @@
 //! The sum that is filtered, and the side on which it fails.
 ghost use Rattle.std.specs.Prelude.{◌≡◌, length, int_lt, if◌then◌else◌};
-ghost use Rattle.filter_linear.specs.Linear.{IsMetWithin, linear_of};
+ghost use Rattle.filter_linear.specs.Linear.{CanBeMet, IsMetAt, IsMetWithin, linear_of};
 ghost use Rattle.filter_linear.specs.declared.reasons.Side.TheVariants.{Below, Above};
 ghost use Rattle.palm_base.specs.Tells.{Tells};
 ghost use Rattle.palm_domain.specs.Rows.{present_of};
@@ -8,11 +8,12 @@ ghost use Rattle.palm_model.specs.Constraint.{IsWellFormed};
 ghost use Rattle.palm_model.specs.Linear.{term_vars, least_total};
 ghost use Rattle.palm_model.specs.Reason.{AreFilled};
 
+use crate::end::End;
 use crate::reasons::Side;
 use crate::span::Span;
 use palm_base::Pair;
 use palm_domain::DomainStore;
-use palm_model::{Op, TermList};
+use palm_model::{Op, TermList, stands};
 
 /// The sum of the terms stands in the relation to the bound.
 #[derive(Debug, Drop)]
@@ -23,8 +24,48 @@ pub struct LinearRule {
 }
 
 impl LinearRule {
+    /// Whether every other variable than that of the pair has a value, and the sum can stand in the relation to the
+    /// bound where that has its own.
+    pub(crate) fn is_met(&self, store: &DomainStore, pair: &Pair) -> bool
+        requires { IsWellFormed (length store.now) (linear_of self.now) }
+        ensures { Tells result (CanBeMet (present_of store.now) self.now pair.now.var pair.now.value) }
+    {
+        match self.op {
+            Op::Eq => self.is_met_between_ends(store, pair),
+            Op::Ne => self.is_met_between_ends(store, pair),
+            Op::Lt => self.is_met_at(End::Least, store, pair),
+            Op::Le => self.is_met_at(End::Least, store, pair),
+            Op::Gt => self.is_met_at(End::Greatest, store, pair),
+            Op::Ge => self.is_met_at(End::Greatest, store, pair),
+        }
+    }
+
+    /// The same, by both ends of what the sum can be.
+    fn is_met_between_ends(&self, store: &DomainStore, pair: &Pair) -> bool
+        requires { IsWellFormed (length store.now) (linear_of self.now) }
+        ensures { Tells result (CanBeMet (present_of store.now) self.now pair.now.var pair.now.value) }
+    {
+        match Span::of_sum(self.terms.as_slice(), store, pair) {
+            Some(span) => self.is_met_within(&span),
+            None => false,
+        }
+    }
+
+    /// The same, by the one end of what the sum can be that the relation looks at.
+    #[inline(always)]
+    fn is_met_at(&self, end: End, store: &DomainStore, pair: &Pair) -> bool
+        requires formed { IsWellFormed (length store.now) (linear_of self.now) }
+        requires one { IsMetAt self.now.op end }
+        ensures { Tells result (CanBeMet (present_of store.now) self.now pair.now.var pair.now.value) }
+    {
+        match end.of_sum(self.terms.as_slice(), store, pair) {
+            Some(sum) => stands(self.op, sum, self.bound),
+            None => false,
+        }
+    }
+
     /// Whether a sum within the span can stand in the relation to the bound.
-    pub(crate) fn is_met_within(&self, span: &Span) -> bool
+    fn is_met_within(&self, span: &Span) -> bool
         ensures { Tells result (IsMetWithin self.now.op self.now.bound span.now) }
     {
         match self.op {
