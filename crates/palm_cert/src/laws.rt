@@ -4,7 +4,7 @@ ghost use Rattle.palm_base.specs.declared.terms.Pair.{Pair};
 ghost use Rattle.palm_base.specs.declared.terms.Cid.TheVariants.{User};
 ghost use Rattle.palm_book.specs.declared.book.BookCon.{BookCon};
 ghost use Rattle.palm_book.specs.Book.{Contents, IsBook, active_of, initial_of, user_name};
-ghost use Rattle.palm_cert.specs.Certificate.{certificate_text, cited, claimed, is_cited, numbers_of, pairs_with, steps_of};
+ghost use Rattle.palm_cert.specs.Certificate.{certificate_text, claimed, is_cited, numbers_of, pairs_with, steps_of};
 ghost use Rattle.palm_claim.specs.Lines.{lines_of};
 ghost use Rattle.palm_lang.specs.Reply.{ended};
 ghost use Rattle.palm_read.specs.Bytes.{is_plain};
