@@ -1,6 +1,6 @@
 //! Names of constraints by rising name, each once.
 ghost use Rattle.std.specs.Prelude.{◌≡◌, [], ◌∷◌, true, IfSome, OnOk, Some, slice_get};
-ghost use Rattle.palm_model.specs.Log.{Rises};
+ghost use Rattle.palm_model.specs.Log.{Rises, cid_before};
 ghost use Rattle.palm_explain.specs.Merging.{IsMerged};
 
 use palm_base::{Cid, NoMemory};
@@ -13,12 +13,22 @@ pub(crate) fn stands_at(names: &[Cid], place: usize, cid: &Cid) -> bool
     place < names.len() && names[place] == *cid
 }
 
+/// Whether the first name comes before the second. Most names are of users.
+fn is_before(first: &Cid, second: &Cid) -> bool
+    ensures { result ≡ cid_before first.now second.now }
+{
+    match (first, second) {
+        (Cid::User(first), Cid::User(second)) => first < second,
+        _ => first < second,
+    }
+}
+
 /// The place of the name, where it stands at the place or behind it.
 fn place_from(names: &[Cid], from: usize, cid: &Cid) -> Option<usize>
     ensures { IfSome result (λ place. slice_get names.now place ≡ Some cid.now) }
 {
     let mut place = from;
-    while place < names.len() && names[place] < *cid {
+    while place < names.len() && is_before(&names[place], cid) {
         place += 1;
     }
     if stands_at(names, place, cid) {

@@ -1,5 +1,6 @@
 //! The log of removals, with what each of them rests on.
-ghost use Rattle.std.specs.Prelude.{◌≡◌, ◌↔◌, ℕ, ℤ, ◌<◌, Some, [], ◌∷◌, ◌++◌, length, slice_get, Contains, MatchOption, OnOk, OnErr};
+ghost use Rattle.std.specs.Prelude.{◌≡◌, ◌↔◌, ℕ, ℤ, ◌<◌, ◌≤◌, Some, [], ◌∷◌, ◌++◌, length, slice_get, Contains, MatchOption, OnOk, OnErr};
+ghost use Rattle.indexmap.specs.IndexSet.{spare};
 ghost use Rattle.palm_base.specs.Tells.{Tells};
 ghost use Rattle.palm_domain.specs.Rows.{initial_of};
 ghost use Rattle.palm_model.specs.Constraint.{Distinct};
@@ -48,6 +49,16 @@ impl Model for ExplainStore {
     ghost view = { λ s. record { log = log_of (graph_of s.nodes) s.log.items; restored = s.restored.keys } };
 
     ghost invariant = { λ s. IsWhole s.nodes s.log.items s.rows.items (spare s.restored) s.threads };
+}
+
+/// Empties a set. One that is empty already is not cleared again, which would pass over all its room.
+fn empty_out(vars: &mut IndexSet<Var>)
+    ensures empty { vars.new.keys ≡ [] }
+    ensures room { spare vars.old ≤ spare vars.new }
+{
+    if !vars.is_empty() {
+        vars.clear();
+    }
 }
 
 impl ExplainStore {
@@ -201,7 +212,7 @@ impl ExplainStore {
         ensures once { Distinct self.new.restored }
         ensures restored { (x : ℕ) → Contains self.new.restored x ↔ Contains (vars_of (lost_pairs self.old.log self.new.log)) x }
     {
-        self.restored.clear();
+        empty_out(&mut self.restored);
         let log = self.log.as_slice();
         let own = self.threads.take(&cid);
         let first = own.first().copied().unwrap_or(0);

@@ -87,13 +87,13 @@ returns-clause-lacks c =
     c.args.store.now c.put_back-start.new.store (rw (← c.self.view_is) at c.requires.lacks) (rw c.as_slice-log.ensures.value at c.put_back-start.ensures.back) c.put_back-start.ensures.ascend.1 c.put_back-start.ensures.ascend.0
 
 pub returns-clause-once : goal.returns-clause-once
-returns-clause-once c = c.put_back-start.ensures.once (subst Distinct (sym c.clear.ensures.empty) tt)
+returns-clause-once c = c.put_back-start.ensures.once (subst Distinct (sym c.empty_out.ensures.empty) tt)
 
 pub returns-clause-restored : goal.returns-clause-restored
 returns-clause-restored c x =
     let vars = vars_of (lost_of (graph_of c.mark_lost-count.new.nodes) (marks_of c.mark_lost-count.new.nodes) c.self.inside.log.items) in
     let noted : (Contains c.put_back-start.new.restored.keys x → Contains [] x ⊎ Contains vars x) × (Contains [] x ⊎ Contains vars x → Contains c.put_back-start.new.restored.keys x) =
-    rw (c.as_slice-log.ensures.value, c.clear.ensures.empty) at (c.put_back-start.ensures.noted x) in
+    rw (c.as_slice-log.ensures.value, c.empty_out.ensures.empty) at (c.put_back-start.ensures.noted x) in
     let keys = c.put_back-start.new.restored.keys in
     let is = c.deref-2.ensures.value ∙ c.take-own.ensures.taken in
     let told =
