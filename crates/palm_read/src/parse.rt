@@ -1,5 +1,5 @@
 //! Reading a line.
-ghost use Rattle.std.specs.Prelude.{◌≡◌, ◌⊎◌, IfOk, All, true};
+ghost use Rattle.std.specs.Prelude.{◌≡◌, ◌⊎◌, Ok, Err, IfOk, IfErr, OnOk, All, true};
 ghost use Rattle.palm_base.specs.Tells.{Tells};
 ghost use Rattle.palm_read.specs.declared.parse.LineError.TheVariants as LineError;
 ghost use Rattle.palm_read.specs.Bytes.{after_blanks, is_note, is_plain};
@@ -123,14 +123,23 @@ fn read_form(alloc: Global, bytes: &[u8]) -> Result<Line, LineError>
 fn within_limits(alloc: Global, line: Line) -> Result<Line, LineError>
     ensures { IsKept line result }
 {
-    if !is_in_range(&line) {
+    check_limits(alloc, &line)?;
+    Ok(line)
+}
+
+/// Refuses the line for the first limit that it breaks.
+fn check_limits(alloc: Global, line: &Line) -> Result<(), LineError>
+    ensures kept { OnOk result (IsKept line.now (Ok line.now)) }
+    ensures refused { IfErr result (λ error. IsKept line.now (Err error)) }
+{
+    if !is_in_range(line) {
         return Err(LineError::Range);
     }
-    if lacks_something(&line) {
+    if lacks_something(line) {
         return Err(LineError::Empty);
     }
-    if repeats_name(alloc, &line)? {
+    if repeats_name(alloc, line)? {
         return Err(LineError::Repeated);
     }
-    Ok(line)
+    Ok(())
 }
