@@ -5,4 +5,3 @@ pub mod Flagged
 pub mod Marking
 pub mod Rows
 pub mod Keeping
-pub mod Samples

@@ -8,8 +8,6 @@ mod flags;
 mod names;
 mod order;
 mod over;
-#[cfg(test)]
-mod tests;
 
 pub use agenda::Agenda;
 pub use names::likely_place;

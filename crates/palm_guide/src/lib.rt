@@ -6,8 +6,6 @@ mod guide;
 mod laws;
 mod preference;
 mod stock;
-#[cfg(test)]
-mod tests;
 
 pub use guide::{Guide, ViewRow};
 pub use laws::stock_guides_answer_once;

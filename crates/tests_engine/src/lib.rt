@@ -1,6 +1,8 @@
-//! Tests of the engine, of its log and of its orders, over public calls.
+//! Tests of the engine, of its log, of its agenda and of its orders, over public calls.
 #![tactic(auto)]
 
+#[cfg(test)]
+mod agendas;
 #[cfg(test)]
 mod calls;
 #[cfg(test)]

@@ -13,3 +13,5 @@ mod problems;
 mod repair;
 #[cfg(test)]
 mod searches;
+#[cfg(test)]
+mod stock;

@@ -4,8 +4,8 @@ use Rattle.palm_agenda.specs.Places.{mark_places}
 use Rattle.palm_agenda.specs.declared.connection.Places.TheVariants.{Own, Others}
 use Rattle.palm_agenda.proofs.Connecting.{place_connected}
 use Rattle.palm_agenda.proofs.Keeping.{keeps_at, keeps_places, keeps_unmarked}
-use Rattle.palm_agenda.proofs.Samples.{sample_first, sample_kept}
-use Rattle.palm_agenda.proofs.tests.marks_follow_what_woke.Goals as goal
+use Rattle.tests_engine.proofs.TwoConnected.{sample_first, sample_kept}
+use Rattle.tests_engine.proofs.agendas.marks_follow_what_woke.Goals as goal
 
 pub unmark-requires : goal.unmark-requires
 unmark-requires g c =

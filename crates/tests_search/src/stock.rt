@@ -1,6 +1,6 @@
 //! Each stock guide once, through the box that a search is handed.
-use crate::{FirstGuide, Guide, MostConflicts, SmallestGuide, ViewRow};
 use palm_base::{Pair, Value, Var};
+use palm_guide::{FirstGuide, Guide, MostConflicts, SmallestGuide, ViewRow};
 use std::test::Fail;
 
 fn row(var: u32, count: u32, least: i32, greatest: i32) -> ViewRow {

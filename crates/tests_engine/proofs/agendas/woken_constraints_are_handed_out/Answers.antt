@@ -3,8 +3,8 @@ use Rattle.palm_agenda.specs.Agenda.{IsConnected}
 use Rattle.palm_agenda.specs.Places.{mark_places}
 use Rattle.palm_agenda.specs.declared.connection.Places.TheVariants.{Others}
 use Rattle.palm_agenda.proofs.Keeping.{keeps_places}
-use Rattle.palm_agenda.proofs.Samples.{sample_first, sample_kept, sample_same}
-use Rattle.palm_agenda.proofs.tests.woken_constraints_are_handed_out.Goals as goal
+use Rattle.tests_engine.proofs.TwoConnected.{sample_first, sample_kept, sample_same}
+use Rattle.tests_engine.proofs.agendas.woken_constraints_are_handed_out.Goals as goal
 
 pub wake_one-requires : goal.wake_one-requires
 wake_one-requires g c =

@@ -1,8 +1,8 @@
-//! Each call once, with ample memory.
+//! The agenda alone: what is woken is handed out, and marks follow what woke.
 ghost use Rattle.std.specs.Prelude.{◌≡◌, [], ◌∷◌, IfOk};
 ghost use Rattle.palm_agenda.specs.Agenda.{marked_whole};
 
-use crate::{Agenda, LastOrder, Order, RotateOrder};
+use palm_agenda::{Agenda, LastOrder, Order, RotateOrder};
 use palm_base::{Cid, NoMemory, Var};
 use std::alloc::Global;
 use std::test::Fail;
