@@ -45,14 +45,16 @@ impl<G: Guide, O: Order> Desk<G, O> {
     pub fn new(alloc: Global, guides: Vec<G>, orders: Vec<O>) -> Result<Desk<G, O>, NoMemory>
         ensures { IfOk result (λ d. d ≡ record { state = fresh (numbered (vec_len guides)) (numbered (vec_len orders)); checks = 0 }) }
     {
+        let guides = Objects::new(alloc, guides)?;
+        let orders = Objects::new(alloc, orders)?;
         Ok(Desk {
             alloc,
             book: Book::new(alloc),
             engine: Engine::new(alloc),
             accepted: 0,
             paused: false,
-            guides: Objects::new(alloc, guides)?,
-            orders: Objects::new(alloc, orders)?,
+            guides,
+            orders,
             search: Search::begin(alloc),
         })
     }
