@@ -45,10 +45,10 @@ fn run_counted<S: Source, K: Sink, G: Guide, O: Order, L: Ledger>(
         (streams (S.state source.old) (K.state sink.old)) (streams (S.state source.new) (K.state sink.new)) result }
 {
     let mut steps = Steps::<L>::start(blank);
-    let Ok(mut session) = Session::new(alloc, guides, orders) else {
+    let Ok(mut buffer) = vec![in alloc; 0u8; PIECE] else {
         return Status::NoMemory;
     };
-    let Ok(mut buffer) = vec![in alloc; 0u8; PIECE] else {
+    let Ok(mut session) = Session::new(alloc, guides, orders) else {
         return Status::NoMemory;
     };
     serve(&mut session, source, &mut buffer, sink, &mut steps)
