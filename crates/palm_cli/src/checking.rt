@@ -1,5 +1,7 @@
 //! The command `check`.
-ghost use Rattle.std.specs.Prelude.{◌≡◌, length, MatchResult};
+ghost use Rattle.std.specs.Prelude.{◌≡◌, List, ℕ, length, MatchResult};
+ghost use Rattle.palm_claim.specs.Claim.{IsOverItsBook};
+ghost use Rattle.palm_claim.specs.Verdict.{IsVerdict};
 ghost use Rattle.palm_cli.specs.Checking.{KeepsPiece, ReadsText, StopsReading, WritesVerdict};
 ghost use Rattle.palm_cli.specs.Commands.{Checks, streams};
 ghost use Rattle.palm_cli.specs.Verdicts.{verdict_status};
@@ -64,14 +66,22 @@ fn read_piece<S: Source>(
 fn tell<K: Sink>(alloc: Global, text: &[u8], sink: &mut K) -> Status
     ensures { WritesVerdict text.now (K.state sink.old) (K.state sink.new) result }
 {
-    let Ok(verdict) = palm_check::check(alloc, text) else {
-        return Status::NoMemory;
-    };
-    let Ok(line) = verdict_line(alloc, &verdict) else {
+    match palm_check::check(alloc, text) {
+        Ok(verdict) => tell_verdict(alloc, &verdict, sink),
+        Err(_) => Status::NoMemory,
+    }
+}
+
+/// Writes the line of a verdict, whatever the text that it is on.
+fn tell_verdict<K: Sink>(alloc: Global, verdict: &Verdict, sink: &mut K) -> Status
+    requires { IsOverItsBook verdict.now }
+    ensures { (text : List ℕ) → IsVerdict text verdict.now → WritesVerdict text (K.state sink.old) (K.state sink.new) result }
+{
+    let Ok(line) = verdict_line(alloc, verdict) else {
         return Status::NoMemory;
     };
     match write_all(sink, line.as_slice()) {
-        Ok(()) => status_of(&verdict),
+        Ok(()) => status_of(verdict),
         Err(Failed) => Status::WriteFault,
     }
 }
