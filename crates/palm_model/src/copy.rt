@@ -1,9 +1,9 @@
 //! Copies of constraints.
 ghost use Rattle.std.specs.Prelude.{◌≡◌, IfOk};
 
-use crate::constraint::{Con, RowList, Target, TermList};
-use crate::parts::copy_lists;
-use palm_base::{NoMemory, ValueList, VarList};
+use crate::constraint::{Con, Op, RowList, Target, TermList};
+use crate::parts::{copy_lists, same_target};
+use palm_base::{NoMemory, Value, ValueList, Var, VarList};
 use std::alloc::Global;
 
 /// A copy of the constraint.
@@ -27,46 +27,78 @@ pub fn copy_of(alloc: Global, con: &Con) -> Result<Con, NoMemory>
             op: *op,
             value: *value,
         }),
-        Con::Linear { terms, op, bound } => Ok(Con::Linear {
-            terms: TermList::from_slice(alloc, terms.as_slice())?,
-            op: *op,
-            bound: *bound,
-        }),
-        Con::Table { vars, rows } => Ok(Con::Table {
-            vars: VarList::from_slice(alloc, vars.as_slice())?,
-            rows: RowList::from_vec(copy_lists(alloc, rows.as_slice())?),
-        }),
+        Con::Linear { terms, op, bound } => copy_linear(alloc, terms, op, *bound),
+        Con::Table { vars, rows } => copy_table(alloc, vars, rows),
         Con::Element {
             outcome,
             index,
             entries,
-        } => Ok(Con::Element {
-            outcome: *outcome,
-            index: *index,
-            entries: ValueList::from_slice(alloc, entries.as_slice())?,
-        }),
+        } => copy_element(alloc, outcome, index, entries),
         Con::Count {
             value,
             vars,
             op,
             target,
-        } => Ok(Con::Count {
-            value: *value,
-            vars: VarList::from_slice(alloc, vars.as_slice())?,
-            op: *op,
-            target: copy_target(target),
-        }),
-        Con::Differ { vars } => Ok(Con::Differ {
-            vars: VarList::from_slice(alloc, vars.as_slice())?,
-        }),
+        } => copy_count(alloc, value, vars, op, target),
+        Con::Differ { vars } => copy_differ(alloc, vars),
     }
 }
 
-fn copy_target(target: &Target) -> Target
-    ensures { result ≡ target.now }
+fn copy_linear(alloc: Global, terms: &TermList, op: &Op, bound: i64) -> Result<Con, NoMemory>
+    ensures { IfOk result (λ copy. copy ≡ Con.Linear terms.now op.now bound) }
 {
-    match target {
-        Target::Const(value) => Target::Const(*value),
-        Target::Variable(var) => Target::Variable(*var),
-    }
+    Ok(Con::Linear {
+        terms: TermList::from_slice(alloc, terms.as_slice())?,
+        op: *op,
+        bound,
+    })
+}
+
+fn copy_table(alloc: Global, vars: &VarList, rows: &RowList) -> Result<Con, NoMemory>
+    ensures { IfOk result (λ copy. copy ≡ Con.Table vars.now rows.now) }
+{
+    Ok(Con::Table {
+        vars: VarList::from_slice(alloc, vars.as_slice())?,
+        rows: RowList::from_vec(copy_lists(alloc, rows.as_slice())?),
+    })
+}
+
+fn copy_element(
+    alloc: Global,
+    outcome: &Var,
+    index: &Var,
+    entries: &ValueList,
+) -> Result<Con, NoMemory>
+    ensures { IfOk result (λ copy. copy ≡ Con.Element outcome.now index.now entries.now) }
+{
+    Ok(Con::Element {
+        outcome: *outcome,
+        index: *index,
+        entries: ValueList::from_slice(alloc, entries.as_slice())?,
+    })
+}
+
+fn copy_count(
+    alloc: Global,
+    value: &Value,
+    vars: &VarList,
+    op: &Op,
+    target: &Target,
+) -> Result<Con, NoMemory>
+    ensures { IfOk result (λ copy. copy ≡ Con.Count value.now vars.now op.now target.now) }
+{
+    Ok(Con::Count {
+        value: *value,
+        vars: VarList::from_slice(alloc, vars.as_slice())?,
+        op: *op,
+        target: same_target(target),
+    })
+}
+
+fn copy_differ(alloc: Global, vars: &VarList) -> Result<Con, NoMemory>
+    ensures { IfOk result (λ copy. copy ≡ Con.Differ vars.now) }
+{
+    Ok(Con::Differ {
+        vars: VarList::from_slice(alloc, vars.as_slice())?,
+    })
 }

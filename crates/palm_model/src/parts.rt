@@ -182,7 +182,8 @@ fn push_count(
     })
 }
 
-fn same_target(target: &Target) -> Target
+/// A copy of the target.
+pub(crate) fn same_target(target: &Target) -> Target
     ensures { result ≡ target.now }
 {
     match target {
@@ -206,12 +207,18 @@ fn push_differ_with(list: &mut PartList, first: &Var, others: &[Var]) -> Result<
     ensures { OnOk result (list.new ≡ list.old ++ map (Part.Differ first.now) others.now) }
 {
     for other in others {
-        list.push(Part::Differ {
-            first: *first,
-            second: *other,
-        })?;
+        push_differ_part(list, first, other)?;
     }
     Ok(())
+}
+
+fn push_differ_part(list: &mut PartList, first: &Var, second: &Var) -> Result<(), NoMemory>
+    ensures { OnOk result (list.new ≡ list.old ++ Part.Differ first.now second.now ∷ []) }
+{
+    list.push(Part::Differ {
+        first: *first,
+        second: *second,
+    })
 }
 
 /// The variables of a part, in the order of its constraint's text.
