@@ -118,8 +118,10 @@ fn is_name(word: &[u8]) -> bool
 fn is_reserved(word: &[u8]) -> bool
     ensures { result ≡ is_reserved word.now }
 {
-    matches!(
-        word,
-        b"sum" | b"table" | b"element" | b"count" | b"differ" | b"in"
-    )
+    word == b"sum".as_slice()
+        || word == b"table".as_slice()
+        || word == b"element".as_slice()
+        || word == b"count".as_slice()
+        || word == b"differ".as_slice()
+        || word == b"in".as_slice()
 }
