@@ -2,7 +2,7 @@
 use Rattle.std.proofs.Common.{◌≡◌, ℕ, ◌<◌, Bool, true, false, Result, Ok, Err, OnErr, List, [], ◌∷◌, length, map, get_or, Some, None, Contains, slice_get, Option, MatchOption, sym, ap, ◌∙◌, subst}
 use Rattle.std.proofs.lemmas.List.{get_or_default, length-map}
 use Rattle.std.proofs.lemmas.Option.{slice_get-get_or, get_or_from_slice_get}
-use Rattle.slab.specs.Slab.{Slab, get}
+use Rattle.slab.specs.Slab.{ContainsKey, Slab, get}
 use Rattle.palm_base.specs.declared.terms.Pair.{Pair}
 use Rattle.palm_base.specs.declared.terms.Cid.{Cid}
 use Rattle.palm_base.specs.Tells.{Tells}
@@ -15,6 +15,7 @@ use Rattle.palm_explain.specs.Graph.{AreFound, Graph, IsGraph, IsKey, IsPlaced, 
 use Rattle.palm_explain.specs.Rows.{key_at}
 use Rattle.palm_explain.proofs.Graphs.{cause_key, map_place, pair_is, pair_key, removal_is, some_same}
 use Rattle.palm_explain.proofs.Naming.{listed_like}
+use Rattle.palm_explain.proofs.Writes.{key_there}
 
 -- how many removals there are
 pub log_length : (g : Graph) (keys : List ℕ) → length (log_of g keys) ≡ length keys
@@ -116,3 +117,9 @@ on_err (Err e) P p = p
 -- a node at a place, however the place is read
 pub node_read : (s : Slab Node) (keys : List ℕ) (place k : ℕ) (n : Node) → place < length keys → k ≡ get_or keys place k → get s k ≡ Some n → get s (get_or keys place 0) ≡ Some n
 node_read s keys place k n lt at found = subst (λ j. get s j ≡ Some n) (at ∙ get_or_default keys place k 0 lt) found
+
+-- a node stands under the key at a place, however the place is read
+pub node_stands : (s : Slab Node) (keys : List ℕ) (place k : ℕ) → IsPlaced (graph_of s) keys → place < length keys → k ≡ get_or keys place k → ContainsKey s k
+node_stands s keys place k placed lt at =
+    let l = placed.placed place k (slice_get-get_or keys place k lt ∙ ap Some (sym at)) in
+    key_there s k (l.0, l.1)

@@ -1,13 +1,17 @@
 //! How a removal is entered: first all memory, then the links in both directions.
-ghost use Rattle.std.specs.Prelude.{◌≡◌, ℕ, map, Contains, IfOk, OnOk};
+ghost use Rattle.std.specs.Prelude.{◌≡◌, ℕ, ◌+◌, ◌<◌, ◌≤◌, length, map, Contains, IfOk, OnOk, vec_capacity, vec_len};
+ghost use Rattle.indexmap.specs.IndexSet.{spare};
+ghost use Rattle.slab.specs.Slab.{HasRoomFor};
 ghost use Rattle.palm_base.specs.declared.terms.Pair.{Pair as PairTerm};
 ghost use Rattle.palm_explain.specs.Graph.{AreFound, Graph, HasLinked, IsKey, IsReadyAt, KeepsRoom, graph_of, marks_of, pair_at};
 ghost use Rattle.palm_explain.specs.Rows.{AreFormedRows};
 
+use crate::emptied::Emptied;
 use crate::node::{Nodes, add_dependent, reserve_dependent};
 use crate::rows::{Row, key_near};
-use palm_base::{NoMemory, Pair};
-use std::alloc::{AllocFailed, Global};
+use indexmap::IndexSet;
+use palm_base::{NoMemory, Pair, Var};
+use std::alloc::{AllocError, AllocFailed, Global};
 
 /// The keys of the reasons' removals.
 pub(crate) fn causes_of(
@@ -31,7 +35,7 @@ pub(crate) fn causes_of(
 }
 
 /// Makes room for one more dependent of each of the causes.
-pub(crate) fn reserve_links(nodes: &mut Nodes, causes: &[usize], key: usize) -> Result<(), NoMemory>
+fn reserve_links(nodes: &mut Nodes, causes: &[usize], key: usize) -> Result<(), NoMemory>
     requires { (k : ℕ) → Contains causes.now k → IsKey (graph_of nodes.old) k }
     ensures graph { graph_of nodes.new ≡ graph_of nodes.old }
     ensures marks { marks_of nodes.new ≡ marks_of nodes.old }
@@ -42,6 +46,37 @@ pub(crate) fn reserve_links(nodes: &mut Nodes, causes: &[usize], key: usize) -> 
         reserve_dependent(nodes, *cause, key)?;
     }
     Ok(())
+}
+
+/// Makes room for one more removal: in the log, among the nodes, and among the dependents of each of its causes. There is then
+/// also room for as many restored variables, and as many lists of dependents, as there are removals with it.
+#[inline(always)]
+pub(crate) fn make_room(
+    nodes: &mut Nodes,
+    log: &mut Vec<usize>,
+    restored: &mut IndexSet<Var>,
+    emptied: &mut Emptied,
+    causes: &[usize],
+    key: usize,
+) -> Result<(), NoMemory>
+    requires { (k : ℕ) → Contains causes.now k → IsKey (graph_of nodes.old) k }
+    ensures graph { graph_of nodes.new ≡ graph_of nodes.old }
+    ensures marks { marks_of nodes.new ≡ marks_of nodes.old }
+    ensures vacant_key { nodes.new.vacant_key ≡ nodes.old.vacant_key }
+    ensures log { log.new.items ≡ log.old.items }
+    ensures restored { restored.new.keys ≡ restored.old.keys }
+    ensures grows { spare restored.old ≤ spare restored.new }
+    ensures node { OnOk result (HasRoomFor nodes.new 1) }
+    ensures place { OnOk result (vec_len log.new < vec_capacity log.new) }
+    ensures variables { OnOk result (length log.new.items + 1 ≤ spare restored.new) }
+    ensures ready { OnOk result ((k : ℕ) → Contains causes.now k → IsReadyAt nodes.new key k) }
+{
+    let count = log.len() + 1;
+    emptied.make_room(count)?;
+    restored.reserve(count)?;
+    log.reserve(1)?;
+    nodes.reserve(1)?;
+    reserve_links(nodes, causes, key)
 }
 
 /// Makes the removal under the key a dependent of each of the causes.

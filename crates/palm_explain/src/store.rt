@@ -9,7 +9,7 @@ ghost use Rattle.palm_model.specs.Log.{IsListOf, Loses, NamesOfPair, log_pairs};
 ghost use Rattle.palm_explain.specs.Explanations.{IsLinked, LacksExactly, NamesOfSome, log_bys, reasons_of};
 
 use crate::emptied::Emptied;
-use crate::entering::{causes_of, link, reserve_links};
+use crate::entering::{causes_of, link, make_room};
 use crate::marking::mark_lost;
 use crate::node::{Node, Nodes};
 use crate::rows::{Row, key_of, put_key};
@@ -86,13 +86,16 @@ impl ExplainStore {
         let key = self.nodes.vacant_key();
         let place = self.log.len();
         put_key(&mut self.rows, &pair, key)?;
-        self.emptied.make_room(place + 1)?;
         let alloc = *self.log.allocator();
         let causes = causes_of(alloc, &self.nodes, &self.rows, reasons)?;
-        self.restored.reserve(place + 1)?;
-        self.log.reserve(1)?;
-        self.nodes.reserve(1)?;
-        reserve_links(&mut self.nodes, &causes, key)?;
+        make_room(
+            &mut self.nodes,
+            &mut self.log,
+            &mut self.restored,
+            &mut self.emptied,
+            &causes,
+            key,
+        )?;
         self.threads.push(&by, key)?;
         link(&mut self.nodes, &causes, key);
         self.nodes.insert_reserved(Node {

@@ -61,9 +61,9 @@ impl Threads {
         match self.names.binary_search(cid) {
             Ok(place) => Ok(place),
             Err(place) => {
-                let keys = Vec::new(*self.names.allocator());
                 self.threads.reserve(1)?;
                 self.names.insert(place, *cid)?;
+                let keys = Vec::new(*self.names.allocator());
                 self.threads.insert(place, Thread { keys }).unwrap();
                 Ok(place)
             }

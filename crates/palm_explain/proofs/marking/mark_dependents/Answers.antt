@@ -1,9 +1,21 @@
-use Rattle.std.proofs.Common.{◌≡◌, ◌∙◌, ◌<◌, get_or, length, sym, ap, subst, arith}
+use Rattle.std.proofs.Common.{◌≡◌, ◌∙◌, ◌<◌, get_or, length, refl, sym, ap, subst, arith}
 use Rattle.palm_explain.specs.Graph.{IsKey, graph_of, link_of, marks_of, said}
-use Rattle.palm_explain.proofs.Chains.{grown_then}
-use Rattle.palm_explain.proofs.Changes.{listed_all, listed_more}
+use Rattle.palm_explain.proofs.Chains.{grown_none, grown_then}
+use Rattle.palm_explain.proofs.Changes.{listed_all, listed_more, listed_none}
 use Rattle.palm_explain.proofs.Writes.{key_there, same_said}
 use Rattle.palm_explain.proofs.marking.mark_dependents.Goals as goal
+
+pub index-requires : goal.index-requires
+index-requires c = key_there c.args.nodes.now c.args.key c.requires.key
+
+pub loop-index-init : goal.loop-index-init
+loop-index-init c =
+    let n = c.index.result.now in record {
+      last = c.requires.last;
+      graph = refl;
+      marked = listed_none (λ l. l.dependents) (graph_of c.args.nodes.now) c.args.key (said n) (ap link_of c.index.ensures) (marks_of c.args.nodes.now);
+      grown = grown_none c.args.nodes.now c.args.last.now;
+    }
 
 pub index-requires-in-loop-index : goal.index-requires-in-loop-index
 index-requires-in-loop-index c = key_there c.loop-index.nodes c.args.key (subst (λ g. IsKey g c.args.key) (sym c.loop-index.invariant.graph) c.requires.key)

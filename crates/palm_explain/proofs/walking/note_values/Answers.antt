@@ -1,8 +1,9 @@
-use Rattle.std.proofs.Common.{◌≡◌, ◌∙◌, ◌+◌, ◌<◌, take, IsSome, inl, inr, refl, sym, ap, subst}
-use Rattle.palm_base.proofs.Members.{member_take_more}
-use Rattle.palm_explain.specs.Graph.{IsKey, IsValueKey, graph_of, is_due, pair_at}
+use Rattle.std.proofs.Common.{◌≡◌, ◌∙◌, ◌+◌, ◌<◌, take, [], IsSome, inl, inr, refl, sym, ap, subst}
+use Rattle.std.proofs.lemmas.List.{take_all}
+use Rattle.palm_base.proofs.Members.{member_nil, member_take_more}
+use Rattle.palm_explain.specs.Graph.{HasMarked, IsKey, IsValueKey, graph_of, is_due, pair_at}
 use Rattle.palm_explain.specs.Rows.{key_at}
-use Rattle.palm_explain.proofs.Changes.{marked_one, marked_then, more_last, more_left}
+use Rattle.palm_explain.proofs.Changes.{marked_none, marked_one, marked_then, more_last, more_left}
 use Rattle.palm_explain.proofs.Graphs.{pair_is, some_same}
 use Rattle.palm_explain.proofs.walking.note_values.Goals as goal
 
@@ -20,6 +21,12 @@ set_due-requires c =
     let found = ap (key_at c.args.rows.now) (sym r.2 ∙ pair_is (graph_of c.args.nodes.now) r.0 r.1.0 r.1.1) ∙ c.requires.found r.0 r.1.0 r.1.1 in
     let same = some_same r.0 c.unwrap-key.result (sym (c.key_near.ensures ∙ found) ∙ c.unwrap-key.ensures) in
     subst (λ n. c.unwrap-key.result < n) (sym c.loop-value.invariant.long) (c.requires.long c.unwrap-key.result (subst (IsKey (graph_of c.args.nodes.now)) same r.1))
+
+pub loop-value-init : goal.loop-value-init
+loop-value-init c = record {
+  long = refl;
+  noted = marked_none (is_due c.args.due.now.items) (IsValueKey (graph_of c.args.nodes.now) c.args.var []) (λ k p. member_nil p.0 p.1);
+}
 
 pub loop-value-preserved : goal.loop-value-preserved
 loop-value-preserved c =
@@ -45,3 +52,8 @@ loop-value-preserved c =
           ])
           c.loop-value.invariant.noted (marked_one middle new key c.set_due.ensures.set c.set_due.ensures.others);
     }
+
+pub returns-clause-noted : goal.returns-clause-noted
+returns-clause-noted c =
+    subst (λ values. HasMarked (is_due c.args.due.now.items) (is_due c.loop-value.due.items) (IsValueKey (graph_of c.args.nodes.now) c.args.var values))
+    (take_all c.loop-value.value-index c.args.values.now c.loop-value-test.false) c.loop-value.invariant.noted

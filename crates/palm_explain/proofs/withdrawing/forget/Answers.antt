@@ -1,8 +1,20 @@
-use Rattle.std.proofs.Common.{◌≡◌, ◌∙◌, ◌+◌, ◌<◌, ◌≤◌, ℕ, false, get_or, length, inl, inr, sym, ap, arith}
+use Rattle.std.proofs.Common.{◌≡◌, ◌∙◌, ◌+◌, ◌<◌, ◌≤◌, ℕ, false, get_or, length, inl, inr, refl, sym, ap, arith}
 use Rattle.palm_explain.specs.Graph.{IsAmongFirst, IsCause, graph_of, link_of, marks_of, said}
-use Rattle.palm_explain.proofs.Changes.{all_first, first_all, first_cases, first_last, first_left, forgotten_key, forgotten_like, forgotten_once, forgotten_then}
-use Rattle.palm_explain.proofs.Writes.{forgotten_causes}
+use Rattle.palm_explain.proofs.Changes.{all_first, first_all, first_cases, first_last, first_left, first_none, forgotten_key, forgotten_like, forgotten_none, forgotten_once, forgotten_then}
+use Rattle.palm_explain.proofs.Writes.{forgotten_causes, key_there}
 use Rattle.palm_explain.proofs.withdrawing.forget.Goals as goal
+
+pub index-requires : goal.index-requires
+index-requires c = key_there c.args.nodes.now c.args.key c.requires.key
+
+pub loop-index-init : goal.loop-index-init
+loop-index-init c =
+    let s = c.args.nodes.now in
+    let n = c.index.result.now in record {
+      forgotten = forgotten_none (graph_of s) (λ k d. (c.args.key ≡ d) × (marks_of s k ≡ false) × IsAmongFirst 0 (λ l. l.causes) (graph_of s) c.args.key k)
+          (λ k d gone. first_none (λ l. l.causes) (graph_of s) c.args.key (said n) (ap link_of c.index.ensures) k gone.2);
+      marks = refl;
+    }
 
 pub forget_dependent-requires-clause-key : goal.forget_dependent-requires-clause-key
 forget_dependent-requires-clause-key c =

@@ -2,8 +2,23 @@ use Rattle.std.proofs.Common.{◌≡◌, ◌<◌, Some, length, slice_get, subst
 use Rattle.palm_model.specs.Log.{log_pairs}
 use Rattle.palm_explain.specs.Explanations.{Explanations}
 use Rattle.palm_explain.specs.Graph.{graph_of}
-use Rattle.palm_explain.proofs.Reading.{log_length, node_read, read_pair}
+use Rattle.palm_explain.proofs.Reading.{log_length, node_read, node_stands, read_pair}
 use Rattle.palm_explain.proofs.store.ExplainStore.pair_at.Goals as goal
+
+pub index-requires : goal.index-requires
+index-requires c =
+    let within = rw (← c.self.view_is) at c.requires in
+    let long = log_length (graph_of c.self.inside.nodes) c.self.inside.log.items in
+    omega (arith, within, long, c.self.inside.log.ok.0)
+
+pub index-requires-2 : goal.index-requires-2
+index-requires-2 c =
+    let s = c.self.inside.nodes in
+    let keys = c.self.inside.log.items in
+    let within = rw (← c.self.view_is) at c.requires in
+    let long = log_length (graph_of s) keys in
+    let lt : c.args.place < length keys = omega (arith, within, long) in
+    node_stands s keys c.args.place c.index.result.now c.self.invariant.kept.graph.places lt c.index.ensures
 
 pub returns : goal.returns
 returns c =

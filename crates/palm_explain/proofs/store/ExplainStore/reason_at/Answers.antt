@@ -3,9 +3,24 @@ use Rattle.std.proofs.lemmas.List.{get_or_default}
 use Rattle.slab.specs.Slab.{ContainsKey, get}
 use Rattle.palm_explain.specs.Explanations.{Explanations, reasons_of}
 use Rattle.palm_explain.specs.Graph.{graph_of}
-use Rattle.palm_explain.proofs.Reading.{log_length, node_read, read_cause, read_count, read_reason}
+use Rattle.palm_explain.proofs.Reading.{log_length, node_read, node_stands, read_cause, read_count, read_reason}
 use Rattle.palm_explain.proofs.Writes.{key_there}
 use Rattle.palm_explain.proofs.store.ExplainStore.reason_at.Goals as goal
+
+pub index-requires : goal.index-requires
+index-requires c =
+    let within = rw (← c.self.view_is) at c.requires.place in
+    let long = log_length (graph_of c.self.inside.nodes) c.self.inside.log.items in
+    omega (arith, within, long, c.self.inside.log.ok.0)
+
+pub index-requires-2 : goal.index-requires-2
+index-requires-2 c =
+    let s = c.self.inside.nodes in
+    let keys = c.self.inside.log.items in
+    let within = rw (← c.self.view_is) at c.requires.place in
+    let long = log_length (graph_of s) keys in
+    let lt : c.args.place < length keys = omega (arith, within, long) in
+    node_stands s keys c.args.place c.index.result.now c.self.invariant.kept.graph.places lt c.index.ensures
 
 pub index-cause-requires : goal.index-cause-requires
 index-cause-requires c =
