@@ -6,7 +6,7 @@ ghost use Rattle.palm_model.specs.Log.{Rises, cid_before};
 ghost use Rattle.palm_model.specs.State.{without_cid};
 ghost use Rattle.palm_agenda.specs.Agenda.{Connected, HasPlace, IsConnected, IsFormed, IsMarked, IsOver, Takes, changed_among, changed_at, index_within, marked_whole, mark_others, mark_own, names_of, unmarked, with_connected, without_connected};
 ghost use Rattle.palm_agenda.specs.Flags.{flagged};
-ghost use Rattle.palm_agenda.specs.Names.{IsPartedAt};
+ghost use Rattle.palm_agenda.specs.Names.{HasSpace, IsPartedAt, names_at};
 ghost use Rattle.palm_agenda.specs.Places.{mark_places};
 
 use crate::connection::{Connection, Places};
@@ -158,6 +158,29 @@ fn unmark_named(connections: &mut Vec<Connection>, near: usize, cid: &Cid, place
     connection.unmark(place);
 }
 
+/// Makes room for one more constraint over the scope: for its name over each variable, for its flag, and for so many names
+/// among those that an order is shown.
+fn make_room_for(
+    over: &mut Vec<Names>,
+    pending: &mut Flags,
+    shown: &mut Vec<Cid>,
+    scope: &[Var],
+    count: usize,
+) -> Result<(), NoMemory>
+    ensures names { (x : ℕ) → names_at over.new.items x ≡ names_at over.old.items x }
+    ensures flags { pending.new.flags ≡ pending.old.flags }
+    ensures grows { vec_capacity shown.old ≤ vec_capacity shown.new }
+    ensures space { OnOk result ((x : ℕ) → Contains scope.now x → HasSpace over.new.items x) }
+    ensures room { OnOk result (length pending.new.flags < pending.new.room) }
+    ensures shown { OnOk result (count ≤ vec_capacity shown.new) }
+{
+    make_room(over, scope)?;
+    pending.reserve()?;
+    shown.clear();
+    shown.reserve(count)?;
+    Ok(())
+}
+
 /// Writes one more name, where there is room.
 fn show_one(shown: &mut Vec<Cid>, cid: &Cid)
     requires { length shown.old.items < vec_capacity shown.old }
@@ -222,13 +245,16 @@ impl Agenda {
         ensures formed { IsFormed self.new }
         ensures err { OnErr result (self.new ≡ self.old) }
     {
-        let alloc = *self.connections.allocator();
         let count = self.connections.len() + 1;
+        make_room_for(
+            &mut self.over,
+            &mut self.pending,
+            &mut self.shown,
+            scope,
+            count,
+        )?;
+        let alloc = *self.connections.allocator();
         let connection = Connection::new(alloc, copy_of(&cid), scope)?;
-        make_room(&mut self.over, scope)?;
-        self.pending.reserve()?;
-        self.shown.clear();
-        self.shown.reserve(count)?;
         let place = place_of(&self.connections, &cid);
         self.connections.insert(place, connection)?;
         self.pending.insert(place);
