@@ -10,7 +10,7 @@ use Rattle.palm_domain.specs.Rows.{initial_of, present_of, declared_values}
 use Rattle.palm_model.specs.Conflict.{InFlat, IsKeptConflict}
 use Rattle.palm_model.specs.Conflict.InFlat.{as_it_is, in_place}
 use Rattle.palm_model.specs.Domains.{Has}
-use Rattle.palm_model.specs.Log.{Active, IsListOf, NamesOfPair, Removal, Rises, cids_of, log_pairs}
+use Rattle.palm_model.specs.Log.{Active, IsListOf, Rises, cids_of, log_pairs}
 use Rattle.palm_model.specs.State.{IsEmptyAt, IsGround, present}
 use Rattle.palm_model.proofs.Without.{pair_of}
 use Rattle.palm_events.proofs.Agreeing.{gone_member}

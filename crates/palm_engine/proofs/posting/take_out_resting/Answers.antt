@@ -14,6 +14,14 @@ loop-posted-init g c =
     let front = subst (λ ys. IsPartedAt is_decision ys place) c.deref.ensures.value c.decisions_of-place.ensures in
     walk_starts c.args.filtering.now (actives_of meaning xs) c.args.cid.now place c.requires.rising c.requires.kept (front_stands meaning xs place front) (behind_decisions meaning xs place front)
 
+pub index-requires : goal.index-requires
+index-requires g c =
+    subst (λ n. c.loop-posted.place < n) (sym c.loop-posted.posted.ok.0)
+    (subst (λ zs. c.loop-posted.place < length zs) c.deref-in-loop-posted.ensures.value (c.stands_negation.ensures.within c.loop-posted-test.true))
+
+pub take_out-requires-clause-within : goal.take_out-requires-clause-within
+take_out-requires-clause-within g c = subst (λ zs. c.loop-posted.place < length zs) c.deref-in-loop-posted.ensures.value (c.stands_negation.ensures.within c.loop-posted-test.true)
+
 pub loop-posted-preserved-then-rests_on : goal.loop-posted-preserved-then-rests_on
 loop-posted-preserved-then-rests_on g c =
     let meaning = g.F.Filter.meaning in

@@ -1,9 +1,11 @@
 use Rattle.std.proofs.Common.{ℕ, ◌≤◌, List, length, sym, subst, ◌∙◌, arith}
 use Rattle.palm_domain.specs.Rows.{present_of}
 use Rattle.palm_model.specs.Constraint.{scope}
+use Rattle.palm_engine.specs.Kept.{IsEmptyKept}
 use Rattle.palm_engine.specs.Posted.{active_of}
 use Rattle.palm_engine.proofs.Progress.{on_err_of}
 use Rattle.palm_engine.proofs.Places.{places_start, places_more, places_done, places_emptied, places_stopped, places_counted, places_part_counted, kept_empty, place_at}
+use Rattle.palm_engine.proofs.Settles.{none_of}
 use Rattle.palm_engine.proofs.revise.revise.Goals as goal
 
 pub loop-place-init : goal.loop-place-init
@@ -28,6 +30,17 @@ pub revise_place-requires-clause-at : goal.revise_place-requires-clause-at
 revise_place-requires-clause-at g c =
     place_at c.scope.result.now (scope (active_of g.F.Filter.meaning c.args.constraint.now).con) c.scope-place-end.result.now c.loop-place.place c.index-scope-place.result
     c.scope.ensures.scope c.scope-place-end.ensures.scope c.loop-place-test.true c.index-scope-place.is
+
+pub revise_place-requires-clause-revising : goal.revise_place-requires-clause-revising
+revise_place-requires-clause-revising g c = let r = c.requires in (r.0, (c.loop-place.invariant r.0 r.1).revising)
+
+pub revise_place-requires-clause-filled : goal.revise_place-requires-clause-filled
+revise_place-requires-clause-filled g c =
+    let r = c.requires in
+    let w = c.loop-place.invariant r.0 r.1 in
+    let now = c.loop-place.filtering in
+    let kept = w.revising.kept in
+    subst (IsEmptyKept (present_of now.store)) (none_of now.empty (sym c.is_some.ensures ∙ c.if-is_some.false)) kept.empty
 
 pub returns-in_err-revise_place-clause-part : goal.returns-in_err-revise_place-clause-part
 returns-in_err-revise_place-clause-part g c = λ active r.
@@ -67,3 +80,6 @@ pub returns-clause-counted : goal.returns-clause-counted
 returns-clause-counted g c =
     let r = c.requires in
     places_counted r.0 (active_of g.F.Filter.meaning c.args.constraint.now) c.loop-place.place c.args.filtering.now c.loop-place.filtering c.args.steps.now c.loop-place.steps (c.loop-place.invariant r.0 r.1)
+
+pub returns-clause-revising : goal.returns-clause-revising
+returns-clause-revising g c = λ active r. (c.loop-place.invariant active r).revising

@@ -7,7 +7,7 @@ use Rattle.palm_engine.specs.Posted.{active_of}
 use Rattle.palm_engine.specs.Revising.{WalkedPart}
 use Rattle.palm_engine.proofs.Bounds.{left_from}
 use Rattle.palm_engine.proofs.Revised.{var_present, var_stored}
-use Rattle.palm_engine.proofs.Progress.{WalkedValues, values_start, values_more, values_done, values_supported, values_stopped, values_counted, values_fewer, on_err_of}
+use Rattle.palm_engine.proofs.Progress.{WalkedValues, values_start, values_more, values_done, values_supported, values_stopped, values_counted, values_fewer, values_filled, on_err_of}
 use Rattle.palm_engine.proofs.revise.revise_values.Goals as goal
 
 pub least-requires : goal.least-requires
@@ -18,6 +18,28 @@ least-requires g c =
 pub loop-next-init : goal.loop-next-init
 loop-next-init g c = λ active r.
     values_start active (active_of g.F.Filter.meaning c.args.constraint.now) c.args.var c.least.result c.args.filtering.now c.args.steps.now r c.requires.filled (record { member = c.least.ensures.member; least = c.least.ensures.least })
+
+pub examine-requires-clause-revising : goal.examine-requires-clause-revising
+examine-requires-clause-revising g c = let r = c.requires.revising in (r.0, (c.loop-next.invariant r.0 r.1).revising)
+
+pub examine-requires-clause-filled : goal.examine-requires-clause-filled
+examine-requires-clause-filled g c =
+    let r = c.requires.revising in
+    let owner = active_of g.F.Filter.meaning c.args.constraint.now in
+    let f = c.args.filtering.now in
+    let w = subst (λ n. WalkedValues r.0 owner c.args.var n f c.loop-next.filtering c.args.steps.now c.loop-next.steps) c.in-Some.is (c.loop-next.invariant r.0 r.1) in
+    values_filled r.0 owner c.args.var c.in-Some.value f c.loop-next.filtering c.args.steps.now c.loop-next.steps w
+
+pub examine-requires-clause-present : goal.examine-requires-clause-present
+examine-requires-clause-present g c =
+    let r = c.requires.revising in
+    let owner = active_of g.F.Filter.meaning c.args.constraint.now in
+    let f = c.args.filtering.now in
+    let w = subst (λ n. WalkedValues r.0 owner c.args.var n f c.loop-next.filtering c.args.steps.now c.loop-next.steps) c.in-Some.is (c.loop-next.invariant r.0 r.1) in
+    w.present
+
+pub returns-in_err-examine-clause-revising : goal.returns-in_err-examine-clause-revising
+returns-in_err-examine-clause-revising g c = λ active r. c.examine.ensures.revising active (c.loop-next.invariant active r).revising
 
 pub returns-in_err-examine-clause-part : goal.returns-in_err-examine-clause-part
 returns-in_err-examine-clause-part g c = λ active r.
@@ -74,3 +96,14 @@ returns-clause-supported g c =
     let f = c.args.filtering.now in
     values_supported r.0 owner c.args.var f c.loop-next.filtering c.args.steps.now c.loop-next.steps
     (subst (λ n. WalkedValues r.0 owner c.args.var n f c.loop-next.filtering c.args.steps.now c.loop-next.steps) c.in_default.is (c.loop-next.invariant r.0 r.1))
+
+pub returns-clause-revising : goal.returns-clause-revising
+returns-clause-revising g c = λ active r. (c.loop-next.invariant active r).revising
+
+pub returns-clause-counted : goal.returns-clause-counted
+returns-clause-counted g c =
+    let r = c.requires.revising in
+    let owner = active_of g.F.Filter.meaning c.args.constraint.now in
+    let f = c.args.filtering.now in
+    let w = subst (λ n. WalkedValues r.0 owner c.args.var n f c.loop-next.filtering c.args.steps.now c.loop-next.steps) c.in_default.is (c.loop-next.invariant r.0 r.1) in
+    w.counted

@@ -1,8 +1,14 @@
-use Rattle.std.proofs.Common.{sym, subst}
-use Rattle.palm_engine.specs.Kept.{IsEngine}
+use Rattle.std.proofs.Common.{◌≡◌, ◌∙◌, ℤ, List, [], ◌∷◌, ◌++◌, sym, ap, subst}
+use Rattle.std.proofs.lemmas.List.{map-append}
+use Rattle.palm_model.specs.Domains.{Ascends}
+use Rattle.palm_domain.specs.Rows.{Row, initial_of}
+use Rattle.palm_model.specs.Event.{Declares}
+use Rattle.palm_model.specs.Log.{Active}
+use Rattle.palm_engine.specs.Kept.{IsEngine, state_of}
 use Rattle.palm_engine.specs.Posted.{actives_of}
+use Rattle.palm_engine.specs.declared.filtering.Filtering.{Filtering}
 use Rattle.palm_engine.proofs.Keeping.{declared_engine}
-use Rattle.palm_engine.proofs.Results.{on_either}
+use Rattle.palm_engine.proofs.Results.{on_either, on_ok}
 use Rattle.palm_engine.proofs.engine.Engine.add_variable.Goals as goal
 
 pub invariant_of-self : goal.invariant_of-self
@@ -16,3 +22,18 @@ invariant_of-self g c =
 
 pub returns-clause-valid : goal.returns-clause-valid
 returns-clause-valid g c = (invariant_of-self g c).valid
+
+-- one more row declares one more variable
+declares : (f : Filtering) (store : List Row) (values : List ℤ) (active : List Active) → Ascends values → store ≡ f.store ++ record { initial = values; present = values } ∷ []
+    → Declares (state_of f active) values (state_of (record f { store = store }) active)
+declares f store values active ascends e =
+    let row : Row = record { initial = values; present = values } in
+    let initial : initial_of store ≡ initial_of f.store ++ values ∷ [] = ap initial_of e ∙ map-append (λ (r : Row). r.initial) f.store (row ∷ []) in
+    record { ascend = ascends; after = (λ i. record { initial = initial i; active = active; log = f.log.log; pending = f.agenda.pending }) }
+
+pub returns-clause-ok : goal.returns-clause-ok
+returns-clause-ok g c =
+    rw (← c.self.view_is)
+    (on_ok c.add_variable.result _ _
+    (λ e. declares c.self.inside.filtering c.add_variable.new.self c.args.values.now (actives_of g.F.Filter.meaning c.self.inside.posted.items) c.requires.ascend e)
+    c.add_variable.ensures.ok)
