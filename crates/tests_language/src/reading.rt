@@ -5,7 +5,7 @@ use std::alloc::Global;
 use std::test::Fail;
 
 /// A line of each form, as it is printed.
-const EVERY_FORM: [&str; 38] = [
+const EVERY_FORM: &[&str] = &[
     "var x 1..3",
     "var y {1,5}",
     "add a : x < y - 1",
@@ -46,28 +46,79 @@ const EVERY_FORM: [&str; 38] = [
     "quit",
 ];
 
+/// What bytes are read as.
+#[derive(Clone, Copy)]
+enum Reading {
+    Refused(LineError),
+    Comment,
+    /// Another line, within the limits of one line.
+    Within,
+    /// Another line, beyond them.
+    Beyond,
+}
+
+/// What the line is. It is printed to the end of the text.
+fn tell(line: &Line, out: &mut Vec<u8>) -> Result<Reading, NoMemory> {
+    print_line(line, out)?;
+    Ok(if matches!(line, Line::Comment) {
+        Reading::Comment
+    } else if beyond(line) {
+        Reading::Beyond
+    } else {
+        Reading::Within
+    })
+}
+
+/// What the bytes are read as; a line is printed to the end of the text. It alone owns a line, since each place that gives
+/// one up costs its proof.
+fn read(alloc: Global, bytes: &[u8], out: &mut Vec<u8>) -> Result<Reading, NoMemory> {
+    match parse_line(alloc, bytes) {
+        Ok(line) => tell(&line, out),
+        Err(cause) => Ok(Reading::Refused(cause)),
+    }
+}
+
+/// The same, where nobody asks what is printed.
+fn read_unprinted(alloc: Global, bytes: &[u8]) -> Result<Reading, NoMemory> {
+    let mut out = Vec::new(alloc);
+    read(alloc, bytes, &mut out)
+}
+
+/// Whether the text is read as a line that is printed so.
+fn is_printed(alloc: Global, text: &str, printed: &str) -> Result<bool, NoMemory> {
+    let mut out = Vec::new(alloc);
+    Ok(match read(alloc, text.as_bytes(), &mut out)? {
+        Reading::Refused(_) => false,
+        _ => out.as_slice() == printed.as_bytes(),
+    })
+}
+
 /// Whether the text is read as a line that is printed so, and the printed text reads back.
 fn reads_as(alloc: Global, text: &str, printed: &str) -> Result<bool, NoMemory> {
-    let mut out = Vec::new(alloc);
-    for source in [text, printed] {
-        match parse_line(alloc, source.as_bytes()) {
-            Ok(line) => print_line(&line, &mut out)?,
-            Err(_) => return Ok(false),
-        }
-        if out.as_slice() != printed.as_bytes() {
-            return Ok(false);
-        }
-        out.clear();
-    }
-    Ok(true)
+    Ok(is_printed(alloc, text, printed)? && is_printed(alloc, printed, printed)?)
 }
 
 /// Whether the bytes are refused so.
-fn is_refused(alloc: Global, bytes: &[u8], error: LineError) -> bool {
-    match parse_line(alloc, bytes) {
-        Ok(_) => false,
-        Err(cause) => cause == error,
-    }
+fn is_refused(alloc: Global, bytes: &[u8], error: LineError) -> Result<bool, NoMemory> {
+    Ok(match read_unprinted(alloc, bytes)? {
+        Reading::Refused(cause) => cause == error,
+        _ => false,
+    })
+}
+
+/// Whether the bytes are read as a comment.
+fn is_comment(alloc: Global, bytes: &[u8]) -> Result<bool, NoMemory> {
+    Ok(matches!(read_unprinted(alloc, bytes)?, Reading::Comment))
+}
+
+/// Whether the text is read, and is beyond the limits of one line.
+fn is_beyond(alloc: Global, text: &str) -> Result<bool, NoMemory> {
+    Ok(matches!(read_unprinted(alloc, text.as_bytes())?, Reading::Beyond))
+}
+
+/// Whether the text is read, and is within the limits of one line.
+fn is_within(alloc: Global, text: &str) -> Result<bool, NoMemory> {
+    Ok(matches!(read_unprinted(alloc, text.as_bytes())?, Reading::Within))
 }
 
 #[test]
@@ -78,126 +129,134 @@ fn every_form_is_read(rt: HostRuntime) -> Result<(), Fail> {
     Ok(())
 }
 
+/// Lines beside the texts that they are printed as.
+const WRITTEN_OTHERWISE: &[(&str, &str)] = &[
+    ("", ""),
+    (" \t", ""),
+    ("  # any text \u{e9}", ""),
+    ("\tlist ", "list"),
+    ("var y{5,1,5}", "var y {1,5}"),
+    ("var z { 3 }", "var z {3}"),
+    ("var z 1 .. 03", "var z 1..3"),
+    ("add m:x<y-0", "add m : x < y"),
+    ("add c : x>=- 5", "add c : x >= -5"),
+    ("add s : sum -2*x+1*y<=03", "add s : sum -2*x + y <= 3"),
+    ("add s : sum x - 01*y = -0", "add s : sum x - y = 0"),
+    ("add t:table x:(1)(2)", "add t : table x : (1) (2)"),
+    (
+        "step 00000000000000000000000000000000000000000005",
+        "step 5",
+    ),
+    (
+        "solve repair tabu 1budget 9",
+        "solve repair tabu 1 budget 9",
+    ),
+    ("solve dbt budget 18446744073709551615", "solve dbt"),
+];
+
 #[test]
 fn spaces_zeros_and_order_do_not_matter(rt: HostRuntime) -> Result<(), Fail> {
-    let cases = [
-        ("", ""),
-        (" \t", ""),
-        ("  # any text \u{e9}", ""),
-        ("\tlist ", "list"),
-        ("var y{5,1,5}", "var y {1,5}"),
-        ("var z { 3 }", "var z {3}"),
-        ("var z 1 .. 03", "var z 1..3"),
-        ("add m:x<y-0", "add m : x < y"),
-        ("add c : x>=- 5", "add c : x >= -5"),
-        ("add s : sum -2*x+1*y<=03", "add s : sum -2*x + y <= 3"),
-        ("add s : sum x - 01*y = -0", "add s : sum x - y = 0"),
-        ("add t:table x:(1)(2)", "add t : table x : (1) (2)"),
-        (
-            "step 00000000000000000000000000000000000000000005",
-            "step 5",
-        ),
-        (
-            "solve repair tabu 1budget 9",
-            "solve repair tabu 1 budget 9",
-        ),
-        ("solve dbt budget 18446744073709551615", "solve dbt"),
-    ];
-    for (text, printed) in cases {
+    for (text, printed) in WRITTEN_OTHERWISE {
         assert!(rt; reads_as(rt.alloc(), text, printed)?);
     }
     Ok(())
 }
 
+/// Lines with two faults, and the first of them.
+const TWO_FAULTS: &[(&str, LineError)] = &[
+    ("no form \u{1}", LineError::Bytes),
+    ("list\r", LineError::Bytes),
+    ("var x 1..9999999 \u{7f}", LineError::Bytes),
+    ("var x {} \u{7f}", LineError::Bytes),
+    ("add d : differ x x \u{7f}", LineError::Bytes),
+    ("var x 9999999", LineError::Form),
+    ("var x {} {}", LineError::Form),
+    ("add d : differ x x :", LineError::Form),
+    ("var w 5..-1000001", LineError::Range),
+    ("add p : sum 0*x <= 1000000000001", LineError::Range),
+    ("add p : sum x + x <= 1000000000001", LineError::Range),
+    ("add a : sum 0*x + x <= 1", LineError::Empty),
+    ("add e : element x x ()", LineError::Empty),
+];
+
 #[test]
 fn of_two_faults_the_first_is_told(rt: HostRuntime) -> Result<(), Fail> {
-    let cases = [
-        ("no form \u{1}", LineError::Bytes),
-        ("list\r", LineError::Bytes),
-        ("var x 1..9999999 \u{7f}", LineError::Bytes),
-        ("var x {} \u{7f}", LineError::Bytes),
-        ("add d : differ x x \u{7f}", LineError::Bytes),
-        ("var x 9999999", LineError::Form),
-        ("var x {} {}", LineError::Form),
-        ("add d : differ x x :", LineError::Form),
-        ("var w 5..-1000001", LineError::Range),
-        ("add p : sum 0*x <= 1000000000001", LineError::Range),
-        ("add p : sum x + x <= 1000000000001", LineError::Range),
-        ("add a : sum 0*x + x <= 1", LineError::Empty),
-        ("add e : element x x ()", LineError::Empty),
-    ];
-    for (text, error) in cases {
-        assert!(rt; is_refused(rt.alloc(), text.as_bytes(), error));
+    for (text, error) in TWO_FAULTS {
+        assert!(rt; is_refused(rt.alloc(), text.as_bytes(), *error)?);
     }
     Ok(())
 }
+
+/// Lines with one fault.
+const ONE_FAULT: &[(&str, LineError)] = &[
+    ("list list", LineError::Form),
+    ("var x1..3", LineError::Form),
+    ("var x 1...3", LineError::Form),
+    ("add q : sum x < 3", LineError::Form),
+    ("add q : sum x + -2*y <= 1", LineError::Form),
+    ("add q : x < y + -1", LineError::Form),
+    ("add t : table x y : (1)", LineError::Form),
+    ("add in : x < y", LineError::Form),
+    ("relax name_of_33_bytes_is_one_too_long_", LineError::Form),
+    ("! list", LineError::Form),
+    ("step 0", LineError::Range),
+    ("guide 1000001", LineError::Range),
+    ("solve dbt budget 0", LineError::Range),
+    ("solve dbt budget 18446744073709551616", LineError::Range),
+    ("solve repair tabu 1025 budget 1", LineError::Range),
+    ("add a : x < y + 2000001", LineError::Range),
+    (
+        "why x 999999999999999999999999999999999999999999",
+        LineError::Range,
+    ),
+    ("var w 2..1", LineError::Empty),
+    ("var w {}", LineError::Empty),
+    ("add t : table x :", LineError::Empty),
+    ("add e : element z y ()", LineError::Empty),
+    ("add s : sum -00*x <= 1", LineError::Empty),
+    ("add d : differ x y x", LineError::Repeated),
+    ("add a : x < x", LineError::Repeated),
+    ("add k : count 1 a b = a", LineError::Repeated),
+];
 
 #[test]
 fn each_fault_alone_is_told(rt: HostRuntime) -> Result<(), Fail> {
-    let cases = [
-        ("list list", LineError::Form),
-        ("var x1..3", LineError::Form),
-        ("var x 1...3", LineError::Form),
-        ("add q : sum x < 3", LineError::Form),
-        ("add q : sum x + -2*y <= 1", LineError::Form),
-        ("add q : x < y + -1", LineError::Form),
-        ("add t : table x y : (1)", LineError::Form),
-        ("add in : x < y", LineError::Form),
-        ("relax name_of_33_bytes_is_one_too_long_", LineError::Form),
-        ("! list", LineError::Form),
-        ("step 0", LineError::Range),
-        ("guide 1000001", LineError::Range),
-        ("solve dbt budget 0", LineError::Range),
-        ("solve dbt budget 18446744073709551616", LineError::Range),
-        ("solve repair tabu 1025 budget 1", LineError::Range),
-        ("add a : x < y + 2000001", LineError::Range),
-        (
-            "why x 999999999999999999999999999999999999999999",
-            LineError::Range,
-        ),
-        ("var w 2..1", LineError::Empty),
-        ("var w {}", LineError::Empty),
-        ("add t : table x :", LineError::Empty),
-        ("add e : element z y ()", LineError::Empty),
-        ("add s : sum -00*x <= 1", LineError::Empty),
-        ("add d : differ x y x", LineError::Repeated),
-        ("add a : x < x", LineError::Repeated),
-        ("add k : count 1 a b = a", LineError::Repeated),
-    ];
-    for (text, error) in cases {
-        assert!(rt; is_refused(rt.alloc(), text.as_bytes(), error));
+    for (text, error) in ONE_FAULT {
+        assert!(rt; is_refused(rt.alloc(), text.as_bytes(), *error)?);
     }
     Ok(())
-}
-
-/// Whether the text is read, and is beyond the limits of one line.
-fn is_beyond(alloc: Global, text: &str) -> bool {
-    match parse_line(alloc, text.as_bytes()) {
-        Ok(line) => beyond(&line),
-        Err(_) => false,
-    }
 }
 
 #[test]
 fn a_line_may_be_beyond_the_limits(rt: HostRuntime) -> Result<(), Fail> {
     let alloc = rt.alloc();
-    assert!(rt; is_beyond(alloc, "var x 1..257"));
-    assert!(rt; !is_beyond(alloc, "var x 1..256"));
-    assert!(rt; is_beyond(alloc, "add d : differ a b c d e f g h i j k l m n o p q"));
-    assert!(rt; !is_beyond(alloc, "add d : differ a b c d e f g h i j k l m n o p"));
+    assert!(rt; is_beyond(alloc, "var x 1..257")?);
+    assert!(rt; is_within(alloc, "var x 1..256")?);
+    assert!(rt; is_beyond(alloc, "add d : differ a b c d e f g h i j k l m n o p q")?);
+    assert!(rt; is_within(alloc, "add d : differ a b c d e f g h i j k l m n o p")?);
     Ok(())
+}
+
+/// Appends as many spaces.
+fn push_spaces(count: u32, bytes: &mut Vec<u8>) -> Result<(), NoMemory> {
+    for _ in 0..count {
+        bytes.push(b' ')?;
+    }
+    Ok(())
+}
+
+/// Whether 65,536 spaces are a comment, and one more are too many for a line.
+fn is_longest_comment(alloc: Global, bytes: &mut Vec<u8>) -> Result<bool, NoMemory> {
+    push_spaces(65_536, bytes)?;
+    let fits = is_comment(alloc, bytes)?;
+    push_spaces(1, bytes)?;
+    Ok(fits && is_refused(alloc, bytes, LineError::Bytes)?)
 }
 
 #[test]
 fn a_comment_has_at_most_65536_bytes(rt: HostRuntime) -> Result<(), Fail> {
     let mut bytes = Vec::new(rt.alloc());
-    for _ in 0..65_536 {
-        bytes.push(b' ')?;
-    }
-    let read = parse_line(rt.alloc(), &bytes);
-    assert!(rt; matches!(read, Ok(Line::Comment)));
-    bytes.push(b' ')?;
-    assert!(rt; is_refused(rt.alloc(), &bytes, LineError::Bytes));
+    assert!(rt; is_longest_comment(rt.alloc(), &mut bytes)?);
     Ok(())
 }
 
@@ -212,19 +271,21 @@ fn place_of(text: &[u8], from: usize) -> Option<(usize, usize)> {
     }
 }
 
+/// Where the first token of ` x1<=..-03 ` from a place on stands.
+const PLACES: &[(usize, Option<(usize, usize)>)] = &[
+    (0, Some((1, 3))),
+    (3, Some((3, 5))),
+    (5, Some((5, 7))),
+    (7, Some((7, 8))),
+    (8, Some((8, 10))),
+    (10, None),
+];
+
 #[test]
 fn tokens_are_the_longest_that_fit(rt: HostRuntime) -> Result<(), Fail> {
     let text = b" x1<=..-03 ";
-    let places = [
-        (0, Some((1, 3))),
-        (3, Some((3, 5))),
-        (5, Some((5, 7))),
-        (7, Some((7, 8))),
-        (8, Some((8, 10))),
-        (10, None),
-    ];
-    for (from, place) in places {
-        assert!(rt; place_of(text, from) == place);
+    for (from, place) in PLACES {
+        assert!(rt; place_of(text, *from) == *place);
     }
     Ok(())
 }

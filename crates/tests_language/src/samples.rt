@@ -1,5 +1,6 @@
-//! A small book, for tests.
-ghost use Rattle.std.specs.Prelude.{◌≡◌, ◌∷◌, [], codes, length, pos, IfOk};
+//! A small book, for tests. The functions that fill it borrow it: `ask` alone owns a book, since each place that gives one
+//! up costs its proof.
+ghost use Rattle.std.specs.Prelude.{◌≡◌, ◌∷◌, [], codes, length, pos, IfOk, OnOk};
 ghost use Rattle.palm_book.specs.Book.{HasNumber};
 ghost use Rattle.palm_model.specs.Constraint.{IsWellFormed};
 
@@ -14,19 +15,19 @@ pub(crate) fn name(alloc: Global, text: &str) -> Result<Name, NoMemory>
     Name::from_slice(alloc, text.as_bytes())
 }
 
-/// A book with the variables x and y.
-pub(crate) fn two_variables(alloc: Global) -> Result<Book, NoMemory>
-    ensures variables { IfOk result (λ b. b.variables ≡ record { name = codes "x"; values = pos 1 ∷ pos 2 ∷ [] } ∷ record { name = codes "y"; values = pos 1 ∷ pos 2 ∷ [] } ∷ []) }
-    ensures constraints { IfOk result (λ b. b.constraints ≡ []) }
+/// Declares x and y with the values 1 and 2 in a fresh book.
+pub(crate) fn declare_two(alloc: Global, book: &mut Book) -> Result<(), NoMemory>
+    requires { book.old ≡ record { variables = []; constraints = [] } }
+    ensures variables { OnOk result (book.new.variables ≡ record { name = codes "x"; values = pos 1 ∷ pos 2 ∷ [] } ∷ record { name = codes "y"; values = pos 1 ∷ pos 2 ∷ [] } ∷ []) }
+    ensures constraints { OnOk result (book.new.constraints ≡ []) }
 {
-    let mut book = Book::new(alloc);
     let x = name(alloc, "x")?;
     let values = ValueList::from_slice(alloc, &[Value(1), Value(2)])?;
     book.add_variable(x, values)?;
     let y = name(alloc, "y")?;
     let values = ValueList::from_slice(alloc, &[Value(1), Value(2)])?;
     book.add_variable(y, values)?;
-    Ok(book)
+    Ok(())
 }
 
 /// `s : sum -2*x + y <= 3`
@@ -35,26 +36,25 @@ fn linear(alloc: Global) -> Result<BookCon, NoMemory>
     ensures name { IfOk result (λ c. c.name ≡ codes "s") }
     ensures formed { IfOk result (λ c. IsWellFormed 2 c.con) }
 {
-    let mut terms = TermList::new(alloc);
-    terms.push(Term {
+    let first = Term {
         factor: -2,
         var: Var(0),
-    })?;
-    terms.push(Term {
+    };
+    let second = Term {
         factor: 1,
         var: Var(1),
-    })?;
-    let con = Con::Linear {
-        terms,
-        op: Op::Le,
-        bound: 3,
     };
     let name = name(alloc, "s")?;
+    let terms = TermList::from_slice(alloc, &[first, second])?;
     Ok(BookCon {
         number: 1,
         name,
         active: true,
-        con,
+        con: Con::Linear {
+            terms,
+            op: Op::Le,
+            bound: 3,
+        },
     })
 }
 
@@ -64,30 +64,43 @@ fn compared(alloc: Global) -> Result<BookCon, NoMemory>
     ensures name { IfOk result (λ c. c.name ≡ codes "m") }
     ensures formed { IfOk result (λ c. IsWellFormed 2 c.con) }
 {
-    let con = Con::CompareVar {
-        left: Var(0),
-        op: Op::Lt,
-        right: Var(1),
-        offset: 0,
-    };
     let name = name(alloc, "m")?;
     Ok(BookCon {
         number: 2,
         name,
         active: false,
-        con,
+        con: Con::CompareVar {
+            left: Var(0),
+            op: Op::Lt,
+            right: Var(1),
+            offset: 0,
+        },
     })
 }
 
-/// A book with two variables and two constraints.
-pub(crate) fn two_constraints(alloc: Global) -> Result<Book, NoMemory>
-    ensures variables { IfOk result (λ b. length b.variables ≡ 2) }
-    ensures constraints { IfOk result (λ b. length b.constraints ≡ 2) }
-    ensures first { IfOk result (λ b. HasNumber b 1) }
-    ensures second { IfOk result (λ b. HasNumber b 2) }
+/// Declares the two variables in a fresh book, and adds the two constraints over them.
+pub(crate) fn add_two(alloc: Global, book: &mut Book) -> Result<(), NoMemory>
+    requires { book.old ≡ record { variables = []; constraints = [] } }
+    ensures variables { OnOk result (length book.new.variables ≡ 2) }
+    ensures constraints { OnOk result (length book.new.constraints ≡ 2) }
+    ensures first { OnOk result (HasNumber book.new 1) }
+    ensures second { OnOk result (HasNumber book.new 2) }
 {
-    let mut book = two_variables(alloc)?;
+    declare_two(alloc, book)?;
     book.add_constraint(linear(alloc)?)?;
     book.add_constraint(compared(alloc)?)?;
-    Ok(book)
+    Ok(())
+}
+
+/// What a test asks of a book that has nothing yet.
+pub(crate) trait Question {
+    /// Fills the book, and tells whether it answers as it should.
+    fn is_answered(&self, alloc: Global, book: &mut Book) -> Result<bool, NoMemory>
+        requires { book.old ≡ record { variables = []; constraints = [] } };
+}
+
+/// Whether a fresh book answers the question as it should.
+pub(crate) fn ask<Q: Question>(alloc: Global, question: &Q) -> Result<bool, NoMemory> {
+    let mut book = Book::new(alloc);
+    question.is_answered(alloc, &mut book)
 }
