@@ -1,10 +1,11 @@
 //! Support and reasons of comparisons over small domains.
 ghost use Rattle.std.specs.Prelude.{◌≡◌, ◌<◌, length, Contains, IfOk};
 ghost use Rattle.palm_domain.specs.Rows.{present_of};
+ghost use Rattle.palm_model.specs.Comparison.{IsComparison};
 ghost use Rattle.palm_model.specs.Constraint.{IsWellFormed, scope};
 ghost use Rattle.palm_model.specs.Domains.{Has};
 
-use crate::testing::{is_reason, is_supported, pair, take_out_all};
+use crate::testing::{Question, answers, declare_two, is_reason, is_supported, pair, take_out_all};
 use filter_compare::CompareFilter;
 use palm_base::{NoMemory, Pair, Steps, Value, Var};
 use palm_domain::DomainStore;
@@ -34,59 +35,97 @@ fn answer<F: Filter, L: Ledger>(
     ask(filter, store, Pair { var, value }, &mut steps)
 }
 
-fn two_variables(alloc: Global) -> Result<DomainStore, NoMemory>
-    ensures { IfOk result (λ store. length store ≡ 2) }
+/// The filter of a comparison. It alone owns a constraint, since each place that gives one up costs its proof.
+fn filter_of(alloc: Global, con: Con) -> Result<CompareFilter, NoMemory>
+    requires formed { IsWellFormed 2 con }
+    requires kind { IsComparison con }
+    ensures { IfOk result (λ filter. filter ≡ con) }
 {
-    let mut store = DomainStore::new(alloc);
-    store.add_variable(&[Value(1), Value(2), Value(3)])?;
-    store.add_variable(&[Value(1), Value(2), Value(3)])?;
-    Ok(store)
+    CompareFilter::new(alloc, &con)
+}
+
+/// What `x < y` takes out where y is not 3, and for which reason.
+struct Fitting;
+
+impl Question for Fitting {
+    fn is_answered(&self, alloc: Global, store: &mut DomainStore) -> Result<bool, NoMemory> {
+        declare_two(store)?;
+        take_out_all(store, &[pair(1, 3)]);
+        let con = Con::CompareVar {
+            left: Var(0),
+            op: Op::Lt,
+            right: Var(1),
+            offset: 0,
+        };
+        let filter = filter_of(alloc, con)?;
+        is_reason(alloc, &filter, store, &pair(0, 2), &[pair(1, 3)])
+    }
 }
 
 #[test]
 fn a_reason_is_what_would_fit(rt: HostRuntime) -> Result<(), Fail> {
-    let mut store = two_variables(rt.alloc())?;
-    take_out_all(&mut store, &[pair(1, 3)]);
-    let con = Con::CompareVar {
-        left: Var(0),
-        op: Op::Lt,
-        right: Var(1),
-        offset: 0,
-    };
-    let filter = CompareFilter::new(rt.alloc(), &con)?;
-    assert!(rt; is_reason(rt.alloc(), &filter, &store, &pair(0, 2), &[pair(1, 3)])?);
+    assert!(rt; answers(rt.alloc(), &Fitting)?);
     Ok(())
+}
+
+/// Whether the filter is over these variables.
+fn is_over(filter: &CompareFilter, vars: &[Var]) -> bool {
+    filter.scope().as_slice() == vars
+}
+
+/// What `x = 2` is over, and the reason for which it takes 1 out.
+struct Constant;
+
+impl Question for Constant {
+    fn is_answered(&self, alloc: Global, store: &mut DomainStore) -> Result<bool, NoMemory> {
+        declare_two(store)?;
+        let con = Con::CompareConst {
+            left: Var(0),
+            op: Op::Eq,
+            value: Value(2),
+        };
+        let filter = filter_of(alloc, con)?;
+        let over = is_over(&filter, &[Var(0)]);
+        Ok(over && is_reason(alloc, &filter, store, &pair(0, 1), &[])?)
+    }
 }
 
 #[test]
 fn a_comparison_with_a_value_has_no_pairs_as_reason(rt: HostRuntime) -> Result<(), Fail> {
-    let store = two_variables(rt.alloc())?;
-    let con = Con::CompareConst {
-        left: Var(0),
-        op: Op::Eq,
-        value: Value(2),
-    };
-    let filter = CompareFilter::new(rt.alloc(), &con)?;
-    assert!(rt; is_reason(rt.alloc(), &filter, &store, &pair(0, 1), &[])?);
-    assert_eq!(rt; filter.scope().as_slice(), [Var(0)].as_slice());
+    assert!(rt; answers(rt.alloc(), &Constant)?);
     Ok(())
 }
 
-#[test]
-fn a_question_is_counted_and_answered(rt: HostRuntime) -> Result<(), Fail> {
-    let store = two_variables(rt.alloc())?;
+/// Whether `x = y - 2` supports 1, where that question is counted, and does not support 2.
+fn is_counted(alloc: Global, store: &DomainStore) -> Result<bool, NoMemory>
+    requires { length store.now ≡ 2 }
+{
     let con = Con::CompareVar {
         left: Var(0),
         op: Op::Eq,
         right: Var(1),
         offset: -2,
     };
-    let filter = CompareFilter::new(rt.alloc(), &con)?;
-    if store.contains(pair(0, 1)) {
-        assert!(rt;
-            answer::<CompareFilter, Brand>(&filter, &store, Var(0), Value(1), Blank::new(1))
-        );
+    let filter = filter_of(alloc, con)?;
+    Ok(
+        store.contains(pair(0, 1))
+            && answer::<CompareFilter, Brand>(&filter, store, Var(0), Value(1), Blank::new(1))
+            && !is_supported(&filter, store, &pair(0, 2)),
+    )
+}
+
+/// What a counted question is answered.
+struct Counted;
+
+impl Question for Counted {
+    fn is_answered(&self, alloc: Global, store: &mut DomainStore) -> Result<bool, NoMemory> {
+        declare_two(store)?;
+        is_counted(alloc, store)
     }
-    assert!(rt; !is_supported(&filter, &store, &pair(0, 2)));
+}
+
+#[test]
+fn a_question_is_counted_and_answered(rt: HostRuntime) -> Result<(), Fail> {
+    assert!(rt; answers(rt.alloc(), &Counted)?);
     Ok(())
 }

@@ -3,8 +3,8 @@ ghost use Rattle.std.specs.Prelude.{◌≡◌, ◌∷◌, [], length, IfOk};
 ghost use Rattle.palm_model.specs.Constraint.{IsWellFormed};
 ghost use Rattle.palm_model.specs.declared.constraint.Con.TheVariants.{Differ};
 
-use crate::testing::{is_reason, is_supported, pair, take_out_all};
-use palm_base::{NoMemory, Pair, Value, Var, VarList};
+use crate::testing::{Question, answers, declare_two, is_reason, is_supported, pair, take_out_all};
+use palm_base::{NoMemory, Pair, Var, VarList};
 use palm_domain::DomainStore;
 use palm_filter::Filter;
 use palm_kind::Kind;
@@ -20,33 +20,23 @@ fn y(value: i32) -> Pair {
     pair(1, value)
 }
 
-/// The variable x with the values 1 to 3, and y with the value 1 of 1 to 3.
-fn two_variables(alloc: Global) -> Result<DomainStore, NoMemory>
-    ensures { IfOk result (λ store. length store ≡ 2) }
+/// Whether the filter of the constraint takes the pair out for these reasons; without reasons, whether it is over two
+/// variables and supports the pair.
+fn decides(
+    alloc: Global,
+    store: &DomainStore,
+    con: &Con,
+    asked: &Pair,
+    reasons: Option<&[Pair]>,
+) -> Result<bool, NoMemory>
+    requires formed { IsWellFormed 2 con.now }
+    requires variables { length store.now ≡ 2 }
 {
-    let mut store = DomainStore::new(alloc);
-    store.add_variable(&[Value(1), Value(2), Value(3)])?;
-    store.add_variable(&[Value(1), Value(2), Value(3)])?;
-    take_out_all(&mut store, &[y(2), y(3)]);
-    Ok(store)
-}
-
-/// Whether these pairs are the reason for which the constraint takes the pair out.
-fn takes_out(alloc: Global, con: &Con, asked: &Pair, expected: &[Pair]) -> Result<bool, NoMemory>
-    requires { IsWellFormed 2 con.now }
-{
-    let store = two_variables(alloc)?;
     let kind = Kind::from_con(alloc, con)?;
-    is_reason(alloc, &kind, &store, asked, expected)
-}
-
-/// Whether the constraint is over two variables and supports the pair.
-fn keeps(alloc: Global, con: &Con, asked: &Pair) -> Result<bool, NoMemory>
-    requires { IsWellFormed 2 con.now }
-{
-    let store = two_variables(alloc)?;
-    let kind = Kind::from_con(alloc, con)?;
-    Ok(kind.scope().len() == 2 && is_supported(&kind, &store, asked))
+    match reasons {
+        Some(reasons) => is_reason(alloc, &kind, store, asked, reasons),
+        None => Ok(kind.scope().len() == 2 && is_supported(&kind, store, asked)),
+    }
 }
 
 /// `differ x y`
@@ -58,20 +48,73 @@ fn differ(alloc: Global) -> Result<Con, NoMemory>
     })
 }
 
-#[test]
-fn a_kind_is_the_filter_of_its_constraint(rt: HostRuntime) -> Result<(), Fail> {
-    let alloc = rt.alloc();
+/// Whether the constraint decides each of the pairs so.
+fn are_decided(
+    alloc: Global,
+    store: &DomainStore,
+    con: &Con,
+    cases: &[(Pair, Option<&[Pair]>)],
+) -> Result<bool, NoMemory>
+    requires formed { IsWellFormed 2 con.now }
+    requires variables { length store.now ≡ 2 }
+{
+    for (asked, reasons) in cases {
+        if !decides(alloc, store, con, asked, *reasons)? {
+            return Ok(false);
+        }
+    }
+    Ok(true)
+}
+
+/// The same of a constraint that is given up.
+fn decides_all(
+    alloc: Global,
+    store: &DomainStore,
+    con: Con,
+    cases: &[(Pair, Option<&[Pair]>)],
+) -> Result<bool, NoMemory>
+    requires formed { IsWellFormed 2 con }
+    requires variables { length store.now ≡ 2 }
+{
+    are_decided(alloc, store, &con, cases)
+}
+
+/// What `x < y` decides where y is 1.
+fn less_decides(alloc: Global, store: &DomainStore) -> Result<bool, NoMemory>
+    requires { length store.now ≡ 2 }
+{
     let less = Con::CompareVar {
         left: Var(0),
         op: Op::Lt,
         right: Var(1),
         offset: 0,
     };
-    let higher = [y(2), y(3)];
-    assert!(rt; takes_out(alloc, &less, &x(1), &higher)?);
-    assert!(rt; takes_out(alloc, &less, &x(2), &[y(3)])?);
+    let cases: [(Pair, Option<&[Pair]>); 2] = [(x(1), Some(&[y(2), y(3)])), (x(2), Some(&[y(3)]))];
+    decides_all(alloc, store, less, &cases)
+}
+
+/// What `differ x y` decides where y is 1.
+fn differ_decides(alloc: Global, store: &DomainStore) -> Result<bool, NoMemory>
+    requires { length store.now ≡ 2 }
+{
     let differ = differ(alloc)?;
-    assert!(rt; takes_out(alloc, &differ, &x(1), &higher)?);
-    assert!(rt; keeps(alloc, &differ, &x(2))?);
+    let cases: [(Pair, Option<&[Pair]>); 2] = [(x(1), Some(&[y(2), y(3)])), (x(2), None)];
+    decides_all(alloc, store, differ, &cases)
+}
+
+/// What two constraints decide over x of 1 to 3 and y with the value 1 of 1 to 3.
+struct Decided;
+
+impl Question for Decided {
+    fn is_answered(&self, alloc: Global, store: &mut DomainStore) -> Result<bool, NoMemory> {
+        declare_two(store)?;
+        take_out_all(store, &[y(2), y(3)]);
+        Ok(less_decides(alloc, store)? && differ_decides(alloc, store)?)
+    }
+}
+
+#[test]
+fn a_kind_is_the_filter_of_its_constraint(rt: HostRuntime) -> Result<(), Fail> {
+    assert!(rt; answers(rt.alloc(), &Decided)?);
     Ok(())
 }

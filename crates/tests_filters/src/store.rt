@@ -1,56 +1,83 @@
 //! A variable of three values: what is answered of it, and how one of them goes and comes back.
-ghost use Rattle.std.specs.Prelude.{◌≡◌};
-
-use palm_base::{Pair, Value, Var};
+use crate::testing::{Question, answers, pair};
+use palm_base::{NoMemory, Value, Var};
 use palm_domain::DomainStore;
+use std::alloc::Global;
 use std::test::Fail;
 
-fn pair(var: Var, value: Value) -> Pair
-    ensures { result ≡ record { var = var; value = value } }
-{
-    Pair { var, value }
+/// What is told of the variable.
+struct Declared;
+
+impl Question for Declared {
+    fn is_answered(&self, _alloc: Global, store: &mut DomainStore) -> Result<bool, NoMemory> {
+        let values = [Value(-2), Value(0), Value(5)];
+        let var = store.add_variable(&values)?;
+        Ok(
+            var == Var(0)
+                && store.variables() == 1
+                && store.initial_values(Var(0)) == values.as_slice()
+                && store.initial_count(Var(0)) == 3
+                && store.declared(pair(0, 5))
+                && !store.declared(pair(0, 1)),
+        )
+    }
 }
 
 #[test]
 fn what_was_declared(rt: HostRuntime) -> Result<(), Fail> {
-    let mut store = DomainStore::new(rt.alloc());
-    let var = store.add_variable(&[Value(-2), Value(0), Value(5)])?;
-    assert_eq!(rt; var, Var(0));
-    assert_eq!(rt; store.variables(), 1);
-    assert_eq!(rt;
-        store.initial_values(Var(0)),
-        [Value(-2), Value(0), Value(5)].as_slice()
-    );
-    assert_eq!(rt; store.initial_count(Var(0)), 3);
-    assert!(rt; store.declared(pair(Var(0), Value(5))));
-    assert!(rt; !store.declared(pair(Var(0), Value(1))));
+    assert!(rt; answers(rt.alloc(), &Declared)?);
     Ok(())
+}
+
+/// What is next, present and removed, when the least value is gone.
+struct Gone;
+
+impl Question for Gone {
+    fn is_answered(&self, _alloc: Global, store: &mut DomainStore) -> Result<bool, NoMemory> {
+        store.add_variable(&[Value(-2), Value(0), Value(5)])?;
+        if !store.contains(pair(0, -2)) {
+            return Ok(false);
+        }
+        store.take_out(pair(0, -2));
+        Ok(
+            !store.contains(pair(0, -2))
+                && store.next_removed_from(Var(0), Value(-9)) == Some(Value(-2))
+                && store.next_removed_after(Var(0), Value(-2)).is_none()
+                && store.next_from(Var(0), Value(-2)) == Some(Value(0))
+                && store.next_after(Var(0), Value(0)) == Some(Value(5)),
+        )
+    }
 }
 
 #[test]
 fn a_pair_goes(rt: HostRuntime) -> Result<(), Fail> {
-    let mut store = DomainStore::new(rt.alloc());
-    store.add_variable(&[Value(-2), Value(0), Value(5)])?;
-    assert!(rt; store.contains(pair(Var(0), Value(-2))));
-    store.take_out(pair(Var(0), Value(-2)));
-    assert!(rt; !store.contains(pair(Var(0), Value(-2))));
-    assert_eq!(rt; store.next_removed_from(Var(0), Value(-9)), Some(Value(-2)));
-    assert_eq!(rt; store.next_removed_after(Var(0), Value(-2)), None);
-    assert_eq!(rt; store.next_from(Var(0), Value(-2)), Some(Value(0)));
-    assert_eq!(rt; store.next_after(Var(0), Value(0)), Some(Value(5)));
+    assert!(rt; answers(rt.alloc(), &Gone)?);
     Ok(())
+}
+
+/// The ends of the domain while the least value is gone, and when it is back.
+struct Back;
+
+impl Question for Back {
+    fn is_answered(&self, _alloc: Global, store: &mut DomainStore) -> Result<bool, NoMemory> {
+        store.add_variable(&[Value(-2), Value(0), Value(5)])?;
+        if !store.contains(pair(0, -2)) {
+            return Ok(false);
+        }
+        store.take_out(pair(0, -2));
+        let least = store.least(Var(0));
+        store.put_back(pair(0, -2));
+        Ok(
+            least == Value(0)
+                && store.count(Var(0)) == 3
+                && store.least(Var(0)) == Value(-2)
+                && store.greatest(Var(0)) == Value(5),
+        )
+    }
 }
 
 #[test]
 fn a_pair_comes_back(rt: HostRuntime) -> Result<(), Fail> {
-    let mut store = DomainStore::new(rt.alloc());
-    store.add_variable(&[Value(-2), Value(0), Value(5)])?;
-    assert!(rt; store.contains(pair(Var(0), Value(-2))));
-    store.take_out(pair(Var(0), Value(-2)));
-    assert_eq!(rt; store.least(Var(0)), Value(0));
-    store.put_back(pair(Var(0), Value(-2)));
-    assert_eq!(rt; store.count(Var(0)), 3);
-    assert_eq!(rt; store.least(Var(0)), Value(-2));
-    assert_eq!(rt; store.greatest(Var(0)), Value(5));
+    assert!(rt; answers(rt.alloc(), &Back)?);
     Ok(())
 }

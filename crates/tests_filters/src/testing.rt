@@ -1,5 +1,5 @@
 //! What the tests of the filters share: domains without some pairs, and questions that ask for no promise.
-ghost use Rattle.std.specs.Prelude.{◌≡◌, ℕ, ℤ, ◌<◌, length, All, Contains, IfNone, IfOk, IfSome, false, true};
+ghost use Rattle.std.specs.Prelude.{◌≡◌, ℕ, ℤ, ◌<◌, [], length, All, Contains, IfNone, IfOk, IfSome, OnOk, false, true};
 ghost use Rattle.palm_base.specs.Tells.{Tells};
 ghost use Rattle.palm_domain.specs.Rows.{initial_of, present_of, IsPresent};
 ghost use Rattle.palm_model.specs.Constraint.{IsWellFormed, scope};
@@ -11,6 +11,30 @@ use palm_base::{NoMemory, Pair, Value, Var};
 use palm_domain::DomainStore;
 use palm_filter::{Filter, Reasons};
 use std::alloc::Global;
+
+/// What a test asks of a store that has no variable yet.
+pub trait Question {
+    /// Fills the store, and tells whether it answers as it should.
+    fn is_answered(&self, alloc: Global, store: &mut DomainStore) -> Result<bool, NoMemory>
+        requires { store.old ≡ [] };
+}
+
+/// Whether a fresh store answers the question as it should. It alone owns a store, since each place that gives one up costs
+/// its proof.
+pub fn answers<Q: Question>(alloc: Global, question: &Q) -> Result<bool, NoMemory> {
+    let mut store = DomainStore::new(alloc);
+    question.is_answered(alloc, &mut store)
+}
+
+/// Declares x and y with the values 1 to 3 in a fresh store.
+pub fn declare_two(store: &mut DomainStore) -> Result<(), NoMemory>
+    requires { store.old ≡ [] }
+    ensures { OnOk result (length store.new ≡ 2) }
+{
+    store.add_variable(&[Value(1), Value(2), Value(3)])?;
+    store.add_variable(&[Value(1), Value(2), Value(3)])?;
+    Ok(())
+}
 
 /// The pair of a variable and a value.
 pub fn pair(var: u32, value: i32) -> Pair
