@@ -3,17 +3,17 @@ ghost use Rattle.std.specs.Prelude.{◌≡◌, true};
 ghost use Rattle.palm_book.specs.Book.{initial_of};
 ghost use Rattle.palm_model.specs.Domains.{Has};
 
-use crate::samples::{X, Y, four_constraints, three_constraints};
+use crate::samples::{Question, X, Y, add_four, add_three, ask};
 use palm_base::{Cid, CidList, NoMemory, Pair, Value, Var};
 use palm_book::Book;
 use palm_reduce::{minimal_conflict, minimal_why};
 use std::alloc::Global;
 use std::test::Fail;
 
-/// Whether these are the users' constraints with these numbers.
-fn are_users(names: &Option<CidList>, numbers: &[u32]) -> bool {
-    match names {
-        Some(names) => {
+/// Whether the names are the users' constraints with these numbers, or there are none of either.
+fn are_users(names: &Option<CidList>, numbers: Option<&[u32]>) -> bool {
+    match (names, numbers) {
+        (Some(names), Some(numbers)) => {
             names.len() == numbers.len()
                 && names
                     .as_slice()
@@ -21,7 +21,8 @@ fn are_users(names: &Option<CidList>, numbers: &[u32]) -> bool {
                     .zip(numbers.iter())
                     .all(|(name, number)| *name == Cid::User(*number))
         }
-        None => false,
+        (None, None) => true,
+        _ => false,
     }
 }
 
@@ -58,27 +59,71 @@ fn why(alloc: Global, book: &Book, var: u32, value: i32) -> Result<Option<CidLis
     }
 }
 
+/// Whether the minimal explanation of the pair is of these users' constraints.
+fn is_why(
+    alloc: Global,
+    book: &Book,
+    var: u32,
+    value: i32,
+    numbers: Option<&[u32]>,
+) -> Result<bool, NoMemory> {
+    Ok(are_users(&why(alloc, book, var, value)?, numbers))
+}
+
+/// Whether the minimal conflict is of these users' constraints.
+fn is_conflict(alloc: Global, book: &Book, numbers: Option<&[u32]>) -> Result<bool, NoMemory> {
+    Ok(are_users(&minimal_conflict(alloc, book)?, numbers))
+}
+
+/// Of three constraints, which are no conflict, the first alone takes a value of y out.
+struct Lowest;
+
+impl Question for Lowest {
+    fn is_answered(&self, alloc: Global, book: &mut Book) -> Result<bool, NoMemory> {
+        add_three(alloc, book)?;
+        Ok(
+            is_conflict(alloc, book, None)?
+                && is_why(alloc, book, Y, 1, Some(&[1]))?
+                && is_why(alloc, book, Y, 2, None)?,
+        )
+    }
+}
+
 #[test]
 fn the_lowest_constraint_explains_alone(rt: HostRuntime) -> Result<(), Fail> {
-    let book = three_constraints(rt.alloc())?;
-    assert!(rt; minimal_conflict(rt.alloc(), &book)?.is_none());
-    assert!(rt; are_users(&why(rt.alloc(), &book, Y, 1)?, &[1]));
-    assert!(rt; why(rt.alloc(), &book, Y, 2)?.is_none());
+    assert!(rt; ask(rt.alloc(), &Lowest)?);
     Ok(())
+}
+
+/// Where the first is relaxed, the second and the third do.
+struct Relaxed;
+
+impl Question for Relaxed {
+    fn is_answered(&self, alloc: Global, book: &mut Book) -> Result<bool, NoMemory> {
+        add_three(alloc, book)?;
+        book.set_active(0, false);
+        Ok(is_why(alloc, book, Y, 1, Some(&[2, 3]))? && is_why(alloc, book, X, 1, Some(&[2]))?)
+    }
 }
 
 #[test]
 fn a_relaxed_constraint_explains_nothing(rt: HostRuntime) -> Result<(), Fail> {
-    let mut book = three_constraints(rt.alloc())?;
-    book.set_active(0, false);
-    assert!(rt; are_users(&why(rt.alloc(), &book, Y, 1)?, &[2, 3]));
-    assert!(rt; are_users(&why(rt.alloc(), &book, X, 1)?, &[2]));
+    assert!(rt; ask(rt.alloc(), &Relaxed)?);
     Ok(())
+}
+
+/// Of four constraints, the first and the fourth are the minimal conflict.
+struct Highest;
+
+impl Question for Highest {
+    fn is_answered(&self, alloc: Global, book: &mut Book) -> Result<bool, NoMemory> {
+        add_four(alloc, book)?;
+        is_conflict(alloc, book, Some(&[1, 4]))
+    }
 }
 
 #[test]
 fn the_walk_is_from_the_highest_number_down(rt: HostRuntime) -> Result<(), Fail> {
-    let book = four_constraints(rt.alloc())?;
-    assert!(rt; are_users(&minimal_conflict(rt.alloc(), &book)?, &[1, 4]));
+    assert!(rt; ask(rt.alloc(), &Highest)?);
     Ok(())
 }

@@ -1,4 +1,5 @@
-//! A book with x and y from 1 to 2 and four constraints, for tests.
+//! A book with x and y from 1 to 2 and four constraints, for tests. The functions that fill it borrow it: `ask` alone owns a
+//! book, since each place that gives one up costs its proof.
 ghost use Rattle.std.specs.Prelude.{◌≡◌, ◌≢◌, ◌<◌, ◌++◌, ◌∷◌, [], All, codes, length, map, IfOk, OnOk};
 ghost use Rattle.palm_model.specs.Constraint.{IsWellFormed};
 ghost use Rattle.palm_read.specs.Name.{IsNameText};
@@ -20,19 +21,32 @@ fn name(alloc: Global, text: &str) -> Result<Name, NoMemory>
     Name::from_slice(alloc, text.as_bytes())
 }
 
-/// A book with the variables x and y.
-fn two_variables(alloc: Global) -> Result<Book, NoMemory>
-    ensures variables { IfOk result (λ b. length b.variables ≡ 2) }
-    ensures constraints { IfOk result (λ b. b.constraints ≡ []) }
-{
+/// What a test asks of a book that has nothing yet.
+pub(crate) trait Question {
+    /// Fills the book, and tells whether it answers as it should.
+    fn is_answered(&self, alloc: Global, book: &mut Book) -> Result<bool, NoMemory>
+        requires { book.old ≡ record { variables = []; constraints = [] } };
+}
+
+/// Whether a fresh book answers the question as it should.
+pub(crate) fn ask<Q: Question>(alloc: Global, question: &Q) -> Result<bool, NoMemory> {
     let mut book = Book::new(alloc);
+    question.is_answered(alloc, &mut book)
+}
+
+/// Declares x and y in a fresh book.
+fn declare_two(alloc: Global, book: &mut Book) -> Result<(), NoMemory>
+    requires { book.old ≡ record { variables = []; constraints = [] } }
+    ensures variables { OnOk result (length book.new.variables ≡ 2) }
+    ensures constraints { OnOk result (book.new.constraints ≡ []) }
+{
     let x = name(alloc, "x")?;
     let values = ValueList::from_slice(alloc, &[Value(1), Value(2)])?;
     book.add_variable(x, values)?;
     let y = name(alloc, "y")?;
     let values = ValueList::from_slice(alloc, &[Value(1), Value(2)])?;
     book.add_variable(y, values)?;
-    Ok(book)
+    Ok(())
 }
 
 /// The constraint, active under the number and the name.
@@ -66,64 +80,65 @@ fn add(book: &mut Book, entry: BookCon) -> Result<(), NoMemory>
     Ok(())
 }
 
-/// The constraint `c : y != 1` with the number 1.
-fn one_constraint(alloc: Global) -> Result<Book, NoMemory>
-    ensures variables { IfOk result (λ b. length b.variables ≡ 2) }
-    ensures names { IfOk result (λ b. map (λ c. c.name) b.constraints ≡ codes "c" ∷ []) }
-    ensures numbers { IfOk result (λ b. map (λ c. c.number) b.constraints ≡ 1 ∷ []) }
+/// Declares the variables in a fresh book, and adds the constraint `c : y != 1` with the number 1.
+fn add_one(alloc: Global, book: &mut Book) -> Result<(), NoMemory>
+    requires { book.old ≡ record { variables = []; constraints = [] } }
+    ensures variables { OnOk result (length book.new.variables ≡ 2) }
+    ensures names { OnOk result (map (λ c. c.name) book.new.constraints ≡ codes "c" ∷ []) }
+    ensures numbers { OnOk result (map (λ c. c.number) book.new.constraints ≡ 1 ∷ []) }
 {
-    let mut book = two_variables(alloc)?;
+    declare_two(alloc, book)?;
     let con = Con::CompareConst {
         left: Var(1),
         op: Op::Ne,
         value: Value(1),
     };
-    add(&mut book, entry(alloc, 1, "c", con)?)?;
-    Ok(book)
+    add(book, entry(alloc, 1, "c", con)?)
 }
 
 /// And `a : x != 1` with the number 2.
-fn two_constraints(alloc: Global) -> Result<Book, NoMemory>
-    ensures variables { IfOk result (λ b. length b.variables ≡ 2) }
-    ensures names { IfOk result (λ b. map (λ c. c.name) b.constraints ≡ codes "c" ∷ codes "a" ∷ []) }
-    ensures numbers { IfOk result (λ b. map (λ c. c.number) b.constraints ≡ 1 ∷ 2 ∷ []) }
+fn add_two(alloc: Global, book: &mut Book) -> Result<(), NoMemory>
+    requires { book.old ≡ record { variables = []; constraints = [] } }
+    ensures variables { OnOk result (length book.new.variables ≡ 2) }
+    ensures names { OnOk result (map (λ c. c.name) book.new.constraints ≡ codes "c" ∷ codes "a" ∷ []) }
+    ensures numbers { OnOk result (map (λ c. c.number) book.new.constraints ≡ 1 ∷ 2 ∷ []) }
 {
-    let mut book = one_constraint(alloc)?;
+    add_one(alloc, book)?;
     let con = Con::CompareConst {
         left: Var(0),
         op: Op::Ne,
         value: Value(1),
     };
-    add(&mut book, entry(alloc, 2, "a", con)?)?;
-    Ok(book)
+    add(book, entry(alloc, 2, "a", con)?)
 }
 
 /// And `b : x = y` with the number 3.
-pub(crate) fn three_constraints(alloc: Global) -> Result<Book, NoMemory>
-    ensures variables { IfOk result (λ b. length b.variables ≡ 2) }
-    ensures names { IfOk result (λ b. map (λ c. c.name) b.constraints ≡ codes "c" ∷ codes "a" ∷ codes "b" ∷ []) }
-    ensures numbers { IfOk result (λ b. map (λ c. c.number) b.constraints ≡ 1 ∷ 2 ∷ 3 ∷ []) }
-    ensures constraints { IfOk result (λ b. 0 < length b.constraints) }
+pub(crate) fn add_three(alloc: Global, book: &mut Book) -> Result<(), NoMemory>
+    requires { book.old ≡ record { variables = []; constraints = [] } }
+    ensures variables { OnOk result (length book.new.variables ≡ 2) }
+    ensures names { OnOk result (map (λ c. c.name) book.new.constraints ≡ codes "c" ∷ codes "a" ∷ codes "b" ∷ []) }
+    ensures numbers { OnOk result (map (λ c. c.number) book.new.constraints ≡ 1 ∷ 2 ∷ 3 ∷ []) }
+    ensures constraints { OnOk result (0 < length book.new.constraints) }
 {
-    let mut book = two_constraints(alloc)?;
+    add_two(alloc, book)?;
     let con = Con::CompareVar {
         left: Var(0),
         op: Op::Eq,
         right: Var(1),
         offset: 0,
     };
-    add(&mut book, entry(alloc, 3, "b", con)?)?;
-    Ok(book)
+    add(book, entry(alloc, 3, "b", con)?)
 }
 
 /// And `e : y != 2` with the number 4.
-pub(crate) fn four_constraints(alloc: Global) -> Result<Book, NoMemory> {
-    let mut book = three_constraints(alloc)?;
+pub(crate) fn add_four(alloc: Global, book: &mut Book) -> Result<(), NoMemory>
+    requires { book.old ≡ record { variables = []; constraints = [] } }
+{
+    add_three(alloc, book)?;
     let con = Con::CompareConst {
         left: Var(1),
         op: Op::Ne,
         value: Value(2),
     };
-    add(&mut book, entry(alloc, 4, "e", con)?)?;
-    Ok(book)
+    add(book, entry(alloc, 4, "e", con)?)
 }
