@@ -2,32 +2,30 @@
 ghost use Rattle.std.specs.Prelude.{◌≡◌, ◌<◌, ◌≤◌, length, true, All};
 ghost use Rattle.palm_domain.specs.Rows.{Ascends};
 ghost use Rattle.palm_domain.specs.declared.limits.TheConstants.{MOST_VALUES};
+ghost use Rattle.palm_model.specs.Constraint.{IsWellFormed};
 ghost use Rattle.palm_model.specs.Domains.{Has};
 ghost use Rattle.palm_model.specs.Log.{IsActive};
 ghost use Rattle.palm_model.specs.State.{IsGround, present};
 
 use crate::choice::{Choice, run_settling};
-use crate::samples::{Sample, kind_of};
+use crate::samples::{Sample, con_of};
 use palm_base::{Cid, CidList, NoMemory, Pair, Value, Var};
 use palm_domain::DomainStore;
 use palm_engine::{Engine, Settle};
 use palm_filter::Filter;
 use palm_kind::Kind;
+use palm_model::Con;
 use std::alloc::Global;
 
-/// A call, and what it is to answer.
-#[derive(Clone, Copy, Debug)]
-pub enum Call {
-    /// Posts the constraint under the number.
-    Post(u32, Sample),
-    /// Withdraws the user's constraint with the number.
-    Withdraw(u32),
-    /// A settling that ends with nothing pending.
-    Settle,
-    /// A settling that ends with no value left for the variable.
-    Empty(u32),
-    /// A settling that ends after as many revisions.
-    Stop(u64),
+/// The values of a variable.
+#[derive(Clone, Copy)]
+pub enum Span {
+    /// 1 and 2.
+    OneToTwo,
+    /// 1 to 3.
+    OneToThree,
+    /// 0 to 3.
+    ZeroToThree,
 }
 
 /// The pair of a variable and a value.
@@ -102,7 +100,7 @@ fn are_active<F: Filter>(engine: &Engine<F>, names: &[Cid]) -> bool
 }
 
 /// Appends a variable with these values, where there is room for one.
-pub fn add_variable<F: Filter>(engine: &mut Engine<F>, values: &[Value]) -> Result<(), NoMemory>
+fn add_variable<F: Filter>(engine: &mut Engine<F>, values: &[Value]) -> Result<(), NoMemory>
     requires ascend { Ascends values.now }
     requires filled { 0 < length values.now }
     requires small { length values.now ≤ MOST_VALUES }
@@ -113,13 +111,31 @@ pub fn add_variable<F: Filter>(engine: &mut Engine<F>, values: &[Value]) -> Resu
     Ok(())
 }
 
-/// An engine with so many variables, each with the values 1 to 3.
-pub fn engine_of<F: Filter>(alloc: Global, variables: u32) -> Result<Engine<F>, NoMemory> {
-    let mut engine = Engine::new(alloc);
-    for _ in 0..variables {
-        add_variable(&mut engine, &[Value(1), Value(2), Value(3)])?;
+/// Appends so many variables with these values, while there is room.
+fn add_variables<F: Filter>(
+    engine: &mut Engine<F>,
+    count: u32,
+    values: &[Value],
+) -> Result<(), NoMemory>
+    requires ascend { Ascends values.now }
+    requires filled { 0 < length values.now }
+    requires small { length values.now ≤ MOST_VALUES }
+{
+    for _ in 0..count {
+        add_variable(engine, values)?;
     }
-    Ok(engine)
+    Ok(())
+}
+
+/// Appends so many variables with the values of the span, while there is room.
+pub fn declare<F: Filter>(engine: &mut Engine<F>, count: u32, span: &Span) -> Result<(), NoMemory> {
+    match span {
+        Span::OneToTwo => add_variables(engine, count, &[Value(1), Value(2)]),
+        Span::OneToThree => add_variables(engine, count, &[Value(1), Value(2), Value(3)]),
+        Span::ZeroToThree => {
+            add_variables(engine, count, &[Value(0), Value(1), Value(2), Value(3)])
+        }
+    }
 }
 
 /// Posts the constraint of the filter under the number, unless one has it.
@@ -131,17 +147,45 @@ pub fn post<F: Filter>(engine: &mut Engine<F>, number: u32, filter: F) -> Result
     Ok(true)
 }
 
-/// Posts the constraint under the number, unless a constraint has it.
-pub fn post_kind(
+/// Posts the constraint under the number, unless one has it.
+fn post_con(
+    alloc: Global,
+    engine: &mut Engine<Kind>,
+    number: u32,
+    con: &Con,
+) -> Result<bool, NoMemory>
+    requires { IsWellFormed 4 con.now }
+{
+    post(engine, number, Kind::from_con(alloc, con)?)
+}
+
+/// Posts the constraint of the sample under the number, unless one has it.
+pub fn post_sample(
     alloc: Global,
     engine: &mut Engine<Kind>,
     number: u32,
     sample: &Sample,
 ) -> Result<bool, NoMemory> {
-    match kind_of(alloc, sample)? {
-        Some(kind) => post(engine, number, kind),
+    match con_of(alloc, sample)? {
+        Some(con) => post_con(alloc, engine, number, &con),
         None => Ok(false),
     }
+}
+
+/// Posts the constraints under the numbers from 1 on, unless a constraint has one of them.
+pub fn post_all(
+    alloc: Global,
+    engine: &mut Engine<Kind>,
+    samples: &[Sample],
+) -> Result<bool, NoMemory> {
+    let mut number = 0_u32;
+    for sample in samples {
+        number = number.saturating_add(1);
+        if !post_sample(alloc, engine, number, sample)? {
+            return Ok(false);
+        }
+    }
+    Ok(true)
 }
 
 /// Assumes the pair, where it is present and its variable has no decision.
@@ -180,39 +224,25 @@ pub fn withdraw<F: Filter>(engine: &mut Engine<F>, cid: &Cid) -> bool {
     true
 }
 
-/// Makes the call, and answers whether it is allowed and answers as it is to.
-fn is_answered(
+/// Whether a settling ends so.
+pub fn settles(
     alloc: Global,
     engine: &mut Engine<Kind>,
     choice: &Choice,
-    call: &Call,
+    limit: Option<u64>,
+    end: &Settle,
 ) -> Result<bool, NoMemory> {
-    match *call {
-        Call::Post(number, ref sample) => post_kind(alloc, engine, number, sample),
-        Call::Withdraw(number) => Ok(withdraw(engine, &Cid::User(number))),
-        Call::Settle => Ok(run_settling(alloc, engine, choice, None)? == Settle::Settled),
-        Call::Empty(var) => Ok(
-            run_settling(alloc, engine, choice, None)? == Settle::Empty(Var(var)),
-        ),
-        Call::Stop(limit) => Ok(
-            run_settling(alloc, engine, choice, Some(limit))? == Settle::Stopped,
-        ),
-    }
+    Ok(run_settling(alloc, engine, choice, limit)? == *end)
 }
 
-/// Makes the calls one after another, until one is not allowed or answers otherwise, and answers whether there was none.
-pub fn are_answered(
-    alloc: Global,
-    engine: &mut Engine<Kind>,
-    choice: &Choice,
-    calls: &[Call],
-) -> Result<bool, NoMemory> {
-    for call in calls {
-        if !is_answered(alloc, engine, choice, call)? {
-            return Ok(false);
-        }
-    }
-    Ok(true)
+/// Whether a settling ends with nothing pending, by no revision and with no question to a filter.
+pub fn rests(alloc: Global, engine: &mut Engine<Kind>, choice: &Choice) -> Result<bool, NoMemory> {
+    let checks = engine.checks();
+    Ok(
+        settles(alloc, engine, choice, None, &Settle::Settled)?
+            && engine.revisions() == 0
+            && engine.checks() == checks,
+    )
 }
 
 /// Whether exactly these values of the variable are present.
@@ -231,6 +261,34 @@ pub fn has_values(store: &DomainStore, var: u32, values: &[Value]) -> bool {
     true
 }
 
+/// Whether exactly the values from the first to the second are present of the variable.
+pub fn has_range(store: &DomainStore, var: u32, least: i32, most: i32) -> bool {
+    if var >= store.variables() {
+        return false;
+    }
+    let mut count = 0_u32;
+    for value in least..most.saturating_add(1) {
+        if !store.contains(pair(var, value)) {
+            return false;
+        }
+        count = count.saturating_add(1);
+    }
+    store.count(Var(var)) == count
+}
+
+/// Whether the names of the list, with each negation replaced by its justification, are these, which are written to `out`.
+fn has_flat<F: Filter>(
+    engine: &Engine<F>,
+    names: &CidList,
+    flat: &[Cid],
+    out: &mut CidList,
+) -> Result<bool, NoMemory>
+    requires { All (IsActive engine.now.state.active) names.now }
+{
+    engine.flat(names, out)?;
+    Ok(out.as_slice() == flat)
+}
+
 /// Whether the names, with each negation replaced by its justification, are these.
 pub fn is_flat<F: Filter>(
     alloc: Global,
@@ -241,9 +299,9 @@ pub fn is_flat<F: Filter>(
     if !are_active(engine, names) {
         return Ok(false);
     }
+    let list = CidList::from_slice(alloc, names)?;
     let mut out = CidList::new(alloc);
-    engine.flat(&CidList::from_slice(alloc, names)?, &mut out)?;
-    Ok(out.as_slice() == flat)
+    has_flat(engine, &list, flat, &mut out)
 }
 
 /// Whether a variable has no value left, and these are the constraints of the conflict.

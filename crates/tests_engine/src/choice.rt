@@ -10,7 +10,7 @@ use std::marker::{Brand, Model};
 use std::sync::ledger::{Blank, Ledger};
 
 /// Which object chooses what is revised next.
-#[derive(Clone, Copy, Debug)]
+#[derive(Clone, Copy)]
 pub enum Choice {
     /// None.
     Least,
@@ -23,7 +23,7 @@ pub enum Choice {
 }
 
 /// Answers 1 until it is told of a revision, and 0 from then on.
-#[derive(Debug, Drop)]
+#[derive(Drop)]
 struct SecondOnce {
     index: usize,
 }
@@ -54,11 +54,20 @@ impl Order for SecondOnce {
     }
 }
 
+/// The object that chooses.
+fn order_of(alloc: Global, choice: &Choice) -> Result<Option<Box<dyn Order>>, NoMemory> {
+    match choice {
+        Choice::Least => Ok(None),
+        Choice::Last => Ok(Some(Box::new(alloc, LastOrder::new())?)),
+        Choice::Rotate => Ok(Some(Box::new(alloc, RotateOrder::new())?)),
+        Choice::SecondOnce => Ok(Some(Box::new(alloc, SecondOnce { index: 1 })?)),
+    }
+}
+
 /// A settling that is counted from nothing.
 fn settle_counted<F: Filter, L: Ledger>(
-    alloc: Global,
     engine: &mut Engine<F>,
-    choice: &Choice,
+    order: &mut Option<Box<dyn Order>>,
     limit: Option<u64>,
     blank: Blank,
 ) -> Result<Settle, NoMemory>
@@ -67,13 +76,7 @@ fn settle_counted<F: Filter, L: Ledger>(
     requires shared { 0 < L.parts }
 {
     let mut steps = Steps::<L>::start(blank);
-    let mut order: Option<Box<dyn Order>> = match choice {
-        Choice::Least => None,
-        Choice::Last => Some(Box::new(alloc, LastOrder::new())?),
-        Choice::Rotate => Some(Box::new(alloc, RotateOrder::new())?),
-        Choice::SecondOnce => Some(Box::new(alloc, SecondOnce { index: 1 })?),
-    };
-    engine.settle(&mut order, limit, &mut steps)
+    engine.settle(order, limit, &mut steps)
 }
 
 /// A settling, with a counter and an order object of its own.
@@ -83,5 +86,6 @@ pub fn run_settling<F: Filter>(
     choice: &Choice,
     limit: Option<u64>,
 ) -> Result<Settle, NoMemory> {
-    settle_counted::<F, Brand>(alloc, engine, choice, limit, Blank::new(1))
+    let mut order = order_of(alloc, choice)?;
+    settle_counted::<F, Brand>(engine, &mut order, limit, Blank::new(1))
 }

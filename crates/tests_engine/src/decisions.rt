@@ -1,12 +1,10 @@
 //! Decisions, and negations that rest on them.
-use crate::calls::{assume, engine_of, forbid, is_flat, pair, post_kind, withdraw};
-use crate::choice::{Choice, run_settling};
-use crate::removals::{Removal, has_removals};
+use crate::calls::{Span, pair};
+use crate::cases::{Step, is_case};
+use crate::choice::Choice;
+use crate::removals::{Because, removed};
 use crate::samples::Sample;
-use palm_base::{Cid, NoMemory, Pair, Var};
-use palm_engine::{Engine, Settle};
-use palm_kind::Kind;
-use std::alloc::Global;
+use palm_base::{Cid, Pair, Var};
 use std::test::Fail;
 
 /// The variables by their places.
@@ -19,53 +17,38 @@ fn decision() -> Cid {
     Cid::Decide(Var(X))
 }
 
-/// The pair that is forbidden.
+/// The pair that is forbidden for it.
 fn forbidden() -> Pair {
     pair(Y, 2)
 }
 
-/// Posts `x < y`, assumes x = 1, settles, forbids y 2 for the decision and settles.
-fn has_forbidden(alloc: Global, engine: &mut Engine<Kind>) -> Result<bool, NoMemory> {
-    Ok(
-        post_kind(alloc, engine, 1, &Sample::Less(X, Y))?
-            && assume(engine, &pair(X, 1))?
-            && run_settling(alloc, engine, &Choice::Least, None)? == Settle::Settled
-            && forbid(engine, &forbidden(), &decision())?
-            && run_settling(alloc, engine, &Choice::Least, None)? == Settle::Settled,
-    )
+/// The negation of the pair.
+fn negation() -> Cid {
+    Cid::Not(forbidden())
 }
 
-/// Whether a negation stands for its justification, and is the least one.
-fn stands_for_decision(alloc: Global, engine: &Engine<Kind>) -> Result<bool, NoMemory> {
-    let names = [Cid::Not(forbidden()), Cid::User(1)];
-    Ok(
-        is_flat(alloc, engine, &names, &[decision(), Cid::User(1)])?
-            && engine.first_negation() == Some(forbidden()),
-    )
-}
-
-/// Whether the decision and the negation are active.
-fn are_active(engine: &Engine<Kind>) -> (bool, bool) {
-    (
-        engine.is_active(decision()),
-        engine.is_active(Cid::Not(forbidden())),
-    )
-}
-
+// `x < y`, x = 1, and then y 2 is forbidden for the decision: the negation stands for it, is the least one, and goes with
+// it.
 #[test]
 fn a_negation_goes_with_its_decision(rt: HostRuntime) -> Result<(), Fail> {
-    let mut engine = engine_of(rt.alloc(), 2)?;
-    assert!(rt; has_forbidden(rt.alloc(), &mut engine)?);
-    assert!(rt; stands_for_decision(rt.alloc(), &engine)?);
-    assert_eq!(rt; are_active(&engine), (true, true));
-    assert!(rt; withdraw(&mut engine, &decision()));
-    assert_eq!(rt; are_active(&engine), (false, false));
-    assert_eq!(rt; engine.first_negation(), None);
-    let left = [Removal {
-        pair: pair(Y, 1),
-        by: Cid::User(1),
-        reasons: &[],
-    }];
-    assert!(rt; has_removals(engine.log(), &left));
+    let left = [removed(pair(Y, 1), 1, Because::Nothing)];
+    let steps = [
+        Step::Declare(2, Span::OneToThree),
+        Step::Post(1, Sample::Less(X, Y)),
+        Step::Assume(pair(X, 1)),
+        Step::Settle,
+        Step::Forbid(forbidden(), decision()),
+        Step::Settle,
+        Step::Flat([negation(), Cid::User(1)], [decision(), Cid::User(1)]),
+        Step::Negation(Some(forbidden())),
+        Step::Active(decision(), true),
+        Step::Active(negation(), true),
+        Step::Withdraw(decision()),
+        Step::Active(decision(), false),
+        Step::Active(negation(), false),
+        Step::Negation(None),
+        Step::Log(&left),
+    ];
+    assert!(rt; is_case(rt.alloc(), &Choice::Least, &steps)?);
     Ok(())
 }

@@ -1,17 +1,12 @@
 //! Constraints of every kind: what they take out and why, and the greatest closed domains as the slow way finds them.
-ghost use Rattle.std.specs.Prelude.{◌≡◌, ◌≤◌, [], ◌∷◌, length, IfOk};
+ghost use Rattle.std.specs.Prelude.{◌≤◌, length};
 
-use crate::calls::{
-    Call, add_variable, are_answered, engine_of, has_values, is_conflict, pair, post_kind, withdraw,
-};
-use crate::choice::{Choice, run_settling};
-use crate::removals::{Removal, has_removals, is_explained};
-use crate::samples::{Sample, cons_of};
-use palm_base::{Cid, NoMemory, Pair, Value, ValueList};
-use palm_domain::DomainStore;
-use palm_engine::Engine;
-use palm_kind::Kind;
-use palm_model::{DomainList, scratch};
+use crate::calls::{Span, pair};
+use crate::cases::{Step, Users, is_case};
+use crate::choice::Choice;
+use crate::removals::{Because, removed};
+use crate::samples::Sample;
+use palm_base::{Cid, NoMemory};
 use std::alloc::Global;
 use std::test::Fail;
 
@@ -24,184 +19,95 @@ const Z: u32 = 2;
 
 const N: u32 = 3;
 
-/// A removal by the user's constraint of this number.
-fn removal<'a>(var: u32, value: i32, by: u32, reasons: &'a [Pair]) -> Removal<'a> {
-    Removal {
-        pair: pair(var, value),
-        by: Cid::User(by),
-        reasons,
-    }
-}
-
-/// An engine with x, y and z from 1 to 2 and n from 0 to 3.
-fn counting_engine(alloc: Global) -> Result<Engine<Kind>, NoMemory> {
-    let mut engine = Engine::new(alloc);
-    for _ in 0..3 {
-        add_variable(&mut engine, &[Value(1), Value(2)])?;
-    }
-    add_variable(&mut engine, &[Value(0), Value(1), Value(2), Value(3)])?;
-    Ok(engine)
-}
-
-/// Whether `x = 1`, `z != 1`, the count and `n = 2`, settled one after another, leave this log.
-fn counts(alloc: Global) -> Result<bool, NoMemory> {
-    let mut engine = counting_engine(alloc)?;
-    let calls = [
-        Call::Post(1, Sample::Only(X, 1)),
-        Call::Settle,
-        Call::Post(2, Sample::Other(Z, 1)),
-        Call::Settle,
-        Call::Post(3, Sample::Count),
-        Call::Settle,
-        Call::Post(4, Sample::Only(N, 2)),
-        Call::Settle,
-    ];
-    let two = [pair(X, 2), pair(Z, 1)];
-    let three = [pair(X, 2), pair(Z, 1), pair(N, 1)];
-    let log = [
-        removal(X, 2, 1, &[]),
-        removal(Z, 1, 2, &[]),
-        removal(N, 0, 3, &two),
-        removal(N, 3, 3, &two),
-        removal(N, 1, 4, &[]),
-        removal(Y, 2, 3, &three),
-    ];
-    Ok(
-        are_answered(alloc, &mut engine, &Choice::Least, &calls)?
-            && has_removals(engine.log(), &log),
-    )
-}
-
-/// Whether the table and `x != 1`, settled one after another, leave this log.
-fn lists(alloc: Global) -> Result<bool, NoMemory> {
-    let mut engine = engine_of(alloc, 2)?;
-    let calls = [
-        Call::Post(1, Sample::Table),
-        Call::Settle,
-        Call::Post(2, Sample::Other(X, 1)),
-        Call::Settle,
-    ];
-    let reasons = [pair(X, 1)];
-    let log = [
-        removal(X, 3, 1, &[]),
-        removal(Y, 1, 1, &[]),
-        removal(X, 1, 2, &[]),
-        removal(Y, 2, 1, &reasons),
-    ];
-    Ok(
-        are_answered(alloc, &mut engine, &Choice::Least, &calls)?
-            && has_removals(engine.log(), &log),
-    )
-}
-
+// With x, y and z from 1 to 2 and n from 0 to 3.
 #[test]
-fn counts_and_tables_tell_why(rt: HostRuntime) -> Result<(), Fail> {
-    assert!(rt; counts(rt.alloc())?);
-    assert!(rt; lists(rt.alloc())?);
+fn counts_tell_why(rt: HostRuntime) -> Result<(), Fail> {
+    let two = Because::Two(pair(X, 2), pair(Z, 1));
+    let three = Because::Three(pair(X, 2), pair(Z, 1), pair(N, 1));
+    let log = [
+        removed(pair(X, 2), 1, Because::Nothing),
+        removed(pair(Z, 1), 2, Because::Nothing),
+        removed(pair(N, 0), 3, two),
+        removed(pair(N, 3), 3, two),
+        removed(pair(N, 1), 4, Because::Nothing),
+        removed(pair(Y, 2), 3, three),
+    ];
+    let steps = [
+        Step::Declare(3, Span::OneToTwo),
+        Step::Declare(1, Span::ZeroToThree),
+        Step::Post(1, Sample::Only(X, 1)),
+        Step::Settle,
+        Step::Post(2, Sample::Other(Z, 1)),
+        Step::Settle,
+        Step::Post(3, Sample::Count),
+        Step::Settle,
+        Step::Post(4, Sample::Only(N, 2)),
+        Step::Settle,
+        Step::Log(&log),
+    ];
+    assert!(rt; is_case(rt.alloc(), &Choice::Least, &steps)?);
     Ok(())
 }
 
-/// Posts and withdraws `y != 1`, settles `x != 1` and `x = y`, and posts `y != 1` again, which takes nothing out.
-fn is_posted_again(alloc: Global, engine: &mut Engine<Kind>) -> Result<bool, NoMemory> {
-    let calls = [
-        Call::Post(1, Sample::Other(Y, 1)),
-        Call::Settle,
-        Call::Withdraw(1),
-        Call::Settle,
-        Call::Post(2, Sample::Other(X, 1)),
-        Call::Settle,
-        Call::Post(3, Sample::Same(X, Y)),
-        Call::Settle,
-        Call::Post(1, Sample::Other(Y, 1)),
-        Call::Settle,
+#[test]
+fn tables_tell_why(rt: HostRuntime) -> Result<(), Fail> {
+    let log = [
+        removed(pair(X, 3), 1, Because::Nothing),
+        removed(pair(Y, 1), 1, Because::Nothing),
+        removed(pair(X, 1), 2, Because::Nothing),
+        removed(pair(Y, 2), 1, Because::One(pair(X, 1))),
     ];
-    Ok(
-        are_answered(alloc, engine, &Choice::Least, &calls)?
-            && is_explained(
-                alloc,
-                engine.log(),
-                &pair(Y, 1),
-                &[Cid::User(2), Cid::User(3)],
-            )?,
-    )
+    let steps = [
+        Step::Declare(2, Span::OneToThree),
+        Step::Post(1, Sample::Table),
+        Step::Settle,
+        Step::Post(2, Sample::Other(X, 1)),
+        Step::Settle,
+        Step::Log(&log),
+    ];
+    assert!(rt; is_case(rt.alloc(), &Choice::Least, &steps)?);
+    Ok(())
 }
 
+// `y != 1` comes and goes, and comes again after `x != 1` and `x = y`, when it takes nothing out.
 #[test]
 fn a_conflict_names_what_was_there_first(rt: HostRuntime) -> Result<(), Fail> {
-    let mut engine = Engine::new(rt.alloc());
-    add_variable(&mut engine, &[Value(1), Value(2)])?;
-    add_variable(&mut engine, &[Value(1), Value(2)])?;
-    assert!(rt; is_posted_again(rt.alloc(), &mut engine)?);
-    let calls = [Call::Post(4, Sample::Other(Y, 2)), Call::Empty(Y)];
-    assert!(rt; are_answered(rt.alloc(), &mut engine, &Choice::Least, &calls)?);
-    let names = [Cid::User(2), Cid::User(3), Cid::User(4)];
-    assert!(rt; is_conflict(rt.alloc(), &engine, &names)?);
+    let steps = [
+        Step::Declare(2, Span::OneToTwo),
+        Step::Post(1, Sample::Other(Y, 1)),
+        Step::Settle,
+        Step::Withdraw(Cid::User(1)),
+        Step::Settle,
+        Step::Post(2, Sample::Other(X, 1)),
+        Step::Settle,
+        Step::Post(3, Sample::Same(X, Y)),
+        Step::Settle,
+        Step::Post(1, Sample::Other(Y, 1)),
+        Step::Settle,
+        Step::Explained(pair(Y, 1), Users::Two(2, 3)),
+        Step::Post(4, Sample::Other(Y, 2)),
+        Step::Empty(Y),
+        Step::Conflict(Users::Three(2, 3, 4)),
+    ];
+    assert!(rt; is_case(rt.alloc(), &Choice::Least, &steps)?);
     Ok(())
-}
-
-/// Four times the same values.
-fn four_domains(alloc: Global, values: &[Value]) -> Result<DomainList, NoMemory>
-    ensures { IfOk result (λ list. list ≡ values.now ∷ values.now ∷ values.now ∷ values.now ∷ []) }
-{
-    let mut list = DomainList::new(alloc);
-    list.push(ValueList::from_slice(alloc, values)?)?;
-    list.push(ValueList::from_slice(alloc, values)?)?;
-    list.push(ValueList::from_slice(alloc, values)?)?;
-    list.push(ValueList::from_slice(alloc, values)?)?;
-    Ok(list)
-}
-
-/// What the slow way leaves of four times the values 1 to 3.
-fn slow_domains(alloc: Global, samples: &[Sample]) -> Result<DomainList, NoMemory> {
-    let initial = four_domains(alloc, &[Value(1), Value(2), Value(3)])?;
-    let constraints = cons_of(alloc, samples)?;
-    scratch(alloc, &initial, &constraints)
-}
-
-/// Whether the store has these domains.
-fn has_domains(store: &DomainStore, domains: &DomainList) -> bool {
-    let mut var = 0;
-    for values in domains.as_slice() {
-        if !has_values(store, var, values.as_slice()) {
-            return false;
-        }
-        var = var.saturating_add(1);
-    }
-    true
-}
-
-/// Posts the constraints under numbers from 1 on, and answers whether that is allowed.
-fn are_posted(
-    alloc: Global,
-    engine: &mut Engine<Kind>,
-    samples: &[Sample],
-) -> Result<bool, NoMemory> {
-    let mut number = 0_u32;
-    for sample in samples {
-        number = number.saturating_add(1);
-        if !post_kind(alloc, engine, number, sample)? {
-            return Ok(false);
-        }
-    }
-    Ok(true)
 }
 
 /// Whether the engine settles the constraints to the domains of the slow way, and so it does without the first.
 fn agrees(alloc: Global, samples: &[Sample], choice: &Choice) -> Result<bool, NoMemory>
     requires { 1 ≤ length samples.now }
 {
-    let mut engine = engine_of(alloc, 4)?;
-    if !are_posted(alloc, &mut engine, samples)? {
-        return Ok(false);
-    }
-    run_settling(alloc, &mut engine, choice, None)?;
-    if !has_domains(engine.store(), &slow_domains(alloc, samples)?)
-        || !withdraw(&mut engine, &Cid::User(1))
-    {
-        return Ok(false);
-    }
-    run_settling(alloc, &mut engine, choice, None)?;
-    Ok(has_domains(engine.store(), &slow_domains(alloc, &samples[1..])?))
+    let others = &samples[1..];
+    let steps = [
+        Step::Declare(4, Span::OneToThree),
+        Step::PostAll(samples),
+        Step::Settle,
+        Step::Slow(samples),
+        Step::Withdraw(Cid::User(1)),
+        Step::Settle,
+        Step::Slow(others),
+    ];
+    is_case(alloc, choice, &steps)
 }
 
 /// The same, without an order and with each.

@@ -6,6 +6,8 @@ mod agendas;
 #[cfg(test)]
 mod calls;
 #[cfg(test)]
+mod cases;
+#[cfg(test)]
 mod choice;
 #[cfg(test)]
 mod decisions;
@@ -21,5 +23,7 @@ mod questions;
 mod removals;
 #[cfg(test)]
 mod samples;
+#[cfg(test)]
+mod slow;
 #[cfg(test)]
 mod withdrawals;

@@ -1,25 +1,26 @@
 //! The log by itself: x lost 2 by the first constraint, y lost 2 by the second for that, and z lost 2 by the third.
-ghost use Rattle.std.specs.Prelude.{◌≡◌, [], true, All, Contains, IfOk};
+ghost use Rattle.std.specs.Prelude.{◌≡◌, [], true, All, Contains, OnOk};
 ghost use Rattle.palm_explain.specs.Explanations.{LacksExactly};
 ghost use Rattle.palm_model.specs.Log.{log_pairs};
 
 use crate::calls::{has_values, pair};
-use crate::removals::{Removal, has_removals, is_explained, is_removed};
+use crate::removals::{Because, has_removals, is_explained, is_removed, removed};
 use palm_base::{Cid, NoMemory, Pair, Value, Var};
 use palm_domain::DomainStore;
 use palm_explain::{ExplainStore, full_stores_lack_nothing, stores_lack_what_is_taken_out};
 use std::alloc::Global;
 use std::test::Fail;
 
-fn three_variables(alloc: Global) -> Result<DomainStore, NoMemory>
-    ensures { IfOk result (λ store. LacksExactly store []) }
+/// Appends three variables with the values 1 and 2.
+fn add_three(store: &mut DomainStore) -> Result<(), NoMemory>
+    requires { store.old ≡ [] }
+    ensures { OnOk result (LacksExactly store.new []) }
 {
-    let mut store = DomainStore::new(alloc);
     store.add_variable(&[Value(1), Value(2)])?;
     store.add_variable(&[Value(1), Value(2)])?;
     store.add_variable(&[Value(1), Value(2)])?;
     full_stores_lack_nothing();
-    Ok(store)
+    Ok(())
 }
 
 /// Whether all of the pairs are removed.
@@ -34,24 +35,26 @@ fn are_removed(log: &ExplainStore, pairs: &[Pair]) -> bool
     true
 }
 
-/// Takes the pair of the removal out and enters it, where the pair is present and the reasons are removed.
+/// Takes the pair out by the user's constraint of this number and enters it, where it is present and the reasons are removed.
 fn remove(
     store: &mut DomainStore,
     log: &mut ExplainStore,
-    removal: &Removal<'_>,
+    pair: &Pair,
+    by: u32,
+    reasons: &[Pair],
 ) -> Result<(), NoMemory>
     requires { LacksExactly store.old (log_pairs log.old.log) }
     ensures { LacksExactly store.new (log_pairs log.new.log) }
 {
-    let Pair { var, value } = removal.pair;
+    let Pair { var, value } = *pair;
     if var.0 >= store.variables()
         || !store.contains(Pair { var, value })
         || log.place_of(Pair { var, value }).is_some()
-        || !are_removed(log, removal.reasons)
+        || !are_removed(log, reasons)
     {
         return Ok(());
     }
-    log.enter(Pair { var, value }, removal.by, removal.reasons)?;
+    log.enter(Pair { var, value }, Cid::User(by), reasons)?;
     store.take_out(Pair { var, value });
     stores_lack_what_is_taken_out();
     Ok(())
@@ -69,34 +72,9 @@ fn remove_three(store: &mut DomainStore, log: &mut ExplainStore) -> Result<(), N
     requires { LacksExactly store.old (log_pairs log.old.log) }
     ensures { LacksExactly store.new (log_pairs log.new.log) }
 {
-    let x = [pair(0, 2)];
-    remove(
-        store,
-        log,
-        &Removal {
-            pair: pair(0, 2),
-            by: Cid::User(1),
-            reasons: &[],
-        },
-    )?;
-    remove(
-        store,
-        log,
-        &Removal {
-            pair: pair(1, 2),
-            by: Cid::User(2),
-            reasons: &x,
-        },
-    )?;
-    remove(
-        store,
-        log,
-        &Removal {
-            pair: pair(2, 2),
-            by: Cid::User(3),
-            reasons: &[],
-        },
-    )
+    remove(store, log, &pair(0, 2), 1, &[])?;
+    remove(store, log, &pair(1, 2), 2, &[pair(0, 2)])?;
+    remove(store, log, &pair(2, 2), 3, &[])
 }
 
 /// Whether the log explains the three removals.
@@ -114,11 +92,7 @@ fn explains_three(alloc: Global, log: &mut ExplainStore) -> Result<bool, NoMemor
 
 /// Whether the log has the removal of z alone, and put values of x and y back.
 fn has_last(log: &ExplainStore) -> bool {
-    let last = [Removal {
-        pair: pair(2, 2),
-        by: Cid::User(3),
-        reasons: &[],
-    }];
+    let last = [removed(pair(2, 2), 3, Because::Nothing)];
     let restored = log.restored();
     has_removals(log, &last)
         && restored.len() == 2
@@ -126,16 +100,40 @@ fn has_last(log: &ExplainStore) -> bool {
         && restored.contains(&Var(1))
 }
 
+/// Whether x and y have both values again, and z has the first.
+fn are_restored(store: &DomainStore) -> bool {
+    let both = [Value(1), Value(2)];
+    has_values(store, 0, &both) && has_values(store, 1, &both) && has_values(store, 2, &both[..1])
+}
+
+/// Whether the log explains the three removals, and after a withdrawal of the first constraint has what does not rest on
+/// it.
+fn keeps_what_does_not_rest(
+    alloc: Global,
+    store: &mut DomainStore,
+    log: &mut ExplainStore,
+) -> Result<bool, NoMemory>
+    requires store { store.old ≡ [] }
+    requires log { log.old.log ≡ [] }
+{
+    add_three(store)?;
+    remove_three(store, log)?;
+    if !explains_three(alloc, log)? {
+        return Ok(false);
+    }
+    log.withdraw(Cid::User(1), store);
+    Ok(has_last(log) && are_restored(store))
+}
+
+/// The same of a new store and a new log.
+fn is_kept_anew(alloc: Global) -> Result<bool, NoMemory> {
+    let mut store = DomainStore::new(alloc);
+    let mut log = ExplainStore::new(alloc);
+    keeps_what_does_not_rest(alloc, &mut store, &mut log)
+}
+
 #[test]
 fn a_withdrawal_takes_what_rests_on_the_constraint(rt: HostRuntime) -> Result<(), Fail> {
-    let mut store = three_variables(rt.alloc())?;
-    let mut log = ExplainStore::new(rt.alloc());
-    remove_three(&mut store, &mut log)?;
-    assert!(rt; explains_three(rt.alloc(), &mut log)?);
-    log.withdraw(Cid::User(1), &mut store);
-    assert!(rt; has_last(&log));
-    assert!(rt; has_values(&store, 0, &[Value(1), Value(2)]));
-    assert!(rt; has_values(&store, 1, &[Value(1), Value(2)]));
-    assert!(rt; has_values(&store, 2, &[Value(1)]));
+    assert!(rt; is_kept_anew(rt.alloc())?);
     Ok(())
 }

@@ -1,11 +1,10 @@
 //! Objects that choose what is revised next: the domains do not depend on them, and the log does.
-use crate::calls::{Call, are_answered, engine_of, has_values, pair};
+use crate::calls::{Span, pair};
+use crate::cases::{Step, is_case};
 use crate::choice::Choice;
-use crate::removals::{Removal, has_removals};
+use crate::removals::{Because, Removal, removed};
 use crate::samples::Sample;
-use palm_base::{Cid, NoMemory, Value};
-use palm_engine::Engine;
-use palm_kind::Kind;
+use palm_base::{Cid, NoMemory};
 use std::alloc::Global;
 use std::test::Fail;
 
@@ -16,39 +15,31 @@ const Y: u32 = 1;
 
 const Z: u32 = 2;
 
-/// Whether x, y and z have these values.
-fn have_values(engine: &Engine<Kind>, x: &[Value], y: &[Value], z: &[Value]) -> bool {
-    has_values(engine.store(), X, x)
-        && has_values(engine.store(), Y, y)
-        && has_values(engine.store(), Z, z)
-}
-
 /// Whether `x < y` and `y < z` leave one value each, and without the first of them y and z have two.
-fn are_settled(
-    alloc: Global,
-    engine: &mut Engine<Kind>,
-    choice: &Choice,
-) -> Result<bool, NoMemory> {
-    let first = [
-        Call::Post(1, Sample::Less(X, Y)),
-        Call::Post(2, Sample::Less(Y, Z)),
-        Call::Settle,
+fn are_settled(alloc: Global, choice: &Choice) -> Result<bool, NoMemory> {
+    let steps = [
+        Step::Declare(3, Span::OneToThree),
+        Step::Post(1, Sample::Less(X, Y)),
+        Step::Post(2, Sample::Less(Y, Z)),
+        Step::Settle,
+        Step::Values(X, 1, 1),
+        Step::Values(Y, 2, 2),
+        Step::Values(Z, 3, 3),
+        Step::Withdraw(Cid::User(1)),
+        Step::Settle,
+        Step::Values(X, 1, 3),
+        Step::Values(Y, 1, 2),
+        Step::Values(Z, 2, 3),
     ];
-    let second = [Call::Withdraw(1), Call::Settle];
-    let (one, two) = ([Value(1)], [Value(2)]);
-    let (up, all) = ([Value(1), Value(2)], [Value(1), Value(2), Value(3)]);
-    Ok(
-        are_answered(alloc, engine, choice, &first)?
-            && have_values(engine, &one, &two, &[Value(3)])
-            && are_answered(alloc, engine, choice, &second)?
-            && have_values(engine, &all, &up, &[Value(2), Value(3)]),
-    )
+    is_case(alloc, choice, &steps)
 }
 
-/// The same, from nothing.
-fn are_settled_anew(alloc: Global, choice: &Choice) -> Result<bool, NoMemory> {
-    let mut engine = engine_of(alloc, 3)?;
-    are_settled(alloc, &mut engine, choice)
+#[test]
+fn domains_do_not_depend_on_the_order(rt: HostRuntime) -> Result<(), Fail> {
+    assert!(rt; are_settled(rt.alloc(), &Choice::Least)?);
+    assert!(rt; are_settled(rt.alloc(), &Choice::Last)?);
+    assert!(rt; are_settled(rt.alloc(), &Choice::Rotate)?);
+    Ok(())
 }
 
 /// Whether `x != 2`, `x = y` and `y != 2`, posted together, are settled by so many revisions and leave this log.
@@ -56,63 +47,34 @@ fn has_logged(
     alloc: Global,
     choice: &Choice,
     revisions: u64,
-    log: &[Removal<'_>],
+    log: &[Removal],
 ) -> Result<bool, NoMemory> {
-    let mut engine = engine_of(alloc, 2)?;
-    let calls = [
-        Call::Post(1, Sample::Other(X, 2)),
-        Call::Post(2, Sample::Same(X, Y)),
-        Call::Post(3, Sample::Other(Y, 2)),
-        Call::Settle,
+    let steps = [
+        Step::Declare(2, Span::OneToThree),
+        Step::Post(1, Sample::Other(X, 2)),
+        Step::Post(2, Sample::Same(X, Y)),
+        Step::Post(3, Sample::Other(Y, 2)),
+        Step::Settle,
+        Step::Revisions(revisions),
+        Step::Log(log),
     ];
-    Ok(
-        are_answered(alloc, &mut engine, choice, &calls)?
-            && engine.revisions() == revisions
-            && has_removals(engine.log(), log),
-    )
-}
-
-#[test]
-fn domains_do_not_depend_on_the_order(rt: HostRuntime) -> Result<(), Fail> {
-    let alloc = rt.alloc();
-    assert!(rt; are_settled_anew(alloc, &Choice::Least)?);
-    assert!(rt; are_settled_anew(alloc, &Choice::Last)?);
-    assert!(rt; are_settled_anew(alloc, &Choice::Rotate)?);
-    Ok(())
+    is_case(alloc, choice, &steps)
 }
 
 // Without an order the least name is revised until it rests: 1 takes x 2 out, 1, 2 takes y 2 out, 2, 3.
 // With the last first: 3 takes y 2 out, 3, 2 takes x 2 out, 2, 1.
 #[test]
 fn the_log_depends_on_the_order(rt: HostRuntime) -> Result<(), Fail> {
-    let alloc = rt.alloc();
-    let (x, y) = ([pair(X, 2)], [pair(Y, 2)]);
     let from_x = [
-        Removal {
-            pair: pair(X, 2),
-            by: Cid::User(1),
-            reasons: &[],
-        },
-        Removal {
-            pair: pair(Y, 2),
-            by: Cid::User(2),
-            reasons: &x,
-        },
+        removed(pair(X, 2), 1, Because::Nothing),
+        removed(pair(Y, 2), 2, Because::One(pair(X, 2))),
     ];
-    assert!(rt; has_logged(alloc, &Choice::Least, 5, &from_x)?);
+    assert!(rt; has_logged(rt.alloc(), &Choice::Least, 5, &from_x)?);
     let from_y = [
-        Removal {
-            pair: pair(Y, 2),
-            by: Cid::User(3),
-            reasons: &[],
-        },
-        Removal {
-            pair: pair(X, 2),
-            by: Cid::User(2),
-            reasons: &y,
-        },
+        removed(pair(Y, 2), 3, Because::Nothing),
+        removed(pair(X, 2), 2, Because::One(pair(Y, 2))),
     ];
-    assert!(rt; has_logged(alloc, &Choice::Last, 5, &from_y)?);
+    assert!(rt; has_logged(rt.alloc(), &Choice::Last, 5, &from_y)?);
     Ok(())
 }
 
@@ -121,20 +83,10 @@ fn the_log_depends_on_the_order(rt: HostRuntime) -> Result<(), Fail> {
 // x 2, 2 rests, 3 rests.
 #[test]
 fn an_order_is_told_of_each_revision(rt: HostRuntime) -> Result<(), Fail> {
-    let alloc = rt.alloc();
-    let x = [pair(X, 2)];
     let log = [
-        Removal {
-            pair: pair(X, 2),
-            by: Cid::User(1),
-            reasons: &[],
-        },
-        Removal {
-            pair: pair(Y, 2),
-            by: Cid::User(2),
-            reasons: &x,
-        },
+        removed(pair(X, 2), 1, Because::Nothing),
+        removed(pair(Y, 2), 2, Because::One(pair(X, 2))),
     ];
-    assert!(rt; has_logged(alloc, &Choice::SecondOnce, 6, &log)?);
+    assert!(rt; has_logged(rt.alloc(), &Choice::SecondOnce, 6, &log)?);
     Ok(())
 }

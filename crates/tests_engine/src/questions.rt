@@ -1,13 +1,17 @@
 //! What a settling asks of the filters: nothing after a withdrawal that leaves no constraint over a restored value.
-use crate::calls::{Call, are_answered, engine_of, pair, post, withdraw};
+ghost use Rattle.palm_model.specs.Constraint.{IsWellFormed};
+
+use crate::calls::{Span, declare, pair, post, withdraw};
+use crate::cases::{Step, is_case};
 use crate::choice::{Choice, run_settling};
-use crate::removals::{Removal, has_removals};
-use crate::samples::{Sample, kind_of};
+use crate::removals::{Because, Removal, has_removals, removed};
+use crate::samples::{Sample, con_of};
 use palm_base::{Cid, NoMemory, Pair, VarList};
 use palm_domain::DomainStore;
 use palm_engine::{Engine, Settle};
 use palm_filter::{Filter, Reasons};
 use palm_kind::Kind;
+use palm_model::Con;
 use std::alloc::Global;
 use std::cell::Cell;
 use std::test::Fail;
@@ -21,19 +25,11 @@ const U: u32 = 2;
 
 const V: u32 = 3;
 
-/// What the second constraint takes out.
-fn removals_of_second() -> [Removal<'static>; 2] {
+/// What `u < v` takes out, as the second constraint.
+fn removals_of_second() -> [Removal; 2] {
     [
-        Removal {
-            pair: pair(U, 3),
-            by: Cid::User(2),
-            reasons: &[],
-        },
-        Removal {
-            pair: pair(V, 1),
-            by: Cid::User(2),
-            reasons: &[],
-        },
+        removed(pair(U, 3), 2, Because::Nothing),
+        removed(pair(V, 1), 2, Because::Nothing),
     ]
 }
 
@@ -64,6 +60,20 @@ impl Filter for Counted<'_> {
 }
 
 /// Posts the constraint by a filter that counts, unless a constraint has the number.
+fn post_counted_con<'a>(
+    alloc: Global,
+    engine: &mut Engine<Counted<'a>>,
+    number: u32,
+    con: &Con,
+    asked: &'a Cell<u64>,
+) -> Result<bool, NoMemory>
+    requires { IsWellFormed 4 con.now }
+{
+    let kind = Kind::from_con(alloc, con)?;
+    post(engine, number, Counted { kind, asked })
+}
+
+/// Posts the constraint of the sample by a filter that counts, unless a constraint has the number.
 fn post_counted<'a>(
     alloc: Global,
     engine: &mut Engine<Counted<'a>>,
@@ -71,36 +81,26 @@ fn post_counted<'a>(
     sample: &Sample,
     asked: &'a Cell<u64>,
 ) -> Result<bool, NoMemory> {
-    match kind_of(alloc, sample)? {
-        Some(kind) => post(engine, number, Counted { kind, asked }),
+    match con_of(alloc, sample)? {
+        Some(con) => post_counted_con(alloc, engine, number, &con, asked),
         None => Ok(false),
     }
 }
 
-/// Settles two constraints that share no variable, and then what is left without the first, which asks nothing.
-fn asks_nothing_anew(alloc: Global, engine: &mut Engine<Kind>) -> Result<bool, NoMemory> {
-    let first = [
-        Call::Post(1, Sample::Less(X, Y)),
-        Call::Post(2, Sample::Less(U, V)),
-        Call::Settle,
-    ];
-    let second = [Call::Withdraw(1), Call::Settle];
-    if !are_answered(alloc, engine, &Choice::Least, &first)? {
-        return Ok(false);
-    }
-    let checks = engine.checks();
-    Ok(
-        are_answered(alloc, engine, &Choice::Least, &second)?
-            && engine.revisions() == 0
-            && engine.checks() == checks,
-    )
-}
-
+// The two constraints share no variable.
 #[test]
 fn a_settling_after_a_withdrawal_asks_nothing(rt: HostRuntime) -> Result<(), Fail> {
-    let mut engine = engine_of(rt.alloc(), 4)?;
-    assert!(rt; asks_nothing_anew(rt.alloc(), &mut engine)?);
-    assert!(rt; has_removals(engine.log(), &removals_of_second()));
+    let left = removals_of_second();
+    let steps = [
+        Step::Declare(4, Span::OneToThree),
+        Step::Post(1, Sample::Less(X, Y)),
+        Step::Post(2, Sample::Less(U, V)),
+        Step::Settle,
+        Step::Withdraw(Cid::User(1)),
+        Step::Rest,
+        Step::Log(&left),
+    ];
+    assert!(rt; is_case(rt.alloc(), &Choice::Least, &steps)?);
     Ok(())
 }
 
@@ -110,6 +110,7 @@ fn is_settled_counted<'a>(
     engine: &mut Engine<Counted<'a>>,
     asked: &'a Cell<u64>,
 ) -> Result<bool, NoMemory> {
+    declare(engine, 4, &Span::OneToThree)?;
     Ok(
         post_counted(alloc, engine, 1, &Sample::Less(X, Y), asked)?
             && post_counted(alloc, engine, 2, &Sample::Less(U, V), asked)?
@@ -123,19 +124,33 @@ fn is_settled_at_once(alloc: Global, engine: &mut Engine<Counted<'_>>) -> Result
     Ok(
         withdraw(engine, &Cid::User(1))
             && run_settling(alloc, engine, &Choice::Least, None)? == Settle::Settled
-            && engine.revisions() == 0,
+            && engine.revisions() == 0
+            && has_removals(engine.log(), &removals_of_second()),
     )
+}
+
+/// Whether the filters are asked as often as the engine counts, at most 36 times, and not once more after the withdrawal.
+fn is_asked_as_counted<'a>(
+    alloc: Global,
+    engine: &mut Engine<Counted<'a>>,
+    asked: &'a Cell<u64>,
+) -> Result<bool, NoMemory> {
+    if !is_settled_counted(alloc, engine, asked)? {
+        return Ok(false);
+    }
+    let first = asked.get();
+    Ok(0 < first && first <= 36 && is_settled_at_once(alloc, engine)? && asked.get() == first)
+}
+
+/// The same of a new engine.
+fn is_asked_anew(alloc: Global) -> Result<bool, NoMemory> {
+    let asked = Cell::new(0);
+    let mut engine = Engine::new(alloc);
+    is_asked_as_counted(alloc, &mut engine, &asked)
 }
 
 #[test]
 fn a_filter_is_asked_as_often_as_is_counted(rt: HostRuntime) -> Result<(), Fail> {
-    let asked = Cell::new(0);
-    let mut engine = engine_of(rt.alloc(), 4)?;
-    assert!(rt; is_settled_counted(rt.alloc(), &mut engine, &asked)?);
-    let first = asked.get();
-    assert!(rt; 0 < first && first <= 36);
-    assert!(rt; is_settled_at_once(rt.alloc(), &mut engine)?);
-    assert_eq!(rt; asked.get(), first);
-    assert!(rt; has_removals(engine.log(), &removals_of_second()));
+    assert!(rt; is_asked_anew(rt.alloc())?);
     Ok(())
 }

@@ -6,12 +6,30 @@ use palm_base::{Cid, CidList, NoMemory, Pair};
 use palm_explain::ExplainStore;
 use std::alloc::Global;
 
+/// The pairs for which a pair was taken out.
+#[derive(Clone, Copy)]
+pub enum Because {
+    Nothing,
+    One(Pair),
+    Two(Pair, Pair),
+    Three(Pair, Pair, Pair),
+}
+
 /// A pair that was taken out, the constraint that did it, and the pairs for which it did.
-#[derive(Clone, Copy, Debug)]
-pub struct Removal<'a> {
+#[derive(Clone, Copy)]
+pub struct Removal {
     pub pair: Pair,
     pub by: Cid,
-    pub reasons: &'a [Pair],
+    pub because: Because,
+}
+
+/// The removal of the pair by the user's constraint of this number.
+pub fn removed(pair: Pair, by: u32, because: Because) -> Removal {
+    Removal {
+        pair,
+        by: Cid::User(by),
+        because,
+    }
 }
 
 /// Whether the pair is removed.
@@ -36,17 +54,29 @@ fn has_reasons(log: &ExplainStore, place: usize, reasons: &[Pair]) -> bool
     true
 }
 
+/// Whether the removal at the place was for these.
+fn is_because(log: &ExplainStore, place: usize, because: &Because) -> bool
+    requires { place < length log.now.log }
+{
+    match because {
+        Because::Nothing => has_reasons(log, place, &[]),
+        Because::One(x) => has_reasons(log, place, &[*x]),
+        Because::Two(x, y) => has_reasons(log, place, &[*x, *y]),
+        Because::Three(x, y, z) => has_reasons(log, place, &[*x, *y, *z]),
+    }
+}
+
 /// Whether the removal at the place is this one.
-fn stands_at(log: &ExplainStore, place: usize, removal: &Removal<'_>) -> bool
+fn stands_at(log: &ExplainStore, place: usize, removal: &Removal) -> bool
     requires { place < length log.now.log }
 {
     log.pair_at(place) == removal.pair
         && log.by_at(place) == removal.by
-        && has_reasons(log, place, removal.reasons)
+        && is_because(log, place, &removal.because)
 }
 
 /// Whether the log has these removals, in this order.
-pub fn has_removals(log: &ExplainStore, removals: &[Removal<'_>]) -> bool {
+pub fn has_removals(log: &ExplainStore, removals: &[Removal]) -> bool {
     if log.removals() != removals.len() {
         return false;
     }

@@ -1,9 +1,8 @@
-//! Constraints of every kind over the first four variables, as the tests name them, and their filters.
-ghost use Rattle.std.specs.Prelude.{All, IfOk, IfSome, OnOk};
+//! Constraints of every kind over the first four variables, as the tests name them.
+ghost use Rattle.std.specs.Prelude.{◌≡◌, pos, [], ◌∷◌, All, IfOk, IfSome, OnOk};
 ghost use Rattle.palm_model.specs.Constraint.{IsWellFormed};
 
 use palm_base::{NoMemory, Value, ValueList, Var, VarList};
-use palm_kind::Kind;
 use palm_model::{Con, ConList, Op, RowList, Target, Term, TermList};
 use std::alloc::Global;
 
@@ -11,7 +10,7 @@ use std::alloc::Global;
 const VARIABLES: u32 = 4;
 
 /// A constraint over the first four variables.
-#[derive(Clone, Copy, Debug)]
+#[derive(Clone, Copy)]
 pub enum Sample {
     /// The first variable is less than the second.
     Less(u32, u32),
@@ -81,18 +80,24 @@ fn sum(alloc: Global) -> Result<Con, NoMemory>
     })
 }
 
+/// Appends the rows (1,2), (2,3) and (3,9).
+fn push_rows(alloc: Global, rows: &mut RowList) -> Result<(), NoMemory>
+    requires { rows.old ≡ [] }
+    ensures { OnOk result (rows.new ≡ (pos 1 ∷ pos 2 ∷ []) ∷ (pos 2 ∷ pos 3 ∷ []) ∷ (pos 3 ∷ pos 9 ∷ []) ∷ []) }
+{
+    rows.push(ValueList::from_slice(alloc, &[Value(1), Value(2)])?)?;
+    rows.push(ValueList::from_slice(alloc, &[Value(2), Value(3)])?)?;
+    rows.push(ValueList::from_slice(alloc, &[Value(3), Value(9)])?)
+}
+
 /// `table x y : (1,2) (2,3) (3,9)`
 fn table(alloc: Global) -> Result<Con, NoMemory>
     ensures { IfOk result (IsWellFormed 4) }
 {
+    let vars = VarList::from_slice(alloc, &[Var(0), Var(1)])?;
     let mut rows = RowList::new(alloc);
-    rows.push(ValueList::from_slice(alloc, &[Value(1), Value(2)])?)?;
-    rows.push(ValueList::from_slice(alloc, &[Value(2), Value(3)])?)?;
-    rows.push(ValueList::from_slice(alloc, &[Value(3), Value(9)])?)?;
-    Ok(Con::Table {
-        vars: VarList::from_slice(alloc, &[Var(0), Var(1)])?,
-        rows,
-    })
+    push_rows(alloc, &mut rows)?;
+    Ok(Con::Table { vars, rows })
 }
 
 /// `element z x (3,1,2)`
@@ -128,7 +133,7 @@ fn differ(alloc: Global) -> Result<Con, NoMemory>
 }
 
 /// The constraint that the sample means, where it is one.
-fn con_of(alloc: Global, sample: &Sample) -> Result<Option<Con>, NoMemory>
+pub fn con_of(alloc: Global, sample: &Sample) -> Result<Option<Con>, NoMemory>
     ensures { IfOk result (λ found. IfSome found (IsWellFormed 4)) }
 {
     Ok(match *sample {
@@ -144,14 +149,6 @@ fn con_of(alloc: Global, sample: &Sample) -> Result<Option<Con>, NoMemory>
     })
 }
 
-/// The filter of the sample, where it is a constraint.
-pub fn kind_of(alloc: Global, sample: &Sample) -> Result<Option<Kind>, NoMemory> {
-    match con_of(alloc, sample)? {
-        Some(con) => Ok(Some(Kind::from_con(alloc, &con)?)),
-        None => Ok(None),
-    }
-}
-
 /// Appends the constraint of the sample, where it is one.
 fn push_con(alloc: Global, list: &mut ConList, sample: &Sample) -> Result<(), NoMemory>
     requires { All (IsWellFormed 4) list.old }
@@ -163,13 +160,13 @@ fn push_con(alloc: Global, list: &mut ConList, sample: &Sample) -> Result<(), No
     }
 }
 
-/// The constraints of the samples.
-pub fn cons_of(alloc: Global, samples: &[Sample]) -> Result<ConList, NoMemory>
-    ensures { IfOk result (All (IsWellFormed 4)) }
+/// Appends the constraints of the samples.
+pub fn push_cons(alloc: Global, list: &mut ConList, samples: &[Sample]) -> Result<(), NoMemory>
+    requires { All (IsWellFormed 4) list.old }
+    ensures { OnOk result (All (IsWellFormed 4) list.new) }
 {
-    let mut list = ConList::new(alloc);
     for sample in samples {
-        push_con(alloc, &mut list, sample)?;
+        push_con(alloc, list, sample)?;
     }
-    Ok(list)
+    Ok(())
 }
