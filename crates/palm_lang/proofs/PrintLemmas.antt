@@ -1,6 +1,6 @@
 -- One text appended behind another.
 use Rattle.std.proofs.Common.{◌≡◌, ℕ, ℤ, ◌+◌, ◌-◌, min, zip, ◌<◌, List, [], ◌∷◌, ◌++◌, length, get_or, take, drop, map, flat_map, All, codes, IsErr, true≢false, Result, Ok, Err, refl, sym, ap, ◌∙◌, arith}
-use Rattle.std.proofs.lemmas.List.{append-nil, append_assoc, take_all, length-map, get_or-map, map_more}
+use Rattle.std.proofs.lemmas.List.{append-nil, append_assoc, flat_map_more, take_all, take_more, length-map, get_or-map, map_more}
 use Rattle.std.proofs.lemmas.Slice.Zip.{get_or-zip, length-zip}
 use Rattle.std.specs.Fmt.{signed_decimal}
 use Rattle.std.proofs.lemmas.List.Concat.{flat_map-append}
@@ -9,7 +9,8 @@ use Rattle.palm_read.specs.Linear.{linear_terms_words, linear_first_text, linear
 use Rattle.palm_read.specs.Words.{after_spaces}
 use Rattle.palm_book.specs.Book.{Entry, name_of}
 use Rattle.palm_book.specs.Named.{named_term}
-use Rattle.palm_lang.specs.Reply.{assigned_text}
+use Rattle.palm_lang.specs.Reply.{assigned_text, pair_text, reasons_text}
+use Rattle.palm_base.specs.declared.terms.Pair.{Pair}
 use Rattle.palm_read.specs.declared.line.NameTerm.{NameTerm}
 use Rattle.palm_model.specs.declared.constraint.Term.{Term}
 
@@ -46,14 +47,42 @@ linear_con_text variables (t ∷ ts) first some is =
     rw (is, rest, after_spaces-flat_map, named) refl
 
 -- where memory ran out
+pub Puts-kept : {T E : Type 0} (a c text : List ℕ) (r : Result T E) → IsErr r → Keeps a c → Puts a c text r
+Puts-kept a c text (Ok v) failed k = absurd (true≢false (sym failed))
+Puts-kept a c text (Err v) failed k = k
+
+-- where memory ran out behind a text
 pub Puts-failed : {T E : Type 0} (a b c x text : List ℕ) (r : Result T E) → IsErr r → b ≡ a ++ x → Keeps b c → Puts a c text r
-Puts-failed a b c x text (Ok v) failed e k = absurd (true≢false (sym failed))
-Puts-failed a b c x text (Err v) failed e k = Keeps-more a b c x e k
+Puts-failed a b c x text r failed e k = Puts-kept a c text r failed (Keeps-more a b c x e k)
+
+-- two texts, one behind the other
+pub both_put : (a b c x y : List ℕ) → b ≡ a ++ x → c ≡ b ++ y → c ≡ a ++ (x ++ y)
+both_put a b c x y e f = f ∙ ap (λ (z : List ℕ). z ++ y) e ∙ append_assoc a x y
 
 -- a text that is followed by another
 pub Puts-more : {T E : Type 0} (a b c x y text : List ℕ) (r : Result T E) → b ≡ a ++ x → text ≡ x ++ y → Puts b c y r → Puts a c text r
 Puts-more a b c x y text (Ok v) e t p = p ∙ ap (λ (z : List ℕ). z ++ y) e ∙ append_assoc a x y ∙ ap (λ (z : List ℕ). a ++ z) (sym t)
 Puts-more a b c x y text (Err v) e t p = Keeps-more a b c x e p
+
+-- one more of the texts that a loop puts one behind another
+pub texts_more : {X : Type 0} (text : X → List ℕ) (old before after : List ℕ) (xs : List X) (i : ℕ) (x : X) → i < length xs → x ≡ get_or xs i x → before ≡ old ++ flat_map text (take i xs) → after ≡ before ++ text x → after ≡ old ++ flat_map text (take (i + 1) xs)
+texts_more text old before after xs i x lt is so put =
+    let more : take (i + 1) xs ≡ take i xs ++ x ∷ [] = take_more xs i x lt ∙ ap (λ y. take i xs ++ y ∷ []) (sym is) in
+    put ∙ ap (λ (bytes : List ℕ). bytes ++ text x) so ∙ flat_map_more text old (take i xs) x ∙ ap (λ items. old ++ flat_map text items) (sym more)
+
+-- the same for texts of what is made of each thing
+pub mapped_more : {X Y : Type 0} (text : Y → List ℕ) (made : X → Y) (old before after : List ℕ) (xs : List X) (i : ℕ) (x : X) → i < length xs → x ≡ get_or xs i x → before ≡ old ++ flat_map text (map made (take i xs)) → after ≡ before ++ text (made x) → after ≡ old ++ flat_map text (map made (take (i + 1) xs))
+mapped_more text made old before after xs i x lt is so put =
+    let so_each = so ∙ ap (λ (bytes : List ℕ). old ++ bytes) (flat_map-map text made (take i xs)) in
+    texts_more (λ y. text (made y)) old before after xs i x lt is so_each put ∙ ap (λ (bytes : List ℕ). old ++ bytes) (sym (flat_map-map text made (take (i + 1) xs)))
+
+-- the reasons of a removal, the first of them and the rest
+pub reasons_more : (variables : List Entry) (pairs : List Pair) (first : Pair) → 0 < length pairs → first ≡ get_or pairs 0 first → reasons_text variables pairs ≡ codes " from " ++ (pair_text variables first ++ flat_map (λ p. codes ", " ++ pair_text variables p) (take (length pairs - 1) (drop 1 pairs)))
+reasons_more variables [] first some is = absurd (omega arith)
+reasons_more variables (p ∷ ps) first some is =
+    let further : List Pair → List ℕ = flat_map (λ q. codes ", " ++ pair_text variables q) in
+    let rest : take (length (p ∷ ps) - 1) ps ≡ ps = take_all (length (p ∷ ps) - 1) ps (omega arith) in
+    ap (λ q. codes " from " ++ (pair_text variables q ++ further ps)) (sym is) ∙ ap (λ qs. codes " from " ++ (pair_text variables first ++ further qs)) (sym rest)
 
 -- several words with another and more behind them
 pub after_spaces-append : (words : List (List ℕ)) (w : List ℕ) (more : List (List ℕ)) → after_spaces (words ++ w ∷ more) ≡ after_spaces words ++ (codes " " ++ (w ++ after_spaces more))

@@ -5,7 +5,7 @@ use Rattle.std.proofs.lemmas.Slice.Zip.{length-zip}
 use Rattle.palm_book.specs.Book.{Entry, name_of}
 use Rattle.palm_lang.specs.Reply.{assigned_text}
 use Rattle.palm_read.specs.Words.{after_spaces}
-use Rattle.palm_lang.proofs.PrintLemmas.{assigned_more}
+use Rattle.palm_lang.proofs.PrintLemmas.{Puts-failed, assigned_more}
 use Rattle.palm_lang.proofs.print.replies.put_assignment.Goals as goal
 
 pub loop-var-preserved : goal.loop-var-preserved
@@ -30,3 +30,7 @@ returns c =
     let i = c.loop-var.var in
     let all : length (zip variables values) ≤ i = let end = c.variables-var-end.ensures.count in omega (arith, length-zip variables values) in
     c.loop-var.invariant ∙ ap (λ (ps : List (Entry × ℤ)). c.args.out.now.items ++ after_spaces (map assigned_text ps)) (take_all i (zip variables values) all) ∙ ap (λ (vs : List ℤ). c.args.out.now.items ++ after_spaces (map assigned_text (zip variables vs))) c.as_slice-values.ensures
+
+pub returns-in_err-put_assigned : goal.returns-in_err-put_assigned
+returns-in_err-put_assigned c =
+    Puts-failed c.args.out.now.items c.loop-var.out.items c.put_assigned.new.out.items _ _ c.from_residual.result c.from_residual.ensures.0 c.loop-var.invariant c.in_err-put_assigned.ensures

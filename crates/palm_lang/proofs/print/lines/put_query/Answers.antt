@@ -1,0 +1,6 @@
+use Rattle.palm_lang.proofs.PrintLemmas.{Keeps-more, Puts-kept}
+use Rattle.palm_lang.proofs.print.lines.put_query.Goals as goal
+
+pub returns-in_err-put_spaced_name : goal.returns-in_err-put_spaced_name
+returns-in_err-put_spaced_name c =
+    Puts-kept c.args.out.now.items _ _ c.from_residual-in_err-put_spaced_name.result c.from_residual-in_err-put_spaced_name.ensures.0 (Keeps-more _ _ _ _ c.in_ok-put_text.ensures c.in_err-put_spaced_name.ensures)
