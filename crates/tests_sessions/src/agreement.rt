@@ -1,10 +1,11 @@
 //! The slow way beside the filters.
-ghost use Rattle.std.specs.Prelude.{◌≡◌, ◌<◌, IfOk, All, false, length};
+ghost use Rattle.std.specs.Prelude.{◌≡◌, IfOk, All, false, length};
 ghost use Rattle.palm_book.specs.Book.{active_of, initial_of};
 ghost use Rattle.palm_model.specs.Constraint.{IsWellFormed};
 ghost use Rattle.palm_model.specs.Domains.{AllAscend};
 ghost use Rattle.palm_model.specs.Log.{cons_of};
 
+use crate::fresh::{Question, ask, feed};
 use crate::guides::Scripted;
 use palm_agenda::LastOrder;
 use palm_base::{NoMemory, SteadySink, Steps, ValueList, Var};
@@ -12,12 +13,8 @@ use palm_lang::{Book, Fixed, print_domain, print_fixed};
 use palm_model::{ConList, DomainList, copy_of, scratch};
 use palm_session::{Session, Stop};
 use std::alloc::Global;
-use std::marker::Brand;
-use std::sync::ledger::{Blank, Ledger};
+use std::sync::ledger::Ledger;
 use std::test::Fail;
-
-/// How many bytes a sink may keep.
-const ROOM: usize = 4_096;
 
 /// The initial values of each variable.
 fn initial_domains(alloc: Global, book: &Book) -> Result<DomainList, NoMemory>
@@ -53,137 +50,129 @@ fn slow_domains(alloc: Global, book: &Book) -> Result<DomainList, NoMemory> {
     scratch(alloc, &initial, &constraints)
 }
 
-/// The replies, and then what `domains` is to reply after them.
-fn expected_text(alloc: Global, replies: &[u8], book: &Book) -> Result<Vec<u8>, NoMemory> {
-    let domains = slow_domains(alloc, book)?;
-    let mut text = Vec::new(alloc);
-    text.extend_from_slice(replies)?;
+/// Appends what `domains` is to reply of the book where these are the domains.
+fn print_domains(book: &Book, domains: &DomainList, text: &mut Vec<u8>) -> Result<(), NoMemory> {
     if domains
         .as_slice()
         .iter()
         .any(|values| values.as_slice().is_empty())
     {
-        print_fixed(Fixed::Contradiction, &mut text)?;
-        return Ok(text);
+        return print_fixed(Fixed::Contradiction, text);
     }
     for index in 0..book.variables() {
         if let Some(values) = domains.as_slice().get(index as usize) {
-            print_domain(book.variable_name(Var(index)), values.as_slice(), &mut text)?;
+            print_domain(book.variable_name(Var(index)), values.as_slice(), text)?;
         }
     }
-    print_fixed(Fixed::End, &mut text)?;
+    print_fixed(Fixed::End, text)
+}
+
+/// The replies, and then what `domains` is to reply after them.
+fn expected_text(alloc: Global, replies: &[u8], book: &Book) -> Result<Vec<u8>, NoMemory> {
+    let mut text = Vec::new(alloc);
+    text.extend_from_slice(replies)?;
+    print_domains(book, &slow_domains(alloc, book)?, &mut text)?;
     Ok(text)
 }
 
-/// Whether the session answers the text, which ends in the line `domains`, by these replies and then by what the slow way
-/// computes.
-fn agrees<L: Ledger>(
-    session: &mut Session<Scripted, LastOrder>,
-    alloc: Global,
-    text: &[u8],
-    replies: &[u8],
-    steps: &mut Steps<L>,
-) -> Result<bool, Stop>
-    requires { session.old.over ≡ false }
-{
-    let mut sink = SteadySink::new(alloc);
-    sink.reserve(ROOM)?;
-    session.feed(text, &mut sink, steps)?;
-    let expected = expected_text(alloc, replies, session.book())?;
-    Ok(sink.bytes() == expected.as_slice())
+/// A text that ends in the line `domains`, and the replies to the lines before it.
+#[derive(Clone, Copy)]
+struct Agreement<'a> {
+    text: &'a str,
+    replies: &'a str,
 }
 
-/// Whether a fresh session does. It is given up in one place, since each place costs its proof.
-fn agree_counted<L: Ledger>(
-    alloc: Global,
-    text: &[u8],
-    replies: &[u8],
-    blank: Blank,
-) -> Result<bool, Stop>
-    requires named { blank.name ≡ L.name }
-    requires parts { blank.parts ≡ L.parts }
-    requires shared { 0 < L.parts }
-{
-    let mut steps = Steps::<L>::start(blank);
-    let mut session = Session::new(
-        alloc,
-        Vec::<Scripted>::new(alloc),
-        Vec::<LastOrder>::new(alloc),
-    )?;
-    agrees(&mut session, alloc, text, replies, &mut steps)
+impl Question for Agreement<'_> {
+    fn is_answered<L: Ledger>(
+        &self,
+        alloc: Global,
+        session: &mut Session<Scripted, LastOrder>,
+        steps: &mut Steps<L>,
+    ) -> Result<bool, Stop> {
+        let mut sink = SteadySink::new(alloc);
+        feed(session, self.text.as_bytes(), &mut sink, steps)?;
+        let expected = expected_text(alloc, self.replies.as_bytes(), session.book())?;
+        Ok(sink.bytes() == expected.as_slice())
+    }
 }
 
-/// The same, with a counter of its own.
+/// Whether a fresh session answers the text by these replies and then by what the slow way computes.
 fn agree(alloc: Global, text: &str, replies: &str) -> Result<bool, Stop> {
-    agree_counted::<Brand>(alloc, text.as_bytes(), replies.as_bytes(), Blank::new(1))
+    ask(alloc, Vec::new(alloc), &Agreement { text, replies })
 }
+
+/// Sessions with comparisons: a text that ends in the line `domains`, and the replies to the lines before it.
+const COMPARISONS: &[(&str, &str)] = &[
+    (
+        "var x 1..3\nvar y 1..3\nadd a : x < y\ndomains\n",
+        "ok\nok\nok\n",
+    ),
+    (
+        "var x 1..3\nvar y 1..3\nvar z 1..3\nadd a : x < y\nadd b : y < z\nadd c : z < x\ndomains\n",
+        "ok\nok\nok\nok\nok\ncontradiction\n",
+    ),
+    (
+        "var x 1..3\nvar y {1,5}\nadd s : sum -2*x + y <= 3\nadd m : x < y\ndomains\n",
+        "ok\nok\nok\nok\n",
+    ),
+];
 
 #[test]
 fn filters_and_the_slow_way_agree_on_comparisons(rt: HostRuntime) -> Result<(), Fail> {
-    let sessions = [
-        (
-            "var x 1..3\nvar y 1..3\nadd a : x < y\ndomains\n",
-            "ok\nok\nok\n",
-        ),
-        (
-            "var x 1..3\nvar y 1..3\nvar z 1..3\nadd a : x < y\nadd b : y < z\nadd c : z < x\ndomains\n",
-            "ok\nok\nok\nok\nok\ncontradiction\n",
-        ),
-        (
-            "var x 1..3\nvar y {1,5}\nadd s : sum -2*x + y <= 3\nadd m : x < y\ndomains\n",
-            "ok\nok\nok\nok\n",
-        ),
-    ];
-    for (text, replies) in sessions {
+    for (text, replies) in COMPARISONS {
         assert!(rt; agree(rt.alloc(), text, replies)?);
     }
     Ok(())
 }
+
+/// Sessions with sums.
+const SUMS: &[(&str, &str)] = &[
+    (
+        "var u 0..1\nvar v 1..1\nadd h : sum u + v != 1\ndomains\n",
+        "ok\nok\nok\n",
+    ),
+    (
+        "var x 0..5\nvar y 0..5\nadd s : sum 3*x - 2*y = 1\ndomains\n",
+        "ok\nok\nok\n",
+    ),
+    (
+        "var x 999999..1000000\nvar y -1000000..-999999\nadd g : sum 100000*x - 100000*y >= 200000000000\ndomains\n",
+        "ok\nok\nok\n",
+    ),
+];
 
 #[test]
 fn filters_and_the_slow_way_agree_on_sums(rt: HostRuntime) -> Result<(), Fail> {
-    let sessions = [
-        (
-            "var u 0..1\nvar v 1..1\nadd h : sum u + v != 1\ndomains\n",
-            "ok\nok\nok\n",
-        ),
-        (
-            "var x 0..5\nvar y 0..5\nadd s : sum 3*x - 2*y = 1\ndomains\n",
-            "ok\nok\nok\n",
-        ),
-        (
-            "var x 999999..1000000\nvar y -1000000..-999999\nadd g : sum 100000*x - 100000*y >= 200000000000\ndomains\n",
-            "ok\nok\nok\n",
-        ),
-    ];
-    for (text, replies) in sessions {
+    for (text, replies) in SUMS {
         assert!(rt; agree(rt.alloc(), text, replies)?);
     }
     Ok(())
 }
 
+/// Sessions with constraints of the other kinds.
+const OTHERS: &[(&str, &str)] = &[
+    (
+        "var x 1..3\nvar y 1..3\nadd t : table x y : (1,2) (2,3) (3,9)\nadd f : x != 1\ndomains\n",
+        "ok\nok\nok\nok\n",
+    ),
+    (
+        "var z {3,5,7}\nvar y 0..4\nadd e : element z y (5,3,5)\nadd f : z != 5\ndomains\n",
+        "ok\nok\nok\nok\n",
+    ),
+    (
+        "var a 1..2\nvar b 1..2\nvar c 1..2\nvar n 0..3\nadd p : a = 1\nadd q : c != 1\n\
+         add k : count 1 a b c = n\nadd r : n = 2\ndomains\n",
+        "ok\nok\nok\nok\nok\nok\nok\nok\n",
+    ),
+    (
+        "var x 1..3\nvar y 1..3\nvar z 1..3\nadd d : differ x y z\nadd e : x = 1\ndomains\n",
+        "ok\nok\nok\nok\nok\n",
+    ),
+];
+
 #[test]
 fn filters_and_the_slow_way_agree_on_the_other_kinds(rt: HostRuntime) -> Result<(), Fail> {
-    let sessions = [
-        (
-            "var x 1..3\nvar y 1..3\nadd t : table x y : (1,2) (2,3) (3,9)\nadd f : x != 1\ndomains\n",
-            "ok\nok\nok\nok\n",
-        ),
-        (
-            "var z {3,5,7}\nvar y 0..4\nadd e : element z y (5,3,5)\nadd f : z != 5\ndomains\n",
-            "ok\nok\nok\nok\n",
-        ),
-        (
-            "var a 1..2\nvar b 1..2\nvar c 1..2\nvar n 0..3\nadd p : a = 1\nadd q : c != 1\n\
-             add k : count 1 a b c = n\nadd r : n = 2\ndomains\n",
-            "ok\nok\nok\nok\nok\nok\nok\nok\n",
-        ),
-        (
-            "var x 1..3\nvar y 1..3\nvar z 1..3\nadd d : differ x y z\nadd e : x = 1\ndomains\n",
-            "ok\nok\nok\nok\nok\n",
-        ),
-    ];
-    for (text, replies) in sessions {
+    for (text, replies) in OTHERS {
         assert!(rt; agree(rt.alloc(), text, replies)?);
     }
     Ok(())

@@ -10,24 +10,6 @@ pub struct Scripted {
     pub count: u32,
 }
 
-impl Scripted {
-    /// Always picks the pair.
-    pub fn always(pair: Pair) -> Scripted {
-        Scripted {
-            pick: Some(pair),
-            count: 0,
-        }
-    }
-
-    /// Picks by its count.
-    pub fn counting() -> Scripted {
-        Scripted {
-            pick: None,
-            count: 0,
-        }
-    }
-}
-
 impl Guide for Scripted {
     ghost use Rattle.std.specs.Prelude.{◌≡◌, ◌∷◌, []};
 

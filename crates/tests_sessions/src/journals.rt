@@ -1,18 +1,13 @@
 //! The journal of a session's last search.
-ghost use Rattle.std.specs.Prelude.{◌≡◌, ◌<◌, false};
-
+use crate::fresh::{Question, ask, feed};
 use crate::guides::Scripted;
 use palm_agenda::LastOrder;
-use palm_base::{Pair, SteadySink, Steps, Value, Var};
+use palm_base::{NoMemory, Pair, SteadySink, Steps, Value, Var};
 use palm_search::{Pick, Turn};
 use palm_session::{Session, Stop};
 use std::alloc::Global;
-use std::marker::Brand;
-use std::sync::ledger::{Blank, Ledger};
+use std::sync::ledger::Ledger;
 use std::test::Fail;
-
-/// How many bytes a sink may keep.
-const ROOM: usize = 4_096;
 
 /// What a journal is to be: so many turns, with these decisions and these picks, in order.
 #[derive(Clone, Copy)]
@@ -39,46 +34,42 @@ fn is_as_wanted(journal: &[Turn], wanted: &Wanted<'_>) -> bool {
     place == wanted.decided.len() && journal.len() == wanted.turns
 }
 
-/// Whether the session leaves such a journal behind the text.
-fn is_left<L: Ledger>(
-    session: &mut Session<Scripted, LastOrder>,
-    alloc: Global,
-    text: &[u8],
-    wanted: &Wanted<'_>,
-    steps: &mut Steps<L>,
-) -> Result<bool, Stop>
-    requires { session.old.over ≡ false }
-{
-    let mut sink = SteadySink::new(alloc);
-    sink.reserve(ROOM)?;
-    session.feed(text, &mut sink, steps)?;
-    Ok(is_as_wanted(session.journal(), wanted))
+/// A text, and the journal that a session is to leave behind it.
+#[derive(Clone, Copy)]
+struct Left<'a> {
+    text: &'a [u8],
+    wanted: &'a Wanted<'a>,
 }
 
-/// Whether a fresh session that has this guide does.
-fn leaves_counted<L: Ledger>(
-    alloc: Global,
-    guide: Scripted,
-    text: &[u8],
-    wanted: &Wanted<'_>,
-    blank: Blank,
-) -> Result<bool, Stop>
-    requires named { blank.name ≡ L.name }
-    requires parts { blank.parts ≡ L.parts }
-    requires shared { 0 < L.parts }
-{
-    let mut steps = Steps::<L>::start(blank);
-    let mut guides = Vec::new(alloc);
-    if guides.push(guide).is_err() {
-        return Err(Stop::NoMemory);
+impl Question for Left<'_> {
+    fn is_answered<L: Ledger>(
+        &self,
+        alloc: Global,
+        session: &mut Session<Scripted, LastOrder>,
+        steps: &mut Steps<L>,
+    ) -> Result<bool, Stop> {
+        let mut sink = SteadySink::new(alloc);
+        feed(session, self.text, &mut sink, steps)?;
+        Ok(is_as_wanted(session.journal(), self.wanted))
     }
-    let mut session = Session::new(alloc, guides, Vec::<LastOrder>::new(alloc))?;
-    is_left(&mut session, alloc, text, wanted, &mut steps)
 }
 
-/// The same, with a counter of its own.
-fn leaves(alloc: Global, guide: Scripted, text: &[u8], wanted: &Wanted<'_>) -> Result<bool, Stop> {
-    leaves_counted::<Brand>(alloc, guide, text, wanted, Blank::new(1))
+/// The one guide that always picks the pair, or counts where there is none.
+fn guides_of(alloc: Global, pick: Option<Pair>) -> Result<Vec<Scripted>, NoMemory> {
+    let mut guides = Vec::new(alloc);
+    guides.push(Scripted { pick, count: 0 })?;
+    Ok(guides)
+}
+
+/// Whether a fresh session that has the guide with this pick leaves such a journal behind the text.
+fn leaves(
+    alloc: Global,
+    pick: Option<Pair>,
+    text: &[u8],
+    wanted: &Wanted<'_>,
+) -> Result<bool, Stop> {
+    let left = Left { text, wanted };
+    ask(alloc, guides_of(alloc, pick)?, &left)
 }
 
 /// The pair of a variable and a value.
@@ -102,8 +93,8 @@ fn a_pick_is_recorded_and_tried(rt: HostRuntime) -> Result<(), Fail> {
         decided: &[pair_of(0, 2)],
         picks: &[Pick::Asked(pair_of(0, 2))],
     };
-    assert!(rt; leaves(rt.alloc(), Scripted::always(pair_of(0, 3)), text, &removed)?);
-    assert!(rt; leaves(rt.alloc(), Scripted::always(pair_of(0, 2)), text, &lawful)?);
+    assert!(rt; leaves(rt.alloc(), Some(pair_of(0, 3)), text, &removed)?);
+    assert!(rt; leaves(rt.alloc(), Some(pair_of(0, 2)), text, &lawful)?);
     Ok(())
 }
 
@@ -120,12 +111,12 @@ fn the_journal_is_that_of_the_last_search(rt: HostRuntime) -> Result<(), Fail> {
         picks: &[Pick::NoGuide],
     };
     let text = b"var x 1..3\nguide 1\n";
-    assert!(rt; leaves(rt.alloc(), Scripted::always(pair_of(0, 2)), text, &none)?);
+    assert!(rt; leaves(rt.alloc(), Some(pair_of(0, 2)), text, &none)?);
     let text = b"var x 1..3\nguide 1\nsolve dbt\nguide none\nsolve dbt\nadd a : x != 1\nlist\n";
-    assert!(rt; leaves(rt.alloc(), Scripted::always(pair_of(0, 2)), text, &first)?);
+    assert!(rt; leaves(rt.alloc(), Some(pair_of(0, 2)), text, &first)?);
     let text =
         b"var x 1..3\nguide 1\nsolve dbt\nguide none\nsolve repair tabu 1 budget 50\npause\nsolve dbt\n";
-    assert!(rt; leaves(rt.alloc(), Scripted::always(pair_of(0, 2)), text, &first)?);
+    assert!(rt; leaves(rt.alloc(), Some(pair_of(0, 2)), text, &first)?);
     Ok(())
 }
 
@@ -165,7 +156,7 @@ fn a_guide_is_told_the_variables_of_conflicts(rt: HostRuntime) -> Result<(), Fai
             Pick::Asked(pair_of(1_003, 1)),
         ],
     };
-    assert!(rt; leaves(rt.alloc(), Scripted::counting(), by_dbt, &of_dbt)?);
-    assert!(rt; leaves(rt.alloc(), Scripted::counting(), by_repair, &of_repair)?);
+    assert!(rt; leaves(rt.alloc(), None, by_dbt, &of_dbt)?);
+    assert!(rt; leaves(rt.alloc(), None, by_repair, &of_repair)?);
     Ok(())
 }

@@ -5,6 +5,8 @@
 #[cfg(test)]
 mod agreement;
 #[cfg(test)]
+mod fresh;
+#[cfg(test)]
 mod guides;
 #[cfg(test)]
 mod journals;
