@@ -1,18 +1,11 @@
 //! Searches by mac-dbt.
-use crate::guides::{Counting, Fixed};
+use crate::guides::{is_counted, is_guided, is_weighed};
 use crate::journal::{Conflict, End, FIRST, Wanted, decide, decide_asked, decide_by_default, pair};
 use crate::problems::Problem;
-use crate::searches::{Case, Way, is_plain, is_searched};
+use crate::searches::{Case, Way, is_plain};
 use palm_base::{Cid, NoMemory, Pair, Value, Var};
-use palm_guide::{Guide, MostConflicts};
 use std::alloc::Global;
 use std::test::Fail;
-
-/// Whether a search with a guide in a box that always answers this does it.
-fn is_guided(alloc: Global, case: &Case<'_>, pick: Option<Pair>) -> Result<bool, NoMemory> {
-    let mut guide: Option<Box<dyn Guide>> = Some(Box::new(alloc, Fixed { pick })?);
-    is_searched(alloc, case, &mut guide)
-}
 
 // The third variable of the five is y: x is decided, then p, then y; a conflict names the decisions that it rests on.
 #[test]
@@ -180,8 +173,7 @@ fn a_lawful_pick_is_taken(rt: HostRuntime) -> Result<(), Fail> {
         end: End::Found(&[Value(1), Value(2)]),
         turns: Some(&turns),
     };
-    let mut guide: Option<Box<dyn Guide>> = Some(Box::new(alloc, MostConflicts::new(alloc, 64)?)?);
-    assert!(rt; is_searched(alloc, &case, &mut guide)?);
+    assert!(rt; is_weighed(alloc, &case)?);
     Ok(())
 }
 
@@ -209,7 +201,6 @@ fn guides_are_told_the_conflicts(rt: HostRuntime) -> Result<(), Fail> {
         end: End::NoSolution(&[FIRST]),
         turns: Some(&turns),
     };
-    let mut guide: Option<Box<dyn Guide>> = Some(Box::new(alloc, Counting { count: 0 })?);
-    assert!(rt; is_searched(alloc, &case, &mut guide)?);
+    assert!(rt; is_counted(alloc, &case)?);
     Ok(())
 }

@@ -1,9 +1,11 @@
-//! Guides of the tests' own.
-use palm_base::{Pair, Value, Var};
-use palm_guide::{Guide, ViewRow};
+//! Guides of the tests' own, and searches with a guide in a box.
+use crate::searches::{Case, is_searched};
+use palm_base::{NoMemory, Pair, Value, Var};
+use palm_guide::{Guide, MostConflicts, ViewRow};
+use std::alloc::Global;
 
 /// Always answers the same.
-#[derive(Debug, Drop)]
+#[derive(Drop)]
 pub struct Fixed {
     pub pick: Option<Pair>,
 }
@@ -29,7 +31,7 @@ impl Guide for Fixed {
 
 /// Counts the variables that it is told, over all conflicts. It has nothing to propose until it is told of one, and from
 /// then on it answers a variable that does not exist: 1000 and its count.
-#[derive(Debug, Drop)]
+#[derive(Drop)]
 pub struct Counting {
     pub count: u32,
 }
@@ -57,4 +59,23 @@ impl Guide for Counting {
         let told = u32::try_from(conflict.len()).unwrap_or(u32::MAX);
         self.count = self.count.saturating_add(told);
     }
+}
+
+/// Whether a search with a guide that always answers this does it.
+pub fn is_guided(alloc: Global, case: &Case<'_>, pick: Option<Pair>) -> Result<bool, NoMemory> {
+    let mut guide: Option<Box<dyn Guide>> = Some(Box::new(alloc, Fixed { pick })?);
+    is_searched(alloc, case, &mut guide)
+}
+
+/// Whether a search with a guide that counts does it.
+pub fn is_counted(alloc: Global, case: &Case<'_>) -> Result<bool, NoMemory> {
+    let mut guide: Option<Box<dyn Guide>> = Some(Box::new(alloc, Counting { count: 0 })?);
+    is_searched(alloc, case, &mut guide)
+}
+
+/// Whether a search with the guide that picks a variable with most conflicts does it.
+pub fn is_weighed(alloc: Global, case: &Case<'_>) -> Result<bool, NoMemory> {
+    let conflicts = MostConflicts::new(alloc, 64)?;
+    let mut guide: Option<Box<dyn Guide>> = Some(Box::new(alloc, conflicts)?);
+    is_searched(alloc, case, &mut guide)
 }

@@ -8,7 +8,7 @@ use palm_search::{Pick, Turn};
 pub const FIRST: Cid = Cid::User(1);
 
 /// The names of a conflict of decisions with the first constraint.
-#[derive(Debug, Drop)]
+#[derive(Clone, Copy)]
 pub enum Conflict {
     /// The decision on the variable.
     One(Var),
@@ -17,7 +17,7 @@ pub enum Conflict {
 }
 
 /// A turn that is wanted.
-#[derive(Debug, Drop)]
+#[derive(Clone, Copy)]
 pub enum Wanted {
     /// The pair is decided, after the pick.
     Decide(Pair, Pick),
@@ -26,7 +26,7 @@ pub enum Wanted {
 }
 
 /// The answer that is wanted.
-#[derive(Debug, Drop)]
+#[derive(Clone, Copy)]
 pub enum End<'a> {
     /// These values.
     Found(&'a [Value]),

@@ -13,7 +13,7 @@ use palm_model::{Con, Op, Term, TermList};
 use std::alloc::Global;
 
 /// A problem.
-#[derive(Clone, Copy, Debug)]
+#[derive(Clone, Copy)]
 pub enum Problem {
     /// `x < y` over 1 to 3.
     Less,
@@ -30,7 +30,7 @@ pub enum Problem {
 }
 
 /// A constraint.
-#[derive(Clone, Copy, Debug)]
+#[derive(Clone, Copy)]
 enum Rule {
     /// The first variable is less than the second.
     Less(u32, u32),
@@ -171,16 +171,27 @@ fn are_variables<F: Filter>(engine: &Engine<F>, vars: &[Var]) -> bool
     true
 }
 
+/// Posts the filter under the number, where its variables are declared and no other has the number.
+fn post_filter(engine: &mut Engine<Kind>, number: u32, filter: Kind) -> Result<(), NoMemory>
+    requires { HasOnlyUsers engine.old.state }
+    ensures { HasOnlyUsers engine.new.state }
+{
+    if engine.is_active(Cid::User(number)) || !are_variables(engine, filter.scope().as_slice()) {
+        return Ok(());
+    }
+    engine.post(number, filter)
+}
+
 /// Posts the constraint of the rule under the number, where its variables are declared and no other has the number.
 fn post(alloc: Global, engine: &mut Engine<Kind>, number: u32, rule: &Rule) -> Result<(), NoMemory>
     requires { HasOnlyUsers engine.old.state }
     ensures { HasOnlyUsers engine.new.state }
 {
-    let filter = Kind::from_con(alloc, &con_of(alloc, rule)?)?;
-    if engine.is_active(Cid::User(number)) || !are_variables(engine, filter.scope().as_slice()) {
-        return Ok(());
+    let con = con_of(alloc, rule)?;
+    match Kind::from_con(alloc, &con) {
+        Ok(filter) => post_filter(engine, number, filter),
+        Err(NoMemory) => Err(NoMemory),
     }
-    engine.post(number, filter)
 }
 
 /// Appends so many variables with these values.

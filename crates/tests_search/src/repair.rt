@@ -1,10 +1,9 @@
 //! Searches by decision-repair. What is wanted is worked out by hand from the definitions.
-use crate::guides::Counting;
+use crate::guides::is_counted;
 use crate::journal::{Conflict, End, FIRST, Wanted, decide, decide_asked, decide_by_default, pair};
 use crate::problems::Problem;
-use crate::searches::{Case, Way, is_plain, is_searched};
+use crate::searches::{Case, Way, is_plain};
 use palm_base::{NoMemory, Var};
-use palm_guide::Guide;
 use std::alloc::Global;
 use std::test::Fail;
 
@@ -91,7 +90,6 @@ fn guides_are_told_the_conflicts_of_repairs(rt: HostRuntime) -> Result<(), Fail>
         end: End::SpentDropped(6, 1),
         turns: Some(&turns),
     };
-    let mut guide: Option<Box<dyn Guide>> = Some(Box::new(alloc, Counting { count: 0 })?);
-    assert!(rt; is_searched(alloc, &case, &mut guide)?);
+    assert!(rt; is_counted(alloc, &case)?);
     Ok(())
 }

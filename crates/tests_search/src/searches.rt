@@ -87,8 +87,21 @@ fn counts_of(alloc: Global, store: &DomainStore) -> Result<Vec<u32>, NoMemory> {
     Ok(counts)
 }
 
+/// Whether the variables have so many values each.
+fn has_counts(store: &DomainStore, counts: &[u32]) -> bool {
+    if store.variables() as usize != counts.len() {
+        return false;
+    }
+    for var in 0..store.variables() {
+        if store.count(Var(var)) != counts[var as usize] {
+            return false;
+        }
+    }
+    true
+}
+
 /// A way of searching.
-#[derive(Clone, Copy, Debug)]
+#[derive(Clone, Copy)]
 pub enum Way {
     /// mac-dbt.
     Dbt,
@@ -97,7 +110,7 @@ pub enum Way {
 }
 
 /// What a search is to do; without turns the journal is not looked at.
-#[derive(Debug, Drop)]
+#[derive(Clone, Copy)]
 pub struct Case<'a> {
     pub problem: Problem,
     pub way: Way,
@@ -154,6 +167,29 @@ fn is_answered<G: Guide>(
     }
 }
 
+/// Whether a search of the engine answers as it is to, by these turns, and leaves no decision, no negation and so many values
+/// of each variable.
+fn is_undone<G: Guide>(
+    alloc: Global,
+    engine: &mut Engine<Kind>,
+    search: &mut Search,
+    guide: &mut Option<G>,
+    case: &Case<'_>,
+    counts: &[u32],
+) -> Result<bool, NoMemory>
+    requires fresh { search.old ≡ record { decisions = []; journal = [] } }
+    requires users { HasOnlyUsers engine.old.state }
+{
+    let answered = is_answered(alloc, engine, search, guide, case)?;
+    Ok(
+        answered
+            && is_journal(search, case.turns)
+            && search.decisions().is_empty()
+            && engine.first_negation().is_none()
+            && has_counts(engine.store(), counts),
+    )
+}
+
 /// Whether a search of the problem in a new engine answers as it is to, by these turns, and leaves no decision, no negation
 /// and the domains as they were.
 fn is_searched_in<G: Guide>(
@@ -169,15 +205,7 @@ fn is_searched_in<G: Guide>(
     pose(alloc, engine, &case.problem)?;
     settle_counted::<Kind, Brand>(engine, Blank::new(1))?;
     let before = counts_of(alloc, engine.store())?;
-    let answered = is_answered(alloc, engine, search, guide, case)?;
-    let after = counts_of(alloc, engine.store())?;
-    Ok(
-        answered
-            && is_journal(search, case.turns)
-            && search.decisions().is_empty()
-            && engine.first_negation().is_none()
-            && before.as_slice() == after.as_slice(),
-    )
+    is_undone(alloc, engine, search, guide, case, before.as_slice())
 }
 
 /// Whether a search of an engine of its own does this. The engine is given up in one place, since each place costs its
