@@ -1,5 +1,5 @@
 //! The verdict on a certificate in one line of text.
-ghost use Rattle.palm_claim.specs.Claim.{IsOver};
+ghost use Rattle.palm_claim.specs.Claim.{IsOver, IsOverItsBook};
 
 use palm_base::{NoMemory, push_int};
 use palm_book::Book;
@@ -10,25 +10,41 @@ use std::alloc::Global;
 /// Whether each text has the verdict beside it, as a line.
 pub(crate) fn are_told(alloc: Global, rows: &[(&[u8], &str)]) -> Result<bool, NoMemory> {
     for (text, line) in rows {
-        if told(alloc, text)?.as_slice() != line.as_bytes() {
+        if !is_told(alloc, text, line)? {
             return Ok(false);
         }
     }
     Ok(true)
 }
 
-/// `accepted NAME VALUE because NAME NAME`, `accepted conflict NAME because NAME NAME`, or `refused LINE CAUSE`.
-fn told(alloc: Global, text: &[u8]) -> Result<Vec<u8>, NoMemory> {
+/// Whether the text has the verdict of the line.
+fn is_told(alloc: Global, text: &[u8], line: &str) -> Result<bool, NoMemory> {
+    let verdict = check(alloc, text)?;
     let mut out = Vec::new(alloc);
-    match check(alloc, text)? {
-        Verdict::Accepted(proved) => put_accepted(&mut out, &proved)?,
+    is_line(&mut out, &verdict, line)
+}
+
+/// Whether the line is that of the verdict, which is written to `out`.
+fn is_line(out: &mut Vec<u8>, verdict: &Verdict, line: &str) -> Result<bool, NoMemory>
+    requires { IsOverItsBook verdict.now }
+{
+    put_verdict(out, verdict)?;
+    Ok(out.as_slice() == line.as_bytes())
+}
+
+/// `accepted NAME VALUE because NAME NAME`, `accepted conflict NAME because NAME NAME`, or `refused LINE CAUSE`.
+fn put_verdict(out: &mut Vec<u8>, verdict: &Verdict) -> Result<(), NoMemory>
+    requires { IsOverItsBook verdict.now }
+{
+    match verdict {
+        Verdict::Accepted(proved) => put_accepted(out, proved)?,
         Verdict::Refused { line, cause } => {
             out.extend_from_slice(b"refused ")?;
-            push_int(&mut out, i128::from(line))?;
+            push_int(out, i128::from(*line))?;
             out.extend_from_slice(cause_text(cause))?;
         }
     }
-    Ok(out)
+    Ok(())
 }
 
 fn put_accepted(out: &mut Vec<u8>, proved: &Proved) -> Result<(), NoMemory>
@@ -58,7 +74,7 @@ fn put_constraints(out: &mut Vec<u8>, book: &Book) -> Result<(), NoMemory> {
     Ok(())
 }
 
-fn cause_text(cause: Cause) -> &'static [u8] {
+fn cause_text(cause: &Cause) -> &'static [u8] {
     match cause {
         Cause::Malformed => b" C1",
         Cause::Misdeclared => b" C2",
