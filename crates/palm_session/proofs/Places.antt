@@ -1,6 +1,6 @@
 -- Objects at places: the numbers of those that are there, and the chosen one.
 use Rattle.std.proofs.Common.{◌≡◌, ℕ, zero, suc, ◌+◌, ◌<◌, ◌≤◌, ◌==◌, Bool, true, false, not, if◌then◌else◌, cond, Option, None, Some, is_some, List, [], ◌∷◌, ◌++◌, map, set, get_or, slice_get, length, Contains, inl, inr, refl, sym, ap, ◌∙◌, subst, arith, append-nil, eq-eqb, eqb-true}
-use Rattle.std.proofs.lemmas.List.{get_or-set_same, get_or-set_other}
+use Rattle.std.proofs.lemmas.List.{get_or-set_same, get_or-set_other, length-set}
 use Rattle.std.proofs.lemmas.Option.{slice_get_within, get_or_from_slice_get, slice_get_read}
 use Rattle.palm_base.specs.Tells.{Tells}
 use Rattle.palm_base.proofs.Members.{nat_known, member_nil, member_here, member_there, member_cases, member_same}
@@ -115,12 +115,27 @@ there_within k places m =
 seen : (ns ms : List ℕ) (a b : Option ℕ) → ns ≡ ms → a ≡ b → ◌≡◌ {A = ObjectsView} (record { numbers = ns; chosen = a }) (record { numbers = ms; chosen = b })
 seen ns ms a b e f = cc
 
+some_number : {X : Type 0} (c : ℕ) (o : Option X) → is_some (number_at c o) ≡ is_some o
+some_number c None = refl
+some_number c (Some x) = refl
+
+-- the first place stays empty where a change leaves whether there is an object
+first_kept : {X : Type 0} (places : List (Option X)) (c : ℕ) (w : Option X) → get_or places 0 None ≡ None → is_some w ≡ is_some (get_or places c None) → get_or (set places c w) 0 None ≡ None
+first_kept [] c w first same = refl
+first_kept (p ∷ places) zero None first same = refl
+first_kept (p ∷ places) zero (Some x) first same = cc
+first_kept (p ∷ places) (suc c) w first same = first
+
 module _ {X : Type 0} (places : List (Option X)) (c : ℕ) (v : ObjectsView) (is : ArePlaces places c) (view : objects_at places c ≡ v) where
   numbers_seen : numbers_from 0 places ≡ v.numbers
   numbers_seen = ap (λ (w : ObjectsView). w.numbers) view
 
   chosen_seen : number_at c (get_or places c None) ≡ v.chosen
   chosen_seen = ap (λ (w : ObjectsView). w.chosen) view
+
+  -- what was read at the chosen place stands there, whatever the default
+  stands : (u : Option X) → u ≡ get_or places c u → get_or places c None ≡ u
+  stands u there = get_or_from_slice_get places c u None (slice_get_read places (length places) c u refl is.within there)
 
   -- an object that is there may be chosen
   pub may_choose : (k : ℕ) → Contains v.numbers k → ArePlaces places k
@@ -136,11 +151,21 @@ module _ {X : Type 0} (places : List (Option X)) (c : ℕ) (v : ObjectsView) (is
   -- the object at the chosen place is changed
   pub settled_objects : (u w : Option X) → u ≡ get_or places c u → is_some w ≡ is_some u → objects_at (set places c w) c ≡ v
   settled_objects u w there same =
-      let stood : get_or places c None ≡ u = get_or_from_slice_get places c u None (slice_get_read places (length places) c u refl is.within there) in
-      let e : is_some w ≡ is_some (get_or places c None) = same ∙ ap (λ (o : Option X). is_some o) (sym stood) in
+      let e : is_some w ≡ is_some (get_or places c None) = same ∙ ap (λ (o : Option X). is_some o) (sym (stands u there)) in
       let at : get_or (set places c w) c None ≡ w = get_or-set_same places c w None is.within in
       let chosen : number_at c (get_or (set places c w) c None) ≡ v.chosen = ap (number_at c) at ∙ alike_at c (get_or places c None) w e ∙ chosen_seen in
       seen (numbers_from 0 (set places c w)) v.numbers (number_at c (get_or (set places c w) c None)) v.chosen (alike_numbered 0 places c w e ∙ numbers_seen) chosen
+
+  -- whether one is chosen is told by its place
+  pub chosen_told : (u : Option X) → u ≡ get_or places c u → is_some v.chosen ≡ is_some u
+  chosen_told u there =
+      ap (λ (o : Option ℕ). is_some o) (sym chosen_seen) ∙ some_number c (get_or places c None) ∙ ap (λ (o : Option X). is_some o) (stands u there)
+
+  -- the places are as before but for the object at the chosen one
+  pub settled_places : (u w : Option X) → u ≡ get_or places c u → is_some w ≡ is_some u → ArePlaces (set places c w) c
+  settled_places u w there same =
+      let long = length-set places c w in
+      record { first = first_kept places c w is.first (same ∙ ap (λ (o : Option X). is_some o) (sym (stands u there))); within = omega (arith, long, is.within) }
 
   -- the object with a number is dropped
   pub dropped_objects : (k : ℕ) → objects_at (set places k None) c ≡ record { numbers = without_number k v.numbers; chosen = chosen_without k v.chosen }

@@ -1,4 +1,34 @@
 use Rattle.palm_session.proofs.deliver.deliver.Goals as goal
 
+pub returns-in-Word : goal.returns-in-Word
+returns-in-Word g c = rw c.in-Word.is c.write_word.ensures
+
+pub returns-in-Refused : goal.returns-in-Refused
+returns-in-Refused g c = rw c.in-Refused.is c.write_refusal.ensures
+
+pub returns-in-Ran : goal.returns-in-Ran
+returns-in-Ran g c = rw c.in-Ran.is c.write_ran.ensures
+
+pub returns-in-Domains : goal.returns-in-Domains
+returns-in-Domains g c = rw c.in-Domains.is c.write_domains.ensures
+
+pub returns-in-Domain : goal.returns-in-Domain
+returns-in-Domain g c = rw c.in-Domain.is c.write_one_domain.ensures
+
+pub returns-in-Listing : goal.returns-in-Listing
+returns-in-Listing g c = rw c.in-Listing.is (rw c.book.ensures at c.write_list.ensures)
+
+pub returns-in-Log : goal.returns-in-Log
+returns-in-Log g c = rw c.in-Log.is c.write_log.ensures
+
 pub returns-in-Users : goal.returns-in-Users
 returns-in-Users g c = rw c.in-Users.is (rw c.book-in-Users.ensures at c.write_names.ensures)
+
+pub returns-in-Certificate : goal.returns-in-Certificate
+returns-in-Certificate g c = rw c.in-Certificate.is c.write_certificate.ensures
+
+pub returns-in-Found : goal.returns-in-Found
+returns-in-Found g c = rw c.in-Found.is (rw c.book-in-Found.ensures at c.write_found.ensures)
+
+pub returns-in-Spent : goal.returns-in-Spent
+returns-in-Spent g c = rw c.in-Spent.is c.write_spent.ensures

@@ -69,3 +69,17 @@ returns-clause-asks g c =
     let added = c.in_ok-add.ensures.ok in
     let changes : Changes s line m = (c.in-Ok.con, added.0, says, added.1, added.2) in
     asked_after s m t line _ (reply_text t) none changes refl c.filtered.result c.filtered.ensures.followed
+
+pub add-requires-clause-fresh : goal.add-requires-clause-fresh
+add-requires-clause-fresh g c = c.requires.free
+
+pub add-requires-clause-room : goal.add-requires-clause-room
+add-requires-clause-room g c = λ m. tells_false _ c.args.is_over c.requires.over c.if-is_over.false (inr (inl m))
+
+pub add-requires-clause-numbers : goal.add-requires-clause-numbers
+add-requires-clause-numbers g c = λ m. tells_false _ c.args.is_over c.requires.over c.if-is_over.false (inr (inr m))
+
+pub returns-clause-spends : goal.returns-clause-spends
+returns-clause-spends g c =
+    let spent = rw c.add.ensures.checks at c.filtered.ensures.spends in
+    record { later = spent.later; checks = spent.checks }
