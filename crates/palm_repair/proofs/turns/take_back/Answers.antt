@@ -1,14 +1,19 @@
-use Rattle.std.proofs.Common.{◌<◌, length, Contains, refl, sym, ap, ◌∙◌, subst, arith}
+use Rattle.std.proofs.Common.{◌≡◌, ◌+◌, ◌<◌, ◌≤◌, Some, [], ◌∷◌, slice_get, length, Contains, refl, sym, ap, ◌∙◌, subst, arith, length-append}
+use Rattle.palm_base.specs.declared.limits.TheConstants.{LAST_COUNT}
+use Rattle.std.specs.Prelude.{MatchOption}
+use Rattle.palm_base.specs.declared.terms.Pair.{Pair}
+use Rattle.palm_base.specs.declared.terms.Cid.TheVariants.{Decide}
 use Rattle.palm_engine.specs.Engine.{View}
 use Rattle.palm_model.specs.Constraint.{Distinct}
+use Rattle.palm_search.specs.Calls.{SearchView}
 use Rattle.palm_search.specs.Turns.{decided_vars}
 use Rattle.palm_search.specs.declared.turn.Turn.TheVariants.{Undo}
 use Rattle.palm_repair.specs.Kept.{IsNogood, IsRepairing}
-use Rattle.palm_repair.specs.Learned.{LearnedView, repair_state}
+use Rattle.palm_repair.specs.Learned.{IsHeaviestAt, LearnedView, repair_state}
 use Rattle.palm_repair.specs.Posting.{Nogood, nogood_of}
 use Rattle.palm_repair.specs.Repair.{raised}
-use Rattle.palm_repair.specs.Turning.{Learns, filtered}
-use Rattle.palm_repair.specs.Turning.IsCutTurn.{cut_within}
+use Rattle.palm_repair.specs.Turning.{Hears, Learns, filtered}
+use Rattle.palm_repair.specs.Turning.IsCutTurn.{cut_before, cut_within}
 use Rattle.palm_repair.specs.Turning.Moves.{moves_none}
 use Rattle.palm_repair.proofs.Stepping.{conflict_distinct, conflict_weighed, heaviest_found, moves_then, on_err, on_ok, raised_weighed, undone_by}
 use Rattle.palm_repair.proofs.turns.take_back.Goals as goal
@@ -92,3 +97,65 @@ returns-clause-moves g c =
     c.weights.result.now c.decisions-2.result.now c.as_slice-5.result.now (c.weights.ensures ∙ ap (λ (v : LearnedView). v.weights) (c.raise.ensures ∙ ap (λ l. record c.args.learned.now { weights = raised c.args.learned.now.weights l }) (c.as_slice-3.ensures ∙ c.in_ok-vars.ensures ∙ ap decided_vars c.as_slice.ensures))) c.decisions-2.ensures c.as_slice-5.ensures c.heaviest.ensures c.unwrap-place.ensures
     c.in_ok-undo.ensures.ok c.requires.some c.requires.ready c.requires.flat in
     moves_then c.args.engine.now.state c.undo.new.engine.state c.learn.new.engine.state undone.moves c.learn.ensures.moves
+
+pub returns-in_err-vars-clause-err : goal.returns-in_err-vars-clause-err
+returns-in_err-vars-clause-err g c = on_err _ c.from_residual.result (cut_before refl)
+
+pub returns-in_err-vars-clause-decisions : goal.returns-in_err-vars-clause-decisions
+returns-in_err-vars-clause-decisions g c = c.requires.ready.at.repairing.searching.decisions
+
+pub returns-in_err-nogood-clause-err : goal.returns-in_err-nogood-clause-err
+returns-in_err-nogood-clause-err g c = on_err _ c.from_residual-in_err-nogood.result (cut_before refl)
+
+pub returns-in_err-nogood-clause-decisions : goal.returns-in_err-nogood-clause-decisions
+returns-in_err-nogood-clause-decisions g c = c.requires.ready.at.repairing.searching.decisions
+
+pub undo-requires-clause-decisions : goal.undo-requires-clause-decisions
+undo-requires-clause-decisions g c = c.requires.ready.at.repairing.searching.decisions
+
+pub returns-in_err-undo-clause-err : goal.returns-in_err-undo-clause-err
+returns-in_err-undo-clause-err g c = on_err _ c.from_residual-in_err-undo.result (cut_before (ap (λ (v : SearchView). v.journal) c.in_err-undo.ensures.err.1))
+
+pub returns-in_err-undo-clause-decisions : goal.returns-in_err-undo-clause-decisions
+returns-in_err-undo-clause-decisions g c = c.in_err-undo.ensures.decisions
+
+pub learn-requires-clause-few : goal.learn-requires-clause-few
+learn-requires-clause-few g c = subst (λ (v : LearnedView). length v.nogoods ≤ c.args.tabu) (sym c.raise.ensures) c.requires.ready.few
+
+pub learn-requires-clause-small : goal.learn-requires-clause-small
+learn-requires-clause-small g c =
+    let listed = c.requires.ready.listed in
+    let small = c.requires.small in
+    subst (λ (v : LearnedView). v.dropped + length v.nogoods < LAST_COUNT) (sym c.raise.ensures) (omega (arith, listed, small))
+
+pub returns-clause-told : goal.returns-clause-told
+returns-clause-told g c =
+    let back = c.in_ok-undo.ensures.ok in
+    on_ok _ _ c.learn.result (λ learns. record {
+      gone = back.gone;
+      conflict = c.args.conflict.now;
+      journal = back.journal;
+      told = subst (λ l. Hears g.G.Guide.hears g.G.Guide.state l c.args.guide.now c.tell.new.guide) (c.as_slice-4.ensures ∙ c.in_ok-vars.ensures ∙ ap decided_vars c.as_slice.ensures) c.tell.ensures;
+    }) c.learn.ensures.ok
+
+pub returns-clause-decisions : goal.returns-clause-decisions
+returns-clause-decisions g c = c.learn.ensures.decisions
+
+pub undo-requires-clause-flat : goal.undo-requires-clause-flat
+undo-requires-clause-flat g c = c.requires.flat
+
+pub undo-requires-clause-held : goal.undo-requires-clause-held
+undo-requires-clause-held g c =
+    let held = λ (p : Pair). Contains c.as_slice-5.result.now (Decide p.var) in
+    let at = subst (λ o. MatchOption o ((p : Pair) → Contains c.decisions-2.result.now p → held p → ⊥) (IsHeaviestAt c.weights.result.now c.decisions-2.result.now c.as_slice-5.result.now)) c.unwrap-place.ensures c.heaviest.ensures in
+    record {
+      pair = at.pair;
+      stands = subst (λ l. slice_get l c.unwrap-place.result ≡ Some at.pair) c.decisions-2.ensures at.stands;
+      held = subst (λ l. Contains l (Decide at.pair.var)) c.as_slice-5.ensures at.held;
+    }
+
+pub returns-clause-within : goal.returns-clause-within
+returns-clause-within g c =
+    let back = c.in_ok-undo.ensures.ok in
+    let longer = ap length back.journal ∙ length-append c.args.search.now.journal (Undo back.gone c.args.conflict.now ∷ []) in
+    omega (arith, longer)
