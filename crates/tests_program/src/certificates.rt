@@ -20,14 +20,8 @@ const LINES: [&str; 9] = [
     "end",
 ];
 
-/// The first lines of the certificate, so many, with another line in the place of the one with this number.
-fn certificate(
-    alloc: Global,
-    lines: usize,
-    number: usize,
-    other: &str,
-) -> Result<Vec<u8>, NoMemory> {
-    let mut text = Vec::new(alloc);
+/// Appends the first lines of the certificate, so many, with another line in the place of the one with this number.
+fn put_lines(text: &mut Vec<u8>, lines: usize, number: usize, other: &str) -> Result<(), NoMemory> {
     for place in 0..LINES.len().min(lines) {
         let line = if place + 1 == number {
             other
@@ -37,120 +31,201 @@ fn certificate(
         text.extend_from_slice(line.as_bytes())?;
         text.extend_from_slice(b"\n")?;
     }
-    Ok(text)
+    Ok(())
 }
 
-/// How `check` ends on a text that passes in pieces of at most this many bytes, where the listed calls of the source and
-/// of the sink fail, and the sink behind it.
-fn checked(
+/// The bytes of `check` on a text, in pieces of at most this many, and the calls of its source and of its sink that fail.
+#[derive(Clone, Copy)]
+struct Passing<'a> {
+    piece: usize,
+    reads: &'a [u64],
+    writes: &'a [u64],
+}
+
+/// The bytes in pieces of 7, of which no call fails.
+const WHOLE: Passing<'static> = Passing {
+    piece: 7,
+    reads: &[],
+    writes: &[],
+};
+
+/// Whether `check` ends so on a text that passes so, and writes this.
+fn ends(
     alloc: Global,
     text: &[u8],
-    piece: usize,
-    reads: &[u64],
-    writes: &[u64],
-) -> Result<(Status, MemorySink), NoMemory>
-    requires { 0 < piece }
+    passing: &Passing<'_>,
+    status: Status,
+    output: &str,
+) -> Result<bool, NoMemory>
+    requires { 0 < passing.now.piece }
 {
-    let words = words_of(alloc, &["check"])?;
+    let reads = CallList::from_slice(alloc, passing.reads)?;
+    let writes = CallList::from_slice(alloc, passing.writes)?;
     let bytes = ByteList::from_slice(alloc, text)?;
-    let mut source = MemorySource::new(bytes, piece, CallList::from_slice(alloc, reads)?);
-    let mut sink = MemorySink::new(alloc, piece, CallList::from_slice(alloc, writes)?);
+    let mut source = MemorySource::new(bytes, passing.piece, reads);
+    let mut sink = MemorySink::new(alloc, passing.piece, writes);
+    ends_over(alloc, &mut source, &mut sink, status, output)
+}
+
+/// Whether `check` ends so over these, and writes this.
+fn ends_over(
+    alloc: Global,
+    source: &mut MemorySource,
+    sink: &mut MemorySink,
+    status: Status,
+    output: &str,
+) -> Result<bool, NoMemory> {
     sink.reserve(64)?;
-    let status = top(
+    let words = words_of(alloc, &["check"])?;
+    let ended = top(
         alloc,
         &words,
-        &mut source,
-        &mut sink,
+        source,
+        sink,
         no_guides(alloc),
         no_orders(alloc),
     );
-    Ok((status, sink))
+    Ok(ended == status && sink.bytes() == output.as_bytes())
 }
 
 /// Whether the text is refused by this line, in pieces of 1 and of 7 bytes.
 fn is_refused(alloc: Global, text: &[u8], line: &str) -> Result<bool, NoMemory> {
-    let (status, sink) = checked(alloc, text, 1, &[], &[])?;
-    let (other, again) = checked(alloc, text, 7, &[], &[])?;
+    let bytewise = Passing {
+        piece: 1,
+        reads: &[],
+        writes: &[],
+    };
     Ok(
-        status == Status::Refused
-            && sink.bytes() == line.as_bytes()
-            && other == Status::Refused
-            && again.bytes() == line.as_bytes(),
+        ends(alloc, text, &bytewise, Status::Refused, line)?
+            && ends(alloc, text, &WHOLE, Status::Refused, line)?,
     )
+}
+
+/// Whether the first lines, so many, with another in the place of one and an end behind them, are refused by this line.
+fn are_refused(
+    alloc: Global,
+    lines: usize,
+    number: usize,
+    other: &str,
+    end: &str,
+    output: &str,
+) -> Result<bool, NoMemory> {
+    let mut text = Vec::new(alloc);
+    put_text(&mut text, lines, number, other, end)?;
+    is_refused(alloc, &text, output)
+}
+
+/// Appends these lines, and an end behind them.
+fn put_text(
+    text: &mut Vec<u8>,
+    lines: usize,
+    number: usize,
+    other: &str,
+    end: &str,
+) -> Result<(), NoMemory> {
+    put_lines(text, lines, number, other)?;
+    text.extend_from_slice(end.as_bytes())?;
+    Ok(())
+}
+
+/// A certificate that x has no value, in the order in which it was proved.
+const CONFLICT: &str =
+    "palm-cert 1\nvar x 1..2\nadd b : x != 2\nadd a : x = 2\nstep x 2 by b\nstep x 1 by a\n\
+    claim conflict x\nend\n";
+
+/// Whether `check` ends so on the whole certificate that passes so, and writes this.
+fn ends_whole(
+    alloc: Global,
+    passing: &Passing<'_>,
+    status: Status,
+    output: &str,
+) -> Result<bool, NoMemory>
+    requires { 0 < passing.now.piece }
+{
+    let mut text = Vec::new(alloc);
+    put_lines(&mut text, 9, 0, "")?;
+    ends(alloc, &text, passing, status, output)
 }
 
 #[test]
 fn a_certificate_is_accepted(rt: HostRuntime) -> Result<(), Fail> {
-    let text = certificate(rt.alloc(), 9, 0, "")?;
-    let (status, sink) = checked(rt.alloc(), &text, 7, &[], &[])?;
-    assert_eq!(rt; status, Status::Done);
-    assert!(rt; sink.bytes() == b"accepted x 2 because a d\n".as_slice());
-    let conflict =
-        b"palm-cert 1\nvar x 1..2\nadd b : x != 2\nadd a : x = 2\nstep x 2 by b\nstep x 1 by a\n\
-                     claim conflict x\nend\n";
-    let (status, sink) = checked(rt.alloc(), conflict, 7, &[], &[])?;
-    assert_eq!(rt; status, Status::Done);
-    assert!(rt; sink.bytes() == b"accepted conflict x because b a\n".as_slice());
+    let alloc = rt.alloc();
+    let removal = "accepted x 2 because a d\n";
+    assert!(rt; ends_whole(alloc, &WHOLE, Status::Done, removal)?);
+    let conflict = "accepted conflict x because b a\n";
+    assert!(rt; ends(alloc, CONFLICT.as_bytes(), &WHOLE, Status::Done, conflict)?);
     Ok(())
 }
+
+/// The number of a line, what stands in its place, and how the certificate is refused.
+const CHANGED: &[(usize, &str, &str)] = &[
+    (1, "palm-cert 9", "refused 1 C1\n"),
+    (2, "var x 1..257", "refused 2 C6\n"),
+    (4, "add a : x = x", "refused 4 C1\n"),
+    (4, "add a : x = q", "refused 4 C2\n"),
+    (5, "add a : y != 2", "refused 5 C2\n"),
+    (6, "step y 3 by d", "refused 6 C4\n"),
+    (6, "step y 9 by d", "refused 6 C2\n"),
+    (6, "step y two by d", "refused 6 C1\n"),
+    (6, "step y 2 by a", "refused 6 C4\n"),
+    (7, "step x 2 by a", "refused 7 C4\n"),
+    (7, "step x 2 by a from 2", "refused 7 C3\n"),
+    (7, "step x 2 by a from 0", "refused 7 C1\n"),
+    (8, "claim x 3", "refused 8 C5\n"),
+    (8, "claim conflict y", "refused 8 C5\n"),
+    (9, "end\nstep y 2 by d", "refused 10 C1\n"),
+];
 
 #[test]
 fn a_certificate_with_one_line_changed_is_refused(rt: HostRuntime) -> Result<(), Fail> {
-    let rows = [
-        (1, "palm-cert 9", "refused 1 C1\n"),
-        (2, "var x 1..257", "refused 2 C6\n"),
-        (4, "add a : x = x", "refused 4 C1\n"),
-        (4, "add a : x = q", "refused 4 C2\n"),
-        (5, "add a : y != 2", "refused 5 C2\n"),
-        (6, "step y 3 by d", "refused 6 C4\n"),
-        (6, "step y 9 by d", "refused 6 C2\n"),
-        (6, "step y two by d", "refused 6 C1\n"),
-        (6, "step y 2 by a", "refused 6 C4\n"),
-        (7, "step x 2 by a", "refused 7 C4\n"),
-        (7, "step x 2 by a from 2", "refused 7 C3\n"),
-        (7, "step x 2 by a from 0", "refused 7 C1\n"),
-        (8, "claim x 3", "refused 8 C5\n"),
-        (8, "claim conflict y", "refused 8 C5\n"),
-        (9, "end\nstep y 2 by d", "refused 10 C1\n"),
-    ];
-    for (number, line, output) in rows {
-        let text = certificate(rt.alloc(), 9, number, line)?;
-        assert!(rt; is_refused(rt.alloc(), &text, output)?);
+    for (number, line, output) in CHANGED {
+        assert!(rt; are_refused(rt.alloc(), 9, *number, line, "", output)?);
     }
     Ok(())
 }
 
+/// How many lines are left, what stands behind them, and how that is refused.
+const CUT: &[(usize, &str, &str)] = &[
+    (0, "", "refused 1 C5\n"),
+    (7, "", "refused 8 C5\n"),
+    (8, "", "refused 9 C5\n"),
+    (6, "step x 2 by", "refused 7 C1\n"),
+    (
+        5,
+        "step x 2 by a from 1\nstep y 2 by d\nclaim x 2\nend\n",
+        "refused 6 C3\n",
+    ),
+];
+
 #[test]
 fn a_certificate_that_is_cut_or_exchanged_is_refused(rt: HostRuntime) -> Result<(), Fail> {
-    let cuts = [
-        (0, "refused 1 C5\n"),
-        (7, "refused 8 C5\n"),
-        (8, "refused 9 C5\n"),
-    ];
-    for (lines, output) in cuts {
-        let text = certificate(rt.alloc(), lines, 0, "")?;
-        assert!(rt; is_refused(rt.alloc(), &text, output)?);
+    for (lines, end, output) in CUT {
+        assert!(rt; are_refused(rt.alloc(), *lines, 0, "", end, output)?);
     }
-    let mut unfinished = certificate(rt.alloc(), 6, 0, "")?;
-    unfinished.extend_from_slice(b"step x 2 by")?;
-    assert!(rt; is_refused(rt.alloc(), &unfinished, "refused 7 C1\n")?);
-    let mut exchanged = certificate(rt.alloc(), 5, 0, "")?;
-    exchanged.extend_from_slice(b"step x 2 by a from 1\nstep y 2 by d\nclaim x 2\nend\n")?;
-    assert!(rt; is_refused(rt.alloc(), &exchanged, "refused 6 C3\n")?);
     Ok(())
+}
+
+/// Whether `check` ends so where one call fails, the read or the write with this number, and writes this.
+fn ends_failing(
+    alloc: Global,
+    reads: &[u64],
+    writes: &[u64],
+    status: Status,
+    output: &str,
+) -> Result<bool, NoMemory> {
+    let passing = Passing {
+        piece: 7,
+        reads,
+        writes,
+    };
+    ends_whole(alloc, &passing, status, output)
 }
 
 #[test]
 fn a_failing_stream_ends_the_check(rt: HostRuntime) -> Result<(), Fail> {
-    let text = certificate(rt.alloc(), 9, 0, "")?;
-    let (status, sink) = checked(rt.alloc(), &text, 7, &[1], &[])?;
-    assert_eq!(rt; status, Status::ReadFault);
-    assert!(rt; sink.bytes().is_empty());
-    let (status, sink) = checked(rt.alloc(), &text, 7, &[9], &[])?;
-    assert_eq!(rt; status, Status::ReadFault);
-    assert!(rt; sink.bytes().is_empty());
-    let (status, sink) = checked(rt.alloc(), &text, 7, &[], &[3])?;
-    assert_eq!(rt; status, Status::WriteFault);
-    assert!(rt; sink.bytes() == b"accepted x 2 b".as_slice());
+    let alloc = rt.alloc();
+    assert!(rt; ends_failing(alloc, &[1], &[], Status::ReadFault, "")?);
+    assert!(rt; ends_failing(alloc, &[9], &[], Status::ReadFault, "")?);
+    assert!(rt; ends_failing(alloc, &[], &[3], Status::WriteFault, "accepted x 2 b")?);
     Ok(())
 }
