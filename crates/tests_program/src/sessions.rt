@@ -24,12 +24,24 @@ pub fn answers_with<G: Guide, O: Order>(
 ) -> Result<bool, NoMemory>
     requires { 0 < piece }
 {
-    let words = words_of(alloc, &["run"])?;
     let bytes = ByteList::from_slice(alloc, text)?;
     let mut source = MemorySource::new(bytes, piece, CallList::new(alloc));
     let mut sink = MemorySink::new(alloc, piece, CallList::new(alloc));
+    writes(alloc, &mut source, &mut sink, replies, guides, orders)
+}
+
+/// Whether `run` over these, with these guides and orders, writes the replies.
+fn writes<G: Guide, O: Order>(
+    alloc: Global,
+    source: &mut MemorySource,
+    sink: &mut MemorySink,
+    replies: &str,
+    guides: Vec<G>,
+    orders: Vec<O>,
+) -> Result<bool, NoMemory> {
     sink.reserve(ROOM)?;
-    let status = top(alloc, &words, &mut source, &mut sink, guides, orders);
+    let words = words_of(alloc, &["run"])?;
+    let status = top(alloc, &words, source, sink, guides, orders);
     Ok(status == Status::Done && sink.bytes() == replies.as_bytes())
 }
 

@@ -13,10 +13,12 @@ use std::test::Fail;
 
 /// How `run` ends on two lines where the listed calls of the source and of the sink fail.
 fn ends(alloc: Global, reads: &[u64], writes: &[u64]) -> Result<Status, NoMemory> {
-    let words = words_of(alloc, &["run"])?;
+    let reads = CallList::from_slice(alloc, reads)?;
+    let writes = CallList::from_slice(alloc, writes)?;
     let bytes = ByteList::from_slice(alloc, b"var x 1..3\ndomains\n")?;
-    let mut source = MemorySource::new(bytes, 7, CallList::from_slice(alloc, reads)?);
-    let mut sink = MemorySink::new(alloc, 7, CallList::from_slice(alloc, writes)?);
+    let words = words_of(alloc, &["run"])?;
+    let mut source = MemorySource::new(bytes, 7, reads);
+    let mut sink = MemorySink::new(alloc, 7, writes);
     Ok(top(
         alloc,
         &words,

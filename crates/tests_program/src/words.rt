@@ -25,31 +25,49 @@ pub fn no_orders(alloc: Global) -> Vec<LastOrder> {
     Vec::new(alloc)
 }
 
-/// How `top` ends with these words and a source of one line, and what it writes.
-fn ended(alloc: Global, words: &[&str]) -> Result<(Status, MemorySink), NoMemory> {
-    let words = words_of(alloc, words)?;
+/// An empty sink.
+fn empty_sink(alloc: Global) -> MemorySink {
+    MemorySink::new(alloc, 7, CallList::new(alloc))
+}
+
+/// How `top` ends with these words and a source of one line. The sink takes what it writes.
+fn ended(alloc: Global, words: &[&str], sink: &mut MemorySink) -> Result<Status, NoMemory> {
+    sink.reserve(256)?;
     let bytes = ByteList::from_slice(alloc, b"list\n")?;
     let mut source = MemorySource::new(bytes, 4, CallList::new(alloc));
-    let mut sink = MemorySink::new(alloc, 7, CallList::new(alloc));
-    sink.reserve(256)?;
-    let status = top(
+    let words = words_of(alloc, words)?;
+    Ok(top(
         alloc,
         &words,
         &mut source,
-        &mut sink,
+        sink,
         no_guides(alloc),
         no_orders(alloc),
-    );
-    Ok((status, sink))
+    ))
 }
 
 /// Whether these words get the usage line, and nothing else.
 fn is_refused(alloc: Global, words: &[&str]) -> Result<bool, NoMemory> {
-    let (status, sink) = ended(alloc, words)?;
+    let mut sink = empty_sink(alloc);
+    let status = ended(alloc, words, &mut sink)?;
     Ok(
         status == Status::Usage
             && sink.bytes() == b"usage: palm run, palm check or palm gen N\n".as_slice(),
     )
+}
+
+/// Whether `gen` with this number writes a summary that begins so.
+fn begins(alloc: Global, number: &str, front: &str) -> Result<bool, NoMemory> {
+    let mut sink = empty_sink(alloc);
+    let status = ended(alloc, &["gen", number], &mut sink)?;
+    Ok(status == Status::Done && sink.bytes().starts_with(front.as_bytes()))
+}
+
+/// Whether `gen` with this number writes this summary.
+fn sums_up(alloc: Global, number: &str, summary: &str) -> Result<bool, NoMemory> {
+    let mut sink = empty_sink(alloc);
+    let status = ended(alloc, &["gen", number], &mut sink)?;
+    Ok(status == Status::Done && sink.bytes() == summary.as_bytes())
 }
 
 #[test]
@@ -80,26 +98,24 @@ fn other_words_get_the_usage_line(rt: HostRuntime) -> Result<(), Fail> {
     Ok(())
 }
 
+/// Numbers of queens, and their summaries.
+const SUMMARIES: &[(&str, &str)] = &[
+    ("1", "queens 1\nlines 3\nfound q1=1\nfound q1=1\n"),
+    (
+        "2",
+        "queens 2\nlines 8\nnone d u1_2 l1_2\nfound q1=1 q2=1\n",
+    ),
+    (
+        "4",
+        "queens 4\nlines 20\nfound q1=2 q2=4 q3=1 q4=3\nfound q1=1 q2=1 q3=1 q4=1\n",
+    ),
+];
+
 #[test]
 fn sessions_are_generated(rt: HostRuntime) -> Result<(), Fail> {
-    let summaries = [
-        ("1", "queens 1\nlines 3\nfound q1=1\nfound q1=1\n"),
-        (
-            "2",
-            "queens 2\nlines 8\nnone d u1_2 l1_2\nfound q1=1 q2=1\n",
-        ),
-        (
-            "4",
-            "queens 4\nlines 20\nfound q1=2 q2=4 q3=1 q4=3\nfound q1=1 q2=1 q3=1 q4=1\n",
-        ),
-    ];
-    for (word, summary) in summaries {
-        let (status, sink) = ended(rt.alloc(), &["gen", word])?;
-        assert_eq!(rt; status, Status::Done);
-        assert!(rt; sink.bytes() == summary.as_bytes());
+    for (number, summary) in SUMMARIES {
+        assert!(rt; sums_up(rt.alloc(), number, summary)?);
     }
-    let (status, sink) = ended(rt.alloc(), &["gen", "007"])?;
-    assert_eq!(rt; status, Status::Done);
-    assert!(rt; sink.bytes().starts_with(b"queens 7\nlines 53\nfound q1="));
+    assert!(rt; begins(rt.alloc(), "007", "queens 7\nlines 53\nfound q1=")?);
     Ok(())
 }
