@@ -1,5 +1,5 @@
 //! The problems that are searched, as engines with the constraints of users alone.
-ghost use Rattle.std.specs.Prelude.{◌≡◌, ◌<◌, ◌≤◌, ℕ, length, true, All, IfOk};
+ghost use Rattle.std.specs.Prelude.{◌≡◌, ◌<◌, ◌≤◌, length, true, All, IfOk};
 ghost use Rattle.palm_domain.specs.Rows.{Ascends};
 ghost use Rattle.palm_domain.specs.declared.limits.TheConstants.{MOST_VALUES};
 ghost use Rattle.palm_model.specs.Constraint.{IsWellFormed};

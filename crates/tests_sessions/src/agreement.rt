@@ -1,5 +1,5 @@
 //! The slow way beside the filters.
-ghost use Rattle.std.specs.Prelude.{◌≡◌, IfOk, All, false, length};
+ghost use Rattle.std.specs.Prelude.{◌≡◌, IfOk, All, length};
 ghost use Rattle.palm_book.specs.Book.{active_of, initial_of};
 ghost use Rattle.palm_model.specs.Constraint.{IsWellFormed};
 ghost use Rattle.palm_model.specs.Domains.{AllAscend};
