@@ -2,10 +2,10 @@
 use Rattle.std.proofs.Common.{◌≡◌, ℕ, ℤ, ◌+ℤ◌, ◌-ℤ◌, ◌-◌, pos, ◌<ℤ◌, ◌≤ℤ◌, Bool, true, false, cond, ◌<◌, List, [], ◌∷◌, length, get_or, filter, Contains, eqb, eq-eqb, ne_eqb, ◌⊎◌, inl, inr, refl, sym, ap, ◌∙◌, subst, arith}
 use Rattle.std.proofs.lemmas.Int.{ints, by_lt_z}
 use Rattle.std.proofs.lemmas.List.Elements.{All-contains, All-nil}
-use Rattle.palm_base.proofs.Members.{member_here, member_there, member_cases, member_single, member_same, member_filter, filter_member, filter_agree_members, nat_known}
+use Rattle.palm_base.proofs.cited.Members.{member_here, member_there, member_cases, member_single, member_same, member_filter, filter_member, filter_agree_members, nat_known}
 use Rattle.palm_base.specs.declared.terms.Pair.{Pair}
 use Rattle.palm_domain.specs.Rows.{Ascends, IsLeastOf, IsGreatestOf}
-use Rattle.palm_domain.proofs.Ascending.{get_or-rises}
+use Rattle.palm_domain.proofs.cited.Ascending.{get_or-rises}
 use Rattle.palm_model.specs.Domains.{Domains, Has, values_of}
 use Rattle.palm_model.specs.Relation.{Stands, is_standing}
 use Rattle.palm_model.specs.Constraint.{scope, Distinct, IsWellFormed}
@@ -18,10 +18,10 @@ use Rattle.palm_model.specs.declared.constraint.Op.{Op}
 use Rattle.palm_model.specs.declared.constraint.Op.TheVariants.{Eq, Ne, Lt, Le, Gt, Ge}
 use Rattle.palm_model.specs.declared.part.Part.{Part}
 use Rattle.palm_model.specs.declared.part.Part.TheVariants.{CompareVar as CompareVarPart, CompareConst as CompareConstPart}
-use Rattle.palm_model.proofs.Ascending.{ascends_filter, ascending_same}
-use Rattle.palm_model.proofs.Standing.{stands_from_test, test_from_stands}
-use Rattle.palm_model.proofs.Supports.{supported_by_part, lacking_by_part, two, two_first, two_second, support_by_two, support_by_one}
-use Rattle.palm_model.proofs.Trials.{put, put_same}
+use Rattle.palm_model.proofs.cited.Ascending.{ascends_filter, ascending_same}
+use Rattle.palm_model.proofs.cited.Standing.{stands_from_test, test_from_stands}
+use Rattle.palm_model.proofs.cited.Supports.{supported_by_part, lacking_by_part, two, two_first, two_second, support_by_two, support_by_one}
+use Rattle.palm_model.proofs.cited.Trials.{put, put_same}
 use Rattle.filter_compare.specs.Comparison.{comparison_of, flipped_of, demand_of, IsMet, meeting_values}
 use Rattle.filter_compare.specs.declared.compare.Comparison.TheVariants.{Variables, Constant}
 use Rattle.filter_compare.specs.declared.compare.VarComparison.{VarComparison}

@@ -5,10 +5,10 @@ use Rattle.std.specs.List.Sorted.{IsPartitionedBy, IsPartitionPoint}
 use Rattle.std.proofs.lemmas.Bool.{false≢true}
 use Rattle.std.proofs.lemmas.Int.{ints}
 use Rattle.palm_domain.specs.Rows.{Ascends}
-use Rattle.palm_domain.proofs.Ascending.{get_or-rises}
+use Rattle.palm_domain.proofs.cited.Ascending.{get_or-rises}
 use Rattle.palm_model.specs.Relation.{is_standing}
 use Rattle.palm_model.specs.declared.constraint.Op.TheVariants.{Lt, Le, Gt, Ge}
-use Rattle.palm_model.proofs.Standing.{stands_from_test, test_from_stands}
+use Rattle.palm_model.proofs.cited.Standing.{stands_from_test, test_from_stands}
 use Rattle.filter_compare.specs.Comparison.{meeting_values}
 use Rattle.filter_compare.specs.declared.demand.Demand.{Demand}
 

@@ -4,9 +4,9 @@ use Rattle.std.proofs.Math.Seq.{drop-cons}
 use Rattle.std.proofs.lemmas.Bool.{cases_Bool}
 use Rattle.std.proofs.lemmas.Int.{ints}
 use Rattle.std.proofs.lemmas.List.Elements.{All-contains}
-use Rattle.palm_base.proofs.Members.{member_here, member_there, member_take, filter_member}
+use Rattle.palm_base.proofs.cited.Members.{member_here, member_there, member_take, filter_member}
 use Rattle.palm_base.specs.declared.terms.Pair.{Pair}
-use Rattle.palm_domain.proofs.Comparisons.{same_from_int_eq, apart_from_int_eq}
+use Rattle.palm_domain.proofs.cited.Comparisons.{same_from_int_eq, apart_from_int_eq}
 use Rattle.palm_model.specs.Constraint.{scope, Distinct, IsWellFormed}
 use Rattle.palm_model.specs.Domains.{Domains, Ascends, Has, values_of}
 use Rattle.palm_model.specs.Part.{scope_of}
@@ -16,8 +16,8 @@ use Rattle.palm_model.specs.Removed.{is_alone, others}
 use Rattle.palm_model.specs.Reason.{reason}
 use Rattle.palm_model.specs.declared.constraint.Con.{Con}
 use Rattle.palm_model.specs.declared.constraint.Con.TheVariants.{Differ}
-use Rattle.palm_model.proofs.Reasons.{others_member}
-use Rattle.palm_reason.proofs.DifferReason.{part_apart, partner, partner_member, room_lacks}
+use Rattle.palm_model.proofs.cited.Reasons.{others_member}
+use Rattle.palm_reason.proofs.cited.DifferReason.{part_apart, partner, partner_member, room_lacks}
 use Rattle.filter_differ.specs.Differ.{HasOther, LeavesRoom, TakesRoom, is_lone, first_lone}
 
 -- ---- another value of a domain

@@ -4,7 +4,7 @@ use Rattle.std.specs.List.{AllWithin}
 use Rattle.std.proofs.lemmas.List.{get_or_default}
 use Rattle.std.proofs.lemmas.List.Elements.{All-nil, All-contains, AllWithin-more}
 use Rattle.std.proofs.lemmas.Option.{same_Some, slice_get_within}
-use Rattle.palm_base.proofs.Members.{member_nil, member_here, member_there, member_single, member_same, filter_member, member_filter}
+use Rattle.palm_base.proofs.cited.Members.{member_nil, member_here, member_there, member_single, member_same, filter_member, member_filter}
 use Rattle.palm_base.specs.declared.terms.Pair.{Pair}
 use Rattle.palm_model.specs.Domains.{Domains, Has, Ascends, values_of}
 use Rattle.palm_model.specs.Constraint.{scope, Distinct, IsWellFormed}
@@ -16,10 +16,10 @@ use Rattle.palm_model.specs.declared.constraint.Con.{Con}
 use Rattle.palm_model.specs.declared.limits.TheConstants.{MOST_ROWS}
 use Rattle.palm_model.specs.declared.part.Part.{Part}
 use Rattle.palm_model.specs.declared.part.Part.TheVariants.{Element as ElementPart}
-use Rattle.palm_model.proofs.Ascending.{ascends_filter, ascending_same}
-use Rattle.palm_model.proofs.Supports.{supported_by_part, lacking_by_part, two_first, two_second, support_by_two}
-use Rattle.palm_reason.proofs.ElementReason.{place_of, entry_of, entry_test, test_entry}
-use Rattle.palm_reason.proofs.TwoVariables.{of_two, turned}
+use Rattle.palm_model.proofs.cited.Ascending.{ascends_filter, ascending_same}
+use Rattle.palm_model.proofs.cited.Supports.{supported_by_part, lacking_by_part, two_first, two_second, support_by_two}
+use Rattle.palm_reason.proofs.cited.ElementReason.{place_of, entry_of, entry_test, test_entry}
+use Rattle.palm_reason.proofs.cited.TwoVariables.{of_two, turned}
 use Rattle.filter_element.specs.Element.{element_of, IsEntryReached, IsEntryOpen}
 use Rattle.filter_element.specs.declared.rule.ElementRule.{ElementRule}
 

@@ -2,7 +2,7 @@
 use Rattle.std.proofs.Common.{◌≡◌, ℕ, ◌+◌, ◌<◌, ◌++◌, List, [], ◌∷◌, length, take, get_or, filter, flat_map, append_assoc, append-nil, All, ℤ, Bool, true, false, cond, sym, ap, ◌∙◌}
 use Rattle.std.proofs.lemmas.Grind.{flat_map-append}
 use Rattle.std.proofs.lemmas.List.Elements.{All-contains, filter_more}
-use Rattle.palm_base.proofs.Members.{member_map, all_members}
+use Rattle.palm_base.proofs.cited.Members.{member_map, all_members}
 use Rattle.palm_base.specs.declared.terms.Pair.{Pair}
 use Rattle.palm_model.specs.Domains.{Domains, values_of}
 use Rattle.palm_model.specs.Linear.{term_vars, linear_reason}

@@ -2,7 +2,7 @@
 use Rattle.std.proofs.Common.{◌≡◌, ℕ, List, [], ◌∷◌, Contains, All, ℤ, ◌<ℤ◌, ◌≤ℤ◌, ◌⊎◌, inl, inr, refl, sym, ap, ◌∙◌, subst, arith}
 use Rattle.std.proofs.lemmas.Int.{ints, by_lt_z}
 use Rattle.std.proofs.lemmas.List.Elements.{All-contains}
-use Rattle.palm_base.proofs.Members.{member_here, member_there, member_cases, member_single, member_map, all_members, int_known}
+use Rattle.palm_base.proofs.cited.Members.{member_here, member_there, member_cases, member_single, member_map, all_members, int_known}
 use Rattle.palm_model.specs.Domains.{Domains, Has}
 use Rattle.palm_model.specs.Constraint.{Distinct, scope}
 use Rattle.palm_model.specs.Relation.{Stands}
@@ -14,8 +14,8 @@ use Rattle.palm_model.specs.declared.constraint.Op.{Op}
 use Rattle.palm_model.specs.declared.constraint.Op.TheVariants.{Eq, Ne, Lt, Le, Gt, Ge}
 use Rattle.palm_model.specs.declared.constraint.Term.{Term}
 use Rattle.palm_model.specs.declared.part.Part.TheVariants.{Linear as LinearPart}
-use Rattle.palm_model.proofs.Supports.{supported_by_part, lacking_by_part}
-use Rattle.palm_reason.proofs.LinearReason.{AreFilledBeside, least_support, greatest_support, least_bounds, greatest_bounds, lacking_part}
+use Rattle.palm_model.proofs.cited.Supports.{supported_by_part, lacking_by_part}
+use Rattle.palm_reason.proofs.cited.LinearReason.{AreFilledBeside, least_support, greatest_support, least_bounds, greatest_bounds, lacking_part}
 use Rattle.filter_linear.specs.Linear.{CanBeMet, IsEnd, IsFilledBeside, IsMetAt, IsMetWithin, IsSpan, end_total, linear_of, span_of}
 use Rattle.filter_linear.specs.declared.end.End.{End}
 use Rattle.filter_linear.specs.declared.end.End.TheVariants.{Least, Greatest}

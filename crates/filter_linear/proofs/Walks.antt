@@ -5,7 +5,7 @@ use Rattle.std.proofs.lemmas.Bool.{both_ways}
 use Rattle.std.proofs.lemmas.Int.{ints, by_lt_z}
 use Rattle.std.proofs.lemmas.List.{take_all}
 use Rattle.std.proofs.lemmas.List.Elements.{All-contains, AllWithin-more, AllWithin-none, All-from_all_within, Contains-get_or}
-use Rattle.palm_base.proofs.Members.{member_same, member_map, member_unmap, member_there, member_here}
+use Rattle.palm_base.proofs.cited.Members.{member_same, member_map, member_unmap, member_there, member_here}
 use Rattle.palm_domain.specs.Rows.{IsLeastOf, IsGreatestOf}
 use Rattle.palm_model.specs.declared.limits.TheConstants.{GREATEST_FACTOR, GREATEST_PRODUCT, MOST_SCOPE}
 use Rattle.palm_model.specs.Domains.{Domains, Has, values_of}
@@ -14,18 +14,18 @@ use Rattle.palm_model.specs.Limits.{IsUpTo}
 use Rattle.palm_model.specs.Reason.{AreFilled}
 use Rattle.palm_model.specs.Removed.{is_listed}
 use Rattle.palm_model.specs.declared.constraint.Term.{Term}
-use Rattle.palm_model.proofs.Reasons.{member_not_listed}
-use Rattle.palm_model.proofs.Standing.{stands_from_test, test_from_stands}
+use Rattle.palm_model.proofs.cited.Reasons.{member_not_listed}
+use Rattle.palm_model.proofs.cited.Standing.{stands_from_test, test_from_stands}
 use Rattle.palm_model.specs.declared.constraint.Op.TheVariants.{Lt}
-use Rattle.palm_model.proofs.Sums.{round_up_to, up_to_more, round_factor, sum_up_to, sum_read}
+use Rattle.palm_model.proofs.cited.Sums.{round_up_to, up_to_more, round_factor, sum_up_to, sum_read}
 use Rattle.filter_linear.specs.Linear.{IsProduct, IsTermSpan, IsFilledBeside, IsShare, IsSpan, IsEnd, IsShareEnd, IsTermEnd, end_share, end_total, least_share, greatest_share, is_beyond, values_beyond, beyond_reason}
 use Rattle.filter_linear.specs.declared.end.End.{End}
 use Rattle.filter_linear.specs.declared.end.End.TheVariants.{Least, Greatest}
 use Rattle.filter_linear.specs.declared.reasons.Side.{Side}
 use Rattle.filter_linear.specs.declared.reasons.Side.TheVariants.{Below, Above}
 use Rattle.filter_linear.specs.declared.span.Span.{Span}
-use Rattle.palm_reason.proofs.LinearTotals.{product_rises, product_falls, least_is, greatest_is, total_by, least_by, greatest_by, least_product_below, greatest_product_above}
-use Rattle.palm_reason.proofs.LinearReason.{pairs_by}
+use Rattle.palm_reason.proofs.cited.LinearTotals.{product_rises, product_falls, least_is, greatest_is, total_by, least_by, greatest_by, least_product_below, greatest_product_above}
+use Rattle.palm_reason.proofs.cited.LinearReason.{pairs_by}
 
 -- ---- numbers through their 64 bits
 

@@ -2,9 +2,9 @@
 use Rattle.std.proofs.Common.{◌≡◌, ℕ, ℤ, pos, ◌-◌, ◌<◌, ◌≤◌, List, ◌++◌, length, filter, All, Contains, inl, inr, refl, sym, ap, ◌∙◌, subst, arith, int_lt, length-append}
 use Rattle.std.proofs.lemmas.Bool.{cases_Bool}
 use Rattle.std.proofs.lemmas.List.Elements.{All-contains, Contains-append_left, Contains-append_right}
-use Rattle.palm_base.proofs.Members.{filter_agree_members, all_members}
+use Rattle.palm_base.proofs.cited.Members.{filter_agree_members, all_members}
 use Rattle.palm_base.specs.declared.terms.Pair.{Pair}
-use Rattle.palm_domain.proofs.Comparisons.{lt_from_int_lt, ge_from_int_lt}
+use Rattle.palm_domain.proofs.cited.Comparisons.{lt_from_int_lt, ge_from_int_lt}
 use Rattle.palm_model.specs.Domains.{Domains, Has, AllAscend, values_of}
 use Rattle.palm_model.specs.Count.{target_scope, is_within_counts, is_target_fit, target_pairs, count_reason}
 use Rattle.palm_model.specs.Constraint.{scope, Distinct, IsWellFormed}
@@ -15,12 +15,12 @@ use Rattle.palm_model.specs.declared.limits.TheConstants.{MOST_SCOPE}
 use Rattle.palm_model.specs.declared.constraint.Con.{Con}
 use Rattle.palm_model.specs.declared.constraint.Target.TheVariants.{Variable}
 use Rattle.palm_model.specs.declared.part.Part.TheVariants.{Count as CountPart}
-use Rattle.palm_model.proofs.Supports.{supported_by_part, lacking_by_part}
+use Rattle.palm_model.proofs.cited.Supports.{supported_by_part, lacking_by_part}
 use Rattle.filter_occur.specs.Count.{count_of, values_where, target_values, low_count, high_count, AreCounts, AreCountsTo, CanReach, IsCountReached, IsEnough}
 use Rattle.filter_occur.specs.declared.counts.Counts.{Counts}
 use Rattle.filter_occur.specs.declared.rule.CountRule.{CountRule}
-use Rattle.palm_reason.proofs.CountNumbers.{passed_few, low_high, distinct_front}
-use Rattle.palm_reason.proofs.CountReason.{Fits, fits_support, support_fits, counted_not_target, target_list, fit_same}
+use Rattle.palm_reason.proofs.cited.CountNumbers.{passed_few, low_high, distinct_front}
+use Rattle.palm_reason.proofs.cited.CountReason.{Fits, fits_support, support_fits, counted_not_target, target_list, fit_same}
 
 -- ---- a filter's answers, for its meaning m
 

@@ -6,10 +6,10 @@ use Rattle.std.proofs.lemmas.List.Elements.{AllWithin-more, at_read}
 use Rattle.std.proofs.lemmas.List.Filters.{length-filter_more}
 use Rattle.std.specs.List.{AllWithin}
 use Rattle.palm_base.specs.Tells.{Tells}
-use Rattle.palm_filter.proofs.Listed.{listed_told}
+use Rattle.palm_filter.proofs.cited.Listed.{listed_told}
 use Rattle.palm_model.specs.Domains.{Domains, Has, values_of}
 use Rattle.palm_model.specs.Removed.{is_alone, is_listed}
-use Rattle.palm_reason.proofs.CountNumbers.{bit, alone_listed}
+use Rattle.palm_reason.proofs.cited.CountNumbers.{bit, alone_listed}
 use Rattle.filter_occur.specs.Count.{values_where, low_count, high_count, IsChance}
 use Rattle.filter_occur.specs.declared.rule.Chance.{Chance}
 use Rattle.filter_occur.specs.declared.rule.Chance.TheVariants.{Certain, Impossible, Open}

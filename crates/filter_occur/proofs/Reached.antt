@@ -2,7 +2,7 @@
 use Rattle.std.proofs.Common.{◌≡◌, ℤ, pos, negsuc, ◌-◌, ◌≤◌, ◌<ℤ◌, ◌≤ℤ◌, Bool, true, false, List, [], ◌∷◌, Contains, ◌⊎◌, inl, inr, refl, sym, subst, arith}
 use Rattle.std.proofs.lemmas.Int.{ints}
 use Rattle.std.proofs.lemmas.Bool.{cases_Bool}
-use Rattle.palm_base.proofs.Members.{member_here, member_single}
+use Rattle.palm_base.proofs.cited.Members.{member_here, member_single}
 use Rattle.palm_base.specs.Tells.{Tells}
 use Rattle.palm_domain.specs.Rows.{IsLeastOf, IsGreatestOf, IsNextFrom}
 use Rattle.palm_model.specs.Relation.{Stands}
@@ -11,7 +11,7 @@ use Rattle.palm_model.specs.declared.constraint.Op.{Op}
 use Rattle.palm_model.specs.declared.constraint.Op.TheVariants.{Eq, Ne, Lt, Le, Gt, Ge}
 use Rattle.filter_occur.specs.Count.{IsCountReached}
 use Rattle.filter_occur.specs.declared.counts.Counts.{Counts}
-use Rattle.palm_reason.proofs.CountNumbers.{within_test, test_within}
+use Rattle.palm_reason.proofs.cited.CountNumbers.{within_test, test_within}
 
 module _ (counts : Counts) where
   -- ---- equal to one of the numbers

@@ -3,12 +3,12 @@ use Rattle.std.proofs.Common.{◌≡◌, ℕ, ℤ, ◌+◌, ◌<◌, ◌<ℤ◌,
 use Rattle.std.proofs.lemmas.Bool.Decides.{Decides-int_eq}
 use Rattle.std.proofs.lemmas.Grind.{flat_map-append}
 use Rattle.std.proofs.lemmas.List.Elements.{All-nil, filter_more}
-use Rattle.palm_base.proofs.Members.{member_here, member_single, member_same, filter_member, member_filter}
+use Rattle.palm_base.proofs.cited.Members.{member_here, member_single, member_same, filter_member, member_filter}
 use Rattle.palm_base.specs.declared.terms.Pair.{Pair}
 use Rattle.palm_model.specs.Domains.{Domains, Has, Ascends, values_of}
 use Rattle.palm_model.specs.Removed.{is_listed, others, pairs_of}
 use Rattle.palm_model.specs.Count.{high_pairs}
-use Rattle.palm_model.proofs.Ascending.{ascends_filter, ascending_same}
+use Rattle.palm_model.proofs.cited.Ascending.{ascends_filter, ascending_same}
 
 -- ---- the pairs of one variable after another
 

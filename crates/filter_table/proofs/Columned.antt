@@ -5,13 +5,13 @@ use Rattle.std.proofs.lemmas.Bool.{cases_Bool, cases_lt, both_ways, and_parts}
 use Rattle.std.proofs.lemmas.List.{get_or-map, length-map, get_or_default}
 use Rattle.std.proofs.lemmas.List.Elements.{Contains-get_or}
 use Rattle.std.proofs.lemmas.Option.{slice_get_within, get_or_from_slice_get, slice_get-get_or}
-use Rattle.palm_base.proofs.Members.{member_nil, member_single, member_same, member_get, all_members, map_agree}
+use Rattle.palm_base.proofs.cited.Members.{member_nil, member_single, member_same, member_get, all_members, map_agree}
 use Rattle.palm_base.specs.declared.terms.Pair.{Pair}
 use Rattle.palm_model.specs.Constraint.{Distinct}
 use Rattle.palm_model.specs.Domains.{Domains, Has, is_among}
 use Rattle.palm_model.specs.Table.{are_there, first_missing, is_blocked_at, row_pairs}
-use Rattle.palm_model.proofs.Supports.{any_member, member_any, among_member, member_among}
-use Rattle.palm_reason.proofs.TableRows.{missing_cases, among_gives, gives_among}
+use Rattle.palm_model.proofs.cited.Supports.{any_member, member_any, among_member, member_among}
+use Rattle.palm_reason.proofs.cited.TableRows.{missing_cases, among_gives, gives_among}
 use Rattle.filter_table.specs.Table.{IsIndexed, column_values, is_support_row, row_at}
 use Rattle.filter_table.specs.declared.indexed.IndexedTable.{IndexedTable}
 

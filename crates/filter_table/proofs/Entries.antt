@@ -5,8 +5,8 @@ use Rattle.palm_base.specs.declared.terms.Pair.{Pair}
 use Rattle.palm_model.specs.Domains.{Domains, Has, values_of, is_among}
 use Rattle.palm_model.specs.Removed.{is_listed}
 use Rattle.palm_model.specs.Table.{are_there, first_missing, row_pairs}
-use Rattle.palm_model.proofs.Reasons.{listed_member, member_listed}
-use Rattle.palm_reason.proofs.TableRows.{missing_cases}
+use Rattle.palm_model.proofs.cited.Reasons.{listed_member, member_listed}
+use Rattle.palm_reason.proofs.cited.TableRows.{missing_cases}
 
 -- the entry at a place, before the entries after it
 entries_from : (vars : List ℕ) (row : List ℤ) (i : ℕ) (x : ℕ) (w : ℤ) → length row ≡ length vars → i < length vars → x ≡ get_or vars i x → w ≡ get_or row i w → row_pairs (drop i vars) (drop i row) ≡ record { var = x; value = w } ∷ row_pairs (drop (suc i) vars) (drop (suc i) row)

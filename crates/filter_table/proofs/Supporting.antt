@@ -3,7 +3,7 @@ use Rattle.std.proofs.Common.{◌≡◌, ℕ, ℤ, ◌<◌, Bool, true, false, L
 use Rattle.std.specs.List.{list_any}
 use Rattle.std.proofs.lemmas.Bool.{and_parts, and_from, both_ways}
 use Rattle.std.proofs.lemmas.List.Elements.{All-contains}
-use Rattle.palm_base.proofs.Members.{member_same}
+use Rattle.palm_base.proofs.cited.Members.{member_same}
 use Rattle.palm_base.specs.declared.terms.Pair.{Pair}
 use Rattle.palm_model.specs.Constraint.{scope, Distinct, IsWellFormed}
 use Rattle.palm_model.specs.Domains.{Domains, is_among}
@@ -13,8 +13,8 @@ use Rattle.palm_model.specs.Reason.{reason}
 use Rattle.palm_model.specs.declared.constraint.Con.{Con}
 use Rattle.palm_model.specs.declared.constraint.Con.TheVariants.{Table}
 use Rattle.palm_model.specs.declared.part.Part.TheVariants.{Table as TablePart}
-use Rattle.palm_model.proofs.Supports.{any_member, member_any, supported_by_part, lacking_by_part}
-use Rattle.palm_reason.proofs.TableRows.{among_gives, gives_among, there_gives, gives_there}
+use Rattle.palm_model.proofs.cited.Supports.{any_member, member_any, supported_by_part, lacking_by_part}
+use Rattle.palm_reason.proofs.cited.TableRows.{among_gives, gives_among, there_gives, gives_there}
 use Rattle.filter_table.specs.Table.{IsIndexed, is_support_row, table_of}
 use Rattle.filter_table.specs.declared.indexed.IndexedTable.{IndexedTable}
 use Rattle.filter_table.proofs.Columned.{entry_of, row_is}

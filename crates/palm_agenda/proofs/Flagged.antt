@@ -4,13 +4,13 @@ use Rattle.std.specs.List.{AllWithin}
 use Rattle.std.proofs.lemmas.Bool.{cases_lt, false≢true}
 use Rattle.std.proofs.lemmas.List.Edits.{get_or-insert_below, get_or-remove_below, get_or-remove_above}
 use Rattle.palm_base.specs.declared.terms.Cid.{Cid}
-use Rattle.palm_base.proofs.Members.{member_nil, member_here, member_there, member_cases, member_same, all_members, nat_known}
+use Rattle.palm_base.proofs.cited.Members.{member_nil, member_here, member_there, member_cases, member_same, all_members, nat_known}
 use Rattle.palm_model.specs.Log.{Rises, cid_before, is_named}
 use Rattle.palm_model.specs.State.{without_cid}
-use Rattle.palm_events.proofs.Names.{not_before_itself}
+use Rattle.palm_events.proofs.cited.Names.{not_before_itself}
 use Rattle.palm_agenda.specs.Flags.{IsCounted, count_raised, flagged}
-use Rattle.palm_agenda.proofs.NameLists.{first_cut, not_other, without_cid_same}
-use Rattle.palm_agenda.proofs.Sorted.{filter_passes}
+use Rattle.palm_agenda.proofs.cited.NameLists.{first_cut, not_other, without_cid_same}
+use Rattle.palm_agenda.proofs.cited.Sorted.{filter_passes}
 
 abbrev pub AreLowered : List Bool → ℕ → Type 0
 AreLowered flags place = AllWithin (λ b. b ≡ false) flags 0 place

@@ -1,7 +1,3 @@
-pub mod Sorted
-pub mod NameLists
-pub mod Connecting
+pub mod cited
 pub mod Flagged
-pub mod Marking
 pub mod Rows
-pub mod Keeping

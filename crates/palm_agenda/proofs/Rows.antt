@@ -4,11 +4,11 @@ use Rattle.std.proofs.lemmas.List.{get_or_past, take_all, take_more}
 use Rattle.std.proofs.lemmas.Bool.{cases_lt}
 use Rattle.std.proofs.lemmas.List.Elements.{Contains-append_left, Contains-append_right}
 use Rattle.palm_base.specs.declared.terms.Cid.{Cid}
-use Rattle.palm_base.proofs.Members.{member_nil, member_here, member_same, member_take_more, nat_known}
+use Rattle.palm_base.proofs.cited.Members.{member_nil, member_here, member_same, member_take_more, nat_known}
 use Rattle.palm_model.specs.State.{without_cid}
-use Rattle.palm_events.proofs.States.{without_cid_member, member_without_cid}
+use Rattle.palm_events.proofs.cited.States.{without_cid_member, member_without_cid}
 use Rattle.palm_agenda.specs.Names.{Roomy, HasRoomFor, HasSpace, names_at, row_at, with_name}
-use Rattle.palm_agenda.proofs.NameLists.{with_name_cases, with_name_here, member_with_name, roomy}
+use Rattle.palm_agenda.proofs.cited.NameLists.{with_name_cases, with_name_here, member_with_name, roomy}
 
 -- ---- the first members
 

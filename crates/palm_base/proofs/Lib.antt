@@ -1,5 +1,1 @@
-pub mod Members
-pub mod Naming
-pub mod Numerals
-pub mod StreamLemmas
-pub mod Telling
+pub mod cited

@@ -1,6 +1,3 @@
-pub mod Actives
-pub mod Any
-pub mod BookLemmas
+pub mod cited
 pub mod NameLemmas
 pub mod NumberLemmas
-pub mod Resolving

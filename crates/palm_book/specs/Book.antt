@@ -8,6 +8,7 @@ use Rattle.palm_book.specs.declared.book.BookCon.{BookCon}
 use Rattle.palm_book.specs.declared.limits.TheConstants.{MOST_VARIABLES, MOST_CONSTRAINTS}
 use Rattle.palm_model.specs.Domains.{Domains, Ascends}
 use Rattle.palm_model.specs.Log.{Active}
+use Rattle.palm_model.specs.State.{user_of}
 use Rattle.palm_model.specs.Constraint.{IsWellFormed}
 use Rattle.palm_model.specs.Limits.{IsValue}
 
@@ -66,7 +67,7 @@ initial_of book = map (λ e. e.values) book.variables
 
 -- a constraint of the book under its number, which needs no justification
 abbrev pub user_at : BookCon → Active
-user_at c = record { cid = User c.number; con = c.con; because = [] }
+user_at c = user_of c.number c.con
 
 -- the active constraints, by rising number
 abbrev pub active_of : Contents → List Active

@@ -3,7 +3,7 @@ use Rattle.std.proofs.Common.{◌≡◌, ℕ, zero, suc, ◌+◌, ◌<◌, ◌�
 use Rattle.std.specs.List.{range_with_len}
 use Rattle.std.proofs.lemmas.List.Elements.{Contains-append_right}
 use Rattle.std.proofs.lemmas.List.FromFn.{get_or-range_with_len, length-range_with_len}
-use Rattle.palm_base.proofs.Members.{member_nil, member_here, member_cases}
+use Rattle.palm_base.proofs.cited.Members.{member_nil, member_here, member_cases}
 
 -- each member stands in the relation to the later ones
 abbrev pub Before : {X : Type 0} (P : X → X → Type 0) → List X → Type 0

@@ -30,13 +30,13 @@ use Rattle.palm_read.specs.declared.line.NameTarget.TheVariants.{Const as ConstT
 use Rattle.palm_read.specs.declared.line.NameTerm.{NameTerm}
 use Rattle.palm_read.specs.declared.line.Shape.{Shape}
 use Rattle.palm_read.specs.declared.line.Shape.TheVariants.{CompareVar, CompareConst, Linear, Table, Element, Count, Differ}
-use Rattle.palm_read.proofs.Canonical.{canonical, canonical_line, canonical_once, canonical_proper, canonical_range, canonical_something, numbers_within}
-use Rattle.palm_read.proofs.Layouts.{words_plain, words_short, words_spell}
-use Rattle.palm_read.proofs.PrintedForms.{words_line}
-use Rattle.palm_read.proofs.PrintedParts.{HasNames}
-use Rattle.palm_read.proofs.Ranges.{IsWithin, a_bound, term_numbers}
-use Rattle.palm_read.proofs.Refusals.{in_nothing, in_repeat}
-use Rattle.palm_read.proofs.Sets.{Rises, member_set, rises_set, same_rising, set_member}
+use Rattle.palm_read.proofs.cited.Canonical.{canonical, canonical_line, canonical_once, canonical_proper, canonical_range, canonical_something, numbers_within}
+use Rattle.palm_read.proofs.cited.Layouts.{words_plain, words_short, words_spell}
+use Rattle.palm_read.proofs.cited.PrintedForms.{words_line}
+use Rattle.palm_read.proofs.cited.PrintedParts.{HasNames}
+use Rattle.palm_read.proofs.cited.Ranges.{IsWithin, a_bound, term_numbers}
+use Rattle.palm_read.proofs.cited.Refusals.{in_nothing, in_repeat}
+use Rattle.palm_read.proofs.cited.Sets.{Rises, member_set, rises_set, same_rising, set_member}
 use Rattle.palm_cert.proofs.Saying.{value_within}
 
 -- ---- a form with names is printed as a text that reads as its line

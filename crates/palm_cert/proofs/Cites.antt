@@ -10,7 +10,7 @@ use Rattle.std.proofs.lemmas.Option.{none-some, same_Some, slice_get_within, get
 use Rattle.palm_base.specs.declared.terms.Pair.{Pair}
 use Rattle.palm_base.specs.declared.terms.Cid.{Cid}
 use Rattle.palm_base.specs.declared.terms.Cid.TheVariants.{User}
-use Rattle.palm_base.proofs.Members.{map_agree, member_single, member_get, member_here}
+use Rattle.palm_base.proofs.cited.Members.{map_agree, member_single, member_get, member_here}
 use Rattle.palm_book.specs.Book.{Contents, IsBook}
 use Rattle.palm_book.specs.declared.book.BookCon.{BookCon}
 use Rattle.palm_model.specs.Log.{Removal, log_pairs, same_cid}

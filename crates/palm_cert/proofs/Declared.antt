@@ -5,10 +5,10 @@ use Rattle.std.proofs.lemmas.Bool.Decides.{Decides-int_eq}
 use Rattle.std.proofs.lemmas.Int.{ints}
 use Rattle.std.proofs.lemmas.List.{length-map}
 use Rattle.std.proofs.lemmas.List.Elements.{All-contains, All-head, All-map, All-tail, All-weaker}
-use Rattle.palm_base.proofs.Members.{member_same, member_unmap}
+use Rattle.palm_base.proofs.cited.Members.{member_same, member_unmap}
 use Rattle.palm_book.specs.Book.{AreValues, Contents, Entry, IsBook, name_of, values_at}
 use Rattle.palm_book.specs.Named.{named, named_target, named_term}
-use Rattle.palm_book.proofs.Resolving.{scope_names}
+use Rattle.palm_book.proofs.cited.Resolving.{scope_names}
 use Rattle.palm_lang.specs.Reply.{ended, is_interval, last_of, var_line}
 use Rattle.palm_model.specs.Constraint.{Distinct, IsWellFormed, scope}
 use Rattle.palm_model.specs.Count.{IsTarget}

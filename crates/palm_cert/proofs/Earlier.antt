@@ -6,12 +6,12 @@ use Rattle.std.proofs.lemmas.Option.{get_or_from_slice_get, none-some, slice_get
 use Rattle.palm_base.specs.declared.terms.Pair.{Pair}
 use Rattle.palm_base.specs.declared.terms.Cid.{Cid}
 use Rattle.palm_base.specs.declared.terms.Cid.TheVariants.{User}
-use Rattle.palm_base.proofs.Members.{all_members, filter_member, member_map, member_place, member_same, member_unmap}
+use Rattle.palm_base.proofs.cited.Members.{all_members, filter_member, member_map, member_place, member_same, member_unmap}
 use Rattle.palm_book.specs.Book.{Contents, IsBook, active_of, initial_of, user_at, user_name}
 use Rattle.palm_book.specs.declared.book.BookCon.{BookCon}
-use Rattle.palm_book.proofs.BookLemmas.{number_name_at}
+use Rattle.palm_book.proofs.cited.BookLemmas.{number_name_at}
 use Rattle.palm_claim.specs.Step.{IsRight, pair_at, pairs_at}
-use Rattle.palm_events.proofs.Agreeing.{lacks_in}
+use Rattle.palm_events.proofs.cited.Agreeing.{lacks_in}
 use Rattle.palm_explain.specs.Explanations.{IsLinked}
 use Rattle.palm_model.specs.Domains.{Domains, Has, without}
 use Rattle.palm_model.specs.Log.{Active, AreRight, IsWellFounded, Removal, log_pairs}
@@ -19,7 +19,7 @@ use Rattle.palm_model.specs.Log.{IsRight as IsRightRemoval}
 use Rattle.palm_model.specs.State.{EngineState, IsValid}
 use Rattle.palm_model.specs.Support.{LacksSupport}
 use Rattle.palm_model.specs.declared.constraint.Con.{Con}
-use Rattle.palm_model.proofs.Without.{without_grows}
+use Rattle.palm_model.proofs.cited.Without.{without_grows}
 use Rattle.palm_cert.specs.Certificate.{numbers_of, steps_of}
 use Rattle.palm_cert.proofs.Links.{linked_apart, same_place}
 use Rattle.palm_cert.proofs.Needed.{right_linked, steps_founded}

@@ -7,7 +7,7 @@ use Rattle.std.proofs.lemmas.List.Elements.{All-head, All-tail}
 use Rattle.std.proofs.lemmas.List.FromFn.{get_or-range_with_len, length-range_with_len}
 use Rattle.std.proofs.lemmas.Option.{slice_get_within}
 use Rattle.palm_base.specs.declared.terms.Pair.{Pair}
-use Rattle.palm_base.proofs.Members.{all_members, filter_member, member_flat_map, member_here, member_map, member_nil, member_place, member_remove, member_same, member_there}
+use Rattle.palm_base.proofs.cited.Members.{all_members, filter_member, member_flat_map, member_here, member_map, member_nil, member_place, member_remove, member_same, member_there}
 use Rattle.palm_book.specs.Book.{AreValues, Entry, values_at}
 use Rattle.palm_claim.specs.Statement.{IsStepNumber}
 use Rattle.palm_model.specs.Log.{Removal, log_pairs}

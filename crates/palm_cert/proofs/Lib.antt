@@ -1,6 +1,6 @@
-pub mod Accepted
 pub mod Before
 pub mod Built
+pub mod cited
 pub mod Cites
 pub mod Counting
 pub mod Cutting
@@ -9,7 +9,6 @@ pub mod Declaring
 pub mod Earlier
 pub mod Lengths
 pub mod Links
-pub mod Logged
 pub mod Made
 pub mod Marked
 pub mod Moving
@@ -18,7 +17,6 @@ pub mod Numbers
 pub mod Passing
 pub mod Proving
 pub mod Reached
-pub mod Readable
 pub mod Renumbering
 pub mod Saying
 pub mod Uses

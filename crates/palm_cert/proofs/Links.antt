@@ -5,9 +5,9 @@ use Rattle.std.proofs.lemmas.Bool.{false≢true}
 use Rattle.std.proofs.lemmas.List.Elements.{Contains-append_left, Contains-append_right, Contains-append_cases}
 use Rattle.std.proofs.lemmas.Option.{none-some, same_Some}
 use Rattle.palm_base.specs.declared.terms.Pair.{Pair}
-use Rattle.palm_base.proofs.Members.{member_nil, member_here, member_cases, member_same, member_map, member_unmap, member_get, member_filter, filter_member}
+use Rattle.palm_base.proofs.cited.Members.{member_nil, member_here, member_cases, member_same, member_map, member_unmap, member_get, member_filter, filter_member}
 use Rattle.palm_model.specs.Log.{Removal, log_pairs}
-use Rattle.palm_model.proofs.Without.{among_member, member_among}
+use Rattle.palm_model.proofs.cited.Without.{among_member, member_among}
 use Rattle.palm_explain.specs.Explanations.{AreLinked, IsLinked}
 use Rattle.palm_cert.specs.Certificate.{asked, is_asked, steps_of}
 use Rattle.palm_cert.specs.Needs.{marked}

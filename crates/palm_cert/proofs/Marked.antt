@@ -6,7 +6,7 @@ use Rattle.std.proofs.lemmas.List.{take_all, take_more}
 use Rattle.std.proofs.lemmas.Grind.{flat_map-append}
 use Rattle.std.proofs.lemmas.Option.{get_or_from_slice_get, none-some, same_Some, slice_get-get_or, slice_get_within}
 use Rattle.std.proofs.lemmas.List.Elements.{Contains-append_left, Contains-append_right}
-use Rattle.palm_base.proofs.Members.{member_nil, member_here, member_cases}
+use Rattle.palm_base.proofs.cited.Members.{member_nil, member_here, member_cases}
 use Rattle.palm_cert.specs.Needs.{marked, marked_at}
 
 -- ---- by place

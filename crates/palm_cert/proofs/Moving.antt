@@ -1,7 +1,7 @@
 -- Constraints with other numbers for their variables: what lacks support in one lacks it in the other.
 use Rattle.std.proofs.Common.{◌≡◌, ℕ, suc, ℤ, pos, ◌+ℤ◌, ◌*ℤ◌, Bool, true, false, cond, List, [], ◌∷◌, ◌++◌, length, map, filter, Contains, refl, sym, ap, ◌∙◌, subst, int_eq}
 use Rattle.std.proofs.lemmas.List.{map-append}
-use Rattle.palm_base.proofs.Members.{member_map}
+use Rattle.palm_base.proofs.cited.Members.{member_map}
 use Rattle.palm_model.specs.Constraint.{scope}
 use Rattle.palm_model.specs.Count.{count_among, target_of, target_scope}
 use Rattle.palm_model.specs.Differ.{differ_parts}
@@ -20,7 +20,7 @@ use Rattle.palm_model.specs.declared.constraint.Term.{Term}
 use Rattle.palm_model.specs.declared.part.Part.{Part}
 use Rattle.palm_model.specs.declared.part.Part.TheVariants.{CompareVar as CompareVarPart, CompareConst as CompareConstPart, Linear as LinearPart, Table as TablePart, Element as ElementPart, Count as CountPart, Differ as DifferPart}
 use Rattle.palm_cert.specs.Moved.{moved, moved_target, moved_term}
-use Rattle.palm_model.proofs.Formed.{part_scope}
+use Rattle.palm_model.proofs.cited.Formed.{part_scope}
 
 map_twice : {X Y Z : Type 0} (f : X → Y) (g : Y → Z) (xs : List X) → map g (map f xs) ≡ map (λ x. g (f x)) xs
 map_twice f g [] = refl

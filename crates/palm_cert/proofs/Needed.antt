@@ -4,10 +4,10 @@ use Rattle.std.proofs.lemmas.List.Folds.{Any-from_list_any, list_any-from_Any}
 use Rattle.palm_base.specs.declared.terms.Pair.{Pair}
 use Rattle.palm_base.specs.declared.terms.Cid.{Cid}
 use Rattle.palm_base.specs.declared.terms.Cid.TheVariants.{User}
-use Rattle.palm_base.proofs.Members.{member_here, member_there, member_same, member_map, member_unmap, member_filter, filter_member}
+use Rattle.palm_base.proofs.cited.Members.{member_here, member_there, member_same, member_map, member_unmap, member_filter, filter_member}
 use Rattle.palm_book.specs.declared.book.BookCon.{BookCon}
-use Rattle.palm_book.proofs.Any.{any_member, member_any}
-use Rattle.palm_events.proofs.Names.{cid_same, same_cid_itself}
+use Rattle.palm_book.proofs.cited.Any.{any_member, member_any}
+use Rattle.palm_events.proofs.cited.Names.{cid_same, same_cid_itself}
 use Rattle.palm_model.specs.Domains.{Domains}
 use Rattle.palm_model.specs.Log.{Active, AreRight, IsRight, IsWellFounded, Removal, Names, NamesOfPair, log_pairs, same_cid}
 use Rattle.palm_model.specs.Log.Names.{by_itself, by_reason}

@@ -14,7 +14,7 @@ use Rattle.std.proofs.lemmas.List.Sorted.{Contains-permutation, IsPermutation-sy
 use Rattle.std.proofs.lemmas.Map.Keys.{IsStrictlyIncreasing-dedup}
 use Rattle.std.proofs.lemmas.Option.{none-some, same_Some}
 use Rattle.palm_base.specs.declared.terms.Pair.{Pair}
-use Rattle.palm_base.proofs.Members.{member_nil, member_here, member_there, member_cases, member_same}
+use Rattle.palm_base.proofs.cited.Members.{member_nil, member_here, member_there, member_cases, member_same}
 use Rattle.palm_model.specs.Log.{Removal, log_pairs}
 use Rattle.palm_cert.specs.Certificate.{is_asked, numbers_from, numbers_of}
 use Rattle.palm_cert.specs.Needs.{IsNumberOf, marked, numbered}

@@ -3,10 +3,10 @@ use Rattle.std.proofs.Common.{◌≡◌, ◌≢◌, ℕ, ℤ, pos, ◌-◌, ◌<
 use Rattle.std.proofs.lemmas.List.{get_or-map, length-map, map-append}
 use Rattle.std.proofs.lemmas.List.Elements.{All-contains, Contains-append_right}
 use Rattle.palm_base.specs.declared.terms.Pair.{Pair}
-use Rattle.palm_base.proofs.Members.{member_here, member_map, member_same, member_unmap}
+use Rattle.palm_base.proofs.cited.Members.{member_here, member_map, member_same, member_unmap}
 use Rattle.palm_book.specs.Book.{Contents, Entry, initial_of, name_of, user_name}
 use Rattle.palm_book.specs.declared.book.BookCon.{BookCon}
-use Rattle.palm_book.proofs.Any.{any_member, member_any}
+use Rattle.palm_book.proofs.cited.Any.{any_member, member_any}
 use Rattle.palm_claim.specs.Draft.{Draft, HasConstraint, HasVariable, IsDeclared, IsOpen, IsPair, IsVariable}
 use Rattle.palm_claim.specs.Statement.{Says}
 use Rattle.palm_claim.specs.Step.{IsReached, IsRight, pair_at, pairs_at}
@@ -15,15 +15,15 @@ use Rattle.palm_claim.specs.declared.statement.Stage.TheVariants.{Claimed, Close
 use Rattle.palm_claim.specs.declared.statement.Statement.TheVariants.{ConflictClaim, End, Step, ValueClaim}
 use Rattle.palm_claim.specs.declared.verdict.Claim.{Claim}
 use Rattle.palm_claim.specs.declared.verdict.Claim.TheVariants.{Conflict, Gone}
-use Rattle.palm_claim.proofs.Unique.{pair_is, variable_is}
+use Rattle.palm_claim.proofs.cited.Unique.{pair_is, variable_is}
 use Rattle.palm_lang.specs.Reply.{ended, fixed_text}
 use Rattle.palm_lang.specs.declared.reply.Fixed.TheVariants.{End as EndText}
 use Rattle.palm_model.specs.Domains.{Has, values_of, without}
 use Rattle.palm_model.specs.Log.{Removal, log_pairs}
 use Rattle.palm_model.specs.Support.{LacksSupport}
 use Rattle.palm_model.specs.declared.constraint.Con.{Con}
-use Rattle.palm_model.proofs.Formed.{part_scope}
-use Rattle.palm_model.proofs.Without.{has_without, pair_of, without_has}
+use Rattle.palm_model.proofs.cited.Formed.{part_scope}
+use Rattle.palm_model.proofs.cited.Without.{has_without, pair_of, without_has}
 use Rattle.palm_read.specs.Words.{spaced}
 use Rattle.palm_cert.specs.Certificate.{claim_line, claim_var, claim_words, numbers_of, step_line, step_words}
 use Rattle.palm_cert.specs.Moved.{moved}

@@ -1,12 +1,12 @@
 -- The claim is reached behind the steps.
 use Rattle.std.proofs.Common.{◌≡◌, ℕ, ℤ, zero, suc, List, [], ◌∷◌, Contains, refl, sym, subst}
 use Rattle.palm_base.specs.declared.terms.Pair.{Pair}
-use Rattle.palm_base.proofs.Members.{member_here, member_map, member_nil, member_same}
+use Rattle.palm_base.proofs.cited.Members.{member_here, member_map, member_nil, member_same}
 use Rattle.palm_book.specs.Book.{Contents, Entry, initial_of, values_at}
 use Rattle.palm_claim.specs.Step.{IsReached}
 use Rattle.palm_claim.specs.declared.verdict.Claim.{Claim}
 use Rattle.palm_claim.specs.declared.verdict.Claim.TheVariants.{Gone, Conflict}
-use Rattle.palm_events.proofs.Agreeing.{gone_member}
+use Rattle.palm_events.proofs.cited.Agreeing.{gone_member}
 use Rattle.palm_explain.specs.Explanations.{IsLinked}
 use Rattle.palm_model.specs.Domains.{Domains, Has, values_of}
 use Rattle.palm_model.specs.Log.{Removal, log_pairs}

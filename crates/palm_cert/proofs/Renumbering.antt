@@ -5,7 +5,7 @@ use Rattle.std.proofs.lemmas.Bool.{false≢true}
 use Rattle.std.proofs.lemmas.List.{get_or-map, length-map}
 use Rattle.std.proofs.lemmas.List.Elements.{Contains-append_left, Contains-append_right, Contains-get_or}
 use Rattle.std.proofs.lemmas.Option.{get_or_from_slice_get, none-some, same_Some, slice_get_within}
-use Rattle.palm_base.proofs.Members.{all_members, member_get, member_here, member_nil, member_same, member_tail, member_there, member_unmap}
+use Rattle.palm_base.proofs.cited.Members.{all_members, member_get, member_here, member_nil, member_same, member_tail, member_there, member_unmap}
 use Rattle.palm_book.specs.Book.{Entry, name_of, values_at}
 use Rattle.palm_book.specs.Named.{Resolves, named, named_target, named_term}
 use Rattle.palm_model.specs.Constraint.{scope}

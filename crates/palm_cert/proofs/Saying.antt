@@ -11,9 +11,9 @@ use Rattle.palm_read.specs.Bounds.{a_value}
 use Rattle.palm_read.specs.Name.{IsNameText}
 use Rattle.palm_read.specs.Piece.{Natural}
 use Rattle.palm_read.specs.Words.{spaced}
-use Rattle.palm_read.proofs.Layouts.{Words, lays_natural, words_keyword, words_name, words_none, words_number, words_plain, words_short, words_spell, words_weaker}
-use Rattle.palm_read.proofs.PrintedParts.{lays_value}
-use Rattle.palm_read.proofs.Ranges.{IsWithin}
+use Rattle.palm_read.proofs.cited.Layouts.{Words, lays_natural, words_keyword, words_name, words_none, words_number, words_plain, words_short, words_spell, words_weaker}
+use Rattle.palm_read.proofs.cited.PrintedParts.{lays_value}
+use Rattle.palm_read.proofs.cited.Ranges.{IsWithin}
 use Rattle.palm_cert.specs.Certificate.{claim_words, from_words, step_words}
 
 pub value_within : (v : ℤ) → IsValue v → IsWithin (a_value v)

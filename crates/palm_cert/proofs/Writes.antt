@@ -1,6 +1,6 @@
 -- Steps of writing.
 use Rattle.std.proofs.Common.{◌≡◌, ℕ, List, [], subst, ◌++◌, refl, sym, ap, ◌∙◌, append_assoc, Result, Ok, Err, OnOk}
-use Rattle.palm_base.proofs.StreamLemmas.{appended_both, appended_nothing}
+use Rattle.palm_base.proofs.cited.StreamLemmas.{appended_both, appended_nothing}
 use Rattle.palm_base.specs.Streams.{SinkState}
 use Rattle.palm_cert.specs.Writing.{Writes, HasStopCause}
 use Rattle.palm_cert.specs.declared.stop.CertStop.{CertStop}

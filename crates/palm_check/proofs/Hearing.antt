@@ -5,10 +5,10 @@ use Rattle.std.proofs.lemmas.List.{get_or_default, get_or-map}
 use Rattle.std.proofs.lemmas.List.Elements.{All-contains}
 use Rattle.std.proofs.lemmas.Option.{none-some, slice_get_cases}
 use Rattle.palm_base.specs.declared.terms.Pair.{Pair}
-use Rattle.palm_base.proofs.Members.{Known, all_members, any_known, member_get}
+use Rattle.palm_base.proofs.cited.Members.{Known, all_members, any_known, member_get}
 use Rattle.palm_book.specs.Book.{Contents, Entry, initial_of}
 use Rattle.palm_book.specs.declared.book.BookCon.{BookCon}
-use Rattle.palm_book.proofs.Any.{any_member, member_any}
+use Rattle.palm_book.proofs.cited.Any.{any_member, member_any}
 use Rattle.palm_model.specs.Domains.{Has, values_of, without}
 use Rattle.palm_model.specs.Support.{LacksSupport}
 use Rattle.palm_claim.specs.Draft.{Draft, IsDeclared, IsPair, IsVariable, MayStand}
@@ -17,7 +17,7 @@ use Rattle.palm_claim.specs.Step.{IsRight, pairs_at}
 use Rattle.palm_claim.specs.Verdict.{HasUnproved, IsBeyondLimits, IsFirst, IsMisdeclared, IsNone, IsNotReached, IsNotRight, Meets, in_order}
 use Rattle.palm_claim.specs.declared.statement.Statement.{Statement}
 use Rattle.palm_claim.specs.declared.verdict.Cause.TheVariants.{Malformed, Misdeclared, Beyond, Unproved, NotRight}
-use Rattle.palm_claim.proofs.Unique.{Apart, variable_is}
+use Rattle.palm_claim.proofs.cited.Unique.{Apart, variable_is}
 
 pub first_malformed : (d : Draft) (s : Statement) → (MayStand d.stage s → ⊥) → IsFirst (Meets d s) in_order Malformed
 first_malformed d s n = inl (n, refl)

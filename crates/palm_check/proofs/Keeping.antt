@@ -4,9 +4,9 @@ use Rattle.std.proofs.lemmas.List.{get_or_default, length-map, map_push}
 use Rattle.std.proofs.lemmas.List.Elements.{All-contains, All-push, All-weaker}
 use Rattle.std.proofs.lemmas.Option.{same_Some, slice_get-map, slice_get_read}
 use Rattle.palm_base.specs.declared.terms.Pair.{Pair}
-use Rattle.palm_base.proofs.Members.{all_members, member_get, member_unmap}
+use Rattle.palm_base.proofs.cited.Members.{all_members, member_get, member_unmap}
 use Rattle.palm_claim.specs.Step.{pair_at, pairs_at}
-use Rattle.palm_claim.proofs.Explained.{proved_member}
+use Rattle.palm_claim.proofs.cited.Explained.{proved_member}
 use Rattle.palm_book.specs.Book.{Contents, Entry, IsBook, initial_of}
 use Rattle.palm_book.specs.declared.book.BookCon.{BookCon}
 use Rattle.palm_domain.specs.Rows.{IsDeclared, IsPresent, Row, values_of}

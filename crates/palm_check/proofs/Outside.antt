@@ -1,8 +1,8 @@
 -- Support where no filter is asked, and support within the same domains.
 use Rattle.std.proofs.Common.{◌≡◌, ℕ, ℤ, ◌≤◌, List, [], ◌∷◌, length, map, Any, Contains, inl, inr, refl, subst, arith}
 use Rattle.std.proofs.lemmas.List.Elements.{Contains-append_left}
-use Rattle.palm_base.proofs.Members.{member_cases, member_here, member_map, member_nil, member_there}
-use Rattle.palm_book.proofs.Any.{any_member, member_any}
+use Rattle.palm_base.proofs.cited.Members.{member_cases, member_here, member_map, member_nil, member_there}
+use Rattle.palm_book.proofs.cited.Any.{any_member, member_any}
 use Rattle.palm_model.specs.Constraint.{IsWellFormed, scope}
 use Rattle.palm_model.specs.Differ.{differ_parts}
 use Rattle.palm_model.specs.Domains.{Domains, Has, IsInside}
@@ -16,8 +16,8 @@ use Rattle.palm_model.specs.declared.constraint.Op.TheVariants.{Eq, Ne, Lt, Le, 
 use Rattle.palm_model.specs.declared.constraint.Term.{Term}
 use Rattle.palm_model.specs.declared.part.Part.{Part}
 use Rattle.palm_model.specs.declared.part.Part.TheVariants.{CompareVar as CompareVarPart, CompareConst as CompareConstPart, Linear as LinearPart, Table as TablePart, Element as ElementPart, Count as CountPart, Differ as DifferPart}
-use Rattle.palm_model.proofs.Formed.{part_scope}
-use Rattle.palm_model.proofs.Trials.{support_grows, support_has}
+use Rattle.palm_model.proofs.cited.Formed.{part_scope}
+use Rattle.palm_model.proofs.cited.Trials.{support_grows, support_has}
 
 -- ---- a variable of the scope is one of a part's
 

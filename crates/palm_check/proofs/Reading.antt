@@ -8,14 +8,14 @@ use Rattle.palm_read.specs.Reader.Held.{GivesAll, HoldsAll}
 use Rattle.palm_read.specs.declared.line.Line.{Line}
 use Rattle.palm_read.specs.declared.parse.LineError.{LineError}
 use Rattle.palm_read.specs.declared.parse.LineError.TheVariants.{Form as NoForm, NoMemory}
-use Rattle.palm_read.proofs.SoundLines.{read_sound}
+use Rattle.palm_read.proofs.cited.SoundLines.{read_sound}
 use Rattle.palm_read.specs.declared.line.Line.TheVariants.{Var, Add}
 use Rattle.palm_claim.specs.Reader.{is_value, of_line, phrase_of}
 use Rattle.palm_claim.specs.Statement.{IsSpelled, Says}
 use Rattle.palm_claim.specs.declared.statement.Statement.{Statement}
 use Rattle.palm_claim.specs.declared.statement.Statement.TheVariants.{Comment, Header, Variable, Constraint, Step, ValueClaim, ConflictClaim, End}
-use Rattle.palm_claim.proofs.Phrases.{is_value-value, phrase_is}
-use Rattle.palm_claim.proofs.Saying.{line_says, line_says_nothing, phrase_says, refused_says_nothing}
+use Rattle.palm_claim.proofs.cited.Phrases.{is_value-value, phrase_is}
+use Rattle.palm_claim.proofs.cited.Saying.{line_says, line_says_nothing, phrase_says, refused_says_nothing}
 use Rattle.std.specs.Bool.{⊤}
 use Rattle.palm_check.specs.Kept.{IsBeyondAlone, IsSoundStatement, SaysOrNot}
 use Rattle.palm_check.specs.declared.statements.Reading.{Reading}

@@ -3,12 +3,12 @@ use Rattle.std.proofs.Common.{◌≡◌, ℕ, ℤ, ◌+◌, ◌<◌, ◌≤◌, 
 use Rattle.std.proofs.lemmas.Bool.{eqb-false, eqb-true}
 use Rattle.std.proofs.lemmas.List.{drop_all, drop_more}
 use Rattle.palm_base.specs.Tells.{Tells}
-use Rattle.palm_base.proofs.Telling.{tells_both}
+use Rattle.palm_base.proofs.cited.Telling.{tells_both}
 use Rattle.palm_base.specs.declared.terms.Pair.{Pair}
-use Rattle.palm_base.proofs.Members.{Known, int_known, known_both, known_like, member_cases, member_here, member_known, member_nil, member_single, member_there, nat_known}
+use Rattle.palm_base.proofs.cited.Members.{Known, int_known, known_both, known_like, member_cases, member_here, member_known, member_nil, member_single, member_there, nat_known}
 use Rattle.palm_domain.specs.Rows.{GainsPair, IsDeclared, IsPresent, LosesPair, Row, initial_of, present_of, values_of}
 use Rattle.palm_model.specs.Domains.{IsInside, without}
-use Rattle.palm_model.proofs.Without.{has_without, without_has}
+use Rattle.palm_model.proofs.cited.Without.{has_without, without_has}
 use Rattle.palm_check.specs.Store.{IsFull, PutsBack, TakesOut}
 
 abbrev pub pair_of : ℕ → ℤ → Pair

@@ -2,7 +2,7 @@
 use Rattle.std.proofs.Common.{◌≡◌, ℕ, ◌<◌, List, [], ◌∷◌, map, All, length, inl, inr, sym, ap, ◌∙◌, subst, arith, length-append}
 use Rattle.std.proofs.lemmas.List.{length-map}
 use Rattle.std.proofs.lemmas.List.Elements.{All-nil, All-cons, All-head, All-tail}
-use Rattle.palm_base.proofs.Members.{member_map}
+use Rattle.palm_base.proofs.cited.Members.{member_map}
 use Rattle.palm_model.specs.Constraint.{scope, Distinct, IsShaped, IsWellFormed}
 use Rattle.palm_model.specs.Linear.{IsFactor}
 use Rattle.palm_model.specs.Table.{IsRow}
@@ -12,7 +12,7 @@ use Rattle.palm_model.specs.declared.constraint.Target.TheVariants.{Const, Varia
 use Rattle.palm_model.specs.declared.constraint.Term.{Term}
 use Rattle.palm_book.specs.Book.{Entry, name_of}
 use Rattle.palm_read.specs.Count.{line_target_names}
-use Rattle.palm_book.proofs.Resolving.{scope_names}
+use Rattle.palm_book.proofs.cited.Resolving.{scope_names}
 use Rattle.palm_read.specs.Limits.{Repeats, names_of, HasManyRows}
 use Rattle.palm_book.specs.Named.{named, named_term, named_target, Resolves}
 use Rattle.palm_read.specs.Linear.{IsSoundTerm}

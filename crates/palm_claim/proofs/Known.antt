@@ -4,17 +4,17 @@ use Rattle.std.proofs.lemmas.Bool.{cases_lt}
 use Rattle.std.proofs.lemmas.Int.{ints, by_lt_z}
 use Rattle.std.proofs.lemmas.List.{get_or_default}
 use Rattle.palm_base.specs.declared.terms.Pair.{Pair}
-use Rattle.palm_base.proofs.Members.{Known, all_members, any_known, int_known, known_both, known_like, known_not, list_known, member_known, nat_known}
+use Rattle.palm_base.proofs.cited.Members.{Known, all_members, any_known, int_known, known_both, known_like, known_not, list_known, member_known, nat_known}
 use Rattle.palm_book.specs.Book.{Contents, Entry, initial_of}
 use Rattle.palm_book.specs.Named.{IsUnknownName}
 use Rattle.palm_book.specs.declared.book.BookCon.{BookCon}
-use Rattle.palm_book.proofs.Any.{any_member}
+use Rattle.palm_book.proofs.cited.Any.{any_member}
 use Rattle.palm_model.specs.Domains.{Domains, values_of, without}
 use Rattle.palm_model.specs.Part.{parts, scope_of}
 use Rattle.palm_model.specs.Support.{HasSupport, LacksSupport}
 use Rattle.palm_model.specs.declared.constraint.Con.{Con}
 use Rattle.palm_model.specs.declared.part.Part.{Part}
-use Rattle.palm_model.proofs.Trials.{support_known}
+use Rattle.palm_model.proofs.cited.Trials.{support_known}
 use Rattle.palm_read.specs.Domain.{IsLarge, values_in}
 use Rattle.palm_read.specs.Limits.{HasManyRows, names_of}
 use Rattle.palm_read.specs.declared.line.DomainText.{DomainText}
@@ -36,8 +36,8 @@ use Rattle.palm_claim.specs.declared.verdict.Cause.TheVariants.{Malformed, Misde
 use Rattle.palm_claim.specs.declared.verdict.Verdict.{Verdict}
 use Rattle.palm_claim.specs.declared.verdict.Verdict.TheVariants.{Refused}
 use Rattle.palm_claim.proofs.Once.{constraint_with, variable_with}
-use Rattle.palm_claim.proofs.Saying.{each_said}
-use Rattle.palm_claim.proofs.Unique.{Apart, apart_none, leads_apart, pair_is, variable_is}
+use Rattle.palm_claim.proofs.cited.Saying.{each_said}
+use Rattle.palm_claim.proofs.cited.Unique.{Apart, apart_none, leads_apart, pair_is, variable_is}
 
 -- ---- what is known in general
 

@@ -1,6 +1,3 @@
-pub mod Explained
+pub mod cited
 pub mod Known
 pub mod Once
-pub mod Phrases
-pub mod Saying
-pub mod Unique

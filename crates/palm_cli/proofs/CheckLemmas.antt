@@ -2,11 +2,11 @@
 use Rattle.std.proofs.Common.{◌≡◌, ℕ, ◌+◌, ◌<◌, ◌≤◌, List, [], ◌∷◌, ◌++◌, length, take, Ok, Err, refl, sym, ap, ◌∙◌, subst, arith, append-nil, length-append, inl, inr}
 use Rattle.std.proofs.lemmas.List.{length-take}
 use Rattle.palm_base.specs.Streams.{SourceState, SinkState, Consumes, IsAtEnd, Appended, AppendedFront, Rose}
-use Rattle.palm_base.proofs.StreamLemmas.{consumes_nothing, consumes_both}
+use Rattle.palm_base.proofs.cited.StreamLemmas.{consumes_nothing, consumes_both}
 use Rattle.palm_claim.specs.Verdict.{IsVerdict}
 use Rattle.palm_claim.specs.declared.verdict.Verdict.{Verdict}
 use Rattle.palm_claim.specs.declared.verdict.Verdict.TheVariants as verdict
-use Rattle.palm_claim.proofs.Unique.{one_verdict}
+use Rattle.palm_claim.proofs.cited.Unique.{one_verdict}
 use Rattle.palm_cli.proofs.Taking.{all_left, rose_after, told_once}
 use Rattle.palm_cli.specs.Checking.{ReadsOn, ReadsUnkept, KeepsPiece, ReadsText, StopsReading, WritesVerdict}
 use Rattle.palm_cli.specs.Commands.{Streams, Checks, EndsWith, HasNoFault, IsAll, IsCut, IsInTime, TakesJudged, TakesOver}

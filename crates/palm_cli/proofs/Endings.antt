@@ -6,7 +6,7 @@ use Rattle.palm_session.specs.State.{SessionState}
 use Rattle.palm_session.specs.Lines.{HasNoFeed, without_return}
 use Rattle.palm_session.specs.Replies.{GoesOn, Ends}
 use Rattle.palm_session.specs.Feeding.{FeedsOn}
-use Rattle.palm_session.proofs.Keeping.{line_apart}
+use Rattle.palm_session.proofs.cited.Keeping.{line_apart}
 use Rattle.palm_cli.specs.Commands.{HasEnd}
 
 head_of : (a b : ℕ) (xs ys : List ℕ) → a ∷ xs ≡ b ∷ ys → a ≡ b

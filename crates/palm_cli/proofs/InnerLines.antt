@@ -4,8 +4,8 @@ use Rattle.std.specs.List.{list_all}
 use Rattle.std.proofs.lemmas.Bool.Decides.{nat_tests}
 use Rattle.std.proofs.lemmas.List.Elements.{All-nil, All-cons, All-append, All-weaker}
 use Rattle.std.proofs.lemmas.List.Sums.{AllPass-from_list_all}
-use Rattle.palm_base.proofs.Numerals.{decimal_digits}
-use Rattle.palm_read.proofs.TokenLemmas.{tokens_of-front}
+use Rattle.palm_base.proofs.cited.Numerals.{decimal_digits}
+use Rattle.palm_read.proofs.cited.TokenLemmas.{tokens_of-front}
 use Rattle.palm_read.specs.Bytes.{is_blank}
 use Rattle.palm_read.specs.Form.{Form, QuitForm}
 use Rattle.palm_read.specs.Grammar.{IsForm, pieces}

@@ -3,17 +3,17 @@ use Rattle.std.proofs.Common.{◌≡◌, ℕ, ◌+◌, ◌-◌, ◌<◌, ◌≤�
 use Rattle.std.proofs.lemmas.List.{take_all, length-take, take-append-drop}
 use Rattle.std.proofs.Math.Seq.{take-append-add}
 use Rattle.std.proofs.lemmas.List.Elements.{All-nil, All-cons, All-append, All-head, All-tail}
-use Rattle.palm_base.proofs.Members.{Known, nat_known}
+use Rattle.palm_base.proofs.cited.Members.{Known, nat_known}
 use Rattle.palm_base.specs.Streams.{SinkState, Consumes, Appended, AppendedFront, Rose}
-use Rattle.palm_base.proofs.StreamLemmas.{consumes_nothing, consumes_both, appended_nothing, appended_both}
+use Rattle.palm_base.proofs.cited.StreamLemmas.{consumes_nothing, consumes_both, appended_nothing, appended_both}
 use Rattle.palm_lang.specs.Reply.{ended}
 use Rattle.palm_session.specs.State.{SessionState, fresh}
 use Rattle.palm_session.specs.Lines.{HasNoFeed, Cuts, AreLines, last_line, without_return}
 use Rattle.palm_session.specs.Replies.{Run, AreAnswered, GoesOn, Ends, KeepsOn, all, until}
 use Rattle.palm_session.specs.Feeding.{View, FeedsOn, FeedsEnd, FeedsPart, FinishesAll, FinishesPart}
-use Rattle.palm_session.proofs.FeedLemmas.{feeds_more, feeds_more_end, feeds_more_part, feeds_none, run_append, run_then, map_more, map_append}
-use Rattle.palm_session.proofs.Asked.{run_of}
-use Rattle.palm_session.proofs.Keeping.{feeds_long, feeds_long_end, feeds_long_part, finishes_long, finishes_long_part}
+use Rattle.palm_session.proofs.cited.FeedLemmas.{feeds_more, feeds_more_end, feeds_more_part, feeds_none, run_append, run_then, map_more, map_append}
+use Rattle.palm_session.proofs.cited.Asked.{run_of}
+use Rattle.palm_session.proofs.cited.Keeping.{feeds_long, feeds_long_end, feeds_long_part, finishes_long, finishes_long_part}
 use Rattle.palm_session.specs.declared.limits.TheConstants.{MOST_KEPT_BYTES}
 use Rattle.std.proofs.lemmas.Grind.{flat_map-append}
 use Rattle.palm_cli.specs.Commands.{Streams, IsCalm, FailsToWrite, RunsAll, RunsPart, HasEnd, StopsInTime, IsWhole, IsCut, Runs, HasNoFault, TakesAnswerable, TakesTooMuch, first_bytes}

@@ -3,7 +3,7 @@ use Rattle.std.proofs.Common.{◌≡◌, ℕ, List, [], ◌∷◌, ◌++◌, map
 use Rattle.std.proofs.lemmas.List.Elements.{All-nil, All-cons, All-head, All-tail}
 use Rattle.std.proofs.lemmas.List.{take_all}
 use Rattle.palm_base.specs.Streams.{SinkState, Appended, AppendedFront}
-use Rattle.palm_base.proofs.StreamLemmas.{appended_nothing}
+use Rattle.palm_base.proofs.cited.StreamLemmas.{appended_nothing}
 use Rattle.palm_lang.specs.Reply.{ended}
 use Rattle.palm_session.specs.Answers.{Answers}
 use Rattle.palm_session.specs.Feeding.{View, Feeds, KeepsRest, FeedsEnd, FeedsPart}
@@ -16,11 +16,11 @@ use Rattle.palm_session.specs.declared.going.Going.TheVariants.{More, Quit}
 use Rattle.palm_session.specs.declared.limits.TheConstants.{MOST_KEPT_BYTES}
 use Rattle.palm_session.specs.declared.stop.Stop.{Stop}
 use Rattle.palm_session.specs.declared.stop.Stop.TheVariants.{WriteFault, NoMemory}
-use Rattle.palm_session.proofs.Asked.{run_of}
-use Rattle.palm_session.proofs.FeedLemmas.{run_then}
-use Rattle.palm_session.proofs.Keeping.{line_apart}
-use Rattle.palm_session.proofs.LawsOfAnswers.{has_answer}
-use Rattle.palm_session.proofs.LawsOfTexts.{has_run, run_keeps}
+use Rattle.palm_session.proofs.cited.Asked.{run_of}
+use Rattle.palm_session.proofs.cited.FeedLemmas.{run_then}
+use Rattle.palm_session.proofs.cited.Keeping.{line_apart}
+use Rattle.palm_session.proofs.cited.LawsOfAnswers.{has_answer}
+use Rattle.palm_session.proofs.cited.LawsOfTexts.{has_run, run_keeps}
 use Rattle.palm_cli.proofs.Endings.{first_line, no_feed_within}
 use Rattle.palm_cli.proofs.InnerLines.{solve_text_is}
 use Rattle.palm_cli.specs.Generator.{solve_line}

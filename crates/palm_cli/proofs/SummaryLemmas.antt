@@ -1,19 +1,19 @@
 -- Summaries: there is one for each number of queens, and no other.
 use Rattle.std.proofs.Common.{◌≡◌, ℕ, ◌≤◌, false, List, [], ◌∷◌, ◌++◌, map, flat_map, Option, Result, Ok, Err, refl, sym, ap, ◌∙◌, subst, append_assoc, append-nil}
 use Rattle.std.proofs.lemmas.List.Elements.{All-nil}
-use Rattle.palm_base.proofs.Members.{member_nil}
-use Rattle.palm_base.proofs.StreamLemmas.{appended_nothing, appended_both}
+use Rattle.palm_base.proofs.cited.Members.{member_nil}
+use Rattle.palm_base.proofs.cited.StreamLemmas.{appended_nothing, appended_both}
 use Rattle.palm_base.specs.Streams.{SinkState, Appended, AppendedFront, Rose}
 use Rattle.palm_lang.specs.Reply.{ended}
 use Rattle.palm_session.specs.Answers.{Answers}
 use Rattle.palm_session.specs.Lines.{without_return}
 use Rattle.palm_session.specs.Replies.{Run, Replies, ChoosesObject, chooses_guide, chooses_order, all}
 use Rattle.palm_session.specs.State.{SessionState, IsState, fresh}
-use Rattle.palm_session.proofs.FeedLemmas.{run_then}
-use Rattle.palm_session.proofs.LawsOfAnswers.{has_answer, answers_keep, answers_without, answers_once}
-use Rattle.palm_session.proofs.LawsOfChanges.{IsWithout}
-use Rattle.palm_session.proofs.LawsOfStates.{fresh_is}
-use Rattle.palm_session.proofs.LawsOfTexts.{has_run, run_keeps}
+use Rattle.palm_session.proofs.cited.FeedLemmas.{run_then}
+use Rattle.palm_session.proofs.cited.LawsOfAnswers.{has_answer, answers_keep, answers_without, answers_once}
+use Rattle.palm_session.proofs.cited.LawsOfChanges.{IsWithout}
+use Rattle.palm_session.proofs.cited.LawsOfStates.{fresh_is}
+use Rattle.palm_session.proofs.cited.LawsOfTexts.{has_run, run_keeps}
 use Rattle.palm_cli.proofs.InnerLines.{all_generated}
 use Rattle.palm_cli.proofs.Taking.{rose_after}
 use Rattle.palm_cli.proofs.SolveLemmas.{all_bare, all_unbroken, all_go_on}

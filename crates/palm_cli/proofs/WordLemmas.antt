@@ -4,7 +4,7 @@ use Rattle.std.specs.Str.{bytes_eq}
 use Rattle.std.proofs.lemmas.Bool.Decides.{nat_tests}
 use Rattle.std.proofs.lemmas.Slice.Eq.{bytes_eq-Decides}
 use Rattle.std.proofs.lemmas.List.Elements.{All-map}
-use Rattle.palm_base.proofs.Members.{all_members, member_cases, member_single, member_map}
+use Rattle.palm_base.proofs.cited.Members.{all_members, member_cases, member_single, member_map}
 use Rattle.palm_base.specs.Numbers.{AreDigits, digits_number}
 use Rattle.palm_cli.specs.Generator.{IsSize}
 use Rattle.palm_cli.specs.Words.{IsRun, IsCheck, IsGen, IsNoCommand, BeginsWithDash, IsApart}

@@ -4,19 +4,19 @@ use Rattle.palm_base.specs.declared.terms.Cid.TheVariants.{Decide}
 use Rattle.palm_model.specs.State.{EngineState, IsValid}
 use Rattle.palm_events.specs.Along.{IsStill}
 use Rattle.palm_events.specs.Reasons.{ReasonsAreRight}
-use Rattle.palm_events.proofs.Valid.{withdraws_valid}
+use Rattle.palm_events.proofs.cited.Valid.{withdraws_valid}
 use Rattle.palm_model.specs.Event.{WithdrawsAll}
 use Rattle.palm_engine.specs.Engine.{View, HasSettled}
 use Rattle.palm_engine.specs.Settling.{Filters}
 use Rattle.palm_engine.specs.declared.settle.Settle.{Settle}
-use Rattle.palm_engine.proofs.Settled.{filters_valid}
+use Rattle.palm_engine.proofs.cited.Settled.{filters_valid}
 use Rattle.palm_search.specs.declared.turn.Turn.{Turn}
 use Rattle.palm_search.specs.Kept.{HasOnlyUsers}
 use Rattle.palm_search.specs.Search.{SearchEnd, SearchRun, Searches, search_cids}
 use Rattle.palm_search.specs.Turns.{SearchState}
-use Rattle.palm_search.proofs.Keeping.{takes_keep}
-use Rattle.palm_search.proofs.Leaving.{Ended, Remembers, Returns, Searched, closing_leaves, closing_returns, remembers_filtered, remembers_none, remembers_takes, remembers_undone, run_ended, run_found, run_unsolved, run_users, searched_filtered, searched_none, searched_takes, searched_undone, turned_ended, turned_searched}
-use Rattle.palm_search.proofs.Measuring.{run_spent}
+use Rattle.palm_search.proofs.cited.Keeping.{takes_keep}
+use Rattle.palm_search.proofs.cited.Leaving.{Ended, Remembers, Returns, Searched, closing_leaves, closing_returns, remembers_filtered, remembers_none, remembers_takes, remembers_undone, run_ended, run_found, run_unsolved, run_users, searched_filtered, searched_none, searched_takes, searched_undone, turned_ended, turned_searched}
+use Rattle.palm_search.proofs.cited.Measuring.{run_spent}
 use Rattle.palm_dbt.specs.declared.answer.Answer.{Answer}
 use Rattle.palm_dbt.specs.declared.answer.Answer.TheVariants.{Found, NoSolution, Spent}
 use Rattle.palm_dbt.specs.Answers.{IsTrueOf, end_of}

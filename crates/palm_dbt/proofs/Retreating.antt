@@ -6,23 +6,23 @@ use Rattle.std.proofs.lemmas.Option.{get_or_from_slice_get}
 use Rattle.palm_base.specs.declared.terms.Pair.{Pair}
 use Rattle.palm_base.specs.declared.terms.Cid.{Cid}
 use Rattle.palm_base.specs.declared.terms.Cid.TheVariants.{Decide, Not, User}
-use Rattle.palm_base.proofs.Members.{member_same, member_get, member_place}
+use Rattle.palm_base.proofs.cited.Members.{member_same, member_get, member_place}
 use Rattle.palm_model.specs.Conflict.{InConflict, InFlat, IsKeptConflict}
 use Rattle.palm_model.specs.Conflict.InFlat.{as_it_is, in_place}
 use Rattle.palm_model.specs.Domains.{Has}
 use Rattle.palm_model.specs.Log.{Active, IsActive, IsListOf}
-use Rattle.palm_model.specs.State.{AreGrounds, EngineState, IsValid, is_user, present, without_cid}
+use Rattle.palm_model.specs.State.{AreGrounds, EngineState, IsValid, is_user, present, without_cid, negation_of}
 use Rattle.palm_model.specs.Event.{Posts, gone_with, posted, without_names}
-use Rattle.palm_model.proofs.Narrowing.{has_declared}
-use Rattle.palm_events.proofs.Conflicts.{conflict_active, flat_grounds}
+use Rattle.palm_model.proofs.cited.Narrowing.{has_declared}
+use Rattle.palm_events.proofs.cited.Conflicts.{conflict_active, flat_grounds}
 use Rattle.palm_search.specs.Calls.{SearchView, TakesBack, search_state}
 use Rattle.palm_search.specs.Kept.{HasDecisions, HasDeclared, HasNoneNegated}
 use Rattle.palm_search.specs.Search.{HasNoSolution}
-use Rattle.palm_search.specs.Turns.{SearchState, HasFlatConflict, Undoes, decided_vars, negation_of}
-use Rattle.palm_search.proofs.Closing.{no_members}
-use Rattle.palm_search.proofs.Deciding.{posted_has}
-use Rattle.palm_search.proofs.Going.{negation_before, rest_grounds, vars_member}
-use Rattle.palm_search.proofs.Showing.{split_place}
+use Rattle.palm_search.specs.Turns.{SearchState, HasFlatConflict, Undoes, decided_vars}
+use Rattle.palm_search.proofs.cited.Closing.{no_members}
+use Rattle.palm_search.proofs.cited.Deciding.{posted_has}
+use Rattle.palm_search.proofs.cited.Going.{negation_before, rest_grounds, vars_member}
+use Rattle.palm_search.proofs.cited.Showing.{split_place}
 use Rattle.palm_dbt.specs.Turning.{HasOnlyEmpty, IsLatestAt}
 
 -- ---- the flat conflict

@@ -2,25 +2,25 @@
 use Rattle.std.proofs.Common.{◌≡◌, ℕ, ◌+◌, ◌-◌, ◌<◌, ◌≤◌, Bool, None, List, [], ◌∷◌, ◌++◌, length, min, Contains, refl, sym, ap, ◌∙◌, inl, inr, subst, arith, length-append}
 use Rattle.palm_base.specs.declared.terms.Pair.{Pair}
 use Rattle.palm_base.specs.declared.terms.Cid.TheVariants.{Not}
-use Rattle.palm_base.proofs.Members.{member_nil}
+use Rattle.palm_base.proofs.cited.Members.{member_nil}
 use Rattle.palm_model.specs.Log.{IsActive}
 use Rattle.palm_model.specs.State.{EngineState, IsValid}
 use Rattle.palm_events.specs.Reasons.{ReasonsAreRight}
 use Rattle.palm_engine.specs.Engine.{View, HasSettled, IsInterrupted}
 use Rattle.palm_engine.specs.Settling.{Filters}
 use Rattle.palm_engine.specs.declared.settle.Settle.{Settle}
-use Rattle.palm_engine.proofs.Settled.{settling_filters}
-use Rattle.palm_engine.proofs.Walking.{filters_then, revisions_filter, walk_filters, not_empty}
+use Rattle.palm_engine.proofs.cited.Settled.{settling_filters}
+use Rattle.palm_engine.proofs.cited.Walking.{filters_then, revisions_filter, walk_filters, not_empty}
 use Rattle.palm_search.specs.declared.turn.Turn.{Turn}
 use Rattle.palm_search.specs.declared.turn.Turn.TheVariants.{Decide as TurnDecide, Undo as TurnUndo}
 use Rattle.palm_search.specs.Calls.{SearchView, TakesTurn, search_state}
 use Rattle.palm_search.specs.Kept.{HasDecisions, HasNoneNegated, HasOnlyUsers}
 use Rattle.palm_search.specs.Search.{SearchEnd, EndsWith, SearchRun, begun}
 use Rattle.palm_search.specs.Turns.{SearchState, Follows, SettlesAfter, Takes, Turns}
-use Rattle.palm_search.proofs.Deciding.{settles_has}
-use Rattle.palm_search.proofs.Going.{decides_unnegated, undoes_unnegated}
-use Rattle.palm_search.proofs.Keeping.{begins, settles_keep, takes_keep}
-use Rattle.palm_search.proofs.Leaving.{settles_still}
+use Rattle.palm_search.proofs.cited.Deciding.{settles_has}
+use Rattle.palm_search.proofs.cited.Going.{decides_unnegated, undoes_unnegated}
+use Rattle.palm_search.proofs.cited.Keeping.{begins, settles_keep, takes_keep}
+use Rattle.palm_search.proofs.cited.Leaving.{settles_still}
 use Rattle.palm_dbt.specs.Turning.{HasTurned, IsBetween, IsCutOff, IsCutTurn}
 use Rattle.palm_dbt.specs.Turning.IsCutOff.{before_turn, in_first_settling, in_settling, in_undoing}
 use Rattle.palm_dbt.specs.Turning.IsCutTurn.{cut_before, cut_within}

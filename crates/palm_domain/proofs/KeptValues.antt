@@ -2,11 +2,11 @@
 use Rattle.std.proofs.Common.{◌≡◌, ℕ, zero, suc, ℤ, ◌+◌, ◌<◌, ◌≤◌, Bool, true, false, cond, List, [], ◌∷◌, length, get_or, Contains, refl, sym, ap, ◌∙◌, arith, inl, inr, ◌⊎◌}
 use Rattle.std.proofs.lemmas.Bool.{cases_eq, both_ways}
 use Rattle.std.proofs.lemmas.List.{get_or_default}
-use Rattle.palm_base.proofs.Members.{member_nil, member_here, member_there, member_cases, member_same}
+use Rattle.palm_base.proofs.cited.Members.{member_nil, member_here, member_there, member_cases, member_same}
 use Rattle.palm_domain.specs.Rows.{Ascends, values_with, values_without}
 use Rattle.palm_domain.specs.Marks.{kept}
-use Rattle.palm_domain.proofs.Ascending.{first_below, Ascends-cons, same_place, same_ascending}
-use Rattle.palm_domain.proofs.Values.{without_member, member_without, Ascends-without, with_member, member_with, member_with_itself, Ascends-with}
+use Rattle.palm_domain.proofs.cited.Ascending.{first_below, Ascends-cons, same_place, same_ascending}
+use Rattle.palm_domain.proofs.cited.Values.{without_member, member_without, Ascends-without, with_member, member_with, member_with_itself, Ascends-with}
 
 first_cases : (b : Bool) (x : ℤ) (ks : List ℤ) (v : ℤ) → Contains (cond b (x ∷ ks) ks) v → ((x ≡ v) × (b ≡ true)) ⊎ Contains ks v
 first_cases true x ks v h = elim (member_cases x ks v h) [ inl e ↦ inl (e, refl) | inr m ↦ inr m ]

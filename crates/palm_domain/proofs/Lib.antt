@@ -1,9 +1,6 @@
-pub mod WordOnes
-pub mod MarkPlaces
-pub mod Ascending
-pub mod Comparisons
-pub mod Values
+pub mod cited
 pub mod KeptValues
+pub mod MarkPlaces
 pub mod RowMarks
 pub mod Standing
-pub mod StoreRows
+pub mod WordOnes

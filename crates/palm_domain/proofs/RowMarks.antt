@@ -4,13 +4,13 @@ use Rattle.std.proofs.lemmas.Int.{ints}
 use Rattle.std.proofs.lemmas.Bool.{cases_lt, cases_eq, both_ways, not-true, not-false, false_from_ne_true}
 use Rattle.std.proofs.lemmas.List.{get_or_default}
 use Rattle.std.proofs.lemmas.Option.{slice_get_within, get_or_from_slice_get, slice_get-get_or}
-use Rattle.palm_base.proofs.Members.{member_same}
+use Rattle.palm_base.proofs.cited.Members.{member_same}
 use Rattle.palm_domain.specs.Rows.{Row, Ascends, IsFormed, IsLeastOf, IsGreatestOf, IsNextFrom, IsNextRemovedFrom}
 use Rattle.palm_domain.specs.Places.{IsPlaceFrom}
 use Rattle.palm_domain.specs.Marks.{AreMarks, kept}
-use Rattle.palm_domain.proofs.Ascending.{get_or-ascends, get_or-rises, same_place, place_below}
+use Rattle.palm_domain.proofs.cited.Ascending.{get_or-ascends, get_or-rises, same_place, place_below}
 use Rattle.palm_domain.proofs.KeptValues.{kept_member, member_kept, kept_inside, length-kept, Ascends-kept, kept_all, kept_cleared, kept_marked}
-use Rattle.palm_domain.proofs.Values.{length-with, length-without}
+use Rattle.palm_domain.proofs.cited.Values.{length-with, length-without}
 
 -- ---- a value's place
 

@@ -4,7 +4,7 @@ use Rattle.std.proofs.lemmas.Int.{ints}
 use Rattle.std.proofs.lemmas.Option.{slice_get_within, get_or_from_slice_get}
 use Rattle.palm_domain.specs.Places.{IsPlaceFrom}
 use Rattle.palm_domain.specs.Rows.{Ascends}
-use Rattle.palm_domain.proofs.Ascending.{get_or-ascends, get_or-rises}
+use Rattle.palm_domain.proofs.cited.Ascending.{get_or-ascends, get_or-rises}
 
 module _ (xs : List ℤ) (a : Ascends xs) (v : ℤ) (place : ℕ) (at : slice_get xs place ≡ Some v) where
   within : place < length xs

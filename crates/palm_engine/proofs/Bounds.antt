@@ -5,16 +5,16 @@ use Rattle.std.proofs.lemmas.Bool.{cases_Bool, not-true}
 use Rattle.std.proofs.lemmas.List.{map-append}
 use Rattle.std.proofs.lemmas.List.Elements.{Contains-append_cases, Contains-append_left, Contains-append_right}
 use Rattle.palm_base.specs.declared.terms.Pair.{Pair}
-use Rattle.palm_base.proofs.Members.{member_nil, member_here, member_there, member_single, member_same, member_unmap, filter_member, member_filter}
+use Rattle.palm_base.proofs.cited.Members.{member_nil, member_here, member_there, member_single, member_same, member_unmap, filter_member, member_filter}
 use Rattle.palm_model.specs.Domains.{Ascends, Has, values_of}
 use Rattle.palm_model.specs.Removed.{pairs_of}
 use Rattle.palm_model.specs.Log.{Active}
 use Rattle.palm_model.specs.State.{EngineState, present}
-use Rattle.palm_model.proofs.Ascending.{ascends_filter}
-use Rattle.palm_model.proofs.Without.{pair_of}
+use Rattle.palm_model.proofs.cited.Ascending.{ascends_filter}
+use Rattle.palm_model.proofs.cited.Without.{pair_of}
 use Rattle.palm_domain.specs.Rows.{IsLeastOf, IsNextFrom}
-use Rattle.palm_domain.proofs.Ascending.{Ascends-cons, first_below, same_ascending}
-use Rattle.palm_domain.proofs.Comparisons.{lt_from_int_lt, ge_from_int_lt, int_lt_from_lt, int_lt_from_ge}
+use Rattle.palm_domain.proofs.cited.Ascending.{Ascends-cons, first_below, same_ascending}
+use Rattle.palm_domain.proofs.cited.Comparisons.{lt_from_int_lt, ge_from_int_lt, int_lt_from_lt, int_lt_from_ge}
 use Rattle.palm_engine.specs.Settling.{Walks}
 use Rattle.palm_engine.proofs.Counting.{length_filter_lt}
 use Rattle.palm_engine.proofs.Joined.{walk_then, walk_then_none, walk_past}

@@ -2,7 +2,7 @@
 use Rattle.std.proofs.Common.{◌≡◌, ℕ, Bool, true, false, not, [], ◌∷◌, Contains, ℤ, int_eq, refl, sym, ap, ◌∙◌, subst}
 use Rattle.std.proofs.lemmas.Bool.{false≢true}
 use Rattle.std.proofs.lemmas.Bool.Decides.{Decides-int_eq}
-use Rattle.palm_base.proofs.Members.{member_here, member_single}
+use Rattle.palm_base.proofs.cited.Members.{member_here, member_single}
 use Rattle.palm_model.specs.Domains.{Domains, Has}
 use Rattle.palm_model.specs.Relation.{Stands}
 use Rattle.palm_model.specs.Support.{HasSupport, IsSupported, LacksSupport}

@@ -2,11 +2,11 @@
 use Rattle.std.proofs.Common.{◌≡◌, ℕ, zero, suc, ◌+◌, ◌<◌, ◌≤◌, Bool, true, false, not, List, [], ◌∷◌, length, filter, Contains, ℤ, inl, inr, sym, ap, ◌∙◌, subst, arith, add-zero, zero-add}
 use Rattle.std.proofs.lemmas.Bool.{cases_Bool, false≢true, not-true}
 use Rattle.palm_base.specs.declared.terms.Pair.{Pair}
-use Rattle.palm_base.proofs.Members.{member_nil, member_cases, filter_member}
+use Rattle.palm_base.proofs.cited.Members.{member_nil, member_cases, filter_member}
 use Rattle.palm_model.specs.Domains.{Domains, Has, is_among, without_from, without}
 use Rattle.palm_model.specs.Trial.{value_count}
-use Rattle.palm_model.proofs.Supports.{not_true}
-use Rattle.palm_model.proofs.Without.{pair_of, among_member, member_among}
+use Rattle.palm_model.proofs.cited.Supports.{not_true}
+use Rattle.palm_model.proofs.cited.Without.{pair_of, among_member, member_among}
 
 -- what passes fewer tests is shorter
 length_filter_le : (p q : ℤ → Bool) (xs : List ℤ) → ((x : ℤ) → p x ≡ true → q x ≡ true) → length (filter p xs) ≤ length (filter q xs)

@@ -7,20 +7,20 @@ use Rattle.std.proofs.lemmas.Nat.{mul-le}
 use Rattle.std.proofs.lemmas.List.Elements.{Contains-append_left, Contains-append_right}
 use Rattle.palm_base.specs.declared.terms.Pair.{Pair}
 use Rattle.palm_base.specs.declared.terms.Cid.{Cid}
-use Rattle.palm_base.proofs.Members.{member_nil, member_here, member_cases, member_get}
+use Rattle.palm_base.proofs.cited.Members.{member_nil, member_here, member_cases, member_get}
 use Rattle.palm_model.specs.Trial.{value_count}
 use Rattle.palm_model.specs.Log.{Active, IsActive, log_pairs, is_named}
 use Rattle.palm_model.specs.State.{EngineState, HasEmpty, AllFilled, IsValid, present, is_awake, woken, without_cid}
 use Rattle.palm_model.specs.Event.{Removes, removal_of, calmed}
-use Rattle.palm_events.proofs.Names.{member_named}
-use Rattle.palm_events.proofs.States.{woken_active, without_cid_member}
-use Rattle.palm_events.proofs.Valid.{removed_pairs_are, pending_active}
+use Rattle.palm_events.proofs.cited.Names.{member_named}
+use Rattle.palm_events.proofs.cited.States.{woken_active, without_cid_member}
+use Rattle.palm_events.proofs.cited.Valid.{removed_pairs_are, pending_active}
 use Rattle.palm_engine.specs.Settling.{Walks, Revision, Revises, Revisions, SettlesSome, IsInLimit, IsEnded, walk_order, rested, index_within}
 use Rattle.palm_engine.specs.Settling.Walks.{walked_all, walked_empty, walked_past, walked_out}
 use Rattle.palm_engine.specs.Settling.IsEnded.{ended_empty, ended_quiet, ended_limit}
 use Rattle.palm_engine.specs.Work.{effort, Falls}
 use Rattle.palm_engine.proofs.Counting.{fewer_values}
-use Rattle.palm_engine.proofs.Walking.{took_none, walk_filters, chosen_pending, walk_exists, empty_or_filled}
+use Rattle.palm_engine.proofs.cited.Walking.{took_none, walk_filters, chosen_pending, walk_exists, empty_or_filled}
 
 -- ---- lengths of filtered lists
 

@@ -5,16 +5,16 @@ use Rattle.std.proofs.lemmas.List.Elements.{Contains-append_left, Contains-push,
 use Rattle.palm_base.specs.declared.terms.Pair.{Pair}
 use Rattle.palm_base.specs.declared.terms.Cid.{Cid}
 use Rattle.palm_base.specs.declared.terms.Cid.TheVariants.{Not}
-use Rattle.palm_base.proofs.Members.{member_nil, member_here, member_same, member_single}
+use Rattle.palm_base.proofs.cited.Members.{member_nil, member_here, member_same, member_single}
 use Rattle.palm_domain.specs.Rows.{initial_of, present_of, declared_values}
 use Rattle.palm_model.specs.Conflict.{InFlat, IsKeptConflict}
 use Rattle.palm_model.specs.Conflict.InFlat.{as_it_is, in_place}
 use Rattle.palm_model.specs.Domains.{Has}
 use Rattle.palm_model.specs.Log.{Active, IsListOf, Rises, cids_of, log_pairs}
 use Rattle.palm_model.specs.State.{IsEmptyAt, IsGround, present}
-use Rattle.palm_model.proofs.Without.{pair_of}
-use Rattle.palm_events.proofs.Agreeing.{gone_member}
-use Rattle.palm_events.proofs.Names.{single}
+use Rattle.palm_model.proofs.cited.Without.{pair_of}
+use Rattle.palm_events.proofs.cited.Agreeing.{gone_member}
+use Rattle.palm_events.proofs.cited.Names.{single}
 use Rattle.palm_explain.specs.Explanations.{LacksExactly, NamesOfSome}
 use Rattle.palm_explain.specs.Merging.{IsMerged}
 use Rattle.palm_engine.specs.declared.filtering.Filtering.{Filtering}

@@ -1,19 +1,19 @@
 -- Walks over one list of pairs and then over another, and what a walk leaves as it was.
 use Rattle.std.proofs.Common.{◌≡◌, ℕ, suc, ◌+◌, ◌≤◌, List, [], ◌∷◌, ◌++◌, length, Contains, ℤ, refl, sym, ap, ◌∙◌, subst, arith, length-append, zero-add}
 use Rattle.palm_base.specs.declared.terms.Pair.{Pair}
-use Rattle.palm_base.proofs.Members.{member_here, member_there}
+use Rattle.palm_base.proofs.cited.Members.{member_here, member_there}
 use Rattle.palm_model.specs.Domains.{Has}
 use Rattle.palm_model.specs.Support.{IsSupported}
 use Rattle.palm_model.specs.Log.{Active}
 use Rattle.palm_model.specs.State.{EngineState, HasEmpty, IsValid, present}
 use Rattle.palm_model.specs.Event.{Removes, removal_of}
 use Rattle.palm_events.specs.Scoped.{HasScopedReasons}
-use Rattle.palm_events.proofs.Reasons.{reasons_right}
-use Rattle.palm_events.proofs.Scoped.{removes_scoped}
-use Rattle.palm_events.proofs.Valid.{removes_valid, removed_has}
+use Rattle.palm_events.proofs.cited.Reasons.{reasons_right}
+use Rattle.palm_events.proofs.cited.Scoped.{removes_scoped}
+use Rattle.palm_events.proofs.cited.Valid.{removes_valid, removed_has}
 use Rattle.palm_engine.specs.Settling.{Walks}
 use Rattle.palm_engine.specs.Settling.Walks.{walked_all, walked_empty, walked_past, walked_out}
-use Rattle.palm_engine.proofs.Walking.{not_empty}
+use Rattle.palm_engine.proofs.cited.Walking.{not_empty}
 
 -- ---- one list and then another
 

@@ -7,22 +7,22 @@ use Rattle.std.proofs.lemmas.List.{get_or_push, length-map, map-append}
 use Rattle.std.proofs.lemmas.List.Elements.{All-append, All-cons, All-nil, Contains-push_cases}
 use Rattle.palm_base.specs.declared.terms.Pair.{Pair}
 use Rattle.palm_base.specs.declared.terms.Cid.{Cid}
-use Rattle.palm_base.proofs.Members.{member_nil, member_here, member_there, member_cases, member_same, member_single, all_members, nat_known}
+use Rattle.palm_base.proofs.cited.Members.{member_nil, member_here, member_there, member_cases, member_same, member_single, all_members, nat_known}
 use Rattle.palm_domain.specs.Rows.{Row, IsPresent, LosesPair, initial_of, present_of, present_values, values_without}
 use Rattle.palm_model.specs.Domains.{Domains, AllAscend, Ascends, Has, IsInside, values_of, without}
 use Rattle.palm_model.specs.Constraint.{scope}
 use Rattle.palm_model.specs.Log.{Active, IsActive, Removal, Rises, cids_of, is_named, log_pairs}
 use Rattle.palm_model.specs.State.{EngineState, FitsName, IsEmptyAt, AllFilled, is_awake, is_over, present, woken}
 use Rattle.palm_model.specs.Event.{Declares, Posts, WithdrawsAll, with_posted, without_names, posted, vars_of, lost_pairs}
-use Rattle.palm_model.proofs.Narrowing.{has_declared}
-use Rattle.palm_model.proofs.Supports.{any_member}
-use Rattle.palm_model.proofs.Ascending.{domains_same}
-use Rattle.palm_model.proofs.Without.{ascend_without, has_without, length_without, pair_of, without_has}
-use Rattle.palm_events.proofs.Agreeing.{has_more, more_has, values_of_more}
-use Rattle.palm_events.proofs.Names.{named_member, rising_same}
-use Rattle.palm_events.proofs.Scoped.{posts_scoped}
-use Rattle.palm_events.proofs.States.{over_member, awake_named, awake_over, woken_active, member_woken, woken_rises, without_cid_member, member_without_cid, without_names_member, member_without_names, without_names_rises, with_posted_rises, with_posted_here, member_with_posted}
-use Rattle.palm_events.proofs.Valid.{active_declared, declares_valid, left_grows, left_same, posts_valid}
+use Rattle.palm_model.proofs.cited.Narrowing.{has_declared}
+use Rattle.palm_model.proofs.cited.Supports.{any_member}
+use Rattle.palm_model.proofs.cited.Ascending.{domains_same}
+use Rattle.palm_model.proofs.cited.Without.{ascend_without, has_without, length_without, pair_of, without_has}
+use Rattle.palm_events.proofs.cited.Agreeing.{has_more, more_has, values_of_more}
+use Rattle.palm_events.proofs.cited.Names.{named_member, rising_same}
+use Rattle.palm_events.proofs.cited.Scoped.{posts_scoped}
+use Rattle.palm_events.proofs.cited.States.{over_member, awake_named, awake_over, woken_active, member_woken, woken_rises, without_cid_member, member_without_cid, without_names_member, member_without_names, without_names_rises, with_posted_rises, with_posted_here, member_with_posted}
+use Rattle.palm_events.proofs.cited.Valid.{active_declared, declares_valid, left_grows, left_same, posts_valid}
 use Rattle.palm_explain.specs.Explanations.{Explanations, LacksExactly}
 use Rattle.palm_agenda.specs.Agenda.{Waiting, IsFormed, IsOver, mark_others, marked_whole, with_connected, without_connected}
 use Rattle.palm_engine.specs.declared.filtering.Filtering.{Filtering}

@@ -4,16 +4,16 @@ use Rattle.std.proofs.lemmas.Bool.{false≢true}
 use Rattle.std.proofs.lemmas.List.Elements.{Contains-append_cases}
 use Rattle.std.proofs.lemmas.Option.{slice_get_within, get_or_from_slice_get}
 use Rattle.palm_base.specs.declared.terms.Cid.{Cid}
-use Rattle.palm_base.proofs.Members.{member_cases, member_unmap, member_same, filter_member, nat_known}
+use Rattle.palm_base.proofs.cited.Members.{member_cases, member_unmap, member_same, filter_member, nat_known}
 use Rattle.palm_model.specs.Constraint.{scope}
 use Rattle.palm_model.specs.Domains.{Domains, Has, IsInside}
 use Rattle.palm_model.specs.Support.{IsSupported}
 use Rattle.palm_model.specs.Log.{Active, IsActive, Rises, cid_before, cids_of, is_named}
 use Rattle.palm_model.specs.Event.{with_posted, without_names}
 use Rattle.palm_model.specs.declared.constraint.Con.{Con}
-use Rattle.palm_model.proofs.Formed.{part_scope}
-use Rattle.palm_model.proofs.Supports.{any_member, member_any}
-use Rattle.palm_events.proofs.States.{with_posted_cases, without_names_member}
+use Rattle.palm_model.proofs.cited.Formed.{part_scope}
+use Rattle.palm_model.proofs.cited.Supports.{any_member, member_any}
+use Rattle.palm_events.proofs.cited.States.{with_posted_cases, without_names_member}
 use Rattle.palm_agenda.specs.Agenda.{Connected, is_over, marked_whole, marked_where, marks_where, mark_others, with_connected, without_connected}
 use Rattle.palm_engine.specs.Kept.{Scoped, AreConnected, AreMarked}
 use Rattle.palm_engine.specs.Changed.{is_one_of}

@@ -9,17 +9,17 @@ use Rattle.std.proofs.lemmas.Option.{slice_get-map, slice_get-get_or, slice_get_
 use Rattle.palm_base.specs.declared.terms.Pair.{Pair}
 use Rattle.palm_base.specs.declared.terms.Cid.{Cid}
 use Rattle.palm_base.specs.declared.terms.Cid.TheVariants.{Decide, Not}
-use Rattle.palm_base.proofs.Members.{member_here, member_map, member_unmap, member_single}
+use Rattle.palm_base.proofs.cited.Members.{member_here, member_map, member_unmap, member_single}
 use Rattle.palm_model.specs.Log.{Active, IsActive, Rises, cid_before, cids_of, is_named, pair_before, same_cid}
 use Rattle.palm_model.specs.Event.{with_posted, without_names}
 use Rattle.palm_model.specs.declared.constraint.Con.{Con}
 use Rattle.palm_base.specs.Tells.{Tells}
-use Rattle.palm_base.proofs.Telling.{tells_both}
-use Rattle.palm_events.proofs.Names.{before_then, cid_same, not_before_itself, member_named, member_not_named, same_cid_itself}
-use Rattle.palm_events.proofs.States.{without_names_rises}
+use Rattle.palm_base.proofs.cited.Telling.{tells_both}
+use Rattle.palm_events.proofs.cited.Names.{before_then, cid_same, not_before_itself, member_named, member_not_named, same_cid_itself}
+use Rattle.palm_events.proofs.cited.States.{without_names_rises}
 use Rattle.palm_agenda.specs.Names.{IsPartedAt}
-use Rattle.palm_agenda.proofs.NameLists.{rising}
-use Rattle.palm_agenda.proofs.Sorted.{IsSortedKeys, parted, listed_at, apart, filter_removes, inserted, parted_where}
+use Rattle.palm_agenda.proofs.cited.NameLists.{rising}
+use Rattle.palm_agenda.proofs.cited.Sorted.{IsSortedKeys, parted, listed_at, apart, filter_removes, inserted, parted_where}
 use Rattle.palm_engine.specs.declared.posted.Posted.{Posted}
 use Rattle.palm_engine.specs.declared.posted.Posted.TheVariants.{Decision, Negation, User as UserPosted}
 use Rattle.palm_engine.specs.Posted.{active_of, actives_of, is_decision, is_negation, negated}

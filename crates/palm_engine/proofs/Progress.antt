@@ -4,27 +4,27 @@ use Rattle.std.proofs.lemmas.Int.{ints, by_lt_z}
 use Rattle.palm_base.specs.declared.terms.Pair.{Pair}
 use Rattle.palm_base.specs.declared.terms.Cid.{Cid}
 use Rattle.palm_base.specs.declared.limits.TheConstants.{LAST_COUNT}
-use Rattle.palm_base.proofs.Members.{member_nil, int_known}
+use Rattle.palm_base.proofs.cited.Members.{member_nil, int_known}
 use Rattle.palm_domain.specs.Rows.{IsLeastOf, initial_of, present_of, present_values}
-use Rattle.palm_domain.proofs.Ascending.{Ascends-at}
+use Rattle.palm_domain.proofs.cited.Ascending.{Ascends-at}
 use Rattle.palm_model.specs.Domains.{Domains, Ascends, Has, values_of}
 use Rattle.palm_model.specs.Constraint.{scope}
 use Rattle.palm_model.specs.Support.{IsSupported, LacksSupport}
 use Rattle.palm_model.specs.Removed.{pairs_of}
 use Rattle.palm_model.specs.Log.{Active, log_pairs}
 use Rattle.palm_model.specs.State.{IsEmptyAt, AllFilled, present}
-use Rattle.palm_model.proofs.Without.{pair_of, without_has}
+use Rattle.palm_model.proofs.cited.Without.{pair_of, without_has}
 use Rattle.palm_engine.specs.declared.filtering.Filtering.{Filtering}
 use Rattle.palm_engine.specs.Changed.{TakesOut}
 use Rattle.palm_engine.specs.Settling.Walks.{walked_all}
 use Rattle.palm_engine.specs.Kept.{IsKept, state_in_revision}
 use Rattle.palm_engine.specs.Revising.{IsRevising, IsAgain, Walked, WalkedPart, AreSupportedAt, HasCounted}
-use Rattle.palm_engine.proofs.Walking.{walk_filters}
+use Rattle.palm_engine.proofs.cited.Walking.{walk_filters}
 use Rattle.palm_engine.proofs.Joined.{walk_has, walk_then, walk_one_past, walk_one_out}
 use Rattle.palm_engine.proofs.Bounds.{left_from, fewer_left, values_below, values_from, values_between, values_before, IsNextAt, below_between, below_from, between_one, below_of, member_below, member_from, walk_next, walk_least, walk_value, pairs_both}
 use Rattle.palm_engine.proofs.Revised.{over_connected, present_is, present_length, stated, out_removes, out_kept, one_keeps, one_supports, only_emptied, some_length}
-use Rattle.palm_events.proofs.Reasons.{reasons_right}
-use Rattle.palm_events.proofs.Valid.{removes_valid}
+use Rattle.palm_events.proofs.cited.Reasons.{reasons_right}
+use Rattle.palm_events.proofs.cited.Valid.{removes_valid}
 
 -- ---- parts of a walk
 

@@ -4,14 +4,14 @@ use Rattle.std.proofs.lemmas.List.{take_more, take_all}
 use Rattle.std.proofs.lemmas.List.Folds.{list_any_more}
 use Rattle.std.proofs.lemmas.List.Elements.{All-filter, Contains-append_left, Contains-push, Contains-push_cases}
 use Rattle.palm_base.specs.declared.terms.Cid.{Cid}
-use Rattle.palm_base.proofs.Members.{member_nil, member_map, member_unmap}
+use Rattle.palm_base.proofs.cited.Members.{member_nil, member_map, member_unmap}
 use Rattle.palm_domain.specs.Rows.{Row, initial_of, present_of}
 use Rattle.palm_model.specs.Log.{Loses, Rises, is_named, log_pairs}
 use Rattle.palm_model.specs.State.{without_cid}
 use Rattle.palm_model.specs.Event.{lost_pairs, vars_of}
 use Rattle.palm_explain.specs.Explanations.{Explanations, LacksExactly}
-use Rattle.palm_events.proofs.States.{without_cid_member, without_cid_rises}
-use Rattle.palm_agenda.proofs.Connecting.{member_without_connected, names_without}
+use Rattle.palm_events.proofs.cited.States.{without_cid_member, without_cid_rises}
+use Rattle.palm_agenda.proofs.cited.Connecting.{member_without_connected, names_without}
 use Rattle.palm_agenda.specs.Agenda.{Connected, Waiting, HasMarks, IsConnected, IsFormed, IsOver, names_of, mark_own, marked_where, marks_where, without_connected}
 use Rattle.palm_engine.specs.declared.filtering.Filtering.{Filtering}
 use Rattle.palm_engine.specs.Changed.{NotesGain, PutsBack, is_one_of}

@@ -3,7 +3,7 @@ use Rattle.std.proofs.Common.{◌≡◌, ℕ, ◌<◌, List, [], ◌∷◌, ◌+
 use Rattle.std.proofs.lemmas.List.{length-map}
 use Rattle.palm_base.specs.declared.terms.Pair.{Pair}
 use Rattle.palm_base.specs.declared.terms.Cid.{Cid}
-use Rattle.palm_base.proofs.Members.{member_here, nat_known, all_members}
+use Rattle.palm_base.proofs.cited.Members.{member_here, nat_known, all_members}
 use Rattle.palm_domain.specs.Rows.{Row, LosesPair, initial_of, present_of}
 use Rattle.palm_model.specs.Domains.{Domains, Has, values_of}
 use Rattle.palm_model.specs.Constraint.{scope}
@@ -12,10 +12,10 @@ use Rattle.palm_model.specs.Reason.{AreFilled, reason}
 use Rattle.palm_model.specs.Log.{Active, log_pairs}
 use Rattle.palm_model.specs.State.{EngineState, FitsName, IsEmptyAt, AllFilled, present}
 use Rattle.palm_model.specs.Event.{Removes, removed}
-use Rattle.palm_model.proofs.Without.{pair_of, length_without}
-use Rattle.palm_events.proofs.Names.{single}
-use Rattle.palm_events.proofs.Reasons.{reasons_right, removal_right}
-use Rattle.palm_events.proofs.Valid.{active_declared, has_removed}
+use Rattle.palm_model.proofs.cited.Without.{pair_of, length_without}
+use Rattle.palm_events.proofs.cited.Names.{single}
+use Rattle.palm_events.proofs.cited.Reasons.{reasons_right, removal_right}
+use Rattle.palm_events.proofs.cited.Valid.{active_declared, has_removed}
 use Rattle.palm_agenda.specs.Agenda.{IsOver as IsOverConnected}
 use Rattle.palm_engine.specs.declared.filtering.Filtering.{Filtering}
 use Rattle.palm_engine.specs.Settling.{Walks}

@@ -3,14 +3,14 @@ use Rattle.std.proofs.Common.{◌≡◌, ℕ, ◌+◌, ◌-◌, ◌<◌, ◌≤�
 use Rattle.std.proofs.lemmas.List.Elements.{All-nil, All-cons, All-append}
 use Rattle.palm_base.specs.declared.terms.Cid.{Cid}
 use Rattle.palm_base.specs.declared.limits.TheConstants.{LAST_COUNT}
-use Rattle.palm_base.proofs.Members.{member_get, member_same}
+use Rattle.palm_base.proofs.cited.Members.{member_get, member_same}
 use Rattle.palm_domain.specs.Rows.{initial_of, present_of}
 use Rattle.palm_model.specs.Log.{Active, Rises, cids_of, log_pairs}
 use Rattle.palm_model.specs.State.{EngineState, HasEmpty, AllFilled, IsValid, present, woken, without_cid}
-use Rattle.palm_events.proofs.Reasons.{reasons_right}
-use Rattle.palm_events.proofs.Runs.{run_valid}
-use Rattle.palm_events.proofs.Scoped.{run_scoped}
-use Rattle.palm_events.proofs.States.{without_cid_rises, without_cid_member}
+use Rattle.palm_events.proofs.cited.Reasons.{reasons_right}
+use Rattle.palm_events.proofs.cited.Runs.{run_valid}
+use Rattle.palm_events.proofs.cited.Scoped.{run_scoped}
+use Rattle.palm_events.proofs.cited.States.{without_cid_rises, without_cid_member}
 use Rattle.palm_explain.specs.Explanations.{Explanations, LacksExactly}
 use Rattle.palm_agenda.specs.Agenda.{IsConnected, IsFormed, HasMarks, Waiting, index_within, names_of}
 use Rattle.palm_engine.specs.declared.filtering.Filtering.{Filtering}
@@ -30,7 +30,7 @@ use Rattle.palm_engine.proofs.Progress.{counted_none, counted_then}
 use Rattle.palm_engine.proofs.Settles.{pending_is_active, pending_waits}
 use Rattle.palm_engine.proofs.Spending.{revisions_more, asked_more, settling_asked, interrupted_asked}
 use Rattle.palm_engine.proofs.Waking.{taken_woken}
-use Rattle.palm_engine.proofs.Walking.{not_empty, revision_filters, revisions_filter}
+use Rattle.palm_engine.proofs.cited.Walking.{not_empty, revision_filters, revisions_filter}
 use Rattle.palm_engine.proofs.Working.{same_named}
 
 -- the revisions so far, and how often they asked

@@ -1,18 +1,18 @@
 -- The same answers lead to the same settling.
 use Rattle.std.proofs.Common.{◌≡◌, ℕ, suc, ◌+◌, Option, Some, None, List, [], ◌∷◌, length, slice_get, Contains, All, refl, sym, ap, ◌∙◌, subst, arith}
 use Rattle.palm_base.specs.declared.terms.Pair.{Pair}
-use Rattle.palm_base.proofs.Members.{member_nil}
+use Rattle.palm_base.proofs.cited.Members.{member_nil}
 use Rattle.std.proofs.lemmas.List.Elements.{All-nil, All-cons, All-head, All-tail}
 use Rattle.palm_model.specs.Domains.{Has}
 use Rattle.palm_model.specs.Support.{IsSupported}
 use Rattle.palm_model.specs.Log.{Active, Rises, cids_of}
 use Rattle.palm_model.specs.State.{EngineState, HasEmpty, present}
 use Rattle.palm_model.specs.Event.{Removes}
-use Rattle.palm_events.proofs.Names.{single}
+use Rattle.palm_events.proofs.cited.Names.{single}
 use Rattle.palm_engine.specs.Settling.{IsSameSettling, Walks, Revision, Revises, Revisions, Settles, IsInLimit, IsEnded, IsAnswered, walk_order, rested, index_within}
 use Rattle.palm_engine.specs.Settling.Walks.{walked_all, walked_empty, walked_past, walked_out}
 use Rattle.palm_engine.specs.Settling.IsEnded.{ended_empty, ended_quiet, ended_limit}
-use Rattle.palm_engine.proofs.Walking.{not_empty, chosen_pending, revision_filters}
+use Rattle.palm_engine.proofs.cited.Walking.{not_empty, chosen_pending, revision_filters}
 
 -- ---- walks
 

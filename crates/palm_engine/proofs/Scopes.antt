@@ -2,11 +2,11 @@
 use Rattle.std.proofs.Common.{◌≡◌, ℕ, Bool, true, false, not, if◌then◌else◌, nat_eq, List, [], ◌∷◌, ◌++◌, map, filter, cond, Contains, refl, sym, ap, ◌∙◌, subst}
 use Rattle.std.proofs.lemmas.List.{map-append}
 use Rattle.palm_base.specs.declared.terms.Cid.{Cid}
-use Rattle.palm_base.proofs.Members.{member_map, member_unmap}
+use Rattle.palm_base.proofs.cited.Members.{member_map, member_unmap}
 use Rattle.palm_model.specs.Constraint.{scope}
 use Rattle.palm_model.specs.Log.{Active, IsActive, Rises, cid_before, cids_of, is_named}
 use Rattle.palm_model.specs.Event.{with_posted, without_names}
-use Rattle.palm_events.proofs.Names.{single}
+use Rattle.palm_events.proofs.cited.Names.{single}
 use Rattle.palm_agenda.specs.Agenda.{Connected, IsConnected, IsOver, is_over, marked_whole, marked_where, mark_others, with_connected, without_connected}
 use Rattle.palm_engine.specs.Kept.{Scoped, AreConnected}
 

@@ -7,12 +7,12 @@ use Rattle.std.proofs.lemmas.List.{length-map}
 use Rattle.std.proofs.lemmas.Option.{slice_get_within}
 use Rattle.palm_base.specs.declared.terms.Pair.{Pair}
 use Rattle.palm_base.specs.declared.terms.Cid.{Cid}
-use Rattle.palm_base.proofs.Members.{member_here, member_there, member_cases, member_same}
+use Rattle.palm_base.proofs.cited.Members.{member_here, member_there, member_cases, member_same}
 use Rattle.palm_domain.specs.Rows.{initial_of, present_of}
 use Rattle.palm_model.specs.Log.{Active, IsActive, Rises, cids_of, is_named}
 use Rattle.palm_model.specs.State.{is_awake, woken, without_cid}
-use Rattle.palm_events.proofs.Names.{rising_same, named_member}
-use Rattle.palm_events.proofs.States.{waits, woken_rises, woken_active, member_woken, awake_named, without_cid_rises, without_cid_member, member_without_cid}
+use Rattle.palm_events.proofs.cited.Names.{rising_same, named_member}
+use Rattle.palm_events.proofs.cited.States.{waits, woken_rises, woken_active, member_woken, awake_named, without_cid_rises, without_cid_member, member_without_cid}
 use Rattle.palm_agenda.specs.Agenda.{IsConnected, IsFormed, Waiting}
 use Rattle.palm_engine.specs.declared.filtering.Filtering.{Filtering}
 use Rattle.palm_engine.specs.Settling.{Walks, walk_order, rested}

@@ -2,14 +2,14 @@
 use Rattle.std.proofs.Common.{◌≡◌, ℕ, zero, suc, ◌+◌, ◌≤◌, List, [], ◌∷◌, ◌++◌, filter, sum_by, Contains, inl, inr, refl, sym, ap, ◌∙◌, subst, arith}
 use Rattle.std.proofs.lemmas.List.Sums.{sum_by-cons, sum_by-append}
 use Rattle.palm_base.specs.declared.terms.Pair.{Pair}
-use Rattle.palm_base.proofs.Members.{member_nil, member_here, member_cases, member_filter}
+use Rattle.palm_base.proofs.cited.Members.{member_nil, member_here, member_cases, member_filter}
 use Rattle.palm_model.specs.Log.{Active, Rises, cids_of, is_named}
 use Rattle.palm_model.specs.State.{EngineState, AllFilled, present}
-use Rattle.palm_events.proofs.Names.{member_named}
+use Rattle.palm_events.proofs.cited.Names.{member_named}
 use Rattle.palm_engine.specs.Settling.{Walks, Revision, Revises, Revisions}
 use Rattle.palm_engine.specs.Work.{size_of, named_sizes, most_asked}
 use Rattle.palm_engine.specs.Engine.{HasAsked}
-use Rattle.palm_engine.proofs.Walking.{took_none}
+use Rattle.palm_engine.proofs.cited.Walking.{took_none}
 use Rattle.palm_engine.proofs.Working.{calm_sizes, some_pays, pays_then, same_named, revisions_pay}
 
 -- ---- one more revision

@@ -5,8 +5,8 @@ use Rattle.palm_model.specs.Domains.{Domains, Has}
 use Rattle.palm_model.specs.Constraint.{scope}
 use Rattle.palm_model.specs.Support.{IsSupported}
 use Rattle.palm_model.specs.declared.constraint.Con.{Con}
-use Rattle.palm_model.proofs.Formed.{part_scope}
-use Rattle.palm_model.proofs.Without.{pair_of}
+use Rattle.palm_model.proofs.cited.Formed.{part_scope}
+use Rattle.palm_model.proofs.cited.Without.{pair_of}
 
 -- no pair but this one is gone
 abbrev pub KeepsOthers : Domains → Domains → ℕ → ℤ → Type 0

@@ -5,12 +5,12 @@ use Rattle.std.proofs.lemmas.Bool.{false≢true, and_parts, and_from, not-true}
 use Rattle.std.proofs.lemmas.Bool.Decides.{Decides-int_eq}
 use Rattle.std.proofs.lemmas.List.Elements.{Contains-append_cases, Contains-append_left, Contains-append_right}
 use Rattle.palm_base.specs.declared.terms.Pair.{Pair}
-use Rattle.palm_base.proofs.Members.{member_here, member_single, filter_agree_members, nat_known}
+use Rattle.palm_base.proofs.cited.Members.{member_here, member_single, filter_agree_members, nat_known}
 use Rattle.palm_domain.specs.Rows.{values_without}
 use Rattle.palm_model.specs.Domains.{Domains, values_of, is_among, without}
-use Rattle.palm_model.proofs.Narrowing.{values_of_set, values_of_set_other}
-use Rattle.palm_model.proofs.Supports.{not_true}
-use Rattle.palm_model.proofs.Without.{pair_of, values_of_without, length_without, among_member, member_among}
+use Rattle.palm_model.proofs.cited.Narrowing.{values_of_set, values_of_set_other}
+use Rattle.palm_model.proofs.cited.Supports.{not_true}
+use Rattle.palm_model.proofs.cited.Without.{pair_of, values_of_without, length_without, among_member, member_among}
 
 same_tests : (a b : Bool) → (a ≡ true → b ≡ true) → (b ≡ true → a ≡ true) → a ≡ b
 same_tests true b to from = sym (to refl)

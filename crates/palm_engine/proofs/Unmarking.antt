@@ -3,13 +3,13 @@ use Rattle.std.proofs.Common.{◌≡◌, ℕ, zero, suc, ◌||◌, ◌⊎◌, Bo
 use Rattle.std.proofs.lemmas.Bool.{cases_Bool, false≢true}
 use Rattle.palm_base.specs.declared.terms.Pair.{Pair}
 use Rattle.palm_base.specs.declared.terms.Cid.{Cid}
-use Rattle.palm_base.proofs.Members.{member_map, member_unmap, member_same, nat_known}
+use Rattle.palm_base.proofs.cited.Members.{member_map, member_unmap, member_same, nat_known}
 use Rattle.palm_model.specs.Domains.{Domains, Has, IsInside}
 use Rattle.palm_model.specs.Constraint.{scope}
 use Rattle.palm_model.specs.Support.{IsSupported}
 use Rattle.palm_model.specs.Log.{Active, Rises, cids_of, same_cid}
-use Rattle.palm_model.proofs.Supports.{member_any}
-use Rattle.palm_events.proofs.Names.{single, cid_same}
+use Rattle.palm_model.proofs.cited.Supports.{member_any}
+use Rattle.palm_events.proofs.cited.Names.{single, cid_same}
 use Rattle.palm_agenda.specs.Agenda.{Connected, marks_where, is_over, mark_others, changed_at, unmarked}
 use Rattle.palm_engine.specs.Kept.{AreConnected, AreMarked, Scoped}
 use Rattle.palm_engine.proofs.Staying.{KeepsOthers, support_stays}

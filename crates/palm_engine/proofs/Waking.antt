@@ -3,13 +3,13 @@ use Rattle.std.proofs.Common.{◌≡◌, ℕ, Bool, true, false, List, [], ◌�
 use Rattle.std.specs.List.{list_any}
 use Rattle.std.proofs.lemmas.Bool.{or_cases}
 use Rattle.palm_base.specs.declared.terms.Cid.{Cid}
-use Rattle.palm_base.proofs.Members.{member_nil, member_here, member_there, member_cases, member_single, member_same, filter_agree_members}
+use Rattle.palm_base.proofs.cited.Members.{member_nil, member_here, member_there, member_cases, member_single, member_same, filter_agree_members}
 use Rattle.palm_model.specs.Constraint.{scope}
 use Rattle.palm_model.specs.Log.{Active, cids_of, is_named}
 use Rattle.palm_model.specs.State.{is_over, is_awake, woken, without_cid}
-use Rattle.palm_model.proofs.Supports.{any_member}
-use Rattle.palm_events.proofs.Names.{named_member, cid_known}
-use Rattle.palm_events.proofs.States.{over_member, awake_named, awake_over, woken_active, member_woken, without_cid_member, member_without_cid}
+use Rattle.palm_model.proofs.cited.Supports.{any_member}
+use Rattle.palm_events.proofs.cited.Names.{named_member, cid_known}
+use Rattle.palm_events.proofs.cited.States.{over_member, awake_named, awake_over, woken_active, member_woken, without_cid_member, member_without_cid}
 
 -- the constraint was pending, or is over one of the variables
 abbrev pub IsAwake : List Cid → List ℕ → Active → Type 0

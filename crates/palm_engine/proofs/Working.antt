@@ -7,7 +7,7 @@ use Rattle.std.proofs.Common.{length-append, zero-add}
 use Rattle.std.proofs.lemmas.List.Sums.{sum_by-cons, sum_by-append}
 use Rattle.palm_base.specs.declared.terms.Pair.{Pair}
 use Rattle.palm_base.specs.declared.terms.Cid.{Cid}
-use Rattle.palm_base.proofs.Members.{member_here, member_there, member_single, member_same}
+use Rattle.palm_base.proofs.cited.Members.{member_here, member_there, member_single, member_same}
 use Rattle.palm_model.specs.Domains.{Domains, values_of}
 use Rattle.palm_model.specs.Constraint.{scope}
 use Rattle.palm_model.specs.Removed.{pairs_of}
@@ -15,14 +15,14 @@ use Rattle.palm_model.specs.Log.{Active, Removal, Rises, cids_of, is_named, log_
 use Rattle.palm_model.specs.State.{EngineState, AllFilled, present, is_over, woken, without_cid}
 use Rattle.palm_model.specs.Event.{removal_of, removed, calmed}
 use Rattle.palm_model.specs.declared.constraint.Con.{Con}
-use Rattle.palm_model.proofs.Formed.{part_scope}
-use Rattle.palm_model.proofs.Without.{pair_of}
-use Rattle.palm_events.proofs.Names.{named_member, member_named, single}
-use Rattle.palm_events.proofs.States.{member_over, woken_active, without_cid_member}
+use Rattle.palm_model.proofs.cited.Formed.{part_scope}
+use Rattle.palm_model.proofs.cited.Without.{pair_of}
+use Rattle.palm_events.proofs.cited.Names.{named_member, member_named, single}
+use Rattle.palm_events.proofs.cited.States.{member_over, woken_active, without_cid_member}
 use Rattle.palm_engine.specs.Settling.{Walks, Revision, Revises, Revisions, Settles, walk_order, rested}
 use Rattle.palm_engine.specs.Settling.Walks.{walked_all, walked_empty, walked_past, walked_out}
 use Rattle.palm_engine.specs.Work.{size_of, sizes_of, named_sizes, sizes_over, most_asked, IsPaid}
-use Rattle.palm_engine.proofs.Walking.{took_none, chosen_pending}
+use Rattle.palm_engine.proofs.cited.Walking.{took_none, chosen_pending}
 
 -- ---- a walk looks at each pair once
 

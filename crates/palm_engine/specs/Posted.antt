@@ -1,31 +1,18 @@
 -- What the constraints of an engine mean.
-use Rattle.std.specs.Prelude.{ℕ, Bool, true, false, Option, None, Some, List, [], map, filter}
+use Rattle.std.specs.Prelude.{ℕ, Bool, true, false, Option, None, Some, List, map, filter}
 use Rattle.palm_base.specs.declared.terms.Pair.{Pair}
 use Rattle.palm_base.specs.declared.terms.Cid.{Cid}
-use Rattle.palm_base.specs.declared.terms.Cid.TheVariants.{Decide, Not, User}
 use Rattle.palm_model.specs.Log.{Active, cids_of, is_named}
-use Rattle.palm_model.specs.State.{FitsName}
+use Rattle.palm_model.specs.State.{FitsName, decision_of, negation_of, user_of}
 use Rattle.palm_model.specs.declared.constraint.Con.{Con}
-use Rattle.palm_model.specs.declared.constraint.Con.TheVariants.{CompareConst}
 use Rattle.palm_engine.specs.declared.posted.Posted.{Posted}
 use Rattle.palm_engine.specs.declared.posted.Posted.TheVariants.{Decision, Negation, User as UserPosted}
-use Rattle.palm_model.specs.declared.constraint.Op.TheVariants.{Eq, Ne}
-
--- a decision, a negation with its grounds, and the constraint of a user
-abbrev pub decision : Pair → Active
-decision p = record { cid = Decide p.var; con = CompareConst p.var Eq p.value; because = [] }
-
-abbrev pub negation : Pair → List Cid → Active
-negation p because = record { cid = Not p; con = CompareConst p.var Ne p.value; because = because }
-
-abbrev pub user : ℕ → Con → Active
-user number con = record { cid = User number; con = con; because = [] }
 
 -- the active constraint that is posted, by what its filter means
 abbrev pub active_of : {F : Type 0} → (F → Con) → Posted F → Active
-active_of meaning (Decision p) = decision p
-active_of meaning (Negation p because) = negation p because
-active_of meaning (UserPosted number filter) = user number (meaning filter)
+active_of meaning (Decision p) = decision_of p
+active_of meaning (Negation p because) = negation_of p because
+active_of meaning (UserPosted number filter) = user_of number (meaning filter)
 
 abbrev pub actives_of : {F : Type 0} → (F → Con) → List (Posted F) → List Active
 actives_of meaning posted = map (λ p. active_of meaning p) posted

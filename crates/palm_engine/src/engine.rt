@@ -11,10 +11,10 @@ ghost use Rattle.palm_model.specs.Constraint.{scope};
 ghost use Rattle.palm_model.specs.Domains.{Has};
 ghost use Rattle.palm_model.specs.Event.{Declares, Posts, Withdraws};
 ghost use Rattle.palm_model.specs.Log.{IsActive, IsListOf, pair_before};
-ghost use Rattle.palm_model.specs.State.{AreGrounds, HasEmpty, IsEmptyAt, IsValid, blank, present};
+ghost use Rattle.palm_model.specs.State.{AreGrounds, HasEmpty, IsEmptyAt, IsValid, blank, present, decision_of, negation_of, user_of};
 ghost use Rattle.palm_events.specs.Scoped.{HasScopedReasons};
 ghost use Rattle.palm_engine.specs.Engine.{HasAsked, HasSettled, IsInterrupted, KeepsCounts};
-ghost use Rattle.palm_engine.specs.Posted.{active_of, decision, negation, user};
+ghost use Rattle.palm_engine.specs.Posted.{active_of};
 
 use crate::conflicts::{conflict_of, flat_of};
 use crate::filtering::Filtering;
@@ -82,7 +82,7 @@ impl<F: Filter> Engine<F> {
     pub fn post(&mut self, number: u32, filter: F) -> Result<(), NoMemory>
         requires inactive { IsActive self.old.state.active (Cid.User number) → ⊥ }
         requires declared { All (λ x. x < length self.old.state.initial) (scope (F.meaning filter)) }
-        ensures ok { OnOk result (Posts self.old.state (user number (F.meaning filter)) self.new.state) }
+        ensures ok { OnOk result (Posts self.old.state (user_of number (F.meaning filter)) self.new.state) }
         ensures counts { KeepsCounts self.old self.new }
         ensures err { OnErr result (self.new ≡ self.old) }
         ensures valid { IsValid self.new.state }
@@ -94,7 +94,7 @@ impl<F: Filter> Engine<F> {
     pub fn assume(&mut self, pair: Pair) -> Result<(), NoMemory>
         requires present { Has (present self.old.state) pair.var pair.value }
         requires free { IsActive self.old.state.active (Cid.Decide pair.var) → ⊥ }
-        ensures ok { OnOk result (Posts self.old.state (decision pair) self.new.state) }
+        ensures ok { OnOk result (Posts self.old.state (decision_of pair) self.new.state) }
         ensures counts { KeepsCounts self.old self.new }
         ensures err { OnErr result (self.new ≡ self.old) }
         ensures valid { IsValid self.new.state }
@@ -107,7 +107,7 @@ impl<F: Filter> Engine<F> {
         requires inactive { IsActive self.old.state.active (Cid.Not pair) → ⊥ }
         requires declared { Has self.old.state.initial pair.var pair.value }
         requires grounds { AreGrounds self.old.state.active because.now }
-        ensures ok { OnOk result (Posts self.old.state (negation pair because.now) self.new.state) }
+        ensures ok { OnOk result (Posts self.old.state (negation_of pair because.now) self.new.state) }
         ensures counts { KeepsCounts self.old self.new }
         ensures err { OnErr result (self.new ≡ self.old) }
         ensures valid { IsValid self.new.state }

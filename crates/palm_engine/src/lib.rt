@@ -4,19 +4,18 @@
 mod conflicts;
 mod engine;
 mod filtering;
+pub mod laws;
 mod posted;
 mod posting;
 mod revise;
 mod settle;
-pub mod settling;
-pub mod work;
 
 pub use engine::Engine;
-pub use settle::Settle;
-pub use settling::{
+pub use laws::settling::{
     revisions_fall, revisions_filter, settled_domains_do_not_depend_on_the_order,
     settling_and_withdrawing_gives_back_the_log, settlings_end, settlings_exist, settlings_filter,
     settlings_keep_validity, settlings_without_order_are_unique, settlings_without_order_exist,
     the_same_answers_give_the_same_settling,
 };
-pub use work::{settlings_ask_no_more, walks_look_at_each_pair_once};
+pub use laws::work::{settlings_ask_no_more, walks_look_at_each_pair_once};
+pub use settle::Settle;

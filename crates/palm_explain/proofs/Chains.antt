@@ -7,7 +7,7 @@ use Rattle.std.proofs.lemmas.List.Elements.{Contains-append_left, Contains-push,
 use Rattle.std.proofs.lemmas.Option.{slice_get_within, slice_get-get_or}
 use Rattle.slab.specs.Slab.{Slab, get}
 use Rattle.palm_base.specs.declared.terms.Cid.{Cid}
-use Rattle.palm_base.proofs.Members.{member_get, member_here, member_nil, member_place, member_remove, member_same, member_single, member_there}
+use Rattle.palm_base.proofs.cited.Members.{member_get, member_here, member_nil, member_place, member_remove, member_same, member_single, member_there}
 use Rattle.palm_explain.specs.declared.node.Node.{Node}
 use Rattle.palm_explain.specs.Chain.{HasGrown, IsChain, IsLine, nexts_of}
 use Rattle.palm_explain.specs.Graph.{Graph, HasMarked, IsDependent, IsGraph, IsKey, NamesAt, graph_of, has_mark, link_of, marks_of, said}

@@ -3,7 +3,7 @@ use Rattle.std.proofs.Common.{◌≡◌, ◌≢◌, ℕ, ◌+◌, ◌<◌, ◌�
 use Rattle.std.proofs.lemmas.Bool.{cases_eq, false≢true}
 use Rattle.std.proofs.lemmas.List.{take_more, take_all}
 use Rattle.std.proofs.lemmas.List.Elements.{Contains-append_left, Contains-push}
-use Rattle.palm_base.proofs.Members.{member_nil, member_cases, member_here, member_there, member_same, member_single, member_take, member_take_more}
+use Rattle.palm_base.proofs.cited.Members.{member_nil, member_cases, member_here, member_there, member_same, member_single, member_take, member_take_more}
 use Rattle.palm_model.specs.Constraint.{Distinct}
 use Rattle.palm_explain.specs.Graph.{AreOnce, Graph, HasForgotten, HasLinked, HasMarked, IsAmongFirst, IsCause, IsKey, IsSameNode, IsTailed, Link}
 use Rattle.palm_explain.proofs.Graphs.{link_same}

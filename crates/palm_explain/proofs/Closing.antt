@@ -4,7 +4,7 @@ use Rattle.std.proofs.lemmas.Bool.{cases_Bool, false≢true}
 use Rattle.std.proofs.lemmas.Option.{slice_get_within, slice_get-get_or}
 use Rattle.std.proofs.lemmas.List.{append-nil, drop-set-lt, length-append, length-set, length-take-le, take_all, take_more_set}
 use Rattle.std.proofs.lemmas.List.Elements.{filter-append, Contains-push_cases}
-use Rattle.palm_base.proofs.Members.{filter_member, member_nil, member_here, member_there, member_cases, member_filter, member_get, member_place}
+use Rattle.palm_base.proofs.cited.Members.{filter_member, member_nil, member_here, member_there, member_cases, member_filter, member_get, member_place}
 use Rattle.palm_explain.specs.Graph.{Graph, HasClosedUp, IsKey, IsMoved, IsPlaced, IsTakenOut, Link}
 use Rattle.palm_explain.specs.Lost.{kept_of}
 use Rattle.palm_explain.proofs.Entered.{place_cases}

@@ -3,7 +3,7 @@ use Rattle.std.proofs.Common.{◌≡◌, ◌≢◌, ℕ, zero, suc, List, [], �
 use Rattle.std.proofs.lemmas.Bool.{cases_eq}
 use Rattle.std.proofs.lemmas.List.{map-append}
 use Rattle.palm_base.specs.declared.terms.Cid.{Cid}
-use Rattle.palm_base.proofs.Members.{member_nil, member_same, map_agree}
+use Rattle.palm_base.proofs.cited.Members.{member_nil, member_same, map_agree}
 use Rattle.palm_model.specs.Log.{Removal, log_pairs}
 use Rattle.palm_explain.specs.declared.rows.Row.{Row}
 use Rattle.palm_model.specs.Constraint.{Distinct}

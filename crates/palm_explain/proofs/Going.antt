@@ -4,12 +4,12 @@ use Rattle.std.proofs.lemmas.List.{length-map}
 use Rattle.indexmap.specs.IndexSet.{insert_all}
 use Rattle.slab.specs.Slab.{Slab}
 use Rattle.palm_base.specs.declared.terms.Pair.{Pair}
-use Rattle.palm_base.proofs.Members.{member_filter, member_same}
+use Rattle.palm_base.proofs.cited.Members.{member_filter, member_same}
 use Rattle.palm_domain.specs.Rows.{Row, IsDeclared, IsPresent, initial_of}
 use Rattle.palm_model.specs.Domains.{values_of}
 use Rattle.palm_model.specs.Event.{vars_of}
 use Rattle.palm_model.specs.Log.{Removal, log_pairs}
-use Rattle.palm_model.proofs.Without.{without_has}
+use Rattle.palm_model.proofs.cited.Without.{without_has}
 use Rattle.palm_explain.specs.declared.node.Node.{Node}
 use Rattle.palm_explain.specs.Chain.{IsLine}
 use Rattle.palm_explain.specs.Explanations.{LacksExactly}

@@ -3,10 +3,10 @@ use Rattle.std.proofs.Common.{◌≡◌, ℕ, zero, suc, ◌<◌, List, [], ◌�
 use Rattle.std.proofs.lemmas.List.Elements.{Contains-push_cases}
 use Rattle.palm_base.specs.declared.terms.Pair.{Pair}
 use Rattle.palm_base.specs.declared.terms.Cid.{Cid}
-use Rattle.palm_base.proofs.Members.{member_nil, member_same, member_map, member_unmap, member_get, member_place}
+use Rattle.palm_base.proofs.cited.Members.{member_nil, member_same, member_map, member_unmap, member_get, member_place}
 use Rattle.palm_model.specs.Log.{Removal, Names, NamesOfPair, log_pairs}
 use Rattle.palm_model.specs.Log.Names.{by_itself, by_reason}
-use Rattle.palm_events.proofs.Logs.{logged, pair_logged}
+use Rattle.palm_events.proofs.cited.Logs.{logged, pair_logged}
 use Rattle.palm_explain.specs.Explanations.{AreLinked, IsLinked}
 use Rattle.palm_explain.specs.Graph.{Graph, IsCause, IsDependent, IsGraph, IsKey, IsPlaced, Link, NamesAt, log_of, pair_at, pair_or, removal_at, removal_or}
 

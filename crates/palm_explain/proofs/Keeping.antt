@@ -5,21 +5,21 @@ use Rattle.std.proofs.lemmas.List.{same_lists, get_or_default, length-map}
 use Rattle.palm_base.specs.Tells.{Tells}
 use Rattle.palm_base.specs.declared.terms.Pair.{Pair}
 use Rattle.palm_base.specs.declared.terms.Cid.{Cid}
-use Rattle.palm_base.proofs.Members.{member_here, member_there, member_same, member_single, member_map, member_unmap}
+use Rattle.palm_base.proofs.cited.Members.{member_here, member_there, member_same, member_single, member_map, member_unmap}
 use Rattle.palm_domain.specs.Rows.{Row, Ascends, IsDeclared, IsPresent, initial_of, present_of}
-use Rattle.palm_domain.proofs.Ascending.{same_ascending}
+use Rattle.palm_domain.proofs.cited.Ascending.{same_ascending}
 use Rattle.palm_model.specs.Domains.{Domains, Has, without}
 use Rattle.palm_model.specs.Event.{lost_pairs, vars_of}
 use Rattle.palm_model.specs.Log.{Removal, Names, NamesSome, Loses, log_pairs}
 use Rattle.palm_model.specs.Log.Loses.{none_left, is_lost, is_kept}
-use Rattle.palm_model.proofs.Without.{pair_of, without_has, has_without, length_without, ascend_without}
-use Rattle.palm_events.proofs.Agreeing.{pair_known}
-use Rattle.palm_events.proofs.Logs.{logged, left_member}
+use Rattle.palm_model.proofs.cited.Without.{pair_of, without_has, has_without, length_without, ascend_without}
+use Rattle.palm_events.proofs.cited.Agreeing.{pair_known}
+use Rattle.palm_events.proofs.cited.Logs.{logged, left_member}
 use Rattle.palm_explain.specs.Explanations.{IsLinked, LacksExactly}
 use Rattle.palm_explain.specs.Graph.{Graph, log_of, removal_at}
 use Rattle.palm_explain.specs.Lost.{AreTold, HasBack, kept_of, lost_of}
 use Rattle.palm_explain.proofs.Linked.{left_linked, pairs_more}
-use Rattle.palm_explain.proofs.Withdrawn.{lost_logged, lost_or_left, lost_names, names_lost}
+use Rattle.palm_explain.proofs.cited.Withdrawn.{lost_logged, lost_or_left, lost_names, names_lost}
 use Rattle.palm_explain.proofs.PuttingBack.{lost_entry, entry_lost, entry_logged}
 
 -- ---- the log

@@ -4,11 +4,11 @@ use Rattle.std.proofs.lemmas.List.{append_assoc}
 use Rattle.std.proofs.lemmas.List.Elements.{Contains-append_left, Contains-push, Contains-push_cases}
 use Rattle.palm_base.specs.declared.terms.Pair.{Pair}
 use Rattle.palm_base.specs.declared.terms.Cid.{Cid}
-use Rattle.palm_base.proofs.Members.{member_nil, member_here, member_there, member_cases, member_same}
+use Rattle.palm_base.proofs.cited.Members.{member_nil, member_here, member_there, member_cases, member_same}
 use Rattle.palm_model.specs.Domains.{Domains}
 use Rattle.palm_model.specs.Log.{Active, Removal, AreRight, Loses, NamesSome, log_pairs}
 use Rattle.palm_model.specs.Log.Loses.{none_left, is_lost, is_kept}
-use Rattle.palm_events.proofs.Logs.{logged, pair_logged, some_by_reason}
+use Rattle.palm_events.proofs.cited.Logs.{logged, pair_logged, some_by_reason}
 use Rattle.palm_explain.specs.Explanations.{IsLink, AreLinked, IsLinked}
 
 -- a well founded log is linked

@@ -3,7 +3,7 @@ use Rattle.std.proofs.Common.{◌≡◌, ℕ, Bool, true, false, List, [], map, 
 use Rattle.std.proofs.lemmas.Bool.{false≢true}
 use Rattle.palm_base.specs.Tells.{Tells}
 use Rattle.palm_base.specs.declared.terms.Cid.{Cid}
-use Rattle.palm_base.proofs.Members.{member_nil, member_same, member_unmap}
+use Rattle.palm_base.proofs.cited.Members.{member_nil, member_same, member_unmap}
 use Rattle.palm_model.specs.Log.{Removal, Names}
 use Rattle.palm_model.specs.Log.Names.{by_itself, by_reason}
 use Rattle.palm_explain.specs.Graph.{Graph, HasMarked, IsBy, IsDependent, IsGraph, IsKey, Link, NamesAt, log_of, pair_at, removal_at}

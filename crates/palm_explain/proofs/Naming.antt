@@ -3,7 +3,7 @@ use Rattle.std.proofs.Common.{List, Contains}
 use Rattle.palm_base.specs.declared.terms.Cid.{Cid}
 use Rattle.palm_model.specs.Log.{Removal, Names, Loses, IsListOf}
 use Rattle.palm_model.specs.Log.Names.{by_itself, by_reason}
-use Rattle.palm_events.proofs.Logs.{left_member, left_keeps, kept_member, some_by_reason}
+use Rattle.palm_events.proofs.cited.Logs.{left_member, left_keeps, kept_member, some_by_reason}
 
 -- ---- more and fewer removals
 

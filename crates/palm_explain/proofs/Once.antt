@@ -2,7 +2,7 @@
 use Rattle.std.proofs.Common.{◌≡◌, ℕ, zero, suc, ◌-◌, List, [], ◌∷◌, ◌++◌, length, Some, Contains, slice_get, remove, inl, inr, refl, sym, ap, ◌∙◌, arith}
 use Rattle.std.proofs.lemmas.List.{length-append}
 use Rattle.std.proofs.lemmas.List.Elements.{Contains-push_cases}
-use Rattle.palm_base.proofs.Members.{member_cases, member_get, member_here, member_nil, member_same, member_there, remove_member}
+use Rattle.palm_base.proofs.cited.Members.{member_cases, member_get, member_here, member_nil, member_same, member_there, remove_member}
 use Rattle.palm_model.specs.Constraint.{Distinct}
 use Rattle.palm_explain.specs.Graph.{IsTailed}
 use Rattle.palm_explain.proofs.Graphs.{some_same}

@@ -8,12 +8,12 @@ use Rattle.std.proofs.lemmas.List.Elements.{filter-append, Contains-append_left,
 use Rattle.std.proofs.lemmas.List.Filters.{length-filter_both}
 use Rattle.std.proofs.lemmas.List.Sums.{fold-append}
 use Rattle.palm_base.specs.declared.terms.Pair.{Pair}
-use Rattle.palm_base.proofs.Members.{member_nil, member_here, member_there, member_cases, member_same, member_map, member_unmap, filter_member, member_filter, nat_known, int_known}
+use Rattle.palm_base.proofs.cited.Members.{member_nil, member_here, member_there, member_cases, member_same, member_map, member_unmap, filter_member, member_filter, nat_known, int_known}
 use Rattle.palm_domain.specs.Rows.{Row, GainsPair, IsPresent, initial_of}
 use Rattle.palm_model.specs.Constraint.{Distinct}
 use Rattle.palm_model.specs.Event.{vars_of}
-use Rattle.palm_model.proofs.Without.{pair_of}
-use Rattle.palm_model.proofs.Supports.{any_member, member_any}
+use Rattle.palm_model.proofs.cited.Without.{pair_of}
+use Rattle.palm_model.proofs.cited.Supports.{any_member, member_any}
 use Rattle.palm_explain.specs.Graph.{Graph, log_of, removal_at}
 use Rattle.palm_explain.specs.Lost.{HasBack, kept_of, lost_at, lost_of}
 use Rattle.palm_explain.proofs.Once.{distinct_push}

@@ -6,7 +6,7 @@ use Rattle.slab.specs.Slab.{ContainsKey, Slab, get}
 use Rattle.palm_base.specs.declared.terms.Pair.{Pair}
 use Rattle.palm_base.specs.declared.terms.Cid.{Cid}
 use Rattle.palm_base.specs.Tells.{Tells}
-use Rattle.palm_base.proofs.Members.{member_here, member_single}
+use Rattle.palm_base.proofs.cited.Members.{member_here, member_single}
 use Rattle.palm_model.specs.Log.{IsListOf, NamesOfPair, Removal, log_pairs}
 use Rattle.palm_explain.specs.declared.node.Node.{Node}
 use Rattle.palm_explain.specs.declared.rows.Row.{Row}

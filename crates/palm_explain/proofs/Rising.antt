@@ -15,10 +15,10 @@ use Rattle.palm_base.specs.declared.terms.Cid.{Cid}
 use Rattle.palm_base.specs.declared.terms.Cid.TheVariants.{Decide, Not, User}
 use Rattle.palm_base.specs.Tells.{Tells}
 use Rattle.palm_base.specs.contracts.terms.CidOrd.TheImpl.{cmp-value}
-use Rattle.palm_base.proofs.Members.{member_nil, member_here, member_there, member_cases, member_same, member_take, member_drop, member_single, all_members}
-use Rattle.palm_base.proofs.Naming.{ComparesParts}
+use Rattle.palm_base.proofs.cited.Members.{member_nil, member_here, member_there, member_cases, member_same, member_take, member_drop, member_single, all_members}
+use Rattle.palm_base.proofs.cited.Naming.{ComparesParts}
 use Rattle.palm_model.specs.Log.{Rises, pair_before, cid_before}
-use Rattle.palm_events.proofs.Names.{before_then, not_before_itself, rises_append}
+use Rattle.palm_events.proofs.cited.Names.{before_then, not_before_itself, rises_append}
 use Rattle.palm_explain.specs.Merging.{IsMerged}
 
 -- ---- what a comparison of two names tells

@@ -8,10 +8,10 @@ use Rattle.std.proofs.lemmas.Int.{ints}
 use Rattle.std.proofs.lemmas.Bool.{cases_Bool, cases_lt}
 use Rattle.std.proofs.lemmas.Bool.Decides.{Decides-int_eq}
 use Rattle.std.proofs.lemmas.List.Elements.{All-contains, Contains-push_cases}
-use Rattle.palm_base.proofs.Members.{member_nil, member_here, member_there, member_cases, member_same, all_members, nat_known}
+use Rattle.palm_base.proofs.cited.Members.{member_nil, member_here, member_there, member_cases, member_same, all_members, nat_known}
 use Rattle.palm_base.specs.declared.terms.Pair.{Pair}
 use Rattle.palm_base.specs.Ascending.{Ascends}
-use Rattle.palm_domain.proofs.Ascending.{get_or-rises}
+use Rattle.palm_domain.proofs.cited.Ascending.{get_or-rises}
 use Rattle.palm_explain.specs.declared.rows.Row.{Row}
 use Rattle.palm_explain.specs.Rows.{AreFormedRows, IsFormedRow, key_at, key_in, row_key}
 

@@ -6,8 +6,8 @@ use Rattle.std.proofs.lemmas.List.Elements.{Contains-append_left, Contains-push,
 use Rattle.slab.specs.Slab.{Slab, Updates, get}
 use Rattle.palm_base.specs.declared.terms.Pair.{Pair}
 use Rattle.palm_base.specs.declared.terms.Cid.{Cid}
-use Rattle.palm_base.proofs.Members.{member_same}
-use Rattle.palm_events.proofs.Names.{cid_known}
+use Rattle.palm_base.proofs.cited.Members.{member_same}
+use Rattle.palm_events.proofs.cited.Names.{cid_known}
 use Rattle.palm_domain.specs.Rows.{Row as StoreRow, Ascends, initial_of, present_of}
 use Rattle.palm_model.specs.Constraint.{Distinct}
 use Rattle.palm_model.specs.Event.{lost_pairs, vars_of}

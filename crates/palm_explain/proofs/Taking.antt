@@ -3,13 +3,13 @@ use Rattle.std.proofs.Common.{◌≡◌, ℕ, ℤ, ◌+◌, List, [], ◌∷◌,
 use Rattle.std.proofs.lemmas.List.{length-map}
 use Rattle.std.proofs.lemmas.List.Elements.{All-set, Contains-append_left, Contains-push, Contains-push_cases}
 use Rattle.palm_base.specs.declared.terms.Pair.{Pair}
-use Rattle.palm_base.proofs.Members.{member_nil, member_same}
+use Rattle.palm_base.proofs.cited.Members.{member_nil, member_same}
 use Rattle.palm_domain.specs.Rows.{Row, Ascends, IsDeclared, IsPresent, LosesPair, initial_of, present_of, present_values, values_without}
-use Rattle.palm_domain.proofs.Ascending.{Ascends-at}
-use Rattle.palm_domain.proofs.StoreRows.{exists_from_member, loses_pair}
-use Rattle.palm_domain.proofs.Values.{Ascends-without}
+use Rattle.palm_domain.proofs.cited.Ascending.{Ascends-at}
+use Rattle.palm_domain.proofs.cited.StoreRows.{exists_from_member, loses_pair}
+use Rattle.palm_domain.proofs.cited.Values.{Ascends-without}
 use Rattle.palm_model.specs.Domains.{Domains, Has, without, without_from}
-use Rattle.palm_model.proofs.Without.{pair_of, without_has, has_without, length_without, ascend_without}
+use Rattle.palm_model.proofs.cited.Without.{pair_of, without_has, has_without, length_without, ascend_without}
 use Rattle.palm_explain.specs.Explanations.{LacksExactly}
 use Rattle.palm_explain.proofs.Keeping.{same_domains}
 

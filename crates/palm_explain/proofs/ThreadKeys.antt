@@ -5,10 +5,10 @@ use Rattle.std.proofs.lemmas.Bool.{cases_Bool}
 use Rattle.std.proofs.lemmas.Option.{slice_get_within, slice_get-get_or}
 use Rattle.std.proofs.lemmas.List.Elements.{All-contains}
 use Rattle.palm_base.specs.declared.terms.Cid.{Cid}
-use Rattle.palm_base.proofs.Members.{member_cases, member_get, member_here, member_nil, member_same, member_there}
+use Rattle.palm_base.proofs.cited.Members.{member_cases, member_get, member_here, member_nil, member_same, member_there}
 use Rattle.palm_model.specs.Constraint.{Distinct}
 use Rattle.palm_model.specs.Log.{Rises, cid_before, same_cid}
-use Rattle.palm_events.proofs.Names.{cid_known, cid_same, not_before_itself, same_cid_itself}
+use Rattle.palm_events.proofs.cited.Names.{cid_known, cid_same, not_before_itself, same_cid_itself}
 use Rattle.palm_explain.specs.declared.threads.Thread.{Thread}
 use Rattle.palm_explain.specs.declared.threads.Threads.{Threads}
 use Rattle.palm_explain.specs.Graph.{Graph, IsBy, Link}

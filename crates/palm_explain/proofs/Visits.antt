@@ -5,7 +5,7 @@ use Rattle.std.proofs.lemmas.Option.{slice_get_within}
 use Rattle.palm_base.specs.Tells.{Tells}
 use Rattle.palm_base.specs.declared.terms.Cid.{Cid}
 use Rattle.palm_base.specs.declared.terms.Pair.{Pair}
-use Rattle.palm_base.proofs.Members.{member_here, member_same, member_single}
+use Rattle.palm_base.proofs.cited.Members.{member_here, member_same, member_single}
 use Rattle.palm_model.specs.Log.{IsListOf, Rises, log_pairs}
 use Rattle.palm_explain.specs.Explanations.{NamesOfSome}
 use Rattle.palm_explain.specs.Graph.{AreBefore, Graph, HasMarked, IsBy, IsGraph, IsUnderWay, IsValueKey, Link, NamesAt, is_due, log_of}

@@ -6,7 +6,7 @@ use Rattle.std.proofs.lemmas.List.{length-append}
 use Rattle.std.proofs.lemmas.List.Sums.{sum_by-set}
 use Rattle.slab.specs.Slab.{ContainsKey, Slab, Updates, get, with_value}
 use Rattle.slab.proofs.SlabLemmas.{ContainsKey-within, Updates-with_value}
-use Rattle.palm_base.proofs.Members.{member_get, member_here, member_same, member_single}
+use Rattle.palm_base.proofs.cited.Members.{member_get, member_here, member_same, member_single}
 use Rattle.palm_model.specs.Constraint.{Distinct}
 use Rattle.palm_explain.specs.declared.node.Node.{Node}
 use Rattle.palm_explain.specs.Graph.{HasForgotten, HasLinked, IsKey, IsMoved, IsReady, IsReadyAt, IsSameNode, IsTailed, IsTakenOut, KeepsRoom, Link, graph_of, has_mark, link_of, marks_of, said}

@@ -11,8 +11,8 @@ use Rattle.std.proofs.lemmas.Option.{slice_get_within, get_or_from_slice_get, sl
 use Rattle.std.specs.List.{AllByRecursion, IsDistinct}
 use Rattle.std.proofs.lemmas.Bool.{both_ways, eqb-true}
 use Rattle.std.proofs.lemmas.Map.Keys.{IsDistinct-IsPermutation}
-use Rattle.palm_base.proofs.Members.{member_cases, member_here, member_nil, member_there}
-use Rattle.palm_domain.proofs.Comparisons.{lt_from_is_lt, ge_from_is_lt, le_from_is_le, gt_from_is_le}
+use Rattle.palm_base.proofs.cited.Members.{member_cases, member_here, member_nil, member_there}
+use Rattle.palm_domain.proofs.cited.Comparisons.{lt_from_is_lt, ge_from_is_lt, le_from_is_le, gt_from_is_le}
 use Rattle.palm_model.specs.Constraint.{Distinct}
 use Rattle.palm_filter.specs.Index.{IsIndex, IsStart, value_at}
 

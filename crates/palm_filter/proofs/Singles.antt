@@ -1,6 +1,6 @@
 -- Domains of one value each: support is the satisfaction of the one assignment.
 use Rattle.std.proofs.Common.{◌≡◌, ℕ, ◌<◌, List, [], ◌∷◌, length, Contains, refl, sym, subst, arith}
-use Rattle.palm_base.proofs.Members.{member_here, member_single}
+use Rattle.palm_base.proofs.cited.Members.{member_here, member_single}
 use Rattle.palm_model.specs.Domains.{Domains, Assignment, values_of}
 use Rattle.palm_model.specs.Constraint.{scope}
 use Rattle.palm_model.specs.Part.{scope_of, parts, Satisfies}
@@ -8,8 +8,8 @@ use Rattle.palm_model.specs.Support.{HasSupport, IsSupported}
 use Rattle.palm_model.specs.declared.constraint.Con.{Con}
 use Rattle.palm_model.specs.declared.constraint.Con.TheVariants.{CompareVar, CompareConst, Linear, Table, Element, Count, Differ}
 use Rattle.palm_model.specs.declared.part.Part.{Part}
-use Rattle.palm_model.proofs.Assignments.{holds_agree}
-use Rattle.palm_model.proofs.Formed.{sum_part, differ_part, part_scope}
+use Rattle.palm_model.proofs.cited.Assignments.{holds_agree}
+use Rattle.palm_model.proofs.cited.Formed.{sum_part, differ_part, part_scope}
 
 first_member : (xs : List ℕ) → 0 < length xs → (x : ℕ) × Contains xs x
 first_member [] lt = absurd (omega (arith, lt))

@@ -6,7 +6,7 @@ use Rattle.std.proofs.lemmas.Bool.{cases_eq, eq-eqb, ne_eqb, false_from_ne_true}
 use Rattle.std.proofs.lemmas.Bool.Decides.{Decides-int_eq}
 use Rattle.std.proofs.lemmas.Int.{ints}
 use Rattle.std.proofs.lemmas.List.Elements.{All-contains}
-use Rattle.palm_read.proofs.Sets.{contains_cases, contains_there}
+use Rattle.palm_read.proofs.cited.Sets.{contains_cases, contains_there}
 use Rattle.palm_lang.specs.Reply.{is_interval, last_of, values_text, HasAllBetween}
 use Rattle.palm_read.specs.Domain.{range_text, set_text}
 use Rattle.palm_model.specs.Domains.{Ascends}

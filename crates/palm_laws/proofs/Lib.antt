@@ -1,3 +1,1 @@
-pub mod Existence
-pub mod Solutions
-pub mod Uniqueness
+pub mod cited

@@ -1,12 +1,2 @@
-pub mod Ascending
-pub mod Assignments
-pub mod Closing
-pub mod Formed
-pub mod Narrowing
-pub mod Reasons
-pub mod Standing
-pub mod Sums
-pub mod Supports
-pub mod Trials
+pub mod cited
 pub mod Tries
-pub mod Without

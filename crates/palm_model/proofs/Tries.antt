@@ -2,14 +2,14 @@
 use Rattle.std.proofs.Common.{◌≡◌, ℕ, suc, ◌+◌, ◌-◌, ◌<◌, ◌≤◌, List, [], ◌∷◌, length, get_or, take, drop, slice_set, Contains, ℤ, pos, sym, ap, ◌∙◌, subst, inl, inr, arith, take_all, eqb, false, get_or-set_same, get_or-set_other}
 use Rattle.std.proofs.lemmas.List.{get_or_default}
 use Rattle.std.proofs.lemmas.Bool.{eqb-false}
-use Rattle.palm_base.proofs.Members.{member_here, member_there, member_tail, nat_known}
+use Rattle.palm_base.proofs.cited.Members.{member_here, member_there, member_tail, nat_known}
 use Rattle.palm_model.specs.Domains.{Domains, Has, values_of}
 use Rattle.palm_model.specs.Part.{scope_of}
 use Rattle.palm_model.specs.Support.{HasSupport}
 use Rattle.palm_model.specs.Trial.{listed, ChangesOnly, IsCompleted}
 use Rattle.palm_model.specs.declared.part.Part.{Part}
-use Rattle.palm_model.proofs.Trials.{put, put_is, put_same, put_other, completed_agree, completed_skip, skip_completed, completed_put, completed_value, support_completed, completed_support}
-use Rattle.palm_model.proofs.Narrowing.{has_declared}
+use Rattle.palm_model.proofs.cited.Trials.{put, put_is, put_same, put_other, completed_agree, completed_skip, skip_completed, completed_put, completed_value, support_completed, completed_support}
+use Rattle.palm_model.proofs.cited.Narrowing.{has_declared}
 
 -- a list with a first member, as the code takes it apart
 pub open_split : (xs : List ℕ) (y : ℕ) → 0 < length xs → y ≡ get_or xs 0 y → xs ≡ y ∷ take (length xs - 1) (drop 1 xs)

@@ -10,6 +10,7 @@ pub mod Event
 pub mod Limits
 pub mod Linear
 pub mod Log
+pub mod Minimal
 pub mod Part
 pub mod Reason
 pub mod Relation

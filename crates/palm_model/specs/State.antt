@@ -1,6 +1,7 @@
 -- The state of an engine, and when it is valid.
 use Rattle.std.specs.Prelude.{◌≡◌, ℕ, ℤ, ⊤, ◌<◌, Bool, true, false, not, ◌||◌, List, [], ◌∷◌, length, filter, Contains, nat_eq}
 use Rattle.std.specs.List.{list_any}
+use Rattle.palm_base.specs.declared.terms.Pair.{Pair}
 use Rattle.palm_base.specs.declared.terms.Cid.{Cid}
 use Rattle.palm_base.specs.declared.terms.Cid.TheVariants.{Decide, Not, User}
 use Rattle.palm_model.specs.Domains.{Domains, AllAscend, values_of, without}
@@ -81,6 +82,17 @@ is_user (User n) = true
 -- active users' constraints and decisions
 abbrev pub AreGrounds : List Active → List Cid → Type 0
 AreGrounds active because = (c : Cid) → Contains because c → IsGround c × IsActive active c
+
+-- the decision that the variable of a pair has its value, and the negation that the pair does not hold, for these grounds
+abbrev pub decision_of : Pair → Active
+decision_of p = record { cid = Decide p.var; con = CompareConst p.var Eq p.value; because = [] }
+
+abbrev pub negation_of : Pair → List Cid → Active
+negation_of p because = record { cid = Not p; con = CompareConst p.var Ne p.value; because = because }
+
+-- the constraint of a user under its number
+abbrev pub user_of : ℕ → Con → Active
+user_of number con = record { cid = User number; con = con; because = [] }
 
 -- what a constraint under this name is: a decision says that its variable has a value, a negation that its pair does
 -- not hold, for grounds that are active; the constraint of a user is well formed. All are over declared variables

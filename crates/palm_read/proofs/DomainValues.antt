@@ -4,7 +4,7 @@ use Rattle.std.proofs.lemmas.Int.{ints}
 use Rattle.std.proofs.lemmas.List.Elements.{All-from_recursion}
 use Rattle.palm_base.specs.Ascending.{Ascends}
 use Rattle.palm_read.specs.Domain.{set_of, from_on, count_in}
-use Rattle.palm_read.proofs.Sets.{Rises, rises_set, set_member, member_set, contains_cases}
+use Rattle.palm_read.proofs.cited.Sets.{Rises, rises_set, set_member, member_set, contains_cases}
 
 ascends_from : (xs : List ℤ) → Rises xs → Ascends xs
 ascends_from [] r = tt

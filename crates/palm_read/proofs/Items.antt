@@ -12,9 +12,9 @@ use Rattle.palm_read.specs.Piece.{Piece, Named, Mark, Integer, word, sign, digit
 use Rattle.palm_read.specs.Reader.Lists.{next_name, next_value, values_at, next_row}
 use Rattle.palm_read.specs.Reader.Shapes.{linear_term_at, linear_next_term}
 use Rattle.palm_read.specs.Reader.Steps.{Reading, and_then, when, choose, front_text, token_at, behind, mark_at}
-use Rattle.palm_read.proofs.Front.{Starts, digits_first, minus_first, and_then_some, when_some, guard_some, token_at-cons, behind-cons, name_at-cons, integer_at-starts}
-use Rattle.palm_read.proofs.Begins.{Begins, over, by_mark, by_name, by_integer, by_digits, mark_first, name_first, integer_first, natural_first, begins_over, begins_then, begins_split}
-use Rattle.palm_read.proofs.Many.{IsItem, many_at_takes, many_at_again}
+use Rattle.palm_read.proofs.cited.Front.{Starts, digits_first, minus_first, and_then_some, when_some, guard_some, token_at-cons, behind-cons, name_at-cons, integer_at-starts}
+use Rattle.palm_read.proofs.cited.Begins.{Begins, over, by_mark, by_name, by_integer, by_digits, mark_first, name_first, integer_first, natural_first, begins_over, begins_then, begins_split}
+use Rattle.palm_read.proofs.cited.Many.{IsItem, many_at_takes, many_at_again}
 
 -- one more of something was read, and what
 same_item : {A : Type 0} (a b : A) (r s : List Lexeme) → ◌≡◌ {A = Reading (Option A)} (Some (Some a, r)) (Some (Some b, s)) → (a ≡ b) × (r ≡ s)

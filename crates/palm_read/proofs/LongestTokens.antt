@@ -11,7 +11,7 @@ use Rattle.palm_read.specs.Token.{Lexeme, is_sign, are_sign, begins_long_sign, k
 use Rattle.palm_read.specs.declared.tokens.Token.{Token}
 use Rattle.palm_read.specs.declared.tokens.TokenKind.{TokenKind}
 use Rattle.palm_read.specs.declared.tokens.TokenKind.TheVariants.{Word, Digits, Sign, Other}
-use Rattle.palm_read.proofs.TokenLemmas.{digit_no_letter, sign_only, long_sign_only, digit_from_range, range_from_digit, take-prefix_len, lexeme_text}
+use Rattle.palm_read.proofs.cited.TokenLemmas.{digit_no_letter, sign_only, long_sign_only, digit_from_range, range_from_digit, take-prefix_len, lexeme_text}
 
 clash : (t : Bool) → t ≡ true → t ≡ false → ⊥
 clash true e f = cc

@@ -10,7 +10,7 @@ use Rattle.palm_read.specs.Token.{Lexeme, is_sign, are_sign, begins_long_sign, k
 use Rattle.palm_read.specs.Grammar.{IsForm, pieces}
 use Rattle.palm_read.specs.Piece.{Piece, Keyword, Named, Mark, Integer, Natural, IsPiece, IsInteger, Spells, sign}
 use Rattle.palm_read.specs.declared.tokens.TokenKind.TheVariants.{Word, Digits, Sign, Other}
-use Rattle.palm_read.proofs.TokenLemmas.{tokens_of-blank, tokens_of-front, take-prefix_len}
+use Rattle.palm_read.proofs.cited.TokenLemmas.{tokens_of-blank, tokens_of-front, take-prefix_len}
 
 -- ---- no form has a token that is no word, no digits and no sign
 

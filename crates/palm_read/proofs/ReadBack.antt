@@ -8,11 +8,11 @@ use Rattle.palm_read.specs.Limits.{IsInRange, HasNothing, HasRepeat, IsBeyond}
 use Rattle.palm_read.specs.Reading.{line_of, IsRead, a_comment, a_form}
 use Rattle.palm_read.specs.Text.{line_words, text_of}
 use Rattle.palm_read.specs.declared.line.Line.{Line}
-use Rattle.palm_read.proofs.SoundLines.{wordy_tokens}
-use Rattle.palm_read.proofs.Layouts.{words_spell, words_plain, words_short}
-use Rattle.palm_read.proofs.Canonical.{canonical, canonical_line, canonical_proper, canonical_something, canonical_once, canonical_range, numbers_within}
-use Rattle.palm_read.proofs.PrintedParts.{has_names}
-use Rattle.palm_read.proofs.PrintedForms.{words_line}
+use Rattle.palm_read.proofs.cited.SoundLines.{wordy_tokens}
+use Rattle.palm_read.proofs.cited.Layouts.{words_spell, words_plain, words_short}
+use Rattle.palm_read.proofs.cited.Canonical.{canonical, canonical_line, canonical_proper, canonical_something, canonical_once, canonical_range, numbers_within}
+use Rattle.palm_read.proofs.cited.PrintedParts.{has_names}
+use Rattle.palm_read.proofs.cited.PrintedForms.{words_line}
 
 -- each line but a comment is printed with a word in front
 says_something : (form : Form) → is_note (after_blanks (text_of (line_of form))) ≡ false

@@ -22,9 +22,9 @@ use Rattle.palm_read.specs.Form.{ShapeForm, CompareVarForm, CompareConstForm, Li
 use Rattle.palm_read.specs.Reader.Lists.{next_name, names_at, next_row}
 use Rattle.palm_read.specs.Reader.Shapes.{linear_next_term, linear_first_term_at, linear_terms_at, interval_at, domain_at, offset_at, comparison_at, is_linear_op, linear_at, table_at, element_at, target_at, count_at, differ_at, shape_at}
 use Rattle.palm_read.specs.Reader.Steps.{and_then, when, choose, front_text, token_at, behind, keyword_at, mark_at, name_at, op_of, op_at}
-use Rattle.palm_read.proofs.Front.{Starts, digits_first, minus_first, and_then_some, when_some, choose_some, guard_some, same_text, token_is, behind-cons, name_at-cons, natural_at-cons, integer_at-starts}
-use Rattle.palm_read.proofs.Begins.{Begins, over, begins_over, begins_then, begins_split, by_keyword, by_mark, by_name, by_natural, by_integer, keyword_first, mark_first, name_first, natural_first, integer_first}
-use Rattle.palm_read.proofs.Many.{many_at_takes, many_at_again}
+use Rattle.palm_read.proofs.cited.Front.{Starts, digits_first, minus_first, and_then_some, when_some, choose_some, guard_some, same_text, token_is, behind-cons, name_at-cons, natural_at-cons, integer_at-starts}
+use Rattle.palm_read.proofs.cited.Begins.{Begins, over, begins_over, begins_then, begins_split, by_keyword, by_mark, by_name, by_natural, by_integer, keyword_first, mark_first, name_first, natural_first, integer_first}
+use Rattle.palm_read.proofs.cited.Many.{many_at_takes, many_at_again}
 use Rattle.palm_read.proofs.Items.{all_fit, name_pieces, name_item, values_takes, values_again, starts_no_mark, behind_other, HasWidth, row_item, term_takes, term_again, term_pieces, term_item}
 
 -- ---- domains

@@ -14,7 +14,7 @@ use Rattle.std.proofs.lemmas.List.Sums.{sum_by-cons}
 use Rattle.std.proofs.lemmas.List.Sorted.{sum_by-IsPermutation, IsPermutation-map, IsPermutation-sym, length_permutation}
 use Rattle.std.proofs.lemmas.Slice.Eq.{bytes_eq-Decides}
 use Rattle.palm_read.specs.Limits.{Repeats}
-use Rattle.palm_read.proofs.Sets.{contains_here, contains_there, contains_cases}
+use Rattle.palm_read.proofs.cited.Sets.{contains_here, contains_there, contains_cases}
 
 -- ---- a list behind a reference, written over as a whole
 

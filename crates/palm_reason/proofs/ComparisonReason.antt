@@ -1,6 +1,6 @@
 -- The reason of a comparison: the declared values of the other variable that would fit, and none at all against a value.
 use Rattle.std.proofs.Common.{◌≡◌, ℕ, ℤ, ◌+ℤ◌, true, cond, [], ◌∷◌, Contains, refl, sym, ◌∙◌, subst}
-use Rattle.palm_base.proofs.Members.{member_nil, member_here, member_there, member_single, member_same}
+use Rattle.palm_base.proofs.cited.Members.{member_nil, member_here, member_there, member_single, member_same}
 use Rattle.palm_model.specs.Comparison.{comparison_reason, fitting_left, fitting_right}
 use Rattle.palm_model.specs.Constraint.{Distinct}
 use Rattle.palm_model.specs.Domains.{Domains, Has, without}
@@ -13,9 +13,9 @@ use Rattle.palm_model.specs.declared.constraint.Con.TheVariants.{CompareVar, Com
 use Rattle.palm_model.specs.declared.constraint.Op.{Op}
 use Rattle.palm_model.specs.declared.part.Part.{Part}
 use Rattle.palm_model.specs.declared.part.Part.TheVariants.{CompareVar as CompareVarPart, CompareConst as CompareConstPart}
-use Rattle.palm_model.proofs.Standing.{stands_from_test, test_from_stands}
-use Rattle.palm_model.proofs.Supports.{lacking_by_part, part_unsupported}
-use Rattle.palm_reason.proofs.TwoVariables.{lacking_over, of_two, turned, by_variable, other_right}
+use Rattle.palm_model.proofs.cited.Standing.{stands_from_test, test_from_stands}
+use Rattle.palm_model.proofs.cited.Supports.{lacking_by_part, part_unsupported}
+use Rattle.palm_reason.proofs.cited.TwoVariables.{lacking_over, of_two, turned, by_variable, other_right}
 
 -- ---- two variables
 

@@ -1,11 +1,3 @@
-pub mod TwoVariables
+pub mod cited
 pub mod ComparisonReason
-pub mod LinearTotals
-pub mod LinearReason
-pub mod TableRows
 pub mod TableReason
-pub mod ElementReason
-pub mod CountNumbers
-pub mod CountReason
-pub mod DifferReason
-pub mod Reasons

@@ -2,7 +2,7 @@
 use Rattle.std.proofs.Common.{◌≡◌, ℕ, ℤ, true, ◌&&◌, List, [], ◌∷◌, map, Contains, inl, inr, refl, sym, ap, ◌∙◌, subst}
 use Rattle.std.specs.List.{list_any}
 use Rattle.std.proofs.lemmas.Bool.{and_from}
-use Rattle.palm_base.proofs.Members.{member_here, filter_member, member_filter}
+use Rattle.palm_base.proofs.cited.Members.{member_here, filter_member, member_filter}
 use Rattle.palm_base.specs.declared.terms.Pair.{Pair}
 use Rattle.palm_model.specs.Domains.{Domains, Has, is_among, without}
 use Rattle.palm_model.specs.Reason.{IsReason}
@@ -11,10 +11,10 @@ use Rattle.palm_model.specs.Support.{HasSupport, LacksSupport}
 use Rattle.palm_model.specs.Table.{are_there, first_missing, is_blocked_at, blocking_values, row_pairs, table_reason}
 use Rattle.palm_model.specs.declared.constraint.Con.TheVariants.{Table}
 use Rattle.palm_model.specs.declared.part.Part.TheVariants.{Table as TablePart}
-use Rattle.palm_model.proofs.Reasons.{removed_member, member_removed, all_pairs_member, member_all_pairs, others_member, member_others}
-use Rattle.palm_model.proofs.Supports.{member_any, member_among, lacking_by_part, part_unsupported, without_has}
-use Rattle.palm_reason.proofs.TableRows.{missing_cases, gives_among, there_gives, gives_there, entry_gives}
-use Rattle.palm_reason.proofs.TwoVariables.{lacking_over}
+use Rattle.palm_model.proofs.cited.Reasons.{removed_member, member_removed, all_pairs_member, member_all_pairs, others_member, member_others}
+use Rattle.palm_model.proofs.cited.Supports.{member_any, member_among, lacking_by_part, part_unsupported, without_has}
+use Rattle.palm_reason.proofs.cited.TableRows.{missing_cases, gives_among, there_gives, gives_there, entry_gives}
+use Rattle.palm_reason.proofs.cited.TwoVariables.{lacking_over}
 
 -- ---- the reason
 

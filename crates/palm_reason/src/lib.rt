@@ -2,6 +2,6 @@
 //! public function with an empty body, and stands below the filters, which cite it.
 #![tactic(auto)]
 
-mod law;
+mod laws;
 
-pub use law::reasons_are_right;
+pub use laws::reasons_are_right;

@@ -5,14 +5,14 @@ use Rattle.palm_base.specs.declared.terms.Pair.{Pair}
 use Rattle.palm_model.specs.Conflict.{InConflict}
 use Rattle.palm_model.specs.Domains.{Domains, Has}
 use Rattle.palm_model.specs.Log.{Active, Named, cons_of}
-use Rattle.palm_reduce.specs.Minimal.{AreConflict, DoExplain}
+use Rattle.palm_model.specs.Minimal.{AreConflict, DoExplain}
 use Rattle.palm_model.specs.State.{EngineState, HasEmpty, IsEmptyAt, IsValid, present}
-use Rattle.palm_reduce.proofs.Growing.{conflict_more, conflicts_grow, explanations_grow}
-use Rattle.palm_reduce.proofs.Reducing.{Grows}
-use Rattle.palm_laws.proofs.Solutions.{conflict_empty, explained_missing, missing_explained}
+use Rattle.palm_laws.proofs.cited.Growing.{conflict_more, conflicts_grow, explanations_grow}
+use Rattle.palm_laws.proofs.cited.Reducing.{Grows}
+use Rattle.palm_laws.proofs.cited.Solutions.{conflict_empty, explained_missing, missing_explained}
 use Rattle.palm_events.specs.Along.{IsStill}
-use Rattle.palm_events.proofs.Conflicts.{kept_conflict}
-use Rattle.palm_events.proofs.Runs.{named_con, quiet_greatest}
+use Rattle.palm_events.proofs.cited.Conflicts.{kept_conflict}
+use Rattle.palm_events.proofs.cited.Runs.{named_con, quiet_greatest}
 use Rattle.palm_reduce.specs.Properties.{HasProperty, MayBeAsked}
 use Rattle.palm_reduce.specs.Walked.{AreSame}
 use Rattle.palm_reduce.specs.declared.property.Property.{Property}

@@ -7,16 +7,16 @@ use Rattle.palm_model.specs.Domains.{Domains, Has}
 use Rattle.palm_model.specs.Log.{Active, IsListOf, Named, NamesOfPair, cons_of, log_pairs}
 use Rattle.palm_model.specs.State.{EngineState, IsEmptyAt, IsValid, present}
 use Rattle.palm_model.specs.declared.constraint.Con.{Con}
-use Rattle.palm_model.proofs.Without.{pair_of}
-use Rattle.palm_events.proofs.Agreeing.{gone_member}
-use Rattle.palm_events.proofs.Conflicts.{kept_conflict}
-use Rattle.palm_events.proofs.Logs.{logged, removal_explained}
-use Rattle.palm_events.proofs.Runs.{named_con}
-use Rattle.palm_laws.proofs.Solutions.{explains_more}
+use Rattle.palm_model.proofs.cited.Without.{pair_of}
+use Rattle.palm_events.proofs.cited.Agreeing.{gone_member}
+use Rattle.palm_events.proofs.cited.Conflicts.{kept_conflict}
+use Rattle.palm_events.proofs.cited.Logs.{logged, removal_explained}
+use Rattle.palm_events.proofs.cited.Runs.{named_con}
+use Rattle.palm_laws.proofs.cited.Solutions.{explains_more}
 use Rattle.palm_reduce.specs.Properties.{HasProperty, HaveAlone, IsCause}
 use Rattle.palm_reduce.specs.declared.property.Property.{Property}
 use Rattle.palm_reduce.specs.declared.property.Property.TheVariants.{Conflict, Absence}
-use Rattle.palm_reduce.proofs.Growing.{conflict_more}
+use Rattle.palm_laws.proofs.cited.Growing.{conflict_more}
 
 -- ---- more constraints, and all of them
 

@@ -2,17 +2,17 @@
 use Rattle.std.proofs.Common.{◌≡◌, ℕ, zero, suc, ◌+◌, ◌<◌, ◌≤◌, true, false, List, [], ◌∷◌, ◌++◌, map, take, length, get_or, slice_get, Some, All, Contains, ℤ, inl, inr, refl, sym, ap, ◌∙◌, subst, arith}
 use Rattle.std.proofs.lemmas.Option.{get_or_from_slice_get}
 use Rattle.std.proofs.lemmas.List.{length-map, length-take, take_all, take_more}
-use Rattle.palm_base.proofs.Members.{member_same}
+use Rattle.palm_base.proofs.cited.Members.{member_same}
 use Rattle.palm_book.specs.Book.{AreValues, Contents, Entry, IsBook, active_of, initial_of, user_at, values_at}
 use Rattle.palm_book.specs.declared.book.BookCon.{BookCon}
 use Rattle.palm_model.specs.Constraint.{IsWellFormed, scope}
 use Rattle.palm_model.specs.Domains.{Domains}
 use Rattle.palm_model.specs.Event.{Declares, Posts, with_posted}
 use Rattle.palm_model.specs.Log.{Active, IsActive}
-use Rattle.palm_model.specs.State.{EngineState, blank}
+use Rattle.palm_model.specs.State.{EngineState, blank, user_of}
 use Rattle.palm_model.specs.declared.constraint.Con.{Con}
 use Rattle.palm_base.specs.declared.terms.Cid.TheVariants.{User}
-use Rattle.palm_events.proofs.States.{member_with_posted, with_posted_cases, with_posted_here}
+use Rattle.palm_events.proofs.cited.States.{member_with_posted, with_posted_cases, with_posted_here}
 use Rattle.std.proofs.lemmas.List.Elements.{Contains-append_left, Contains-push, Contains-push_cases}
 use Rattle.palm_reduce.specs.Walked.{AreSame, actives}
 use Rattle.palm_reduce.proofs.Passing.{same_then}
@@ -56,14 +56,14 @@ scope_declared book c formed initial is con e =
     subst (λ (d : Con). All (λ x. x < length initial) (scope d)) (sym e)
     (subst (λ n. All (λ x. x < n) (scope c.con)) (sym (ap length is ∙ length-map book.variables (λ (v : Entry). v.values))) formed.declared)
 
-pub posts_same : (s t : EngineState) (c : BookCon) (con : Con) → con ≡ c.con → Posts s (record { cid = User c.number; con = con; because = [] }) t → Posts s (user_at c) t
-posts_same s t c con e posts = subst (λ (d : Con). Posts s (record { cid = User c.number; con = d; because = [] }) t) e posts
+pub posts_same : (s t : EngineState) (c : BookCon) (con : Con) → con ≡ c.con → Posts s (user_of c.number con) t → Posts s (user_at c) t
+posts_same s t c con e posts = subst (λ (d : Con). Posts s (user_of c.number d) t) e posts
 
 -- the constraint at a place is one
 pub entry_same : (cs : List BookCon) (i : ℕ) (c d : BookCon) → slice_get cs i ≡ Some c → slice_get cs i ≡ Some d → c ≡ d
 entry_same cs i c d at too = sym (get_or_from_slice_get cs i c c at) ∙ get_or_from_slice_get cs i d c too
 
-pub posts_at : (s t : EngineState) (cs : List BookCon) (i : ℕ) (c d : BookCon) (con : Con) → slice_get cs i ≡ Some c → con ≡ c.con → Posts s (record { cid = User c.number; con = con; because = [] }) t → slice_get cs i ≡ Some d → Posts s (user_at d) t
+pub posts_at : (s t : EngineState) (cs : List BookCon) (i : ℕ) (c d : BookCon) (con : Con) → slice_get cs i ≡ Some c → con ≡ c.con → Posts s (user_of c.number con) t → slice_get cs i ≡ Some d → Posts s (user_at d) t
 posts_at s t cs i c d con at e posts too = subst (λ (z : BookCon). Posts s (user_at z) t) (entry_same cs i c d at too) (posts_same s t c con e posts)
 
 module _ (book : Contents) (is : IsBook book) (i : ℕ) (c : BookCon) (at : slice_get book.constraints i ≡ Some c) (active : List Active) (same : AreSame active (actives (take i book.constraints))) where

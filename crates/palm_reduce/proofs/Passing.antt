@@ -6,16 +6,16 @@ use Rattle.std.proofs.lemmas.Bool.{false≢true}
 use Rattle.palm_base.specs.Tells.{Tells}
 use Rattle.palm_base.specs.declared.terms.Cid.{Cid}
 use Rattle.palm_base.specs.declared.terms.Cid.TheVariants.{User}
-use Rattle.palm_base.proofs.Members.{member_here, member_there, member_cases, member_same, member_unmap, filter_member}
+use Rattle.palm_base.proofs.cited.Members.{member_here, member_there, member_cases, member_same, member_unmap, filter_member}
 use Rattle.palm_book.specs.Book.{Contents, IsBook, active_of, initial_of, user_at}
 use Rattle.palm_book.specs.declared.book.BookCon.{BookCon}
 use Rattle.palm_model.specs.Event.{Posts, Withdraws, gone_with, with_posted, without_names}
 use Rattle.palm_model.specs.Log.{Active, IsActive, cids_of, is_named}
-use Rattle.palm_reduce.specs.Minimal.{IsMinimal, Leaves}
-use Rattle.palm_reduce.specs.Minimal.Leaves.{walked_none, walked_out, walked_in}
+use Rattle.palm_model.specs.Minimal.{IsMinimal, Leaves}
+use Rattle.palm_model.specs.Minimal.Leaves.{walked_none, walked_out, walked_in}
 use Rattle.palm_model.specs.State.{EngineState}
-use Rattle.palm_reduce.proofs.Reducing.{left_within}
-use Rattle.palm_events.proofs.States.{member_with_posted, member_without_names, with_posted_cases, with_posted_here, without_names_member}
+use Rattle.palm_laws.proofs.cited.Reducing.{left_within}
+use Rattle.palm_events.proofs.cited.States.{member_with_posted, member_without_names, with_posted_cases, with_posted_here, without_names_member}
 use Rattle.palm_reduce.specs.Properties.{HasProperty, IsCause, MayBeAsked}
 use Rattle.palm_reduce.specs.Walked.{AreSame, HasWalked, actives}
 use Rattle.palm_reduce.specs.declared.property.Property.{Property}

@@ -4,12 +4,12 @@ use Rattle.std.proofs.lemmas.List.{drop_more, map-append, take-append-drop, take
 use Rattle.std.proofs.lemmas.List.Elements.{All-contains, Contains-append_right, filter-append}
 use Rattle.std.proofs.lemmas.Option.{get_or_from_slice_get, slice_get_within}
 use Rattle.palm_base.specs.declared.terms.Cid.{Cid}
-use Rattle.palm_base.proofs.Members.{member_nil, member_here, member_cases, member_map, member_unmap}
+use Rattle.palm_base.proofs.cited.Members.{member_nil, member_here, member_cases, member_map, member_unmap}
 use Rattle.palm_book.specs.Book.{Contents, IsBook, user_at}
 use Rattle.palm_book.specs.declared.book.BookCon.{BookCon}
-use Rattle.palm_book.proofs.Actives.{actives_rise}
+use Rattle.palm_book.proofs.cited.Actives.{actives_rise}
 use Rattle.palm_model.specs.Log.{Active, Rises, cid_before, cids_of}
-use Rattle.palm_events.proofs.Names.{not_before_itself}
+use Rattle.palm_events.proofs.cited.Names.{not_before_itself}
 use Rattle.palm_reduce.specs.Walked.{actives}
 
 -- ---- lists of constraints

@@ -1,3 +1,2 @@
-pub mod Minimal
 pub mod Properties
 pub mod Walked

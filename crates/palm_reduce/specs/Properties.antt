@@ -4,7 +4,7 @@ use Rattle.palm_base.specs.declared.terms.Cid.{Cid}
 use Rattle.palm_model.specs.Domains.{Domains, Has}
 use Rattle.palm_model.specs.Closure.{Explains, IsConflict}
 use Rattle.palm_model.specs.Log.{Active, Named, Rises}
-use Rattle.palm_reduce.specs.Minimal.{AreConflict, DoExplain}
+use Rattle.palm_model.specs.Minimal.{AreConflict, DoExplain}
 use Rattle.palm_reduce.specs.declared.property.Property.{Property}
 use Rattle.palm_reduce.specs.declared.property.Property.TheVariants.{Conflict, Absence}
 

@@ -3,7 +3,7 @@ use Rattle.std.specs.Prelude.{◌≡◌, ◌↔◌, ℕ, List, ◌++◌, Contain
 use Rattle.palm_book.specs.Book.{Contents, initial_of, user_at}
 use Rattle.palm_book.specs.declared.book.BookCon.{BookCon}
 use Rattle.palm_model.specs.Log.{Active, cids_of}
-use Rattle.palm_reduce.specs.Minimal.{Leaves}
+use Rattle.palm_model.specs.Minimal.{Leaves}
 use Rattle.palm_model.specs.State.{EngineState}
 use Rattle.palm_reduce.specs.Properties.{HasProperty, IsCause}
 use Rattle.palm_reduce.specs.declared.property.Property.{Property}

@@ -2,7 +2,6 @@
 //! explain the absence of a value.
 #![tactic(auto)]
 
-pub mod minimal;
 mod posting;
 mod property;
 mod reduce;

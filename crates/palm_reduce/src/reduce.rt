@@ -4,7 +4,7 @@ ghost use Rattle.palm_base.specs.Tells.{Tells};
 ghost use Rattle.palm_book.specs.Book.{IsBook, active_of, initial_of};
 ghost use Rattle.palm_model.specs.Domains.{Has};
 ghost use Rattle.palm_model.specs.Log.{Rises};
-ghost use Rattle.palm_reduce.specs.Minimal.{AreConflict, DoExplain, IsMinimal, IsMinimalConflict, IsMinimalExplanation};
+ghost use Rattle.palm_model.specs.Minimal.{AreConflict, DoExplain, IsMinimal, IsMinimalConflict, IsMinimalExplanation};
 ghost use Rattle.palm_reduce.specs.Properties.{HasProperty, IsCause, MayBeAsked};
 ghost use Rattle.palm_reduce.specs.Walked.{AreSame, HasWalked};
 

@@ -6,24 +6,24 @@ use Rattle.std.proofs.lemmas.List.Elements.{Contains-append_right, Contains-push
 use Rattle.palm_base.specs.declared.terms.Pair.{Pair}
 use Rattle.palm_base.specs.declared.terms.Cid.{Cid}
 use Rattle.palm_base.specs.declared.terms.Cid.TheVariants.{Not}
-use Rattle.palm_base.proofs.Members.{nat_known, member_nil, member_here, member_there, member_single, member_same, member_map, member_unmap, filter_member}
+use Rattle.palm_base.proofs.cited.Members.{nat_known, member_nil, member_here, member_there, member_single, member_same, member_map, member_unmap, filter_member}
 use Rattle.palm_model.specs.Constraint.{Distinct}
 use Rattle.palm_model.specs.Log.{IsActive, same_pair}
 use Rattle.palm_model.specs.State.{EngineState, IsValid, present}
 use Rattle.palm_model.specs.Event.{vars_of}
 use Rattle.palm_events.specs.Along.{IsStill}
 use Rattle.palm_events.specs.Reasons.{ReasonsAreRight}
-use Rattle.palm_events.proofs.Names.{pair_same, same_pair_itself}
-use Rattle.palm_engine.proofs.Settled.{settling_filters}
-use Rattle.palm_engine.proofs.Walking.{not_empty}
+use Rattle.palm_events.proofs.cited.Names.{pair_same, same_pair_itself}
+use Rattle.palm_engine.proofs.cited.Settled.{settling_filters}
+use Rattle.palm_engine.proofs.cited.Walking.{not_empty}
 use Rattle.palm_search.specs.declared.turn.Pick.{Pick}
 use Rattle.palm_search.specs.declared.turn.Turn.{Turn}
 use Rattle.palm_search.specs.declared.turn.Turn.TheVariants.{Decide as TurnDecide, Undo as TurnUndo}
 use Rattle.palm_search.specs.Turns.{SearchState, Decides, decided_vars}
 use Rattle.palm_search.specs.Kept.{HasOnlyUsers}
-use Rattle.palm_search.proofs.Deciding.{latest_vars, others_taken}
-use Rattle.palm_search.proofs.Going.{decided_lawful, quiet_negated}
-use Rattle.palm_search.proofs.Leaving.{settles_still}
+use Rattle.palm_search.proofs.cited.Deciding.{latest_vars, others_taken}
+use Rattle.palm_search.proofs.cited.Going.{decided_lawful, quiet_negated}
+use Rattle.palm_search.proofs.cited.Leaving.{settles_still}
 use Rattle.palm_repair.specs.Posting.{Nogood, RepairState, PostsAll, nogood_of, is_decided, undecided}
 use Rattle.palm_repair.specs.Repair.{RepairDecides, IsHeaviest, MakesRoom, RepairUndoes, RepairTakes, RepairSettles, RepairFollows, RepairTurns, raised, repair_begun}
 use Rattle.palm_repair.specs.Kept.{IsRepairing, HasUndecided, HasNoneWhole, IsPosted, IsAtTurn}

@@ -6,7 +6,7 @@ use Rattle.std.proofs.lemmas.Option.{slice_get_within}
 use Rattle.palm_base.specs.declared.terms.Pair.{Pair}
 use Rattle.palm_base.specs.declared.terms.Cid.{Cid}
 use Rattle.palm_base.specs.declared.terms.Cid.TheVariants.{Decide}
-use Rattle.palm_base.proofs.Members.{member_place}
+use Rattle.palm_base.proofs.cited.Members.{member_place}
 use Rattle.palm_repair.specs.Repair.{weight_of}
 use Rattle.palm_repair.specs.Learned.{IsHeaviestAt}
 

@@ -5,10 +5,10 @@ use Rattle.std.proofs.lemmas.List.Elements.{Contains-append_cases, Contains-appe
 use Rattle.palm_base.specs.declared.terms.Pair.{Pair}
 use Rattle.palm_base.specs.declared.terms.Cid.{Cid}
 use Rattle.palm_base.specs.declared.terms.Cid.TheVariants.{Decide, Not}
-use Rattle.palm_base.proofs.Members.{member_here, member_there, member_cases, member_same, member_single, member_map, member_unmap, member_filter, filter_member}
+use Rattle.palm_base.proofs.cited.Members.{member_here, member_there, member_cases, member_same, member_single, member_map, member_unmap, member_filter, filter_member}
 use Rattle.palm_model.specs.Domains.{Has}
 use Rattle.palm_model.specs.Log.{Active, IsActive, same_pair}
-use Rattle.palm_model.specs.State.{EngineState, IsGround}
+use Rattle.palm_model.specs.State.{EngineState, IsGround, decision_of, negation_of}
 use Rattle.palm_model.specs.Event.{Posts, with_posted}
 use Rattle.palm_model.specs.Event.Event.{Post}
 use Rattle.palm_model.specs.Event.Step.{Happens}
@@ -16,16 +16,16 @@ use Rattle.palm_model.specs.Conflict.{IsJustified}
 use Rattle.palm_model.specs.declared.constraint.Con.TheVariants.{CompareConst}
 use Rattle.palm_model.specs.declared.constraint.Op.TheVariants.{Eq}
 use Rattle.palm_model.specs.declared.part.Part.TheVariants.{CompareConst as CompareConstPart}
-use Rattle.palm_model.proofs.Supports.{any_member, member_any, not_true}
-use Rattle.palm_events.proofs.Names.{pair_same, same_pair_itself}
-use Rattle.palm_events.proofs.States.{with_posted_cases, with_posted_here, member_with_posted}
-use Rattle.palm_events.proofs.Valid.{posts_valid}
-use Rattle.palm_events.proofs.Conflicts.{step_justified}
-use Rattle.palm_search.specs.Turns.{SearchState, decision_of, negation_of}
+use Rattle.palm_model.proofs.cited.Supports.{any_member, member_any, not_true}
+use Rattle.palm_events.proofs.cited.Names.{pair_same, same_pair_itself}
+use Rattle.palm_events.proofs.cited.States.{with_posted_cases, with_posted_here, member_with_posted}
+use Rattle.palm_events.proofs.cited.Valid.{posts_valid}
+use Rattle.palm_events.proofs.cited.Conflicts.{step_justified}
+use Rattle.palm_search.specs.Turns.{SearchState}
 use Rattle.palm_search.specs.Kept.{IsSearching}
-use Rattle.palm_search.proofs.Deciding.{posted_has}
-use Rattle.palm_search.proofs.Keeping.{satisfies_negation}
-use Rattle.palm_search.proofs.Leaving.{user_ground}
+use Rattle.palm_search.proofs.cited.Deciding.{posted_has}
+use Rattle.palm_search.proofs.cited.Keeping.{satisfies_negation}
+use Rattle.palm_search.proofs.cited.Leaving.{user_ground}
 use Rattle.palm_repair.specs.Posting.{Nogood, Origin, RepairState, PostsNegation, PostsFor, PostsFrom, PostsAll, is_decided, undecided, justification, with_origin}
 use Rattle.palm_repair.specs.Kept.{IsNogood, IsNumbered, ComesFrom, HasOrigins, IsRepairing}
 use Rattle.palm_repair.proofs.Refuting.{users_posted, nogood_kept}

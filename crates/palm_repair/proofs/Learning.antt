@@ -5,19 +5,18 @@ use Rattle.std.proofs.lemmas.Bool.{cases_Bool}
 use Rattle.std.proofs.lemmas.List.{take_more, length-map}
 use Rattle.palm_base.specs.declared.terms.Pair.{Pair}
 use Rattle.palm_base.specs.declared.terms.Cid.TheVariants.{Decide, Not}
-use Rattle.palm_base.proofs.Members.{member_nil, member_here, member_there, member_cases, member_same}
+use Rattle.palm_base.proofs.cited.Members.{member_nil, member_here, member_there, member_cases, member_same}
 use Rattle.palm_model.specs.Constraint.{Distinct}
 use Rattle.palm_model.specs.Domains.{Domains}
 use Rattle.palm_model.specs.Log.{IsActive, same_pair}
-use Rattle.palm_model.specs.State.{EngineState}
-use Rattle.palm_model.proofs.Supports.{not_true}
-use Rattle.palm_events.proofs.Names.{pair_same}
+use Rattle.palm_model.specs.State.{EngineState, negation_of}
+use Rattle.palm_model.proofs.cited.Supports.{not_true}
+use Rattle.palm_events.proofs.cited.Names.{pair_same}
 use Rattle.palm_engine.specs.Engine.{View, KeepsCounts}
 use Rattle.palm_domain.specs.Rows.{Row, initial_of}
 use Rattle.palm_search.specs.Calls.{SearchView, search_state}
 use Rattle.palm_search.specs.Kept.{HasDecisions}
-use Rattle.palm_search.specs.Turns.{negation_of}
-use Rattle.palm_search.proofs.Deciding.{posted_has}
+use Rattle.palm_search.proofs.cited.Deciding.{posted_has}
 use Rattle.palm_repair.specs.Posting.{Nogood, Origin, RepairState, PostsFor, PostsFrom, PostsAll, undecided, justification, with_origin}
 use Rattle.palm_repair.specs.Repair.{raised, raised_from, weight_of}
 use Rattle.palm_repair.specs.Kept.{HasOrigins, IsNumbered, IsRepairing}

@@ -8,14 +8,14 @@ use Rattle.std.proofs.lemmas.List.Elements.{Contains-append_left, Contains-appen
 use Rattle.palm_base.specs.declared.terms.Pair.{Pair}
 use Rattle.palm_base.specs.declared.terms.Cid.{Cid}
 use Rattle.palm_base.specs.declared.terms.Cid.TheVariants.{Decide, Not, User}
-use Rattle.palm_base.proofs.Members.{member_nil, member_here, member_cases, member_same, member_map, member_take_more, filter_agree_members}
+use Rattle.palm_base.proofs.cited.Members.{member_nil, member_here, member_cases, member_same, member_map, member_take_more, filter_agree_members}
 use Rattle.palm_model.specs.Conflict.{InConflict, InFlat, IsKeptConflict}
 use Rattle.palm_model.specs.Conflict.InFlat.{as_it_is, in_place}
 use Rattle.palm_model.specs.Constraint.{Distinct}
 use Rattle.palm_model.specs.Event.{vars_of}
 use Rattle.palm_model.specs.Log.{Active, IsActive, IsListOf, same_pair}
 use Rattle.palm_model.specs.State.{EngineState, IsValid, present}
-use Rattle.palm_events.proofs.Conflicts.{conflict_active}
+use Rattle.palm_events.proofs.cited.Conflicts.{conflict_active}
 use Rattle.palm_search.specs.Turns.{HasFlatConflict, decided_vars}
 use Rattle.palm_repair.specs.Posting.{Nogood, is_decided, undecided}
 use Rattle.palm_repair.specs.Learned.{ShowsDecisions, is_shown, is_value, left_open, listed_pair}

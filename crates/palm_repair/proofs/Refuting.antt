@@ -5,7 +5,7 @@ use Rattle.std.proofs.lemmas.List.Elements.{All-contains}
 use Rattle.palm_base.specs.declared.terms.Pair.{Pair}
 use Rattle.palm_base.specs.declared.terms.Cid.{Cid}
 use Rattle.palm_base.specs.declared.terms.Cid.TheVariants.{Decide, Not, User}
-use Rattle.palm_base.proofs.Members.{member_nil, member_here, member_there, member_same, member_unmap, member_filter, filter_member, member_flat_map, flat_map_member}
+use Rattle.palm_base.proofs.cited.Members.{member_nil, member_here, member_there, member_same, member_unmap, member_filter, filter_member, member_flat_map, flat_map_member}
 use Rattle.palm_model.specs.Domains.{Assignment, Has}
 use Rattle.palm_model.specs.Part.{Satisfies}
 use Rattle.palm_model.specs.Constraint.{Distinct}
@@ -13,12 +13,12 @@ use Rattle.palm_model.specs.Closure.{IsSolution}
 use Rattle.palm_model.specs.Log.{Active, Named, Rises, cid_before}
 use Rattle.palm_model.specs.State.{EngineState, IsGround, is_user}
 use Rattle.palm_model.specs.Event.{Posts, WithdrawsAll, vars_of}
-use Rattle.palm_events.proofs.Names.{not_before_itself}
-use Rattle.palm_events.proofs.States.{member_with_posted, member_without_names}
-use Rattle.palm_events.proofs.Conflicts.{flat_unsolved, flat_grounds}
+use Rattle.palm_events.proofs.cited.Names.{not_before_itself}
+use Rattle.palm_events.proofs.cited.States.{member_with_posted, member_without_names}
+use Rattle.palm_events.proofs.cited.Conflicts.{flat_unsolved, flat_grounds}
 use Rattle.palm_search.specs.Turns.{SearchState, HasFlatConflict}
 use Rattle.palm_search.specs.Kept.{IsSearching}
-use Rattle.palm_search.proofs.Keeping.{satisfies_decision}
+use Rattle.palm_search.proofs.cited.Keeping.{satisfies_decision}
 use Rattle.palm_repair.specs.Posting.{Nogood, pairs_under, nogood_of}
 use Rattle.palm_repair.specs.Kept.{IsNogood}
 

@@ -6,28 +6,28 @@ use Rattle.std.proofs.lemmas.List.Elements.{Contains-push_cases}
 use Rattle.palm_base.specs.declared.terms.Pair.{Pair}
 use Rattle.palm_base.specs.declared.terms.Cid.{Cid}
 use Rattle.palm_base.specs.declared.terms.Cid.TheVariants.{Decide, Not}
-use Rattle.palm_base.proofs.Members.{member_nil, member_there, member_same, member_map, member_unmap, member_filter, filter_member}
+use Rattle.palm_base.proofs.cited.Members.{member_nil, member_there, member_same, member_map, member_unmap, member_filter, filter_member}
 use Rattle.palm_model.specs.Domains.{Has}
 use Rattle.palm_model.specs.Log.{Active, IsActive, cids_of, is_named}
-use Rattle.palm_model.specs.State.{EngineState, IsValid, IsGround, is_user}
+use Rattle.palm_model.specs.State.{EngineState, IsValid, IsGround, is_user, decision_of}
 use Rattle.palm_model.specs.Event.{Withdraws, WithdrawsAll, with_posted, without_names, gone_with}
 use Rattle.palm_model.specs.Event.Event.{Withdraw}
 use Rattle.palm_model.specs.Event.Step.{Happens}
 use Rattle.palm_events.specs.Along.{KeepsGrounds}
 use Rattle.palm_events.specs.Reasons.{ReasonsAreRight}
-use Rattle.palm_events.proofs.Names.{named_member, member_named}
-use Rattle.palm_events.proofs.States.{active_cid, cid_active, with_posted_cases, member_with_posted, without_names_member, member_without_names}
-use Rattle.palm_events.proofs.Valid.{withdraws_valid, withdraws_all_valid}
-use Rattle.palm_events.proofs.Conflicts.{step_justified, withdraws_justified}
-use Rattle.palm_engine.proofs.Settled.{settling_filters}
+use Rattle.palm_events.proofs.cited.Names.{named_member, member_named}
+use Rattle.palm_events.proofs.cited.States.{active_cid, cid_active, with_posted_cases, member_with_posted, without_names_member, member_without_names}
+use Rattle.palm_events.proofs.cited.Valid.{withdraws_valid, withdraws_all_valid}
+use Rattle.palm_events.proofs.cited.Conflicts.{step_justified, withdraws_justified}
+use Rattle.palm_engine.proofs.cited.Settled.{settling_filters}
 use Rattle.palm_search.specs.declared.turn.Pick.{Pick}
 use Rattle.palm_search.specs.declared.turn.Turn.{Turn}
 use Rattle.palm_search.specs.declared.turn.Turn.TheVariants.{Decide as TurnDecide, Undo as TurnUndo}
-use Rattle.palm_search.specs.Turns.{SearchState, Decides, HasFlatConflict, decision_of, decided_vars}
+use Rattle.palm_search.specs.Turns.{SearchState, Decides, HasFlatConflict, decided_vars}
 use Rattle.palm_search.specs.Kept.{HasOnlyUsers, IsSearching}
-use Rattle.palm_search.proofs.Deciding.{withdrawn_has, others_taken}
-use Rattle.palm_search.proofs.Keeping.{begins, user_not, takes_keep, settles_keep}
-use Rattle.palm_search.proofs.Leaving.{gone_no_user}
+use Rattle.palm_search.proofs.cited.Deciding.{withdrawn_has, others_taken}
+use Rattle.palm_search.proofs.cited.Keeping.{begins, user_not, takes_keep, settles_keep}
+use Rattle.palm_search.proofs.cited.Leaving.{gone_no_user}
 use Rattle.palm_repair.specs.Posting.{Nogood, Origin, RepairState, nogood_of, active_origins}
 use Rattle.palm_repair.specs.Repair.{RepairDecides, IsHeaviest, Drops, MakesRoom, RepairUndoes, RepairTakes, RepairSettles, RepairFollows, RepairTurns, raised_from, raised, negations_from, forced_by, repair_begun}
 use Rattle.palm_repair.specs.Kept.{IsNogood, IsNumbered, HasOrigins, IsRepairing}

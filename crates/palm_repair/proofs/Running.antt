@@ -1,25 +1,25 @@
 -- A run of a repair, turn after turn, and what is left after it.
 use Rattle.std.proofs.Common.{◌≡◌, ℕ, ◌+◌, ◌-◌, ◌<◌, ◌≤◌, Bool, None, Some, List, [], ◌∷◌, ◌++◌, length, map, min, Contains, ◌⊎◌, refl, sym, ap, ◌∙◌, subst, arith, length-append}
 use Rattle.palm_base.specs.declared.terms.Pair.{Pair}
-use Rattle.palm_base.proofs.Members.{member_unmap}
+use Rattle.palm_base.proofs.cited.Members.{member_unmap}
 use Rattle.palm_model.specs.Domains.{Domains}
 use Rattle.palm_model.specs.State.{EngineState, IsValid}
 use Rattle.palm_model.specs.Event.{WithdrawsAll}
-use Rattle.palm_events.proofs.Valid.{posts_valid, withdraws_all_valid}
+use Rattle.palm_events.proofs.cited.Valid.{posts_valid, withdraws_all_valid}
 use Rattle.palm_events.specs.Along.{IsStill}
 use Rattle.palm_events.specs.Reasons.{ReasonsAreRight}
 use Rattle.palm_engine.specs.Engine.{View, HasSettled, IsInterrupted}
 use Rattle.palm_engine.specs.Settling.{Filters}
 use Rattle.palm_engine.specs.declared.settle.Settle.{Settle}
-use Rattle.palm_engine.proofs.Settled.{filters_valid, settling_filters}
-use Rattle.palm_engine.proofs.Walking.{filters_then, revisions_filter, walk_filters}
+use Rattle.palm_engine.proofs.cited.Settled.{filters_valid, settling_filters}
+use Rattle.palm_engine.proofs.cited.Walking.{filters_then, revisions_filter, walk_filters}
 use Rattle.palm_search.specs.declared.turn.Turn.{Turn}
 use Rattle.palm_search.specs.Calls.{SearchView, search_state}
 use Rattle.palm_search.specs.Kept.{HasDecisions, HasOnlyUsers}
 use Rattle.palm_search.specs.Search.{search_cids}
-use Rattle.palm_search.proofs.Deciding.{settles_has}
-use Rattle.palm_search.proofs.Keeping.{begins}
-use Rattle.palm_search.proofs.Leaving.{Remembers, Returns, Searched, closing_leaves, closing_returns, remembers_filtered, remembers_none, remembers_posted, remembers_withdrawn, run_found, run_unsolved, run_users, searched_filtered, searched_none, searched_posted, searched_withdrawn, users_later}
+use Rattle.palm_search.proofs.cited.Deciding.{settles_has}
+use Rattle.palm_search.proofs.cited.Keeping.{begins}
+use Rattle.palm_search.proofs.cited.Leaving.{Remembers, Returns, Searched, closing_leaves, closing_returns, remembers_filtered, remembers_none, remembers_posted, remembers_withdrawn, run_found, run_unsolved, run_users, searched_filtered, searched_none, searched_posted, searched_withdrawn, users_later}
 use Rattle.palm_repair.specs.declared.answer.RepairAnswer.{RepairAnswer}
 use Rattle.palm_repair.specs.declared.answer.RepairAnswer.TheVariants.{Found, NoSolution, Spent}
 use Rattle.palm_repair.specs.Answers.{HasRepaired, IsTrueOf, end_of}
@@ -32,9 +32,9 @@ use Rattle.palm_repair.specs.Turning.{Advances, HasRun, HasTurned, IsBeginning, 
 use Rattle.palm_repair.specs.Turning.IsCutTurn.{cut_before, cut_within}
 use Rattle.palm_repair.specs.Turning.Moves.{moves_none, moves_posted, moves_withdrawn, moves_filtered}
 use Rattle.palm_repair.proofs.Blocking.{starts_at_turn}
-use Rattle.palm_repair.proofs.Counting.{repair_run_spent}
-use Rattle.palm_repair.proofs.Ending.{repair_ended}
-use Rattle.palm_repair.proofs.Existing.{settled_exists}
+use Rattle.palm_repair.proofs.cited.Counting.{repair_run_spent}
+use Rattle.palm_repair.proofs.cited.Ending.{repair_ended}
+use Rattle.palm_repair.proofs.cited.Existing.{settled_exists}
 use Rattle.palm_repair.proofs.Repairing.{repair_takes_keep}
 use Rattle.palm_repair.proofs.Stepping.{follows_ready, moves_then}
 

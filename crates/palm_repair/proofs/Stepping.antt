@@ -6,23 +6,23 @@ use Rattle.std.proofs.lemmas.List.Elements.{All-contains}
 use Rattle.palm_base.specs.declared.terms.Pair.{Pair}
 use Rattle.palm_base.specs.declared.terms.Cid.{Cid}
 use Rattle.palm_base.specs.declared.terms.Cid.TheVariants.{Decide, Not, User}
-use Rattle.palm_base.proofs.Members.{member_nil, member_here, member_there, member_cases, member_same, member_place}
+use Rattle.palm_base.proofs.cited.Members.{member_nil, member_here, member_there, member_cases, member_same, member_place}
 use Rattle.palm_model.specs.Constraint.{Distinct}
 use Rattle.palm_model.specs.Event.{Posts, Withdraws, gone_with}
 use Rattle.palm_model.specs.Log.{Active, Rises, cid_before}
-use Rattle.palm_model.specs.State.{EngineState, IsValid}
-use Rattle.palm_model.proofs.Narrowing.{has_declared}
+use Rattle.palm_model.specs.State.{EngineState, IsValid, decision_of}
+use Rattle.palm_model.proofs.cited.Narrowing.{has_declared}
 use Rattle.palm_events.specs.Reasons.{ReasonsAreRight}
-use Rattle.palm_events.proofs.Conflicts.{flat_grounds}
-use Rattle.palm_events.proofs.Names.{not_before_itself}
-use Rattle.palm_events.proofs.States.{gone_grounds}
+use Rattle.palm_events.proofs.cited.Conflicts.{flat_grounds}
+use Rattle.palm_events.proofs.cited.Names.{not_before_itself}
+use Rattle.palm_events.proofs.cited.States.{gone_grounds}
 use Rattle.palm_search.specs.declared.turn.Pick.{Pick}
 use Rattle.palm_search.specs.declared.turn.Turn.{Turn}
 use Rattle.palm_search.specs.declared.turn.Turn.TheVariants.{Decide as TurnDecide, Undo as TurnUndo}
 use Rattle.palm_search.specs.Calls.{SearchView, TakesBack, TakesTurn, search_state}
-use Rattle.palm_search.specs.Turns.{HasFlatConflict, decided_vars, decision_of}
-use Rattle.palm_search.proofs.Going.{vars_member}
-use Rattle.palm_search.proofs.Showing.{split_place}
+use Rattle.palm_search.specs.Turns.{HasFlatConflict, decided_vars}
+use Rattle.palm_search.proofs.cited.Going.{vars_member}
+use Rattle.palm_search.proofs.cited.Showing.{split_place}
 use Rattle.palm_repair.specs.Posting.{Nogood, RepairState, PostsAll, nogood_of}
 use Rattle.palm_repair.specs.Repair.{IsHeaviest, MakesRoom, RepairUndoes, RepairTakes, RepairFollows, raised, raised_from, weight_of}
 use Rattle.palm_repair.specs.Kept.{IsNogood, IsRepairing}
@@ -31,7 +31,7 @@ use Rattle.palm_repair.specs.Turning.{IsCutTurn, IsReady, Learns, Moves, TakesRe
 use Rattle.palm_repair.specs.Turning.IsCutTurn.{cut_within}
 use Rattle.palm_repair.specs.Turning.Moves.{moves_none, moves_posted, moves_withdrawn, moves_filtered}
 use Rattle.palm_repair.proofs.Blocking.{follows_at_turn}
-use Rattle.palm_repair.proofs.Existing.{posting_exists, room_exists, settles_short, takes_short}
+use Rattle.palm_repair.proofs.cited.Existing.{posting_exists, room_exists, settles_short, takes_short}
 use Rattle.palm_repair.proofs.Forcing.{posts_from_leaves}
 use Rattle.palm_repair.proofs.Refuting.{flat_nogood, nogood_kept, users_withdrawn}
 use Rattle.palm_repair.proofs.Repairing.{decided_repairing, decision_no_user, roomy_repairing, undone, withdrawn_repairing}

@@ -6,15 +6,15 @@ use Rattle.std.proofs.lemmas.List.Elements.{Contains-append_cases, Contains-appe
 use Rattle.palm_base.specs.declared.terms.Pair.{Pair}
 use Rattle.palm_base.specs.declared.terms.Cid.{Cid}
 use Rattle.palm_base.specs.declared.terms.Cid.TheVariants.{Not}
-use Rattle.palm_base.proofs.Members.{member_nil, member_here, member_there, member_same, member_single, member_map, member_unmap, member_filter, filter_member, filter_agree_members}
+use Rattle.palm_base.proofs.cited.Members.{member_nil, member_here, member_there, member_same, member_single, member_map, member_unmap, member_filter, filter_member, filter_agree_members}
 use Rattle.palm_base.specs.Tells.{Tells}
 use Rattle.palm_model.specs.Event.{Withdraws, WithdrawsAll, gone_with, lost_pairs, vars_of, without_names}
 use Rattle.palm_model.specs.Log.{Active, IsActive, Removal, Loses, cids_of, is_named}
 use Rattle.palm_model.specs.Log.Loses.{none_left, is_lost, is_kept}
 use Rattle.palm_model.specs.State.{EngineState, IsValid, woken}
-use Rattle.palm_events.proofs.Names.{named_member, member_named}
-use Rattle.palm_events.proofs.States.{active_cid, cid_active, form_grounds, member_without_names, without_names_member}
-use Rattle.palm_engine.proofs.Withdrawing.{loses_none, none_lost, withdraws_then, without_none}
+use Rattle.palm_events.proofs.cited.Names.{named_member, member_named}
+use Rattle.palm_events.proofs.cited.States.{active_cid, cid_active, form_grounds, member_without_names, without_names_member}
+use Rattle.palm_engine.proofs.cited.Withdrawing.{loses_none, none_lost, withdraws_then, without_none}
 use Rattle.palm_repair.specs.Posting.{Nogood, Origin, active_origins}
 use Rattle.palm_repair.specs.Repair.{Drops, MakesRoom, negations_from, forced_by}
 use Rattle.palm_repair.specs.Learned.{LearnedView, repair_state}

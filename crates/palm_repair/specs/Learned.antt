@@ -6,9 +6,8 @@ use Rattle.palm_base.specs.declared.terms.Cid.{Cid}
 use Rattle.palm_base.specs.declared.terms.Cid.TheVariants.{Decide, Not}
 use Rattle.palm_model.specs.Domains.{Has}
 use Rattle.palm_model.specs.Log.{IsActive}
-use Rattle.palm_model.specs.State.{EngineState, AreGrounds}
+use Rattle.palm_model.specs.State.{EngineState, AreGrounds, negation_of}
 use Rattle.palm_model.specs.Event.{Posts}
-use Rattle.palm_search.specs.Turns.{negation_of}
 use Rattle.palm_repair.specs.Posting.{Nogood, Origin, RepairState, justification}
 use Rattle.palm_repair.specs.Repair.{weight_of}
 

@@ -1,13 +1,13 @@
 -- Nogoods, and the negations that are posted for them.
 use Rattle.std.specs.Prelude.{◌≡◌, ℕ, ◌+◌, ◌⊎◌, Bool, not, List, [], ◌∷◌, ◌++◌, map, flat_map, filter, nat_eq}
 use Rattle.std.specs.List.{list_any}
-use Rattle.palm_model.specs.State.{is_user}
+use Rattle.palm_model.specs.State.{is_user, negation_of}
 use Rattle.palm_base.specs.declared.terms.Pair.{Pair}
 use Rattle.palm_base.specs.declared.terms.Cid.{Cid}
 use Rattle.palm_base.specs.declared.terms.Cid.TheVariants.{Decide, Not, User}
 use Rattle.palm_model.specs.Log.{Active, IsActive, same_pair, is_named, cids_of}
 use Rattle.palm_model.specs.Event.{Posts}
-use Rattle.palm_search.specs.Turns.{SearchState, negation_of}
+use Rattle.palm_search.specs.Turns.{SearchState}
 
 -- ---- nogoods
 

@@ -21,6 +21,8 @@ ghost use Rattle.palm_repair.specs.Repair.{MakesRoom, RepairTakes, RepairSettles
 ghost use Rattle.palm_repair.specs.Repair.{Repairs, RepairsTo, IsSameRepair, repair_begun};
 ghost use Rattle.palm_repair.specs.Kept.{ComesFrom, IsRepairing, HasNoneWhole, IsPosted, IsAtTurn};
 
+pub mod bound;
+
 /// A valid state in which no decision and no negation is active begins a repair.
 pub fn repairs_begin()
     ensures { (s : EngineState) → IsValid s → HasOnlyUsers s → IsRepairing (repair_begun s) }

@@ -3,7 +3,6 @@
 #![tactic(auto)]
 
 mod answer;
-pub mod bound;
 mod conflict;
 pub mod laws;
 mod learned;
@@ -12,7 +11,7 @@ mod turns;
 mod whole;
 
 pub use answer::RepairAnswer;
-pub use bound::{repairs_are_bounded, spent_budgets_are_small, undos_differ};
+pub use laws::bound::{repairs_are_bounded, spent_budgets_are_small, undos_differ};
 pub use laws::{
     found_values_are_a_solution, listed_nogoods_are_few, making_room_keeps_repairing,
     no_nogood_is_whole, posted_negations_are_justified, posting_keeps_repairing, repairs_begin,

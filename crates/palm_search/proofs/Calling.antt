@@ -6,18 +6,18 @@ use Rattle.std.proofs.lemmas.Option.{get_or_from_slice_get}
 use Rattle.palm_base.specs.declared.terms.Pair.{Pair}
 use Rattle.palm_base.specs.declared.terms.Cid.{Cid}
 use Rattle.palm_base.specs.declared.terms.Cid.TheVariants.{Decide}
-use Rattle.palm_base.proofs.Members.{member_nil, member_get}
+use Rattle.palm_base.proofs.cited.Members.{member_nil, member_get}
 use Rattle.palm_model.specs.Domains.{Domains}
 use Rattle.palm_model.specs.Log.{IsActive}
-use Rattle.palm_model.specs.State.{EngineState, IsValid, IsSettled, present}
+use Rattle.palm_model.specs.State.{EngineState, IsValid, IsSettled, present, decision_of}
 use Rattle.palm_model.specs.Event.{Posts, Withdraws}
 use Rattle.palm_search.specs.declared.turn.Pick.{Pick}
 use Rattle.palm_search.specs.Calls.{SearchView, TakesBack, search_state}
-use Rattle.palm_search.specs.Turns.{SearchState, IsDecided, decision_of}
+use Rattle.palm_search.specs.Turns.{SearchState, IsDecided}
 use Rattle.palm_search.specs.Kept.{HasDecisions}
-use Rattle.palm_search.proofs.Deciding.{decided_has, withdrawn_has, same_state}
-use Rattle.palm_search.proofs.Going.{open_undecided, decided_lawful}
-use Rattle.palm_search.proofs.Showing.{split_place}
+use Rattle.palm_search.proofs.cited.Deciding.{decided_has, withdrawn_has, same_state}
+use Rattle.palm_search.proofs.cited.Going.{open_undecided, decided_lawful}
+use Rattle.palm_search.proofs.cited.Showing.{split_place}
 
 -- ---- deciding
 

@@ -11,15 +11,15 @@ use Rattle.palm_model.specs.State.{EngineState, is_user}
 use Rattle.palm_model.specs.Event.{Posts, with_posted}
 use Rattle.palm_model.specs.Event.Event.{Post}
 use Rattle.palm_model.specs.Event.Step.{Happens}
-use Rattle.palm_events.proofs.States.{with_posted_cases}
-use Rattle.palm_events.proofs.Valid.{posts_valid}
-use Rattle.palm_events.proofs.Conflicts.{step_justified}
+use Rattle.palm_events.proofs.cited.States.{with_posted_cases}
+use Rattle.palm_events.proofs.cited.Valid.{posts_valid}
+use Rattle.palm_events.proofs.cited.Conflicts.{step_justified}
 use Rattle.palm_search.specs.Turns.{SearchState}
 use Rattle.palm_search.specs.Kept.{HasDecisions, HasDeclared, IsSearching}
 use Rattle.palm_search.specs.Measure.{negations_within, weighed, measure}
-use Rattle.palm_search.proofs.Deciding.{posted_has, same_state}
-use Rattle.palm_search.proofs.Measuring.{held, count_posted, weighed_is}
-use Rattle.palm_search.proofs.Weighing.{weighed_more}
+use Rattle.palm_search.proofs.cited.Deciding.{posted_has, same_state}
+use Rattle.palm_search.proofs.cited.Measuring.{held, count_posted, weighed_is}
+use Rattle.palm_search.proofs.cited.Weighing.{weighed_more}
 
 user_no_decision : (c : Cid) (x : ℕ) → is_user c ≡ true → c ≡ Decide x → ⊥
 user_no_decision c x t e = false≢true (subst (λ d. is_user d ≡ true) e t)

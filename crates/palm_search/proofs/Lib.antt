@@ -1,13 +1,4 @@
-pub mod Alone
 pub mod Calling
-pub mod Closing
-pub mod Deciding
-pub mod Going
+pub mod cited
 pub mod Joining
-pub mod Keeping
-pub mod Leaving
-pub mod Measuring
-pub mod Showing
 pub mod Solving
-pub mod Weighing
-pub mod Whole

@@ -4,7 +4,7 @@ use Rattle.std.proofs.lemmas.List.{length-map}
 use Rattle.palm_base.specs.declared.terms.Pair.{Pair}
 use Rattle.palm_base.specs.declared.terms.Cid.{Cid}
 use Rattle.palm_base.specs.declared.terms.Cid.TheVariants.{Decide, Not, User}
-use Rattle.palm_base.proofs.Members.{member_nil, member_here, member_there, member_cases, member_single, member_same, member_map, member_unmap, member_filter, filter_member}
+use Rattle.palm_base.proofs.cited.Members.{member_nil, member_here, member_there, member_cases, member_single, member_same, member_map, member_unmap, member_filter, filter_member}
 use Rattle.palm_model.specs.Domains.{Assignment, Has}
 use Rattle.palm_model.specs.Constraint.{scope}
 use Rattle.palm_model.specs.Linear.{term_vars}
@@ -17,13 +17,13 @@ use Rattle.palm_model.specs.State.{EngineState, IsValid, HasEmpty, IsGround, IsO
 use Rattle.palm_model.specs.declared.constraint.Con.{Con}
 use Rattle.palm_model.specs.declared.constraint.Con.TheVariants.{CompareVar, CompareConst, Linear, Table, Element, Count, Differ}
 use Rattle.palm_model.specs.declared.part.Part.{Part}
-use Rattle.palm_model.proofs.Assignments.{holds_agree}
-use Rattle.palm_model.proofs.Formed.{sum_part, differ_part, part_scope}
-use Rattle.palm_model.proofs.Without.{length_without, without_inside}
+use Rattle.palm_model.proofs.cited.Assignments.{holds_agree}
+use Rattle.palm_model.proofs.cited.Formed.{sum_part, differ_part, part_scope}
+use Rattle.palm_model.proofs.cited.Without.{length_without, without_inside}
 use Rattle.palm_events.specs.Along.{IsStill}
-use Rattle.palm_events.proofs.Valid.{active_declared}
-use Rattle.palm_events.proofs.Runs.{quiet_closed}
-use Rattle.palm_events.proofs.Conflicts.{flat_unsolved, flat_grounds}
+use Rattle.palm_events.proofs.cited.Valid.{active_declared}
+use Rattle.palm_events.proofs.cited.Runs.{quiet_closed}
+use Rattle.palm_events.proofs.cited.Conflicts.{flat_unsolved, flat_grounds}
 use Rattle.palm_search.specs.Turns.{SearchState, decided_vars}
 use Rattle.palm_search.specs.Search.{HasNoSolution, IsFound}
 use Rattle.palm_search.specs.Kept.{IsSearching}

@@ -5,11 +5,11 @@ use Rattle.palm_base.specs.declared.terms.Cid.TheVariants.{Decide, Not}
 use Rattle.palm_model.specs.Domains.{Has}
 use Rattle.palm_model.specs.Constraint.{Distinct}
 use Rattle.palm_model.specs.Log.{Active, IsActive}
-use Rattle.palm_model.specs.State.{EngineState, IsValid, is_user}
+use Rattle.palm_model.specs.State.{EngineState, IsValid, is_user, decision_of}
 use Rattle.palm_model.specs.Event.{vars_of}
 use Rattle.palm_model.specs.Conflict.{AreJustified}
 use Rattle.palm_events.specs.Along.{IsStill}
-use Rattle.palm_search.specs.Turns.{SearchState, decision_of}
+use Rattle.palm_search.specs.Turns.{SearchState}
 
 -- only constraints of users are active
 abbrev pub HasOnlyUsers : EngineState → Type 0

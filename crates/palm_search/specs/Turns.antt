@@ -4,12 +4,9 @@ use Rattle.palm_base.specs.declared.terms.Pair.{Pair}
 use Rattle.palm_base.specs.declared.terms.Cid.{Cid}
 use Rattle.palm_base.specs.declared.terms.Cid.TheVariants.{Decide, Not, User}
 use Rattle.palm_model.specs.Domains.{Domains, Has, values_of}
-use Rattle.palm_model.specs.Log.{Active}
-use Rattle.palm_model.specs.State.{EngineState, IsEmptyAt, AllFilled, present, without_cid}
+use Rattle.palm_model.specs.State.{EngineState, IsEmptyAt, AllFilled, present, without_cid, decision_of, negation_of}
 use Rattle.palm_model.specs.Event.{Posts, Withdraws}
 use Rattle.palm_model.specs.Conflict.{IsFlatConflict}
-use Rattle.palm_model.specs.declared.constraint.Con.TheVariants.{CompareConst}
-use Rattle.palm_model.specs.declared.constraint.Op.TheVariants.{Eq, Ne}
 use Rattle.palm_engine.specs.Settling.{Revision, Settles, FitsOrder}
 use Rattle.palm_search.specs.declared.turn.Pick.{Pick}
 use Rattle.palm_search.specs.declared.turn.Pick.TheVariants.{NoGuide, Nothing, Asked}
@@ -20,13 +17,6 @@ use Rattle.palm_search.specs.declared.turn.Turn.TheVariants.{Decide as TurnDecid
 pub record SearchState : Type 0 where
   pub engine : EngineState
   pub decisions : List Pair
-
--- the decision of a pair, and its negation with a justification, as active constraints
-abbrev pub decision_of : Pair → Active
-decision_of p = record { cid = Decide p.var; con = CompareConst p.var Eq p.value; because = [] }
-
-abbrev pub negation_of : Pair → List Cid → Active
-negation_of p because = record { cid = Not p; con = CompareConst p.var Ne p.value; because = because }
 
 -- ---- decisions
 

@@ -14,6 +14,8 @@ ghost use Rattle.palm_search.specs.Search.{SearchEnd, Searches, SearchesTo, IsSa
 ghost use Rattle.palm_search.specs.Search.SearchEnd.{Found, NoSolution};
 ghost use Rattle.palm_search.specs.Kept.{HasOnlyUsers, IsSearching, Rests};
 
+pub mod bound;
+
 /// A valid state in which no decision and no negation is active begins a search.
 pub fn searches_begin()
     ensures { (s : EngineState) → IsValid s → HasOnlyUsers s → IsSearching (begun s) }

@@ -1,19 +1,18 @@
 //! The turns that every way of searching is made of, the run of mac-dbt, and the laws on them.
 #![tactic(auto)]
 
-pub mod bound;
 mod choice;
 pub mod laws;
 mod search;
 pub mod turn;
 mod view;
 
-pub use bound::{
+pub use choice::open_variable;
+pub use laws::bound::{
     deciding_keeps_the_measure, posting_users_keeps_searching, searches_are_bounded,
     settling_leaves_the_measure, spent_budgets_are_small, the_measure_is_bounded,
     undoing_raises_the_measure,
 };
-pub use choice::open_variable;
 pub use laws::{
     found_values_are_a_solution, searches_begin, searches_exist, searches_leave_the_constraints,
     searches_leave_the_log, searches_without_guide_and_order_are_unique, settlings_keep_searching,

@@ -10,8 +10,8 @@ use Rattle.palm_session.specs.Effects.{Effect, Nothing, Does, Changes, Next, Res
 use Rattle.palm_session.specs.Refusals.{IsNone, Meets, in_order}
 use Rattle.palm_session.specs.Serving.{Serves, accepts, AsksFor, asks_after, AsksWithin, Followed, TellsDomains, TellsUnlessPaused, TellsOpenly, tells_word, tells_own, Withholds}
 use Rattle.palm_session.specs.State.{SessionState, IsHeld, IsState}
-use Rattle.palm_session.proofs.LawsOfChanges.{rests_paused}
-use Rattle.palm_session.proofs.LawsOfStates.{follows_keeps}
+use Rattle.palm_session.proofs.cited.LawsOfChanges.{rests_paused}
+use Rattle.palm_session.proofs.cited.LawsOfStates.{follows_keeps}
 
 -- a state that does not wait
 pub awake_goes : (s : SessionState) (line : Line) → s.paused ≡ false → WaitsFor s line → ⊥

@@ -5,14 +5,14 @@ use Rattle.std.proofs.lemmas.Bool.{false≢true}
 use Rattle.std.proofs.lemmas.List.Elements.{Contains-push, Contains-push_cases, Contains-append_left}
 use Rattle.palm_base.specs.declared.terms.Cid.{Cid}
 use Rattle.palm_base.specs.declared.terms.Cid.TheVariants.{User}
-use Rattle.palm_base.proofs.Members.{member_nil, member_here, member_there, member_cases, member_same, member_map, member_unmap, member_filter, filter_member, member_get, remove_member}
+use Rattle.palm_base.proofs.cited.Members.{member_nil, member_here, member_there, member_cases, member_same, member_map, member_unmap, member_filter, filter_member, member_get, remove_member}
 use Rattle.palm_model.specs.Log.{Active, IsActive, cids_of, is_named}
 use Rattle.palm_model.specs.Event.{with_posted, without_names, gone_with}
 use Rattle.palm_book.specs.Book.{Contents, IsBook, user_at, active_of, with_active}
 use Rattle.palm_book.specs.declared.book.BookCon.{BookCon}
-use Rattle.palm_book.proofs.Actives.{actives_rise}
-use Rattle.palm_events.proofs.States.{active_cid, with_posted_cases, with_posted_here, member_with_posted, with_posted_rises, without_names_member, member_without_names, without_names_rises}
-use Rattle.palm_events.proofs.Undone.{active_same}
+use Rattle.palm_book.proofs.cited.Actives.{actives_rise}
+use Rattle.palm_events.proofs.cited.States.{active_cid, with_posted_cases, with_posted_here, member_with_posted, with_posted_rises, without_names_member, member_without_names, without_names_rises}
+use Rattle.palm_events.proofs.cited.Undone.{active_same}
 
 -- ---- the constraint at a place, and the others
 

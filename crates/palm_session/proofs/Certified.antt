@@ -3,15 +3,15 @@ use Rattle.std.proofs.Common.{◌≡◌, ℕ, ℤ, ◌<◌, List, length, Contai
 use Rattle.std.proofs.lemmas.Bool.{cases_Bool, false≢true}
 use Rattle.palm_model.specs.Domains.{Domains, Has, is_among}
 use Rattle.palm_model.specs.Log.{log_pairs}
-use Rattle.palm_model.proofs.Without.{pair_of, among_member, has_without, member_among}
+use Rattle.palm_model.proofs.cited.Without.{pair_of, among_member, has_without, member_among}
 use Rattle.palm_book.specs.Book.{initial_of, name_of}
 use Rattle.palm_read.specs.declared.line.Line.TheVariants.{Cert, CertConflict}
 use Rattle.palm_cert.specs.Certificate.{certificate_text}
 use Rattle.palm_cert.specs.Needs.{CanClaim}
 use Rattle.palm_events.specs.Scoped.{HasScopedReasons}
-use Rattle.palm_cert.proofs.Accepted.{certificate_accepted}
-use Rattle.palm_cert.proofs.Logged.{claim_declared}
-use Rattle.palm_cert.proofs.Readable.{readable}
+use Rattle.palm_cert.proofs.cited.Accepted.{certificate_accepted}
+use Rattle.palm_cert.proofs.cited.Logged.{claim_declared}
+use Rattle.palm_cert.proofs.cited.Readable.{readable}
 use Rattle.palm_claim.specs.declared.verdict.Claim.{Claim}
 use Rattle.palm_claim.specs.declared.verdict.Claim.TheVariants.{Gone, Conflict as ConflictClaim}
 use Rattle.palm_session.specs.State.{SessionState, IsState, AreDomains, IsContradiction}
@@ -21,9 +21,9 @@ use Rattle.palm_cert.specs.Accepted.{IsAccepted}
 use Rattle.palm_session.specs.Told.{ToldCert, ToldCertConflict}
 use Rattle.palm_session.specs.Told.ToldCert.{cert_paused, cert_contradiction, cert_present, cert_accepted}
 use Rattle.palm_session.specs.Told.ToldCertConflict.{claim_paused, claim_none, claim_accepted}
-use Rattle.palm_session.proofs.LawsOfAnswers.{awake_for, query_same}
+use Rattle.palm_session.proofs.cited.LawsOfAnswers.{awake_for, query_same}
 use Rattle.palm_session.proofs.LawsOfDomains.{printed_domains}
-use Rattle.palm_session.proofs.LawsOfStates.{domains_once}
+use Rattle.palm_session.proofs.cited.LawsOfStates.{domains_once}
 use Rattle.palm_session.proofs.Telling.{declared_value}
 
 -- what is printed for a claim that holds is accepted

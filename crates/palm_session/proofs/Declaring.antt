@@ -3,7 +3,7 @@ use Rattle.std.proofs.Common.{◌≡◌, ℕ, zero, suc, ℤ, ◌<◌, List, [],
 use Rattle.std.proofs.lemmas.List.Elements.{Contains-get_or}
 use Rattle.std.proofs.lemmas.List.{get_or_default}
 use Rattle.palm_book.specs.Book.{Entry, name_of}
-use Rattle.palm_book.proofs.Any.{any_member}
+use Rattle.palm_book.proofs.cited.Any.{any_member}
 use Rattle.palm_model.specs.Domains.{Domains, Has, values_of}
 use Rattle.palm_session.specs.Refusals.{IsUndeclared}
 use Rattle.palm_session.specs.State.{SessionState, IsHeld}

@@ -1,6 +1,6 @@
 -- Steps of writing.
 use Rattle.std.proofs.Common.{◌≡◌, ℕ, ◌+◌, ◌<◌, ◌≤◌, List, flat_map, get_or, subst, ◌++◌, length, take, drop, refl, sym, ap, ◌∙◌, append_assoc, arith, [], Result, Ok, Err}
-use Rattle.palm_base.proofs.StreamLemmas.{appended_both}
+use Rattle.palm_base.proofs.cited.StreamLemmas.{appended_both}
 use Rattle.std.proofs.Common.{ℤ, zip, option_to_list, append-nil, slice_get, Some, zero, suc, ◌∷◌}
 use Rattle.std.proofs.lemmas.Option.{get_or_from_slice_get}
 use Rattle.std.proofs.lemmas.Slice.Zip.{get_or-zip, length-zip}

@@ -3,14 +3,14 @@ use Rattle.std.proofs.Common.{◌≡◌, ℕ, ℤ, Bool, true, false, List, Cont
 use Rattle.std.specs.Prelude.{is_some, not, slice_get}
 use Rattle.palm_base.specs.declared.terms.Pair.{Pair}
 use Rattle.palm_base.specs.declared.terms.Cid.{Cid}
-use Rattle.palm_base.proofs.Members.{member_get}
+use Rattle.palm_base.proofs.cited.Members.{member_get}
 use Rattle.palm_lang.specs.Reply.{fixed_text}
 use Rattle.palm_lang.specs.declared.reply.Fixed.TheVariants.{Present}
 use Rattle.palm_lang.specs.declared.reply.Lead.TheVariants.{Because}
 use Rattle.palm_model.specs.Domains.{Has}
 use Rattle.palm_model.specs.Log.{Removal, NamesOfPair, IsListOf, log_pairs}
 use Rattle.palm_model.specs.State.{present}
-use Rattle.palm_model.proofs.Supports.{has_without, without_has}
+use Rattle.palm_model.proofs.cited.Supports.{has_without, without_has}
 use Rattle.palm_cert.specs.Certificate.{certificate_text}
 use Rattle.palm_claim.specs.declared.verdict.Claim.TheVariants.{Gone}
 use Rattle.palm_session.specs.Answers.{SaysCert, SaysWhy, users_text}

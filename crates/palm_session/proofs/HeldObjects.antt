@@ -1,6 +1,6 @@
 -- The numbers of objects, and the chosen one, as a session holds them.
 use Rattle.std.proofs.Common.{◌≡◌, ℕ, ◌==◌, Bool, true, false, not, if◌then◌else◌, Option, None, Some, List, Contains, IfSome, inl, inr, refl, ap}
-use Rattle.palm_base.proofs.Members.{nat_known, member_known, filter_member, member_filter}
+use Rattle.palm_base.proofs.cited.Members.{nat_known, member_known, filter_member, member_filter}
 use Rattle.palm_session.specs.Objects.{without_number, chosen_without}
 use Rattle.palm_session.specs.State.{SessionState, IsHeld}
 

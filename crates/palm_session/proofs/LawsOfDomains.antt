@@ -3,24 +3,24 @@ use Rattle.std.proofs.Common.{◌≡◌, ◌↔◌, ℕ, zero, suc, ◌≤◌, �
 use Rattle.std.proofs.lemmas.Bool.{false≢true}
 use Rattle.palm_base.specs.declared.terms.Pair.{Pair}
 use Rattle.palm_base.specs.declared.terms.Cid.{Cid}
-use Rattle.palm_base.proofs.Members.{member_nil, member_here, member_same}
+use Rattle.palm_base.proofs.cited.Members.{member_nil, member_here, member_same}
 use Rattle.palm_model.specs.Domains.{Domains, Has, IsInside, values_of}
 use Rattle.palm_model.specs.Closure.{IsGreatest, Explains, IsConflict}
 use Rattle.palm_model.specs.Conflict.{InConflict}
 use Rattle.palm_model.specs.Log.{Active, IsActive, Named, Removal, Names, NamesOfPair, IsListOf, cons_of, log_pairs}
 use Rattle.palm_model.specs.State.{HasEmpty, IsEmptyAt, present}
-use Rattle.palm_model.proofs.Without.{pair_of, length_without}
-use Rattle.palm_laws.proofs.Solutions.{explains_more}
+use Rattle.palm_model.proofs.cited.Without.{pair_of, length_without}
+use Rattle.palm_laws.proofs.cited.Solutions.{explains_more}
 use Rattle.palm_book.specs.Book.{initial_of, active_of}
-use Rattle.palm_events.proofs.Agreeing.{pair_known, gone_member}
-use Rattle.palm_events.proofs.Conflicts.{names_active, conflict_active, kept_conflict}
-use Rattle.palm_events.proofs.Logs.{logged, pair_logged, removal_explained}
-use Rattle.palm_events.proofs.Outcomes.{explanation_listed, conflict_listed}
-use Rattle.palm_events.proofs.Runs.{present_includes, quiet_greatest}
-use Rattle.palm_events.proofs.Undone.{logged_once}
+use Rattle.palm_events.proofs.cited.Agreeing.{pair_known, gone_member}
+use Rattle.palm_events.proofs.cited.Conflicts.{names_active, conflict_active, kept_conflict}
+use Rattle.palm_events.proofs.cited.Logs.{logged, pair_logged, removal_explained}
+use Rattle.palm_events.proofs.cited.Outcomes.{explanation_listed, conflict_listed}
+use Rattle.palm_events.proofs.cited.Runs.{present_includes, quiet_greatest}
+use Rattle.palm_events.proofs.cited.Undone.{logged_once}
 use Rattle.palm_session.specs.State.{SessionState, IsHeld, IsState, AreDomains, IsContradiction, has_empty}
 use Rattle.palm_session.specs.Answers.{HasConflict}
-use Rattle.palm_session.proofs.LawsOfStates.{domains_exist, domains_once}
+use Rattle.palm_session.proofs.cited.LawsOfStates.{domains_exist, domains_once}
 
 -- ---- empty domains
 

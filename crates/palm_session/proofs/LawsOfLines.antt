@@ -5,7 +5,7 @@ use Rattle.std.proofs.lemmas.Bool.{cases_lt}
 use Rattle.std.proofs.lemmas.Int.{ints, by_lt_z}
 use Rattle.std.proofs.lemmas.List.{get_or_default}
 use Rattle.std.proofs.lemmas.List.Elements.{All-nil, All-cons, All-head, All-tail, All-append, All-contains, Contains-append_left, Contains-append_right}
-use Rattle.palm_base.proofs.Members.{Known, known_like, list_known, nat_known, any_known, all_members}
+use Rattle.palm_base.proofs.cited.Members.{Known, known_like, list_known, nat_known, any_known, all_members}
 use Rattle.palm_model.specs.Constraint.{scope}
 use Rattle.palm_model.specs.Count.{target_scope}
 use Rattle.palm_model.specs.Linear.{term_vars}
@@ -30,8 +30,8 @@ use Rattle.palm_read.specs.declared.line.NameTerm.{NameTerm}
 use Rattle.palm_read.specs.declared.line.Shape.{Shape}
 use Rattle.palm_read.specs.declared.line.Shape.TheVariants.{CompareVar, CompareConst, Linear, Table, Element, Count, Differ}
 use Rattle.palm_read.specs.declared.parse.LineError.TheVariants.{Bytes, NoMemory}
-use Rattle.palm_read.proofs.Parsing.{one_reading, read_not_refused, each_answered, long_refused}
-use Rattle.palm_read.proofs.Ranges.{same_form, line_in}
+use Rattle.palm_read.proofs.cited.Parsing.{one_reading, read_not_refused, each_answered, long_refused}
+use Rattle.palm_read.proofs.cited.Ranges.{same_form, line_in}
 use Rattle.palm_session.specs.Effects.{HasTabu}
 
 -- ---- what is known

@@ -2,19 +2,19 @@
 use Rattle.std.proofs.Common.{◌≡◌, ℕ, ℤ, List, Contains, inl, inr, refl, subst}
 use Rattle.palm_base.specs.declared.terms.Cid.{Cid}
 use Rattle.palm_base.specs.declared.terms.Pair.{Pair}
-use Rattle.palm_laws.proofs.Solutions.{explains_more}
+use Rattle.palm_laws.proofs.cited.Solutions.{explains_more}
 use Rattle.palm_model.specs.Log.{Named, cons_of}
 use Rattle.palm_book.specs.Book.{Contents, active_of, initial_of}
 use Rattle.palm_read.specs.declared.line.Line.TheVariants.{MinimalConflict, Minimal}
-use Rattle.palm_reduce.specs.Minimal.{AreConflict, DoExplain, IsMinimalConflict, IsMinimalExplanation}
-use Rattle.palm_reduce.proofs.Growing.{conflict_more}
-use Rattle.palm_reduce.proofs.Reducing.{minimal_holds, minimal_named}
+use Rattle.palm_model.specs.Minimal.{AreConflict, DoExplain, IsMinimalConflict, IsMinimalExplanation}
+use Rattle.palm_laws.proofs.cited.Growing.{conflict_more}
+use Rattle.palm_laws.proofs.cited.Reducing.{minimal_holds, minimal_named}
 use Rattle.palm_session.specs.State.{SessionState}
 use Rattle.palm_session.specs.Answers.{Says, Accepts, waits, contradicts, says}
 use Rattle.palm_session.specs.Told.{IsConflictOf, IsExplanation, ToldMinimal, ToldMinimalConflict}
 use Rattle.palm_session.specs.Told.ToldMinimal.{minimal_paused, minimal_contradiction, minimal_present, minimal_because}
 use Rattle.palm_session.specs.Told.ToldMinimalConflict.{least_paused, least_none, least_named}
-use Rattle.palm_session.proofs.LawsOfAnswers.{query_same}
+use Rattle.palm_session.proofs.cited.LawsOfAnswers.{query_same}
 use Rattle.palm_session.proofs.Users.{minimal_active}
 
 module _ (book : Contents) where

@@ -5,7 +5,7 @@ use Rattle.palm_session.specs.Feeding.{IsSession, view_of}
 use Rattle.palm_session.specs.Lines.{IsUnfinished}
 use Rattle.palm_session.specs.Serving.{DeskView}
 use Rattle.palm_session.specs.State.{fresh}
-use Rattle.palm_session.proofs.LawsOfStates.{fresh_is}
+use Rattle.palm_session.proofs.cited.LawsOfStates.{fresh_is}
 
 none_kept : IsUnfinished []
 none_kept = record { few = omega arith; unbroken = All-nil (λ b. b ≡ 10 → ⊥) }

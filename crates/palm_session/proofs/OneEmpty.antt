@@ -4,38 +4,38 @@ use Rattle.std.proofs.lemmas.Bool.{cases_lt}
 use Rattle.std.proofs.lemmas.List.Elements.{All-head, All-tail}
 use Rattle.palm_base.specs.declared.terms.Pair.{Pair}
 use Rattle.palm_base.specs.declared.terms.Cid.{Cid}
-use Rattle.palm_base.proofs.Members.{member_nil, member_here, nat_known}
+use Rattle.palm_base.proofs.cited.Members.{member_nil, member_here, nat_known}
 use Rattle.palm_model.specs.Domains.{Domains, Has, is_among, values_of, without}
 use Rattle.palm_model.specs.Log.{Active, Removal, log_pairs}
 use Rattle.palm_model.specs.State.{EngineState, IsEmptyAt, IsValid, present}
 use Rattle.palm_model.specs.Event.{Posts, WithdrawsAll, Removes, Declares, Step, StepLeads, Runs, removed, removal_of}
 use Rattle.palm_model.specs.Event.Event.{Post, Withdraw, Remove}
 use Rattle.palm_model.specs.Event.Step.{Happens, Calm, Declare}
-use Rattle.palm_model.proofs.Narrowing.{has_declared}
-use Rattle.palm_model.proofs.Without.{pair_of, has_without, length_without, values_of_without}
+use Rattle.palm_model.proofs.cited.Narrowing.{has_declared}
+use Rattle.palm_model.proofs.cited.Without.{pair_of, has_without, length_without, values_of_without}
 use Rattle.palm_book.specs.declared.book.BookCon.{BookCon}
 use Rattle.palm_read.specs.Domain.{values_in}
 use Rattle.palm_read.specs.Sound.{IsSound}
 use Rattle.palm_read.specs.declared.line.Line.{Line}
 use Rattle.palm_read.specs.declared.line.Line.TheVariants.{Comment, Var, Add, Relax, Enforce, Retract, Domains as DomainsLine, Domain, List as ListLine, Log, Why, Conflict, MinimalConflict, Minimal, Cert, CertConflict, Pause, Resume, Step as StepLine, SolveDbt, SolveRepair, Guide, GuideNone, Order, OrderNone, DropGuide, DropOrder, Quit}
-use Rattle.palm_read.proofs.SoundLines.{read_sound}
+use Rattle.palm_read.proofs.cited.SoundLines.{read_sound}
 use Rattle.palm_events.specs.Along.{IsFiltering, IsStill}
-use Rattle.palm_events.proofs.Agreeing.{values_of_more}
-use Rattle.palm_events.proofs.Logs.{logged}
-use Rattle.palm_events.proofs.Valid.{has_removed, left_grows}
-use Rattle.palm_engine.proofs.Settled.{settling_filters}
+use Rattle.palm_events.proofs.cited.Agreeing.{values_of_more}
+use Rattle.palm_events.proofs.cited.Logs.{logged}
+use Rattle.palm_events.proofs.cited.Valid.{has_removed, left_grows}
+use Rattle.palm_engine.proofs.cited.Settled.{settling_filters}
 use Rattle.palm_session.specs.State.{SessionState, IsHeld, IsState, fresh}
 use Rattle.palm_search.specs.declared.turn.Turn.{Turn}
 use Rattle.palm_session.specs.Refusals.{Meets, in_order, IsNone}
 use Rattle.palm_session.specs.Effects.{SearchEnd, Effect, Nothing, Settled, Searched, Next, Rests, Filters, Procedure, Searches, next, SettlesIn, SearchesIn, Follows, Does, Changes, WithdrawsActive}
 use Rattle.palm_session.specs.Answers.{WaitsFor, Accepts, waits, contradicts, says, Answers, misread, refused, accepted}
 use Rattle.palm_session.specs.Replies.{Run}
-use Rattle.palm_session.proofs.LawsOfAnswers.{answers_keep}
-use Rattle.palm_session.proofs.LawsOfChanges.{changes_keep, line_values, withdraws_cases}
+use Rattle.palm_session.proofs.cited.LawsOfAnswers.{answers_keep}
+use Rattle.palm_session.proofs.cited.LawsOfChanges.{changes_keep, line_values, withdraws_cases}
 use Rattle.palm_session.proofs.Searching.{search_leaves_still, search_log}
 use Rattle.palm_session.proofs.Searched.{still_before}
 use Rattle.palm_session.proofs.LawsOfDomains.{inside_empty}
-use Rattle.palm_session.proofs.LawsOfStates.{fresh_is}
+use Rattle.palm_session.proofs.cited.LawsOfStates.{fresh_is}
 use Rattle.palm_session.proofs.Users.{declared_from}
 
 -- no two variables are empty

@@ -3,7 +3,7 @@ use Rattle.std.proofs.Common.{◌≡◌, ℕ, zero, suc, ◌+◌, ◌<◌, ◌�
 use Rattle.std.proofs.lemmas.List.{get_or-set_same, get_or-set_other, length-set}
 use Rattle.std.proofs.lemmas.Option.{slice_get_within, get_or_from_slice_get, slice_get_read}
 use Rattle.palm_base.specs.Tells.{Tells}
-use Rattle.palm_base.proofs.Members.{nat_known, member_nil, member_here, member_there, member_cases, member_same}
+use Rattle.palm_base.proofs.cited.Members.{nat_known, member_nil, member_here, member_there, member_cases, member_same}
 use Rattle.palm_session.specs.Objects.{ObjectsView, numbered, numbered_from, without_number, chosen_without, numbers_from, number_at, objects_at, ArePlaces}
 
 -- ---- all of them

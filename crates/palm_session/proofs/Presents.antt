@@ -1,11 +1,11 @@
 -- The present ones of declared values.
 use Rattle.std.proofs.Common.{◌≡◌, ℕ, ◌+◌, ◌<◌, Bool, true, false, cond, List, [], ◌∷◌, ◌++◌, length, take, get_or, filter, Contains, ℤ, refl, sym, ap, ◌∙◌, subst, append-nil}
 use Rattle.std.proofs.lemmas.List.Elements.{filter_more}
-use Rattle.palm_base.proofs.Members.{filter_member, member_filter}
+use Rattle.palm_base.proofs.cited.Members.{filter_member, member_filter}
 use Rattle.palm_model.specs.Domains.{Ascends}
 use Rattle.palm_model.specs.Removed.{is_listed}
-use Rattle.palm_model.proofs.Ascending.{ascends_filter, ascending_same}
-use Rattle.palm_model.proofs.Reasons.{listed_member, member_listed}
+use Rattle.palm_model.proofs.cited.Ascending.{ascends_filter, ascending_same}
+use Rattle.palm_model.proofs.cited.Reasons.{listed_member, member_listed}
 
 pub not_listed : (vs : List ℤ) (v : ℤ) → (Contains vs v → ⊥) → is_listed vs v ≡ false
 not_listed vs v missing = go (is_listed vs v) refl

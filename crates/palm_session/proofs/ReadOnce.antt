@@ -6,7 +6,7 @@ use Rattle.palm_read.specs.declared.line.Line.TheVariants.{Quit}
 use Rattle.palm_read.specs.declared.parse.LineError.{LineError}
 use Rattle.palm_read.specs.declared.parse.LineError.TheVariants.{NoMemory}
 use Rattle.palm_lang.specs.declared.reply.Refusal.{Refusal}
-use Rattle.palm_read.proofs.Parsing.{one_reading, read_not_refused}
+use Rattle.palm_read.proofs.cited.Parsing.{one_reading, read_not_refused}
 use Rattle.palm_session.specs.Refusals.{refusal_of}
 use Rattle.palm_session.specs.Replies.{GoesOn}
 

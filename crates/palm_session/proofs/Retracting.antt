@@ -1,13 +1,13 @@
 -- Adding a constraint and then retracting it gives back the book, and so the greatest closed domains.
 use Rattle.std.proofs.Common.{◌≡◌, ◌↔◌, ℕ, zero, suc, List, [], ◌∷◌, ◌++◌, Some, Contains, slice_get, remove, refl, sym, ap, ◌∙◌, subst}
 use Rattle.std.proofs.lemmas.Option.{same_Some, none-some}
-use Rattle.palm_base.proofs.Members.{member_here, member_there}
+use Rattle.palm_base.proofs.cited.Members.{member_here, member_there}
 use Rattle.palm_model.specs.Closure.{IsGreatest}
 use Rattle.palm_model.specs.Domains.{Domains}
 use Rattle.palm_model.specs.Log.{cons_of}
 use Rattle.palm_book.specs.Book.{Contents, initial_of, active_of}
 use Rattle.palm_book.specs.declared.book.BookCon.{BookCon}
-use Rattle.palm_book.proofs.Any.{any_member}
+use Rattle.palm_book.proofs.cited.Any.{any_member}
 use Rattle.palm_read.specs.declared.line.Line.{Line}
 use Rattle.palm_read.specs.declared.line.Line.TheVariants.{Add, Retract, Domains as DomainsLine}
 use Rattle.palm_read.specs.declared.line.Shape.{Shape}
@@ -15,7 +15,7 @@ use Rattle.palm_session.specs.State.{SessionState, AreDomains, IsContradiction}
 use Rattle.palm_session.specs.Refusals.{Meets, in_order, IsNone}
 use Rattle.palm_session.specs.Effects.{Effect, Nothing, Settled, Searched, Next, Rests, Filters, Searches, Follows, Does, next, next_constraint, IsNamed}
 use Rattle.palm_session.specs.Answers.{IsPausable, domains_text, Says, Accepts, waits, contradicts, says}
-use Rattle.palm_session.proofs.LawsOfStates.{follows_book, rests_same}
+use Rattle.palm_session.proofs.cited.LawsOfStates.{follows_book, rests_same}
 
 -- the last of a list goes where no other one has its name
 last_removed : (cs : List BookCon) (c d : BookCon) (place : ℕ) → slice_get (cs ++ c ∷ []) place ≡ Some d → ((x : BookCon) → Contains cs x → x ≡ d → ⊥) → remove (cs ++ c ∷ []) place ≡ cs

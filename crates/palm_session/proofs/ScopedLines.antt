@@ -12,20 +12,20 @@ use Rattle.palm_read.specs.Domain.{values_in}
 use Rattle.palm_read.specs.Sound.{IsSound}
 use Rattle.palm_read.specs.declared.line.Line.{Line}
 use Rattle.palm_read.specs.declared.line.Line.TheVariants.{Comment, Var, Add, Relax, Enforce, Retract, Domains as DomainsLine, Domain, List as ListLine, Log, Why, Conflict, MinimalConflict, Minimal, Cert, CertConflict, Pause, Resume, Step as StepLine, SolveDbt, SolveRepair, Guide, GuideNone, Order, OrderNone, DropGuide, DropOrder, Quit}
-use Rattle.palm_read.proofs.SoundLines.{read_sound}
+use Rattle.palm_read.proofs.cited.SoundLines.{read_sound}
 use Rattle.palm_events.specs.Along.{IsStill}
 use Rattle.palm_search.specs.declared.turn.Turn.{Turn}
-use Rattle.palm_engine.proofs.Settled.{settling_filters}
+use Rattle.palm_engine.proofs.cited.Settled.{settling_filters}
 use Rattle.palm_session.specs.State.{SessionState, IsHeld, IsState, fresh}
 use Rattle.palm_session.specs.Refusals.{Meets, in_order, IsNone}
 use Rattle.palm_session.specs.Effects.{SearchEnd, Effect, Nothing, Settled, Searched, Next, Rests, Filters, Procedure, Searches, next, next_constraint, SettlesIn, SearchesIn, Follows, Does, Changes, WithdrawsActive}
 use Rattle.palm_session.specs.Answers.{WaitsFor, Accepts, waits, contradicts, says, Answers, misread, refused, accepted}
 use Rattle.palm_session.specs.Replies.{Run}
 use Rattle.palm_events.specs.Scoped.{IsScoped, HasScopedReasons}
-use Rattle.palm_session.proofs.LawsOfAnswers.{answers_keep}
-use Rattle.palm_session.proofs.LawsOfChanges.{changes_keep, withdraws_cases}
-use Rattle.palm_session.proofs.LawsOfStates.{fresh_is}
-use Rattle.palm_events.proofs.Scoped.{blank_scoped, step_scoped, run_scoped}
+use Rattle.palm_session.proofs.cited.LawsOfAnswers.{answers_keep}
+use Rattle.palm_session.proofs.cited.LawsOfChanges.{changes_keep, withdraws_cases}
+use Rattle.palm_session.proofs.cited.LawsOfStates.{fresh_is}
+use Rattle.palm_events.proofs.cited.Scoped.{blank_scoped, step_scoped, run_scoped}
 use Rattle.palm_session.proofs.Searched.{still_before}
 use Rattle.palm_session.proofs.Searching.{search_leaves_still, search_log}
 

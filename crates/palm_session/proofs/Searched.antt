@@ -11,8 +11,8 @@ use Rattle.palm_session.specs.Effects.{SearchEnd, Found, NoSolution, Spent, Effe
 use Rattle.palm_session.specs.Answers.{IsPausable, IsContradictable, WaitsFor, Accepts, waits, contradicts, says, Says, end_text}
 use Rattle.palm_session.specs.Told.{KeepsAllButJournal, ToldSearch}
 use Rattle.palm_session.specs.Told.ToldSearch.{search_paused, search_found, search_none, search_spent}
-use Rattle.palm_session.proofs.LawsOfAnswers.{awake_for}
-use Rattle.palm_session.proofs.LawsOfChanges.{searches_by}
+use Rattle.palm_session.proofs.cited.LawsOfAnswers.{awake_for}
+use Rattle.palm_session.proofs.cited.LawsOfChanges.{searches_by}
 use Rattle.palm_session.proofs.Searching.{has_end, search_leaves_still, search_log, found_solves, none_active, none_unsolved, spent_small}
 
 -- ---- the lines that search

@@ -7,10 +7,10 @@ use Rattle.palm_model.specs.Domains.{Assignment, Domains}
 use Rattle.palm_model.specs.Log.{Active, IsActive, Named, cons_of, log_pairs}
 use Rattle.palm_model.specs.State.{EngineState, is_user, present}
 use Rattle.palm_model.specs.Trial.{listed, value_count}
-use Rattle.palm_model.proofs.Without.{length_without}
+use Rattle.palm_model.proofs.cited.Without.{length_without}
 use Rattle.palm_book.specs.Book.{Entry, initial_of, active_of}
 use Rattle.palm_events.specs.Along.{IsStill}
-use Rattle.palm_events.proofs.Reasons.{reasons_right}
+use Rattle.palm_events.proofs.cited.Reasons.{reasons_right}
 use Rattle.palm_search.specs.Measure.{most_turns}
 use Rattle.palm_search.specs.Kept.{HasOnlyUsers, Rests as RestsAfter}
 use Rattle.palm_search.specs.Search.{SearchEnd as RunEnd, Searches as SearchesWhole, EndsWith, IsFound, HasNoSolution}
@@ -19,15 +19,15 @@ use Rattle.palm_search.specs.Turns.{FitsGuide, SearchState}
 use Rattle.palm_search.specs.declared.turn.Pick.{Pick}
 use Rattle.palm_search.specs.declared.turn.Pick.TheVariants.{NoGuide, Nothing as NothingPicked}
 use Rattle.palm_search.specs.declared.turn.Turn.{Turn}
-use Rattle.palm_search.proofs.Leaving.{Ended, run_ended, run_found, run_unsolved, run_users, search_leaves, search_rests}
-use Rattle.palm_search.proofs.Measuring.{run_spent}
-use Rattle.palm_search.proofs.Whole.{search_exists, search_same}
+use Rattle.palm_search.proofs.cited.Leaving.{Ended, run_ended, run_found, run_unsolved, run_users, search_leaves, search_rests}
+use Rattle.palm_search.proofs.cited.Measuring.{run_spent}
+use Rattle.palm_search.proofs.cited.Whole.{search_exists, search_same}
 use Rattle.palm_repair.specs.Repair.{Repairs}
 use Rattle.palm_repair.specs.Sets.{most_turns as most_repair_turns}
-use Rattle.palm_repair.proofs.Alone.{repair_same}
-use Rattle.palm_repair.proofs.Counting.{repair_run_spent}
-use Rattle.palm_repair.proofs.Ending.{repair_ended, repair_leaves, repair_rests}
-use Rattle.palm_repair.proofs.Existing.{repair_exists}
+use Rattle.palm_repair.proofs.cited.Alone.{repair_same}
+use Rattle.palm_repair.proofs.cited.Counting.{repair_run_spent}
+use Rattle.palm_repair.proofs.cited.Ending.{repair_ended, repair_leaves, repair_rests}
+use Rattle.palm_repair.proofs.cited.Existing.{repair_exists}
 use Rattle.palm_session.specs.Effects.{SearchEnd, Found, NoSolution, Spent, told_end, Procedure, ByDbt, ByRepair, search_line, budget_of, HasTabu, SearchesByDbt, SearchesByRepair, SearchesIn, with_search}
 use Rattle.palm_session.specs.Told.{MaySpend}
 use Rattle.palm_session.specs.State.{SessionState, IsHeld, IsState}

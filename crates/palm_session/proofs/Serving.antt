@@ -5,7 +5,7 @@ use Rattle.std.specs.Prelude.{slice_get}
 use Rattle.std.proofs.lemmas.List.Elements.{Contains-get_or}
 use Rattle.palm_base.specs.declared.limits.TheConstants.{LAST_COUNT}
 use Rattle.palm_base.specs.declared.terms.Pair.{Pair}
-use Rattle.palm_model.proofs.Without.{pair_of}
+use Rattle.palm_model.proofs.cited.Without.{pair_of}
 use Rattle.palm_model.specs.Domains.{Domains, Has, values_of}
 use Rattle.palm_model.specs.State.{HasEmpty, present}
 use Rattle.palm_read.specs.Limits.{IsBeyond}
@@ -21,7 +21,7 @@ use Rattle.palm_lang.specs.declared.reply.Refusal.TheVariants.{E3, E4, E5, E7, E
 use Rattle.palm_base.specs.declared.terms.Cid.{Cid}
 use Rattle.palm_book.specs.Book.{Entry, name_of}
 use Rattle.palm_book.specs.declared.book.BookCon.{BookCon}
-use Rattle.palm_book.proofs.Any.{any_member}
+use Rattle.palm_book.proofs.cited.Any.{any_member}
 use Rattle.palm_session.specs.Answers.{HasConflict, waits, SaysCert, SaysMinimal, SaysMinimalConflict, SaysWhy, IsLowestEmpty, domains_text, list_text, log_text, users_text}
 use Rattle.palm_session.specs.Effects.{Nothing, Settled}
 use Rattle.palm_session.specs.Refusals.{TakesName, NamesNone, NamesNoConstraint, HasNoRoom, NamesNoObject, IsUndeclared, IsUnknown, AsksUndeclared, IsInWrongState, Meets, IsNone, in_order}
@@ -31,7 +31,7 @@ use Rattle.palm_session.proofs.Declaring.{declared_asked}
 use Rattle.palm_session.proofs.Accepting.{accepts_quietly, accepts_openly, accepts_unless_paused, awake_goes}
 use Rattle.palm_session.proofs.Standing.{has_active, has_constraint, not_active}
 use Rattle.palm_session.proofs.LawsOfDomains.{present_domains, domains_empty, printed_domains, empty_at}
-use Rattle.palm_session.proofs.LawsOfStates.{domains_exist}
+use Rattle.palm_session.proofs.cited.LawsOfStates.{domains_exist}
 
 -- ---- refusals
 

@@ -1,7 +1,7 @@
 -- What serving a search does.
 use Rattle.std.proofs.Common.{◌≡◌, ℕ, ℤ, Bool, true, false, is_some, Some, List, length, All, refl, sym, ap, ◌∙◌, subst}
 use Rattle.palm_base.specs.declared.terms.Cid.{Cid}
-use Rattle.palm_base.proofs.Members.{all_members}
+use Rattle.palm_base.proofs.cited.Members.{all_members}
 use Rattle.palm_model.specs.State.{EngineState}
 use Rattle.palm_engine.specs.Engine.{View}
 use Rattle.palm_search.specs.Calls.{SearchView}

@@ -3,15 +3,15 @@ use Rattle.std.proofs.Common.{◌≡◌, ◌≢◌, ℕ, zero, suc, ◌+◌, ◌
 use Rattle.std.specs.Prelude.{slice_get}
 use Rattle.std.proofs.lemmas.Bool.{cases_lt}
 use Rattle.std.proofs.lemmas.Option.{same_Some, get_or_from_slice_get, slice_get_within}
-use Rattle.palm_base.proofs.Members.{member_get, member_place, nat_known}
+use Rattle.palm_base.proofs.cited.Members.{member_get, member_place, nat_known}
 use Rattle.palm_base.specs.declared.terms.Cid.TheVariants.{User}
 use Rattle.palm_model.specs.Domains.{AllAscend}
 use Rattle.palm_model.specs.Log.{Active, IsActive, log_pairs}
 use Rattle.palm_model.specs.State.{present}
-use Rattle.palm_model.proofs.Without.{ascend_without}
+use Rattle.palm_model.proofs.cited.Without.{ascend_without}
 use Rattle.palm_book.specs.Book.{user_at}
 use Rattle.palm_book.specs.declared.book.BookCon.{BookCon}
-use Rattle.palm_book.proofs.Any.{any_member, member_any}
+use Rattle.palm_book.proofs.cited.Any.{any_member, member_any}
 use Rattle.palm_session.specs.Refusals.{HasActive}
 use Rattle.palm_session.specs.Serving.{StandsAt}
 use Rattle.palm_session.specs.State.{SessionState, HasConstraint, IsHeld}

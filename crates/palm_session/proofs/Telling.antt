@@ -3,12 +3,12 @@ use Rattle.std.proofs.Common.{◌≡◌, ℕ, ℤ, ◌<◌, List, [], length, ge
 use Rattle.std.proofs.lemmas.List.{get_or-map}
 use Rattle.std.proofs.lemmas.List.Elements.{Contains-get_or}
 use Rattle.palm_base.specs.declared.terms.Cid.{Cid}
-use Rattle.palm_base.proofs.Members.{int_known, member_known}
+use Rattle.palm_base.proofs.cited.Members.{int_known, member_known}
 use Rattle.palm_model.specs.Domains.{Domains, Has, values_of}
 use Rattle.palm_model.specs.Log.{NamesOfPair, IsListOf}
-use Rattle.palm_model.proofs.Without.{pair_of}
+use Rattle.palm_model.proofs.cited.Without.{pair_of}
 use Rattle.palm_book.specs.Book.{Entry, initial_of, name_of}
-use Rattle.palm_book.proofs.Any.{any_member}
+use Rattle.palm_book.proofs.cited.Any.{any_member}
 use Rattle.palm_read.specs.declared.line.Line.TheVariants.{Why, Conflict}
 use Rattle.palm_session.specs.State.{SessionState, IsState, AreDomains, IsContradiction}
 use Rattle.palm_session.specs.Refusals.{Meets, in_order, IsNone, AsksUndeclared}
@@ -16,9 +16,9 @@ use Rattle.palm_session.specs.Answers.{SaysWhy, SaysConflict, Says, Accepts, wai
 use Rattle.palm_session.specs.Told.{IsExplanation, ToldWhy, ToldConflict}
 use Rattle.palm_session.specs.Told.ToldWhy.{why_paused, why_contradiction, why_present, why_because}
 use Rattle.palm_session.specs.Told.ToldConflict.{conflict_paused, conflict_none, conflict_named}
-use Rattle.palm_session.proofs.LawsOfAnswers.{awake_for, query_same}
+use Rattle.palm_session.proofs.cited.LawsOfAnswers.{awake_for, query_same}
 use Rattle.palm_session.proofs.LawsOfDomains.{printed_domains, explanation_active, explanation_explains, conflict_names_active, conflict_conflicts}
-use Rattle.palm_session.proofs.LawsOfStates.{domains_once}
+use Rattle.palm_session.proofs.cited.LawsOfStates.{domains_once}
 
 -- a value that may be asked for is declared
 pub declared_value : (s : SessionState) (name : List ℕ) (value : ℤ) (x : ℕ) → (AsksUndeclared s (Why name value) → ⊥) → x < length s.book.variables → name_of s.book.variables x ≡ name → Has (initial_of s.book) x value

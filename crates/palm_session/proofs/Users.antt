@@ -4,24 +4,24 @@ use Rattle.std.proofs.lemmas.List.{length-map}
 use Rattle.palm_base.specs.declared.terms.Pair.{Pair}
 use Rattle.palm_base.specs.declared.terms.Cid.{Cid}
 use Rattle.palm_base.specs.declared.terms.Cid.TheVariants.{Decide, Not, User}
-use Rattle.palm_base.proofs.Members.{member_nil, member_cases, member_unmap, all_members}
+use Rattle.palm_base.proofs.cited.Members.{member_nil, member_cases, member_unmap, all_members}
 use Rattle.palm_model.specs.Domains.{Domains, Has}
 use Rattle.palm_model.specs.Log.{Active, IsActive, Removal, NamesOfPair, IsListOf, AreRight}
 use Rattle.palm_model.specs.Log.Names.{by_itself}
-use Rattle.palm_model.proofs.Narrowing.{has_declared}
+use Rattle.palm_model.proofs.cited.Narrowing.{has_declared}
 use Rattle.palm_book.specs.Book.{Contents, Entry, IsUser, active_of}
 use Rattle.palm_book.specs.declared.book.BookCon.{BookCon}
-use Rattle.palm_book.proofs.Any.{any_member}
-use Rattle.palm_events.proofs.Conflicts.{names_active}
-use Rattle.palm_events.proofs.Logs.{logged}
-use Rattle.palm_events.proofs.Undone.{reasons_logged}
+use Rattle.palm_book.proofs.cited.Any.{any_member}
+use Rattle.palm_events.proofs.cited.Conflicts.{names_active}
+use Rattle.palm_events.proofs.cited.Logs.{logged}
+use Rattle.palm_events.proofs.cited.Undone.{reasons_logged}
 use Rattle.palm_session.specs.State.{SessionState, IsHeld}
 use Rattle.palm_session.specs.Answers.{HasConflict}
 use Rattle.palm_session.specs.Logged.{IsLogged, AreLogged, IsNumbered}
 use Rattle.palm_session.proofs.ActiveLists.{active_member}
 use Rattle.palm_session.proofs.LawsOfDomains.{explanation_active, conflict_names_active}
-use Rattle.palm_reduce.proofs.Reducing.{left_within}
-use Rattle.palm_reduce.specs.Minimal.{IsMinimal}
+use Rattle.palm_laws.proofs.cited.Reducing.{left_within}
+use Rattle.palm_model.specs.Minimal.{IsMinimal}
 
 pub active_user : (book : Contents) (c : Cid) → IsActive (active_of book) c → IsUser book c
 active_user book c active =

@@ -7,7 +7,7 @@ use Rattle.palm_model.specs.Log.{Removal, NamesOfPair, IsListOf}
 use Rattle.palm_model.specs.State.{IsEmptyAt, present}
 use Rattle.palm_model.specs.Conflict.{IsKeptConflict}
 use Rattle.palm_book.specs.Book.{Entry, Contents, active_of, initial_of, name_of, user_name}
-use Rattle.palm_reduce.specs.Minimal.{AreConflict, DoExplain, IsMinimalConflict, IsMinimalExplanation}
+use Rattle.palm_model.specs.Minimal.{AreConflict, DoExplain, IsMinimalConflict, IsMinimalExplanation}
 use Rattle.palm_claim.specs.declared.verdict.Claim.TheVariants.{Gone, Conflict as ConflictClaim}
 use Rattle.palm_cert.specs.Certificate.{certificate_text}
 use Rattle.palm_read.specs.Reading.{IsRead, IsRefusedBy}

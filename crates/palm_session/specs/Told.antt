@@ -11,7 +11,7 @@ use Rattle.palm_book.specs.Book.{Contents, initial_of, active_of, name_of}
 use Rattle.palm_lang.specs.Reply.{fixed_text, found_line, spent_line}
 use Rattle.palm_lang.specs.declared.reply.Fixed.TheVariants.{Contradiction, Paused, Present, Consistent}
 use Rattle.palm_lang.specs.declared.reply.Lead.TheVariants.{Because, Conflict as ConflictLead, NoSolution as NoSolutionLead}
-use Rattle.palm_reduce.specs.Minimal.{IsMinimalConflict, IsMinimalExplanation}
+use Rattle.palm_model.specs.Minimal.{IsMinimalConflict, IsMinimalExplanation}
 use Rattle.palm_search.specs.Measure.{most_turns}
 use Rattle.palm_repair.specs.Sets.{most_turns as most_repair_turns}
 use Rattle.palm_session.specs.Answers.{users_text}

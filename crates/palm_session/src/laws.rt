@@ -6,6 +6,8 @@ ghost use Rattle.palm_session.specs.Lines.{without_return};
 ghost use Rattle.palm_session.specs.Replies.{ChoosesNone, Ends, Replies, Run};
 ghost use Rattle.palm_events.specs.Scoped.{HasScopedReasons};
 
+pub mod printed;
+
 use crate::limits::MOST_KEPT_BYTES;
 
 /// A fresh session holds a state that a session can hold.

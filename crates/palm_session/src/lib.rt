@@ -11,7 +11,6 @@ mod laws;
 mod limits;
 mod lines;
 mod objects;
-mod printed;
 mod questions;
 mod refuse;
 mod reply;
@@ -24,17 +23,17 @@ mod variables;
 mod waiting;
 
 pub use going::Going;
+pub use laws::printed::{
+    adding_and_retracting_gives_back_the_domains, contradictions_are_empty_domains,
+    kept_conflicts_conflict, kept_explanations_explain, minimal_conflicts_conflict,
+    minimal_explanations_explain, one_domain_is_empty_at_most, printed_certificates_are_accepted,
+    printed_domains_are_the_engines, searches_leave_all_but_the_journal, searches_tell_the_truth,
+};
 pub use laws::{
     a_text_has_an_output, a_text_has_one_output, each_line_has_an_answer, fresh_states_are_states,
     no_line_has_two_answers, reasons_lie_in_scopes, states_stay, the_first_bytes_decide,
     the_first_bytes_end,
 };
 pub use limits::MOST_KEPT_BYTES;
-pub use printed::{
-    adding_and_retracting_gives_back_the_domains, contradictions_are_empty_domains,
-    kept_conflicts_conflict, kept_explanations_explain, minimal_conflicts_conflict,
-    minimal_explanations_explain, one_domain_is_empty_at_most, printed_certificates_are_accepted,
-    printed_domains_are_the_engines, searches_leave_all_but_the_journal, searches_tell_the_truth,
-};
 pub use session::Session;
 pub use stop::Stop;

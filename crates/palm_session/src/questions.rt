@@ -3,7 +3,7 @@ ghost use Rattle.std.specs.Prelude.{◌≡◌, IfOk};
 ghost use Rattle.palm_model.specs.Domains.{Has};
 ghost use Rattle.palm_model.specs.State.{present};
 ghost use Rattle.palm_book.specs.Book.{active_of, initial_of};
-ghost use Rattle.palm_reduce.specs.Minimal.{AreConflict};
+ghost use Rattle.palm_model.specs.Minimal.{AreConflict};
 ghost use Rattle.palm_session.specs.Answers.{SaysCert, SaysMinimal, SaysWhy};
 ghost use Rattle.palm_session.specs.ReplyText.{reply_text, ReplyFits};
 ghost use Rattle.palm_session.specs.Serving.{FindsPair, Serves, TellsOpenly, TellsUnlessPaused, Withholds};

@@ -1,7 +1,7 @@
 -- Members that are found in lists, and the pairs of a log with one more removal.
 use Rattle.std.proofs.Common.{◌≡◌, ◌∙◌, ℕ, zero, suc, ◌<◌, Option, None, Some, MatchOption, is_some, true, List, [], ◌∷◌, ◌++◌, length, Contains, get_or, slice_get, ap, arith}
 use Rattle.std.proofs.lemmas.List.{map-append}
-use Rattle.palm_base.proofs.Members.{member_get}
+use Rattle.palm_base.proofs.cited.Members.{member_get}
 use Rattle.palm_base.specs.declared.terms.Pair.{Pair}
 use Rattle.palm_explain.specs.Explanations.{Explanations}
 use Rattle.palm_model.specs.Log.{Removal, log_pairs}

@@ -2,10 +2,10 @@
 use Rattle.std.proofs.Common.{◌≡◌, ℕ, nat_eq, ◌<◌, Bool, true, false, if◌then◌else◌, not, List, [], ◌∷◌, length, map, refl, sym, subst}
 use Rattle.palm_base.specs.declared.terms.Cid.{Cid}
 use Rattle.palm_base.specs.declared.terms.Cid.TheVariants.{Decide, User}
-use Rattle.palm_base.proofs.Members.{member_here, member_there}
+use Rattle.palm_base.proofs.cited.Members.{member_here, member_there}
 use Rattle.palm_agenda.specs.Agenda.{Connected, HasPlace, IsConnected, is_over, mark_others, mark_own, marked_where, marked_whole}
-use Rattle.palm_agenda.proofs.Keeping.{KeepsScopes, connected_kept, place_kept}
-use Rattle.palm_agenda.proofs.Marking.{marks_length}
+use Rattle.palm_agenda.proofs.cited.Keeping.{KeepsScopes, connected_kept, place_kept}
+use Rattle.palm_agenda.proofs.cited.Marking.{marks_length}
 
 abbrev pub decision_con : Connected
 decision_con = marked_whole (Decide 2) (2 ∷ [])

@@ -4,10 +4,10 @@ use Rattle.std.specs.Prelude.{Result, Ok, Err, OnOk, OnErr, IfOk}
 use Rattle.palm_model.specs.Log.{Active}
 use Rattle.palm_model.specs.State.{EngineState, is_user}
 use Rattle.palm_model.specs.Event.{Posts}
-use Rattle.palm_events.proofs.States.{with_posted_cases}
+use Rattle.palm_events.proofs.cited.States.{with_posted_cases}
 use Rattle.palm_engine.specs.Engine.{View, HasSettled}
 use Rattle.palm_engine.specs.declared.settle.Settle.{Settle}
-use Rattle.palm_engine.proofs.Settled.{settling_filters}
+use Rattle.palm_engine.proofs.cited.Settled.{settling_filters}
 use Rattle.palm_search.specs.Kept.{HasOnlyUsers}
 
 pub posted_users : (s t : EngineState) (a : Active) → is_user a.cid ≡ true → Posts s a t → HasOnlyUsers s → HasOnlyUsers t

@@ -1,10 +1,10 @@
 use Rattle.std.proofs.Common.{sym, ◌∙◌, arith}
 use Rattle.std.proofs.lemmas.Bool.{true≢false}
 use Rattle.std.proofs.lemmas.Bool.Decides.{Decides-ltb}
-use Rattle.palm_base.proofs.Telling.{tells_both}
+use Rattle.palm_base.proofs.cited.Telling.{tells_both}
 use Rattle.palm_domain.specs.Rows.{present_of}
 use Rattle.palm_model.specs.Domains.{values_of}
-use Rattle.palm_model.proofs.Ascending.{ascends_at}
+use Rattle.palm_model.proofs.cited.Ascending.{ascends_at}
 use Rattle.filter_differ.proofs.Differing.{other_many}
 use Rattle.filter_differ.proofs.others.has_other.Goals as goal
 

@@ -3,8 +3,8 @@ use Rattle.std.proofs.lemmas.List.{take_all}
 use Rattle.palm_domain.specs.Rows.{initial_of, present_of}
 use Rattle.palm_model.specs.Removed.{pairs_of, removed_values}
 use Rattle.palm_model.specs.declared.constraint.Term.{Term}
-use Rattle.palm_model.proofs.Sums.{term_declared}
-use Rattle.palm_reason.proofs.LinearReason.{pairs_by, others_by}
+use Rattle.palm_model.proofs.cited.Sums.{term_declared}
+use Rattle.palm_reason.proofs.cited.LinearReason.{pairs_by, others_by}
 use Rattle.filter_linear.proofs.LinearReasons.{kept_more, kept_same}
 use Rattle.filter_linear.proofs.reasons.push_others.Goals as goal
 use Rattle.filter_linear.proofs.reasons.push_others.Goals.{then-ne+in_ok-push_removed, else-ne}

@@ -1,7 +1,7 @@
 use Rattle.std.proofs.Common.{◌≡◌, ◌++◌, take}
 use Rattle.palm_domain.specs.Rows.{initial_of, present_of}
 use Rattle.palm_model.specs.Removed.{removed_values}
-use Rattle.palm_reason.proofs.LinearReason.{pairs_by}
+use Rattle.palm_reason.proofs.cited.LinearReason.{pairs_by}
 use Rattle.filter_linear.proofs.reasons.push_others.Given as goal
 
 -- the pairs of the terms so far were added

@@ -1,7 +1,7 @@
 use Rattle.std.proofs.Common.{◌∙◌, sym, subst}
 use Rattle.palm_model.specs.Limits.{IsUpTo}
 use Rattle.palm_model.specs.declared.limits.TheConstants.{GREATEST_PRODUCT}
-use Rattle.palm_model.proofs.Sums.{product_read, round_factor, product_up_to}
+use Rattle.palm_model.proofs.cited.Sums.{product_read, round_factor, product_up_to}
 use Rattle.filter_linear.proofs.span.product_of.Goals as goal
 
 pub returns-clause-small : goal.returns-clause-small

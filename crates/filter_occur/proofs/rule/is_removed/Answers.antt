@@ -1,5 +1,5 @@
 use Rattle.std.proofs.Common.{ap, sym, ◌∙◌, cond, [], ◌∷◌}
-use Rattle.palm_base.proofs.Telling.{tells_true, tells_false}
+use Rattle.palm_base.proofs.cited.Telling.{tells_true, tells_false}
 use Rattle.palm_domain.specs.Rows.{initial_of, present_of}
 use Rattle.filter_occur.proofs.Written.{declared_high, undeclared_high}
 use Rattle.filter_occur.proofs.rule.is_removed.Goals as goal

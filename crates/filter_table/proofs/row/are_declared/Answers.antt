@@ -1,4 +1,4 @@
-use Rattle.palm_base.proofs.Telling.{tells_true, tells_false}
+use Rattle.palm_base.proofs.cited.Telling.{tells_true, tells_false}
 use Rattle.palm_domain.specs.Rows.{initial_of}
 use Rattle.filter_table.proofs.Entries.{there_fails, there_later}
 use Rattle.filter_table.proofs.row.are_declared.Goals as goal

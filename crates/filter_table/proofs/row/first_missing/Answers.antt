@@ -1,4 +1,4 @@
-use Rattle.palm_base.proofs.Telling.{tells_true, tells_false}
+use Rattle.palm_base.proofs.cited.Telling.{tells_true, tells_false}
 use Rattle.palm_domain.specs.Rows.{present_of}
 use Rattle.filter_table.proofs.Entries.{missing_here, missing_later}
 use Rattle.filter_table.proofs.row.first_missing.Goals as goal

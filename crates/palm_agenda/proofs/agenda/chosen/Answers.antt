@@ -1,4 +1,4 @@
-use Rattle.palm_agenda.proofs.Keeping.{chosen_first, chosen_within}
+use Rattle.palm_agenda.proofs.cited.Keeping.{chosen_first, chosen_within}
 use Rattle.palm_agenda.proofs.agenda.chosen.Goals as goal
 use Rattle.palm_agenda.proofs.agenda.chosen.Goals.{then-answer-shown, else-answer-shown}
 

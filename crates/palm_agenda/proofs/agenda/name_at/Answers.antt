@@ -2,7 +2,7 @@ use Rattle.std.proofs.Common.{◌∙◌, Some, ap, arith, sym}
 use Rattle.std.proofs.lemmas.List.{get_or-map, length-map}
 use Rattle.std.proofs.lemmas.Option.{slice_get-get_or}
 use Rattle.palm_agenda.specs.Agenda.{names_of}
-use Rattle.palm_agenda.proofs.Connecting.{cid_of}
+use Rattle.palm_agenda.proofs.cited.Connecting.{cid_of}
 use Rattle.palm_agenda.proofs.agenda.name_at.Goals as goal
 
 pub returns : goal.returns

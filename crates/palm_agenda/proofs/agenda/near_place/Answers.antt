@@ -1,4 +1,4 @@
-use Rattle.palm_agenda.proofs.Connecting.{counted_there}
+use Rattle.palm_agenda.proofs.cited.Connecting.{counted_there}
 use Rattle.palm_agenda.proofs.agenda.near_place.Goals as goal
 
 pub returns-then-is_same : goal.returns-then-is_same

@@ -2,9 +2,9 @@ use Rattle.std.proofs.Common.{rules, of_calls}
 use Rattle.std.proofs.lemmas.Fn.{always_returns_same}
 use Rattle.palm_model.specs.Log.{cid_before}
 use Rattle.palm_agenda.specs.Agenda.{Connected}
-use Rattle.palm_agenda.proofs.NameLists.{rising}
-use Rattle.palm_agenda.proofs.Sorted.{parted}
-use Rattle.palm_agenda.proofs.Connecting.{sorted_connected}
+use Rattle.palm_agenda.proofs.cited.NameLists.{rising}
+use Rattle.palm_agenda.proofs.cited.Sorted.{parted}
+use Rattle.palm_agenda.proofs.cited.Connecting.{sorted_connected}
 use Rattle.palm_agenda.proofs.agenda.place_from.Goals as goal
 
 pub returns-in-None : goal.returns-in-None

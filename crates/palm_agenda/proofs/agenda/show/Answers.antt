@@ -1,6 +1,6 @@
 use Rattle.std.proofs.Common.{◌≡◌, ◌∙◌, ◌+◌, ap, arith, length, sym, vec_capacity, ◌∷◌, [], ◌++◌}
 use Rattle.std.proofs.lemmas.List.{get_or-map, length-append, length-map}
-use Rattle.palm_agenda.proofs.Connecting.{cid_of}
+use Rattle.palm_agenda.proofs.cited.Connecting.{cid_of}
 use Rattle.palm_agenda.proofs.Flagged.{shown_more, shown_past}
 use Rattle.palm_agenda.proofs.agenda.show.Goals as goal
 use Rattle.palm_agenda.proofs.agenda.show.Goals.{then-flags-place, else-flags-place}

@@ -1,7 +1,7 @@
 use Rattle.std.proofs.Common.{◌<◌, length, subst, sym}
 use Rattle.palm_agenda.specs.Agenda.{Connected, unmarked}
-use Rattle.palm_agenda.proofs.Connecting.{parted_in, place_connected}
-use Rattle.palm_agenda.proofs.Keeping.{changed_here, owner_is}
+use Rattle.palm_agenda.proofs.cited.Connecting.{parted_in, place_connected}
+use Rattle.palm_agenda.proofs.cited.Keeping.{changed_here, owner_is}
 use Rattle.palm_agenda.proofs.agenda.unmark_named.Goals as goal
 
 pub unmark-requires : goal.unmark-requires

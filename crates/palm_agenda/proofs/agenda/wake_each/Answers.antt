@@ -3,7 +3,7 @@ use Rattle.std.proofs.lemmas.List.{length-map}
 use Rattle.palm_agenda.specs.Agenda.{changed_among, changed_at, names_of}
 use Rattle.palm_agenda.specs.Flags.{flagged}
 use Rattle.palm_agenda.specs.Places.{mark_places}
-use Rattle.palm_agenda.proofs.Keeping.{changed_none, keeps_among, keeps_places, marked_more, none_put, over_changed, put_all_set, put_set, rises_changed}
+use Rattle.palm_agenda.proofs.cited.Keeping.{changed_none, keeps_among, keeps_places, marked_more, none_put, over_changed, put_all_set, put_set, rises_changed}
 use Rattle.palm_agenda.proofs.agenda.wake_each.Goals as goal
 
 pub loop-cid-init : goal.loop-cid-init

@@ -1,7 +1,7 @@
 use Rattle.std.proofs.Common.{arith}
 use Rattle.palm_agenda.specs.Places.{mark_places}
-use Rattle.palm_agenda.proofs.Connecting.{over_connected, parted_in}
-use Rattle.palm_agenda.proofs.Keeping.{keeps_places, marked_here, place_within, woken_at}
+use Rattle.palm_agenda.proofs.cited.Connecting.{over_connected, parted_in}
+use Rattle.palm_agenda.proofs.cited.Keeping.{keeps_places, marked_here, place_within, woken_at}
 use Rattle.palm_agenda.proofs.agenda.wake_named.Goals as goal
 
 pub raise-requires : goal.raise-requires

@@ -1,8 +1,8 @@
 use Rattle.std.proofs.Common.{rules, of_calls}
 use Rattle.std.proofs.lemmas.Fn.{always_returns_same}
 use Rattle.palm_model.specs.Log.{cid_before}
-use Rattle.palm_agenda.proofs.NameLists.{cid_after, falling, sorted_falling}
-use Rattle.palm_agenda.proofs.Sorted.{parted}
+use Rattle.palm_agenda.proofs.cited.NameLists.{cid_after, falling, sorted_falling}
+use Rattle.palm_agenda.proofs.cited.Sorted.{parted}
 use Rattle.palm_agenda.proofs.names.place_of.Goals as goal
 
 pub returns : goal.returns

@@ -1,6 +1,6 @@
 use Rattle.std.proofs.Common.{Contains, inl, inr, ◌∙◌, subst, sym}
 use Rattle.std.proofs.lemmas.List.{take_all}
-use Rattle.palm_base.proofs.Members.{member_take_more}
+use Rattle.palm_base.proofs.cited.Members.{member_take_more}
 use Rattle.palm_agenda.specs.Names.{HasSpace}
 use Rattle.palm_agenda.proofs.Rows.{space_stays}
 use Rattle.palm_agenda.proofs.over.make_room.Goals as goal

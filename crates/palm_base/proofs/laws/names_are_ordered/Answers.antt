@@ -1,5 +1,5 @@
 use Rattle.std.proofs.Common.{refl}
-use Rattle.palm_base.proofs.Naming.{ordered}
+use Rattle.palm_base.proofs.cited.Naming.{ordered}
 use Rattle.palm_base.proofs.laws.names_are_ordered.Goals as goal
 
 pub returns : goal.returns

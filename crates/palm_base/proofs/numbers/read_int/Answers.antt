@@ -1,6 +1,6 @@
 use Rattle.std.proofs.Common.{sym}
 use Rattle.std.proofs.lemmas.Str.{IsUtf8-from_ascii}
-use Rattle.palm_base.proofs.Numerals.{ascii, found, none, text_reads}
+use Rattle.palm_base.proofs.cited.Numerals.{ascii, found, none, text_reads}
 use Rattle.palm_base.proofs.numbers.read_int.Goals as goal
 
 pub returns-in_default-clause-none : goal.returns-in_default-clause-none

@@ -1,5 +1,5 @@
 use Rattle.std.proofs.Common.{◌++◌, ◌∙◌, take}
-use Rattle.palm_base.proofs.StreamLemmas.{appended_both, front_more}
+use Rattle.palm_base.proofs.cited.StreamLemmas.{appended_both, front_more}
 use Rattle.palm_base.proofs.writing.write_all.Goals as goal
 
 pub loop-rest-preserved : goal.loop-rest-preserved

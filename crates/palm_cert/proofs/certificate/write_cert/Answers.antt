@@ -5,10 +5,10 @@ use Rattle.palm_lang.specs.declared.reply.Fixed.TheVariants.{End}
 use Rattle.palm_model.specs.Log.{Removal}
 use Rattle.palm_cert.specs.Certificate.{certificate_text, claim_line, declarations, step_line}
 use Rattle.palm_cert.specs.Needs.{IsOfBook, marked}
-use Rattle.palm_cert.proofs.Accepted.{certificate_accepted}
-use Rattle.palm_cert.proofs.Logged.{claim_declared, log_of_book}
+use Rattle.palm_cert.proofs.cited.Accepted.{certificate_accepted}
+use Rattle.palm_cert.proofs.cited.Logged.{claim_declared, log_of_book}
 use Rattle.palm_cert.proofs.Made.{in_turn, steps_made, text_made}
-use Rattle.palm_cert.proofs.Readable.{readable}
+use Rattle.palm_cert.proofs.cited.Readable.{readable}
 use Rattle.palm_cert.proofs.Writes.{at_ok, writes_front, writes_text, writes_then, writes_within}
 use Rattle.palm_cert.proofs.certificate.write_cert.Goals as goal
 

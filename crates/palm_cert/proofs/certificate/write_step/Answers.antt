@@ -3,7 +3,7 @@ use Rattle.std.proofs.lemmas.Result.{err_from_is_err_and}
 use Rattle.palm_book.specs.Book.{number_name}
 use Rattle.palm_cert.specs.Certificate.{step_line, step_words}
 use Rattle.palm_cert.specs.Needs.{marked}
-use Rattle.palm_cert.proofs.Logged.{numbered_user, some_removal, step_read, user_at_place, user_numbered, variable_at}
+use Rattle.palm_cert.proofs.cited.Logged.{numbered_user, some_removal, step_read, user_at_place, user_numbered, variable_at}
 use Rattle.palm_cert.proofs.Marked.{index_read, text_one}
 use Rattle.palm_cert.proofs.Writes.{writes_nothing, writes_text}
 use Rattle.palm_lang.specs.Reply.{ended}

@@ -1,5 +1,5 @@
-use Rattle.palm_cert.proofs.Accepted.{certificate_accepted}
-use Rattle.palm_cert.proofs.Readable.{readable}
+use Rattle.palm_cert.proofs.cited.Accepted.{certificate_accepted}
+use Rattle.palm_cert.proofs.cited.Readable.{readable}
 use Rattle.palm_cert.proofs.laws.certificates_are_accepted.Goals as goal
 
 pub returns : goal.returns

@@ -1,11 +1,11 @@
 use Rattle.std.proofs.Common.{◌∙◌, ◌++◌, ◌∷◌, [], ◌+◌, ℕ, List, Contains, take, take_all, sym, ap, subst, arith}
 use Rattle.palm_base.specs.declared.terms.Pair.{Pair}
-use Rattle.palm_base.proofs.Members.{member_get}
+use Rattle.palm_base.proofs.cited.Members.{member_get}
 use Rattle.palm_explain.specs.Explanations.{reasons_of}
 use Rattle.palm_cert.specs.Certificate.{numbers_of}
 use Rattle.palm_cert.specs.Needs.{marked}
 use Rattle.palm_cert.proofs.Links.{apart_marked, linked_apart}
-use Rattle.palm_cert.proofs.Logged.{reasons_at, some_removal}
+use Rattle.palm_cert.proofs.cited.Logged.{reasons_at, some_removal}
 use Rattle.palm_cert.proofs.Marked.{member_marked, take_some}
 use Rattle.palm_cert.proofs.Numbers.{Collects, collected, collects_more}
 use Rattle.palm_cert.proofs.needs.collect_numbers.Goals as goal

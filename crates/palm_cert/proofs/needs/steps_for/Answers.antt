@@ -3,7 +3,7 @@ use Rattle.palm_base.specs.declared.terms.Pair.{Pair}
 use Rattle.palm_cert.specs.Certificate.{asked, pairs_with}
 use Rattle.palm_cert.specs.Needs.{marks_of}
 use Rattle.palm_cert.proofs.Cites.{asked_more, unmarked_pairs}
-use Rattle.palm_cert.proofs.Logged.{some_removal}
+use Rattle.palm_cert.proofs.cited.Logged.{some_removal}
 use Rattle.palm_cert.proofs.needs.steps_for.Goals as goal
 
 pub mark_values-requires-clause-none : goal.mark_values-requires-clause-none

@@ -2,8 +2,8 @@ use Rattle.std.proofs.lemmas.Result.{err_from_is_err_and}
 use Rattle.std.proofs.Common.{[]}
 use Rattle.palm_claim.specs.Reader.{next_number}
 use Rattle.palm_read.specs.Reader.Lists.{many_at}
-use Rattle.palm_claim.proofs.Phrases.{number_item}
-use Rattle.palm_read.proofs.Many.{item_shortens, running_start, running_more, running_shorter, running_over, running_fails, plain_over}
+use Rattle.palm_claim.proofs.cited.Phrases.{number_item}
+use Rattle.palm_read.proofs.cited.Many.{item_shortens, running_start, running_more, running_shorter, running_over, running_fails, plain_over}
 use Rattle.palm_check.proofs.phrases.numbers.Goals as goal
 
 pub loop-numbers-init : goal.loop-numbers-init

@@ -1,6 +1,6 @@
 use Rattle.std.proofs.Common.{length, []}
 use Rattle.palm_claim.specs.Reader.{next_number}
-use Rattle.palm_read.proofs.Many.{Running}
+use Rattle.palm_read.proofs.cited.Many.{Running}
 use Rattle.palm_check.proofs.phrases.numbers.Given as goal
 
 abbrev pub invariant-loop-numbers : goal.invariant-loop-numbers

@@ -1,7 +1,7 @@
 use Rattle.std.proofs.Common.{◌≤◌, arith}
 use Rattle.std.proofs.lemmas.Bool.{and_parts, false_from_ne_true, leb-true}
 use Rattle.std.specs.Prelude.{nat_le}
-use Rattle.palm_base.proofs.Numerals.{digits_too_large}
+use Rattle.palm_base.proofs.cited.Numerals.{digits_too_large}
 use Rattle.palm_base.specs.Numbers.{digits_number}
 use Rattle.palm_claim.specs.Reader.{is_step_number}
 use Rattle.palm_check.proofs.phrases.step_number.Goals as goal

@@ -1,6 +1,6 @@
 use Rattle.std.proofs.Common.{◌≤◌, arith}
 use Rattle.std.proofs.lemmas.Bool.{false_from_ne_true}
-use Rattle.palm_base.proofs.Numerals.{digits_too_large}
+use Rattle.palm_base.proofs.cited.Numerals.{digits_too_large}
 use Rattle.palm_base.specs.Numbers.{digits_number}
 use Rattle.palm_claim.specs.Reader.{is_value}
 use Rattle.palm_read.specs.Linear.{signed}

@@ -1,7 +1,7 @@
 use Rattle.palm_claim.specs.Reader.{phrase_of}
 use Rattle.palm_claim.specs.declared.statement.Statement.{Statement}
 use Rattle.palm_read.specs.Token.{tokens_of}
-use Rattle.palm_claim.proofs.Saying.{phrase_says_nothing}
+use Rattle.palm_claim.proofs.cited.Saying.{phrase_says_nothing}
 use Rattle.palm_check.proofs.Reading.{gives_none, phrase_alone, phrase_read}
 use Rattle.palm_check.proofs.statements.of_phrase.Goals as goal
 

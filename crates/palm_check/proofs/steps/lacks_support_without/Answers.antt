@@ -1,7 +1,7 @@
 use Rattle.std.proofs.Common.{sym, subst, slice_index_or, Contains}
-use Rattle.palm_base.proofs.Telling.{tells_same}
+use Rattle.palm_base.proofs.cited.Telling.{tells_same}
 use Rattle.palm_domain.specs.Rows.{initial_of, present_of, values_of}
-use Rattle.palm_domain.proofs.StoreRows.{exists_from_declared}
+use Rattle.palm_domain.proofs.cited.StoreRows.{exists_from_declared}
 use Rattle.palm_kind.specs.Kind.{con_of}
 use Rattle.palm_model.specs.Domains.{without}
 use Rattle.palm_model.specs.Support.{LacksSupport}

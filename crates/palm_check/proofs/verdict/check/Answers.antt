@@ -1,7 +1,7 @@
 use Rattle.std.proofs.Common.{subst}
 use Rattle.std.specs.List.{slice_range}
 use Rattle.palm_claim.specs.Lines.{without_return}
-use Rattle.palm_claim.proofs.Explained.{verdict_over}
+use Rattle.palm_claim.proofs.cited.Explained.{verdict_over}
 use Rattle.palm_check.specs.Kept.{Takes, draft_of}
 use Rattle.palm_check.proofs.Judging.{judged_over, judged_refused, judging_next}
 use Rattle.palm_check.proofs.verdict.check.Goals as goal

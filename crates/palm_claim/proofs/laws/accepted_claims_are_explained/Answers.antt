@@ -1,4 +1,4 @@
-use Rattle.palm_claim.proofs.Explained.{accepted_explained, accepted_conflict}
+use Rattle.palm_claim.proofs.cited.Explained.{accepted_explained, accepted_conflict}
 use Rattle.palm_claim.proofs.laws.accepted_claims_are_explained.Goals as goal
 
 pub returns-clause-explained : goal.returns-clause-explained

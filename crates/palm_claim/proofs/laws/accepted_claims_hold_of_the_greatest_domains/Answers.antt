@@ -1,4 +1,4 @@
-use Rattle.palm_claim.proofs.Explained.{accepted_holds}
+use Rattle.palm_claim.proofs.cited.Explained.{accepted_holds}
 use Rattle.palm_claim.proofs.laws.accepted_claims_hold_of_the_greatest_domains.Goals as goal
 
 pub returns : goal.returns

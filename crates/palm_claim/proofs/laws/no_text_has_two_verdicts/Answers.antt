@@ -1,4 +1,4 @@
-use Rattle.palm_claim.proofs.Unique.{one_verdict}
+use Rattle.palm_claim.proofs.cited.Unique.{one_verdict}
 use Rattle.palm_claim.proofs.laws.no_text_has_two_verdicts.Goals as goal
 
 pub returns : goal.returns

@@ -1,5 +1,5 @@
 use Rattle.std.proofs.Common.{◌≤◌, ◌^◌, arith}
-use Rattle.palm_base.proofs.Numerals.{digits_too_large}
+use Rattle.palm_base.proofs.cited.Numerals.{digits_too_large}
 use Rattle.palm_base.specs.Numbers.{digits_number}
 use Rattle.palm_cli.proofs.WordLemmas.{if_none}
 use Rattle.palm_cli.proofs.words.size_of.Goals as goal

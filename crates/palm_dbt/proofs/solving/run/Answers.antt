@@ -1,7 +1,7 @@
 use Rattle.std.proofs.Common.{◌+◌, ◌-◌, None, min, refl, ap, ◌∙◌, subst}
 use Rattle.std.specs.Prelude.{is_some}
 use Rattle.palm_base.specs.declared.limits.TheConstants.{LAST_COUNT}
-use Rattle.palm_events.proofs.Reasons.{reasons_right}
+use Rattle.palm_events.proofs.cited.Reasons.{reasons_right}
 use Rattle.palm_engine.specs.Engine.{HasSettled, IsInterrupted}
 use Rattle.palm_dbt.specs.Turning.{Advances, IsCutOff}
 use Rattle.palm_dbt.proofs.Retreating.{on_err}

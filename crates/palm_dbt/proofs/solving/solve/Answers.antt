@@ -1,10 +1,10 @@
 use Rattle.std.proofs.Common.{None, sym, subst}
 use Rattle.std.specs.Prelude.{is_some}
-use Rattle.palm_events.proofs.Reasons.{reasons_right}
+use Rattle.palm_events.proofs.cited.Reasons.{reasons_right}
 use Rattle.palm_engine.specs.Engine.{HasSettled}
-use Rattle.palm_engine.proofs.Walking.{filters_none}
+use Rattle.palm_engine.proofs.cited.Walking.{filters_none}
 use Rattle.palm_search.specs.Calls.{search_state}
-use Rattle.palm_search.proofs.Leaving.{search_leaves, search_rests}
+use Rattle.palm_search.proofs.cited.Leaving.{search_leaves, search_rests}
 use Rattle.palm_dbt.specs.Answers.{end_of}
 use Rattle.palm_dbt.specs.Turning.{BreaksOff}
 use Rattle.palm_dbt.proofs.Breaking.{answer_true, broken_at_end, broken_leaves, broken_returns, searches_whole}

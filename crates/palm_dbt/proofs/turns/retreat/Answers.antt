@@ -2,15 +2,14 @@ use Rattle.std.proofs.Common.{◌≡◌, ◌<◌, arith, filter, length, get_or,
 use Rattle.std.proofs.lemmas.Option.{slice_get_within}
 use Rattle.palm_base.specs.declared.terms.Cid.TheVariants.{Decide, Not}
 use Rattle.palm_base.specs.declared.terms.Pair.{Pair}
-use Rattle.palm_base.proofs.Telling.{tells_false}
+use Rattle.palm_base.proofs.cited.Telling.{tells_false}
 use Rattle.palm_engine.specs.Engine.{View}
 use Rattle.palm_model.specs.Domains.{Has}
 use Rattle.palm_model.specs.Event.{Posts, posted}
 use Rattle.palm_model.specs.Log.{IsActive}
-use Rattle.palm_model.specs.State.{AreGrounds, is_user, without_cid}
+use Rattle.palm_model.specs.State.{AreGrounds, is_user, without_cid, negation_of}
 use Rattle.palm_search.specs.Calls.{search_state}
 use Rattle.palm_search.specs.Search.GoesOn.{could_undo}
-use Rattle.palm_search.specs.Turns.{negation_of}
 use Rattle.palm_search.specs.declared.turn.Turn.TheVariants.{Undo}
 use Rattle.palm_dbt.specs.Turning.{IsCutTurn, IsLatestAt}
 use Rattle.palm_dbt.specs.Turning.IsCutTurn.{cut_within}

@@ -2,7 +2,7 @@ use Rattle.std.proofs.Common.{arith, ◌≡◌, ℕ, ℤ, ◌≤ℤ◌, ◌<◌,
 use Rattle.std.specs.Int.{int_gap}
 use Rattle.std.proofs.lemmas.Int.{ints}
 use Rattle.palm_domain.specs.Rows.{Ascends}
-use Rattle.palm_domain.proofs.Ascending.{get_or-steps, int_gap_reaches}
+use Rattle.palm_domain.proofs.cited.Ascending.{get_or-steps, int_gap_reaches}
 use Rattle.palm_domain.proofs.places.end_of_lower.Goals as goal
 
 above : (xs : List ℤ) → Ascends xs → (v least : ℤ) (end : ℕ) → least ≡ get_or xs 0 least → end ≡ min (length xs) (int_gap least v) → (k : ℕ) (d : ℤ) → end ≤ k → k < length xs → v ≤ℤ get_or xs k d

@@ -1,8 +1,8 @@
 use Rattle.std.proofs.Common.{arith, ◌≡◌, ℕ, ℤ, ◌<ℤ◌, ◌≤ℤ◌, ◌+◌, ◌<◌, ◌≤◌, List, length, get_or}
 use Rattle.std.proofs.lemmas.Int.{ints}
 use Rattle.palm_domain.specs.Rows.{Ascends}
-use Rattle.palm_domain.proofs.Ascending.{get_or-rises}
-use Rattle.palm_domain.proofs.Comparisons.{lt_from_is_lt, ge_from_is_lt}
+use Rattle.palm_domain.proofs.cited.Ascending.{get_or-rises}
+use Rattle.palm_domain.proofs.cited.Comparisons.{lt_from_is_lt, ge_from_is_lt}
 use Rattle.palm_domain.proofs.places.search.Goals as goal
 
 -- the values up to a low one are low, and those from a high one on are high

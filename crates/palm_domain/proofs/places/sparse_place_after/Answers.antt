@@ -2,8 +2,8 @@ use Rattle.std.proofs.Common.{◌≡◌, ℕ, ℤ, pos, ◌+ℤ◌, ◌+◌, ◌
 use Rattle.std.proofs.lemmas.Int.{ints}
 use Rattle.palm_domain.specs.Places.{IsPlaceFrom}
 use Rattle.palm_domain.specs.Rows.{Ascends}
-use Rattle.palm_domain.proofs.Ascending.{get_or-rises, get_or-ascends, above_others}
-use Rattle.palm_domain.proofs.Comparisons.{same_from_int_eq, apart_from_int_eq}
+use Rattle.palm_domain.proofs.cited.Ascending.{get_or-rises, get_or-ascends, above_others}
+use Rattle.palm_domain.proofs.cited.Comparisons.{same_from_int_eq, apart_from_int_eq}
 use Rattle.palm_domain.proofs.places.sparse_place_after.Goals as goal
 use Rattle.palm_domain.proofs.places.sparse_place_after.Goals.{else-place-values-via-then-place-values+else-eq, else-place-values-via-else-place-values}
 

@@ -1,8 +1,8 @@
 use Rattle.std.proofs.Common.{arith, ◌≡◌, ℕ, ℤ, ◌<ℤ◌, ◌-◌, ◌<◌, ◌≤◌, List, length, get_or}
 use Rattle.std.proofs.lemmas.Int.{ints}
 use Rattle.palm_domain.specs.Rows.{Ascends}
-use Rattle.palm_domain.proofs.Ascending.{get_or-rises}
-use Rattle.palm_domain.proofs.Comparisons.{lt_from_is_lt}
+use Rattle.palm_domain.proofs.cited.Ascending.{get_or-rises}
+use Rattle.palm_domain.proofs.cited.Comparisons.{lt_from_is_lt}
 use Rattle.palm_domain.proofs.places.sparse_place_from.Goals as goal
 use Rattle.palm_domain.proofs.places.sparse_place_from.Goals.{then-end-eq0-via-then-end-eq0, then-end-eq0-via-else-end-eq0+then-lt}
 

@@ -1,6 +1,6 @@
 use Rattle.std.proofs.Common.{get_or, arith, sym, ◌∙◌, ap}
 use Rattle.std.proofs.lemmas.List.{get_or_default}
-use Rattle.palm_domain.proofs.Comparisons.{apart_from_int_eq}
+use Rattle.palm_domain.proofs.cited.Comparisons.{apart_from_int_eq}
 use Rattle.palm_domain.proofs.RowMarks.{place_is}
 use Rattle.palm_domain.proofs.places.sparse_place_of.Goals as goal
 use Rattle.palm_domain.proofs.places.sparse_place_of.Goals.{else-place-values-via-then-place-values+else-eq, else-place-values-via-else-place-values}

@@ -4,7 +4,7 @@ use Rattle.palm_model.specs.State.{IsGround}
 use Rattle.palm_engine.specs.Posted.{active_of, actives_of}
 use Rattle.palm_engine.proofs.Gathering.{flat_negation, flat_ground}
 use Rattle.palm_engine.proofs.Placing.{placed_same, placed_within}
-use Rattle.palm_engine.proofs.Results.{on_ok}
+use Rattle.palm_engine.proofs.cited.Results.{on_ok}
 use Rattle.palm_engine.proofs.conflicts.add_flat.Goals as goal
 
 pub bounds-posted-place_of : goal.bounds-posted-place_of

@@ -1,5 +1,5 @@
 use Rattle.palm_engine.proofs.Gathering.{conflict_listed, empty_logged}
-use Rattle.palm_engine.proofs.Results.{on_ok}
+use Rattle.palm_engine.proofs.cited.Results.{on_ok}
 use Rattle.palm_engine.proofs.conflicts.conflict_of.Goals as goal
 
 pub explanations-requires : goal.explanations-requires

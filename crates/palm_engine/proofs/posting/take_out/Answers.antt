@@ -1,10 +1,10 @@
 use Rattle.std.proofs.Common.{sym, ap, ◌∙◌}
-use Rattle.palm_base.proofs.Members.{member_map}
+use Rattle.palm_base.proofs.cited.Members.{member_map}
 use Rattle.palm_model.specs.Log.{Active}
 use Rattle.palm_engine.specs.Posted.{active_of, actives_of}
 use Rattle.palm_engine.proofs.Placing.{at_place, placed_same, removed_names}
 use Rattle.palm_engine.proofs.Scopes.{active_is_connected}
-use Rattle.palm_engine.proofs.Withdrawing.{taken_out_kept, taken_out_withdraws}
+use Rattle.palm_engine.proofs.cited.Withdrawing.{taken_out_kept, taken_out_withdraws}
 use Rattle.palm_engine.proofs.posting.take_out.Goals as goal
 
 pub withdraw-requires-clause-connected : goal.withdraw-requires-clause-connected

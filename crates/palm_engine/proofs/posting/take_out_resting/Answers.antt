@@ -3,7 +3,7 @@ use Rattle.std.specs.Prelude.{IfSome, false}
 use Rattle.palm_agenda.specs.Names.{IsPartedAt}
 use Rattle.palm_engine.specs.Posted.{active_of, actives_of, is_decision, is_negation}
 use Rattle.palm_engine.proofs.Placing.{at_place, behind_decisions, front_stands, map_remove, removed_rises, rest_stands}
-use Rattle.palm_engine.proofs.Withdrawing.{IsWalked, walk_starts, walk_ends, walked_out, walked_past}
+use Rattle.palm_engine.proofs.cited.Withdrawing.{IsWalked, walk_starts, walk_ends, walked_out, walked_past}
 use Rattle.palm_engine.proofs.posting.take_out_resting.Goals as goal
 
 pub loop-posted-init : goal.loop-posted-init

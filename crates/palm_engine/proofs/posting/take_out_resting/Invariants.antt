@@ -1,6 +1,6 @@
 use Rattle.std.proofs.Common.{◌-◌, length}
 use Rattle.palm_engine.specs.Posted.{actives_of}
-use Rattle.palm_engine.proofs.Withdrawing.{IsWalked}
+use Rattle.palm_engine.proofs.cited.Withdrawing.{IsWalked}
 use Rattle.palm_engine.proofs.posting.take_out_resting.Given as goal
 
 abbrev pub invariant-loop-posted : goal.invariant-loop-posted

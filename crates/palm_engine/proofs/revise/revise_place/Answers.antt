@@ -1,5 +1,5 @@
 use Rattle.std.proofs.Common.{sym, subst}
-use Rattle.palm_base.proofs.Telling.{tells_false}
+use Rattle.palm_base.proofs.cited.Telling.{tells_false}
 use Rattle.palm_base.specs.declared.terms.Cid.{Cid}
 use Rattle.palm_domain.specs.Rows.{initial_of}
 use Rattle.palm_model.specs.Domains.{values_of}

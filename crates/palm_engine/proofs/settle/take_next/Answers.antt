@@ -1,5 +1,5 @@
 use Rattle.std.proofs.Common.{◌≡◌, sym, ◌∙◌, refl}
-use Rattle.palm_base.proofs.Telling.{tells_false}
+use Rattle.palm_base.proofs.cited.Telling.{tells_false}
 use Rattle.palm_engine.specs.Settling.{HasReached}
 use Rattle.palm_engine.proofs.Settles.{some_map, none_of, none_told}
 use Rattle.palm_engine.proofs.settle.take_next.Goals as goal

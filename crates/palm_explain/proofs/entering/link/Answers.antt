@@ -1,6 +1,6 @@
 use Rattle.std.proofs.Common.{◌∙◌, take, slice_index_or, sym}
 use Rattle.std.proofs.lemmas.Option.{get_or_from_slice_get, slice_get-get_or}
-use Rattle.palm_base.proofs.Members.{member_get}
+use Rattle.palm_base.proofs.cited.Members.{member_get}
 use Rattle.palm_explain.specs.Graph.{graph_of}
 use Rattle.palm_explain.proofs.Changes.{linked_key, linked_next}
 use Rattle.palm_explain.proofs.Writes.{room_then}

@@ -2,7 +2,7 @@ use Rattle.std.proofs.Common.{◌∙◌, slice_index_or, Contains, inl, inr, sym
 use Rattle.std.proofs.lemmas.Bool.{cases_eq}
 use Rattle.std.proofs.lemmas.List.{take_all}
 use Rattle.std.proofs.lemmas.Option.{get_or_from_slice_get, slice_get-get_or}
-use Rattle.palm_base.proofs.Members.{member_get, member_take_more}
+use Rattle.palm_base.proofs.cited.Members.{member_get, member_take_more}
 use Rattle.palm_explain.specs.Graph.{IsKey, IsReadyAt}
 use Rattle.palm_explain.proofs.Writes.{room_then}
 use Rattle.palm_explain.proofs.entering.reserve_links.Goals as goal

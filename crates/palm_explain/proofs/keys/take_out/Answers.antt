@@ -1,5 +1,5 @@
 use Rattle.std.proofs.Common.{◌≡◌, Some, remove, slice_get, Contains, sym, subst}
-use Rattle.palm_base.proofs.Members.{member_remove, remove_member}
+use Rattle.palm_base.proofs.cited.Members.{member_remove, remove_member}
 use Rattle.palm_model.specs.Constraint.{Distinct}
 use Rattle.palm_explain.proofs.Once.{distinct_remove, removed_apart}
 use Rattle.palm_explain.proofs.keys.take_out.Goals as goal

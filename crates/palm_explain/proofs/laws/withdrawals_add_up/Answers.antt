@@ -1,4 +1,4 @@
-use Rattle.palm_explain.proofs.Withdrawn.{adds_up, lost_in_two, two_lost}
+use Rattle.palm_explain.proofs.cited.Withdrawn.{adds_up, lost_in_two, two_lost}
 use Rattle.palm_explain.proofs.laws.withdrawals_add_up.Goals as goal
 
 pub returns-clause-left : goal.returns-clause-left

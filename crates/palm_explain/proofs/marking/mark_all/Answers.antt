@@ -1,6 +1,6 @@
 use Rattle.std.proofs.Common.{◌∙◌, slice_index_or, sym, subst}
 use Rattle.std.proofs.lemmas.Option.{get_or_from_slice_get, slice_get-get_or}
-use Rattle.palm_base.proofs.Members.{member_get}
+use Rattle.palm_base.proofs.cited.Members.{member_get}
 use Rattle.palm_explain.specs.Graph.{IsKey, marks_of}
 use Rattle.palm_explain.proofs.Chains.{grown_then}
 use Rattle.palm_explain.proofs.Changes.{keys_all, keys_next}

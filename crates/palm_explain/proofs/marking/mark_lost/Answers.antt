@@ -1,5 +1,5 @@
 use Rattle.std.proofs.Common.{◌∙◌, ℕ, List, [], ◌∷◌, slice_index_or, sym, subst}
-use Rattle.palm_base.proofs.Members.{member_get}
+use Rattle.palm_base.proofs.cited.Members.{member_get}
 use Rattle.palm_explain.specs.Chain.{IsLine, nexts_of}
 use Rattle.palm_explain.specs.Graph.{IsGraph, IsKey, graph_of, marks_of}
 use Rattle.palm_explain.proofs.Chains.{chain_one, empty_from, first_marked, first_of, no_line}

@@ -1,5 +1,5 @@
 use Rattle.std.proofs.Common.{◌≡◌, ◌∙◌, ◌∷◌, ◌-◌, ◌<◌, ℕ, true, length, sym, ap, subst, arith, rules}
-use Rattle.palm_base.proofs.Members.{member_get, member_here}
+use Rattle.palm_base.proofs.cited.Members.{member_get, member_here}
 use Rattle.palm_explain.specs.Chain.{next_or, nexts_of}
 use Rattle.palm_explain.specs.Graph.{HasMarked, IsDependent, IsKey, graph_of, marks_of}
 use Rattle.palm_explain.proofs.Chains.{mark_key, sound_next, spread_closed, spread_line, spreading_marked, spreading_more, spreading_next, spreading_next_key, spreading_next_marked, spreading_short, spreading_start, spreading_within}

@@ -1,7 +1,7 @@
 use Rattle.std.proofs.Common.{◌≡◌, ◌∙◌, ◌-◌, ◌+◌, ℕ, true, false, replicate, slice_index_or, ◌∷◌, [], Contains, inl, inr, refl, sym, ap, subst, arith, rules}
 use Rattle.std.proofs.lemmas.Bool.{cases_Bool}
 use Rattle.std.proofs.lemmas.Option.{slice_get-get_or}
-use Rattle.palm_base.proofs.Members.{member_get, member_nil}
+use Rattle.palm_base.proofs.cited.Members.{member_get, member_nil}
 use Rattle.palm_model.specs.Log.{Rises}
 use Rattle.slab.proofs.SlabLemmas.{ContainsKey-within}
 use Rattle.palm_explain.specs.Merging.{IsMerged}

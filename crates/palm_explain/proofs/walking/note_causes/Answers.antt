@@ -1,6 +1,6 @@
 use Rattle.std.proofs.Common.{◌≡◌, ◌∙◌, ◌<◌, ◌≤◌, get_or, length, slice_index_or, sym, ap, subst, Contains}
 use Rattle.std.proofs.lemmas.Option.{get_or_from_slice_get, slice_get-get_or}
-use Rattle.palm_base.proofs.Members.{member_get}
+use Rattle.palm_base.proofs.cited.Members.{member_get}
 use Rattle.palm_explain.specs.Graph.{graph_of, is_due, link_of, said}
 use Rattle.palm_explain.proofs.Changes.{listed_all, listed_next}
 use Rattle.palm_explain.proofs.walking.note_causes.Goals as goal

@@ -1,6 +1,6 @@
 use Rattle.std.proofs.Common.{◌≡◌, ◌∙◌, ◌+◌, ◌<◌, take, [], IsSome, inl, inr, refl, sym, ap, subst}
 use Rattle.std.proofs.lemmas.List.{take_all}
-use Rattle.palm_base.proofs.Members.{member_nil, member_take_more}
+use Rattle.palm_base.proofs.cited.Members.{member_nil, member_take_more}
 use Rattle.palm_explain.specs.Graph.{HasMarked, IsKey, IsValueKey, graph_of, is_due, pair_at}
 use Rattle.palm_explain.specs.Rows.{key_at}
 use Rattle.palm_explain.proofs.Changes.{marked_none, marked_one, marked_then, more_last, more_left}

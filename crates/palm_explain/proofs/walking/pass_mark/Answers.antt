@@ -1,6 +1,6 @@
 use Rattle.std.proofs.Common.{◌≡◌, ◌∙◌, ℕ, true, refl, sym, ap, subst}
 use Rattle.palm_model.specs.Log.{same_cid}
-use Rattle.palm_events.proofs.Names.{cid_same, same_cid_itself}
+use Rattle.palm_events.proofs.cited.Names.{cid_same, same_cid_itself}
 use Rattle.palm_explain.specs.Graph.{HasMarked, IsBy, IsCause, IsKey, Link, graph_of, link_of, marks_of, said}
 use Rattle.palm_explain.proofs.Changes.{handed_on}
 use Rattle.palm_explain.proofs.Graphs.{some_same}

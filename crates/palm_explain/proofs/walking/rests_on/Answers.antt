@@ -2,7 +2,7 @@ use Rattle.std.proofs.Common.{◌≡◌, ◌≢◌, ◌∙◌, ◌-◌, ◌+◌,
 use Rattle.std.proofs.lemmas.Bool.{false≢true}
 use Rattle.std.proofs.lemmas.Option.{slice_get-get_or, slice_get_within}
 use Rattle.palm_base.specs.Tells.{Tells}
-use Rattle.palm_base.proofs.Members.{member_get}
+use Rattle.palm_base.proofs.cited.Members.{member_get}
 use Rattle.palm_explain.specs.Graph.{AreBefore, HasPassed, IsBy, IsCause, IsKey, NamesAt, graph_of, link_of, marks_of, said}
 use Rattle.palm_explain.proofs.Graphs.{cause_key, member_key}
 use Rattle.palm_explain.proofs.Visits.{none_before, one_before, one_way, told_by, told_first, told_names, told_not}

@@ -3,7 +3,7 @@ use Rattle.std.proofs.Math.Nat.{min-le_left, min-le_right}
 use Rattle.std.proofs.lemmas.List.{take_all}
 use Rattle.std.proofs.lemmas.Option.{get_or_from_slice_get}
 use Rattle.indexmap.specs.IndexSet.{insert_all, spare}
-use Rattle.palm_base.proofs.Members.{member_nil, member_take_more}
+use Rattle.palm_base.proofs.cited.Members.{member_nil, member_take_more}
 use Rattle.palm_model.specs.Constraint.{Distinct}
 use Rattle.palm_model.specs.Event.{vars_of}
 use Rattle.palm_model.specs.Log.{Removal}

@@ -1,6 +1,6 @@
 use Rattle.std.proofs.Common.{ap, not}
 use Rattle.palm_domain.specs.Rows.{present_values}
-use Rattle.palm_filter.proofs.Listed.{listed_told}
+use Rattle.palm_filter.proofs.cited.Listed.{listed_told}
 use Rattle.palm_filter.proofs.reasons.is_missing.Goals as goal
 
 pub returns : goal.returns

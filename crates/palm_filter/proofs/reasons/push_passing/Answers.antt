@@ -2,7 +2,7 @@ use Rattle.std.proofs.Common.{◌≡◌, ◌++◌, ◌+◌, List, ℤ, length, t
 use Rattle.std.proofs.lemmas.List.{take_all}
 use Rattle.palm_base.specs.declared.terms.Pair.{Pair}
 use Rattle.palm_model.specs.Removed.{pairs_of}
-use Rattle.palm_model.proofs.Reasons.{pairs_more, pairs_same}
+use Rattle.palm_model.proofs.cited.Reasons.{pairs_more, pairs_same}
 use Rattle.palm_filter.proofs.reasons.push_passing.Goals as goal
 use Rattle.palm_filter.proofs.reasons.push_passing.Goals.{then-passes, else-passes}
 

@@ -1,5 +1,5 @@
 use Rattle.std.proofs.Common.{Contains}
-use Rattle.palm_model.proofs.Closing.{closed_by_member, closed_by_all}
+use Rattle.palm_model.proofs.cited.Closing.{closed_by_member, closed_by_all}
 use Rattle.palm_laws.proofs.closed.closed_domains_are_closed_by_each.Goals as goal
 
 pub returns : goal.returns

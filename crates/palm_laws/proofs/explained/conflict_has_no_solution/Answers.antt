@@ -1,5 +1,5 @@
 use Rattle.std.proofs.Common.{Contains}
-use Rattle.palm_laws.proofs.Solutions.{conflict_no_solution}
+use Rattle.palm_laws.proofs.cited.Solutions.{conflict_no_solution}
 use Rattle.palm_laws.proofs.explained.conflict_has_no_solution.Goals as goal
 
 pub returns : goal.returns

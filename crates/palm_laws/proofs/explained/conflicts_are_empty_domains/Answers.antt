@@ -1,5 +1,5 @@
 use Rattle.std.proofs.Common.{Contains}
-use Rattle.palm_laws.proofs.Solutions.{conflict_empty, empty_conflict}
+use Rattle.palm_laws.proofs.cited.Solutions.{conflict_empty, empty_conflict}
 use Rattle.palm_laws.proofs.explained.conflicts_are_empty_domains.Goals as goal
 
 pub returns : goal.returns

@@ -1,5 +1,5 @@
 use Rattle.std.proofs.Common.{Contains}
-use Rattle.palm_laws.proofs.Solutions.{explained_missing, missing_explained}
+use Rattle.palm_laws.proofs.cited.Solutions.{explained_missing, missing_explained}
 use Rattle.palm_laws.proofs.explained.explained_values_are_the_missing_ones.Goals as goal
 
 pub returns : goal.returns

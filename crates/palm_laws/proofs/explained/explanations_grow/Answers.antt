@@ -1,5 +1,5 @@
 use Rattle.std.proofs.Common.{Contains}
-use Rattle.palm_laws.proofs.Solutions.{explains_more}
+use Rattle.palm_laws.proofs.cited.Solutions.{explains_more}
 use Rattle.palm_laws.proofs.explained.explanations_grow.Goals as goal
 
 pub returns : goal.returns

@@ -1,4 +1,4 @@
-use Rattle.palm_laws.proofs.Solutions.{formed_declared}
+use Rattle.palm_laws.proofs.cited.Solutions.{formed_declared}
 use Rattle.palm_laws.proofs.explained.well_formed_constraints_are_declared.Goals as goal
 
 pub returns : goal.returns

@@ -1,5 +1,5 @@
 use Rattle.std.proofs.Common.{Contains}
-use Rattle.palm_laws.proofs.Uniqueness.{greatest_unique}
+use Rattle.palm_laws.proofs.cited.Uniqueness.{greatest_unique}
 use Rattle.palm_laws.proofs.greatest.greatest_domains_are_unique.Goals as goal
 
 pub returns : goal.returns

@@ -1,4 +1,4 @@
-use Rattle.palm_laws.proofs.Existence.{greatest_exists}
+use Rattle.palm_laws.proofs.cited.Existence.{greatest_exists}
 use Rattle.palm_laws.proofs.greatest.greatest_domains_exist.Goals as goal
 
 pub returns : goal.returns

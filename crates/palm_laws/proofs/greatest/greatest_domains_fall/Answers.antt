@@ -1,5 +1,5 @@
 use Rattle.std.proofs.Common.{Contains}
-use Rattle.palm_laws.proofs.Uniqueness.{greatest_falls}
+use Rattle.palm_laws.proofs.cited.Uniqueness.{greatest_falls}
 use Rattle.palm_laws.proofs.greatest.greatest_domains_fall.Goals as goal
 
 pub returns : goal.returns

@@ -1,4 +1,4 @@
-use Rattle.palm_model.proofs.Trials.{support_known}
+use Rattle.palm_model.proofs.cited.Trials.{support_known}
 use Rattle.palm_laws.proofs.supported.support_is_known.Goals as goal
 
 pub returns : goal.returns

@@ -1,5 +1,5 @@
 use Rattle.palm_model.specs.Trial.{IsClosedForAll}
-use Rattle.palm_model.proofs.Narrowing.{narrows_then}
+use Rattle.palm_model.proofs.cited.Narrowing.{narrows_then}
 use Rattle.palm_model.proofs.greatest.close.Goals as goal
 
 pub loop-preserved : goal.loop-preserved

@@ -1,7 +1,7 @@
 use Rattle.std.proofs.Common.{◌≡◌, ◌||◌, take, ◌∙◌}
 use Rattle.palm_model.specs.Closure.{IsClosedFor}
 use Rattle.palm_model.specs.Trial.{EachSupported}
-use Rattle.palm_model.proofs.Narrowing.{narrowed_for, narrowed_variable, scope_supported, or_then, or_else}
+use Rattle.palm_model.proofs.cited.Narrowing.{narrowed_for, narrowed_variable, scope_supported, or_then, or_else}
 use Rattle.palm_model.proofs.greatest.narrow.Goals as goal
 use Rattle.palm_model.proofs.greatest.narrow.Goals.{then-lost, else-lost}
 

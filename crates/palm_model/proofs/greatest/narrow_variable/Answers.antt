@@ -1,5 +1,5 @@
 use Rattle.std.proofs.Common.{◌<◌, length, sym, ◌∙◌, subst, refl}
-use Rattle.palm_model.proofs.Narrowing.{lost_value}
+use Rattle.palm_model.proofs.cited.Narrowing.{lost_value}
 use Rattle.palm_model.proofs.greatest.narrow_variable.Goals as goal
 
 pub loop-index-preserved : goal.loop-index-preserved

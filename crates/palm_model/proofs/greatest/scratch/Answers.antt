@@ -2,8 +2,8 @@ use Rattle.std.proofs.Common.{◌≡◌, ◌++◌, length, take, drop, Contains,
 use Rattle.std.proofs.Math.Seq.{take-append_seam}
 use Rattle.palm_model.specs.Closure.{IsGreatest}
 use Rattle.palm_model.specs.Trial.{IsTriable}
-use Rattle.palm_model.proofs.Formed.{all_triable}
-use Rattle.palm_model.proofs.Narrowing.{greatest_closed}
+use Rattle.palm_model.proofs.cited.Formed.{all_triable}
+use Rattle.palm_model.proofs.cited.Narrowing.{greatest_closed}
 use Rattle.palm_model.proofs.greatest.scratch.Goals as goal
 
 pub close-requires-clause-triable : goal.close-requires-clause-triable

@@ -1,5 +1,5 @@
 use Rattle.std.proofs.Common.{◌≡◌, ◌||◌}
-use Rattle.palm_model.proofs.Narrowing.{narrowed_part, or_then, or_else}
+use Rattle.palm_model.proofs.cited.Narrowing.{narrowed_part, or_then, or_else}
 use Rattle.palm_model.proofs.greatest.sweep.Goals as goal
 use Rattle.palm_model.proofs.greatest.sweep.Goals.{then-lost, else-lost}
 

@@ -3,7 +3,7 @@ use Rattle.palm_model.specs.Limits.{IsUpTo}
 use Rattle.palm_model.specs.Linear.{total}
 use Rattle.palm_model.specs.Trial.{listed}
 use Rattle.palm_model.specs.declared.constraint.Term.{Term}
-use Rattle.palm_model.proofs.Sums.{term_declared, total_more, sum_up_to, sum_read}
+use Rattle.palm_model.proofs.cited.Sums.{term_declared, total_more, sum_up_to, sum_read}
 use Rattle.palm_model.proofs.satisfied.total_of.Goals as goal
 
 pub term_value-sum-requires-clause-declared : goal.term_value-sum-requires-clause-declared

@@ -4,10 +4,10 @@ use Rattle.std.proofs.lemmas.List.{nil_from_length}
 use Rattle.std.proofs.lemmas.List.Elements.{All-take, All-drop, All-contains, Contains-get_or}
 use Rattle.palm_model.specs.Domains.{Has}
 use Rattle.palm_model.specs.Trial.{listed, IsCompleted, IsTriable}
-use Rattle.palm_base.proofs.Telling.{tells_same, tells_both, tells_true, tells_false}
-use Rattle.palm_base.proofs.Members.{member_same, member_there}
+use Rattle.palm_base.proofs.cited.Telling.{tells_same, tells_both, tells_true, tells_false}
+use Rattle.palm_base.proofs.cited.Members.{member_same, member_there}
 use Rattle.palm_model.specs.Part.{Holds}
-use Rattle.palm_model.proofs.Trials.{completed_none, holds_completed}
+use Rattle.palm_model.proofs.cited.Trials.{completed_none, holds_completed}
 use Rattle.palm_model.proofs.Tries.{try_made, open_split, skip_holds, skip_fails, try_changes, try_holds, try_fails, tries_more, tries_fail}
 use Rattle.palm_model.proofs.support.+is_completed.Goals as goal
 

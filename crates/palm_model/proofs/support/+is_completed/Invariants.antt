@@ -1,6 +1,6 @@
 use Rattle.std.proofs.Common.{◌<◌, ℕ, ℤ, length, get_or}
 use Rattle.palm_model.specs.Trial.{listed, ChangesOnly, IsCompleted}
-use Rattle.palm_model.proofs.Trials.{put}
+use Rattle.palm_model.proofs.cited.Trials.{put}
 use Rattle.palm_model.proofs.support.+is_completed.Given as goal
 
 abbrev pub decreases-is_completed : goal.decreases-is_completed

@@ -1,4 +1,4 @@
-use Rattle.palm_base.proofs.Telling.{tells_both, tells_true, tells_false}
+use Rattle.palm_base.proofs.cited.Telling.{tells_both, tells_true, tells_false}
 use Rattle.palm_model.specs.Support.{HasSupport}
 use Rattle.palm_model.proofs.Tries.{support_tried, no_support_tried}
 use Rattle.palm_model.proofs.support.is_supported.Goals as goal

@@ -1,4 +1,4 @@
-use Rattle.palm_read.proofs.LineForms.{one_form}
+use Rattle.palm_read.proofs.cited.LineForms.{one_form}
 use Rattle.palm_read.proofs.laws.one_form.Goals as goal
 
 pub returns : goal.returns

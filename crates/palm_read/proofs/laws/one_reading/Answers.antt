@@ -1,4 +1,4 @@
-use Rattle.palm_read.proofs.Parsing.{one_reading}
+use Rattle.palm_read.proofs.cited.Parsing.{one_reading}
 use Rattle.palm_read.proofs.laws.one_reading.Goals as goal
 
 pub returns : goal.returns

@@ -1,4 +1,4 @@
-use Rattle.palm_read.proofs.Parsing.{one_refusal}
+use Rattle.palm_read.proofs.cited.Parsing.{one_refusal}
 use Rattle.palm_read.proofs.laws.one_refusal.Goals as goal
 
 pub returns : goal.returns

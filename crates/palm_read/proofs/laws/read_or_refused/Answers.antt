@@ -1,4 +1,4 @@
-use Rattle.palm_read.proofs.Parsing.{read_not_refused}
+use Rattle.palm_read.proofs.cited.Parsing.{read_not_refused}
 use Rattle.palm_read.proofs.laws.read_or_refused.Goals as goal
 
 pub returns : goal.returns

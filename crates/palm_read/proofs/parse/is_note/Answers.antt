@@ -1,4 +1,4 @@
-use Rattle.palm_read.proofs.Parsing.{note_at_end, note_at}
+use Rattle.palm_read.proofs.cited.Parsing.{note_at_end, note_at}
 use Rattle.palm_read.proofs.parse.is_note.Goals as goal
 
 pub returns-in-None : goal.returns-in-None

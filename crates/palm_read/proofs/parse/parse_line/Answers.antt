@@ -1,9 +1,9 @@
 use Rattle.std.proofs.Common.{sym}
 use Rattle.palm_read.specs.Token.{tokens_of}
-use Rattle.palm_read.proofs.LineForms.{form_takes}
-use Rattle.palm_read.proofs.Parsing.{comment_read, answered, formless, no_form_held}
+use Rattle.palm_read.proofs.cited.LineForms.{form_takes}
+use Rattle.palm_read.proofs.cited.Parsing.{comment_read, answered, formless, no_form_held}
 use Rattle.palm_read.proofs.PlainTokens.{form_plain}
-use Rattle.palm_read.proofs.SoundLines.{sound_answer}
+use Rattle.palm_read.proofs.cited.SoundLines.{sound_answer}
 use Rattle.palm_read.proofs.parse.parse_line.Goals as goal
 
 pub returns-then-is_note-clause-read : goal.returns-then-is_note-clause-read

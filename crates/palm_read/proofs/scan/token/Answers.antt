@@ -1,6 +1,6 @@
 use Rattle.std.proofs.Common.{refl, sym, ◌∙◌}
 use Rattle.std.proofs.lemmas.List.{nil_from_length}
-use Rattle.palm_read.proofs.TokenLemmas.{part_from_first, none_behind, some_behind, first_token, lexeme_at-first, tokens_of-none}
+use Rattle.palm_read.proofs.cited.TokenLemmas.{part_from_first, none_behind, some_behind, first_token, lexeme_at-first, tokens_of-none}
 use Rattle.palm_read.proofs.scan.token.Goals as goal
 
 pub returns-in_default-clause-none : goal.returns-in_default-clause-none

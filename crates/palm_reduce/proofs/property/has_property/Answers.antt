@@ -1,7 +1,7 @@
 use Rattle.std.proofs.Common.{None, List, sym, subst}
 use Rattle.palm_base.specs.Tells.{Tells}
-use Rattle.palm_base.proofs.Telling.{tells_false, tells_true}
-use Rattle.palm_engine.proofs.Settled.{settling_filters}
+use Rattle.palm_base.proofs.cited.Telling.{tells_false, tells_true}
+use Rattle.palm_engine.proofs.cited.Settled.{settling_filters}
 use Rattle.palm_model.specs.Domains.{Domains}
 use Rattle.palm_model.specs.Log.{Active}
 use Rattle.palm_reduce.specs.Properties.{HasProperty, IsCause, MayBeAsked}

@@ -1,6 +1,6 @@
 use Rattle.std.proofs.Common.{Bool, sym, subst}
 use Rattle.palm_base.specs.Tells.{Tells}
-use Rattle.palm_reduce.specs.Minimal.{AreConflict}
+use Rattle.palm_model.specs.Minimal.{AreConflict}
 use Rattle.palm_reduce.specs.Properties.{HasProperty, MayBeAsked}
 use Rattle.palm_reduce.specs.declared.property.Property.{Property}
 use Rattle.palm_reduce.proofs.Asking.{tells_absence, tells_conflict}

@@ -1,5 +1,5 @@
 use Rattle.std.proofs.Common.{ℕ, List, Contains, sym, subst}
-use Rattle.palm_engine.proofs.Results.{on_ok}
+use Rattle.palm_engine.proofs.cited.Results.{on_ok}
 use Rattle.palm_model.specs.Conflict.{IsKeptConflict}
 use Rattle.palm_model.specs.Log.{IsListOf, NamesOfPair, Removal, log_pairs}
 use Rattle.palm_model.specs.State.{IsEmptyAt, present}

@@ -1,5 +1,5 @@
 use Rattle.std.proofs.Common.{List, refl, subst, sym}
-use Rattle.palm_base.proofs.Telling.{tells_false}
+use Rattle.palm_base.proofs.cited.Telling.{tells_false}
 use Rattle.palm_book.specs.Book.{user_at}
 use Rattle.palm_book.specs.declared.book.BookCon.{BookCon}
 use Rattle.palm_model.specs.Domains.{Domains}

@@ -1,5 +1,5 @@
 use Rattle.std.proofs.Common.{List, Contains, sym, subst}
-use Rattle.palm_base.proofs.Telling.{tells_false}
+use Rattle.palm_base.proofs.cited.Telling.{tells_false}
 use Rattle.palm_book.specs.Book.{active_of, initial_of}
 use Rattle.palm_model.specs.Domains.{Domains}
 use Rattle.palm_model.specs.Log.{Active}

@@ -1,6 +1,6 @@
 use Rattle.std.proofs.Common.{◌≡◌, ◌∙◌, ℕ, sym, subst, arith}
 use Rattle.palm_book.specs.Book.{active_of, initial_of}
-use Rattle.palm_reduce.specs.Minimal.{IsMinimal}
+use Rattle.palm_model.specs.Minimal.{IsMinimal}
 use Rattle.palm_reduce.specs.Properties.{HasProperty}
 use Rattle.palm_reduce.specs.Walked.{HasWalked}
 use Rattle.palm_reduce.specs.declared.reduce.Found.{Found}

@@ -1,7 +1,7 @@
 use Rattle.std.proofs.Common.{◌<◌, length, Contains, sym, ap, ◌∙◌, subst, arith}
 use Rattle.palm_base.specs.declared.terms.Cid.TheVariants.{Decide}
 use Rattle.palm_base.specs.declared.terms.Pair.{Pair}
-use Rattle.palm_base.proofs.Telling.{tells_false}
+use Rattle.palm_base.proofs.cited.Telling.{tells_false}
 use Rattle.palm_repair.specs.Repair.{weight_of}
 use Rattle.palm_repair.proofs.Choosing.{heaviest_all, heaviest_still, heaviest_then}
 use Rattle.palm_repair.proofs.Reading.{at_member, at_place}

@@ -1,4 +1,4 @@
-use Rattle.palm_repair.proofs.Existing.{takes_short}
+use Rattle.palm_repair.proofs.cited.Existing.{takes_short}
 use Rattle.palm_repair.proofs.laws.listed_nogoods_are_few.Goals as goal
 
 pub returns : goal.returns

@@ -1,4 +1,4 @@
-use Rattle.palm_events.proofs.Reasons.{reasons_right}
+use Rattle.palm_events.proofs.cited.Reasons.{reasons_right}
 use Rattle.palm_repair.proofs.Blocking.{posting_posted, takes_posted, starts_at_turn, turns_at_turn}
 use Rattle.palm_repair.proofs.laws.no_nogood_is_whole.Goals as goal
 

@@ -1,5 +1,5 @@
-use Rattle.palm_events.proofs.Reasons.{reasons_right}
-use Rattle.palm_repair.proofs.Existing.{repair_exists}
+use Rattle.palm_events.proofs.cited.Reasons.{reasons_right}
+use Rattle.palm_repair.proofs.cited.Existing.{repair_exists}
 use Rattle.palm_repair.proofs.laws.repairs_exist.Goals as goal
 
 pub returns : goal.returns

@@ -1,5 +1,5 @@
-use Rattle.palm_events.proofs.Reasons.{reasons_right}
-use Rattle.palm_repair.proofs.Ending.{repair_leaves}
+use Rattle.palm_events.proofs.cited.Reasons.{reasons_right}
+use Rattle.palm_repair.proofs.cited.Ending.{repair_leaves}
 use Rattle.palm_repair.proofs.laws.repairs_leave_the_log.Goals as goal
 
 pub returns : goal.returns

@@ -1,5 +1,5 @@
-use Rattle.palm_events.proofs.Reasons.{reasons_right}
-use Rattle.palm_repair.proofs.Alone.{repair_same}
+use Rattle.palm_events.proofs.cited.Reasons.{reasons_right}
+use Rattle.palm_repair.proofs.cited.Alone.{repair_same}
 use Rattle.palm_repair.proofs.laws.repairs_without_guide_and_order_are_unique.Goals as goal
 
 pub returns : goal.returns

@@ -1,4 +1,4 @@
-use Rattle.palm_events.proofs.Reasons.{reasons_right}
+use Rattle.palm_events.proofs.cited.Reasons.{reasons_right}
 use Rattle.palm_repair.proofs.Repairing.{repair_settles_keep}
 use Rattle.palm_repair.proofs.laws.settlings_keep_repairing.Goals as goal
 

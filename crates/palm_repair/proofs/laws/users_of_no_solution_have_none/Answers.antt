@@ -1,6 +1,6 @@
-use Rattle.palm_events.proofs.Reasons.{reasons_right}
-use Rattle.palm_search.proofs.Leaving.{run_unsolved, run_users}
-use Rattle.palm_repair.proofs.Ending.{repair_ended}
+use Rattle.palm_events.proofs.cited.Reasons.{reasons_right}
+use Rattle.palm_search.proofs.cited.Leaving.{run_unsolved, run_users}
+use Rattle.palm_repair.proofs.cited.Ending.{repair_ended}
 use Rattle.palm_repair.proofs.laws.users_of_no_solution_have_none.Goals as goal
 
 pub returns : goal.returns

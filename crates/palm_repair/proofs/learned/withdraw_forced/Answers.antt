@@ -1,7 +1,7 @@
 use Rattle.std.proofs.Common.{◌+◌, take, refl, sym, ap, ◌∙◌, subst}
 use Rattle.palm_base.specs.declared.terms.Cid.TheVariants.{Not}
 use Rattle.palm_base.specs.declared.terms.Pair.{Pair}
-use Rattle.palm_base.proofs.Telling.{tells_false}
+use Rattle.palm_base.proofs.cited.Telling.{tells_false}
 use Rattle.palm_engine.specs.Engine.{KeepsCounts, View}
 use Rattle.palm_model.specs.Event.{Withdraws}
 use Rattle.palm_model.specs.Log.{IsActive}

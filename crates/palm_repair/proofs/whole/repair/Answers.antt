@@ -1,8 +1,8 @@
 use Rattle.std.proofs.Common.{None, sym, subst}
 use Rattle.std.specs.Prelude.{is_some}
-use Rattle.palm_events.proofs.Reasons.{reasons_right}
+use Rattle.palm_events.proofs.cited.Reasons.{reasons_right}
 use Rattle.palm_engine.specs.Engine.{HasSettled}
-use Rattle.palm_engine.proofs.Walking.{filters_none}
+use Rattle.palm_engine.proofs.cited.Walking.{filters_none}
 use Rattle.palm_repair.specs.Answers.{HasRepaired}
 use Rattle.palm_repair.proofs.Running.{answer_true, interrupted_filters, moved_leaves, moved_returns, repaired, settled_filters}
 use Rattle.palm_repair.proofs.whole.repair.Goals as goal

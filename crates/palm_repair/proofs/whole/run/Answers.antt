@@ -1,7 +1,7 @@
 use Rattle.std.proofs.Common.{◌+◌, ◌-◌, None, Some, min, length, refl, sym, ap, ◌∙◌, subst}
 use Rattle.std.specs.Prelude.{is_some}
 use Rattle.palm_base.specs.declared.limits.TheConstants.{LAST_COUNT}
-use Rattle.palm_events.proofs.Reasons.{reasons_right}
+use Rattle.palm_events.proofs.cited.Reasons.{reasons_right}
 use Rattle.palm_engine.specs.Engine.{HasSettled}
 use Rattle.palm_repair.specs.Learned.{repair_state}
 use Rattle.palm_repair.specs.Turning.{Advances, IsCutTurn}

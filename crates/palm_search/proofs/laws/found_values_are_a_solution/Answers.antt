@@ -1,5 +1,5 @@
-use Rattle.palm_events.proofs.Reasons.{reasons_right}
-use Rattle.palm_search.proofs.Leaving.{run_ended, run_found}
+use Rattle.palm_events.proofs.cited.Reasons.{reasons_right}
+use Rattle.palm_search.proofs.cited.Leaving.{run_ended, run_found}
 use Rattle.palm_search.proofs.laws.found_values_are_a_solution.Goals as goal
 
 pub returns : goal.returns

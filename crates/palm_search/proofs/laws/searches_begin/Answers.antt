@@ -1,4 +1,4 @@
-use Rattle.palm_search.proofs.Keeping.{begins}
+use Rattle.palm_search.proofs.cited.Keeping.{begins}
 use Rattle.palm_search.proofs.laws.searches_begin.Goals as goal
 
 pub returns : goal.returns

@@ -1,5 +1,5 @@
-use Rattle.palm_events.proofs.Reasons.{reasons_right}
-use Rattle.palm_search.proofs.Whole.{search_exists}
+use Rattle.palm_events.proofs.cited.Reasons.{reasons_right}
+use Rattle.palm_search.proofs.cited.Whole.{search_exists}
 use Rattle.palm_search.proofs.laws.searches_exist.Goals as goal
 
 pub returns : goal.returns

@@ -1,5 +1,5 @@
-use Rattle.palm_events.proofs.Reasons.{reasons_right}
-use Rattle.palm_search.proofs.Leaving.{search_rests}
+use Rattle.palm_events.proofs.cited.Reasons.{reasons_right}
+use Rattle.palm_search.proofs.cited.Leaving.{search_rests}
 use Rattle.palm_search.proofs.laws.searches_leave_the_constraints.Goals as goal
 
 pub returns : goal.returns

@@ -1,4 +1,4 @@
-use Rattle.palm_search.proofs.Keeping.{takes_keep}
+use Rattle.palm_search.proofs.cited.Keeping.{takes_keep}
 use Rattle.palm_search.proofs.laws.turns_keep_searching.Goals as goal
 
 pub returns : goal.returns

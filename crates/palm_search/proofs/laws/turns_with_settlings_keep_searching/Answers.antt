@@ -1,5 +1,5 @@
-use Rattle.palm_events.proofs.Reasons.{reasons_right}
-use Rattle.palm_search.proofs.Keeping.{turns_keep}
+use Rattle.palm_events.proofs.cited.Reasons.{reasons_right}
+use Rattle.palm_search.proofs.cited.Keeping.{turns_keep}
 use Rattle.palm_search.proofs.laws.turns_with_settlings_keep_searching.Goals as goal
 
 pub returns : goal.returns

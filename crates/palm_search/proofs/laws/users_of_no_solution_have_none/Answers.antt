@@ -1,5 +1,5 @@
-use Rattle.palm_events.proofs.Reasons.{reasons_right}
-use Rattle.palm_search.proofs.Leaving.{run_ended, run_unsolved, run_users}
+use Rattle.palm_events.proofs.cited.Reasons.{reasons_right}
+use Rattle.palm_search.proofs.cited.Leaving.{run_ended, run_unsolved, run_users}
 use Rattle.palm_search.proofs.laws.users_of_no_solution_have_none.Goals as goal
 
 pub returns : goal.returns

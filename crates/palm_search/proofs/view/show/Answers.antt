@@ -1,6 +1,6 @@
 use Rattle.std.proofs.Common.{[], ◌∷◌, length, ap, sym, arith, length-append}
 use Rattle.palm_domain.specs.Rows.{present_of}
-use Rattle.palm_search.proofs.Showing.{rows_push}
+use Rattle.palm_search.proofs.cited.Showing.{rows_push}
 use Rattle.palm_search.proofs.view.show.Goals as goal
 
 pub loop-var-preserved : goal.loop-var-preserved

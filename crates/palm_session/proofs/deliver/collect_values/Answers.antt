@@ -2,8 +2,8 @@ use Rattle.std.proofs.Common.{List, [], ◌∷◌, ◌++◌, ℤ, filter, ap, �
 use Rattle.palm_domain.specs.Rows.{present_of}
 use Rattle.palm_model.specs.Domains.{values_of}
 use Rattle.palm_model.specs.Removed.{is_listed}
-use Rattle.palm_model.proofs.Ascending.{ascends_at}
-use Rattle.palm_model.proofs.Reasons.{member_listed}
+use Rattle.palm_model.proofs.cited.Ascending.{ascends_at}
+use Rattle.palm_model.proofs.cited.Reasons.{member_listed}
 use Rattle.palm_session.proofs.Presents.{filter_taken, filter_left, presents_listed, not_listed}
 use Rattle.palm_session.proofs.deliver.collect_values.Goals as goal
 use Rattle.palm_session.proofs.deliver.collect_values.Goals.{then-contains+in_ok-push, else-contains}

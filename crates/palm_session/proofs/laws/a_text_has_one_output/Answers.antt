@@ -1,4 +1,4 @@
-use Rattle.palm_session.proofs.LawsOfTexts.{output_once}
+use Rattle.palm_session.proofs.cited.LawsOfTexts.{output_once}
 use Rattle.palm_session.proofs.laws.a_text_has_one_output.Goals as goal
 
 pub returns : goal.returns

@@ -1,4 +1,4 @@
-use Rattle.palm_session.proofs.LawsOfStates.{fresh_is}
+use Rattle.palm_session.proofs.cited.LawsOfStates.{fresh_is}
 use Rattle.palm_session.proofs.laws.fresh_states_are_states.Goals as goal
 
 pub returns : goal.returns

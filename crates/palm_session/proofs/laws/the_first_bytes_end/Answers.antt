@@ -1,5 +1,5 @@
 use Rattle.palm_read.specs.declared.line.Line.TheVariants.{Quit}
-use Rattle.palm_session.proofs.LawsOfAnswers.{first_bytes_read}
+use Rattle.palm_session.proofs.cited.LawsOfAnswers.{first_bytes_read}
 use Rattle.palm_session.proofs.laws.the_first_bytes_end.Goals as goal
 
 pub returns : goal.returns

@@ -1,5 +1,5 @@
 use Rattle.std.proofs.Common.{◌≡◌, length, arith, rules}
-use Rattle.palm_session.proofs.FeedLemmas.{finishes_none, finishes_one, finishes_part}
+use Rattle.palm_session.proofs.cited.FeedLemmas.{finishes_none, finishes_one, finishes_part}
 use Rattle.palm_session.proofs.session.answer_last.Goals as goal
 
 pub returns-then-is_empty-clause-answers : goal.returns-then-is_empty-clause-answers

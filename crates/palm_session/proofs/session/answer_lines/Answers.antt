@@ -1,5 +1,5 @@
 use Rattle.std.proofs.Common.{arith, inl, refl, ◌∙◌}
-use Rattle.palm_session.proofs.FeedLemmas.{so_far_none, so_far_more, feeds_end, feeds_part}
+use Rattle.palm_session.proofs.cited.FeedLemmas.{so_far_none, so_far_more, feeds_end, feeds_part}
 use Rattle.palm_session.proofs.Spending.{counts_add, spends_more}
 use Rattle.palm_session.proofs.session.answer_lines.Goals as goal
 

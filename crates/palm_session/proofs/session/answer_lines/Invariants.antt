@@ -1,7 +1,7 @@
 use Rattle.std.proofs.Common.{◌≡◌, ◌≤◌, ◌-◌, ◌+◌, drop, length}
 use Rattle.palm_session.specs.Serving.{Spends}
 use Rattle.palm_session.specs.State.{IsState}
-use Rattle.palm_session.proofs.FeedLemmas.{SoFar}
+use Rattle.palm_session.proofs.cited.FeedLemmas.{SoFar}
 use Rattle.palm_session.proofs.session.answer_lines.Given as goal
 
 abbrev pub invariant-loop-end : goal.invariant-loop-end

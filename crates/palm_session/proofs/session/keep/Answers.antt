@@ -1,6 +1,6 @@
 use Rattle.std.proofs.Common.{◌≡◌, ◌∙◌, ◌-◌, ℕ, ap, length, min, rules}
 use Rattle.palm_session.specs.declared.limits.TheConstants.{MOST_KEPT_BYTES}
-use Rattle.palm_session.proofs.Keeping.{keeps_first}
+use Rattle.palm_session.proofs.cited.Keeping.{keeps_first}
 use Rattle.palm_session.proofs.session.keep.Goals as goal
 
 pub returns-clause-ok : goal.returns-clause-ok

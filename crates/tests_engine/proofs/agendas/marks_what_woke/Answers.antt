@@ -1,6 +1,6 @@
 use Rattle.std.proofs.Common.{sym, subst, arith}
 use Rattle.palm_agenda.specs.Agenda.{HasPlace, IsConnected, mark_others, mark_own}
-use Rattle.palm_agenda.proofs.Connecting.{place_connected}
+use Rattle.palm_agenda.proofs.cited.Connecting.{place_connected}
 use Rattle.tests_engine.proofs.TwoConnected.{keeps_others, keeps_own, place_after}
 use Rattle.tests_engine.proofs.agendas.marks_what_woke.Goals as goal
 

@@ -1,6 +1,6 @@
 use Rattle.std.proofs.Common.{sym, subst}
 use Rattle.palm_agenda.specs.Agenda.{HasPlace, changed_at, unmarked}
-use Rattle.palm_agenda.proofs.Keeping.{keeps_at, keeps_unmarked}
+use Rattle.palm_agenda.proofs.cited.Keeping.{keeps_at, keeps_unmarked}
 use Rattle.tests_engine.proofs.TwoConnected.{place_after}
 use Rattle.tests_engine.proofs.agendas.unmark_user.Goals as goal
 

@@ -1,6 +1,6 @@
 use Rattle.std.proofs.Common.{List, Contains, subst, sym}
 use Rattle.std.proofs.lemmas.List.Elements.{All-contains}
-use Rattle.palm_base.proofs.Telling.{tells_true}
+use Rattle.palm_base.proofs.cited.Telling.{tells_true}
 use Rattle.palm_base.specs.declared.terms.Cid.TheVariants.{User}
 use Rattle.palm_base.specs.declared.terms.Pair.{Pair}
 use Rattle.palm_domain.specs.Rows.{IsPresent}

@@ -1,6 +1,6 @@
 use Rattle.std.proofs.Common.{rules, ◌≡◌, ◌++◌, ◌∷◌, [], All, List, sym, subst}
 use Rattle.std.proofs.lemmas.List.Elements.{All-push}
-use Rattle.palm_engine.proofs.Results.{on_ok}
+use Rattle.palm_engine.proofs.cited.Results.{on_ok}
 use Rattle.palm_model.specs.Constraint.{IsWellFormed}
 use Rattle.palm_model.specs.declared.constraint.Con.{Con}
 use Rattle.tests_engine.proofs.samples.push_con.Goals as goal

@@ -1,6 +1,6 @@
 use Rattle.std.proofs.Common.{◌≡◌, ap, refl}
 use Rattle.palm_engine.specs.Engine.{View}
-use Rattle.palm_engine.specs.Posted.{user}
+use Rattle.palm_model.specs.State.{user_of}
 use Rattle.palm_kind.specs.Kind.{con_of}
 use Rattle.palm_model.specs.Event.{Posts}
 use Rattle.palm_search.specs.Kept.{HasOnlyUsers}
@@ -11,6 +11,6 @@ pub returns : goal.returns
 returns c =
     let s = c.args.engine.now.state in
     let t = c.post.new.self.state in
-    let a = user c.args.number (con_of c.args.filter) in
+    let a = user_of c.args.number (con_of c.args.filter) in
     either_way (Posts s a t) (c.post.new.self ≡ c.args.engine.now) (HasOnlyUsers t) c.post.result c.post.ensures.ok c.post.ensures.err
     (λ posts. posted_users s t a refl posts c.requires) (λ e. same_users s t (ap (λ (v : View). v.state.active) e) c.requires)

@@ -2,7 +2,7 @@ use Rattle.std.proofs.Common.{◌≡◌, map, filter, All, length, arith, sym, s
 use Rattle.std.proofs.lemmas.List.{take_all}
 use Rattle.palm_book.specs.Book.{active_of}
 use Rattle.palm_book.specs.declared.book.BookCon.{BookCon}
-use Rattle.palm_book.proofs.Actives.{active_cons, active_formed, active_more, active_same}
+use Rattle.palm_book.proofs.cited.Actives.{active_cons, active_formed, active_more, active_same}
 use Rattle.palm_model.specs.Constraint.{IsWellFormed}
 use Rattle.palm_model.specs.Log.{cons_of}
 use Rattle.palm_model.specs.declared.constraint.Con.{Con}

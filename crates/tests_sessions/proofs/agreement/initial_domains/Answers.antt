@@ -2,7 +2,7 @@ use Rattle.std.proofs.Common.{◌≡◌, map, arith, sym, subst, ◌∙◌, ap}
 use Rattle.std.proofs.lemmas.List.{take_all}
 use Rattle.palm_model.specs.Domains.{AllAscend}
 use Rattle.palm_book.specs.Book.{initial_of, Entry}
-use Rattle.palm_book.proofs.Actives.{initial_ascend}
+use Rattle.palm_book.proofs.cited.Actives.{initial_ascend}
 use Rattle.tests_sessions.proofs.agreement.initial_domains.Goals as goal
 
 pub returns-clause-ascend : goal.returns-clause-ascend

@@ -3,9 +3,9 @@ use Rattle.palm_domain.specs.Rows.{initial_of, present_of}
 use Rattle.palm_model.specs.Domains.{values_of}
 use Rattle.palm_model.specs.Removed.{pairs_of}
 use Rattle.palm_model.specs.Reason.{reason, IsReason}
-use Rattle.palm_filter.proofs.Written.{written_right}
+use Rattle.palm_filter.proofs.cited.Written.{written_right}
 use Rattle.filter_compare.specs.Comparison.{comparison_of, meeting_values}
-use Rattle.palm_filter.proofs.Righted.{written_is_right}
+use Rattle.palm_filter.proofs.cited.Righted.{written_is_right}
 use Rattle.filter_compare.proofs.Comparisons.{gives_reason, const_gives_reason}
 use Rattle.filter_compare.proofs.compare.CompareFilterFilter.reason.Goals as goal
 

@@ -1,5 +1,5 @@
 use Rattle.std.proofs.Common.{length, ap, sym, ◌∙◌}
-use Rattle.palm_base.proofs.Telling.{tells_true, tells_false}
+use Rattle.palm_base.proofs.cited.Telling.{tells_true, tells_false}
 use Rattle.palm_domain.specs.Rows.{present_of}
 use Rattle.filter_compare.specs.Comparison.{comparison_of}
 use Rattle.filter_compare.proofs.Comparisons.{asks_declared, answers_supported, answers_lacking, const_answers_supported, const_answers_lacking}

@@ -1,4 +1,4 @@
-use Rattle.palm_base.proofs.Telling.{tells_both, tells_true, tells_false}
+use Rattle.palm_base.proofs.cited.Telling.{tells_both, tells_true, tells_false}
 use Rattle.palm_model.specs.Domains.{values_of}
 use Rattle.palm_domain.specs.Rows.{present_of}
 use Rattle.filter_compare.specs.Comparison.{IsMet}

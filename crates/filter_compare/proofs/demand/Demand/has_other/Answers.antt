@@ -1,10 +1,10 @@
 use Rattle.std.proofs.Common.{◌≡◌, true, nat_lt, arith}
 use Rattle.std.proofs.lemmas.Bool.{both_ways}
 use Rattle.std.proofs.lemmas.Bool.Decides.{nat_tests}
-use Rattle.palm_base.proofs.Telling.{tells_both}
+use Rattle.palm_base.proofs.cited.Telling.{tells_both}
 use Rattle.palm_model.specs.Domains.{values_of}
 use Rattle.palm_domain.specs.Rows.{present_of}
-use Rattle.palm_domain.proofs.Ascending.{Ascends-at}
+use Rattle.palm_domain.proofs.cited.Ascending.{Ascends-at}
 use Rattle.filter_compare.specs.Comparison.{IsMet}
 use Rattle.filter_compare.proofs.Comparisons.{met_by_two}
 use Rattle.filter_compare.proofs.demand.Demand.has_other.Goals as goal

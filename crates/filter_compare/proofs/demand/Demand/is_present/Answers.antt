@@ -1,6 +1,6 @@
 use Rattle.std.proofs.Common.{Contains, FitsSigned, w32, w64, sym, subst, arith}
 use Rattle.std.proofs.lemmas.Int.{ints, to_z-of_z}
-use Rattle.palm_base.proofs.Telling.{tells_both, tells_false}
+use Rattle.palm_base.proofs.cited.Telling.{tells_both, tells_false}
 use Rattle.palm_domain.specs.Rows.{present_of}
 use Rattle.palm_model.specs.Domains.{values_of}
 use Rattle.filter_compare.proofs.Comparisons.{member_between}

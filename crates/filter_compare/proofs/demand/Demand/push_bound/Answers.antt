@@ -1,5 +1,5 @@
 use Rattle.std.proofs.Common.{◌≡◌, ◌++◌, ℕ, ℤ, List, [], ◌∷◌, Contains, sym, ap, ◌∙◌, append-nil, subst}
-use Rattle.palm_base.proofs.Telling.{tells_true, tells_false}
+use Rattle.palm_base.proofs.cited.Telling.{tells_true, tells_false}
 use Rattle.palm_base.specs.declared.terms.Pair.{Pair}
 use Rattle.palm_domain.specs.Rows.{Ascends, initial_of}
 use Rattle.palm_model.specs.Domains.{values_of}

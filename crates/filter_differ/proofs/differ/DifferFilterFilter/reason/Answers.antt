@@ -2,8 +2,8 @@ use Rattle.std.proofs.Common.{◌≡◌, ◌++◌, length, ap, ◌∙◌}
 use Rattle.palm_domain.specs.Rows.{initial_of, present_of}
 use Rattle.palm_model.specs.Reason.{IsReason}
 use Rattle.palm_model.specs.Differ.{differ_reason}
-use Rattle.palm_filter.proofs.Written.{whole_ok}
-use Rattle.palm_filter.proofs.Righted.{written_is_right}
+use Rattle.palm_filter.proofs.cited.Written.{whole_ok}
+use Rattle.palm_filter.proofs.cited.Righted.{written_is_right}
 use Rattle.filter_differ.proofs.Differing.{gives_reason}
 use Rattle.filter_differ.proofs.differ.DifferFilterFilter.reason.Goals as goal
 

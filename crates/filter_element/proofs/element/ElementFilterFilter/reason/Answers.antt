@@ -2,8 +2,8 @@ use Rattle.std.proofs.Common.{length}
 use Rattle.palm_domain.specs.Rows.{initial_of, present_of}
 use Rattle.palm_model.specs.Reason.{IsReason}
 use Rattle.palm_model.specs.Element.{element_reason}
-use Rattle.palm_filter.proofs.Written.{written_right}
-use Rattle.palm_filter.proofs.Righted.{written_is_right}
+use Rattle.palm_filter.proofs.cited.Written.{written_right}
+use Rattle.palm_filter.proofs.cited.Righted.{written_is_right}
 use Rattle.filter_element.proofs.Elements.{gives_reason}
 use Rattle.filter_element.proofs.element.ElementFilterFilter.reason.Goals as goal
 

@@ -1,5 +1,5 @@
 use Rattle.std.proofs.Common.{length, rules}
-use Rattle.palm_base.proofs.Telling.{tells_true, tells_false}
+use Rattle.palm_base.proofs.cited.Telling.{tells_true, tells_false}
 use Rattle.palm_domain.specs.Rows.{present_of}
 use Rattle.filter_element.proofs.Elements.{outcome_supported, outcome_lacking, index_supported, index_lacking}
 use Rattle.filter_element.proofs.element.ElementFilterFilter.supported.Goals as goal

@@ -1,4 +1,4 @@
-use Rattle.palm_base.proofs.Telling.{tells_false}
+use Rattle.palm_base.proofs.cited.Telling.{tells_false}
 use Rattle.palm_domain.specs.Rows.{present_of}
 use Rattle.filter_element.proofs.Elements.{place_few, place_missed, all_missed}
 use Rattle.filter_element.proofs.rule.ElementRule.is_entry_reached.Goals as goal

@@ -1,6 +1,6 @@
 use Rattle.std.proofs.Common.{length, to_z, w64}
 use Rattle.palm_domain.specs.Rows.{present_of}
-use Rattle.palm_model.proofs.Sums.{term_declared}
+use Rattle.palm_model.proofs.cited.Sums.{term_declared}
 use Rattle.filter_linear.proofs.Walks.{end_more}
 use Rattle.filter_linear.proofs.end.End.of_sum.Goals as goal
 

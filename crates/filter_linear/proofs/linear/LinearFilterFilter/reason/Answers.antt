@@ -1,8 +1,8 @@
 use Rattle.palm_domain.specs.Rows.{initial_of, present_of}
 use Rattle.palm_model.specs.Linear.{linear_reason}
 use Rattle.palm_model.specs.Reason.{IsReason}
-use Rattle.palm_filter.proofs.Written.{written_right}
-use Rattle.palm_filter.proofs.Righted.{written_is_right}
+use Rattle.palm_filter.proofs.cited.Written.{written_right}
+use Rattle.palm_filter.proofs.cited.Righted.{written_is_right}
 use Rattle.filter_linear.proofs.LinearReasons.{gives_reason}
 use Rattle.filter_linear.proofs.linear.LinearFilterFilter.reason.Goals as goal
 

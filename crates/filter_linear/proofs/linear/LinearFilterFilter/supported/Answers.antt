@@ -1,4 +1,4 @@
-use Rattle.palm_base.proofs.Telling.{tells_true, tells_false}
+use Rattle.palm_base.proofs.cited.Telling.{tells_true, tells_false}
 use Rattle.palm_domain.specs.Rows.{present_of}
 use Rattle.filter_linear.proofs.LinearSupport.{met_answers, unmet_answers}
 use Rattle.filter_linear.proofs.linear.LinearFilterFilter.supported.Goals as goal

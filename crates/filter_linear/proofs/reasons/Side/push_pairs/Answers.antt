@@ -3,9 +3,9 @@ use Rattle.std.proofs.lemmas.List.{take_all}
 use Rattle.palm_domain.specs.Rows.{initial_of, present_of}
 use Rattle.palm_model.specs.Removed.{pairs_of}
 use Rattle.palm_model.specs.declared.constraint.Term.{Term}
-use Rattle.palm_model.proofs.Sums.{term_declared}
+use Rattle.palm_model.proofs.cited.Sums.{term_declared}
 use Rattle.filter_linear.specs.Linear.{values_beyond}
-use Rattle.palm_reason.proofs.LinearReason.{pairs_by}
+use Rattle.palm_reason.proofs.cited.LinearReason.{pairs_by}
 use Rattle.filter_linear.proofs.LinearReasons.{kept_more, kept_same}
 use Rattle.filter_linear.proofs.Walks.{beyond_by, term_filled}
 use Rattle.filter_linear.proofs.reasons.Side.push_pairs.Goals as goal

@@ -1,7 +1,7 @@
 use Rattle.std.proofs.Common.{◌≤◌, length, arith}
 use Rattle.palm_domain.specs.Rows.{present_of}
 use Rattle.palm_model.specs.declared.limits.TheConstants.{MOST_SCOPE}
-use Rattle.palm_model.proofs.Sums.{term_declared}
+use Rattle.palm_model.proofs.cited.Sums.{term_declared}
 use Rattle.filter_linear.proofs.Walks.{step_fits, span_none, span_more, span_end}
 use Rattle.filter_linear.proofs.span.Span.of_sum.Goals as goal
 

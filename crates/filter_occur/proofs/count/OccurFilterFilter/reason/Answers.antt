@@ -2,8 +2,8 @@ use Rattle.std.proofs.Common.{length}
 use Rattle.palm_domain.specs.Rows.{initial_of, present_of}
 use Rattle.palm_model.specs.Reason.{IsReason}
 use Rattle.palm_model.specs.Count.{count_reason}
-use Rattle.palm_filter.proofs.Written.{written_right}
-use Rattle.palm_filter.proofs.Righted.{written_is_right}
+use Rattle.palm_filter.proofs.cited.Written.{written_right}
+use Rattle.palm_filter.proofs.cited.Righted.{written_is_right}
 use Rattle.filter_occur.proofs.CountSupport.{vars_declared, target_declared, vars_filled, gives_reason}
 use Rattle.filter_occur.proofs.count.OccurFilterFilter.reason.Goals as goal
 

@@ -1,5 +1,5 @@
 use Rattle.std.proofs.Common.{length}
-use Rattle.palm_base.proofs.Telling.{tells_true, tells_false}
+use Rattle.palm_base.proofs.cited.Telling.{tells_true, tells_false}
 use Rattle.palm_domain.specs.Rows.{present_of}
 use Rattle.filter_occur.proofs.CountSupport.{vars_declared, target_declared, answers_supported, answers_lacking}
 use Rattle.filter_occur.proofs.count.OccurFilterFilter.supported.Goals as goal

@@ -1,6 +1,6 @@
 use Rattle.std.proofs.Common.{arith}
 use Rattle.std.proofs.lemmas.Int.{ints}
-use Rattle.palm_base.proofs.Telling.{tells_both}
+use Rattle.palm_base.proofs.cited.Telling.{tells_both}
 use Rattle.filter_occur.proofs.Reached.{op_equal_reached, op_equal_missed}
 use Rattle.filter_occur.proofs.counts.Counts.fits.Goals as goal
 

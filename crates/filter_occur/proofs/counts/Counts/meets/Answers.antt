@@ -1,7 +1,7 @@
 use Rattle.std.proofs.Common.{arith}
 use Rattle.std.proofs.lemmas.Int.{ints}
 use Rattle.palm_model.specs.Domains.{values_of}
-use Rattle.palm_base.proofs.Telling.{tells_both}
+use Rattle.palm_base.proofs.cited.Telling.{tells_both}
 use Rattle.palm_domain.specs.Rows.{present_of}
 use Rattle.filter_occur.proofs.Reached.{next_reached, next_missed, none_missed}
 use Rattle.filter_occur.proofs.counts.Counts.meets.Goals as goal

@@ -1,6 +1,6 @@
 use Rattle.std.proofs.Common.{◌≤ℤ◌, w64, to_z, of_z, rules, ◌∙◌, subst}
 use Rattle.std.proofs.lemmas.Int.{to_z-of_z}
-use Rattle.palm_domain.proofs.Comparisons.{ge_from_int_lt}
+use Rattle.palm_domain.proofs.cited.Comparisons.{ge_from_int_lt}
 use Rattle.palm_domain.specs.Rows.{present_of}
 use Rattle.filter_occur.specs.Count.{values_where}
 use Rattle.filter_occur.proofs.Counting.{counted_certain, counted_impossible, counted_possible, counted_missing, counted_enough, several_listed}

@@ -1,6 +1,6 @@
 use Rattle.std.proofs.Common.{w64, rules, sym, subst}
 use Rattle.std.proofs.lemmas.Int.{to_z-of_z}
-use Rattle.palm_base.proofs.Telling.{tells_same}
+use Rattle.palm_base.proofs.cited.Telling.{tells_same}
 use Rattle.palm_domain.specs.Rows.{present_of}
 use Rattle.filter_occur.specs.Count.{CanReach, IsCountReached, IsEnough, target_values}
 use Rattle.filter_occur.proofs.CountSupport.{reach_from_counted, counted_from_reach}

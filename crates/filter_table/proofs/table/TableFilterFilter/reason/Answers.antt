@@ -2,8 +2,8 @@ use Rattle.std.proofs.Common.{◌≡◌, ◌++◌, ap, ◌∙◌}
 use Rattle.palm_domain.specs.Rows.{initial_of, present_of}
 use Rattle.palm_model.specs.Reason.{IsReason}
 use Rattle.palm_model.specs.Table.{table_reason}
-use Rattle.palm_filter.proofs.Written.{whole_ok}
-use Rattle.palm_filter.proofs.Righted.{written_is_right}
+use Rattle.palm_filter.proofs.cited.Written.{whole_ok}
+use Rattle.palm_filter.proofs.cited.Righted.{written_is_right}
 use Rattle.filter_table.proofs.Supporting.{gives_reason}
 use Rattle.filter_table.proofs.table.TableFilterFilter.reason.Goals as goal
 

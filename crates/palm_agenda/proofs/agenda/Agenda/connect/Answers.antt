@@ -1,7 +1,7 @@
 use Rattle.std.proofs.Common.{◌≡◌, ◌∙◌, ap, refl, subst, arith, insert, true, vec_capacity}
 use Rattle.palm_agenda.specs.Agenda.{Waiting, IsConnected, marked_whole}
-use Rattle.palm_agenda.proofs.Connecting.{connected_at, parted_in}
-use Rattle.palm_agenda.proofs.Keeping.{connected_after, grown_after, pending_with}
+use Rattle.palm_agenda.proofs.cited.Connecting.{connected_at, parted_in}
+use Rattle.palm_agenda.proofs.cited.Keeping.{connected_after, grown_after, pending_with}
 use Rattle.palm_agenda.proofs.agenda.Agenda.connect.Goals as goal
 use Rattle.palm_agenda.proofs.agenda.Agenda.connect.Goals.{After-insert_over}
 

@@ -1,7 +1,7 @@
 use Rattle.std.proofs.Common.{arith, subst, sym}
 use Rattle.palm_agenda.specs.Agenda.{Waiting, IsConnected}
-use Rattle.palm_agenda.proofs.Connecting.{parted_in}
-use Rattle.palm_agenda.proofs.Keeping.{disconnected_after, pending_without, place_within, removed_is, scope_within}
+use Rattle.palm_agenda.proofs.cited.Connecting.{parted_in}
+use Rattle.palm_agenda.proofs.cited.Keeping.{disconnected_after, pending_without, place_within, removed_is, scope_within}
 use Rattle.palm_agenda.proofs.agenda.Agenda.disconnect.Goals as goal
 
 pub remove-requires : goal.remove-requires

@@ -1,4 +1,4 @@
-use Rattle.palm_agenda.proofs.Keeping.{tells_none}
+use Rattle.palm_agenda.proofs.cited.Keeping.{tells_none}
 use Rattle.palm_agenda.proofs.agenda.Agenda.is_empty.Goals as goal
 
 pub returns-clause-tells : goal.returns-clause-tells

@@ -1,4 +1,4 @@
-use Rattle.palm_agenda.proofs.Keeping.{place_of_marks, tells_mark}
+use Rattle.palm_agenda.proofs.cited.Keeping.{place_of_marks, tells_mark}
 use Rattle.palm_agenda.proofs.agenda.Agenda.is_marked.Goals as goal
 
 pub bounds-marks-place : goal.bounds-marks-place

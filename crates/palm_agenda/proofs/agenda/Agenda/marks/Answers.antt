@@ -1,7 +1,7 @@
 use Rattle.std.proofs.Common.{◌≡◌, Contains, ap, ◌∙◌, length, subst, sym}
 use Rattle.palm_agenda.specs.Agenda.{Connected, Waiting}
-use Rattle.palm_agenda.proofs.Connecting.{parted_in}
-use Rattle.palm_agenda.proofs.Keeping.{marks_here}
+use Rattle.palm_agenda.proofs.cited.Connecting.{parted_in}
+use Rattle.palm_agenda.proofs.cited.Keeping.{marks_here}
 use Rattle.palm_agenda.proofs.agenda.Agenda.marks.Goals as goal
 use Rattle.palm_agenda.proofs.agenda.Agenda.marks.Goals.{After-marks}
 

@@ -1,8 +1,8 @@
 use Rattle.std.proofs.Common.{◌≡◌, ◌∙◌, [], ap, arith, false, length, refl, subst}
 use Rattle.palm_agenda.specs.Agenda.{Takes, Waiting, index_within, names_of}
 use Rattle.palm_agenda.specs.Flags.{flagged}
-use Rattle.palm_agenda.proofs.Connecting.{parted_in}
-use Rattle.palm_agenda.proofs.Keeping.{answered_taken, lowered_at, no_pending, place_within, set_after, shown_connected, some_pending}
+use Rattle.palm_agenda.proofs.cited.Connecting.{parted_in}
+use Rattle.palm_agenda.proofs.cited.Keeping.{answered_taken, lowered_at, no_pending, place_within, set_after, shown_connected, some_pending}
 use Rattle.palm_agenda.proofs.agenda.Agenda.take_answered.Goals as goal
 
 pub returns-then-is_empty-clause-none : goal.returns-then-is_empty-clause-none

@@ -2,7 +2,7 @@ use Rattle.std.proofs.Common.{◌≡◌, ◌∙◌, List, [], ap, arith, false, 
 use Rattle.std.proofs.lemmas.Option.{slice_get_within}
 use Rattle.palm_agenda.specs.Agenda.{Connected, Waiting, names_of}
 use Rattle.palm_agenda.specs.Flags.{FlagRow, flagged}
-use Rattle.palm_agenda.proofs.Keeping.{first_taken, given_none, none_pending, set_after}
+use Rattle.palm_agenda.proofs.cited.Keeping.{first_taken, given_none, none_pending, set_after}
 use Rattle.palm_agenda.proofs.agenda.Agenda.take_first.Goals as goal
 
 pub returns-in_err-place-clause-none : goal.returns-in_err-place-clause-none

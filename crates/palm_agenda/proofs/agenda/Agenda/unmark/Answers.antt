@@ -1,7 +1,7 @@
 use Rattle.std.proofs.Common.{◌∙◌, ap}
 use Rattle.palm_agenda.specs.Agenda.{changed_at, names_of, unmarked}
 use Rattle.palm_agenda.specs.Flags.{flagged}
-use Rattle.palm_agenda.proofs.Keeping.{keeps_at, keeps_unmarked, kept_after, names_kept}
+use Rattle.palm_agenda.proofs.cited.Keeping.{keeps_at, keeps_unmarked, kept_after, names_kept}
 use Rattle.palm_agenda.proofs.agenda.Agenda.unmark.Goals as goal
 
 pub invariant_of-self : goal.invariant_of-self

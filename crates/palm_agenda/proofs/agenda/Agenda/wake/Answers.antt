@@ -3,7 +3,7 @@ use Rattle.palm_agenda.specs.Agenda.{names_of}
 use Rattle.palm_agenda.specs.Flags.{flagged}
 use Rattle.palm_agenda.specs.Names.{names_at}
 use Rattle.palm_agenda.specs.declared.connection.Places.TheVariants.{Others}
-use Rattle.palm_agenda.proofs.Keeping.{names_are_over, woken_after, woken_connected, woken_pending}
+use Rattle.palm_agenda.proofs.cited.Keeping.{names_are_over, woken_after, woken_connected, woken_pending}
 use Rattle.palm_agenda.proofs.agenda.Agenda.wake.Goals as goal
 
 pub wake_each-requires-clause-over : goal.wake_each-requires-clause-over

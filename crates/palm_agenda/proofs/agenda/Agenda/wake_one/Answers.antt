@@ -1,7 +1,7 @@
 use Rattle.std.proofs.Common.{arith, subst, sym, true}
 use Rattle.palm_agenda.specs.Agenda.{Waiting, IsConnected}
-use Rattle.palm_agenda.proofs.Connecting.{parted_in}
-use Rattle.palm_agenda.proofs.Keeping.{place_within, raised_at, set_after}
+use Rattle.palm_agenda.proofs.cited.Connecting.{parted_in}
+use Rattle.palm_agenda.proofs.cited.Keeping.{place_within, raised_at, set_after}
 use Rattle.palm_agenda.proofs.agenda.Agenda.wake_one.Goals as goal
 
 pub raise-requires : goal.raise-requires

@@ -1,7 +1,7 @@
 use Rattle.std.proofs.Common.{◌≡◌, sym, ap, ◌∙◌, length, take, length-set, true, ◌+◌, ◌<◌, arith}
 use Rattle.palm_agenda.specs.Agenda.{marks_where}
 use Rattle.palm_agenda.specs.Places.{is_place}
-use Rattle.palm_agenda.proofs.Marking.{marked_next, marked_past}
+use Rattle.palm_agenda.proofs.cited.Marking.{marked_next, marked_past}
 use Rattle.palm_agenda.proofs.connection.Connection.mark.Goals as goal
 use Rattle.palm_agenda.proofs.connection.Connection.mark.Goals.{then-is_place, else-is_place}
 

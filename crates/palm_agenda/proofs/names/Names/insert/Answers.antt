@@ -1,5 +1,5 @@
 use Rattle.std.proofs.Common.{sym}
-use Rattle.palm_agenda.proofs.NameLists.{put_room, told_absent, told_put, told_put_rises, told_member, with_name_same}
+use Rattle.palm_agenda.proofs.cited.NameLists.{put_room, told_absent, told_put, told_put_rises, told_member, with_name_same}
 use Rattle.palm_agenda.proofs.names.Names.insert.Goals as goal
 
 pub put_at-requires-clause-room : goal.put_at-requires-clause-room

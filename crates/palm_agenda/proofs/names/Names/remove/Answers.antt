@@ -1,4 +1,4 @@
-use Rattle.palm_agenda.proofs.NameLists.{told_cut, told_cut_rises, told_gone}
+use Rattle.palm_agenda.proofs.cited.NameLists.{told_cut, told_cut_rises, told_gone}
 use Rattle.palm_agenda.proofs.names.Names.remove.Goals as goal
 
 pub invariant_of-self : goal.invariant_of-self

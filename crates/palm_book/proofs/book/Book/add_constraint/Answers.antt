@@ -2,7 +2,7 @@ use Rattle.std.proofs.Common.{◌≡◌, ◌≢◌, ℕ, List, [], ◌∷◌, �
 use Rattle.std.proofs.lemmas.List.{map_push}
 use Rattle.palm_book.specs.Book.{Contents}
 use Rattle.palm_book.specs.declared.book.BookCon.{BookCon}
-use Rattle.palm_book.proofs.BookLemmas.{IsBook-with_constraint, AreKeyed-push, keys_fresh}
+use Rattle.palm_book.proofs.cited.BookLemmas.{IsBook-with_constraint, AreKeyed-push, keys_fresh}
 use Rattle.palm_book.proofs.book.Book.add_constraint.Goals as goal
 
 pub push_name-requires : goal.push_name-requires

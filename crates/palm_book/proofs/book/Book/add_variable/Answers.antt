@@ -1,7 +1,7 @@
 use Rattle.std.proofs.Common.{◌≡◌, ◌≢◌, ℕ, ℤ, List, [], ◌∷◌, ◌++◌, map, All, sym, ap, ◌∙◌, subst, arith}
 use Rattle.std.proofs.lemmas.List.{map_push, get_or-map, length-map}
 use Rattle.palm_book.specs.Book.{Entry, Contents}
-use Rattle.palm_book.proofs.BookLemmas.{IsBook-with_variable}
+use Rattle.palm_book.proofs.cited.BookLemmas.{IsBook-with_variable}
 use Rattle.palm_book.proofs.book.Book.add_variable.Goals as goal
 
 pub push_name-requires : goal.push_name-requires

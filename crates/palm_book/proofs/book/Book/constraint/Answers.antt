@@ -2,7 +2,7 @@ use Rattle.std.proofs.Common.{◌<◌, ℕ, ℤ, List, length, map, sym, subst, 
 use Rattle.std.proofs.lemmas.List.{length-map}
 use Rattle.palm_book.specs.Book.{Contents}
 use Rattle.palm_book.specs.declared.book.BookCon.{BookCon}
-use Rattle.palm_book.proofs.BookLemmas.{holds_at}
+use Rattle.palm_book.proofs.cited.BookLemmas.{holds_at}
 use Rattle.palm_model.specs.Constraint.{IsWellFormed}
 use Rattle.palm_book.proofs.book.Book.constraint.Goals as goal
 

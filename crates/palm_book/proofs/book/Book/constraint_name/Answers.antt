@@ -2,7 +2,7 @@ use Rattle.std.proofs.Common.{◌≡◌, ◌<◌, ℕ, List, length, map, Some, 
 use Rattle.std.proofs.lemmas.List.{length-map}
 use Rattle.palm_book.specs.Book.{Contents, number_name}
 use Rattle.palm_book.specs.declared.book.BookCon.{BookCon}
-use Rattle.palm_book.proofs.BookLemmas.{constraint_at, number_name_at}
+use Rattle.palm_book.proofs.cited.BookLemmas.{constraint_at, number_name_at}
 use Rattle.palm_book.proofs.book.Book.constraint_name.Goals as goal
 
 pub returns : goal.returns

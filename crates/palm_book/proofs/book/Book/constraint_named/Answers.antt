@@ -1,7 +1,7 @@
 use Rattle.std.proofs.Common.{◌≢◌, All, IfNone, map, Option, Some, None, ℕ, List, subst}
 use Rattle.palm_book.specs.Book.{Contents}
 use Rattle.palm_book.specs.declared.book.BookCon.{BookCon}
-use Rattle.palm_book.proofs.BookLemmas.{AreKeyed, names_fresh}
+use Rattle.palm_book.proofs.cited.BookLemmas.{AreKeyed, names_fresh}
 use Rattle.palm_book.proofs.book.Book.constraint_named.Goals as goal
 
 none : (es : List (List ℕ × BookCon)) (name : List ℕ) (r : Option ℕ) → AreKeyed es → IfNone r (All (λ e. e.0 ≢ name) es) → IfNone r (All (λ (x : BookCon). x.name ≢ name) (map (λ e. e.1) es))

@@ -1,7 +1,7 @@
 use Rattle.std.proofs.Common.{rules, ◌∙◌, w64}
 use mir.Val.{SFits}
 use Rattle.std.proofs.lemmas.Int.{to_z-of_z}
-use Rattle.palm_book.proofs.Resolving.{resolves_linear}
+use Rattle.palm_book.proofs.cited.Resolving.{resolves_linear}
 use Rattle.palm_book.proofs.book.Book.linear.Goals as goal
 
 pub returns-clause-says : goal.returns-clause-says

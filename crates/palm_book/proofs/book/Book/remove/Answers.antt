@@ -1,7 +1,7 @@
 use Rattle.std.proofs.Common.{List, ℕ, ap, ◌∙◌, map}
 use Rattle.palm_book.specs.Book.{Contents}
 use Rattle.palm_book.specs.declared.book.BookCon.{BookCon}
-use Rattle.palm_book.proofs.BookLemmas.{IsBook-without, AreKeyed-remove, map-remove}
+use Rattle.palm_book.proofs.cited.BookLemmas.{IsBook-without, AreKeyed-remove, map-remove}
 use Rattle.palm_book.proofs.book.Book.remove.Goals as goal
 
 pub invariant_of-self : goal.invariant_of-self

@@ -1,6 +1,6 @@
 use Rattle.palm_read.specs.declared.line.NameTerm.{NameTerm}
 use Rattle.palm_book.specs.Named.{IsUnknownName}
-use Rattle.palm_book.proofs.Any.{any_map}
+use Rattle.palm_book.proofs.cited.Any.{any_map}
 use Rattle.palm_book.proofs.book.Book.resolve.Goals as goal
 
 pub returns-in-Linear-clause-unknown : goal.returns-in-Linear-clause-unknown

@@ -1,5 +1,5 @@
 use Rattle.std.proofs.Common.{refl}
-use Rattle.palm_book.proofs.BookLemmas.{IsBook-with_active, values-with_active, AreKeyed-with_active}
+use Rattle.palm_book.proofs.cited.BookLemmas.{IsBook-with_active, values-with_active, AreKeyed-with_active}
 use Rattle.palm_book.proofs.book.Book.set_active.Goals as goal
 
 pub invariant_of-self : goal.invariant_of-self

@@ -1,7 +1,7 @@
 use Rattle.std.proofs.Common.{◌≡◌, ◌≢◌, ℕ, ℤ, ◌<◌, List, length, All, subst}
 use Rattle.std.proofs.lemmas.List.Elements.{All-map}
 use Rattle.palm_book.specs.Book.{Entry, Contents, name_of}
-use Rattle.palm_book.proofs.BookLemmas.{name_of_found}
+use Rattle.palm_book.proofs.cited.BookLemmas.{name_of_found}
 use Rattle.palm_book.proofs.book.Book.variable_named.Goals as goal
 
 pub returns-in_err-place-clause-none : goal.returns-in_err-place-clause-none

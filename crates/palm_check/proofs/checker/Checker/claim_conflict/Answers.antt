@@ -4,7 +4,7 @@ use Rattle.palm_claim.specs.Step.{IsReached}
 use Rattle.palm_claim.specs.declared.statement.Stage.TheVariants.{Claimed}
 use Rattle.palm_claim.specs.declared.statement.Statement.TheVariants.{ConflictClaim}
 use Rattle.palm_claim.specs.declared.verdict.Claim.TheVariants.{Conflict}
-use Rattle.palm_claim.proofs.Unique.{variable_is}
+use Rattle.palm_claim.proofs.cited.Unique.{variable_is}
 use Rattle.palm_check.specs.Kept.{draft_of}
 use Rattle.palm_check.proofs.Hearing.{variable_known, without_cause}
 use Rattle.palm_check.proofs.checker.Checker.claim_conflict.Goals as goal

@@ -1,6 +1,6 @@
 use Rattle.std.proofs.Common.{◌∙◌, ℤ, nat_eq, sym, subst, slice_index_or, All, Contains}
 use Rattle.palm_domain.specs.Rows.{IsDeclared, values_of}
-use Rattle.palm_domain.proofs.StoreRows.{exists_from_declared}
+use Rattle.palm_domain.proofs.cited.StoreRows.{exists_from_declared}
 use Rattle.palm_base.specs.Tells.{Tells}
 use Rattle.palm_model.specs.Domains.{Has}
 use Rattle.palm_check.specs.Store.{PutsBack, TakesOut}

@@ -1,6 +1,6 @@
 use Rattle.std.proofs.Common.{◌∙◌, sym, subst, slice_index_or, All, Contains}
 use Rattle.palm_domain.specs.Rows.{IsDeclared, values_of}
-use Rattle.palm_domain.proofs.StoreRows.{exists_from_declared}
+use Rattle.palm_domain.proofs.cited.StoreRows.{exists_from_declared}
 use Rattle.palm_check.specs.Store.{PutsBack, TakesOut}
 use Rattle.palm_check.proofs.Keeping.{keeps_store}
 use Rattle.palm_check.proofs.Taking.{full_again, gone_tells}

@@ -1,6 +1,6 @@
 use Rattle.std.proofs.Common.{inl, inr, arith}
-use Rattle.palm_base.proofs.Telling.{tells_false, tells_true}
-use Rattle.palm_book.proofs.Resolving.{known}
+use Rattle.palm_base.proofs.cited.Telling.{tells_false, tells_true}
+use Rattle.palm_book.proofs.cited.Resolving.{known}
 use Rattle.palm_check.specs.Kept.{draft_of, IsBeyondAlone}
 use Rattle.palm_check.proofs.Hearing.{first_beyond, without_cause}
 use Rattle.palm_check.proofs.WellFormed.{well_formed}

@@ -1,11 +1,11 @@
 use Rattle.std.proofs.Common.{◌∙◌, List, ap, inl, inr, subst, sym}
 use Rattle.palm_base.specs.declared.terms.Pair.{Pair}
-use Rattle.palm_base.proofs.Telling.{tells_false, tells_true}
+use Rattle.palm_base.proofs.cited.Telling.{tells_false, tells_true}
 use Rattle.palm_book.specs.Book.{initial_of}
 use Rattle.palm_claim.specs.Draft.{Draft, with_step}
 use Rattle.palm_claim.specs.Step.{IsRight, pairs_at}
 use Rattle.palm_claim.specs.declared.statement.Statement.TheVariants.{Step}
-use Rattle.palm_claim.proofs.Unique.{pair_is}
+use Rattle.palm_claim.proofs.cited.Unique.{pair_is}
 use Rattle.palm_model.specs.Domains.{Has, without}
 use Rattle.palm_model.specs.Support.{LacksSupport}
 use Rattle.palm_check.specs.Kept.{draft_of}

@@ -1,5 +1,5 @@
 use Rattle.std.proofs.Common.{subst, sym, ◌∙◌, Contains}
-use Rattle.palm_base.proofs.Telling.{tells_both}
+use Rattle.palm_base.proofs.cited.Telling.{tells_both}
 use Rattle.palm_domain.specs.Rows.{Row}
 use Rattle.palm_domain.proofs.RowMarks.{present_at, removed_at}
 use Rattle.palm_domain.proofs.KeptValues.{kept_inside}

@@ -1,5 +1,5 @@
 use Rattle.std.proofs.Common.{◌≡◌, ℕ, ℤ, List, Contains, Option, Some, None, MatchOption, is_some, slice_get, subst, sym}
-use Rattle.palm_base.proofs.Members.{member_get}
+use Rattle.palm_base.proofs.cited.Members.{member_get}
 use Rattle.palm_base.specs.Tells.{Tells}
 use Rattle.palm_domain.specs.Rows.{IsFormed, Row}
 use Rattle.palm_domain.proofs.RowMarks.{formed}

@@ -1,6 +1,6 @@
 use Rattle.std.proofs.Common.{sym, subst}
 use Rattle.palm_domain.specs.Rows.{IsFormed}
-use Rattle.palm_domain.proofs.StoreRows.{AreFormed-push, formed_new}
+use Rattle.palm_domain.proofs.cited.StoreRows.{AreFormed-push, formed_new}
 use Rattle.palm_domain.proofs.store.DomainStore.add_variable.Goals as goal
 
 pub invariant_of-self-2 : goal.invariant_of-self-2

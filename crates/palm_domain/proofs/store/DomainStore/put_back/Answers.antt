@@ -1,5 +1,5 @@
 use Rattle.std.proofs.Common.{slice_set, sym, subst, Contains}
-use Rattle.palm_domain.proofs.StoreRows.{IsPutBack, exists_from_declared, present-row, put_back, put_back_formed}
+use Rattle.palm_domain.proofs.cited.StoreRows.{IsPutBack, exists_from_declared, present-row, put_back, put_back_formed}
 use Rattle.palm_domain.proofs.store.DomainStore.put_back.Goals as goal
 use Rattle.palm_domain.proofs.store.DomainStore.put_back.Goals.{After-put_back}
 

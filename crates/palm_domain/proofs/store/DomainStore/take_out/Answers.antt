@@ -1,5 +1,5 @@
 use Rattle.std.proofs.Common.{slice_set}
-use Rattle.palm_domain.proofs.StoreRows.{IsTakenOut, exists_from_present, taken_out, taken_out_formed}
+use Rattle.palm_domain.proofs.cited.StoreRows.{IsTakenOut, exists_from_present, taken_out, taken_out_formed}
 use Rattle.palm_domain.proofs.store.DomainStore.take_out.Goals as goal
 use Rattle.palm_domain.proofs.store.DomainStore.take_out.Goals.{After-take_out}
 

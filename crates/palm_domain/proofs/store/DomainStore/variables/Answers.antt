@@ -1,4 +1,4 @@
-use Rattle.palm_domain.proofs.StoreRows.{initial_ascend, initial_filled, initial_small, present_ascend, present_inside}
+use Rattle.palm_domain.proofs.cited.StoreRows.{initial_ascend, initial_filled, initial_small, present_ascend, present_inside}
 use Rattle.palm_domain.proofs.store.DomainStore.variables.Goals as goal
 
 pub returns-clause-initial_ascend : goal.returns-clause-initial_ascend

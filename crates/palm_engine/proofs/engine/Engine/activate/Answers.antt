@@ -1,7 +1,7 @@
 use Rattle.palm_engine.specs.Posted.{active_of, actives_of}
 use Rattle.palm_engine.proofs.Keeping.{activated_posts}
 use Rattle.palm_engine.proofs.Fitting.{activated, engine_or_unchanged}
-use Rattle.palm_engine.proofs.Results.{on_ok}
+use Rattle.palm_engine.proofs.cited.Results.{on_ok}
 use Rattle.palm_engine.proofs.engine.Engine.activate.Goals as goal
 
 pub invariant_of-self : goal.invariant_of-self

@@ -8,7 +8,7 @@ use Rattle.palm_engine.specs.Kept.{IsEngine, state_of}
 use Rattle.palm_engine.specs.Posted.{actives_of}
 use Rattle.palm_engine.specs.declared.filtering.Filtering.{Filtering}
 use Rattle.palm_engine.proofs.Keeping.{declared_engine}
-use Rattle.palm_engine.proofs.Results.{on_either, on_ok}
+use Rattle.palm_engine.proofs.cited.Results.{on_either, on_ok}
 use Rattle.palm_engine.proofs.engine.Engine.add_variable.Goals as goal
 
 pub invariant_of-self : goal.invariant_of-self

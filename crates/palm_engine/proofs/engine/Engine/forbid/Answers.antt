@@ -1,9 +1,8 @@
 use Rattle.std.proofs.Common.{List, OnOk, sym, subst}
 use Rattle.palm_base.specs.declared.terms.Cid.{Cid}
-use Rattle.palm_model.proofs.Narrowing.{has_declared}
+use Rattle.palm_model.proofs.cited.Narrowing.{has_declared}
 use Rattle.palm_model.specs.Event.{Posts}
-use Rattle.palm_model.specs.State.{AreGrounds}
-use Rattle.palm_engine.specs.Posted.{negation}
+use Rattle.palm_model.specs.State.{AreGrounds, negation_of}
 use Rattle.palm_engine.proofs.Keeping.{one_declared}
 use Rattle.palm_engine.proofs.engine.Engine.forbid.Goals as goal
 
@@ -17,4 +16,4 @@ pub activate-requires-clause-grounds : goal.activate-requires-clause-grounds
 activate-requires-clause-grounds g c = subst (AreGrounds c.args.self.now.state.active) (sym c.in_ok-because.ensures) c.requires.grounds
 
 pub returns-clause-ok : goal.returns-clause-ok
-returns-clause-ok g c = subst (λ (l : List Cid). OnOk c.activate.result (Posts c.args.self.now.state (negation c.args.pair l) c.activate.new.self.state)) c.in_ok-because.ensures c.activate.ensures.ok
+returns-clause-ok g c = subst (λ (l : List Cid). OnOk c.activate.result (Posts c.args.self.now.state (negation_of c.args.pair l) c.activate.new.self.state)) c.in_ok-because.ensures c.activate.ensures.ok

@@ -2,7 +2,7 @@ use Rattle.std.proofs.Common.{◌≡◌, Contains, Some, ap, slice_get, subst, �
 use Rattle.palm_model.specs.Log.{Active}
 use Rattle.palm_engine.specs.Posted.{active_of, actives_of}
 use Rattle.palm_engine.proofs.Placing.{placed_within, removed_names, removed_rises}
-use Rattle.palm_engine.proofs.Withdrawing.{withdrawn_engine}
+use Rattle.palm_engine.proofs.cited.Withdrawing.{withdrawn_engine}
 use Rattle.palm_engine.proofs.engine.Engine.withdraw.Goals as goal
 
 pub take_out-requires-clause-within : goal.take_out-requires-clause-within

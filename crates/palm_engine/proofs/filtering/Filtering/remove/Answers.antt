@@ -2,7 +2,7 @@ use Rattle.std.proofs.Common.{subst}
 use Rattle.palm_domain.specs.Rows.{initial_of}
 use Rattle.palm_model.specs.Domains.{Has}
 use Rattle.palm_model.specs.Log.{log_pairs}
-use Rattle.palm_model.proofs.Without.{without_has}
+use Rattle.palm_model.proofs.cited.Without.{without_has}
 use Rattle.palm_engine.proofs.Keeping.{took_out}
 use Rattle.palm_engine.proofs.filtering.Filtering.remove.Goals as goal
 

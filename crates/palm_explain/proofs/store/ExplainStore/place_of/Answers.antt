@@ -1,7 +1,7 @@
 use Rattle.std.proofs.Common.{◌≡◌, ◌∙◌, true, Some, slice_get, Contains, sym, ap, subst}
 use Rattle.std.proofs.lemmas.Bool.{false≢true}
 use Rattle.palm_model.specs.Log.{log_pairs, same_pair}
-use Rattle.palm_events.proofs.Names.{pair_same, same_pair_itself}
+use Rattle.palm_events.proofs.cited.Names.{pair_same, same_pair_itself}
 use Rattle.palm_explain.specs.Explanations.{Explanations}
 use Rattle.palm_explain.specs.Graph.{graph_of}
 use Rattle.palm_explain.specs.Rows.{key_at}

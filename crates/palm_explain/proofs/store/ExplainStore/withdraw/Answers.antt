@@ -1,6 +1,6 @@
 use Rattle.std.proofs.Common.{◌≡◌, ◌⊎◌, true, ◌∷◌, [], inl, inr, sym, ap, ◌∙◌, subst, Contains}
 use Rattle.indexmap.specs.IndexSet.{spare}
-use Rattle.palm_base.proofs.Members.{member_nil}
+use Rattle.palm_base.proofs.cited.Members.{member_nil}
 use Rattle.palm_model.specs.Constraint.{Distinct}
 use Rattle.palm_model.specs.Event.{lost_pairs, vars_of}
 use Rattle.palm_model.specs.Log.{Loses}

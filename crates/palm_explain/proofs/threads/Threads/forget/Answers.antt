@@ -1,5 +1,5 @@
 use Rattle.std.proofs.Common.{Contains, sym, subst}
-use Rattle.palm_base.proofs.Members.{member_nil}
+use Rattle.palm_base.proofs.cited.Members.{member_nil}
 use Rattle.palm_model.specs.Constraint.{Distinct}
 use Rattle.palm_explain.specs.declared.threads.Thread.{Thread}
 use Rattle.palm_explain.proofs.ThreadKeys.{found_thread, none_there, set_others, set_thread, thread_at, thread_there}

@@ -1,6 +1,6 @@
 use Rattle.std.proofs.Common.{ap, ◌∙◌}
 use Rattle.palm_read.specs.Domain.{set_of}
-use Rattle.palm_read.proofs.Sets.{set_from_sort}
+use Rattle.palm_read.proofs.cited.Sets.{set_from_sort}
 use Rattle.palm_read.proofs.reader.domains.ascending.Goals as goal
 
 pub returns : goal.returns

@@ -1,10 +1,10 @@
 use Rattle.std.proofs.Common.{◌+◌, ◌<◌, ◌≤◌, length, Contains, refl, sym, ap, ◌∙◌, subst, arith}
 use Rattle.std.proofs.lemmas.Option.{get_or_from_slice_get}
-use Rattle.palm_base.proofs.Members.{member_get}
+use Rattle.palm_base.proofs.cited.Members.{member_get}
 use Rattle.palm_model.specs.Constraint.{Distinct}
 use Rattle.palm_model.specs.Event.{vars_of}
 use Rattle.palm_model.specs.State.{EngineState}
-use Rattle.palm_model.proofs.Narrowing.{has_declared}
+use Rattle.palm_model.proofs.cited.Narrowing.{has_declared}
 use Rattle.palm_search.specs.Calls.{search_state}
 use Rattle.palm_search.specs.Kept.{HasDecisions}
 use Rattle.palm_repair.specs.Learned.{Forces, LearnedView, ShowsDecisions, left_open}

@@ -1,6 +1,6 @@
 use Rattle.palm_session.specs.State.{IsState}
-use Rattle.palm_session.proofs.Keeping.{front_nothing}
-use Rattle.palm_session.proofs.LawsOfAnswers.{answers_keep}
+use Rattle.palm_session.proofs.cited.Keeping.{front_nothing}
+use Rattle.palm_session.proofs.cited.LawsOfAnswers.{answers_keep}
 use Rattle.palm_session.proofs.desk.Desk.answer.Goals as goal
 
 pub deliver-requires-clause-held : goal.deliver-requires-clause-held

@@ -1,6 +1,6 @@
 use Rattle.std.proofs.Common.{◌≡◌, ◌≢◌, ◌<◌, ◌∙◌, All, length, refl, rules, ap, subst}
 use Rattle.palm_base.specs.Tells.{Tells}
-use Rattle.palm_base.proofs.Telling.{tells_false, tells_true}
+use Rattle.palm_base.proofs.cited.Telling.{tells_false, tells_true}
 use Rattle.palm_book.specs.Book.{Entry, name_of}
 use Rattle.palm_model.specs.Domains.{Domains, Has}
 use Rattle.palm_session.specs.Serving.{DeskView}

@@ -4,7 +4,7 @@ use Rattle.palm_lang.specs.Reply.{fixed_text}
 use Rattle.palm_lang.specs.declared.reply.Fixed.TheVariants.{Present}
 use Rattle.palm_lang.specs.declared.reply.Lead.TheVariants.{Because}
 use Rattle.palm_model.specs.Domains.{Domains, Has}
-use Rattle.palm_reduce.specs.Minimal.{AreConflict, DoExplain}
+use Rattle.palm_model.specs.Minimal.{AreConflict, DoExplain}
 use Rattle.palm_session.specs.Answers.{SaysMinimal, users_text}
 use Rattle.palm_session.specs.Serving.{DeskView}
 use Rattle.palm_session.specs.State.{IsHeld}

@@ -1,4 +1,4 @@
-use Rattle.palm_base.proofs.Telling.{tells_true}
+use Rattle.palm_base.proofs.cited.Telling.{tells_true}
 use Rattle.palm_session.proofs.Serving.{name_refused}
 use Rattle.palm_session.proofs.desk.Desk.serve.Goals as goal
 

@@ -1,15 +1,15 @@
 use Rattle.std.proofs.Common.{Any, inl, inr, refl, rules, subst}
-use Rattle.palm_base.proofs.Telling.{tells_false, tells_true}
+use Rattle.palm_base.proofs.cited.Telling.{tells_false, tells_true}
 use Rattle.palm_read.specs.Limits.{names_of}
 use Rattle.palm_read.specs.declared.line.Line.TheVariants.{Add}
 use Rattle.palm_book.specs.Named.{IsUnknownName, Resolves}
-use Rattle.palm_book.proofs.Resolving.{known}
+use Rattle.palm_book.proofs.cited.Resolving.{known}
 use Rattle.palm_session.specs.Effects.{Changes}
 use Rattle.palm_session.specs.Refusals.{IsNone, Meets, in_order}
 use Rattle.palm_session.specs.ReplyText.{reply_text}
 use Rattle.palm_session.specs.Serving.{DeskView}
 use Rattle.palm_session.proofs.Accepting.{asked_after, served_after}
-use Rattle.palm_session.proofs.LawsOfChanges.{changes_keep}
+use Rattle.palm_session.proofs.cited.LawsOfChanges.{changes_keep}
 use Rattle.palm_session.proofs.Serving.{none_met, over_refused, unknown_refused}
 use Rattle.palm_session.proofs.WellFormed.{well_formed}
 use Rattle.palm_session.proofs.desk.Desk.serve_add.Goals as goal

@@ -3,7 +3,7 @@ use Rattle.palm_book.specs.Book.{IsUser, initial_of}
 use Rattle.palm_lang.specs.Reply.{fixed_text}
 use Rattle.palm_lang.specs.declared.reply.Fixed.TheVariants.{Consistent}
 use Rattle.palm_lang.specs.declared.reply.Lead.TheVariants.{Conflict as ConflictLead}
-use Rattle.palm_reduce.specs.Minimal.{AreConflict}
+use Rattle.palm_model.specs.Minimal.{AreConflict}
 use Rattle.palm_session.specs.Answers.{SaysMinimalConflict, users_text}
 use Rattle.palm_session.specs.Serving.{DeskView}
 use Rattle.palm_session.proofs.Serving.{serves_minimal_conflict}

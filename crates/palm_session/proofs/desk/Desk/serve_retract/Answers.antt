@@ -6,7 +6,7 @@ use Rattle.palm_session.specs.Effects.{Changes}
 use Rattle.palm_session.specs.ReplyText.{reply_text}
 use Rattle.palm_session.specs.Serving.{DeskView}
 use Rattle.palm_session.proofs.Accepting.{asked_after, served_after}
-use Rattle.palm_session.proofs.LawsOfChanges.{changes_keep}
+use Rattle.palm_session.proofs.cited.LawsOfChanges.{changes_keep}
 use Rattle.palm_session.proofs.Serving.{no_constraint, retract_unrefused, unnamed_refused}
 use Rattle.palm_session.proofs.Standing.{found_name, some_entry}
 use Rattle.palm_session.proofs.desk.Desk.serve_retract.Goals as goal

@@ -1,5 +1,5 @@
 use Rattle.std.proofs.Common.{◌≡◌, ℕ, ℤ, List, refl, subst}
-use Rattle.palm_base.proofs.Telling.{tells_false, tells_true}
+use Rattle.palm_base.proofs.cited.Telling.{tells_false, tells_true}
 use Rattle.palm_lang.specs.Reply.{fixed_text}
 use Rattle.palm_lang.specs.declared.reply.Fixed.TheVariants.{Done}
 use Rattle.palm_model.specs.Event.{Declares}
@@ -8,7 +8,7 @@ use Rattle.palm_read.specs.declared.line.Line.TheVariants.{Var}
 use Rattle.palm_session.specs.Effects.{Nothing, Changes, with_engine, with_variable}
 use Rattle.palm_session.specs.Serving.{accepts}
 use Rattle.palm_session.proofs.Accepting.{accepts_telling}
-use Rattle.palm_session.proofs.LawsOfStates.{does_keeps}
+use Rattle.palm_session.proofs.cited.LawsOfStates.{does_keeps}
 use Rattle.palm_session.proofs.Serving.{none_met, over_refused}
 use Rattle.palm_session.proofs.desk.Desk.serve_var.Goals as goal
 

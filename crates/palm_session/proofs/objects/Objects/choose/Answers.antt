@@ -1,4 +1,4 @@
-use Rattle.palm_base.proofs.Telling.{tells_true}
+use Rattle.palm_base.proofs.cited.Telling.{tells_true}
 use Rattle.palm_session.proofs.Places.{may_choose, chosen_objects}
 use Rattle.palm_session.proofs.objects.Objects.choose.Goals as goal
 

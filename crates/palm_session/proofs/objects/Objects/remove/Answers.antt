@@ -1,5 +1,5 @@
 use Rattle.std.proofs.Common.{Contains, arith, sym, subst}
-use Rattle.palm_base.proofs.Telling.{tells_true}
+use Rattle.palm_base.proofs.cited.Telling.{tells_true}
 use Rattle.palm_session.specs.Objects.{ObjectsView}
 use Rattle.palm_session.proofs.Places.{there_within, dropped_objects}
 use Rattle.palm_session.proofs.objects.Objects.remove.Goals as goal

@@ -1,6 +1,6 @@
 use Rattle.std.proofs.Common.{length, []}
 use Rattle.palm_read.specs.Reader.Lists.{next_name}
-use Rattle.palm_read.proofs.Many.{Running}
+use Rattle.palm_read.proofs.cited.Many.{Running}
 use Rattle.palm_read.proofs.reader.cursor.Cursor.all_names.Given as goal
 
 abbrev pub invariant-loop-names : goal.invariant-loop-names

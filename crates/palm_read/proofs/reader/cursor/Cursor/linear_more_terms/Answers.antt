@@ -3,7 +3,7 @@ use Rattle.palm_read.specs.Reader.Held.{held_term}
 use Rattle.palm_read.specs.Linear.{term_of}
 use Rattle.palm_read.specs.Reader.Shapes.{linear_next_term}
 use Rattle.palm_read.proofs.Items.{term_item}
-use Rattle.palm_read.proofs.Many.{item_shortens, running_start, running_more, running_shorter, running_over, running_fails}
+use Rattle.palm_read.proofs.cited.Many.{item_shortens, running_start, running_more, running_shorter, running_over, running_fails}
 use Rattle.palm_read.proofs.reader.cursor.Cursor.linear_more_terms.Goals as goal
 
 pub loop-terms-init : goal.loop-terms-init

@@ -2,7 +2,7 @@ use Rattle.std.proofs.Common.{length}
 use Rattle.palm_read.specs.Reader.Held.{held_term}
 use Rattle.palm_read.specs.Linear.{term_of}
 use Rattle.palm_read.specs.Reader.Shapes.{linear_next_term}
-use Rattle.palm_read.proofs.Many.{Running}
+use Rattle.palm_read.proofs.cited.Many.{Running}
 use Rattle.palm_read.proofs.reader.cursor.Cursor.linear_more_terms.Given as goal
 
 abbrev pub invariant-loop-terms : goal.invariant-loop-terms

@@ -2,7 +2,7 @@ use Rattle.std.proofs.lemmas.Result.{err_from_is_err_and}
 use Rattle.palm_read.specs.Reader.Held.{held_value}
 use Rattle.palm_read.specs.Reader.Lists.{next_value}
 use Rattle.palm_read.proofs.Items.{value_item}
-use Rattle.palm_read.proofs.Many.{item_shortens, running_start, running_more, running_shorter, running_over, running_fails}
+use Rattle.palm_read.proofs.cited.Many.{item_shortens, running_start, running_more, running_shorter, running_over, running_fails}
 use Rattle.palm_read.proofs.reader.cursor.Cursor.more_values.Goals as goal
 
 pub loop-values-init : goal.loop-values-init

@@ -1,7 +1,7 @@
 use Rattle.std.proofs.Common.{length}
 use Rattle.palm_read.specs.Reader.Held.{held_value}
 use Rattle.palm_read.specs.Reader.Lists.{next_value}
-use Rattle.palm_read.proofs.Many.{Running}
+use Rattle.palm_read.proofs.cited.Many.{Running}
 use Rattle.palm_read.proofs.reader.cursor.Cursor.more_values.Given as goal
 
 abbrev pub invariant-loop-values : goal.invariant-loop-values

@@ -3,7 +3,7 @@ use Rattle.std.proofs.Common.{map, []}
 use Rattle.palm_read.specs.Reader.Held.{held_value}
 use Rattle.palm_read.specs.Reader.Lists.{next_row}
 use Rattle.palm_read.proofs.Items.{row_item}
-use Rattle.palm_read.proofs.Many.{item_shortens, running_start, running_more, running_shorter, running_over, running_fails}
+use Rattle.palm_read.proofs.cited.Many.{item_shortens, running_start, running_more, running_shorter, running_over, running_fails}
 use Rattle.palm_read.proofs.reader.cursor.Cursor.rows.Goals as goal
 
 pub loop-rows-init : goal.loop-rows-init

@@ -1,0 +1,6 @@
+-- Lemmas that other crates cite.
+pub mod Connecting
+pub mod Keeping
+pub mod Marking
+pub mod NameLists
+pub mod Sorted

@@ -1,0 +1,143 @@
+-- Connected constraints: their names, their places, and what one more and one fewer leaves.
+use Rattle.std.proofs.Common.{◌≡◌, ℕ, ◌<◌, Bool, true, not, List, [], ◌∷◌, ◌++◌, length, get_or, slice_get, insert, remove, filter, Contains, Some, ◌⊎◌, ◌↔◌, inl, inr, refl, sym, ap, ◌∙◌, subst, arith}
+use Rattle.std.proofs.lemmas.Bool.{cases_Bool}
+use Rattle.std.proofs.lemmas.List.{get_or-map, length-map, map-append}
+use Rattle.std.proofs.lemmas.List.Elements.{Contains-append_left, Contains-append_right, Contains-append_cases}
+use Rattle.std.proofs.lemmas.Option.{slice_get-get_or}
+use Rattle.palm_base.specs.declared.terms.Cid.{Cid}
+use Rattle.palm_base.proofs.cited.Members.{member_here, member_there, member_cases, member_same, member_filter, filter_member, member_map, member_unmap, member_single}
+use Rattle.palm_model.specs.Log.{Rises, cid_before, same_cid, is_named}
+use Rattle.palm_model.specs.State.{without_cid}
+use Rattle.palm_events.proofs.cited.Names.{cid_order, cid_same, member_not_named, not_named_member}
+use Rattle.palm_agenda.specs.Names.{IsPartedAt, with_name}
+use Rattle.palm_agenda.specs.Agenda.{Connected, HasPlace, IsConnected, IsOver, names_of, with_connected, without_connected}
+use Rattle.palm_agenda.proofs.cited.Sorted.{IsSortedKeys, filter_passes, filter_fails, inserted, listed_at, parted_where}
+use Rattle.palm_agenda.proofs.cited.NameLists.{rising, rises_at, removed_by_name}
+
+abbrev pub cid_of : Connected → Cid
+cid_of d = d.cid
+
+pub sorted_connected : (connected : List Connected) → Rises (names_of connected) → IsSortedKeys cid_of cid_before connected
+sorted_connected connected rises = record {
+  at = λ i j d lt within.
+      let li : i < length connected = omega arith in
+      let many = length-map connected cid_of in
+      let h = rises_at (names_of connected) rises i j d.cid lt (omega arith) in
+      subst (λ a. cid_before a (get_or connected j d).cid ≡ true) (get_or-map cid_of connected i d d.cid li)
+      (subst (λ b. cid_before (get_or (names_of connected) i d.cid) b ≡ true) (get_or-map cid_of connected j d d.cid within) h);
+}
+
+-- where a constraint under the name stands, the names are parted
+pub counted_there : (connected : List Connected) → Rises (names_of connected) → (cid name : Cid) (same : Bool) (place : ℕ) (d : Connected) → place < length connected → d ≡ get_or connected place d → name ≡ d.cid
+    → same ≡ same_cid name cid → same ≡ true → IsPartedAt (λ e. cid_before e.cid cid) connected place
+counted_there connected rises cid name same place d within item is told passed =
+    parted_where cid_of cid_before rising connected (sorted_connected connected rises) cid place d (slice_get-get_or connected place d within ∙ ap Some (sym item)) (sym is ∙ cid_same name cid (sym told ∙ passed))
+
+-- ---- names
+
+pub connected_name : (connected : List Connected) (c : Cid) → IsConnected connected c → Contains (names_of connected) c
+connected_name connected c is = member_same (names_of connected) is.owner.cid c is.named (member_map cid_of connected is.owner is.listed)
+
+pub name_connected : (connected : List Connected) (c : Cid) → Contains (names_of connected) c → IsConnected connected c
+name_connected connected c m = let r = member_unmap cid_of connected c m in record { owner = r.0; listed = r.1; named = r.2 }
+
+abbrev pub over_connected : (connected : List Connected) (x : ℕ) (c : Cid) → IsOver connected x c → IsConnected connected c
+over_connected connected x c is = record { owner = is.owner; listed = is.listed; named = is.named }
+
+abbrev pub place_connected : (connected : List Connected) (c : Cid) (place : ℕ) → HasPlace connected c place → IsConnected connected c
+place_connected connected c place is = record { owner = is.owner; listed = is.listed; named = is.named }
+
+names_filter : (test : Cid → Bool) (connected : List Connected) → names_of (filter (λ d. test d.cid) connected) ≡ filter test (names_of connected)
+names_filter test [] = refl
+names_filter test (d ∷ connected) = elim (cases_Bool (test d.cid)) [
+  | inl t ↦
+      ap names_of (filter_passes (λ (e : Connected). test e.cid) d connected t) ∙ ap (λ names. d.cid ∷ names) (names_filter test connected)
+      ∙ sym (filter_passes test d.cid (names_of connected) t)
+  | inr f ↦
+      ap names_of (filter_fails (λ (e : Connected). test e.cid) d connected f) ∙ names_filter test connected
+      ∙ sym (filter_fails test d.cid (names_of connected) f)
+]
+
+pub names_with : (d : Connected) (connected : List Connected) → names_of (with_connected d connected) ≡ with_name d.cid (names_of connected)
+names_with d connected =
+    map-append cid_of (filter (λ e. cid_before e.cid d.cid) connected) (d ∷ filter (λ e. cid_before d.cid e.cid) connected)
+    ∙ ap (λ names. names ++ d.cid ∷ names_of (filter (λ e. cid_before d.cid e.cid) connected)) (names_filter (λ c. cid_before c d.cid) connected)
+    ∙ ap (λ names. filter (λ c. cid_before c d.cid) (names_of connected) ++ d.cid ∷ names) (names_filter (λ c. cid_before d.cid c) connected)
+
+pub names_without : (cid : Cid) (connected : List Connected) → names_of (without_connected cid connected) ≡ without_cid cid (names_of connected)
+names_without cid connected = names_filter (λ c. not (is_named (cid ∷ []) c)) connected
+
+-- ---- places
+
+pub parted_in : (looked connected : List Connected) (cid : Cid) (place : ℕ) → looked ≡ connected → IsPartedAt (λ d. cid_before d.cid cid) looked place → IsPartedAt (λ d. cid_before d.cid cid) connected place
+parted_in looked connected cid place is at = subst (λ ds. IsPartedAt (λ d. cid_before d.cid cid) ds place) is at
+
+module _ (connected : List Connected) (rises : Rises (names_of connected)) (cid : Cid) (place : ℕ) (at : IsPartedAt (λ d. cid_before d.cid cid) connected place) where
+  pub stands : (d : Connected) → Contains connected d → d.cid ≡ cid → slice_get connected place ≡ Some d
+  stands d m named = listed_at cid_of cid_before rising connected (sorted_connected connected rises) cid place at d m named
+
+  pub connected_at : (IsConnected connected cid → ⊥) → (d : Connected) → d.cid ≡ cid → insert connected place d ≡ with_connected d connected
+  connected_at absent d named =
+      subst (λ k. insert connected place d ≡ filter (λ e. cid_before e.cid k) connected ++ d ∷ filter (λ e. cid_before k e.cid) connected) (sym named)
+      (inserted cid_of cid_before rising connected (sorted_connected connected rises) cid place at (λ e m n. absent (record { owner = e; listed = m; named = n })) d)
+
+  pub disconnected_at : IsConnected connected cid → remove connected place ≡ without_connected cid connected
+  disconnected_at is =
+      removed_by_name cid_of cid_before rising connected (sorted_connected connected rises) cid place is.owner (stands is.owner is.listed is.named) is.named
+
+-- ---- one more
+
+pub with_connected_cases : (d : Connected) (connected : List Connected) (e : Connected) → Contains (with_connected d connected) e → (d ≡ e) ⊎ Contains connected e
+with_connected_cases d connected e m =
+    elim (Contains-append_cases (filter (λ f. cid_before f.cid d.cid) connected) (d ∷ filter (λ f. cid_before d.cid f.cid) connected) e m) [
+      | inl k ↦ inr (filter_member (λ (f : Connected). cid_before f.cid d.cid) connected e k).0
+      | inr k ↦ elim (member_cases d (filter (λ f. cid_before d.cid f.cid) connected) e k) [
+        | inl s ↦ inl s
+        | inr l ↦ inr (filter_member (λ (f : Connected). cid_before d.cid f.cid) connected e l).0
+      ]
+    ]
+
+pub with_connected_here : (d : Connected) (connected : List Connected) → Contains (with_connected d connected) d
+with_connected_here d connected =
+    Contains-append_right (filter (λ f. cid_before f.cid d.cid) connected) (d ∷ filter (λ f. cid_before d.cid f.cid) connected) d (member_here d (filter (λ f. cid_before d.cid f.cid) connected))
+
+pub member_with_connected : (d : Connected) (connected : List Connected) (e : Connected) → (IsConnected connected d.cid → ⊥) → Contains connected e → Contains (with_connected d connected) e
+member_with_connected d connected e absent m = elim (cid_order e.cid d.cid) [
+  | inl t ↦ Contains-append_left (filter (λ f. cid_before f.cid d.cid) connected) (d ∷ filter (λ f. cid_before d.cid f.cid) connected) e (member_filter (λ (f : Connected). cid_before f.cid d.cid) connected e m t)
+  | inr r ↦ elim r [
+    | inl s ↦ absurd (absent (record { owner = e; listed = m; named = s }))
+    | inr t ↦ Contains-append_right (filter (λ f. cid_before f.cid d.cid) connected) (d ∷ filter (λ f. cid_before d.cid f.cid) connected) e
+        (member_there d (filter (λ f. cid_before d.cid f.cid) connected) e (member_filter (λ (f : Connected). cid_before d.cid f.cid) connected e m t))
+  ]
+]
+
+pub over_with : (d : Connected) (connected : List Connected) (x : ℕ) (c : Cid) → (IsConnected connected d.cid → ⊥) → IsOver (with_connected d connected) x c ↔ (IsOver connected x c ⊎ (Contains d.scope x × (c ≡ d.cid)))
+over_with d connected x c absent = (
+  λ is. elim (with_connected_cases d connected is.owner is.listed) [
+    | inl e ↦ inr (subst (λ (f : Connected). Contains f.scope x) (sym e) is.over, sym (ap cid_of e ∙ is.named))
+    | inr m ↦ inl (record { owner = is.owner; listed = m; named = is.named; over = is.over })
+  ],
+  λ h. elim h [
+    | inl is ↦ record { owner = is.owner; listed = member_with_connected d connected is.owner absent is.listed; named = is.named; over = is.over }
+    | inr both ↦ record { owner = d; listed = with_connected_here d connected; named = sym both.1; over = both.0 }
+  ],
+)
+
+-- ---- one fewer
+
+pub without_connected_member : (cid : Cid) (connected : List Connected) (d : Connected) → Contains (without_connected cid connected) d → Contains connected d × (d.cid ≡ cid → ⊥)
+without_connected_member cid connected d m =
+    let r = filter_member (λ (e : Connected). not (is_named (cid ∷ []) e.cid)) connected d m in
+    (r.0, λ e. not_named_member (cid ∷ []) d.cid r.1 (member_same (cid ∷ []) cid d.cid (sym e) (member_here cid [])))
+
+pub member_without_connected : (cid : Cid) (connected : List Connected) (d : Connected) → Contains connected d → (d.cid ≡ cid → ⊥) → Contains (without_connected cid connected) d
+member_without_connected cid connected d m ne =
+    member_filter (λ (e : Connected). not (is_named (cid ∷ []) e.cid)) connected d m (member_not_named (cid ∷ []) d.cid (λ k. ne (sym (member_single cid d.cid k))))
+
+pub over_without : (cid : Cid) (connected : List Connected) (x : ℕ) (c : Cid) → IsOver (without_connected cid connected) x c ↔ (IsOver connected x c × (c ≡ cid → ⊥))
+over_without cid connected x c = (
+  λ is.
+      let r = without_connected_member cid connected is.owner is.listed in
+      (record { owner = is.owner; listed = r.0; named = is.named; over = is.over }, λ e. r.1 (is.named ∙ e)),
+  λ h. record { owner = h.0.owner; listed = member_without_connected cid connected h.0.owner h.0.listed (λ e. h.1 (sym h.0.named ∙ e)); named = h.0.named; over = h.0.over },
+)

@@ -1,0 +1,245 @@
+-- What is accepted is explained by the listed constraints: every pair that steps prove is, from the first step on.
+use Rattle.std.proofs.Common.{◌≡◌, ℕ, ◌+◌, ◌-◌, ◌<◌, ◌≤◌, ℤ, List, [], ◌∷◌, length, All, Any, Contains, ◌⊎◌, inl, inr, refl, sym, ap, subst, arith}
+use Rattle.std.specs.Bool.{⊤}
+use Rattle.std.proofs.lemmas.Bool.{cases_lt}
+use Rattle.std.proofs.lemmas.List.{get_or_default, length-map}
+use Rattle.std.proofs.lemmas.List.Elements.{All-contains, Contains-push_cases}
+use Rattle.palm_base.specs.declared.terms.Pair.{Pair}
+use Rattle.palm_base.proofs.cited.Members.{member_nil, member_here, member_map, member_unmap}
+use Rattle.palm_book.specs.Book.{Contents, initial_of}
+use Rattle.palm_book.specs.declared.book.BookCon.{BookCon}
+use Rattle.palm_book.proofs.cited.Any.{any_member}
+use Rattle.palm_model.specs.Closure.{Explains, IsConflict, IsGreatest}
+use Rattle.palm_model.specs.Domains.{Domains, IsInside, values_of, without}
+use Rattle.palm_model.proofs.cited.Trials.{support_grows}
+use Rattle.palm_model.proofs.cited.Without.{has_without, pair_of}
+use Rattle.palm_laws.proofs.cited.Solutions.{explained_missing}
+use Rattle.palm_claim.specs.Claim.{HoldsIn, IsExplained, IsOver, IsOverItsBook, constraints_of}
+use Rattle.palm_claim.specs.Draft.{Draft, Leads, MayStand, at_stage, blank, with_constraint, with_step, with_variable}
+use Rattle.palm_claim.specs.Lines.{lines_of}
+use Rattle.palm_claim.specs.Statement.{IsStepNumber, Says}
+use Rattle.palm_claim.specs.Step.{IsReached, IsRight, pair_at, pairs_at}
+use Rattle.palm_claim.specs.Verdict.{IsNone, IsVerdict, Judges, Meets, ending, in_order}
+use Rattle.palm_claim.specs.declared.statement.Stage.{Stage}
+use Rattle.palm_claim.specs.declared.statement.Stage.TheVariants.{Unopened, Declaring, Listing, Proving, Claimed, Closed}
+use Rattle.palm_claim.specs.declared.statement.Statement.{Statement}
+use Rattle.palm_claim.specs.declared.statement.Statement.TheVariants.{Comment, Header, Variable, Constraint, Step, ValueClaim, ConflictClaim, End}
+use Rattle.palm_claim.specs.declared.verdict.Claim.{Claim}
+use Rattle.palm_claim.specs.declared.verdict.Claim.TheVariants.{Gone, Conflict}
+use Rattle.palm_claim.specs.declared.verdict.Proved.{Proved}
+use Rattle.palm_claim.specs.declared.verdict.Verdict.{Verdict}
+use Rattle.palm_claim.specs.declared.verdict.Verdict.TheVariants.{Accepted, Refused}
+use Rattle.palm_read.specs.declared.line.DomainText.{DomainText}
+use Rattle.palm_read.specs.declared.line.Shape.{Shape}
+
+-- ---- a right step is explained where its reasons are
+
+abbrev pub IsPairExplained : Contents → Pair → Type 0
+IsPairExplained book p = Explains (initial_of book) (Contains (constraints_of book)) p.var p.value
+
+pub proved_member : (proved : List Pair) (k : ℕ) → 1 ≤ k → k ≤ length proved → Contains proved (pair_at proved k)
+proved_member proved k one most =
+    let lt : k - 1 < length proved = omega (arith, one, most) in (k - 1, lt, get_or_default proved (k - 1) (pair_at proved k) (pair_at [] k) lt)
+
+-- what the reasons' steps proved is among what was proved
+pub reason_member : (proved : List Pair) (reasons : List ℕ) → All IsStepNumber reasons → (Any (λ k. length proved < k) reasons → ⊥) → (p : Pair) → Contains (pairs_at proved reasons) p → Contains proved p
+reason_member proved reasons range early p m =
+    let u = member_unmap (pair_at proved) reasons p m in
+    let k = u.0 in
+    let one : 1 ≤ k = (All-contains IsStepNumber reasons k range u.1).0 in
+    let most : k ≤ length proved = elim (cases_lt (length proved) k) [
+      | inl late ↦ absurd (early (any_member (λ j. length proved < j) reasons k u.1 late))
+      | inr h ↦ h
+    ] in
+    subst (Contains proved) u.2 (proved_member proved k one most)
+
+pub right_explained : (book : Contents) (proved : List Pair) (pair : Pair) (by : List ℕ) (reasons : List ℕ)
+    → ((p : Pair) → Contains (pairs_at proved reasons) p → IsPairExplained book p)
+    → IsRight book proved pair by reasons → IsPairExplained book pair
+right_explained book proved pair by reasons explained right d inside closed has =
+    let gone : List Pair = pairs_at proved reasons in
+    let narrow : IsInside d (without (initial_of book) gone) = λ x v h.
+    has_without (initial_of book) gone x v (inside x v h) (λ m. explained (pair_of x v) m d inside closed h) in
+    right.lacks.lacks (support_grows d (without (initial_of book) gone) right.lacks.part pair.var pair.value narrow
+    (closed right.owner.con right.lacks.part (member_map (λ (c : BookCon). c.con) book.constraints right.owner right.listed)
+    right.lacks.is_part pair.var pair.value right.lacks.over has))
+
+-- ---- what every draft keeps to
+
+-- no step stands before the constraints end
+abbrev IsEarly : Stage → Type 0
+IsEarly Unopened = ⊤
+IsEarly Declaring = ⊤
+IsEarly Listing = ⊤
+IsEarly _ = ⊥
+
+abbrev IsClaimAt : Stage → Claim → Type 0
+IsClaimAt stage claim = (stage ≡ Claimed claim) ⊎ (stage ≡ Closed claim)
+
+record Keeps (d : Draft) : Type 0 where
+  early : IsEarly d.stage → d.proved ≡ []
+  explained : (p : Pair) → Contains d.proved p → IsPairExplained d.book p
+  claimed : (claim : Claim) → IsClaimAt d.stage claim → IsExplained d.book claim
+  over : (claim : Claim) → IsClaimAt d.stage claim → IsOver d.book claim
+
+early_unclaimed : (stage : Stage) (claim : Claim) → IsEarly stage → IsClaimAt stage claim → ⊥
+early_unclaimed Unopened claim h c = elim c [ inl e ↦ cc | inr e ↦ cc ]
+early_unclaimed Declaring claim h c = elim c [ inl e ↦ cc | inr e ↦ cc ]
+early_unclaimed Listing claim h c = elim c [ inl e ↦ cc | inr e ↦ cc ]
+early_unclaimed Proving claim h c = absurd h
+early_unclaimed (Claimed k) claim h c = absurd h
+early_unclaimed (Closed k) claim h c = absurd h
+
+early_header : (stage : Stage) → ((MayStand stage Header → ⊥) → ⊥) → IsEarly stage
+early_header Unopened h = tt
+early_header Declaring h = tt
+early_header Listing h = tt
+early_header Proving h = absurd (h (λ e. cc))
+early_header (Claimed c) h = absurd (h (λ e. cc))
+early_header (Closed c) h = absurd (h (λ e. cc))
+
+early_variable : (stage : Stage) (name : List ℕ) (domain : DomainText) → ((MayStand stage (Variable name domain) → ⊥) → ⊥) → IsEarly stage
+early_variable Unopened name domain h = tt
+early_variable Declaring name domain h = tt
+early_variable Listing name domain h = tt
+early_variable Proving name domain h = absurd (h (λ e. cc))
+early_variable (Claimed c) name domain h = absurd (h (λ e. cc))
+early_variable (Closed c) name domain h = absurd (h (λ e. cc))
+
+early_constraint : (stage : Stage) (name : List ℕ) (shape : Shape) → ((MayStand stage (Constraint name shape) → ⊥) → ⊥) → IsEarly stage
+early_constraint Unopened name shape h = tt
+early_constraint Declaring name shape h = tt
+early_constraint Listing name shape h = tt
+early_constraint Proving name shape h = absurd (h (λ e. e))
+early_constraint (Claimed c) name shape h = absurd (h (λ e. e))
+early_constraint (Closed c) name shape h = absurd (h (λ e. e))
+
+-- a draft in which nothing is proved and nothing claimed
+keeps_early : (d : Draft) → IsEarly d.stage → d.proved ≡ [] → Keeps d
+keeps_early d early none = record {
+  early = λ h. none;
+  explained = λ p m. absurd (member_nil p (subst (λ ps. Contains ps p) none m));
+  claimed = λ claim c. absurd (early_unclaimed d.stage claim early c);
+  over = λ claim c. absurd (early_unclaimed d.stage claim early c);
+}
+
+no_claim : (claim : Claim) → IsClaimAt Proving claim → ⊥
+no_claim claim c = elim c [ inl e ↦ cc | inr e ↦ cc ]
+
+same_claim : (a claim : Claim) → IsClaimAt (Claimed a) claim → a ≡ claim
+same_claim a claim c = elim c [ inl e ↦ cc | inr e ↦ cc ]
+
+closed_claim : (a claim : Claim) → IsClaimAt (Closed a) claim → a ≡ claim
+closed_claim a claim c = elim c [ inl e ↦ cc | inr e ↦ cc ]
+
+keeps_claim : (d : Draft) (claim : Claim) → Keeps d → IsExplained d.book claim → IsOver d.book claim → Keeps (at_stage d (Claimed claim))
+keeps_claim d claim keeps is over = record {
+  early = λ h. absurd h;
+  explained = keeps.explained;
+  claimed = λ other c. subst (IsExplained d.book) (same_claim claim other c) is;
+  over = λ other c. subst (IsOver d.book) (same_claim claim other c) over;
+}
+
+keeps_step : (d : Draft) (pair : Pair) → Keeps d → IsPairExplained d.book pair → Keeps (with_step d pair)
+keeps_step d pair keeps is = record {
+  early = λ h. absurd h;
+  explained = λ p m. elim (Contains-push_cases d.proved pair p m) [
+    | inl o ↦ keeps.explained p o
+    | inr e ↦ subst (IsPairExplained d.book) e is
+  ];
+  claimed = λ claim c. absurd (no_claim claim c);
+  over = λ claim c. absurd (no_claim claim c);
+}
+
+-- explained is what leads to a contradiction, so what is not refuted serves
+by_two : (book : Contents) (pair : Pair) (P : Type 0) → ((P → ⊥) → ⊥) → (P → IsPairExplained book pair) → IsPairExplained book pair
+by_two book pair P twice h d inside closed has = twice (λ p. h p d inside closed has)
+
+keeps_leads : (d e : Draft) (line : List ℕ) (s : Statement) → Keeps d → Says line s → IsNone (Meets d s) in_order → Leads d s e → Keeps e
+keeps_leads d e line Comment keeps says none leads = subst Keeps (sym leads) keeps
+keeps_leads d e line Header keeps says none leads =
+    subst Keeps (sym leads) (keeps_early (at_stage d Declaring) tt (keeps.early (early_header d.stage none.0)))
+keeps_leads d e line (Variable name domain) keeps says none leads =
+    let early = early_variable d.stage name domain none.0 in
+    subst Keeps (sym leads) (keeps_early (with_variable d name _) early (keeps.early early))
+keeps_leads d e line (Constraint name shape) keeps says none leads =
+    let early = early_constraint d.stage name shape none.0 in
+    subst Keeps (sym leads.2) (keeps_early (with_constraint d name leads.0) tt (keeps.early early))
+keeps_leads d e line (Step name value by reasons) keeps says none leads =
+    let pair : Pair = leads.0 in
+    let members = reason_member d.proved reasons says.2.1 none.1.1.1.0 in
+    let is : IsPairExplained d.book pair = by_two d.book pair (IsRight d.book d.proved pair by reasons) (λ wrong. none.1.1.1.1.0 (pair, leads.1, wrong))
+    (right_explained d.book d.proved pair by reasons (λ p m. keeps.explained p (members p m))) in
+    subst Keeps (sym leads.2) (keeps_step d pair keeps is)
+keeps_leads d e line (ValueClaim name value) keeps says none leads =
+    let pair : Pair = leads.0 in
+    let is : IsPairExplained d.book pair = by_two d.book pair (Contains d.proved pair) (λ out. none.1.1.1.1.1.0 (pair, leads.1, out)) (keeps.explained pair) in
+    subst Keeps (sym leads.2) (keeps_claim d (Gone pair) keeps is leads.1.variable.declared)
+keeps_leads d e line (ConflictClaim name) keeps says none leads =
+    let x : ℕ = leads.0 in
+    let is : IsExplained d.book (Conflict x) = (
+      omega (arith, leads.1.declared, length-map d.book.variables (λ e. e.values)),
+      λ v. by_two d.book (record { var = x; value = v }) (IsReached d.book d.proved (Conflict x)) (λ out. none.1.1.1.1.1.0 (x, leads.1, out))
+          (λ reached g inside closed has. keeps.explained (record { var = x; value = v }) (reached v (inside x v has)) g inside closed has),
+    ) in
+    subst Keeps (sym leads.2) (keeps_claim d (Conflict x) keeps is leads.1.declared)
+keeps_leads d e line End keeps says none leads =
+    let is = keeps.claimed leads.0 (inl leads.1) in
+    let over = keeps.over leads.0 (inl leads.1) in
+    let ended : Keeps (at_stage d (Closed leads.0)) = record {
+      early = λ h. absurd h;
+      explained = keeps.explained;
+      claimed = λ other c. subst (IsExplained d.book) (closed_claim leads.0 other c) is;
+      over = λ other c. subst (IsOver d.book) (closed_claim leads.0 other c) over;
+    } in
+    subst Keeps (sym leads.2) ended
+
+-- ---- the whole text
+
+ended_claim : (stage : Stage) (book : Contents) (n : ℕ) (proved : Proved) → Accepted proved ≡ ending stage book n → (stage ≡ Closed proved.claim) × (proved.book ≡ book)
+ended_claim Unopened book n proved e = cc
+ended_claim Declaring book n proved e = cc
+ended_claim Listing book n proved e = cc
+ended_claim Proving book n proved e = cc
+ended_claim (Claimed c) book n proved e = cc
+ended_claim (Closed c) book n proved e =
+    let made : Proved = record { claim = c; book = book } in
+    let same : proved ≡ made = cc in
+    (ap (λ (p : Proved). Closed p.claim) (sym same), ap (λ (p : Proved). p.book) same)
+
+judged_explained : (lines : List (List ℕ)) (d : Draft) (n : ℕ) (proved : Proved) → Keeps d → Judges d n lines (Accepted proved) → IsExplained proved.book proved.claim × IsOver proved.book proved.claim
+judged_explained [] d n proved keeps j =
+    let is = ended_claim d.stage d.book n proved j in
+    subst (λ (b : Contents). IsExplained b proved.claim × IsOver b proved.claim) (sym is.1) (keeps.claimed proved.claim (inr is.0), keeps.over proved.claim (inr is.0))
+judged_explained (line ∷ lines) d n proved keeps j = elim j [
+  | inl r ↦ let e : Accepted proved ≡ Refused n r.0 = r.2 in cc
+  | inr p ↦ judged_explained lines p.0 (n + 1) proved (keeps_leads d p.0 line p.1.statement keeps p.1.says p.1.none p.1.leads) p.2
+]
+
+pub accepted_explained : (bytes : List ℕ) (proved : Proved) → IsVerdict bytes (Accepted proved) → IsExplained proved.book proved.claim
+accepted_explained bytes proved is = (judged_explained (lines_of bytes) blank 1 proved (keeps_early blank tt refl) is).0
+
+pub verdict_over : (bytes : List ℕ) (verdict : Verdict) → IsVerdict bytes verdict → IsOverItsBook verdict
+verdict_over bytes (Accepted proved) is = (judged_explained (lines_of bytes) blank 1 proved (keeps_early blank tt refl) is).1
+verdict_over bytes (Refused line cause) is = tt
+
+pub accepted_conflict : (bytes : List ℕ) (proved : Proved) (x : ℕ) → IsVerdict bytes (Accepted proved) → proved.claim ≡ Conflict x → IsConflict (initial_of proved.book) (Contains (constraints_of proved.book))
+accepted_conflict bytes proved x is claims =
+    let h = subst (IsExplained proved.book) claims (accepted_explained bytes proved is) in
+    (x, h.0, h.1)
+
+-- ---- the greatest closed domains
+
+no_members : (vs : List ℤ) → ((v : ℤ) → Contains vs v → ⊥) → vs ≡ []
+no_members [] none = refl
+no_members (v ∷ vs) none = absurd (none v (member_here v vs))
+
+explained_holds : (book : Contents) (claim : Claim) (d : Domains) → IsExplained book claim → IsGreatest (initial_of book) (Contains (constraints_of book)) d → HoldsIn d claim
+explained_holds book (Gone pair) d is greatest = explained_missing (initial_of book) (Contains (constraints_of book)) d pair.var pair.value greatest is
+explained_holds book (Conflict x) d is greatest = (
+  subst (λ n. x < n) (sym greatest.variables) is.0,
+  no_members (values_of d x) (λ v has. explained_missing (initial_of book) (Contains (constraints_of book)) d x v greatest (is.1 v) has),
+)
+
+pub accepted_holds : (bytes : List ℕ) (proved : Proved) (d : Domains) → IsVerdict bytes (Accepted proved) → IsGreatest (initial_of proved.book) (Contains (constraints_of proved.book)) d → HoldsIn d proved.claim
+accepted_holds bytes proved d is greatest = explained_holds proved.book proved.claim d (accepted_explained bytes proved is) greatest

@@ -1,0 +1,5 @@
+-- Lemmas that other crates cite.
+pub mod Ascending
+pub mod Comparisons
+pub mod StoreRows
+pub mod Values

@@ -1,5 +1,0 @@
-use Rattle.palm_engine.proofs.Settled.{settling_still}
-use Rattle.palm_engine.proofs.settling.settlings_without_limit_end_still.Goals as goal
-
-pub returns : goal.returns
-returns c = λ s t rs settles. settling_still s rs t settles

@@ -1,5 +1,0 @@
-use Rattle.palm_engine.proofs.Settled.{plainly_same}
-use Rattle.palm_engine.proofs.settling.settlings_without_order_are_unique.Goals as goal
-
-pub returns : goal.returns
-returns c = λ limit s t u qs rs valid fq fr one other. plainly_same limit s qs t rs u valid fq fr one other

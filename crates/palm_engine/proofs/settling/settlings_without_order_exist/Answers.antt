@@ -1,5 +1,0 @@
-use Rattle.palm_engine.proofs.Settled.{plainly_exists}
-use Rattle.palm_engine.proofs.settling.settlings_without_order_exist.Goals as goal
-
-pub returns : goal.returns
-returns c = λ limit s valid. plainly_exists limit s valid

@@ -1,5 +1,0 @@
-use Rattle.palm_events.proofs.Conflicts.{flat_unsolved}
-use Rattle.palm_events.proofs.conflict.flat_conflicts_have_no_solution.Goals as goal
-
-pub returns : goal.returns
-returns c = λ s x a valid justified empty solution. flat_unsolved s valid justified x empty a solution

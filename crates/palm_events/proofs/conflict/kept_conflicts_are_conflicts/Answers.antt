@@ -1,5 +1,0 @@
-use Rattle.palm_events.proofs.Conflicts.{kept_conflict}
-use Rattle.palm_events.proofs.conflict.kept_conflicts_are_conflicts.Goals as goal
-
-pub returns : goal.returns
-returns c = λ s x valid empty. kept_conflict s valid x empty

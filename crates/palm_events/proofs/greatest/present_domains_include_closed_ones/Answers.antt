@@ -1,5 +1,0 @@
-use Rattle.palm_events.proofs.Runs.{present_includes}
-use Rattle.palm_events.proofs.greatest.present_domains_include_closed_ones.Goals as goal
-
-pub returns : goal.returns
-returns c = λ s d valid inside closed. present_includes s valid d inside closed

@@ -1,5 +1,0 @@
-use Rattle.palm_events.proofs.Runs.{quiet_greatest}
-use Rattle.palm_events.proofs.greatest.quiet_states_have_the_greatest_domains.Goals as goal
-
-pub returns : goal.returns
-returns c = λ s valid quiet. quiet_greatest s valid quiet

@@ -1,5 +1,0 @@
-use Rattle.palm_events.proofs.Conflicts.{names_active}
-use Rattle.palm_events.proofs.logged.explanations_are_active.Goals as goal
-
-pub returns : goal.returns
-returns c = λ initial active log r cid founded m names. names_active initial active log cid founded r m names

@@ -1,5 +1,0 @@
-use Rattle.palm_events.proofs.Undone.{logged_once}
-use Rattle.palm_events.proofs.logged.pairs_are_logged_once.Goals as goal
-
-pub returns : goal.returns
-returns c = λ initial active log q r founded m n e. logged_once initial active log founded q r m n e

@@ -1,5 +1,0 @@
-use Rattle.palm_events.proofs.Outcomes.{withdrawal_exists}
-use Rattle.palm_events.proofs.logged.withdrawals_have_an_outcome.Goals as goal
-
-pub returns : goal.returns
-returns c = λ s gone valid. withdrawal_exists s gone valid

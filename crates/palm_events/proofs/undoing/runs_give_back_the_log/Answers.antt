@@ -1,6 +1,0 @@
-use Rattle.palm_events.proofs.Reasons.{reasons_right}
-use Rattle.palm_events.proofs.Undone.{run_undone}
-use Rattle.palm_events.proofs.undoing.runs_give_back_the_log.Goals as goal
-
-pub returns : goal.returns
-returns c = λ s t steps valid still run keeps alone. run_undone reasons_right s steps t valid still run keeps alone

@@ -1,6 +1,0 @@
-use Rattle.palm_events.proofs.Reasons.{reasons_right}
-use Rattle.palm_events.proofs.Runs.{blank_run_valid}
-use Rattle.palm_events.proofs.validity.runs_are_valid.Goals as goal
-
-pub returns : goal.returns
-returns c = λ initial steps t ascend run. blank_run_valid reasons_right initial steps t ascend run

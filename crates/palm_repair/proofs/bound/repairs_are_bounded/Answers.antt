@@ -1,6 +1,0 @@
-use Rattle.palm_events.proofs.Reasons.{reasons_right}
-use Rattle.palm_repair.proofs.Counting.{repair_run_bounded}
-use Rattle.palm_repair.proofs.bound.repairs_are_bounded.Goals as goal
-
-pub returns : goal.returns
-returns c = λ guided ordered tabu budget dropped s t turns end users valid repairs none. repair_run_bounded reasons_right guided ordered tabu budget s turns end dropped repairs.last valid users repairs.run none

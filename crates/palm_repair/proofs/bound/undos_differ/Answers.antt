@@ -1,6 +1,0 @@
-use Rattle.palm_events.proofs.Reasons.{reasons_right}
-use Rattle.palm_repair.proofs.Counting.{undos_apart}
-use Rattle.palm_repair.proofs.bound.undos_differ.Goals as goal
-
-pub returns : goal.returns
-returns c = λ guided ordered tabu s t gone conflict turns at run same. undos_apart reasons_right guided ordered tabu s gone conflict turns t at run same

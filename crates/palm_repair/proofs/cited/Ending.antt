@@ -1,0 +1,123 @@
+-- What the ends of a repair say, and what is left after it.
+use Rattle.std.proofs.Common.{◌≡◌, ℕ, Bool, true, false, None, List, [], ◌∷◌, ◌++◌, length, Contains, inl, inr, refl, sym, subst}
+use Rattle.palm_base.specs.declared.terms.Cid.{Cid}
+use Rattle.palm_base.specs.declared.terms.Cid.TheVariants.{Decide}
+use Rattle.palm_model.specs.Log.{Active}
+use Rattle.palm_model.specs.State.{EngineState, IsValid, is_user, decision_of, negation_of}
+use Rattle.palm_model.specs.Event.{Posts, WithdrawsAll, gone_with}
+use Rattle.palm_events.specs.Along.{IsStill, KeepsGrounds}
+use Rattle.palm_events.specs.Reasons.{ReasonsAreRight}
+use Rattle.palm_events.proofs.cited.States.{gone_grounds}
+use Rattle.palm_engine.proofs.cited.Settled.{settling_filters}
+use Rattle.palm_search.specs.declared.turn.Turn.{Turn}
+use Rattle.palm_search.specs.declared.turn.Turn.TheVariants.{Decide as TurnDecide, Undo as TurnUndo}
+use Rattle.palm_search.specs.Turns.{decided_vars}
+use Rattle.palm_search.specs.Search.{SearchEnd, begun}
+use Rattle.palm_search.specs.Kept.{HasOnlyUsers, Rests}
+use Rattle.palm_search.proofs.cited.Leaving.{Searched, searched_none, searched_posted, searched_withdrawn, searched_settles, closing_leaves, Remembers, remembers_none, remembers_posted, remembers_withdrawn, remembers_settles, users_later, Ended, ended_rests}
+use Rattle.palm_repair.specs.Posting.{RepairState, nogood_of}
+use Rattle.palm_repair.specs.Repair.{MakesRoom, RepairTakes, RepairTurns, RepairRun, Repairs, forced_by}
+use Rattle.palm_repair.specs.Kept.{IsRepairing}
+use Rattle.palm_repair.proofs.Forcing.{posts_from_along}
+use Rattle.palm_repair.proofs.Repairing.{undone, decision_no_user, forced_no_user, forced_keeps, repair_takes_keep, repair_settles_keep}
+use Rattle.palm_repair.proofs.Blocking.{starts_at_turn, turns_at_turn}
+
+-- ---- what holds along the turns
+
+-- the names of no users, none of them a ground of a negation that stays
+record MayGo (m : EngineState) (gone : List Cid) : Type 0 where
+  keeps : KeepsGrounds m.active gone
+  none : (c : Cid) → Contains gone c → is_user c ≡ true → ⊥
+
+-- kept by each posting of what is no user's, and by each withdrawal of what is none
+record IsKeptAlong (Q : EngineState → Type 0) : Type 0 where
+  posts : (m : EngineState) (a : Active) (t : EngineState) → is_user a.cid ≡ false → Posts m a t → Q m → Q t
+  withdraws : (m : EngineState) (gone : List Cid) (t : EngineState) → MayGo m gone → WithdrawsAll m gone t → Q m → Q t
+
+room_along : (Q : EngineState → Type 0) → IsKeptAlong Q → (tabu : ℕ) (s t : RepairState) → MakesRoom tabu s t → Q s.search.engine → Q t.search.engine
+room_along Q kept tabu s t room q = elim room [
+  | inr r ↦ subst (λ (z : RepairState). Q z.search.engine) (sym r.1) q
+  | inl r ↦
+      let gone = forced_by s.search.engine s.dropped s.origins in
+      subst (λ (z : RepairState). Q z.search.engine) (sym r.1.after) (kept.withdraws s.search.engine gone r.1.engine (record {
+        keeps = forced_keeps s.search.engine s.dropped s.origins;
+        none = forced_no_user s.search.engine s.dropped s.origins;
+      }) r.1.withdraws q)
+]
+
+takes_along : (Q : EngineState → Type 0) → IsKeptAlong Q → (guided : Bool) (tabu : ℕ) (s : RepairState) (turn : Turn) (t : RepairState) → RepairTakes guided tabu s turn t → IsValid s.search.engine
+    → Q s.search.engine → Q t.search.engine
+takes_along Q kept guided tabu s (TurnDecide pair pick) t takes valid q =
+    posts_from_along Q (λ m p because u posts k. kept.posts m (negation_of p because) u refl posts k) (record s { search = takes.middle }) s.dropped s.nogoods t takes.posts
+    (kept.posts s.search.engine (decision_of pair) takes.middle.engine refl takes.decides.posts q)
+takes_along Q kept guided tabu s (TurnUndo gone conflict) t takes valid q =
+    let cid : Cid = Decide gone.var in
+    let names = gone_with s.search.engine.active cid in
+    let roomy = takes.roomy in
+    let nogoods = roomy.nogoods ++ nogood_of s.search.decisions conflict ∷ [] in
+    posts_from_along Q (λ m p because u posts k. kept.posts m (negation_of p because) u refl posts k) (record roomy { nogoods = nogoods }) roomy.dropped nogoods t takes.posts
+    (room_along Q kept tabu (undone s takes.engine takes.left (decided_vars conflict)) roomy takes.makes_room
+    (kept.withdraws s.search.engine names takes.engine (record {
+      keeps = gone_grounds (length s.search.engine.initial) s.search.engine.active cid valid.formed;
+      none = decision_no_user s.search.engine valid gone.var;
+    }) takes.withdraws q))
+
+-- ---- the log
+
+searched_along : (s : EngineState) → HasOnlyUsers s → IsValid s → IsKeptAlong (Searched s)
+searched_along s users valid = record {
+  posts = λ m a t f posts searched. searched_posted s m a t f posts searched;
+  withdraws = λ m gone t may withdraws searched. searched_withdrawn s m gone t may.keeps (users_later s users gone may.none) withdraws valid searched;
+}
+
+searched_turns : ReasonsAreRight → (guided ordered : Bool) (tabu : ℕ) (s : EngineState) (m : RepairState) (turns : List Turn) (t : RepairState) → HasOnlyUsers s → IsValid s → IsStill s
+    → RepairTurns guided ordered tabu m turns t → Searched s m.search.engine → Searched s t.search.engine
+searched_turns right guided ordered tabu s m [] t users valid still run searched = subst (λ (z : RepairState). Searched s z.search.engine) (sym run) searched
+searched_turns right guided ordered tabu s m (turn ∷ turns) t users valid still run searched =
+    let follows = run.1 in
+    let taken = takes_along (Searched s) (searched_along s users valid) guided tabu m turn follows.middle follows.takes searched.valid searched in
+    searched_turns right guided ordered tabu s run.0 turns t users valid still run.2 (searched_settles right ordered s follows.middle.search run.0.search follows.settles.settles valid still taken)
+
+pub repair_leaves : ReasonsAreRight → (guided ordered : Bool) (tabu budget : ℕ) (s : EngineState) (turns : List Turn) (end : SearchEnd) (dropped : ℕ) (t : EngineState) → HasOnlyUsers s → IsValid s → IsStill s
+    → Repairs guided ordered tabu budget s turns end dropped t → t.log ≡ s.log
+repair_leaves right guided ordered tabu budget s turns end dropped t users valid still repairs =
+    let run = repairs.run in
+    let start = searched_settles right ordered s (begun s) run.start.search run.settles.settles valid still (searched_none s valid) in
+    let last = searched_turns right guided ordered tabu s run.start turns repairs.last users valid still run.taken start in
+    let closes = repairs.closes in
+    closing_leaves right s repairs.last.search.engine closes.middle t users valid still last closes.withdraws (settling_filters None closes.middle closes.revisions t closes.settles)
+
+-- ---- the constraints
+
+remembers_along : (s : EngineState) → HasOnlyUsers s → IsKeptAlong (Remembers s)
+remembers_along s users = record {
+  posts = λ m a t f posts old. remembers_posted s m a t f posts old;
+  withdraws = λ m gone t may withdraws old. remembers_withdrawn s m gone t (users_later s users gone may.none) withdraws old;
+}
+
+remembers_turns : ReasonsAreRight → (guided ordered : Bool) (tabu : ℕ) (s : EngineState) (m : RepairState) (turns : List Turn) (t : RepairState) → HasOnlyUsers s → IsRepairing m
+    → RepairTurns guided ordered tabu m turns t → Remembers s m.search.engine → Remembers s t.search.engine
+remembers_turns right guided ordered tabu s m [] t users repairing run old = subst (λ (z : RepairState). Remembers s z.search.engine) (sym run) old
+remembers_turns right guided ordered tabu s m (turn ∷ turns) t users repairing run old =
+    let follows = run.1 in
+    let taken = takes_along (Remembers s) (remembers_along s users) guided tabu m turn follows.middle follows.takes repairing.searching.valid old in
+    let middle = repair_takes_keep guided tabu m turn follows.middle follows.takes repairing in
+    remembers_turns right guided ordered tabu s run.0 turns t users (repair_settles_keep right ordered follows.middle run.0 follows.settles middle) run.2
+    (remembers_settles ordered s follows.middle.search run.0.search follows.settles.settles taken)
+
+pub repair_ended : ReasonsAreRight → (guided ordered : Bool) (tabu budget : ℕ) (s : EngineState) (turns : List Turn) (end : SearchEnd) (dropped : ℕ) (t : RepairState) → HasOnlyUsers s → IsValid s
+    → RepairRun guided ordered tabu budget s turns end dropped t → Ended s t.search
+repair_ended right guided ordered tabu budget s turns end dropped t users valid run =
+    let start = starts_at_turn right ordered s run.start valid users run.settles in
+    let last = turns_at_turn right guided ordered tabu run.start turns t run.taken start in
+    let first = remembers_settles ordered s (begun s) run.start.search run.settles.settles (remembers_none s) in
+    record {
+      searching = last.repairing.searching;
+      still = last.still;
+      remembers = remembers_turns right guided ordered tabu s run.start turns t users start.repairing run.taken first;
+    }
+
+pub repair_rests : ReasonsAreRight → (guided ordered : Bool) (tabu budget : ℕ) (s : EngineState) (turns : List Turn) (end : SearchEnd) (dropped : ℕ) (t : EngineState) → HasOnlyUsers s → IsValid s
+    → Repairs guided ordered tabu budget s turns end dropped t → Rests s t
+repair_rests right guided ordered tabu budget s turns end dropped t users valid repairs =
+    ended_rests right ordered s repairs.last.search t users valid (repair_ended right guided ordered tabu budget s turns end dropped repairs.last users valid repairs.run) repairs.closes

@@ -1,5 +1,0 @@
-use Rattle.palm_search.proofs.Measuring.{measure_below}
-use Rattle.palm_search.proofs.bound.the_measure_is_bounded.Goals as goal
-
-pub returns : goal.returns
-returns c = λ s searching. measure_below s searching.valid searching.declared

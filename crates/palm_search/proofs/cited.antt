@@ -1,0 +1,11 @@
+-- Lemmas that other crates cite.
+pub mod Alone
+pub mod Closing
+pub mod Deciding
+pub mod Going
+pub mod Keeping
+pub mod Leaving
+pub mod Measuring
+pub mod Showing
+pub mod Weighing
+pub mod Whole

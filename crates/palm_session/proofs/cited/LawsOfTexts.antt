@@ -1,0 +1,217 @@
+-- A text has lines in one way, and its lines are answered in one way.
+use Rattle.std.proofs.Common.{◌≡◌, ◌≢◌, ℕ, List, [], ◌∷◌, ◌++◌, map, flat_map, All, Contains, ◌⊎◌, inl, inr, refl, sym, ap, ◌∙◌, subst, append_assoc}
+use Rattle.std.proofs.lemmas.List.Elements.{All-nil, All-cons, All-head, All-tail, All-contains, Contains-append_right}
+use Rattle.palm_base.proofs.cited.Members.{nat_known, member_here}
+use Rattle.palm_lang.specs.Reply.{ended}
+use Rattle.palm_session.specs.State.{SessionState, IsState, fresh}
+use Rattle.palm_session.specs.Lines.{HasNoFeed, Cuts, without_return, last_line, AreLines}
+use Rattle.palm_session.specs.Replies.{Ends, GoesOn, Run, AreAnswered, all, until, Replies, ChoosesObject, ChoosesNone}
+use Rattle.palm_session.proofs.cited.LawsOfAnswers.{has_answer, answers_keep, answers_without, answers_once}
+use Rattle.palm_session.proofs.LawsOfLines.{quit_known}
+use Rattle.palm_session.proofs.cited.LawsOfChanges.{IsWithout}
+use Rattle.palm_session.proofs.cited.LawsOfStates.{fresh_is}
+
+-- ---- a text is cut in one way
+
+abbrev IsNoFeed : ℕ → Type 0
+IsNoFeed b = b ≢ 10
+
+-- what stands before the first line feed, and what behind it
+split_once : (a b x y : List ℕ) → HasNoFeed a → HasNoFeed b → a ++ 10 ∷ x ≡ b ++ 10 ∷ y → (a ≡ b) × (x ≡ y)
+split_once [] [] x y na nb e = let t : x ≡ y = cc in (refl, t)
+split_once [] (c ∷ b) x y na nb e = let h : c ≡ 10 = cc in absurd (All-head IsNoFeed c b nb h)
+split_once (c ∷ a) [] x y na nb e = let h : c ≡ 10 = cc in absurd (All-head IsNoFeed c a na h)
+split_once (c ∷ a) (d ∷ b) x y na nb e =
+    let h : c ≡ d = cc in
+    let t : a ++ 10 ∷ x ≡ b ++ 10 ∷ y = cc in
+    let r = split_once a b x y (All-tail IsNoFeed c a na) (All-tail IsNoFeed d b nb) t in
+    let s : a ≡ b = r.0 in
+    let both : c ∷ a ≡ d ∷ b = cc in
+    (both, r.1)
+
+-- a text that begins with a line
+begins : (line : List ℕ) (lines : List (List ℕ)) (rest : List ℕ) → flat_map ended (line ∷ lines) ++ rest ≡ line ++ 10 ∷ (flat_map ended lines ++ rest)
+begins line lines rest = append_assoc (ended line) (flat_map ended lines) rest ∙ append_assoc line (10 ∷ []) (flat_map ended lines ++ rest)
+
+-- what has no line feed begins with no line
+unbegun : (rest line more : List ℕ) → HasNoFeed rest → rest ≡ line ++ 10 ∷ more → ⊥
+unbegun rest line more none e =
+    let m : Contains (line ++ 10 ∷ more) 10 = Contains-append_right line (10 ∷ more) 10 (member_here 10 more) in
+    All-contains IsNoFeed rest 10 none (subst (λ (z : List ℕ). Contains z 10) (sym e) m) refl
+
+cuts_once : (xs ys : List (List ℕ)) (x y : List ℕ) → flat_map ended xs ++ x ≡ flat_map ended ys ++ y → All HasNoFeed xs → All HasNoFeed ys → HasNoFeed x → HasNoFeed y → (xs ≡ ys) × (x ≡ y)
+cuts_once [] [] x y e ns ms n m = (refl, e)
+cuts_once [] (l ∷ ls) x y e ns ms n m = absurd (unbegun x l (flat_map ended ls ++ y) n (e ∙ begins l ls y))
+cuts_once (l ∷ ls) [] x y e ns ms n m = absurd (unbegun y l (flat_map ended ls ++ x) m (sym e ∙ begins l ls x))
+cuts_once (k ∷ ks) (l ∷ ls) x y e ns ms n m =
+    let s = split_once k l (flat_map ended ks ++ x) (flat_map ended ls ++ y) (All-head HasNoFeed k ks ns) (All-head HasNoFeed l ls ms) (sym (begins k ks x) ∙ e ∙ begins l ls y) in
+    let r = cuts_once ks ls x y s.1 (All-tail HasNoFeed k ks ns) (All-tail HasNoFeed l ls ms) n m in
+    let a : k ≡ l = s.0 in
+    let b : ks ≡ ls = r.0 in
+    let both : k ∷ ks ≡ l ∷ ls = cc in
+    (both, r.1)
+
+lines_once : (text : List ℕ) (xs ys : List (List ℕ)) → AreLines text xs → AreLines text ys → xs ≡ ys
+lines_once text xs ys a b =
+    let r = cuts_once a.ended_lines b.ended_lines a.rest b.rest (sym a.cuts.whole ∙ b.cuts.whole) a.cuts.unbroken b.cuts.unbroken a.cuts.unfinished b.cuts.unfinished in
+    a.all ∙ ap (λ (z : List (List ℕ)). map without_return z ++ last_line a.rest) r.0
+    ∙ ap (λ (z : List ℕ). map without_return b.ended_lines ++ last_line z) r.1 ∙ sym b.all
+
+-- ---- and it can be cut
+
+abbrev HasCut : List ℕ → Type 0
+HasCut text = (lines : List (List ℕ)) × (rest : List ℕ) × Cuts text lines rest
+
+-- one more byte in front, which is no line feed
+cut_byte : (b : ℕ) (text : List ℕ) (lines : List (List ℕ)) (rest : List ℕ) → IsNoFeed b → Cuts text lines rest → HasCut (b ∷ text)
+cut_byte b text [] rest n c = (
+  [],
+  b ∷ rest,
+  record {
+    whole = ap (λ (z : List ℕ). b ∷ z) c.whole;
+    unbroken = All-nil HasNoFeed;
+    unfinished = All-cons IsNoFeed b rest n c.unfinished;
+  },
+)
+cut_byte b text (l ∷ ls) rest n c = (
+  (b ∷ l) ∷ ls,
+  rest,
+  record {
+    whole = ap (λ (z : List ℕ). b ∷ z) c.whole;
+    unbroken = All-cons HasNoFeed (b ∷ l) ls (All-cons IsNoFeed b l n (All-head HasNoFeed l ls c.unbroken)) (All-tail HasNoFeed l ls c.unbroken);
+    unfinished = c.unfinished;
+  },
+)
+
+-- a line feed in front
+cut_feed : (b : ℕ) (text : List ℕ) (lines : List (List ℕ)) (rest : List ℕ) → b ≡ 10 → Cuts text lines rest → HasCut (b ∷ text)
+cut_feed b text lines rest e c = (
+  [] ∷ lines,
+  rest,
+  record {
+    whole = ap (λ (z : ℕ). z ∷ text) e ∙ ap (λ (z : List ℕ). 10 ∷ z) c.whole;
+    unbroken = All-cons HasNoFeed [] lines (All-nil IsNoFeed) c.unbroken;
+    unfinished = c.unfinished;
+  },
+)
+
+has_cut : (text : List ℕ) → HasCut text
+has_cut [] = ([], [], record { whole = refl; unbroken = All-nil HasNoFeed; unfinished = All-nil IsNoFeed })
+has_cut (b ∷ text) =
+    let r = has_cut text in
+    elim (nat_known b 10) [ inl e ↦ cut_feed b text r.0 r.1 e r.2 | inr n ↦ cut_byte b text r.0 r.1 n r.2 ]
+
+has_lines : (text : List ℕ) → (lines : List (List ℕ)) × AreLines text lines
+has_lines text =
+    let r = has_cut text in
+    (map without_return r.0 ++ last_line r.1, record { ended_lines = r.0; rest = r.1; cuts = r.2; all = refl })
+
+-- ---- the lines that are answered
+
+-- the first line that ends the session
+record FirstEnd (lines : List (List ℕ)) : Type 0 where
+  before : List (List ℕ)
+  after : List (List ℕ)
+  last : List ℕ
+  goes_on : All GoesOn before
+  ends : Ends last
+  whole : lines ≡ before ++ last ∷ after
+
+first_end : (lines : List (List ℕ)) → FirstEnd lines ⊎ All GoesOn lines
+first_end [] = inr (All-nil GoesOn)
+first_end (l ∷ ls) = elim (quit_known l) [
+  | inl e ↦ inl (record { before = []; after = ls; last = l; goes_on = All-nil GoesOn; ends = e; whole = refl })
+  | inr n ↦ elim (first_end ls) [
+    | inl f ↦ inl (record {
+      before = l ∷ f.before;
+      after = f.after;
+      last = f.last;
+      goes_on = All-cons GoesOn l f.before n f.goes_on;
+      ends = f.ends;
+      whole = ap (λ (z : List (List ℕ)). l ∷ z) f.whole;
+    })
+    | inr none ↦ inr (All-cons GoesOn l ls n none)
+  ]
+]
+
+has_answered : (lines : List (List ℕ)) → (answered : List (List ℕ)) × AreAnswered lines answered
+has_answered lines = elim (first_end lines) [
+  | inl f ↦ (f.before ++ f.last ∷ [], until f.before f.after f.last f.goes_on f.ends f.whole)
+  | inr none ↦ (lines, all none)
+]
+
+-- no line ends the session where all go on
+no_end : (lines before after : List (List ℕ)) (last : List ℕ) → All GoesOn lines → Ends last → lines ≡ before ++ last ∷ after → ⊥
+no_end lines before after last on ends e =
+    let m : Contains (before ++ last ∷ after) last = Contains-append_right before (last ∷ after) last (member_here last after) in
+    All-contains GoesOn lines last on (subst (λ (z : List (List ℕ)). Contains z last) (sym e) m) ends
+
+ends_once : (a b x y : List (List ℕ)) (k l : List ℕ) → All GoesOn a → All GoesOn b → Ends k → Ends l → a ++ k ∷ x ≡ b ++ l ∷ y → a ++ k ∷ [] ≡ b ++ l ∷ []
+ends_once [] [] x y k l on too e f is = let h : k ≡ l = cc in ap (λ (z : List ℕ). z ∷ []) h
+ends_once [] (m ∷ b) x y k l on too e f is = let h : k ≡ m = cc in absurd (All-head GoesOn m b too (subst Ends h e))
+ends_once (m ∷ a) [] x y k l on too e f is = let h : l ≡ m = cc in absurd (All-head GoesOn m a on (subst Ends h f))
+ends_once (m ∷ a) (n ∷ b) x y k l on too e f is =
+    let h : m ≡ n = cc in
+    let t : a ++ k ∷ x ≡ b ++ l ∷ y = cc in
+    let r : a ++ k ∷ [] ≡ b ++ l ∷ [] = ends_once a b x y k l (All-tail GoesOn m a on) (All-tail GoesOn n b too) e f t in
+    cc
+
+answered_once : (lines xs ys : List (List ℕ)) → AreAnswered lines xs → AreAnswered lines ys → xs ≡ ys
+answered_once lines xs ys (all on) (all too) = refl
+answered_once lines xs ys (all on) (until before after last on_too ends is) = absurd (no_end lines before after last on ends is)
+answered_once lines xs ys (until before after last on ends is) (all too) = absurd (no_end lines before after last too ends is)
+answered_once lines xs ys (until a x k on e is) (until b y l too f other) = ends_once a b x y k l on too e f (sym is ∙ other)
+
+-- ---- the lines are answered in one way
+
+pub run_once : (guides orders : List ℕ) (s : SessionState) (lines : List (List ℕ)) (a b : List ℕ) (t u : SessionState) → IsWithout guides orders s → IsState s → All (λ line. ChoosesObject guides orders line → ⊥) lines
+    → Run s lines a t → Run s lines b u → a ≡ b
+run_once guides orders s [] a b t u free is none x y = x.0 ∙ sym y.0
+run_once guides orders s (l ∷ ls) a b t u free is none x y =
+    let one = answers_once s l x.0 y.0 x.2 y.2 free.unguided free.free is x.3 y.3 in
+    let next : Run x.2 ls y.1 u = subst (λ (z : SessionState). Run z ls y.1 u) (sym one.1) y.5 in
+    let here : ChoosesObject guides orders l → ⊥ = All-head (λ line. ChoosesObject guides orders line → ⊥) l ls none in
+    let rest : x.1 ≡ y.1 = run_once guides orders x.2 ls x.1 y.1 t u (answers_without guides orders s l x.0 x.2 here x.3 free) (answers_keep s l x.0 x.2 is x.3)
+    (All-tail (λ line. ChoosesObject guides orders line → ⊥) l ls none) x.5 next in
+    x.4 ∙ ap (λ (z : List ℕ). z ++ x.1) one.0 ∙ ap (λ (z : List ℕ). y.0 ++ z) rest ∙ sym y.4
+
+pub has_run : (s : SessionState) (lines : List (List ℕ)) → IsState s → (replies : List ℕ) × (t : SessionState) × Run s lines replies t
+has_run s [] is = ([], s, (refl, refl))
+has_run s (l ∷ ls) is =
+    let one = has_answer s is l in
+    let rest = has_run one.1 ls (answers_keep s l one.0 one.1 is one.2) in
+    (one.0 ++ rest.0, rest.1, (one.0, rest.0, one.1, one.2, refl, rest.2))
+
+-- what is held after the lines is again a state that a session can hold
+pub run_keeps : (s : SessionState) (lines : List (List ℕ)) (replies : List ℕ) (t : SessionState) → IsState s → Run s lines replies t → IsState t
+run_keeps s [] replies t is run = subst IsState (sym run.1) is
+run_keeps s (l ∷ ls) replies t is run = run_keeps run.2 ls run.1 t (answers_keep s l run.0 run.2 is run.3) run.5
+
+-- ---- a text has one output
+
+-- what holds of all lines holds of those that are answered
+all_until : (P : List ℕ → Type 0) (before after : List (List ℕ)) (last : List ℕ) → All P (before ++ last ∷ after) → All P (before ++ last ∷ [])
+all_until P [] after last h = All-cons P last [] (All-head P last after h) (All-nil P)
+all_until P (x ∷ xs) after last h =
+    All-cons P x (xs ++ last ∷ []) (All-head P x (xs ++ last ∷ after) h) (all_until P xs after last (All-tail P x (xs ++ last ∷ after) h))
+
+all_answered : (P : List ℕ → Type 0) (lines answered : List (List ℕ)) → AreAnswered lines answered → All P lines → All P answered
+all_answered P lines answered (all on) h = h
+all_answered P lines answered (until before after last on ends is) h = all_until P before after last (subst (λ (ls : List (List ℕ)). All P ls) is h)
+
+pub output_once : (guides orders text a b : List ℕ) → ChoosesNone guides orders text → Replies guides orders text a → Replies guides orders text b → a ≡ b
+output_once guides orders text a b none x y =
+    let lines : x.lines ≡ y.lines = lines_once text x.lines y.lines x.are_lines y.are_lines in
+    let there : AreAnswered x.lines y.answered = subst (λ (z : List (List ℕ)). AreAnswered z y.answered) (sym lines) y.are_answered in
+    let same : x.answered ≡ y.answered = answered_once x.lines x.answered y.answered x.are_answered there in
+    let run : Run (fresh guides orders) x.answered b y.state = subst (λ (z : List (List ℕ)). Run (fresh guides orders) z b y.state) (sym same) y.run in
+    let free : IsWithout guides orders (fresh guides orders) = record { unguided = refl; free = refl; guides_within = λ n c. c; orders_within = λ n c. c } in
+    run_once guides orders (fresh guides orders) x.answered a b x.state y.state free (fresh_is guides orders)
+    (all_answered (λ line. ChoosesObject guides orders line → ⊥) x.lines x.answered x.are_answered (none x.lines x.are_lines)) x.run run
+
+pub has_output : (guides orders text : List ℕ) → (output : List ℕ) × Replies guides orders text output
+has_output guides orders text =
+    let lines = has_lines text in
+    let answered = has_answered lines.0 in
+    let run = has_run (fresh guides orders) answered.0 (fresh_is guides orders) in
+    (run.0, record { lines = lines.0; answered = answered.0; state = run.1; are_lines = lines.1; are_answered = answered.1; run = run.2 })

@@ -1,0 +1,5 @@
+use Rattle.palm_session.proofs.Least.{told_minimal}
+use Rattle.palm_session.proofs.laws.printed.minimal_explanations_explain.Goals as goal
+
+pub returns : goal.returns
+returns c = λ s t name reply value accepts. told_minimal s name value reply t accepts

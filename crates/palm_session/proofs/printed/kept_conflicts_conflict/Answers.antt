@@ -1,5 +1,0 @@
-use Rattle.palm_session.proofs.Telling.{told_conflict}
-use Rattle.palm_session.proofs.printed.kept_conflicts_conflict.Goals as goal
-
-pub returns : goal.returns
-returns c = λ s t reply is accepts. told_conflict s reply t is accepts

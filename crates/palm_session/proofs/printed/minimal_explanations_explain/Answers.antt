@@ -1,5 +1,0 @@
-use Rattle.palm_session.proofs.Least.{told_minimal}
-use Rattle.palm_session.proofs.printed.minimal_explanations_explain.Goals as goal
-
-pub returns : goal.returns
-returns c = λ s t name reply value accepts. told_minimal s name value reply t accepts

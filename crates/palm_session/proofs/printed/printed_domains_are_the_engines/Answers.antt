@@ -1,5 +1,0 @@
-use Rattle.palm_session.proofs.LawsOfDomains.{printed_domains}
-use Rattle.palm_session.proofs.printed.printed_domains_are_the_engines.Goals as goal
-
-pub returns : goal.returns
-returns c = printed_domains
