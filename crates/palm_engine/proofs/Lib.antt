@@ -2,6 +2,7 @@ pub mod Bounds
 pub mod cited
 pub mod Comparing
 pub mod Counting
+pub mod Cuts
 pub mod Ending
 pub mod Fitting
 pub mod Gathering

@@ -267,14 +267,16 @@ places_stopped active owner place x before now after s t at w part =
     let first = pairs_over initial (take place xs) in
     let rest = pairs_over initial (drop (place + 1) xs) in
     let i = walked_initial active owner first before now w.walked in
-    let order : pairs_of x (values_of initial x) ≡ part.done ++ part.left = ap (λ (d : Domains). pairs_of x (values_of d x)) (sym i) ∙ part.order in
+    let order : pairs_of x (values_of initial x) ≡ part.done ++ part.next ∷ part.left = ap (λ (d : Domains). pairs_of x (values_of d x)) (sym i) ∙ part.order in
     record {
       done = first ++ part.done;
+      next = part.next;
       left = part.left ++ rest;
       order =
           rest_pairs initial xs (place + 1) ∙ ap (λ ps. ps ++ rest) (more_pairs initial xs place x at ∙ ap (λ ps. first ++ ps) order)
-          ∙ ap (λ ps. ps ++ rest) (sym (append_assoc first part.done part.left)) ∙ append_assoc (first ++ part.done) part.left rest;
+          ∙ ap (λ ps. ps ++ rest) (sym (append_assoc first part.done (part.next ∷ part.left))) ∙ append_assoc (first ++ part.done) (part.next ∷ part.left) rest;
       walked = walked_then active owner first part.done before now after w.walked part.walked;
+      due = part.due;
     }
 
 pub places_part_counted : (active : List Active) (owner : Active) (place x : ℕ) (before now after : Filtering) (s t u : ℕ) → slice_get (scope owner.con) place ≡ Some x → WalkedPlaces active owner place before now s t

@@ -1,5 +1,5 @@
 -- How far a revision has come: over the values of a variable, and over the places of a scope.
-use Rattle.std.proofs.Common.{◌≡◌, ℕ, zero, suc, ◌+◌, ◌-◌, ◌<◌, ◌≤◌, min, pos, ◌+ℤ◌, ◌<ℤ◌, ◌≤ℤ◌, List, [], ◌∷◌, ◌++◌, length, Contains, ℤ, Option, Some, None, IfSome, Result, Ok, Err, OnOk, OnErr, ◌⊎◌, inl, inr, refl, sym, ap, ◌∙◌, subst, arith, zero-add, length-append}
+use Rattle.std.proofs.Common.{◌≡◌, ℕ, zero, suc, ◌+◌, ◌-◌, ◌<◌, ◌≤◌, min, pos, ◌+ℤ◌, ◌<ℤ◌, ◌≤ℤ◌, List, [], ◌∷◌, ◌++◌, length, Contains, ℤ, Option, Some, None, IfSome, Result, Ok, Err, OnOk, OnErr, ◌⊎◌, inl, inr, refl, sym, ap, ◌∙◌, subst, arith, append_assoc, zero-add, length-append}
 use Rattle.std.proofs.lemmas.Int.{ints, by_lt_z}
 use Rattle.palm_base.specs.declared.terms.Pair.{Pair}
 use Rattle.palm_base.specs.declared.terms.Cid.{Cid}
@@ -16,6 +16,7 @@ use Rattle.palm_model.specs.State.{IsEmptyAt, AllFilled, present}
 use Rattle.palm_model.proofs.cited.Without.{pair_of, without_has}
 use Rattle.palm_engine.specs.declared.filtering.Filtering.{Filtering}
 use Rattle.palm_engine.specs.Changed.{TakesOut}
+use Rattle.palm_engine.specs.Settling.{IsDue}
 use Rattle.palm_engine.specs.Settling.Walks.{walked_all}
 use Rattle.palm_engine.specs.Kept.{IsKept, state_in_revision}
 use Rattle.palm_engine.specs.Revising.{IsRevising, IsAgain, Walked, WalkedPart, AreSupportedAt, HasCounted}
@@ -277,18 +278,31 @@ values_supported active owner x before now s t w v has =
     let i = walked_initial active owner (pairs_of x (values_of (initial_of before.store) x)) before now w.walked in
     w.supported v (subst (λ (d : Domains). Has d x v) i (has_declared_value now active w.revising.kept x v has)) has
 
+-- a value stands between those below and those above it
+at_value : (vs : List ℤ) (v : ℤ) → Ascends vs → Contains vs v → vs ≡ values_below v vs ++ v ∷ values_from (v +ℤ pos 1) vs
+at_value vs v a has =
+    let below = values_below v vs in
+    let above = values_from (v +ℤ pos 1) vs in
+    let upto : values_below (v +ℤ pos 1) vs ≡ below ++ v ∷ [] = sym (below_between v (v +ℤ pos 1) vs a (above_le v)) ∙ ap (λ ws. below ++ ws) (between_one v vs a has) in
+    sym (below_from (v +ℤ pos 1) vs a) ∙ ap (λ ws. ws ++ above) upto ∙ append_assoc below (v ∷ []) above
+
 -- where memory runs out at a value, those below it were walked over
-pub values_stopped : (active : List Active) (owner : Active) (x : ℕ) (v : ℤ) (before now : Filtering) (k : ℕ) (s t : ℕ) → WalkedValues active owner x (Some v) before now s t
+pub values_stopped : (active : List Active) (owner : Active) (x : ℕ) (v : ℤ) (before now : Filtering) (k : ℕ) (s t : ℕ) → WalkedValues active owner x (Some v) before now s t → IsDue (present_of now.store) owner.con (pair_of x v)
     → WalkedPart active owner (pairs_of x (values_of (initial_of before.store) x)) before (record now { checks = k })
-values_stopped active owner x v before now k s t w =
+values_stopped active owner x v before now k s t w due =
     let vs = values_of (initial_of before.store) x in
-    let i = walked_initial active owner (pairs_of x (values_below v vs)) before now w.walked in
+    let below = values_below v vs in
+    let above = values_from (v +ℤ pos 1) vs in
+    let i = walked_initial active owner (pairs_of x below) before now w.walked in
     let a : Ascends vs = subst (λ (d : Domains). Ascends (values_of d x)) i (declared_ascend now active owner w.revising x) in
+    let has : Contains vs v = subst (λ (d : Domains). Has d x v) i (has_declared_value now active w.revising.kept x v w.present) in
     record {
-      done = pairs_of x (values_below v vs);
-      left = pairs_of x (values_from v vs);
-      order = ap (pairs_of x) (sym (below_from v vs a)) ∙ pairs_both x (values_below v vs) (values_from v vs);
-      walked = walked_checks active owner (pairs_of x (values_below v vs)) before now k w.walked;
+      done = pairs_of x below;
+      next = pair_of x v;
+      left = pairs_of x above;
+      order = ap (pairs_of x) (at_value vs v a has) ∙ pairs_both x below (v ∷ above);
+      walked = walked_checks active owner (pairs_of x below) before now k w.walked;
+      due = due;
     }
 
 pub values_counted : (active : List Active) (owner : Active) (x : ℕ) (v : ℤ) (before now after : Filtering) (s t u : ℕ) → WalkedValues active owner x (Some v) before now s t → HasCounted 1 now after t u

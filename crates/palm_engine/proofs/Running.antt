@@ -51,6 +51,13 @@ none_fit : (ordered : Bool) → FitsOrder ordered []
 none_fit false = All-nil (λ (r : Revision). r.answer ≡ 0)
 none_fit true = tt
 
+-- what is known after a call that revised the constraint taken after these, whether it ended or was interrupted
+pub record HasTried (limit : Option ℕ) (ordered : Bool) (active : List Active) (before f g h : Filtering) (count old mid new : ℕ) (cid : Cid) : Type 0 where
+  pub run : HasRun limit ordered active before f count old mid
+  pub takes : TakesNext limit ordered count f g cid
+  pub kept : IsKept h active
+  pub counted : HasCounted (named_sizes (state_in_revision g active cid) (cid ∷ [])) g h mid new
+
 pub run_start : (limit : Option ℕ) (ordered : Bool) (active : List Active) (f : Filtering) (s : ℕ) → IsEngine f active → HasRun limit ordered active f f 0 s s
 run_start limit ordered active f s engine = record {
   engine = engine;
@@ -149,23 +156,30 @@ counted_from n f g h s t same c = record {
 }
 
 -- the revision's questions, as the settling counts them
-spent_more : (limit : Option ℕ) (ordered : Bool) (active : List Active) (before f g h : Filtering) (count old mid new : ℕ) (cid : Cid) → (run : HasRun limit ordered active before f count old mid) → TakesNext limit ordered count f g cid
-    → HasCounted (named_sizes (state_in_revision g active cid) (cid ∷ [])) g h mid new → HasCounted (most_asked (state_of before active) run.revisions + named_sizes (state_of before active) (cid ∷ [])) before h old new
-spent_more limit ordered active before f g h count old mid new cid run takes counted =
+spent_more : (limit : Option ℕ) (ordered : Bool) (active : List Active) (before f g h : Filtering) (count old mid new : ℕ) (cid : Cid) → (tried : HasTried limit ordered active before f g h count old mid new cid)
+    → HasCounted (most_asked (state_of before active) tried.run.revisions + named_sizes (state_of before active) (cid ∷ [])) before h old new
+spent_more limit ordered active before f g h count old mid new cid tried =
     let s = state_of before active in
     let m = state_of f active in
-    let e = taken_state limit ordered count active f g cid takes run.engine in
+    let run = tried.run in
+    let e = taken_state limit ordered count active f g cid tried.takes run.engine in
     let same = revisions_filter s run.revisions m run.ran in
     let size : named_sizes (state_in_revision g active cid) (cid ∷ []) ≡ named_sizes s (cid ∷ []) = ap (λ (z : EngineState). named_sizes z (cid ∷ [])) e ∙ same_named s m (cid ∷ []) same.active same.initial in
-    counted_then (most_asked s run.revisions) (named_sizes s (cid ∷ [])) before f h old mid new run.asked (counted_from (named_sizes s (cid ∷ [])) f g h mid new takes.checks (subst (λ n. HasCounted n g h mid new) size counted))
+    counted_then (most_asked s run.revisions) (named_sizes s (cid ∷ [])) before f h old mid new run.asked (counted_from (named_sizes s (cid ∷ [])) f g h mid new tried.takes.checks (subst (λ n. HasCounted n g h mid new) size tried.counted))
 
-pub run_more : (limit : Option ℕ) (ordered : Bool) (active : List Active) (before f g h : Filtering) (count old mid new : ℕ) (cid : Cid) (removed : ℕ) → HasRun limit ordered active before f count old mid → TakesNext limit ordered count f g cid
-    → HasRevised active cid (state_in_revision g active cid) (state_of h active) removed → IsKept h active → HasCounted (named_sizes (state_in_revision g active cid) (cid ∷ [])) g h mid new
-    → HasRun limit ordered active before h (min (count + 1) LAST_COUNT) old new
-run_more limit ordered active before f g h count old mid new cid removed run takes revised kept counted =
+pub tried_checks : {limit : Option ℕ} {ordered : Bool} {active : List Active} {before f g h : Filtering} {count old mid new : ℕ} {cid : Cid} → HasTried limit ordered active before f g h count old mid new cid
+    → before.checks ≤ LAST_COUNT → h.checks ≡ min (before.checks + (new - old)) LAST_COUNT
+tried_checks {limit = limit} {ordered = ordered} {active = active} {before = before} {f = f} {g = g} {h = h} {count = count} {old = old} {mid = mid} {new = new} {cid = cid} tried le =
+    (spent_more limit ordered active before f g h count old mid new cid tried).checks le
+
+pub run_more : {limit : Option ℕ} {ordered : Bool} {active : List Active} {before f g h : Filtering} {count old mid new : ℕ} {cid : Cid} → HasTried limit ordered active before f g h count old mid new cid → (removed : ℕ)
+    → HasRevised active cid (state_in_revision g active cid) (state_of h active) removed → HasRun limit ordered active before h (min (count + 1) LAST_COUNT) old new
+run_more {limit = limit} {ordered = ordered} {active = active} {before = before} {f = f} {g = g} {h = h} {count = count} {old = old} {mid = mid} {new = new} {cid = cid} tried removed revised =
     let s = state_of before active in
     let m = state_of f active in
     let t = state_of h active in
+    let run = tried.run in
+    let takes = tried.takes in
     let rs = run.revisions in
     let r : Revision = record { answer = takes.answer; cid = cid; removed = removed } in
     let one : Revises m r t = revises_next limit ordered count active f g h cid removed takes run.engine revised in
@@ -173,7 +187,7 @@ run_more limit ordered active before f g h count old mid new cid removed run tak
     let more : length (rs ++ r ∷ []) ≡ length rs + 1 = length-append rs (r ∷ []) in
     record {
       engine = record {
-        kept = kept;
+        kept = tried.kept;
         valid = run_valid reasons_right m filters.steps t filters.run run.engine.valid;
         scoped = run_scoped m filters.steps t filters.run run.engine.valid run.engine.scoped;
       };
@@ -182,8 +196,13 @@ run_more limit ordered active before f g h count old mid new cid removed run tak
       fits = fits_more ordered rs r run.fits takes.fits;
       within = subst (λ n. IsInLimit limit n) (sym more) (within_more limit count (length rs) run.counted run.within takes.below takes.bounded);
       counted = count_more count (length rs) LAST_COUNT run.counted ∙ ap (λ n. min n LAST_COUNT) (sym more);
-      asked = subst (λ n. HasCounted n before h old new) (sym (asked_more s rs r)) (spent_more limit ordered active before f g h count old mid new cid run takes counted);
+      asked = subst (λ n. HasCounted n before h old new) (sym (asked_more s rs r)) (spent_more limit ordered active before f g h count old mid new cid tried);
     }
+
+pub run_falls : {limit : Option ℕ} {ordered : Bool} {active : List Active} {before f g h : Filtering} {count old mid new : ℕ} {cid : Cid} → HasTried limit ordered active before f g h count old mid new cid → (removed : ℕ)
+    → HasRevised active cid (state_in_revision g active cid) (state_of h active) removed → effort (state_of h active) < effort (state_of f active)
+run_falls {limit = limit} {ordered = ordered} {active = active} {f = f} {g = g} {h = h} {count = count} {cid = cid} tried removed revised =
+    (revision_falls (state_of f active) (record { answer = tried.takes.answer; cid = cid; removed = removed }) (state_of h active) (revises_next limit ordered count active f g h cid removed tried.takes tried.run.engine revised)).effort
 
 -- ---- the end
 
@@ -221,58 +240,64 @@ run_settled limit ordered active before now count old new answer view is run non
 pub run_asked : (limit : Option ℕ) (ordered : Bool) (active : List Active) (before now : Filtering) (count old new : ℕ) → Rises (cids_of active) → HasRun limit ordered active before now count old new → HasAsked (state_of before active) (state_of now active) old new
 run_asked limit ordered active before now count old new rises run = settling_asked (state_of before active) run.revisions (state_of now active) old new rises run.ran run.asked.later run.asked.few
 
-pub stopped_engine : (limit : Option ℕ) (ordered : Bool) (active : List Active) (f g h : Filtering) (ran : ℕ) (cid : Cid) → TakesNext limit ordered ran f g cid → IsEngine f active
-    → HasPartlyRevised active cid (state_in_revision g active cid) (state_of h active) → IsKept h active → IsEngine h active
-stopped_engine limit ordered active f g h ran cid takes engine part kept =
-    let one = subst (λ s. HasPartlyRevised active cid s (state_of h active)) (taken_state limit ordered ran active f g cid takes engine) part in
+-- ---- an interruption
+
+-- the state from which the interrupted revision began is the one before its constraint was taken
+stopped_from : {limit : Option ℕ} {ordered : Bool} {active : List Active} {before f g h : Filtering} {count old mid new : ℕ} {cid : Cid} → HasTried limit ordered active before f g h count old mid new cid
+    → HasPartlyRevised active cid (state_in_revision g active cid) (state_of h active) → HasPartlyRevised active cid (state_of f active) (state_of h active)
+stopped_from {limit = limit} {ordered = ordered} {active = active} {f = f} {g = g} {h = h} {count = count} {cid = cid} tried part =
+    subst (λ s. HasPartlyRevised active cid s (state_of h active)) (taken_state limit ordered count active f g cid tried.takes tried.run.engine) part
+
+pub stopped_engine : {limit : Option ℕ} {ordered : Bool} {active : List Active} {before f g h : Filtering} {count old mid new : ℕ} {cid : Cid} → HasTried limit ordered active before f g h count old mid new cid
+    → HasPartlyRevised active cid (state_in_revision g active cid) (state_of h active) → IsEngine h active
+stopped_engine {active = active} {f = f} {h = h} tried part =
+    let one = stopped_from tried part in
+    let engine = tried.run.engine in
     record {
-      kept = kept;
+      kept = tried.kept;
       valid = walk_valid one.owner one.walked (state_of f active) one.removed (state_of h active) one.walk engine.valid;
       scoped = walk_scoped one.owner one.walked (state_of f active) one.removed (state_of h active) one.walk engine.valid engine.scoped;
     }
 
-pub run_stopped : (limit : Option ℕ) (ordered : Bool) (active : List Active) (before f g h : Filtering) (count old mid : ℕ) (cid : Cid) (view : View) → view.state ≡ state_of before active → HasRun limit ordered active before f count old mid → TakesNext limit ordered count f g cid
-    → HasPartlyRevised active cid (state_in_revision g active cid) (state_of h active)
-    → IsInterrupted limit ordered view (record { state = state_of h active; revisions = min (count + 1) LAST_COUNT; checks = h.checks })
-run_stopped limit ordered active before f g h count old mid cid view is run takes part =
+pub run_stopped : {limit : Option ℕ} {ordered : Bool} {active : List Active} {before f g h : Filtering} {count old mid new : ℕ} {cid : Cid} → HasTried limit ordered active before f g h count old mid new cid → (view : View) → view.state ≡ state_of before active
+    → HasPartlyRevised active cid (state_in_revision g active cid) (state_of h active) → IsInterrupted limit ordered view (record { state = state_of h active; revisions = min (count + 1) LAST_COUNT; checks = h.checks })
+run_stopped {limit = limit} {active = active} {f = f} {h = h} {count = count} {cid = cid} tried view is part =
     let m = state_of f active in
-    let one = subst (λ s. HasPartlyRevised active cid s (state_of h active)) (taken_state limit ordered count active f g cid takes run.engine) part in
-    let has = chosen_pending limit ordered count f g cid takes in
+    let run = tried.run in
+    let takes = tried.takes in
+    let one = stopped_from tried part in
     record {
       revisions = run.revisions;
       middle = m;
       ended = subst (λ s. Revisions s run.revisions m) (sym is) run.ran;
       fits = run.fits;
+      filled = filled_state f active run.engine.kept takes.filled;
       within = within_more limit count (length run.revisions) run.counted run.within takes.below takes.bounded;
+      answer = takes.answer;
+      least = takes.fits;
       owner = one.owner;
       posted = one.posted;
-      chosen = member_same f.agenda.pending cid one.owner.cid (sym one.named) has;
+      chosen = takes.takes.chosen ∙ ap (λ (c : Cid). Some c) (sym one.named);
       walked = one.walked;
+      next = one.next;
       left = one.left;
       order = one.order;
       removed = one.removed;
       walk = one.walk;
+      due = one.due;
       pending = member_same h.agenda.pending cid one.owner.cid (sym one.named) one.pending;
       counted = count_more count (length run.revisions) LAST_COUNT run.counted;
     }
 
-pub stopped_asked : (limit : Option ℕ) (ordered : Bool) (active : List Active) (before f g h : Filtering) (count old mid new : ℕ) (cid : Cid) → Rises (cids_of active) → HasRun limit ordered active before f count old mid → TakesNext limit ordered count f g cid
-    → HasPartlyRevised active cid (state_in_revision g active cid) (state_of h active) → HasCounted (named_sizes (state_in_revision g active cid) (cid ∷ [])) g h mid new → HasAsked (state_of before active) (state_of h active) old new
-stopped_asked limit ordered active before f g h count old mid new cid rises run takes part counted =
+pub stopped_asked : {limit : Option ℕ} {ordered : Bool} {active : List Active} {before f g h : Filtering} {count old mid new : ℕ} {cid : Cid} → HasTried limit ordered active before f g h count old mid new cid
+    → HasPartlyRevised active cid (state_in_revision g active cid) (state_of h active) → HasAsked (state_of before active) (state_of h active) old new
+stopped_asked {limit = limit} {ordered = ordered} {active = active} {before = before} {f = f} {g = g} {h = h} {count = count} {old = old} {mid = mid} {new = new} {cid = cid} tried part =
     let s = state_of before active in
     let m = state_of f active in
-    let one = subst (λ z. HasPartlyRevised active cid z (state_of h active)) (taken_state limit ordered count active f g cid takes run.engine) part in
-    let has = chosen_pending limit ordered count f g cid takes in
-    let all = spent_more limit ordered active before f g h count old mid new cid run takes counted in
-    interrupted_asked s run.revisions m one.owner one.walked one.removed (state_of h active) old new rises run.ran (member_same f.agenda.pending cid one.owner.cid (sym one.named) has)
-    (filled_state f active run.engine.kept takes.filled) one.walk all.later
+    let run = tried.run in
+    let one = stopped_from tried part in
+    let has = chosen_pending limit ordered count f g cid tried.takes in
+    let all = spent_more limit ordered active before f g h count old mid new cid tried in
+    interrupted_asked s run.revisions m one.owner one.walked one.removed (state_of h active) old new run.engine.valid.rising run.ran (member_same f.agenda.pending cid one.owner.cid (sym one.named) has)
+    (filled_state f active run.engine.kept tried.takes.filled) one.walk all.later
     (subst (λ (c : Cid). new ≤ old + (most_asked s run.revisions + named_sizes s (c ∷ []))) (sym one.named) all.few)
-
-pub stopped_checks : (limit : Option ℕ) (ordered : Bool) (active : List Active) (before f g h : Filtering) (count old mid new : ℕ) (cid : Cid) → HasRun limit ordered active before f count old mid → TakesNext limit ordered count f g cid
-    → HasCounted (named_sizes (state_in_revision g active cid) (cid ∷ [])) g h mid new → before.checks ≤ LAST_COUNT → h.checks ≡ min (before.checks + (new - old)) LAST_COUNT
-stopped_checks limit ordered active before f g h count old mid new cid run takes counted le = (spent_more limit ordered active before f g h count old mid new cid run takes counted).checks le
-
-pub run_falls : (limit : Option ℕ) (ordered : Bool) (ran : ℕ) (active : List Active) (f g h : Filtering) (cid : Cid) (removed : ℕ) → TakesNext limit ordered ran f g cid → IsEngine f active
-    → HasRevised active cid (state_in_revision g active cid) (state_of h active) removed → effort (state_of h active) < effort (state_of f active)
-run_falls limit ordered ran active f g h cid removed takes engine revised =
-    (revision_falls (state_of f active) (record { answer = takes.answer; cid = cid; removed = removed }) (state_of h active) (revises_next limit ordered ran active f g h cid removed takes engine revised)).effort

@@ -21,17 +21,17 @@ pub record IsSame (n : ℕ) (t : EngineState) (k : ℕ) (u : EngineState) : Type
   pub count : n ≡ k
   pub state : t ≡ u
 
-walk_nil : (a : Active) (s : EngineState) (n : ℕ) (t : EngineState) → Walks a [] s n t → IsSame n t 0 s
+pub walk_nil : (a : Active) (s : EngineState) (n : ℕ) (t : EngineState) → Walks a [] s n t → IsSame n t 0 s
 walk_nil a _ _ _ (walked_all s) = record { count = refl; state = refl }
 walk_nil a _ _ _ (walked_empty _ s empty) = record { count = refl; state = refl }
 
 -- the first step of a walk
-data First (a : Active) (p : Pair) (pairs : List Pair) (s : EngineState) (n : ℕ) (t : EngineState) : Type 0 where
+pub data First (a : Active) (p : Pair) (pairs : List Pair) (s : EngineState) (n : ℕ) (t : EngineState) : Type 0 where
   stopped : HasEmpty (present s) → IsSame n t 0 s → First a p pairs s n t
   passed : (Has (present s) p.var p.value → IsSupported (present s) a.con p.var p.value) → Walks a pairs s n t → First a p pairs s n t
   took : (m : EngineState) (k : ℕ) → Removes s a p m → n ≡ suc k → Walks a pairs m k t → First a p pairs s n t
 
-walk_first : (a : Active) (p : Pair) (pairs : List Pair) (s : EngineState) (n : ℕ) (t : EngineState) → Walks a (p ∷ pairs) s n t → First a p pairs s n t
+pub walk_first : (a : Active) (p : Pair) (pairs : List Pair) (s : EngineState) (n : ℕ) (t : EngineState) → Walks a (p ∷ pairs) s n t → First a p pairs s n t
 walk_first a _ _ _ _ _ (walked_empty _ s empty) = stopped empty (record { count = refl; state = refl })
 walk_first a _ _ _ _ _ (walked_past p pairs s n t supported walk) = passed supported walk
 walk_first a _ _ _ _ _ (walked_out p pairs s m n t removes walk) = took m n removes refl walk
@@ -76,7 +76,7 @@ pub record IsSameRevision (q : Revision) (t : EngineState) (r : Revision) (u : E
   pub revision : q ≡ r
   pub state : t ≡ u
 
-some_same : {X : Type 0} (x y : X) → Some x ≡ Some y → x ≡ y
+pub some_same : {X : Type 0} (x y : X) → Some x ≡ Some y → x ≡ y
 some_same x y e = cc
 
 pub revision_same : (s : EngineState) (q : Revision) (t : EngineState) (r : Revision) (u : EngineState) → Rises (cids_of s.active) → q.answer ≡ r.answer → Revises s q t → Revises s r u → IsSameRevision q t r u

@@ -15,7 +15,7 @@ use Rattle.palm_events.proofs.cited.Names.{rising_same, named_member}
 use Rattle.palm_events.proofs.cited.States.{waits, woken_rises, woken_active, member_woken, awake_named, without_cid_rises, without_cid_member, member_without_cid}
 use Rattle.palm_agenda.specs.Agenda.{IsConnected, IsFormed, Waiting}
 use Rattle.palm_engine.specs.declared.filtering.Filtering.{Filtering}
-use Rattle.palm_engine.specs.Settling.{Walks, walk_order, rested}
+use Rattle.palm_engine.specs.Settling.{Walks, IsDue, walk_order, rested}
 use Rattle.palm_engine.specs.Kept.{IsKept, AreConnected, AreMarked, state_of, state_in_revision}
 use Rattle.palm_engine.specs.Revising.{IsRevising, IsAgain, Walked, WalkedPart, HasCounted, IsTaken, HasRevised, HasPartlyRevised}
 use Rattle.palm_engine.specs.Work.{size_of, named_sizes}
@@ -127,10 +127,12 @@ part_revised f m a active cid taken r part kept pending =
       posted = r.posted;
       named = refl;
       walked = part.done;
+      next = part.next;
       left = part.left;
       order = part.order;
       removed = part.walked.removed;
       walk = subst (λ t. Walks owner part.done (state_in_revision f active owner.cid) part.walked.removed t) (sym e) part.walked.walk;
+      due = subst (λ d. IsDue d owner.con part.next) kept.removed.present part.due;
       pending = (pending' owner.cid).1 (inr refl);
     } in
     subst (λ (c : Cid). HasPartlyRevised active c (state_in_revision f active c) (state_of (record m { agenda = a }) active)) taken.named one

@@ -1,10 +1,10 @@
 -- What an engine is seen as, and what a settling says of it.
-use Rattle.std.specs.Prelude.{◌≡◌, ℕ, ◌+◌, ◌≤◌, min, Bool, List, [], length, ◌++◌, Contains, Option}
+use Rattle.std.specs.Prelude.{◌≡◌, ℕ, ◌+◌, ◌≤◌, min, Bool, false, List, [], ◌∷◌, length, ◌++◌, Contains, Option, Some, slice_get}
 use Rattle.palm_base.specs.declared.terms.Pair.{Pair}
 use Rattle.palm_base.specs.declared.limits.TheConstants.{LAST_COUNT}
 use Rattle.palm_model.specs.Log.{Active, Removal, log_pairs}
 use Rattle.palm_model.specs.State.{EngineState, IsEmptyAt, IsSettled, AllFilled, present}
-use Rattle.palm_engine.specs.Settling.{Revision, Revisions, Settles, Walks, FitsOrder, IsInLimit, HasReached, walk_order}
+use Rattle.palm_engine.specs.Settling.{Revision, Revisions, Settles, Walks, IsDue, FitsOrder, IsInLimit, HasReached, index_within, walk_order}
 use Rattle.palm_engine.specs.Kept.{state_of}
 use Rattle.palm_engine.specs.Work.{most_questions}
 use Rattle.palm_engine.specs.declared.filtering.Filtering.{Filtering}
@@ -41,22 +41,28 @@ pub record HasSettled (limit : Option ℕ) (ordered : Bool) (answer : Settle) (b
   pub ends : EndsAs answer limit (length revisions) after.state
   pub counted : after.revisions ≡ min (length revisions) LAST_COUNT
 
--- a settling whose last revision was interrupted by want of memory: it walked over some of its pairs, and its constraint
--- is still pending
+-- a settling whose last revision was interrupted by want of memory. The revisions before it ended, no domain is empty, and
+-- the limit allows one more: the constraint at the answered index, the least name where there is no order object. It walked
+-- over its pairs up to one that it has to take out, and is pending again
 pub record IsInterrupted (limit : Option ℕ) (ordered : Bool) (before after : View) : Type 0 where
   pub revisions : List Revision
   pub middle : EngineState
   pub ended : Revisions before.state revisions middle
   pub fits : FitsOrder ordered revisions
+  pub filled : AllFilled (present middle)
   pub within : IsInLimit limit (length revisions + 1)
+  pub answer : ℕ
+  pub least : ordered ≡ false → answer ≡ 0
   pub owner : Active
   pub posted : Contains middle.active owner
-  pub chosen : Contains middle.pending owner.cid
+  pub chosen : slice_get middle.pending (index_within answer (length middle.pending)) ≡ Some owner.cid
   pub walked : List Pair
+  pub next : Pair
   pub left : List Pair
-  pub order : walk_order middle.initial owner.con ≡ walked ++ left
+  pub order : walk_order middle.initial owner.con ≡ walked ++ next ∷ left
   pub removed : ℕ
   pub walk : Walks owner walked middle removed after.state
+  pub due : IsDue (present after.state) owner.con next
   pub pending : Contains after.state.pending owner.cid
   pub counted : after.revisions ≡ min (length revisions + 1) LAST_COUNT
 

@@ -1,5 +1,5 @@
 -- What holds while a constraint is being revised, and what its walk over some of its pairs does.
-use Rattle.std.specs.Prelude.{◌≡◌, ℕ, zero, suc, ◌+◌, ◌-◌, ◌≤◌, ℤ, min, Bool, true, false, Option, None, IfSome, is_some, List, [], ◌++◌, Contains}
+use Rattle.std.specs.Prelude.{◌≡◌, ℕ, zero, suc, ◌+◌, ◌-◌, ◌≤◌, ℤ, min, Bool, true, false, Option, None, IfSome, is_some, List, [], ◌∷◌, ◌++◌, Contains}
 use Rattle.palm_base.specs.declared.terms.Pair.{Pair}
 use Rattle.palm_base.specs.declared.terms.Cid.{Cid}
 use Rattle.palm_base.specs.declared.limits.TheConstants.{LAST_COUNT}
@@ -9,7 +9,7 @@ use Rattle.palm_model.specs.Support.{IsSupported}
 use Rattle.palm_model.specs.Log.{Active}
 use Rattle.palm_model.specs.State.{EngineState, IsValid, IsEmptyAt, IsSettled, AllFilled, present}
 use Rattle.palm_agenda.specs.Agenda.{Takes}
-use Rattle.palm_engine.specs.Settling.{Walks, HasReached, walk_order, rested}
+use Rattle.palm_engine.specs.Settling.{Walks, IsDue, HasReached, walk_order, rested}
 use Rattle.palm_engine.specs.declared.settle.Settle.{Settle}
 use Rattle.palm_engine.specs.declared.settle.Settle.TheVariants.{Settled, Empty, Stopped}
 use Rattle.palm_engine.specs.Kept.{IsKept, state_in_revision}
@@ -32,12 +32,14 @@ pub record Walked (active : List Active) (owner : Active) (pairs : List Pair) (b
   pub walk : Walks owner pairs (state_in_revision before active owner.cid) removed (state_in_revision after active owner.cid)
   pub again : IsAgain removed owner.cid before after
 
--- the constraint's walk over these pairs, as far as it came
+-- the constraint's walk over these pairs, as far as it came: to one that it has to take out
 pub record WalkedPart (active : List Active) (owner : Active) (pairs : List Pair) (before after : Filtering) : Type 0 where
   pub done : List Pair
+  pub next : Pair
   pub left : List Pair
-  pub order : pairs ≡ done ++ left
+  pub order : pairs ≡ done ++ next ∷ left
   pub walked : Walked active owner done before after
+  pub due : IsDue (present_of after.store) owner.con next
 
 -- each present value of the variable has support in the constraint
 abbrev pub AreSupportedAt : Filtering → Active → ℕ → Type 0
@@ -67,16 +69,18 @@ pub record HasRevised (active : List Active) (cid : Cid) (s t : EngineState) (re
   pub walk : Walks owner (walk_order s.initial owner.con) s removed state
   pub after : t ≡ rested removed cid state
 
--- and as far as it came where memory ran out: the constraint is still pending
+-- and as far as it came where memory ran out: to a pair that the constraint has to take out, and it is still pending
 pub record HasPartlyRevised (active : List Active) (cid : Cid) (s t : EngineState) : Type 0 where
   pub owner : Active
   pub posted : Contains active owner
   pub named : owner.cid ≡ cid
   pub walked : List Pair
+  pub next : Pair
   pub left : List Pair
-  pub order : walk_order s.initial owner.con ≡ walked ++ left
+  pub order : walk_order s.initial owner.con ≡ walked ++ next ∷ left
   pub removed : ℕ
   pub walk : Walks owner walked s removed t
+  pub due : IsDue (present t) owner.con next
   pub pending : Contains t.pending cid
 
 -- while no domain is empty and the limit is not reached, a constraint is taken from the agenda

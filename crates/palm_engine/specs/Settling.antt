@@ -4,7 +4,7 @@ use Rattle.palm_base.specs.declared.terms.Pair.{Pair}
 use Rattle.palm_base.specs.declared.terms.Cid.{Cid}
 use Rattle.palm_model.specs.Domains.{Domains, Has, values_of}
 use Rattle.palm_model.specs.Constraint.{scope}
-use Rattle.palm_model.specs.Support.{IsSupported}
+use Rattle.palm_model.specs.Support.{IsSupported, LacksSupport}
 use Rattle.palm_model.specs.Removed.{pairs_of}
 use Rattle.palm_model.specs.Log.{Active}
 use Rattle.palm_model.specs.State.{EngineState, HasEmpty, AllFilled, present}
@@ -28,6 +28,12 @@ pub data Walks (a : Active) : List Pair → EngineState → ℕ → EngineState 
       → (Has (present s) p.var p.value → IsSupported (present s) a.con p.var p.value) → Walks a pairs s n t → Walks a (p ∷ pairs) s n t
   walked_out : (p : Pair) (pairs : List Pair) (s m : EngineState) (n : ℕ) (t : EngineState)
       → Removes s a p m → Walks a pairs m n t → Walks a (p ∷ pairs) s (suc n) t
+
+-- the constraint has to take the pair out: no domain is empty, the pair is present, and it lacks support
+pub record IsDue (d : Domains) (c : Con) (p : Pair) : Type 0 where
+  pub filled : AllFilled d
+  pub has : Has d p.var p.value
+  pub lacks : LacksSupport d c p.var p.value
 
 -- what is known of a revision: the answer of the order object (0 where there is none), the constraint, and how many
 -- values it took out, as the object is told

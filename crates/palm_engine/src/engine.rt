@@ -149,15 +149,15 @@ impl<F: Filter> Engine<F> {
         let mut reasons = Reasons::new(*self.posted.allocator());
         self.revisions = 0;
         while let Some(cid) = take_next(&mut self.filtering, order, limit, self.revisions) {
-            self.revisions = self.revisions.saturating_add(1);
             let removed = run_revision(
                 &mut self.filtering,
                 &self.posted,
                 &cid,
                 &mut reasons,
                 steps,
-            )?;
-            tell(order, &cid, removed);
+            );
+            self.revisions = self.revisions.saturating_add(1);
+            tell(order, &cid, removed?);
         }
         Ok(outcome(&self.filtering))
     }

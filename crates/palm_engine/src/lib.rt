@@ -12,7 +12,8 @@ mod settle;
 
 pub use engine::Engine;
 pub use laws::settling::{
-    revisions_fall, revisions_filter, settled_domains_do_not_depend_on_the_order,
+    interrupted_settlings_filter, interruptions_without_order_count_the_same, revisions_fall,
+    revisions_filter, settled_domains_do_not_depend_on_the_order,
     settling_and_withdrawing_gives_back_the_log, settlings_end, settlings_exist, settlings_filter,
     settlings_keep_validity, settlings_without_order_are_unique, settlings_without_order_exist,
     the_same_answers_give_the_same_settling,

@@ -9,7 +9,7 @@ ghost use Rattle.palm_model.specs.State.{AllFilled};
 ghost use Rattle.palm_model.specs.Support.{IsSupported};
 ghost use Rattle.palm_engine.specs.Posted.{active_of};
 ghost use Rattle.palm_engine.specs.Revising.{AreSupportedAt, HasCounted, IsRevising, Walked, WalkedPart};
-ghost use Rattle.palm_engine.specs.Settling.{walk_order};
+ghost use Rattle.palm_engine.specs.Settling.{IsDue, walk_order};
 ghost use Rattle.palm_engine.specs.Work.{size_of};
 
 use crate::filtering::Filtering;
@@ -38,6 +38,7 @@ fn examine<F: Filter, L: Ledger>(
     ensures supported { OnOk result (Has (present_of filtering.new.store) pair.var pair.value
         → IsSupported (present_of filtering.new.store) (active_of F.meaning constraint.now).con pair.var pair.value) }
     ensures err { OnErr result (filtering.new ≡ record filtering.old { checks = filtering.new.checks }) }
+    ensures due { OnErr result (IsDue (present_of filtering.old.store) (active_of F.meaning constraint.now).con pair) }
     ensures counted { HasCounted 1 filtering.old filtering.new steps.old steps.new }
 {
     let Pair { var, value } = pair;

@@ -1,5 +1,5 @@
 -- Settlings: validity, domains that do not depend on the order, and what is left when a posting is undone.
-use Rattle.std.proofs.Common.{◌≡◌, ℕ, ◌<◌, Option, None, false, List, [], ◌∷◌, length, Contains, ℤ, inl, inr, sym, ap, ◌∙◌, subst, arith}
+use Rattle.std.proofs.Common.{◌≡◌, ℕ, ◌<◌, Option, None, Bool, false, List, [], ◌∷◌, length, Contains, ℤ, inl, inr, sym, ap, ◌∙◌, subst, arith}
 use Rattle.palm_base.proofs.cited.Members.{member_nil, member_here}
 use Rattle.palm_model.specs.Domains.{Domains, IsInside, values_of}
 use Rattle.palm_model.specs.Closure.{IsGreatest}
@@ -12,17 +12,22 @@ use Rattle.palm_events.specs.Along.{IsStill}
 use Rattle.palm_events.specs.Reasons.{ReasonsAreRight}
 use Rattle.palm_events.proofs.cited.Runs.{run_valid, quiet_greatest, present_includes}
 use Rattle.palm_events.proofs.cited.Undone.{posting_undone}
+use Rattle.palm_engine.specs.Engine.{View, IsInterrupted}
 use Rattle.palm_engine.specs.Settling.{Revision, Settles, FitsOrder, SettlesPlainly, IsSameSettling, Filters}
 use Rattle.palm_engine.specs.Settling.IsEnded.{ended_empty, ended_quiet, ended_limit}
 use Rattle.palm_engine.proofs.Ending.{settling_exists}
 use Rattle.palm_engine.proofs.Same.{settling_same, answered_none, none_answered}
-use Rattle.palm_engine.proofs.cited.Walking.{revisions_filter}
+use Rattle.palm_engine.proofs.cited.Walking.{filters_then, revisions_filter, walk_filters}
 
 pub filters_valid : ReasonsAreRight → (s t : EngineState) → Filters s t → IsValid s → IsValid t
 filters_valid right s t filters valid = run_valid right s filters.steps t filters.run valid
 
 pub settling_filters : (limit : Option ℕ) (s : EngineState) (rs : List Revision) (t : EngineState) → Settles limit s rs t → Filters s t
 settling_filters limit s rs t settles = revisions_filter s rs t settles.revisions
+
+pub interrupted_filters : {limit : Option ℕ} (ordered : Bool) (before after : View) → IsInterrupted limit ordered before after → Filters before.state after.state
+interrupted_filters ordered before after cut =
+    filters_then before.state cut.middle after.state (revisions_filter before.state cut.revisions cut.middle cut.ended) (walk_filters cut.owner cut.walked cut.middle cut.removed after.state cut.walk)
 
 pub settling_valid : ReasonsAreRight → (limit : Option ℕ) (s : EngineState) (rs : List Revision) (t : EngineState) → Settles limit s rs t → IsValid s → IsValid t
 settling_valid right limit s rs t settles valid = filters_valid right s t (settling_filters limit s rs t settles) valid

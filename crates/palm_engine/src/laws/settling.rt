@@ -1,9 +1,10 @@
 //! Laws on settlings: they are runs, they end, and what they lead to.
-ghost use Rattle.std.specs.Prelude.{◌≡◌, ℕ, ◌+◌, ◌≤◌, Option, None, false, List, length};
+ghost use Rattle.std.specs.Prelude.{◌≡◌, ℕ, ◌+◌, ◌≤◌, Option, None, Bool, false, List, length};
 ghost use Rattle.palm_model.specs.Log.{Active};
 ghost use Rattle.palm_model.specs.State.{EngineState, IsValid, IsSettled, present};
 ghost use Rattle.palm_model.specs.Event.{Posts, Withdraws};
 ghost use Rattle.palm_events.specs.Along.{IsStill};
+ghost use Rattle.palm_engine.specs.Engine.{View, IsInterrupted};
 ghost use Rattle.palm_engine.specs.Settling.{Revision, Revises, Revisions, Settles, SettlesSome, SettlesPlainly, IsSameSettling, IsAnswered, FitsOrder, Filters};
 ghost use Rattle.palm_engine.specs.Work.{Falls, effort};
 
@@ -17,7 +18,13 @@ pub fn settlings_filter()
     ensures { (limit : Option ℕ) (s t : EngineState) (rs : List Revision) → Settles limit s rs t → Filters s t }
 {}
 
-/// So it keeps a state valid.
+/// What an interrupted settling leaves is reached by events.
+pub fn interrupted_settlings_filter()
+    ensures { (limit : Option ℕ) (ordered : Bool) (before after : View)
+        → IsInterrupted limit ordered before after → Filters before.state after.state }
+{}
+
+/// A settling keeps a state valid.
 pub fn settlings_keep_validity()
     ensures { (limit : Option ℕ) (s t : EngineState) (rs : List Revision)
         → Settles limit s rs t → IsValid s → IsValid t }
@@ -60,6 +67,13 @@ pub fn settlings_without_order_are_unique()
     ensures { (limit : Option ℕ) (s t u : EngineState) (qs rs : List Revision)
         → IsValid s → FitsOrder false qs → FitsOrder false rs
         → Settles limit s qs t → Settles limit s rs u → IsSameSettling qs t rs u }
+{}
+
+/// And the count of an interrupted one follows from where it began and from what it left.
+pub fn interruptions_without_order_count_the_same()
+    ensures { (limit : Option ℕ) (before after other : View)
+        → IsValid before.state → IsInterrupted limit false before after → IsInterrupted limit false before other
+        → other.state ≡ after.state → other.revisions ≡ after.revisions }
 {}
 
 /// Where filtering can reach a settled state, every settling without a limit ends in its domains, whatever the order.

@@ -26,6 +26,9 @@ returns-in_err-reason-clause-revising g c = λ active r. revising_checks active 
 pub returns-in_err-reason-clause-err : goal.returns-in_err-reason-clause-err
 returns-in_err-reason-clause-err g c = on_err_of c.from_residual.result refl
 
+pub returns-in_err-reason-clause-due : goal.returns-in_err-reason-clause-due
+returns-in_err-reason-clause-due g c = on_err_of c.from_residual.result (record { filled = c.requires.filled; has = c.requires.present; lacks = c.is_supported.ensures.lacking c.if-is_supported.false })
+
 pub returns-in_err-reason-clause-counted : goal.returns-in_err-reason-clause-counted
 returns-in_err-reason-clause-counted g c = record { later = c.is_supported.ensures.later; few = c.is_supported.ensures.once; checks = λ le. c.is_supported.ensures.checks }
 
@@ -71,6 +74,9 @@ returns-clause-supported g c = on_ok c.remove.result (λ takes. λ has. absurd (
 pub returns-clause-err : goal.returns-clause-err
 returns-clause-err g c =
     on_err c.remove.result (λ same. same ∙ ap (λ (n : ℕ). record c.args.filtering.now { checks = n }) (sym (ap (λ (f : Filtering). f.checks) same))) c.remove.ensures.err
+
+pub returns-clause-due : goal.returns-clause-due
+returns-clause-due g c = on_err_of c.remove.result (record { filled = c.requires.filled; has = c.requires.present; lacks = c.is_supported.ensures.lacking c.if-is_supported.false })
 
 pub returns-clause-counted : goal.returns-clause-counted
 returns-clause-counted g c =

@@ -47,7 +47,7 @@ returns-in_err-examine-clause-part g c = λ active r.
     let f = c.args.filtering.now in
     let w = subst (λ n. WalkedValues active owner c.args.var n f c.loop-next.filtering c.args.steps.now c.loop-next.steps) c.in-Some.is (c.loop-next.invariant active r) in
     on_err_of c.from_residual.result (subst (λ (z : Filtering). WalkedPart active owner (pairs_of c.args.var (values_of (initial_of f.store) c.args.var)) f z) (sym c.in_err-examine.ensures.err)
-    (values_stopped active owner c.args.var c.in-Some.value f c.loop-next.filtering c.examine.new.filtering.checks c.args.steps.now c.loop-next.steps w))
+    (values_stopped active owner c.args.var c.in-Some.value f c.loop-next.filtering c.examine.new.filtering.checks c.args.steps.now c.loop-next.steps w c.in_err-examine.ensures.due))
 
 pub returns-in_err-examine-clause-counted : goal.returns-in_err-examine-clause-counted
 returns-in_err-examine-clause-counted g c =

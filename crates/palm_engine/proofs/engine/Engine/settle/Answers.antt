@@ -1,4 +1,5 @@
-use Rattle.std.proofs.Common.{◌≡◌, ℕ, ◌+◌, ◌-◌, ◌≤◌, min, Bool, ◌∷◌, [], is_some, refl, sym, ap, ◌∙◌, subst, arith}
+use Rattle.std.proofs.Common.{◌≡◌, ℕ, ◌+◌, ◌-◌, ◌≤◌, min, Bool, Result, IfOk, OnErr, ◌∷◌, [], is_some, refl, sym, ap, ◌∙◌, subst, arith}
+use Rattle.palm_base.specs.declared.errors.NoMemory.{NoMemory}
 use Rattle.palm_base.specs.declared.limits.TheConstants.{LAST_COUNT}
 use Rattle.palm_model.specs.State.{EngineState}
 use Rattle.palm_engine.specs.declared.filtering.Filtering.{Filtering}
@@ -8,8 +9,31 @@ use Rattle.palm_engine.specs.Posted.{actives_of}
 use Rattle.palm_engine.specs.Revising.{HasCounted, HasPartlyRevised, HasRevised, IsTaken, TakesNext, TakesNone}
 use Rattle.palm_engine.specs.Work.{named_sizes}
 use Rattle.palm_engine.proofs.Progress.{on_err_of}
-use Rattle.palm_engine.proofs.Running.{HasRun, run_start, run_more, run_falls, run_settled, run_asked, run_stopped, taken_is, stopped_engine, stopped_asked, stopped_checks}
+use Rattle.palm_engine.proofs.Running.{HasRun, HasTried, run_start, run_more, run_falls, run_settled, run_asked, run_stopped, taken_is, stopped_engine, stopped_asked, tried_checks}
+use Rattle.palm_engine.proofs.engine.Engine.settle.Given as given
 use Rattle.palm_engine.proofs.engine.Engine.settle.Goals as goal
+use Rattle.palm_engine.proofs.engine.Engine.settle.Goals.{After-take_next, After-run_revision-removed, In_err-removed, In_ok-removed, In_default}
+
+-- the state before, as it was seen
+seen : (g : given.Over) (c : After-take_next g) → c.args.self.now.state ≡ state_of c.self.inside.filtering (actives_of g.F.Filter.meaning c.loop-cid.self-inside.posted.items)
+seen g c =
+    sym (ap (λ (v : View). v.state) c.self.view_is)
+    ∙ ap (λ ys. state_of c.self.inside.filtering (actives_of g.F.Filter.meaning ys)) (sym (ap (λ p. p.items) c.loop-cid.invariant.same))
+
+-- after the call that revises the constraint that was taken
+tried : (g : given.Over) (c : After-run_revision-removed g) → HasTried c.args.limit (is_some c.args.order.now) (actives_of g.F.Filter.meaning c.loop-cid.self-inside.posted.items) c.self.inside.filtering c.loop-cid.self-inside.filtering
+    c.take_next.new.filtering c.run_revision-removed.new.filtering c.loop-cid.self-inside.revisions c.args.steps.now c.loop-cid.steps c.run_revision-removed.new.steps c.in-Some.cid
+tried g c =
+    let meaning = g.F.Filter.meaning in
+    let before = c.take_next.new.filtering in
+    let after = c.run_revision-removed.new.filtering in
+    let cid = c.in-Some.cid in
+    record {
+      run = c.loop-cid.invariant.run;
+      takes = subst (λ (o : Bool). TakesNext c.args.limit o c.loop-cid.self-inside.revisions c.loop-cid.self-inside.filtering before cid) c.loop-cid.invariant.stays c.in-Some.ensures.some;
+      kept = subst (λ ys. IsKept after (actives_of meaning ys)) c.deref.ensures.value c.run_revision-removed.ensures.kept;
+      counted = subst (λ ys. HasCounted (named_sizes (state_in_revision before (actives_of meaning ys) cid) (cid ∷ [])) before after c.loop-cid.steps c.run_revision-removed.new.steps) c.deref.ensures.value c.run_revision-removed.ensures.counted;
+    }
 
 pub loop-cid-init : goal.loop-cid-init
 loop-cid-init g c = record {
@@ -18,184 +42,113 @@ loop-cid-init g c = record {
   same = refl;
 }
 
-pub run_revision-requires : goal.run_revision-requires
-run_revision-requires g c =
-    let xs = c.loop-cid.self-inside.posted.items in
-    let active = actives_of g.F.Filter.meaning xs in
+pub run_revision-removed-requires : goal.run_revision-removed-requires
+run_revision-removed-requires g c =
+    let meaning = g.F.Filter.meaning in
     let now = c.loop-cid.self-inside.filtering in
-    let count = c.loop-cid.self-inside.revisions in
-    let ordered = is_some c.args.order.now in
-    let run = c.loop-cid.invariant.run in
+    let after = c.take_next.new.filtering in
+    let takes = subst (λ (o : Bool). TakesNext c.args.limit o c.loop-cid.self-inside.revisions now after c.in-Some.cid) c.loop-cid.invariant.stays c.in-Some.ensures.some in
+    subst (λ ys. IsTaken after (actives_of meaning ys) c.in-Some.cid) (sym c.deref.ensures.value)
+    (taken_is c.args.limit (is_some c.args.order.now) c.loop-cid.self-inside.revisions (actives_of meaning c.loop-cid.self-inside.posted.items) now after c.in-Some.cid takes c.loop-cid.invariant.run.engine)
+
+-- ---- where memory ran out
+
+part : (g : given.Over) (c : In_err-removed g) → HasPartlyRevised (actives_of g.F.Filter.meaning c.loop-cid.self-inside.posted.items) c.in-Some.cid
+    (state_in_revision c.take_next.new.filtering (actives_of g.F.Filter.meaning c.loop-cid.self-inside.posted.items) c.in-Some.cid) (state_of c.run_revision-removed.new.filtering (actives_of g.F.Filter.meaning c.loop-cid.self-inside.posted.items))
+part g c =
+    let actives = actives_of g.F.Filter.meaning in
     let cid = c.in-Some.cid in
-    let taken = c.take_next.new.filtering in
-    let takes = subst (λ (o : Bool). TakesNext c.args.limit o count now taken cid) c.loop-cid.invariant.stays c.in-Some.ensures.some in
-    subst (λ ys. IsTaken taken (actives_of g.F.Filter.meaning ys) cid) (sym c.deref.ensures.value) (taken_is c.args.limit ordered count active now taken cid takes run.engine)
+    let told = subst (λ (r : Result ℕ NoMemory). OnErr r (HasPartlyRevised (actives c.deref.result.now) cid (state_in_revision c.take_next.new.filtering (actives c.deref.result.now) cid) (state_of c.run_revision-removed.new.filtering (actives c.deref.result.now))))
+    c.in_err-removed.was c.run_revision-removed.ensures.err in
+    subst (λ ys. HasPartlyRevised (actives ys) cid (state_in_revision c.take_next.new.filtering (actives ys) cid) (state_of c.run_revision-removed.new.filtering (actives ys))) c.deref.ensures.value told
 
 pub invariant_of-self : goal.invariant_of-self
 invariant_of-self g c =
-    let xs = c.loop-cid.self-inside.posted.items in
-    let active = actives_of g.F.Filter.meaning xs in
-    let now = c.loop-cid.self-inside.filtering in
-    let count = c.loop-cid.self-inside.revisions in
-    let ordered = is_some c.args.order.now in
-    let run = c.loop-cid.invariant.run in
-    let cid = c.in-Some.cid in
-    let taken = c.take_next.new.filtering in
-    let takes = subst (λ (o : Bool). TakesNext c.args.limit o count now taken cid) c.loop-cid.invariant.stays c.in-Some.ensures.some in
-    let after = c.run_revision.new.filtering in
-    let kept = subst (λ ys. IsKept after (actives_of g.F.Filter.meaning ys)) c.deref.ensures.value c.run_revision.ensures.kept in
-    let part = subst (λ ys. HasPartlyRevised (actives_of g.F.Filter.meaning ys) cid (state_in_revision taken (actives_of g.F.Filter.meaning ys) cid) (state_of after (actives_of g.F.Filter.meaning ys))) c.deref.ensures.value c.in_err-removed.ensures.err in
-    stopped_engine c.args.limit ordered active now taken after count cid takes run.engine part kept
+    let at = goal.at.invariant_of-self g c in
+    stopped_engine (tried g at.After-run_revision-removed) (part g at.In_err-removed)
 
 pub returns-in_err-removed-clause-err : goal.returns-in_err-removed-clause-err
 returns-in_err-removed-clause-err g c =
-    let xs = c.loop-cid.self-inside.posted.items in
-    let active = actives_of g.F.Filter.meaning xs in
-    let before = c.self.inside.filtering in
-    let now = c.loop-cid.self-inside.filtering in
-    let count = c.loop-cid.self-inside.revisions in
-    let ordered = is_some c.args.order.now in
-    let run = c.loop-cid.invariant.run in
-    let cid = c.in-Some.cid in
-    let taken = c.take_next.new.filtering in
-    let takes = subst (λ (o : Bool). TakesNext c.args.limit o count now taken cid) c.loop-cid.invariant.stays c.in-Some.ensures.some in
-    let after = c.run_revision.new.filtering in
-    let part = subst (λ ys. HasPartlyRevised (actives_of g.F.Filter.meaning ys) cid (state_in_revision taken (actives_of g.F.Filter.meaning ys) cid) (state_of after (actives_of g.F.Filter.meaning ys))) c.deref.ensures.value c.in_err-removed.ensures.err in
-    let seen : c.args.self.now.state ≡ state_of before active = sym (ap (λ (v : View). v.state) c.self.view_is) ∙ ap (λ ys. state_of before (actives_of g.F.Filter.meaning ys)) (sym (ap (λ p. p.items) c.loop-cid.invariant.same)) in
+    let at = goal.at.returns-in_err-removed-clause-err g c in
+    let after = c.run_revision-removed.new.filtering in
+    let left = λ (n : ℕ). let v : View = record { state = state_of after (actives_of g.F.Filter.meaning c.loop-cid.self-inside.posted.items); revisions = n; checks = after.checks } in v in
     on_err_of c.from_residual.result
-    (subst (λ (n : ℕ). IsInterrupted c.args.limit ordered c.args.self.now (record { state = state_of after active; revisions = n; checks = after.checks })) (sym c.saturating_add-self-inside.ensures)
-    (run_stopped c.args.limit ordered active before now taken after count c.args.steps.now c.loop-cid.steps cid c.args.self.now seen run takes part))
+    (subst (λ (n : ℕ). IsInterrupted c.args.limit (is_some c.args.order.now) c.args.self.now (left n)) (sym c.saturating_add-self-inside.ensures)
+    (run_stopped (tried g at.After-run_revision-removed) c.args.self.now (seen g at.After-take_next) (part g at.In_err-removed)))
 
 pub returns-in_err-removed-clause-asked : goal.returns-in_err-removed-clause-asked
 returns-in_err-removed-clause-asked g c =
-    let xs = c.loop-cid.self-inside.posted.items in
-    let active = actives_of g.F.Filter.meaning xs in
-    let before = c.self.inside.filtering in
-    let now = c.loop-cid.self-inside.filtering in
-    let count = c.loop-cid.self-inside.revisions in
-    let ordered = is_some c.args.order.now in
-    let run = c.loop-cid.invariant.run in
-    let cid = c.in-Some.cid in
-    let taken = c.take_next.new.filtering in
-    let takes = subst (λ (o : Bool). TakesNext c.args.limit o count now taken cid) c.loop-cid.invariant.stays c.in-Some.ensures.some in
-    let after = c.run_revision.new.filtering in
-    let counted = subst (λ ys. HasCounted (named_sizes (state_in_revision taken (actives_of g.F.Filter.meaning ys) cid) (cid ∷ [])) taken after c.loop-cid.steps c.run_revision.new.steps) c.deref.ensures.value c.run_revision.ensures.counted in
-    let part = subst (λ ys. HasPartlyRevised (actives_of g.F.Filter.meaning ys) cid (state_in_revision taken (actives_of g.F.Filter.meaning ys) cid) (state_of after (actives_of g.F.Filter.meaning ys))) c.deref.ensures.value c.in_err-removed.ensures.err in
-    let seen : c.args.self.now.state ≡ state_of before active = sym (ap (λ (v : View). v.state) c.self.view_is) ∙ ap (λ ys. state_of before (actives_of g.F.Filter.meaning ys)) (sym (ap (λ p. p.items) c.loop-cid.invariant.same)) in
-    subst (λ (s : EngineState). HasAsked s (state_of after active) c.args.steps.now c.run_revision.new.steps) (sym seen)
-    (stopped_asked c.args.limit ordered active before now taken after count c.args.steps.now c.loop-cid.steps c.run_revision.new.steps cid run.engine.valid.rising run takes part counted)
+    let at = goal.at.returns-in_err-removed-clause-asked g c in
+    let active = actives_of g.F.Filter.meaning c.loop-cid.self-inside.posted.items in
+    subst (λ (s : EngineState). HasAsked s (state_of c.run_revision-removed.new.filtering active) c.args.steps.now c.run_revision-removed.new.steps) (sym (seen g at.After-take_next))
+    (stopped_asked (tried g at.After-run_revision-removed) (part g at.In_err-removed))
 
 pub returns-in_err-removed-clause-checks : goal.returns-in_err-removed-clause-checks
 returns-in_err-removed-clause-checks g c =
-    let xs = c.loop-cid.self-inside.posted.items in
-    let active = actives_of g.F.Filter.meaning xs in
-    let before = c.self.inside.filtering in
-    let now = c.loop-cid.self-inside.filtering in
-    let count = c.loop-cid.self-inside.revisions in
-    let ordered = is_some c.args.order.now in
-    let run = c.loop-cid.invariant.run in
-    let cid = c.in-Some.cid in
-    let taken = c.take_next.new.filtering in
-    let takes = subst (λ (o : Bool). TakesNext c.args.limit o count now taken cid) c.loop-cid.invariant.stays c.in-Some.ensures.some in
-    let after = c.run_revision.new.filtering in
-    let counted = subst (λ ys. HasCounted (named_sizes (state_in_revision taken (actives_of g.F.Filter.meaning ys) cid) (cid ∷ [])) taken after c.loop-cid.steps c.run_revision.new.steps) c.deref.ensures.value c.run_revision.ensures.counted in
-    let le : before.checks ≤ LAST_COUNT = omega arith in
+    let le : c.self.inside.filtering.checks ≤ LAST_COUNT = omega arith in
     let is = ap (λ (v : View). v.checks) c.self.view_is in
-    stopped_checks c.args.limit ordered active before now taken after count c.args.steps.now c.loop-cid.steps c.run_revision.new.steps cid run takes counted le
-    ∙ ap (λ (k : ℕ). min (k + (c.run_revision.new.steps - c.args.steps.now)) LAST_COUNT) is
+    tried_checks (tried g (goal.at.returns-in_err-removed-clause-checks g c).After-run_revision-removed) le
+    ∙ ap (λ (k : ℕ). min (k + (c.run_revision-removed.new.steps - c.args.steps.now)) LAST_COUNT) is
 
 pub returns-in_err-removed-clause-valid : goal.returns-in_err-removed-clause-valid
 returns-in_err-removed-clause-valid g c =
-    let xs = c.loop-cid.self-inside.posted.items in
-    let active = actives_of g.F.Filter.meaning xs in
-    let now = c.loop-cid.self-inside.filtering in
-    let count = c.loop-cid.self-inside.revisions in
-    let ordered = is_some c.args.order.now in
-    let run = c.loop-cid.invariant.run in
+    let at = goal.at.returns-in_err-removed-clause-valid g c in
+    (stopped_engine (tried g at.After-run_revision-removed) (part g at.In_err-removed)).valid
+
+-- ---- where the revision ended
+
+revised : (g : given.Over) (c : In_ok-removed g) → HasRevised (actives_of g.F.Filter.meaning c.loop-cid.self-inside.posted.items) c.in-Some.cid
+    (state_in_revision c.take_next.new.filtering (actives_of g.F.Filter.meaning c.loop-cid.self-inside.posted.items) c.in-Some.cid) (state_of c.run_revision-removed.new.filtering (actives_of g.F.Filter.meaning c.loop-cid.self-inside.posted.items)) c.in_ok-removed.field-0
+revised g c =
+    let actives = actives_of g.F.Filter.meaning in
     let cid = c.in-Some.cid in
-    let taken = c.take_next.new.filtering in
-    let takes = subst (λ (o : Bool). TakesNext c.args.limit o count now taken cid) c.loop-cid.invariant.stays c.in-Some.ensures.some in
-    let after = c.run_revision.new.filtering in
-    let kept = subst (λ ys. IsKept after (actives_of g.F.Filter.meaning ys)) c.deref.ensures.value c.run_revision.ensures.kept in
-    let part = subst (λ ys. HasPartlyRevised (actives_of g.F.Filter.meaning ys) cid (state_in_revision taken (actives_of g.F.Filter.meaning ys) cid) (state_of after (actives_of g.F.Filter.meaning ys))) c.deref.ensures.value c.in_err-removed.ensures.err in
-    (stopped_engine c.args.limit ordered active now taken after count cid takes run.engine part kept).valid
+    let told = subst (λ (r : Result ℕ NoMemory). IfOk r (HasRevised (actives c.deref.result.now) cid (state_in_revision c.take_next.new.filtering (actives c.deref.result.now) cid) (state_of c.run_revision-removed.new.filtering (actives c.deref.result.now))))
+    c.in_ok-removed.was c.run_revision-removed.ensures.ok in
+    subst (λ ys. HasRevised (actives ys) cid (state_in_revision c.take_next.new.filtering (actives ys) cid) (state_of c.run_revision-removed.new.filtering (actives ys)) c.in_ok-removed.field-0) c.deref.ensures.value told
 
 pub loop-cid-smaller : goal.loop-cid-smaller
 loop-cid-smaller g c =
-    let xs = c.loop-cid.self-inside.posted.items in
-    let active = actives_of g.F.Filter.meaning xs in
-    let now = c.loop-cid.self-inside.filtering in
-    let count = c.loop-cid.self-inside.revisions in
-    let ordered = is_some c.args.order.now in
-    let run = c.loop-cid.invariant.run in
-    let cid = c.in-Some.cid in
-    let taken = c.take_next.new.filtering in
-    let takes = subst (λ (o : Bool). TakesNext c.args.limit o count now taken cid) c.loop-cid.invariant.stays c.in-Some.ensures.some in
-    let after = c.run_revision.new.filtering in
-    let revised = subst (λ ys. HasRevised (actives_of g.F.Filter.meaning ys) cid (state_in_revision taken (actives_of g.F.Filter.meaning ys) cid) (state_of after (actives_of g.F.Filter.meaning ys)) c.in_ok-removed.removed) c.deref.ensures.value c.in_ok-removed.ensures.ok in
-    run_falls c.args.limit ordered count active now taken after cid c.in_ok-removed.removed takes run.engine revised
+    let at = goal.at.loop-cid-smaller g c in
+    run_falls (tried g at.After-run_revision-removed) c.in_ok-removed.field-0 (revised g at.In_ok-removed)
 
 pub loop-cid-preserved : goal.loop-cid-preserved
 loop-cid-preserved g c =
-    let xs = c.loop-cid.self-inside.posted.items in
-    let active = actives_of g.F.Filter.meaning xs in
-    let before = c.self.inside.filtering in
-    let now = c.loop-cid.self-inside.filtering in
-    let count = c.loop-cid.self-inside.revisions in
-    let ordered = is_some c.args.order.now in
-    let run = c.loop-cid.invariant.run in
-    let cid = c.in-Some.cid in
-    let taken = c.take_next.new.filtering in
-    let takes = subst (λ (o : Bool). TakesNext c.args.limit o count now taken cid) c.loop-cid.invariant.stays c.in-Some.ensures.some in
-    let after = c.run_revision.new.filtering in
-    let kept = subst (λ ys. IsKept after (actives_of g.F.Filter.meaning ys)) c.deref.ensures.value c.run_revision.ensures.kept in
-    let counted = subst (λ ys. HasCounted (named_sizes (state_in_revision taken (actives_of g.F.Filter.meaning ys) cid) (cid ∷ [])) taken after c.loop-cid.steps c.run_revision.new.steps) c.deref.ensures.value c.run_revision.ensures.counted in
-    let revised = subst (λ ys. HasRevised (actives_of g.F.Filter.meaning ys) cid (state_in_revision taken (actives_of g.F.Filter.meaning ys) cid) (state_of after (actives_of g.F.Filter.meaning ys)) c.in_ok-removed.removed) c.deref.ensures.value c.in_ok-removed.ensures.ok in
+    let at = goal.at.loop-cid-preserved g c in
+    let active = actives_of g.F.Filter.meaning c.loop-cid.self-inside.posted.items in
     record {
-      run = subst (λ (n : ℕ). HasRun c.args.limit ordered active before after n c.args.steps.now c.run_revision.new.steps) (sym c.saturating_add-self-inside.ensures)
-          (run_more c.args.limit ordered active before now taken after count c.args.steps.now c.loop-cid.steps c.run_revision.new.steps cid c.in_ok-removed.removed run takes revised kept counted);
+      run = subst (λ (n : ℕ). HasRun c.args.limit (is_some c.args.order.now) active c.self.inside.filtering c.run_revision-removed.new.filtering n c.args.steps.now c.run_revision-removed.new.steps) (sym c.saturating_add-self-inside.ensures)
+          (run_more (tried g at.After-run_revision-removed) c.in_ok-removed.field-0 (revised g at.In_ok-removed));
       stays = c.tell.ensures ∙ c.take_next.ensures.stays ∙ c.loop-cid.invariant.stays;
       same = c.loop-cid.invariant.same;
     }
 
+-- ---- where the settling ended
+
+ended : (g : given.Over) (c : In_default g) → HasRun c.args.limit (is_some c.args.order.now) (actives_of g.F.Filter.meaning c.loop-cid.self-inside.posted.items) c.self.inside.filtering c.take_next.new.filtering
+    c.loop-cid.self-inside.revisions c.args.steps.now c.loop-cid.steps
+ended g c =
+    let active = actives_of g.F.Filter.meaning c.loop-cid.self-inside.posted.items in
+    subst (λ (z : Filtering). HasRun c.args.limit (is_some c.args.order.now) active c.self.inside.filtering z c.loop-cid.self-inside.revisions c.args.steps.now c.loop-cid.steps) (sym c.in_default.ensures.none.0) c.loop-cid.invariant.run
+
 pub returns-clause-ok : goal.returns-clause-ok
 returns-clause-ok g c =
-    let xs = c.loop-cid.self-inside.posted.items in
-    let active = actives_of g.F.Filter.meaning xs in
-    let before = c.self.inside.filtering in
+    let at = goal.at.returns-clause-ok g c in
+    let active = actives_of g.F.Filter.meaning c.loop-cid.self-inside.posted.items in
     let count = c.loop-cid.self-inside.revisions in
-    let ordered = is_some c.args.order.now in
-    let run = c.loop-cid.invariant.run in
-    let seen : c.args.self.now.state ≡ state_of before active = sym (ap (λ (v : View). v.state) c.self.view_is) ∙ ap (λ ys. state_of before (actives_of g.F.Filter.meaning ys)) (sym (ap (λ p. p.items) c.loop-cid.invariant.same)) in
-    let taken = c.take_next.new.filtering in
-    let e = c.in_default.ensures.none.0 in
-    let run' = subst (λ (z : Filtering). HasRun c.args.limit ordered active before z count c.args.steps.now c.loop-cid.steps) (sym e) run in
-    let none = subst (λ (z : Filtering). TakesNone c.args.limit count z) (sym e) c.in_default.ensures.none.1 in
-    run_settled c.args.limit ordered active before taken count c.args.steps.now c.loop-cid.steps c.outcome.result c.args.self.now seen run' none (c.outcome.ensures active run'.engine.kept)
+    let run = ended g at.In_default in
+    let none = subst (λ (z : Filtering). TakesNone c.args.limit count z) (sym c.in_default.ensures.none.0) c.in_default.ensures.none.1 in
+    run_settled c.args.limit (is_some c.args.order.now) active c.self.inside.filtering c.take_next.new.filtering count c.args.steps.now c.loop-cid.steps c.outcome.result c.args.self.now (seen g at.After-take_next) run none
+    (c.outcome.ensures active run.engine.kept)
 
 pub returns-clause-asked : goal.returns-clause-asked
 returns-clause-asked g c =
-    let xs = c.loop-cid.self-inside.posted.items in
-    let active = actives_of g.F.Filter.meaning xs in
-    let before = c.self.inside.filtering in
-    let count = c.loop-cid.self-inside.revisions in
-    let ordered = is_some c.args.order.now in
-    let run = c.loop-cid.invariant.run in
-    let seen : c.args.self.now.state ≡ state_of before active = sym (ap (λ (v : View). v.state) c.self.view_is) ∙ ap (λ ys. state_of before (actives_of g.F.Filter.meaning ys)) (sym (ap (λ p. p.items) c.loop-cid.invariant.same)) in
-    let taken = c.take_next.new.filtering in
-    let run' = subst (λ (z : Filtering). HasRun c.args.limit ordered active before z count c.args.steps.now c.loop-cid.steps) (sym c.in_default.ensures.none.0) run in
-    subst (λ (s : EngineState). HasAsked s (state_of taken active) c.args.steps.now c.loop-cid.steps) (sym seen)
-    (run_asked c.args.limit ordered active before taken count c.args.steps.now c.loop-cid.steps run.engine.valid.rising run')
+    let at = goal.at.returns-clause-asked g c in
+    let active = actives_of g.F.Filter.meaning c.loop-cid.self-inside.posted.items in
+    subst (λ (s : EngineState). HasAsked s (state_of c.take_next.new.filtering active) c.args.steps.now c.loop-cid.steps) (sym (seen g at.After-take_next))
+    (run_asked c.args.limit (is_some c.args.order.now) active c.self.inside.filtering c.take_next.new.filtering c.loop-cid.self-inside.revisions c.args.steps.now c.loop-cid.steps c.loop-cid.invariant.run.engine.valid.rising (ended g at.In_default))
 
 pub returns-clause-checks : goal.returns-clause-checks
 returns-clause-checks g c =
-    let xs = c.loop-cid.self-inside.posted.items in
-    let active = actives_of g.F.Filter.meaning xs in
-    let before = c.self.inside.filtering in
-    let count = c.loop-cid.self-inside.revisions in
-    let ordered = is_some c.args.order.now in
-    let run = c.loop-cid.invariant.run in
-    let run' = subst (λ (z : Filtering). HasRun c.args.limit ordered active before z count c.args.steps.now c.loop-cid.steps) (sym c.in_default.ensures.none.0) run in
-    let le : before.checks ≤ LAST_COUNT = omega arith in
+    let le : c.self.inside.filtering.checks ≤ LAST_COUNT = omega arith in
     let is = ap (λ (v : View). v.checks) c.self.view_is in
-    run'.asked.checks le ∙ ap (λ (k : ℕ). min (k + (c.loop-cid.steps - c.args.steps.now)) LAST_COUNT) is
+    (ended g (goal.at.returns-clause-checks g c).In_default).asked.checks le ∙ ap (λ (k : ℕ). min (k + (c.loop-cid.steps - c.args.steps.now)) LAST_COUNT) is
