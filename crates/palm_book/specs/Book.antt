@@ -1,5 +1,5 @@
 -- The book of a session: its variables with their initial values, and its constraints.
-use Rattle.std.specs.Prelude.{◌≡◌, ◌≢◌, ℕ, zero, suc, ℤ, ◌<◌, ◌≤◌, ◌==◌, Bool, List, [], ◌∷◌, length, map, All, Any, AllPairs, if◌then◌else◌, slice_index_or, filter}
+use Rattle.std.specs.Prelude.{◌≡◌, ◌≢◌, ℕ, zero, suc, ℤ, ◌+◌, ◌<◌, ◌≤◌, ◌==◌, Bool, true, List, [], ◌∷◌, ◌++◌, length, map, All, Any, AllPairs, if◌then◌else◌, slice_index_or, filter}
 use Rattle.palm_base.specs.declared.terms.Cid.{Cid}
 use Rattle.palm_base.specs.declared.terms.Cid.TheVariants.{Decide, Not, User}
 use Rattle.palm_read.specs.Name.{IsNameText}
@@ -11,6 +11,7 @@ use Rattle.palm_model.specs.Log.{Active}
 use Rattle.palm_model.specs.State.{user_of}
 use Rattle.palm_model.specs.Constraint.{IsWellFormed}
 use Rattle.palm_model.specs.Limits.{IsValue}
+use Rattle.palm_model.specs.declared.constraint.Con.{Con}
 
 -- a variable
 pub record Entry : Type 0 where
@@ -60,6 +61,25 @@ abbrev pub IsUser : Contents → Cid → Type 0
 IsUser book (Decide x) = ⊥
 IsUser book (Not pair) = ⊥
 IsUser book (User n) = HasNumber book n
+
+-- a variable has the name, or a constraint has
+abbrev pub HasVariable : Contents → List ℕ → Type 0
+HasVariable book name = Any (λ e. e.name ≡ name) book.variables
+
+abbrev pub HasConstraint : Contents → List ℕ → Type 0
+HasConstraint book name = Any (λ c. c.name ≡ name) book.constraints
+
+-- the book with one more variable
+abbrev pub with_variable : Contents → List ℕ → List ℤ → Contents
+with_variable book name values = record book { variables = book.variables ++ record { name = name; values = values } ∷ [] }
+
+-- the listed constraint with the next number, which is active
+abbrev pub listed : Contents → List ℕ → Con → BookCon
+listed book name con = record { number = length book.constraints + 1; name = name; active = true; con = con }
+
+-- the book with one more listed constraint
+abbrev pub with_listed : Contents → List ℕ → Con → Contents
+with_listed book name con = record book { constraints = book.constraints ++ listed book name con ∷ [] }
 
 -- the initial domains
 abbrev pub initial_of : Contents → Domains

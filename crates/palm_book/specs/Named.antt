@@ -1,5 +1,7 @@
--- Constraints with the names of their variables, and what a constraint says with names in place of variables.
-use Rattle.std.specs.Prelude.{◌≡◌, ℕ, ◌<◌, List, map, length, All, Any}
+-- What names stand for: variables and declared pairs, constraints with the names of their variables, and what a constraint
+-- says with names in place of variables.
+use Rattle.std.specs.Prelude.{◌≡◌, ℕ, ℤ, ◌<◌, List, map, length, All, Any, Contains}
+use Rattle.palm_base.specs.declared.terms.Pair.{Pair}
 use Rattle.palm_model.specs.Constraint.{scope}
 use Rattle.palm_model.specs.declared.constraint.Con.{Con}
 use Rattle.palm_model.specs.declared.constraint.Con.TheVariants.{CompareVar as CompareVarCon, CompareConst as CompareConstCon, Linear as LinearCon, Table as TableCon, Element as ElementCon, Count as CountCon, Differ as DifferCon}
@@ -29,6 +31,20 @@ named variables (TableCon vars rows) = Table (map (name_of variables) vars) rows
 named variables (ElementCon outcome index entries) = Element (name_of variables outcome) (name_of variables index) entries
 named variables (CountCon value vars op target) = Count value (map (name_of variables) vars) op (named_target variables target)
 named variables (DifferCon vars) = Differ (map (name_of variables) vars)
+
+-- the variable has the name
+pub record IsVariable (variables : List Entry) (name : List ℕ) (x : ℕ) : Type 0 where
+  pub declared : x < length variables
+  pub named : name_of variables x ≡ name
+
+-- the pair has the value, and its variable has the name
+pub record IsPair (variables : List Entry) (name : List ℕ) (value : ℤ) (pair : Pair) : Type 0 where
+  pub variable : IsVariable variables name pair.var
+  pub gives : pair.value ≡ value
+
+-- the variable with the name was declared with the value
+abbrev pub IsDeclared : List Entry → List ℕ → ℤ → Type 0
+IsDeclared variables name value = Any (λ e. (e.name ≡ name) × Contains e.values value) variables
 
 -- no variable has the name
 abbrev pub IsUnknownName : List Entry → List ℕ → Type 0

@@ -49,7 +49,8 @@ fn place_of_number(constraints: &[BookCon], number: u32) -> Option<usize>
 }
 
 impl Book {
-    ghost use Rattle.palm_book.specs.Book.{IsBook, AreValues, name_of, number_name, values_at, with_active, HasNumber};
+    ghost use Rattle.palm_base.specs.Tells.{Tells};
+    ghost use Rattle.palm_book.specs.Book.{IsBook, AreValues, name_of, number_name, values_at, with_active, HasConstraint, HasNumber, HasVariable};
     ghost use Rattle.palm_read.specs.Name.{IsNameText};
 
     /// No variable and no constraint.
@@ -93,6 +94,26 @@ impl Book {
     {
         let place = place_of_name(&self.variables, name)?;
         Some(Var(place as u32))
+    }
+
+    /// Whether a variable has the name.
+    pub fn has_variable(&self, name: &Name) -> bool
+        ensures { Tells result (HasVariable self.now name.now) }
+    {
+        match self.variable_named(name) {
+            Some(_) => true,
+            None => false,
+        }
+    }
+
+    /// Whether a constraint has the name.
+    pub fn has_constraint(&self, name: &Name) -> bool
+        ensures { Tells result (HasConstraint self.now name.now) }
+    {
+        match self.constraint_named(name) {
+            Some(_) => true,
+            None => false,
+        }
     }
 
     /// How many constraints there are.

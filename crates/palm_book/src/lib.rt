@@ -1,12 +1,15 @@
-//! The book of a session: its variables and constraints by number and by name, and names turned into variables.
+//! The book of a session: its variables and constraints by number and by name, names turned into variables, and the
+//! values of domains that were read.
 #![tactic(auto)]
 
 mod book;
+mod domains;
 mod laws;
 mod limits;
 mod resolve;
 
 pub use book::{Book, BookCon};
+pub use domains::values_in;
 pub use laws::active_constraints_rise;
 pub use limits::{MOST_ADDED, MOST_CONSTRAINTS, MOST_VARIABLES};
 pub use resolve::Unresolved;

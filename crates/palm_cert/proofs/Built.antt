@@ -1,5 +1,5 @@
 -- Lines with names, numbers and lists within the limits: their texts read as these lines.
-use Rattle.std.proofs.Common.{◌≡◌, ℕ, ℤ, pos, negsuc, suc, ◌<◌, ◌≤◌, Bool, true, false, Some, List, [], ◌∷◌, ◌++◌, length, map, flat_map, codes, All, refl, sym, ap, subst, arith}
+use Rattle.std.proofs.Common.{◌∙◌, ◌≡◌, ℕ, ℤ, pos, negsuc, suc, ◌<◌, ◌≤◌, Bool, true, false, Some, List, [], ◌∷◌, ◌++◌, length, map, flat_map, codes, All, refl, sym, ap, subst, arith}
 use Rattle.std.specs.Prelude.{Any, ◌<ℤ◌}
 use Rattle.std.proofs.lemmas.Int.{ints}
 use Rattle.std.proofs.lemmas.List.Elements.{All-nil, All-cons, All-head, All-tail, All-append, All-weaker, recursion_from_All}
@@ -17,7 +17,6 @@ use Rattle.palm_read.specs.Limits.{HasNothing, HasRepeat, IsBeyond, IsInRange, R
 use Rattle.palm_read.specs.Linear.{TermForm, IsSoundTerm, linear_first_term, linear_later_term, linear_terms, linear_unsigned_term, signed, term_of}
 use Rattle.palm_read.specs.Name.{IsNameText}
 use Rattle.palm_read.specs.Piece.{Piece, Named, Mark, Integer, in_parentheses, listed, op_text}
-use Rattle.palm_read.specs.Reader.Checks.{LacksSomething}
 use Rattle.palm_read.specs.Reading.{IsRead, a_form, line_of, shape_of}
 use Rattle.palm_read.specs.Sound.{IsSoundShape}
 use Rattle.palm_read.specs.Text.{line_words, text_of}
@@ -35,7 +34,6 @@ use Rattle.palm_read.proofs.cited.Layouts.{words_plain, words_short, words_spell
 use Rattle.palm_read.proofs.cited.PrintedForms.{words_line}
 use Rattle.palm_read.proofs.cited.PrintedParts.{HasNames}
 use Rattle.palm_read.proofs.cited.Ranges.{IsWithin, a_bound, term_numbers}
-use Rattle.palm_read.proofs.cited.Refusals.{in_nothing, in_repeat}
 use Rattle.palm_read.proofs.cited.Sets.{Rises, member_set, rises_set, same_rising, set_member}
 use Rattle.palm_cert.proofs.Saying.{value_within}
 
@@ -45,7 +43,7 @@ says_something : (form : Form) → is_note (after_blanks (text_of (line_of form)
 says_something (DeclareForm name domain) = refl
 says_something _ = refl
 
-form_read : (form : Form) → IsProper form → IsInRange form → (HasNothing form → ⊥) → (HasRepeat form → ⊥) → (IsBeyond (line_of form) → ⊥) → HasNames (pieces form) → IsRead (text_of (line_of form)) (line_of form)
+form_read : (form : Form) → IsProper form → IsInRange form → (HasNothing (line_of form) → ⊥) → (HasRepeat (line_of form) → ⊥) → (IsBeyond (line_of form) → ⊥) → HasNames (pieces form) → IsRead (text_of (line_of form)) (line_of form)
 form_read form proper range some once near names =
     let printed = words_line form proper some (numbers_within form range) names near in
     let words = line_words (line_of form) in
@@ -116,7 +114,7 @@ var_read name (Range low high) named sound near =
 var_read name (Set vs) named sound near =
     let same = set_same vs sound.1 in
     let many : IsLarge (Set (set_of vs)) → ⊥ = λ h. near (subst (λ (ws : List ℤ). 256 < length ws) same h) in
-    let none : vs ≡ [] → ⊥ = λ e. absurd (omega (arith, sound.0, ap length e)) in
+    let none : set_of vs ≡ [] → ⊥ = λ e. absurd (omega (arith, sound.0, ap length (sym same ∙ e))) in
     subst (λ (ws : List ℤ). IsRead (text_of (Var name (Set ws))) (Var name (Set ws))) same
     (form_read (DeclareForm name (Members vs)) tt (values_within vs sound.2) none (λ h. h) many (named, names_domain (Members vs)))
 
@@ -226,7 +224,7 @@ in_range (Differ vars) h = All-nil IsWithin
 no_zero : (ts : List NameTerm) → All IsSoundTerm ts → Any (λ t. t.factor ≡ pos 0) ts → ⊥
 no_zero ts h a = let sound : IsSoundTerm a.1 = subst IsSoundTerm a.3 (h a.0 a.1 a.2) in sound.0 a.4
 
-nothing_lacks : (name : List ℕ) (s : Shape) → IsSoundShape s → LacksSomething (Add name s) → ⊥
+nothing_lacks : (name : List ℕ) (s : Shape) → IsSoundShape s → HasNothing (Add name s) → ⊥
 nothing_lacks name (Linear terms op bound) h lacks = no_zero terms h.1 lacks
 nothing_lacks name (Table vars rows) h lacks = absurd (omega (arith, h.1, ap length lacks))
 nothing_lacks name (Element outcome index entries) h lacks = absurd (omega (arith, h.0, ap length lacks))
@@ -293,7 +291,7 @@ pub add_read : (name : List ℕ) (s : Shape) → IsNameText name → All IsNameT
 add_read name s named names once sound near =
     let form = AddForm name (shape_form s) in
     let same : line_of form ≡ Add name s = ap (λ (t : Shape). Add name t) (shape_same s) in
-    let none : HasNothing form → ⊥ = λ h. nothing_lacks name s sound (subst LacksSomething same (in_nothing form h)) in
-    let apart : HasRepeat form → ⊥ = λ h. once (subst (λ (t : Shape). Repeats (names_of t)) (shape_same s) (in_repeat form h)) in
+    let none : HasNothing (line_of form) → ⊥ = λ h. nothing_lacks name s sound (subst HasNothing same h) in
+    let apart : HasRepeat (line_of form) → ⊥ = λ h. once (subst HasRepeat same h) in
     subst (λ (l : Line). IsRead (text_of l) l) same
     (form_read form (proper s sound) (in_range s sound) none apart (λ b. near (subst IsBeyond same b)) (named, names_shape s names))

@@ -3,12 +3,12 @@ use Rattle.std.proofs.Common.{◌≡◌, ◌≢◌, ℕ, ℤ, ◌+◌, ◌<◌, 
 use Rattle.std.proofs.lemmas.List.{length-append, length-map, map-append}
 use Rattle.std.proofs.lemmas.List.Elements.{Contains-append_left, Contains-append_right, Contains-push, Contains-push_cases}
 use Rattle.palm_base.proofs.cited.Members.{member_here, member_map, member_nil, member_unmap}
-use Rattle.palm_book.specs.Book.{Contents, Entry, name_of}
+use Rattle.palm_book.specs.Book.{Contents, Entry, HasConstraint, HasVariable, name_of}
 use Rattle.palm_book.specs.Named.{named}
 use Rattle.palm_book.specs.declared.book.BookCon.{BookCon}
 use Rattle.palm_book.proofs.cited.Any.{member_any}
 use Rattle.palm_book.proofs.cited.Resolving.{known}
-use Rattle.palm_claim.specs.Draft.{Draft, HasConstraint, HasVariable, IsOpen, MayStand, blank}
+use Rattle.palm_claim.specs.Draft.{Draft, IsOpen, MayStand, blank}
 use Rattle.palm_claim.specs.Statement.{Says}
 use Rattle.palm_claim.specs.declared.statement.Stage.{Stage}
 use Rattle.palm_claim.specs.declared.statement.Stage.TheVariants.{Claimed, Closed, Declaring, Listing, Proving, Unopened}

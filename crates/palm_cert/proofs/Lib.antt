@@ -3,7 +3,6 @@ pub mod Built
 pub mod cited
 pub mod Cites
 pub mod Counting
-pub mod Cutting
 pub mod Declared
 pub mod Declaring
 pub mod Earlier
@@ -20,4 +19,3 @@ pub mod Reached
 pub mod Renumbering
 pub mod Saying
 pub mod Uses
-pub mod Writes

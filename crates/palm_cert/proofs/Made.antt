@@ -45,6 +45,11 @@ module _ (book : Contents) (log : List Removal) (claim : Claim) (needs : Needs) 
       ∙ ap (λ (y : ℕ). declarations book (cited (steps_of log (claimed book claim)) book) y ++ lines (marked needs.steps.items log)) named
       ∙ ap (λ (steps : List Removal). declarations book (cited (steps_of log (claimed book claim)) book) (claim_var claim) ++ lines steps) steps_found
 
+-- what holds of a text holds of it where it was written
+pub at_ok : {T E P : Type 0} (r : Result T E) → P → OnOk r P
+at_ok (Ok t) p = p
+at_ok (Err e) p = tt
+
 -- what holds at a good answer, and then more
 pub ok_then : {T E A : Type 0} (r : Result T E) (x y z : A) → OnOk r (x ≡ y) → y ≡ z → OnOk r (x ≡ z)
 ok_then (Ok t) x y z e f = e ∙ f

@@ -4,7 +4,6 @@ use Rattle.std.proofs.lemmas.List.Elements.{All-nil, All-cons}
 use Rattle.palm_base.specs.declared.terms.Pair.{Pair}
 use Rattle.palm_book.specs.Book.{Contents}
 use Rattle.palm_claim.specs.Draft.{Draft, blank}
-use Rattle.palm_claim.specs.Lines.{lines_of}
 use Rattle.palm_claim.specs.Verdict.{IsNone, IsVerdict, Judges, Meets, Passes, ending, in_order}
 use Rattle.palm_claim.specs.declared.statement.Stage.TheVariants.{Closed}
 use Rattle.palm_claim.specs.declared.statement.Statement.{Statement}
@@ -13,14 +12,12 @@ use Rattle.palm_claim.specs.declared.verdict.Claim.{Claim}
 use Rattle.palm_claim.specs.declared.verdict.Verdict.{Verdict}
 use Rattle.palm_claim.specs.declared.verdict.Verdict.TheVariants.{Accepted}
 use Rattle.palm_lang.specs.Reply.{ended}
-use Rattle.palm_read.specs.Bytes.{IsPlain, is_plain}
+use Rattle.palm_read.proofs.cited.Cutting.{IsOfPlain, ended_lines}
+use Rattle.palm_read.specs.Bytes.{IsPlain}
+use Rattle.palm_read.specs.Lines.{AreLines}
 use Rattle.palm_read.specs.Reading.{IsRead, a_comment, a_form}
 use Rattle.palm_read.specs.declared.line.Line.{Line}
 use Rattle.palm_read.specs.declared.line.Line.TheVariants.{Comment}
-use Rattle.palm_cert.proofs.Cutting.{cut_lines}
-
-abbrev pub IsOfPlain : List ℕ → Type 0
-IsOfPlain line = All (λ b. is_plain b ≡ true) line
 
 -- the lines, all of plain bytes, lead from the one draft to the other
 abbrev pub Runs : Draft → List (List ℕ) → Draft → Type 0
@@ -78,6 +75,8 @@ judged (line ∷ lines) d n claim book proved runs = inr (runs.0, runs.1, judged
 pub accepted : (text : List ℕ) (claim : Claim) (book : Contents) (proved : List Pair) → Reads blank text (record { stage = Closed claim; book = book; proved = proved }) → IsVerdict text (Accepted (record { claim = claim; book = book }))
 accepted text claim book proved r =
     let last : Draft = record { stage = Closed claim; book = book; proved = proved } in
-    let same : lines_of text ≡ r.lines = ap lines_of (sym r.cut) ∙ cut_lines r.lines (plain_lines r.lines blank last r.runs) in
-    let verdict : Verdict = Accepted (record { claim = claim; book = book }) in
-    subst (λ (ls : List (List ℕ)). Judges blank 1 ls verdict) (sym same) (judged r.lines blank 1 claim book proved r.runs)
+    record {
+      lines = r.lines;
+      are_lines = subst (λ (t : List ℕ). AreLines t r.lines) r.cut (ended_lines r.lines (plain_lines r.lines blank last r.runs));
+      judged = judged r.lines blank 1 claim book proved r.runs;
+    }

@@ -4,10 +4,11 @@ use Rattle.std.proofs.lemmas.List.{get_or-map, length-map, map-append}
 use Rattle.std.proofs.lemmas.List.Elements.{All-contains, Contains-append_right}
 use Rattle.palm_base.specs.declared.terms.Pair.{Pair}
 use Rattle.palm_base.proofs.cited.Members.{member_here, member_map, member_same, member_unmap}
-use Rattle.palm_book.specs.Book.{Contents, Entry, initial_of, name_of, user_name}
+use Rattle.palm_book.specs.Book.{Contents, Entry, HasConstraint, HasVariable, initial_of, name_of, user_name}
 use Rattle.palm_book.specs.declared.book.BookCon.{BookCon}
 use Rattle.palm_book.proofs.cited.Any.{any_member, member_any}
-use Rattle.palm_claim.specs.Draft.{Draft, HasConstraint, HasVariable, IsDeclared, IsOpen, IsPair, IsVariable}
+use Rattle.palm_claim.specs.Draft.{Draft, IsOpen}
+use Rattle.palm_book.specs.Named.{IsDeclared, IsPair, IsVariable}
 use Rattle.palm_claim.specs.Statement.{Says}
 use Rattle.palm_claim.specs.Step.{IsReached, IsRight, pair_at, pairs_at}
 use Rattle.palm_claim.specs.declared.statement.Stage.{Stage}
@@ -15,7 +16,7 @@ use Rattle.palm_claim.specs.declared.statement.Stage.TheVariants.{Claimed, Close
 use Rattle.palm_claim.specs.declared.statement.Statement.TheVariants.{ConflictClaim, End, Step, ValueClaim}
 use Rattle.palm_claim.specs.declared.verdict.Claim.{Claim}
 use Rattle.palm_claim.specs.declared.verdict.Claim.TheVariants.{Conflict, Gone}
-use Rattle.palm_claim.proofs.cited.Unique.{pair_is, variable_is}
+use Rattle.palm_book.proofs.cited.Pairs.{pair_is, variable_is}
 use Rattle.palm_lang.specs.Reply.{ended, fixed_text}
 use Rattle.palm_lang.specs.declared.reply.Fixed.TheVariants.{End as EndText}
 use Rattle.palm_model.specs.Domains.{Has, values_of, without}

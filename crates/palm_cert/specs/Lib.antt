@@ -5,4 +5,3 @@ pub mod Needed
 pub mod Needs
 pub mod Readable
 pub mod SameClaim
-pub mod Writing

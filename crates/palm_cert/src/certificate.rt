@@ -1,23 +1,24 @@
 //! Writing a certificate, a line at a time, so that no whole text is held.
 ghost use Rattle.std.specs.Prelude.{◌≡◌, ◌<◌, length, flat_map, All, OnOk};
-ghost use Rattle.palm_book.specs.Book.{active_of, initial_of};
+ghost use Rattle.palm_book.specs.Book.{HasNumber, active_of, initial_of, number_name};
 ghost use Rattle.palm_cert.specs.Accepted.{IsAccepted};
-ghost use Rattle.palm_cert.specs.Certificate.{added_line, certificate_text, claim_line, claim_var, declarations, declared_line, header_line, step_line, used};
+ghost use Rattle.palm_cert.specs.Certificate.{added_line, certificate_text, claim_line, claim_var, declarations, declared_line, header_line, step_line, step_words, used};
 ghost use Rattle.palm_cert.specs.Needs.{AreSteps, CanClaim, IsOfBook, declared_at, marked, marked_at};
-ghost use Rattle.palm_cert.specs.Writing.{Writes};
-ghost use Rattle.palm_lang.specs.Reply.{fixed_text};
+ghost use Rattle.palm_lang.specs.Reply.{ended, fixed_text};
+ghost use Rattle.palm_lang.specs.Writing.{Writes};
+ghost use Rattle.palm_model.specs.Constraint.{scope};
+ghost use Rattle.palm_read.specs.Words.{spaced};
 
-use crate::lines::{put_added, put_claim, put_declared, put_header, put_step};
+use crate::lines::{put_added, put_claim, put_header, put_step};
 use crate::needs::{Needs, claimed_var, collect_numbers, needs_of, number_of};
-use crate::stop::CertStop;
 use crate::usage::is_used;
-use palm_base::{Failed, NoMemory, Sink, Var, write_all};
-use palm_book::Book;
-use palm_claim::Claim;
+use palm_base::{NoMemory, Pair, Sink, Var};
 use palm_engine::Engine;
 use palm_explain::ExplainStore;
 use palm_filter::Filter;
-use palm_lang::{Fixed, print_fixed};
+use palm_lang::{
+    Book, BookCon, Claim, Fixed, WriteStop as CertStop, write_fixed, write_line, write_var,
+};
 use std::alloc::Global;
 
 /// Writes a certificate of the claim: the variables and constraints that it needs, the removals that it needs as steps
@@ -47,7 +48,7 @@ pub fn write_cert<F: Filter, K: Sink>(
     let mut numbers = Vec::new(alloc);
     write_steps(book, log, &needs, &mut numbers, out, &mut buffer)?;
     write_claim(book, &claim, out, &mut buffer)?;
-    write_end(out, &mut buffer)
+    write_fixed(Fixed::End, out, &mut buffer)
 }
 
 /// Writes the header, the variables and the constraints.
@@ -70,9 +71,7 @@ fn write_declarations<K: Sink>(
 fn write_header<K: Sink>(out: &mut K, buffer: &mut Vec<u8>) -> Result<(), CertStop>
     ensures { Writes (K.state out.old) (K.state out.new) header_line result }
 {
-    buffer.clear();
-    put_header(buffer)?;
-    write_text(out, buffer)
+    write_line!(out, buffer, put_header())
 }
 
 /// Writes the variables that are used.
@@ -109,9 +108,7 @@ fn write_variable<K: Sink>(
         return Ok(());
     }
     let _ = book.variables();
-    buffer.clear();
-    put_declared(book, var, buffer)?;
-    write_text(out, buffer)
+    write_var(book, var, out, buffer)
 }
 
 /// Writes the constraints that are marked.
@@ -146,9 +143,20 @@ fn write_constraint<K: Sink>(
     if !is_cited {
         return Ok(());
     }
-    buffer.clear();
-    put_added(book, book.constraint(place), buffer)?;
-    write_text(out, buffer)
+    write_added(book, book.constraint(place), out, buffer)
+}
+
+/// Writes a constraint.
+fn write_added<K: Sink>(
+    book: &Book,
+    entry: &BookCon,
+    out: &mut K,
+    buffer: &mut Vec<u8>,
+) -> Result<(), CertStop>
+    requires { All (λ x. x < length book.now.variables) (scope entry.now.con) }
+    ensures { Writes (K.state out.old) (K.state out.new) (added_line book.now.variables entry.now) result }
+{
+    write_line!(out, buffer, put_added(book, entry))
 }
 
 /// Writes the steps, the reasons of one after another in the same memory.
@@ -190,10 +198,24 @@ fn write_step<K: Sink>(
         return Ok(());
     }
     collect_numbers(log, needs, place, numbers)?;
-    buffer.clear();
     let by = number_of(log.by_at(place));
-    put_step(book, &log.pair_at(place), by, numbers, buffer)?;
-    write_text(out, buffer)
+    write_removal(book, &log.pair_at(place), by, numbers, out, buffer)
+}
+
+/// Writes a removal as a step.
+fn write_removal<K: Sink>(
+    book: &Book,
+    pair: &Pair,
+    by: u32,
+    numbers: &[usize],
+    out: &mut K,
+    buffer: &mut Vec<u8>,
+) -> Result<(), CertStop>
+    requires variable { pair.now.var < length book.now.variables }
+    requires constraint { HasNumber book.now by }
+    ensures { Writes (K.state out.old) (K.state out.new) (ended (spaced (step_words book.now.variables pair.now (number_name book.now.constraints by) numbers.now))) result }
+{
+    write_line!(out, buffer, put_step(book, pair, by, numbers))
 }
 
 /// Writes the claim and the end.
@@ -206,26 +228,5 @@ fn write_claim<K: Sink>(
     requires { claim_var claim.now < length book.now.variables }
     ensures { Writes (K.state out.old) (K.state out.new) (claim_line book.now.variables claim.now) result }
 {
-    buffer.clear();
-    put_claim(book, claim, buffer)?;
-    write_text(out, buffer)
-}
-
-/// Writes the last line.
-fn write_end<K: Sink>(out: &mut K, buffer: &mut Vec<u8>) -> Result<(), CertStop>
-    ensures { Writes (K.state out.old) (K.state out.new) (fixed_text Fixed.End) result }
-{
-    buffer.clear();
-    print_fixed(Fixed::End, buffer)?;
-    write_text(out, buffer)
-}
-
-/// Writes a text that was made.
-fn write_text<K: Sink>(out: &mut K, text: &[u8]) -> Result<(), CertStop>
-    ensures { Writes (K.state out.old) (K.state out.new) text.now result }
-{
-    match write_all(out, text) {
-        Ok(()) => Ok(()),
-        Err(Failed) => Err(CertStop::WriteFault),
-    }
+    write_line!(out, buffer, put_claim(book, claim))
 }

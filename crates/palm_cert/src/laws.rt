@@ -1,13 +1,10 @@
 //! Laws of certificates: what the claim needs, and that the steps say it.
-ghost use Rattle.std.specs.Prelude.{◌≡◌, ◌↔◌, ◌≤◌, ◌++◌, ◌∷◌, ℕ, ℤ, List, length, flat_map, All, Contains, true};
+ghost use Rattle.std.specs.Prelude.{◌≡◌, ◌↔◌, ◌≤◌, ◌++◌, ◌∷◌, ℕ, ℤ, List, length, All, Contains, true};
 ghost use Rattle.palm_base.specs.declared.terms.Pair.{Pair};
 ghost use Rattle.palm_base.specs.declared.terms.Cid.TheVariants.{User};
 ghost use Rattle.palm_book.specs.declared.book.BookCon.{BookCon};
 ghost use Rattle.palm_book.specs.Book.{Contents, IsBook, active_of, initial_of, user_name};
 ghost use Rattle.palm_cert.specs.Certificate.{certificate_text, claimed, is_cited, numbers_of, pairs_with, steps_of};
-ghost use Rattle.palm_claim.specs.Lines.{lines_of};
-ghost use Rattle.palm_lang.specs.Reply.{ended};
-ghost use Rattle.palm_read.specs.Bytes.{is_plain};
 ghost use Rattle.palm_claim.specs.Step.{IsReached, IsRight};
 ghost use Rattle.palm_cert.specs.Accepted.{IsAccepted};
 ghost use Rattle.palm_claim.specs.declared.verdict.Claim.{Claim};
@@ -72,11 +69,6 @@ pub fn lines_say_what_was_written()
 pub fn numbers_of_variables_do_not_matter()
     ensures { (other : ℕ → ℕ) (d e : Domains) (c : Con) (x : ℕ) (v : ℤ) → ((y : ℕ) (w : ℤ) → Contains (scope c) y → Has e (other y) w → Has d y w)
         → LacksSupport d c x v → LacksSupport e (moved other c) (other x) v }
-{}
-
-/// A text of plain lines, each ended by a line feed, has these lines.
-pub fn ended_lines_are_cut_apart()
-    ensures { (lines : List (List ℕ)) → All (λ line. All (λ b. is_plain b ≡ true) line) lines → lines_of (flat_map ended lines) ≡ lines }
 {}
 
 /// A certificate is accepted by the checker's definition, and what is accepted is the claim that was to be made, of the

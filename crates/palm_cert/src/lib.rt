@@ -5,14 +5,13 @@ mod certificate;
 mod laws;
 mod lines;
 mod needs;
-mod stop;
 mod usage;
 
 pub use certificate::write_cert;
 pub use laws::{
     certificates_are_accepted, claims_are_reached, constraints_are_those_of_the_explanation,
-    ended_lines_are_cut_apart, lines_say_what_was_written, numbers_of_variables_do_not_matter,
+    lines_say_what_was_written, numbers_of_variables_do_not_matter,
     steps_are_right_behind_earlier_ones, steps_are_right_by_themselves,
     steps_are_what_the_claim_needs,
 };
-pub use stop::CertStop;
+pub use palm_lang::WriteStop as CertStop;

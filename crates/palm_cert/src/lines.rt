@@ -1,16 +1,14 @@
 //! The lines of a certificate at the end of what was written. Want of memory may leave a part of one there.
 ghost use Rattle.std.specs.Prelude.{◌≡◌, ◌<◌, ◌++◌, All, codes, decimal, length, map, OnOk};
 ghost use Rattle.std.specs.Fmt.{signed_decimal};
-ghost use Rattle.palm_book.specs.Book.{AreValues, HasNumber, number_name, values_at};
-ghost use Rattle.palm_cert.specs.Certificate.{added_line, claim_line, claim_var, declared_line, from_words, header_line, step_words};
+ghost use Rattle.palm_book.specs.Book.{HasNumber, number_name};
+ghost use Rattle.palm_cert.specs.Certificate.{added_line, claim_line, claim_var, from_words, header_line, step_words};
 ghost use Rattle.palm_lang.specs.Reply.{ended};
 ghost use Rattle.palm_model.specs.Constraint.{scope};
 ghost use Rattle.palm_read.specs.Words.{after_spaces, spaced};
 
 use palm_base::{NoMemory, Pair, Value, Var, push_int};
-use palm_book::{Book, BookCon};
-use palm_claim::Claim;
-use palm_lang::{Name, print_con, print_var};
+use palm_lang::{Book, BookCon, Claim, Name, print_con};
 
 /// A fixed text.
 fn put_text(text: &str, out: &mut Vec<u8>) -> Result<(), NoMemory>
@@ -50,15 +48,6 @@ pub fn put_header(out: &mut Vec<u8>) -> Result<(), NoMemory>
     ensures { OnOk result (out.new.items ≡ out.old.items ++ header_line) }
 {
     put_text("palm-cert 1\n", out)
-}
-
-/// `var NAME DOMAIN`
-pub fn put_declared(book: &Book, var: Var, out: &mut Vec<u8>) -> Result<(), NoMemory>
-    requires variable { var < length book.now.variables }
-    requires values { AreValues (values_at book.now.variables var) }
-    ensures { OnOk result (out.new.items ≡ out.old.items ++ declared_line book.now.variables var) }
-{
-    print_var(book.variable_name(var), book.initial(var).as_slice(), out)
 }
 
 /// `add NAME : CONSTRAINT`

@@ -7,9 +7,8 @@ ghost use Rattle.palm_explain.specs.Explanations.{IsLinked, reasons_of};
 ghost use Rattle.palm_model.specs.Log.{Removal, log_pairs};
 
 use palm_base::{Cid, NoMemory, Pair, Value, Var};
-use palm_book::Book;
-use palm_claim::Claim;
 use palm_explain::ExplainStore;
+use palm_lang::{Book, Claim};
 use std::alloc::Global;
 
 /// What the claim of a certificate needs.

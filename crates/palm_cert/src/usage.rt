@@ -6,7 +6,7 @@ ghost use Rattle.palm_model.specs.Count.{target_scope};
 ghost use Rattle.palm_model.specs.State.{is_over};
 
 use palm_base::Var;
-use palm_book::Book;
+use palm_lang::Book;
 use palm_model::{Con, Target, Term};
 
 /// Whether the variable is the claimed one or in the scope of a cited constraint.

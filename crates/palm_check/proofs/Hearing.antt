@@ -1,23 +1,22 @@
 -- First causes, and statements without one.
-use Rattle.std.proofs.Common.{◌≡◌, ◌≢◌, ℕ, ℤ, ◌<◌, ◌≤◌, Option, Some, None, IfSome, List, [], length, get_or, slice_get, All, Any, AllPairs, Contains, ◌⊎◌, inl, inr, refl, sym, ap, ◌∙◌, subst, arith}
+use Rattle.std.proofs.Common.{◌≡◌, ◌≢◌, ℕ, ◌<◌, ◌≤◌, Option, Some, None, IfSome, List, length, get_or, slice_get, All, Any, AllPairs, Contains, ◌⊎◌, inl, inr, refl, sym, ap, ◌∙◌, subst, arith}
 use Rattle.std.proofs.lemmas.Bool.{cases_lt}
-use Rattle.std.proofs.lemmas.List.{get_or_default, get_or-map}
+use Rattle.std.proofs.lemmas.List.{get_or_default}
 use Rattle.std.proofs.lemmas.List.Elements.{All-contains}
 use Rattle.std.proofs.lemmas.Option.{none-some, slice_get_cases}
 use Rattle.palm_base.specs.declared.terms.Pair.{Pair}
 use Rattle.palm_base.proofs.cited.Members.{Known, all_members, any_known, member_get}
-use Rattle.palm_book.specs.Book.{Contents, Entry, initial_of}
+use Rattle.palm_book.specs.Book.{Contents, initial_of}
 use Rattle.palm_book.specs.declared.book.BookCon.{BookCon}
 use Rattle.palm_book.proofs.cited.Any.{any_member, member_any}
-use Rattle.palm_model.specs.Domains.{Has, values_of, without}
+use Rattle.palm_model.specs.Domains.{without}
 use Rattle.palm_model.specs.Support.{LacksSupport}
-use Rattle.palm_claim.specs.Draft.{Draft, IsDeclared, IsPair, IsVariable, MayStand}
+use Rattle.palm_claim.specs.Draft.{Draft, MayStand}
 use Rattle.palm_claim.specs.Statement.{IsStepNumber}
 use Rattle.palm_claim.specs.Step.{IsRight, pairs_at}
 use Rattle.palm_claim.specs.Verdict.{HasUnproved, IsBeyondLimits, IsFirst, IsMisdeclared, IsNone, IsNotReached, IsNotRight, Meets, in_order}
 use Rattle.palm_claim.specs.declared.statement.Statement.{Statement}
 use Rattle.palm_claim.specs.declared.verdict.Cause.TheVariants.{Malformed, Misdeclared, Beyond, Unproved, NotRight}
-use Rattle.palm_claim.proofs.cited.Unique.{Apart, variable_is}
 
 pub first_malformed : (d : Draft) (s : Statement) → (MayStand d.stage s → ⊥) → IsFirst (Meets d s) in_order Malformed
 first_malformed d s n = inl (n, refl)
@@ -38,35 +37,6 @@ pub without_cause : (d : Draft) (s : Statement) → MayStand d.stage s → (IsMi
 without_cause d s stands declared within proved right reached = (λ n. n stands, (declared, (within, (proved, (right, (reached, tt))))))
 
 -- ---- names
-
--- the pair of a variable with the name, declared with the value
-pub pair_declared : (book : Contents) (name : List ℕ) (value : ℤ) (pair : Pair) → IsPair book.variables name value pair → Has (initial_of book) pair.var pair.value → IsDeclared book.variables name value
-pair_declared book name value pair is has =
-    let x : ℕ = pair.var in
-    let none : Entry = record { name = []; values = [] } in
-    let e : Entry = get_or book.variables x none in
-    let values : values_of (initial_of book) x ≡ e.values = get_or-map (λ (f : Entry). f.values) book.variables x none [] is.variable.declared in (
-      x,
-      e,
-      is.variable.declared,
-      get_or_default book.variables x e none is.variable.declared,
-      (is.variable.named, subst (λ (v : ℤ). Contains e.values v) is.gives (subst (λ (vs : List ℤ). Contains vs pair.value) values has)),
-    )
-
--- no other variable has the name
-pub undeclared : (book : Contents) (name : List ℕ) (value : ℤ) (x : ℕ) → Apart book.variables → IsVariable book.variables name x → (Has (initial_of book) x value → ⊥) → IsDeclared book.variables name value → ⊥
-undeclared book name value x apart is absent a =
-    let none : Entry = record { name = []; values = [] } in
-    let read : get_or book.variables a.0 none ≡ a.1 = get_or_default book.variables a.0 none a.1 a.2 ∙ a.3 in
-    let same : x ≡ a.0 = variable_is book.variables name x a.0 apart is (record { declared = a.2; named = ap (λ (e : Entry). e.name) read ∙ a.4.0 }) in
-    let values : values_of (initial_of book) a.0 ≡ a.1.values = get_or-map (λ (f : Entry). f.values) book.variables a.0 none [] a.2 ∙ ap (λ (e : Entry). e.values) read in
-    absent (subst (λ (y : ℕ). Has (initial_of book) y value) (sym same) (subst (λ (vs : List ℤ). Contains vs value) (sym values) a.4.1))
-
--- a variable that has the name is one that has it
-pub variable_known : (variables : List Entry) (name : List ℕ) (x : ℕ) → IsVariable variables name x → Any (λ e. e.name ≡ name) variables
-variable_known variables name x is =
-    let none : Entry = record { name = []; values = [] } in
-    (x, get_or variables x none, is.declared, get_or_default variables x (get_or variables x none) none is.declared, is.named)
 
 pub constraint_known : (cs : List BookCon) (place : ℕ) (by : List ℕ) (c : BookCon) → slice_get cs place ≡ Some c → c.name ≡ by → Any (λ d. d.name ≡ by) cs
 constraint_known cs place by c at named = any_member (λ (d : BookCon). d.name ≡ by) cs c (member_get cs place c at) named

@@ -1,9 +1,9 @@
 -- The verdict on a text, line by line.
-use Rattle.std.proofs.Common.{◌≡◌, ℕ, ◌+◌, ◌≤◌, Option, Some, None, Result, Ok, Err, IfOk, List, [], ◌∷◌, length, map, drop, inl, inr, refl, sym, ap, subst, arith}
-use Rattle.std.specs.List.{slice_range}
+use Rattle.std.proofs.Common.{◌≡◌, ℕ, ◌+◌, ◌≤◌, Option, Some, None, Result, Ok, Err, IfOk, List, [], ◌∷◌, length, drop, inl, inr, refl, subst, arith}
 use Rattle.palm_base.specs.declared.errors.NoMemory.{NoMemory}
 use Rattle.palm_claim.specs.Draft.{Draft, blank}
-use Rattle.palm_claim.specs.Lines.{cut, lines_of, without_return}
+use Rattle.palm_read.specs.Lines.{AreLines, IsNextLine}
+use Rattle.palm_read.proofs.cited.Cutting.{has_lines, no_lines_left}
 use Rattle.palm_claim.specs.Statement.{Says}
 use Rattle.palm_claim.specs.Verdict.{IsRefusedFor, IsVerdict, Judges, Passes, ending}
 use Rattle.palm_claim.specs.declared.statement.Statement.{Statement}
@@ -11,50 +11,40 @@ use Rattle.palm_claim.specs.declared.verdict.Cause.{Cause}
 use Rattle.palm_claim.specs.declared.verdict.Verdict.{Verdict}
 use Rattle.palm_claim.specs.declared.verdict.Verdict.TheVariants.{Refused}
 use Rattle.palm_check.specs.Kept.{Hears, IsKept, Takes, draft_of}
-use Rattle.palm_check.specs.Lines.{IsNextLine}
 use Rattle.palm_check.specs.declared.checker.Checker.{Checker}
-use Rattle.palm_check.proofs.Cutting.{no_line}
 
 -- the lines before a place have led to what is kept, and what is judged of the rest is judged of the text
-pub record Judging (text : List ℕ) (c : Checker) (line from : ℕ) : Type 0 where
+pub record Judging (text : List ℕ) (c : Checker) (number from : ℕ) : Type 0 where
   pub kept : IsKept c
   pub within : from ≤ length text
-  pub counted : line ≤ from + 1
-  pub goes : (verdict : Verdict) → Judges (draft_of c) line (map without_return (cut (drop from text))) verdict → IsVerdict text verdict
+  pub counted : number ≤ from + 1
+  pub goes : (lines : List (List ℕ)) (verdict : Verdict) → AreLines (drop from text) lines → Judges (draft_of c) number lines verdict → IsVerdict text verdict
 
 pub judging_start : (text : List ℕ) (c : Checker) → draft_of c ≡ blank → IsKept c → Judging text c 1 0
 judging_start text c is kept = record {
   kept = kept;
   within = omega arith;
   counted = omega arith;
-  goes = λ verdict j. subst (λ (d : Draft). Judges d 1 (lines_of text) verdict) is j;
+  goes = λ lines verdict a j. record { lines = lines; are_lines = a; judged = subst (λ (d : Draft). Judges d 1 lines verdict) is j };
 }
 
-one_line : (text : List ℕ) (from end next : ℕ) → IsNextLine text from end next → map without_return (cut (drop from text)) ≡ without_return (slice_range text from end) ∷ map without_return (cut (drop next text))
-one_line text from end next is = ap (map without_return) is.line
-
-pub judging_next : (text : List ℕ) (c e : Checker) (line from end next : ℕ) → Judging text c line from → IsNextLine text from end next
-    → Passes (draft_of c) (without_return (slice_range text from end)) (draft_of e) → IsKept e → Judging text e (line + 1) next
-judging_next text c e line from end next judging is passes kept = record {
+pub judging_next : (text : List ℕ) (c e : Checker) (number from : ℕ) (line : List ℕ) (next : ℕ) → Judging text c number from → IsNextLine text from line next
+    → Passes (draft_of c) line (draft_of e) → IsKept e → Judging text e (number + 1) next
+judging_next text c e number from line next judging is passes kept = record {
   kept = kept;
   within = is.within;
   counted = omega (arith, judging.counted, is.further);
-  goes = λ verdict j.
-      let rest : List (List ℕ) = map without_return (cut (drop next text)) in
-      let one : Judges (draft_of c) line (without_return (slice_range text from end) ∷ rest) verdict = inr (draft_of e, passes, j) in
-      judging.goes verdict (subst (λ ls. Judges (draft_of c) line ls verdict) (sym (one_line text from end next is)) one);
+  goes = λ lines verdict a j. judging.goes (line ∷ lines) verdict (is.before lines a) (inr (draft_of e, passes, j));
 }
 
-pub judged_refused : (text : List ℕ) (c : Checker) (line from end next : ℕ) (cause : Cause) → Judging text c line from → IsNextLine text from end next
-    → IsRefusedFor (draft_of c) (without_return (slice_range text from end)) cause → IsVerdict text (Refused line cause)
-judged_refused text c line from end next cause judging is refused =
-    let rest : List (List ℕ) = map without_return (cut (drop next text)) in
-    let one : Judges (draft_of c) line (without_return (slice_range text from end) ∷ rest) (Refused line cause) = inl (cause, refused, refl) in
-    judging.goes (Refused line cause) (subst (λ ls. Judges (draft_of c) line ls (Refused line cause)) (sym (one_line text from end next is)) one)
+pub judged_refused : (text : List ℕ) (c : Checker) (number from : ℕ) (line : List ℕ) (next : ℕ) (cause : Cause) → Judging text c number from → IsNextLine text from line next
+    → IsRefusedFor (draft_of c) line cause → IsVerdict text (Refused number cause)
+judged_refused text c number from line next cause judging is refused =
+    let rest = has_lines (drop next text) in
+    judging.goes (line ∷ rest.0) (Refused number cause) (is.before rest.0 rest.1) (inl (cause, refused, refl))
 
-pub judged_over : (text : List ℕ) (c : Checker) (line from : ℕ) (verdict : Verdict) → Judging text c line from → drop from text ≡ [] → verdict ≡ ending c.stage c.book line → IsVerdict text verdict
-judged_over text c line from verdict judging none is =
-    judging.goes verdict (subst (λ ls. Judges (draft_of c) line ls verdict) (sym (ap (map without_return) (no_line text from none))) is)
+pub judged_over : (text : List ℕ) (c : Checker) (number from : ℕ) (verdict : Verdict) → Judging text c number from → drop from text ≡ [] → verdict ≡ ending c.stage c.listed.book number → IsVerdict text verdict
+judged_over text c number from verdict judging none is = judging.goes [] verdict (no_lines_left text from none) is
 
 -- what is heard of a line that says this
 pub takes_heard : (d e : Draft) (line : List ℕ) (s : Statement) (o : Option Cause) → Says line s → Hears d s o e → Takes d line o e

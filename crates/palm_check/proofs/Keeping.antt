@@ -1,136 +1,60 @@
--- What the checker keeps stays so: a variable, a constraint and a step more, and pairs that are taken out and put back.
-use Rattle.std.proofs.Common.{◌≡◌, ℕ, zero, suc, ℤ, ◌+◌, ◌<◌, ◌≤◌, true, Some, List, [], ◌∷◌, ◌++◌, length, map, get_or, slice_get, option_map, All, Contains, refl, sym, ap, ◌∙◌, subst, arith, length-append}
-use Rattle.std.proofs.lemmas.List.{get_or_default, length-map, map_push}
+-- What the checker keeps stays so: a step more, and more that is listed.
+use Rattle.std.proofs.Common.{◌≡◌, ℕ, zero, suc, ℤ, ◌≤◌, List, [], ◌∷◌, ◌++◌, length, All, sym, subst, arith}
+use Rattle.std.proofs.lemmas.List.{map_push}
 use Rattle.std.proofs.lemmas.List.Elements.{All-contains, All-push, All-weaker}
-use Rattle.std.proofs.lemmas.Option.{same_Some, slice_get-map, slice_get_read}
 use Rattle.palm_base.specs.declared.terms.Pair.{Pair}
-use Rattle.palm_base.proofs.cited.Members.{all_members, member_get, member_unmap}
+use Rattle.palm_base.proofs.cited.Members.{all_members, member_unmap}
+use Rattle.palm_book.specs.Book.{Contents, Entry, initial_of, with_listed, with_variable}
+use Rattle.palm_claim.specs.Draft.{Draft}
 use Rattle.palm_claim.specs.Step.{pair_at, pairs_at}
-use Rattle.palm_claim.proofs.cited.Explained.{proved_member}
-use Rattle.palm_book.specs.Book.{Contents, Entry, IsBook, initial_of}
-use Rattle.palm_book.specs.declared.book.BookCon.{BookCon}
-use Rattle.palm_domain.specs.Rows.{IsDeclared, IsPresent, Row, values_of}
-use Rattle.palm_domain.specs.Rows as rows
-use Rattle.palm_kind.specs.Kind.{con_of}
-use Rattle.palm_kind.specs.declared.kind.Kind.{Kind}
-use Rattle.palm_model.specs.Constraint.{IsWellFormed}
-use Rattle.palm_model.specs.Domains.{Has}
-use Rattle.palm_model.specs.declared.constraint.Con.{Con}
-use Rattle.palm_claim.specs.Draft.{Draft, listed}
 use Rattle.palm_claim.specs.declared.statement.Stage.TheVariants.{Proving}
+use Rattle.palm_claim.proofs.cited.Explained.{proved_member}
+use Rattle.palm_listed.specs.Lists.{IsListed}
+use Rattle.palm_listed.specs.declared.listed.Listed.{Listed}
+use Rattle.palm_model.specs.Domains.{Domains, Has}
+use Rattle.palm_model.specs.declared.constraint.Con.{Con}
 use Rattle.palm_check.specs.Kept.{AreKept}
-use Rattle.palm_check.specs.Store.{IsFull}
 
-abbrev row : List ℤ → Row
-row vs = record { initial = vs; present = vs }
+pub keeps_step : (listed : Listed) (proved : List Pair) (pair : Pair) → AreKept listed proved → Has (initial_of listed.book) pair.var pair.value
+    → (after : List Pair) → after ≡ proved ++ pair ∷ [] → AreKept listed after
+keeps_step listed proved pair kept declared after grown =
+    let made : AreKept listed (proved ++ pair ∷ []) = record {
+      lists = kept.lists;
+      declared = All-push (λ (p : Pair). Has (initial_of listed.book) p.var p.value) proved pair kept.declared declared;
+    } in
+    subst (λ (ps : List Pair). AreKept listed ps) (sym grown) made
 
-full_push : (store : List Row) (vs : List ℤ) → IsFull store → IsFull (store ++ row vs ∷ [])
-full_push [] vs full zero v h = h
-full_push [] vs full (suc x) v h = h
-full_push (r ∷ rs) vs full zero v h = full zero v h
-full_push (r ∷ rs) vs full (suc x) v h = full_push rs vs (λ y w k. full (suc y) w k) x v h
+-- ---- what else is listed
 
-declared_push : (store : List Row) (r : Row) (x : ℕ) (v : ℤ) → IsDeclared store x v → IsDeclared (store ++ r ∷ []) x v
-declared_push [] r x v h = absurd (omega (arith, h.1))
-declared_push (q ∷ qs) r zero v h = h
-declared_push (q ∷ qs) r (suc x) v h = declared_push qs r x v h
+has_push : (d : Domains) (vs : List ℤ) (x : ℕ) (v : ℤ) → Has d x v → Has (d ++ vs ∷ []) x v
+has_push [] vs x v h = absurd (omega (arith, h.1))
+has_push (w ∷ ws) vs zero v h = h
+has_push (w ∷ ws) vs (suc x) v h = has_push ws vs x v h
 
-pub keeps_variable : (book : Contents) (store : List Row) (kinds : List Kind) (proved : List Pair) (name : List ℕ) (vs : List ℤ)
-    → AreKept book store kinds proved → (now : Contents) → IsBook now → now ≡ record book { variables = book.variables ++ record { name = name; values = vs } ∷ [] }
-    → (after : List Row) → after ≡ store ++ row vs ∷ [] → AreKept now after kinds proved
-keeps_variable book store kinds proved name vs kept now formed is after grown =
-    let bigger : Contents = record book { variables = book.variables ++ record { name = name; values = vs } ∷ [] } in
+pub keeps_variable : (before after : Listed) (proved : List Pair) (name : List ℕ) (vs : List ℤ)
+    → AreKept before proved → IsListed after → after.book ≡ with_variable before.book name vs → AreKept after proved
+keeps_variable before after proved name vs kept lists same =
     let entry : Entry = record { name = name; values = vs } in
-    let same : rows.initial_of (store ++ row vs ∷ []) ≡ initial_of bigger =
-    map_push (λ (r : Row). r.initial) store (row vs) ∙ ap (λ ls. ls ++ vs ∷ []) kept.initial ∙ sym (map_push (λ (e : Entry). e.values) book.variables entry) in
-    let made : IsBook bigger → AreKept bigger (store ++ row vs ∷ []) kinds proved = λ formed. record {
-      formed = formed;
-      initial = same;
-      full = full_push store vs kept.full;
-      filters = kept.filters;
-      numbers = kept.numbers;
-      declared = All-weaker (λ (p : Pair). IsDeclared store p.var p.value) (λ (p : Pair). IsDeclared (store ++ row vs ∷ []) p.var p.value)
-          (λ p h. declared_push store (row vs) p.var p.value h) proved kept.declared;
-    } in
-    subst (λ (s : List Row). AreKept now s kinds proved) (sym grown)
-    (subst (λ (b : Contents). IsBook b → AreKept b (store ++ row vs ∷ []) kinds proved) (sym is) made formed)
+    let bigger : Contents = with_variable before.book name vs in
+    let pushed : initial_of bigger ≡ initial_of before.book ++ vs ∷ [] = map_push (λ (e : Entry). e.values) before.book.variables entry in
+    let declared : All (λ (p : Pair). Has (initial_of bigger) p.var p.value) proved =
+    All-weaker (λ (p : Pair). Has (initial_of before.book) p.var p.value) (λ (p : Pair). Has (initial_of bigger) p.var p.value)
+    (λ p h. subst (λ (ds : Domains). Has ds p.var p.value) (sym pushed) (has_push (initial_of before.book) vs p.var p.value h)) proved kept.declared in
+    record { lists = lists; declared = subst (λ (b : Contents). All (λ (p : Pair). Has (initial_of b) p.var p.value) proved) (sym same) declared }
 
-pub keeps_constraint : (book : Contents) (store : List Row) (kinds : List Kind) (proved : List Pair) (name : List ℕ) (con : Con) (kind : Kind)
-    → AreKept book store kinds proved → con_of kind ≡ con → (now : Contents) → IsBook now → now ≡ record book { constraints = book.constraints ++ listed book name con ∷ [] }
-    → (after : List Kind) → after ≡ kinds ++ kind ∷ [] → AreKept now store after proved
-keeps_constraint book store kinds proved name con kind kept means now formed is after grown =
-    let c : BookCon = listed book name con in
-    let bigger : Contents = record book { constraints = book.constraints ++ c ∷ [] } in
-    let filters : map con_of (kinds ++ kind ∷ []) ≡ map (λ (d : BookCon). d.con) bigger.constraints =
-    map_push con_of kinds kind ∙ ap (λ ls. ls ++ con_of kind ∷ []) kept.filters ∙ ap (λ (k : Con). map (λ (d : BookCon). d.con) book.constraints ++ k ∷ []) means
-    ∙ sym (map_push (λ (d : BookCon). d.con) book.constraints c) in
-    let long : length bigger.constraints ≡ length book.constraints + 1 = length-append book.constraints (c ∷ []) in
-    let made : IsBook bigger → AreKept bigger store (kinds ++ kind ∷ []) proved = λ formed. record {
-      formed = formed;
-      initial = kept.initial;
-      full = kept.full;
-      filters = filters;
-      numbers = All-push (λ (d : BookCon). d.number ≤ length bigger.constraints) book.constraints c
-          (All-weaker (λ (d : BookCon). d.number ≤ length book.constraints) (λ (d : BookCon). d.number ≤ length bigger.constraints) (λ d h. omega (arith, h, long)) book.constraints kept.numbers)
-          (omega (arith, long));
-      declared = kept.declared;
-    } in
-    subst (λ (ks : List Kind). AreKept now store ks proved) (sym grown)
-    (subst (λ (b : Contents). IsBook b → AreKept b store (kinds ++ kind ∷ []) proved) (sym is) made formed)
-
--- another store with the same declared values, all present
-pub keeps_store : (book : Contents) (store after : List Row) (kinds : List Kind) (proved : List Pair) → AreKept book store kinds proved → rows.initial_of after ≡ rows.initial_of store → IsFull after → AreKept book after kinds proved
-keeps_store book store after kinds proved kept same full = record {
-  formed = kept.formed;
-  initial = same ∙ kept.initial;
-  full = full;
-  filters = kept.filters;
-  numbers = kept.numbers;
-  declared = All-weaker (λ (p : Pair). IsDeclared store p.var p.value) (λ (p : Pair). IsDeclared after p.var p.value)
-      (λ p h. subst (λ ds. Contains (values_of ds p.var) p.value) (sym same) h) proved kept.declared;
+pub keeps_constraint : (before after : Listed) (proved : List Pair) (name : List ℕ) (con : Con)
+    → AreKept before proved → IsListed after → after.book ≡ with_listed before.book name con → AreKept after proved
+keeps_constraint before after proved name con kept lists same = record {
+  lists = lists;
+  declared = subst (λ (b : Contents). All (λ (p : Pair). Has (initial_of b) p.var p.value) proved) (sym same) kept.declared;
 }
 
-pub keeps_step : (book : Contents) (store : List Row) (kinds : List Kind) (proved : List Pair) (pair : Pair) → AreKept book store kinds proved → Has (initial_of book) pair.var pair.value
-    → (after : List Pair) → after ≡ proved ++ pair ∷ [] → AreKept book store kinds after
-keeps_step book store kinds proved pair kept declared after grown =
-    let made : AreKept book store kinds (proved ++ pair ∷ []) = record {
-      formed = kept.formed;
-      initial = kept.initial;
-      full = kept.full;
-      filters = kept.filters;
-      numbers = kept.numbers;
-      declared = All-push (λ (p : Pair). IsDeclared store p.var p.value) proved pair kept.declared
-          (subst (λ ds. Contains (values_of ds pair.var) pair.value) (sym kept.initial) declared);
-    } in
-    subst (λ (ps : List Pair). AreKept book store kinds ps) (sym grown) made
-
--- ---- what is looked up
-
-pub rows_long : (book : Contents) (store : List Row) (kinds : List Kind) (proved : List Pair) → AreKept book store kinds proved → length store ≡ length book.variables
-rows_long book store kinds proved kept =
-    sym (length-map store (λ (r : Row). r.initial)) ∙ ap length kept.initial ∙ length-map book.variables (λ (e : Entry). e.values)
-
--- the filter at a place is that of the constraint there
-pub filter_at : (book : Contents) (store : List Row) (kinds : List Kind) (proved : List Pair) (place : ℕ) (kind : Kind) (c : BookCon)
-    → AreKept book store kinds proved → place < length book.constraints → kind ≡ get_or kinds place kind → slice_get book.constraints place ≡ Some c → con_of kind ≡ c.con
-filter_at book store kinds proved place kind c kept lt read at =
-    let long : length kinds ≡ length book.constraints =
-    sym (length-map kinds con_of) ∙ ap length kept.filters ∙ length-map book.constraints (λ (d : BookCon). d.con) in
-    let here : slice_get kinds place ≡ Some kind = slice_get_read kinds (length kinds) place kind refl (omega (arith, long, lt)) read in
-    same_Some (con_of kind) c.con
-    (ap (option_map con_of) (sym here) ∙ sym (slice_get-map con_of kinds place) ∙ ap (λ ks. slice_get ks place) kept.filters
-    ∙ slice_get-map (λ (d : BookCon). d.con) book.constraints place ∙ ap (option_map (λ (d : BookCon). d.con)) at)
-
-pub formed_at : (book : Contents) (store : List Row) (kinds : List Kind) (proved : List Pair) (place : ℕ) (kind : Kind)
-    → AreKept book store kinds proved → place < length book.constraints → kind ≡ get_or kinds place kind → IsWellFormed (length store) (con_of kind)
-formed_at book store kinds proved place kind kept lt read =
-    let c : BookCon = get_or book.constraints place (listed book [] (con_of kind)) in
-    let at : slice_get book.constraints place ≡ Some c = slice_get_read book.constraints (length book.constraints) place c refl lt
-    (get_or_default book.constraints place (listed book [] (con_of kind)) c lt) in
-    let formed : IsWellFormed (length book.variables) c.con =
-    All-contains (λ (d : BookCon). IsWellFormed (length book.variables) d.con) book.constraints c kept.formed.formed (member_get book.constraints place c at) in
-    subst (λ (n : ℕ). IsWellFormed n (con_of kind)) (sym (rows_long book store kinds proved kept))
-    (subst (IsWellFormed (length book.variables)) (sym (filter_at book store kinds proved place kind c kept lt read at)) formed)
+-- the same book is listed
+pub keeps_book : (before after : Listed) (proved : List Pair) → AreKept before proved → IsListed after → after.book ≡ before.book → AreKept after proved
+keeps_book before after proved kept lists same = record {
+  lists = lists;
+  declared = subst (λ (b : Contents). All (λ (p : Pair). Has (initial_of b) p.var p.value) proved) (sym same) kept.declared;
+}
 
 -- what holds of all pairs that were proved holds of those of the reasons
 pub pairs_declared : (P : Pair → Type 0) (proved : List Pair) (reasons : List ℕ) → All P proved → All (λ k. (1 ≤ k) × (k ≤ length proved)) reasons → All P (pairs_at proved reasons)
@@ -138,10 +62,6 @@ pairs_declared P proved reasons all fit = all_members P (pairs_at proved reasons
     let u = member_unmap (pair_at proved) reasons p m in
     let bounds = All-contains (λ k. (1 ≤ k) × (k ≤ length proved)) reasons u.0 fit u.1 in
     subst P u.2 (All-contains P proved (pair_at proved u.0) all (proved_member proved u.0 bounds.0 bounds.1)))
-
--- the book with one more constraint, behind so many others
-abbrev pub numbered : Contents → ℕ → List ℕ → Con → Contents
-numbered book n name con = record book { constraints = book.constraints ++ record { number = n + 1; name = name; active = true; con = con } ∷ [] }
 
 -- a draft that has had a step
 abbrev pub proving : Contents → List Pair → Draft

@@ -1,9 +1,4 @@
-pub mod Cutting
 pub mod Hearing
-pub mod Intervals
 pub mod Judging
 pub mod Keeping
-pub mod Outside
 pub mod Reading
-pub mod Taking
-pub mod WellFormed

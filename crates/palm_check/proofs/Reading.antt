@@ -1,13 +1,13 @@
 -- What the reader answers to a line, and numbers that are too large for it.
-use Rattle.std.proofs.Common.{◌≡◌, ℕ, ◌≤◌, Bool, true, false, Option, Some, None, Err, List, option_map, sym, ap, ◌∙◌, subst, arith}
+use Rattle.std.proofs.Common.{◌≡◌, ℕ, ◌≤◌, Bool, true, false, Option, Some, None, Err, List, length, option_map, sym, ap, ◌∙◌, subst, arith}
 use Rattle.std.proofs.lemmas.Int.{ints}
 use Rattle.palm_read.specs.Linear.{signed}
-use Rattle.palm_read.specs.Reading.{IsRead, IsRefusedBy}
+use Rattle.palm_read.specs.Reading.{IsRead}
 use Rattle.palm_read.specs.Token.{Lexeme, tokens_of}
 use Rattle.palm_read.specs.Reader.Held.{GivesAll, HoldsAll}
 use Rattle.palm_read.specs.declared.line.Line.{Line}
 use Rattle.palm_read.specs.declared.parse.LineError.{LineError}
-use Rattle.palm_read.specs.declared.parse.LineError.TheVariants.{Form as NoForm, NoMemory}
+use Rattle.palm_read.specs.declared.parse.LineError.TheVariants.{Form as NoForm}
 use Rattle.palm_read.proofs.cited.SoundLines.{read_sound}
 use Rattle.palm_read.specs.declared.line.Line.TheVariants.{Var, Add}
 use Rattle.palm_claim.specs.Reader.{is_value, of_line, phrase_of}
@@ -15,8 +15,7 @@ use Rattle.palm_claim.specs.Statement.{IsSpelled, Says}
 use Rattle.palm_claim.specs.declared.statement.Statement.{Statement}
 use Rattle.palm_claim.specs.declared.statement.Statement.TheVariants.{Comment, Header, Variable, Constraint, Step, ValueClaim, ConflictClaim, End}
 use Rattle.palm_claim.proofs.cited.Phrases.{is_value-value, phrase_is}
-use Rattle.palm_claim.proofs.cited.Saying.{line_says, line_says_nothing, phrase_says, refused_says_nothing}
-use Rattle.std.specs.Bool.{⊤}
+use Rattle.palm_claim.proofs.cited.Saying.{led_says, line_says, line_says_nothing}
 use Rattle.palm_check.specs.Kept.{IsBeyondAlone, IsSoundStatement, SaysOrNot}
 use Rattle.palm_check.specs.declared.statements.Reading.{Reading}
 
@@ -24,8 +23,8 @@ pub line_read : (bytes : List ℕ) (line : Line) (o : Option Reading) → IsRead
 line_read bytes line None read e = line_says_nothing bytes line read (sym e)
 line_read bytes line (Some r) read e = line_says bytes line r.statement read (sym e)
 
-pub phrase_read : (bytes : List ℕ) (s : Statement) → IsRefusedBy bytes NoForm → HoldsAll (λ t. t) s (phrase_of (tokens_of bytes)) → Says bytes s
-phrase_read bytes s refused h = phrase_says bytes s refused.0 (h.read ∙ ap Some (sym h.is))
+pub phrase_read : (bytes : List ℕ) (s : Statement) → length bytes ≤ 65536 → HoldsAll (λ t. t) s (phrase_of (tokens_of bytes)) → Says bytes s
+phrase_read bytes s short h = led_says bytes s short (h.read ∙ ap Some (sym h.is))
 
 pub gives_none : {F X : Type 0} (view : F → X) (reading : Option F) (error : LineError) → error ≡ NoForm → GivesAll view (Err error) reading → reading ≡ None
 gives_none view reading error is g = subst (λ (e : LineError). GivesAll view (Err e) reading) is g
@@ -58,18 +57,3 @@ said_sound bytes End h = tt
 pub signed_small : (minus : Bool) (n : ℕ) → is_value (signed minus n) ≡ true → n ≤ 1000000
 signed_small true n e = let is = is_value-value (signed true n) e in omega (arith, ints, is.above)
 signed_small false n e = let is = is_value-value (signed false n) e in omega (arith, ints, is.below)
-
--- a line that is refused otherwise than for its form says nothing
-abbrev pub IsOther : LineError → Type 0
-IsOther NoForm = ⊥
-IsOther NoMemory = ⊥
-IsOther _ = ⊤
-
-pub other_says_nothing : (bytes : List ℕ) (error known : LineError) → error ≡ known → IsOther known → IsRefusedBy bytes error → (s : Statement) → Says bytes s → ⊥
-other_says_nothing bytes error known is other refused = refused_says_nothing bytes known (subst (IsRefusedBy bytes) is refused) (not_memory known other) (not_form known other)
-  where
-    not_memory : (e : LineError) → IsOther e → e ≡ NoMemory → ⊥
-    not_memory e other same = subst IsOther same other
-
-    not_form : (e : LineError) → IsOther e → e ≡ NoForm → ⊥
-    not_form e other same = subst IsOther same other

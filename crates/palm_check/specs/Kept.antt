@@ -1,11 +1,10 @@
 -- What the checker keeps of a certificate, and what it answers to a line.
-use Rattle.std.specs.Prelude.{◌≡◌, ℕ, ◌≤◌, Option, Some, None, List, map, length, All, ⊤}
+use Rattle.std.specs.Prelude.{ℕ, Option, Some, None, List, All, ⊤}
 use Rattle.palm_base.specs.declared.terms.Pair.{Pair}
-use Rattle.palm_book.specs.Book.{Contents, IsBook, initial_of}
-use Rattle.palm_domain.specs.Rows.{IsDeclared, Row}
-use Rattle.palm_domain.specs.Rows as rows
-use Rattle.palm_kind.specs.Kind.{con_of}
-use Rattle.palm_kind.specs.declared.kind.Kind.{Kind}
+use Rattle.palm_book.specs.Book.{initial_of}
+use Rattle.palm_listed.specs.Lists.{IsListed}
+use Rattle.palm_listed.specs.declared.listed.Listed.{Listed}
+use Rattle.palm_model.specs.Domains.{Has}
 use Rattle.palm_read.specs.Limits.{IsBeyond}
 use Rattle.palm_read.specs.Sound.{IsSound}
 use Rattle.palm_read.specs.declared.line.Line.TheVariants.{Var, Add}
@@ -15,26 +14,20 @@ use Rattle.palm_claim.specs.Verdict.{IsFirst, IsNone, IsRefusedFor, Meets, Passe
 use Rattle.palm_claim.specs.declared.statement.Statement.{Statement}
 use Rattle.palm_claim.specs.declared.statement.Statement.TheVariants.{Variable, Constraint, Step}
 use Rattle.palm_claim.specs.declared.verdict.Cause.{Cause}
-use Rattle.palm_check.specs.Store.{IsFull}
 use Rattle.palm_check.specs.declared.checker.Checker.{Checker}
 use Rattle.palm_check.specs.declared.statements.Reading.{Reading}
 
 -- the draft that is kept
 abbrev pub draft_of : Checker → Draft
-draft_of c = record { stage = c.stage; book = c.book; proved = c.proved.items }
+draft_of c = record { stage = c.stage; book = c.listed.book; proved = c.proved.items }
 
--- what holds of a checker between lines: its store has all declared values of its book, each constraint has its filter, and
--- steps have proved declared pairs
-pub record AreKept (book : Contents) (store : List Row) (kinds : List Kind) (proved : List Pair) : Type 0 where
-  pub formed : IsBook book
-  pub initial : rows.initial_of store ≡ initial_of book
-  pub full : IsFull store
-  pub filters : map con_of kinds ≡ map (λ d. d.con) book.constraints
-  pub numbers : All (λ d. d.number ≤ length book.constraints) book.constraints
-  pub declared : All (λ p. IsDeclared store p.var p.value) proved
+-- what holds of a checker between lines: what was listed is kept, and steps have proved declared pairs
+pub record AreKept (listed : Listed) (proved : List Pair) : Type 0 where
+  pub lists : IsListed listed
+  pub declared : All (λ p. Has (initial_of listed.book) p.var p.value) proved
 
 abbrev pub IsKept : Checker → Type 0
-IsKept c = AreKept c.book c.store c.kinds.items c.proved.items
+IsKept c = AreKept c.listed c.proved.items
 
 -- what every statement that a line says keeps to
 abbrev pub IsSoundStatement : Statement → Type 0

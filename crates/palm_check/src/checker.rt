@@ -1,11 +1,10 @@
-//! What the checker keeps of a certificate: its book, a filter for each constraint, the pairs that its steps proved, and
-//! a store in which all declared values are present.
-ghost use Rattle.std.specs.Prelude.{◌≡◌, ◌<◌, ◌≤◌, Some, length, slice_get, All, IfNone, IfOk, IfSome, OnOk};
+//! What the checker keeps of a certificate: how far it has come, what it lists, and the pairs that its steps proved.
+ghost use Rattle.std.specs.Prelude.{◌≡◌, ◌<◌, ◌≤◌, Some, length, slice_get, All, IfOk, OnOk};
 ghost use Rattle.palm_base.specs.Tells.{Tells};
-ghost use Rattle.palm_book.specs.Book.{AreValues, initial_of};
+ghost use Rattle.palm_book.specs.Book.{AreValues, HasConstraint, HasVariable, initial_of};
 ghost use Rattle.palm_book.specs.declared.book.BookCon.{BookCon as Entry};
 ghost use Rattle.palm_check.specs.Kept.{Hears, IsBeyondAlone, IsKept, IsSoundStatement, Takes, draft_of};
-ghost use Rattle.palm_claim.specs.Draft.{HasConstraint, HasVariable, IsDeclared, IsPair, Leads, MayStand, blank, with_constraint, with_variable};
+ghost use Rattle.palm_claim.specs.Draft.{Leads, MayStand, blank, with_constraint, with_variable};
 ghost use Rattle.palm_claim.specs.Statement.{IsStepNumber};
 ghost use Rattle.palm_claim.specs.Step.{IsReached, pairs_at};
 ghost use Rattle.palm_claim.specs.Verdict.{ending};
@@ -17,14 +16,12 @@ ghost use Rattle.palm_model.specs.Domains.{Has, without};
 ghost use Rattle.palm_model.specs.Support.{LacksSupport};
 ghost use Rattle.palm_read.specs.Name.{IsNameText};
 
-use crate::domains::values_in;
+use crate::reasons::pairs_at;
 use crate::statements::{Reading, may_stand, read_statement};
-use crate::steps::{lacks_support_without, pairs_at, put_back_all, take_out_all};
 use palm_base::{NoMemory, Pair, Value, ValueList, Var};
-use palm_book::{Book, BookCon, MOST_CONSTRAINTS, MOST_VARIABLES, Unresolved};
+use palm_book::{MOST_CONSTRAINTS, MOST_VARIABLES, Unresolved, values_in};
 use palm_claim::{Cause, Claim, Proved, Stage, Statement, Verdict};
-use palm_domain::DomainStore;
-use palm_kind::Kind;
+use palm_listed::Listed;
 use palm_model::Con;
 use palm_read::{DomainText, Name, Shape};
 use std::alloc::Global;
@@ -34,30 +31,8 @@ use std::alloc::Global;
 pub struct Checker {
     alloc: Global,
     stage: Stage,
-    book: Book,
-    kinds: Vec<Kind>,
+    listed: Listed,
     proved: Vec<Pair>,
-    store: DomainStore,
-}
-
-/// Whether a variable has the name.
-fn has_variable(book: &Book, name: &Name) -> bool
-    ensures { Tells result (HasVariable book.now name.now) }
-{
-    match book.variable_named(name) {
-        Some(_) => true,
-        None => false,
-    }
-}
-
-/// Whether a constraint has the name.
-fn has_constraint(book: &Book, name: &Name) -> bool
-    ensures { Tells result (HasConstraint book.now name.now) }
-{
-    match book.constraint_named(name) {
-        Some(_) => true,
-        None => false,
-    }
 }
 
 impl Checker {
@@ -69,10 +44,8 @@ impl Checker {
         Checker {
             alloc,
             stage: Stage::Unopened,
-            book: Book::new(alloc),
-            kinds: Vec::new(alloc),
+            listed: Listed::new(alloc),
             proved: Vec::new(alloc),
-            store: DomainStore::new(alloc),
         }
     }
 
@@ -144,10 +117,10 @@ impl Checker {
         ensures hears { IfOk result (λ cause. Hears (draft_of self.old) (Statement.Variable name domain) cause (draft_of self.new)) }
         ensures kept { OnOk result (IsKept self.new) }
     {
-        if has_variable(&self.book, &name) {
+        if self.listed.book.has_variable(&name) {
             return Ok(Some(Cause::Misdeclared));
         }
-        if is_beyond || self.book.variables() >= MOST_VARIABLES as u32 {
+        if is_beyond || self.listed.book.variables() >= MOST_VARIABLES as u32 {
             return Ok(Some(Cause::Beyond));
         }
         let values = values_in(self.alloc, domain)?;
@@ -155,19 +128,17 @@ impl Checker {
         Ok(None)
     }
 
-    /// Adds a variable to the book and to the store.
+    /// Adds a variable.
     fn add_variable(&mut self, name: Name, values: ValueList) -> Result<(), NoMemory>
         requires kept { IsKept self.old }
         requires text { IsNameText name }
-        requires fresh { HasVariable self.old.book name → ⊥ }
+        requires fresh { HasVariable self.old.listed.book name → ⊥ }
         requires values { AreValues values }
-        requires room { MOST_VARIABLES ≤ length self.old.book.variables → ⊥ }
+        requires room { MOST_VARIABLES ≤ length self.old.listed.book.variables → ⊥ }
         ensures ok { OnOk result (draft_of self.new ≡ with_variable (draft_of self.old) name values) }
         ensures kept { OnOk result (IsKept self.new) }
     {
-        self.store.add_variable(values.as_slice())?;
-        self.book.add_variable(name, values)?;
-        let _ = self.book.variables();
+        self.listed.declare(name, values)?;
         Ok(())
     }
 
@@ -180,57 +151,34 @@ impl Checker {
         ensures hears { IfOk result (λ cause. Hears (draft_of self.old) (Statement.Constraint name shape) cause (draft_of self.new)) }
         ensures kept { OnOk result (IsKept self.new) }
     {
-        if has_constraint(&self.book, &name) {
+        if self.listed.book.has_constraint(&name) {
             return Ok(Some(Cause::Misdeclared));
         }
-        let con = match self.book.resolve(self.alloc, shape) {
+        let con = match self.listed.book.resolve(self.alloc, shape) {
             Ok(con) => con,
             Err(Unresolved::UnknownName) => return Ok(Some(Cause::Misdeclared)),
             Err(Unresolved::NoMemory) => return Err(NoMemory),
         };
-        if is_beyond || self.book.constraints() >= MOST_CONSTRAINTS {
+        if is_beyond || self.listed.book.constraints() >= MOST_CONSTRAINTS {
             return Ok(Some(Cause::Beyond));
         }
         self.add_constraint(name, con)?;
         Ok(None)
     }
 
-    /// Adds a constraint under the next number to the book, and its filter.
+    /// Adds a constraint under the next number.
     fn add_constraint(&mut self, name: Name, con: Con) -> Result<(), NoMemory>
         requires kept { IsKept self.old }
         requires text { IsNameText name }
-        requires fresh { HasConstraint self.old.book name → ⊥ }
-        requires formed { IsWellFormed (length self.old.book.variables) con }
-        requires room { MOST_CONSTRAINTS ≤ length self.old.book.constraints → ⊥ }
+        requires fresh { HasConstraint self.old.listed.book name → ⊥ }
+        requires formed { IsWellFormed (length self.old.listed.book.variables) con }
+        requires room { MOST_CONSTRAINTS ≤ length self.old.listed.book.constraints → ⊥ }
         ensures ok { OnOk result (draft_of self.new ≡ with_constraint (draft_of self.old) name con) }
         ensures kept { OnOk result (IsKept self.new) }
     {
-        let number = self.book.constraints() as u32 + 1;
-        self.kinds.push(Kind::from_con(self.alloc, &con)?)?;
-        self.book.add_constraint(BookCon {
-            number,
-            name,
-            active: true,
-            con,
-        })?;
+        self.listed.list(name, con)?;
         self.stage = Stage::Listing;
-        let _ = self.book.variables();
         Ok(())
-    }
-
-    /// The pair of the variable with the name and of the value, where it was declared.
-    fn declared_pair(&self, name: &Name, value: Value) -> Option<Pair>
-        requires { IsKept self.now }
-        ensures pair { IfSome result (λ pair. IsPair self.now.book.variables name.now value pair) }
-        ensures declared { IfSome result (λ pair. Has (initial_of self.now.book) pair.var pair.value) }
-        ensures none { IfNone result (IsDeclared self.now.book.variables name.now value → ⊥) }
-    {
-        let var = self.book.variable_named(name)?;
-        if self.store.declared(Pair { var, value }) {
-            Some(Pair { var, value })
-        } else {
-            None
-        }
     }
 
     /// Takes a step.
@@ -247,10 +195,10 @@ impl Checker {
         ensures hears { IfOk result (λ cause. Hears (draft_of self.old) (Statement.Step name.now value by.now reasons.now) cause (draft_of self.new)) }
         ensures kept { OnOk result (IsKept self.new) }
     {
-        let Some(pair) = self.declared_pair(name, value) else {
+        let Some(pair) = self.listed.declared_pair(name, value) else {
             return Ok(Some(Cause::Misdeclared));
         };
-        let Some(place) = self.book.constraint_named(by) else {
+        let Some(place) = self.listed.book.constraint_named(by) else {
             return Ok(Some(Cause::Misdeclared));
         };
         if !self.are_proved(reasons) {
@@ -276,16 +224,16 @@ impl Checker {
     /// reasons.
     fn is_right(&mut self, pair: &Pair, place: usize, reasons: &[u32]) -> Result<bool, NoMemory>
         requires kept { IsKept self.old }
-        requires place { place < length self.old.book.constraints }
-        requires declared { Has (initial_of self.old.book) pair.now.var pair.now.value }
+        requires place { place < length self.old.listed.book.constraints }
+        requires declared { Has (initial_of self.old.listed.book) pair.now.var pair.now.value }
         requires reasons { All (λ k. (1 ≤ k) × (k ≤ length self.old.proved.items)) reasons.now }
-        ensures tells { IfOk result (λ is. (c : Entry) → slice_get self.old.book.constraints place ≡ Some c
-            → Tells is (LacksSupport (without (initial_of self.old.book) (pairs_at self.old.proved.items reasons.now)) c.con pair.now.var pair.now.value)) }
+        ensures tells { IfOk result (λ is. (c : Entry) → slice_get self.old.listed.book.constraints place ≡ Some c
+            → Tells is (LacksSupport (without (initial_of self.old.listed.book) (pairs_at self.old.proved.items reasons.now)) c.con pair.now.var pair.now.value)) }
         ensures same { draft_of self.new ≡ draft_of self.old }
         ensures kept { IsKept self.new }
     {
         let pairs = pairs_at(self.alloc, &self.proved, reasons)?;
-        Ok(lacks_support_without(&mut self.store, &self.kinds[place], pair, &pairs))
+        Ok(self.listed.lacks_support(pair, place, &pairs))
     }
 
     /// Takes the claim that a value is gone.
@@ -295,7 +243,7 @@ impl Checker {
         ensures hears { Hears (draft_of self.old) (Statement.ValueClaim name.now value) result (draft_of self.new) }
         ensures kept { IsKept self.new }
     {
-        let Some(pair) = self.declared_pair(name, value) else {
+        let Some(pair) = self.listed.declared_pair(name, value) else {
             return Some(Cause::Misdeclared);
         };
         if !self.is_gone(&pair) {
@@ -312,7 +260,7 @@ impl Checker {
         ensures hears { Hears (draft_of self.old) (Statement.ConflictClaim name.now) result (draft_of self.new) }
         ensures kept { IsKept self.new }
     {
-        let Some(var) = self.book.variable_named(name) else {
+        let Some(var) = self.listed.book.variable_named(name) else {
             return Some(Cause::Misdeclared);
         };
         if !self.is_empty(var) {
@@ -325,30 +273,23 @@ impl Checker {
     /// Whether a step proved the pair.
     fn is_gone(&mut self, pair: &Pair) -> bool
         requires kept { IsKept self.old }
-        requires declared { Has (initial_of self.old.book) pair.now.var pair.now.value }
-        ensures tells { Tells result (IsReached self.old.book self.old.proved.items (Claim.Gone pair.now)) }
+        requires declared { Has (initial_of self.old.listed.book) pair.now.var pair.now.value }
+        ensures tells { Tells result (IsReached self.old.listed.book self.old.proved.items (Claim.Gone pair.now)) }
         ensures same { draft_of self.new ≡ draft_of self.old }
         ensures kept { IsKept self.new }
     {
-        take_out_all(&mut self.store, &self.proved);
-        let is_gone = !self.store.contains(*pair);
-        put_back_all(&mut self.store, &self.proved);
-        is_gone
+        self.listed.is_gone(pair, &self.proved)
     }
 
     /// Whether steps proved each value of the variable.
     fn is_empty(&mut self, var: Var) -> bool
         requires kept { IsKept self.old }
-        requires declared { var < length self.old.book.variables }
-        ensures tells { Tells result (IsReached self.old.book self.old.proved.items (Claim.Conflict var)) }
+        requires declared { var < length self.old.listed.book.variables }
+        ensures tells { Tells result (IsReached self.old.listed.book self.old.proved.items (Claim.Conflict var)) }
         ensures same { draft_of self.new ≡ draft_of self.old }
         ensures kept { IsKept self.new }
     {
-        let _ = self.store.variables();
-        take_out_all(&mut self.store, &self.proved);
-        let is_empty = self.store.count(var) == 0;
-        put_back_all(&mut self.store, &self.proved);
-        is_empty
+        self.listed.is_empty(var, &self.proved)
     }
 
     /// Takes the end.
@@ -366,11 +307,14 @@ impl Checker {
 
     /// The verdict where no line is left, and a next one would have this number.
     pub fn ending(self, line: u64) -> Verdict
-        ensures { result ≡ ending self.stage self.book line }
+        ensures { result ≡ ending self.stage self.listed.book line }
     {
-        let Checker { stage, book, .. } = self;
+        let Checker { stage, listed, .. } = self;
         match stage {
-            Stage::Closed(claim) => Verdict::Accepted(Proved { claim, book }),
+            Stage::Closed(claim) => Verdict::Accepted(Proved {
+                claim,
+                book: listed.book,
+            }),
             _ => Verdict::Refused {
                 line,
                 cause: Cause::NotReached,

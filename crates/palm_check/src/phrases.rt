@@ -1,28 +1,44 @@
 //! Reading the forms that only certificates have.
 ghost use Rattle.std.specs.Prelude.{◌≡◌, true, false, IfNone, IfSome, option_map};
 ghost use Rattle.palm_base.specs.Numbers.{AreDigits, digits_number};
-ghost use Rattle.palm_claim.specs.Reader.{claim_at, header_at, is_step_number, is_value, next_number, phrase_at, phrase_of, reasons_at, step_at, value_at};
+ghost use Rattle.palm_claim.specs.Reader.{begins_phrase, claim_at, header_at, is_lead, is_step_number, is_value, next_number, phrase_at, phrase_of, reasons_at, step_at, value_at};
 ghost use Rattle.palm_read.specs.Linear.{signed};
-ghost use Rattle.palm_read.specs.Reader.Held.{Gives, GivesAll, Passes};
+ghost use Rattle.palm_read.specs.Reader.Held.{Gives, GivesAll};
 ghost use Rattle.palm_read.specs.Reader.Lists.{many_at};
-ghost use Rattle.palm_read.specs.Reader.Steps.{behind, name_at};
-ghost use Rattle.palm_read.specs.Token.{tokens_of};
 
-use crate::words::Words;
 use palm_base::{Value, read_int};
 use palm_claim::{Statement, StepList};
 use palm_model::GREATEST_VALUE;
-use palm_read::{LineError, Name, TokenKind};
+use palm_read::{Cursor, LineError, Name, TokenKind};
 use std::alloc::Global;
 
-/// What the tokens of a line say by such a form.
-#[tactic(auto, unfolding(palm_claim::specs::Reader::phrase_of, palm_read::specs::Reader::Steps::and_then, palm_read::specs::Reader::Steps::choose))]
-pub fn read_phrase(alloc: Global, bytes: &[u8]) -> Result<Statement, LineError>
-    ensures { GivesAll (λ statement. statement) result (phrase_of (tokens_of bytes.now)) }
+/// Whether the token in front is the first word of such a form.
+#[tactic(auto, unfolding(palm_claim::specs::Reader::begins_phrase))]
+pub fn begins_phrase(cursor: &Cursor<'_>) -> bool
+    ensures { result ≡ begins_phrase cursor.now }
 {
-    let mut words = Words::new(bytes);
-    let statement = phrase(&mut words, alloc)?;
-    if !words.is_at_end() {
+    match cursor.text(TokenKind::Word) {
+        Some(word) => is_lead(word),
+        None => false,
+    }
+}
+
+fn is_lead(word: &[u8]) -> bool
+    ensures { result ≡ is_lead word.now }
+{
+    word == b"step".as_slice()
+        || word == b"claim".as_slice()
+        || word == b"end".as_slice()
+        || word == b"palm".as_slice()
+}
+
+/// What all tokens say by such a form.
+#[tactic(auto, unfolding(palm_claim::specs::Reader::phrase_of, palm_read::specs::Reader::Steps::and_then, palm_read::specs::Reader::Steps::choose))]
+pub fn read_phrase(alloc: Global, cursor: &mut Cursor<'_>) -> Result<Statement, LineError>
+    ensures { GivesAll (λ statement. statement) result (phrase_of cursor.old) }
+{
+    let statement = phrase(cursor, alloc)?;
+    if !cursor.is_at_end() {
         return Err(LineError::Form);
     }
     Ok(statement)
@@ -30,40 +46,42 @@ pub fn read_phrase(alloc: Global, bytes: &[u8]) -> Result<Statement, LineError>
 
 /// Reads a form by its first word.
 #[tactic(auto, unfolding(palm_claim::specs::Reader::phrase_at, palm_read::specs::Reader::Steps::when))]
-fn phrase(words: &mut Words<'_>, alloc: Global) -> Result<Statement, LineError>
-    ensures { Gives (λ statement. statement) result words.new (phrase_at words.old) }
+fn phrase(cursor: &mut Cursor<'_>, alloc: Global) -> Result<Statement, LineError>
+    ensures { Gives (λ statement. statement) result cursor.new (phrase_at cursor.old) }
 {
-    if words.takes(TokenKind::Word, b"step") {
-        step(words, alloc)
-    } else if words.takes(TokenKind::Word, b"claim") {
-        claim(words, alloc)
-    } else if words.takes(TokenKind::Word, b"end") {
+    if cursor.takes_word(b"step") {
+        step(cursor, alloc)
+    } else if cursor.takes_word(b"claim") {
+        claim(cursor, alloc)
+    } else if cursor.takes_word(b"end") {
         Ok(Statement::End)
     } else {
-        header(words)
+        header(cursor)
     }
 }
 
 #[tactic(auto, unfolding(palm_claim::specs::Reader::header_at, palm_read::specs::Reader::Steps::and_then))]
-fn header(words: &mut Words<'_>) -> Result<Statement, LineError>
-    ensures { Gives (λ statement. statement) result words.new (header_at words.old) }
+fn header(cursor: &mut Cursor<'_>) -> Result<Statement, LineError>
+    ensures { Gives (λ statement. statement) result cursor.new (header_at cursor.old) }
 {
-    pass(words, TokenKind::Word, b"palm")?;
-    pass(words, TokenKind::Sign, b"-")?;
-    pass(words, TokenKind::Word, b"cert")?;
-    pass(words, TokenKind::Digits, b"1")?;
+    cursor.keyword(b"palm")?;
+    cursor.sign(b"-")?;
+    cursor.keyword(b"cert")?;
+    if !cursor.takes(TokenKind::Digits, b"1") {
+        return Err(LineError::Form);
+    }
     Ok(Statement::Header)
 }
 
 #[tactic(auto, unfolding(palm_claim::specs::Reader::step_at, palm_read::specs::Reader::Steps::and_then))]
-fn step(words: &mut Words<'_>, alloc: Global) -> Result<Statement, LineError>
-    ensures { Gives (λ statement. statement) result words.new (step_at words.old) }
+fn step(cursor: &mut Cursor<'_>, alloc: Global) -> Result<Statement, LineError>
+    ensures { Gives (λ statement. statement) result cursor.new (step_at cursor.old) }
 {
-    let name = name_of(words, alloc)?;
-    let value = value(words)?;
-    pass(words, TokenKind::Word, b"by")?;
-    let by = name_of(words, alloc)?;
-    let reasons = reasons(words, alloc)?;
+    let name = cursor.owned_name(alloc)?;
+    let value = value(cursor)?;
+    cursor.keyword(b"by")?;
+    let by = cursor.owned_name(alloc)?;
+    let reasons = reasons(cursor, alloc)?;
     Ok(Statement::Step {
         name,
         value,
@@ -74,12 +92,12 @@ fn step(words: &mut Words<'_>, alloc: Global) -> Result<Statement, LineError>
 
 /// Reads `conflict` and a name, or a name and a value.
 #[tactic(auto, unfolding(palm_claim::specs::Reader::claim_at, palm_read::specs::Reader::Steps::and_then, palm_read::specs::Reader::Steps::when, palm_read::specs::Reader::Steps::choose))]
-fn claim(words: &mut Words<'_>, alloc: Global) -> Result<Statement, LineError>
-    ensures { Gives (λ statement. statement) result words.new (claim_at words.old) }
+fn claim(cursor: &mut Cursor<'_>, alloc: Global) -> Result<Statement, LineError>
+    ensures { Gives (λ statement. statement) result cursor.new (claim_at cursor.old) }
 {
-    let first = name_of(words, alloc)?;
-    let Some(second) = words.name() else {
-        let value = value(words)?;
+    let first = cursor.owned_name(alloc)?;
+    let Some(second) = cursor.name() else {
+        let value = value(cursor)?;
         return Ok(Statement::ValueClaim { name: first, value });
     };
     if first.as_slice() != b"conflict".as_slice() {
@@ -91,13 +109,13 @@ fn claim(words: &mut Words<'_>, alloc: Global) -> Result<Statement, LineError>
 
 /// Reads `from` and numbers of steps, if `from` stands in front.
 #[tactic(auto, unfolding(palm_claim::specs::Reader::reasons_at, palm_claim::specs::Reader::numbers_at, palm_read::specs::Reader::Steps::and_then, palm_read::specs::Reader::Steps::when, palm_read::specs::Reader::Steps::choose))]
-fn reasons(words: &mut Words<'_>, alloc: Global) -> Result<StepList, LineError>
-    ensures { Gives (λ numbers. numbers) result words.new (reasons_at words.old) }
+fn reasons(cursor: &mut Cursor<'_>, alloc: Global) -> Result<StepList, LineError>
+    ensures { Gives (λ numbers. numbers) result cursor.new (reasons_at cursor.old) }
 {
-    if !words.takes(TokenKind::Word, b"from") {
+    if !cursor.takes_word(b"from") {
         return Ok(StepList::new(alloc));
     }
-    let numbers = numbers(words, alloc)?;
+    let numbers = numbers(cursor, alloc)?;
     if numbers.len() == 0 {
         return Err(LineError::Form);
     }
@@ -105,11 +123,11 @@ fn reasons(words: &mut Words<'_>, alloc: Global) -> Result<StepList, LineError>
 }
 
 /// Reads numbers of steps, as long as digits stand in front.
-fn numbers(words: &mut Words<'_>, alloc: Global) -> Result<StepList, LineError>
-    ensures { Gives (λ numbers. numbers) result words.new (many_at next_number words.old) }
+fn numbers(cursor: &mut Cursor<'_>, alloc: Global) -> Result<StepList, LineError>
+    ensures { Gives (λ numbers. numbers) result cursor.new (many_at next_number cursor.old) }
 {
     let mut numbers = StepList::new(alloc);
-    while let Some(number) = next_number(words)? {
+    while let Some(number) = next_number(cursor)? {
         numbers.push(number)?;
     }
     Ok(numbers)
@@ -117,10 +135,10 @@ fn numbers(words: &mut Words<'_>, alloc: Global) -> Result<StepList, LineError>
 
 /// Reads the number of a step, if digits stand in front.
 #[tactic(auto, unfolding(palm_claim::specs::Reader::next_number, palm_read::specs::Reader::Steps::when, palm_read::specs::Reader::Steps::choose))]
-fn next_number(words: &mut Words<'_>) -> Result<Option<u32>, LineError>
-    ensures { Gives (option_map (λ number. number)) result words.new (next_number words.old) }
+fn next_number(cursor: &mut Cursor<'_>) -> Result<Option<u32>, LineError>
+    ensures { Gives (option_map (λ number. number)) result cursor.new (next_number cursor.old) }
 {
-    let Some(digits) = words.digits() else {
+    let Some(digits) = cursor.digits() else {
         return Ok(None);
     };
     match step_number(digits) {
@@ -145,11 +163,11 @@ fn step_number(digits: &[u8]) -> Option<u32>
 
 /// Reads a value of the language.
 #[tactic(auto, unfolding(palm_claim::specs::Reader::value_at, palm_read::specs::Reader::Steps::integer_at, palm_read::specs::Reader::Steps::natural_at, palm_read::specs::Reader::Steps::and_then, palm_read::specs::Reader::Steps::when, palm_read::specs::Reader::Steps::choose))]
-fn value(words: &mut Words<'_>) -> Result<Value, LineError>
-    ensures { Gives (λ value. value) result words.new (value_at words.old) }
+fn value(cursor: &mut Cursor<'_>) -> Result<Value, LineError>
+    ensures { Gives (λ value. value) result cursor.new (value_at cursor.old) }
 {
-    let is_negative = words.takes(TokenKind::Sign, b"-");
-    let Some(digits) = words.digits() else {
+    let is_negative = cursor.takes_sign(b"-");
+    let Some(digits) = cursor.digits() else {
         return Err(LineError::Form);
     };
     match value_of(is_negative, digits) {
@@ -171,25 +189,4 @@ fn value_of(is_negative: bool, digits: &[u8]) -> Option<Value>
     }
     let size = number as i32;
     Some(Value(if is_negative { -size } else { size }))
-}
-
-/// Reads a name that has to stand in front.
-fn name_of(words: &mut Words<'_>, alloc: Global) -> Result<Name, LineError>
-    ensures { Gives (λ name. name) result words.new (name_at words.old) }
-{
-    match words.name() {
-        Some(text) => Ok(Name::from_slice(alloc, text)?),
-        None => Err(LineError::Form),
-    }
-}
-
-/// Takes a token that has to stand in front.
-fn pass(words: &mut Words<'_>, kind: TokenKind, text: &[u8]) -> Result<(), LineError>
-    ensures { Passes result words.new (behind kind text.now words.old) }
-{
-    if words.takes(kind, text) {
-        Ok(())
-    } else {
-        Err(LineError::Form)
-    }
 }

@@ -1,17 +1,17 @@
 //! What lines say, and where they may stand.
-ghost use Rattle.std.specs.Prelude.{◌≡◌, IfOk, IfSome, option_map};
+ghost use Rattle.std.specs.Prelude.{◌≡◌, true, false, IfOk, IfSome, option_map};
 ghost use Rattle.palm_base.specs.Tells.{Tells};
 ghost use Rattle.palm_check.specs.Kept.{IsBeyondAlone, SaysOrNot};
 ghost use Rattle.palm_claim.specs.Draft.{IsOpen, MayStand};
-ghost use Rattle.palm_claim.specs.Reader.{of_line};
+ghost use Rattle.palm_claim.specs.Reader.{begins_phrase, of_line};
 ghost use Rattle.palm_read.specs.Limits.{IsBeyond};
 ghost use Rattle.palm_read.specs.Reading.{IsRefusedBy};
-ghost use Rattle.palm_read.specs.declared.parse.LineError.TheVariants as LineError;
+ghost use Rattle.palm_read.specs.Token.{tokens_of};
 
-use crate::phrases::read_phrase;
+use crate::phrases::{begins_phrase, read_phrase};
 use palm_base::NoMemory;
 use palm_claim::{Stage, Statement};
-use palm_read::{Line, LineError, beyond, parse_line};
+use palm_read::{Cursor, Line, LineError, MOST_LINE_BYTES, beyond, parse_tokens};
 use std::alloc::Global;
 
 /// What a line says, and whether it breaks a limit by itself.
@@ -21,30 +21,33 @@ pub struct Reading {
     pub is_beyond: bool,
 }
 
-/// What the line says, or nothing.
+/// What the line says, or nothing. Its first word decides by which forms its tokens are read.
 pub fn read_statement(alloc: Global, bytes: &[u8]) -> Result<Option<Reading>, NoMemory>
     ensures says { IfOk result (SaysOrNot bytes.now) }
     ensures beyond { IfOk result (λ reading. IfSome reading (λ r. Tells r.is_beyond (IsBeyondAlone r.statement))) }
 {
-    match parse_line(alloc, bytes) {
+    let mut cursor = Cursor::new(bytes);
+    if begins_phrase(&cursor) {
+        return of_phrase(alloc, bytes, &mut cursor);
+    }
+    match parse_tokens(alloc, bytes, &mut cursor) {
         Ok(line) => Ok(of_line(line)),
-        Err(error) => of_refused(alloc, bytes, error),
+        Err(error) => of_refused(bytes, error),
     }
 }
 
-/// What a line says that is refused in a session.
-fn of_refused(alloc: Global, bytes: &[u8], error: LineError) -> Result<Option<Reading>, NoMemory>
-    requires { IsRefusedBy bytes.now error }
+/// What a line says that is refused in a session and has no form that only certificates have: nothing, unless memory ran
+/// out.
+fn of_refused(bytes: &[u8], error: LineError) -> Result<Option<Reading>, NoMemory>
+    requires begins { begins_phrase (tokens_of bytes.now) ≡ false }
+    requires refused { IsRefusedBy bytes.now error }
     ensures says { IfOk result (SaysOrNot bytes.now) }
     ensures beyond { IfOk result (λ reading. IfSome reading (λ r. Tells r.is_beyond (IsBeyondAlone r.statement))) }
 {
+    let _ = bytes;
     match error {
-        LineError::Form => of_phrase(alloc, bytes),
         LineError::NoMemory => Err(NoMemory),
-        LineError::Bytes => Ok(None),
-        LineError::Range => Ok(None),
-        LineError::Empty => Ok(None),
-        LineError::Repeated => Ok(None),
+        _ => Ok(None),
     }
 }
 
@@ -74,13 +77,21 @@ fn statement_of(line: Line) -> Option<Statement>
     }
 }
 
-/// What a line says that fits no form of a session.
-fn of_phrase(alloc: Global, bytes: &[u8]) -> Result<Option<Reading>, NoMemory>
-    requires { IsRefusedBy bytes.now LineError.Form }
+/// What a line says that begins as a form that only certificates have.
+fn of_phrase(
+    alloc: Global,
+    bytes: &[u8],
+    cursor: &mut Cursor<'_>,
+) -> Result<Option<Reading>, NoMemory>
+    requires all { cursor.old ≡ tokens_of bytes.now }
+    requires begins { begins_phrase cursor.old ≡ true }
     ensures says { IfOk result (SaysOrNot bytes.now) }
     ensures beyond { IfOk result (λ reading. IfSome reading (λ r. Tells r.is_beyond (IsBeyondAlone r.statement))) }
 {
-    match read_phrase(alloc, bytes) {
+    if bytes.len() > MOST_LINE_BYTES {
+        return Ok(None);
+    }
+    match read_phrase(alloc, cursor) {
         Ok(statement) => Ok(Some(Reading {
             statement,
             is_beyond: false,

@@ -4,9 +4,9 @@ ghost use Rattle.palm_claim.specs.Claim.{IsOverItsBook};
 ghost use Rattle.palm_claim.specs.Verdict.{IsVerdict};
 
 use crate::checker::Checker;
-use crate::lines::{next_line, without_return};
 use palm_base::NoMemory;
 use palm_claim::Verdict;
+use palm_read::next_line;
 use std::alloc::Global;
 
 /// The verdict on a text: that it is a certificate and what it proves, or its first line that has a cause. A text may be
@@ -16,14 +16,17 @@ pub fn check(alloc: Global, bytes: &[u8]) -> Result<Verdict, NoMemory>
     ensures named { IfOk result IsOverItsBook }
 {
     let mut checker = Checker::new(alloc);
-    let mut line = 1u64;
+    let mut number = 1u64;
     let mut from = 0;
-    while let Some((end, next)) = next_line(bytes, from) {
-        if let Some(cause) = checker.take(without_return(&bytes[from..end]))? {
-            return Ok(Verdict::Refused { line, cause });
+    while let Some((line, next)) = next_line(bytes, from) {
+        if let Some(cause) = checker.take(line)? {
+            return Ok(Verdict::Refused {
+                line: number,
+                cause,
+            });
         }
-        line += 1;
+        number += 1;
         from = next;
     }
-    Ok(checker.ending(line))
+    Ok(checker.ending(number))
 }

@@ -1,12 +1,10 @@
 -- Every text has a verdict: whatever is asked of a line is known.
-use Rattle.std.proofs.Common.{◌≡◌, ℕ, ◌+◌, ◌<◌, ◌≤◌, ℤ, pos, ◌-ℤ◌, List, [], ◌∷◌, length, get_or, All, Any, Contains, ◌⊎◌, inl, inr, refl, ap, ◌∙◌, subst, arith}
-use Rattle.std.proofs.lemmas.Bool.{cases_lt}
-use Rattle.std.proofs.lemmas.Int.{ints, by_lt_z}
+use Rattle.std.proofs.Common.{◌≡◌, ℕ, ◌+◌, ◌<◌, ℤ, List, [], ◌∷◌, length, get_or, All, Any, Contains, ◌⊎◌, inl, inr, refl, ap, ◌∙◌, subst}
 use Rattle.std.proofs.lemmas.List.{get_or_default}
 use Rattle.palm_base.specs.declared.terms.Pair.{Pair}
 use Rattle.palm_base.proofs.cited.Members.{Known, all_members, any_known, int_known, known_both, known_like, known_not, list_known, member_known, nat_known}
-use Rattle.palm_book.specs.Book.{Contents, Entry, initial_of}
-use Rattle.palm_book.specs.Named.{IsUnknownName}
+use Rattle.palm_book.specs.Book.{Contents, Entry, HasConstraint, HasVariable, initial_of}
+use Rattle.palm_book.specs.Named.{IsDeclared, IsPair, IsUnknownName, IsVariable}
 use Rattle.palm_book.specs.declared.book.BookCon.{BookCon}
 use Rattle.palm_book.proofs.cited.Any.{any_member}
 use Rattle.palm_model.specs.Domains.{Domains, values_of, without}
@@ -15,14 +13,10 @@ use Rattle.palm_model.specs.Support.{HasSupport, LacksSupport}
 use Rattle.palm_model.specs.declared.constraint.Con.{Con}
 use Rattle.palm_model.specs.declared.part.Part.{Part}
 use Rattle.palm_model.proofs.cited.Trials.{support_known}
-use Rattle.palm_read.specs.Domain.{IsLarge, values_in}
-use Rattle.palm_read.specs.Limits.{HasManyRows, names_of}
-use Rattle.palm_read.specs.declared.line.DomainText.{DomainText}
-use Rattle.palm_read.specs.declared.line.DomainText.TheVariants.{Range, Set}
-use Rattle.palm_read.specs.declared.line.Shape.{Shape}
-use Rattle.palm_read.specs.declared.line.Shape.TheVariants.{CompareVar, Table, Element}
-use Rattle.palm_claim.specs.Draft.{Draft, HasConstraint, HasVariable, IsDeclared, IsOpen, IsPair, IsVariable, Leads, MayStand, at_stage, blank, with_constraint, with_step, with_variable}
-use Rattle.palm_claim.specs.Lines.{lines_of}
+use Rattle.palm_read.proofs.cited.Cutting.{has_lines}
+use Rattle.palm_read.specs.Domain.{values_in}
+use Rattle.palm_read.specs.Limits.{names_of}
+use Rattle.palm_claim.specs.Draft.{Draft, IsOpen, Leads, MayStand, at_stage, blank, with_constraint, with_step, with_variable}
 use Rattle.palm_claim.specs.Step.{IsReached, IsRight, pairs_at}
 use Rattle.palm_claim.specs.Verdict.{HasUnproved, IsBeyondLimits, IsFirst, IsMisdeclared, IsNone, IsNotReached, IsNotRight, IsRefusedFor, IsVerdict, Judges, Meets, Passes, ending, in_order}
 use Rattle.palm_claim.specs.declared.statement.Stage.{Stage}
@@ -35,36 +29,17 @@ use Rattle.palm_claim.specs.declared.verdict.Cause.{Cause}
 use Rattle.palm_claim.specs.declared.verdict.Cause.TheVariants.{Malformed, Misdeclared, Beyond, Unproved, NotRight, NotReached}
 use Rattle.palm_claim.specs.declared.verdict.Verdict.{Verdict}
 use Rattle.palm_claim.specs.declared.verdict.Verdict.TheVariants.{Refused}
-use Rattle.palm_claim.proofs.Once.{constraint_with, variable_with}
+use Rattle.palm_book.proofs.cited.Naming.{constraint_with, name_known, some_known, variable_with}
+use Rattle.palm_read.proofs.cited.KnownLimits.{above_known, beyond_known, known_either, most_known}
+use Rattle.palm_read.specs.declared.line.Line.TheVariants.{Var, Add}
 use Rattle.palm_claim.proofs.cited.Saying.{each_said}
-use Rattle.palm_claim.proofs.cited.Unique.{Apart, apart_none, leads_apart, pair_is, variable_is}
+use Rattle.palm_book.proofs.cited.Pairs.{Apart, pair_is, variable_is}
+use Rattle.palm_claim.proofs.cited.Unique.{apart_none, leads_apart}
 
 -- ---- what is known in general
 
-known_either : {P Q : Type 0} → Known P → Known Q → Known (P ⊎ Q)
-known_either p q = elim p [
-  | inl a ↦ inl (inl a)
-  | inr n ↦ elim q [ inl b ↦ inl (inr b) | inr m ↦ inr (λ r. elim r [ inl a ↦ n a | inr b ↦ m b ]) ]
-]
-
 known_never : Known ⊥
 known_never = inr (λ h. h)
-
-above_known : (m n : ℕ) → Known (m < n)
-above_known m n = elim (cases_lt m n) [ inl l ↦ inl l | inr g ↦ inr (λ l. absurd (omega (arith, l, g))) ]
-
-most_known : (m n : ℕ) → Known (m ≤ n)
-most_known m n = elim (cases_lt n m) [ inl l ↦ inr (λ g. absurd (omega (arith, l, g))) | inr g ↦ inl g ]
-
--- some member has a known property, or none has
-some_known : {X : Type 0} (P : X → Type 0) (xs : List X) → ((x : X) → Known (P x)) → Known (Any P xs)
-some_known P xs known = elim (any_known P xs (λ x m. known x)) [
-  | inl r ↦ inl (r.1.0, r.0, r.1.1, r.1.2, r.2)
-  | inr none ↦ inr (λ a. none a.1 (a.0, a.2, a.3) a.4)
-]
-
-name_known : (a b : List ℕ) → Known (a ≡ b)
-name_known a b = list_known nat_known a b
 
 pair_known : (p q : Pair) → Known (p ≡ q)
 pair_known p q =
@@ -115,17 +90,17 @@ stand_known (Closed c) End = known_never
 -- ---- declarations
 
 variable_known : (book : Contents) (name : List ℕ) → Known (HasVariable book name)
-variable_known book name = some_known (λ e. e.name ≡ name) book.variables (λ e. name_known e.name name)
+variable_known book name = name_known (λ e. e.name) book.variables name
 
 constraint_known : (book : Contents) (name : List ℕ) → Known (HasConstraint book name)
-constraint_known book name = some_known (λ c. c.name ≡ name) book.constraints (λ c. name_known c.name name)
+constraint_known book name = name_known (λ c. c.name) book.constraints name
 
 declared_known : (variables : List Entry) (name : List ℕ) (value : ℤ) → Known (IsDeclared variables name value)
 declared_known variables name value =
-    some_known (λ e. (e.name ≡ name) × Contains e.values value) variables (λ e. known_both (name_known e.name name) (member_known int_known e.values value))
+    some_known (λ e. (e.name ≡ name) × Contains e.values value) variables (λ e. known_both (list_known nat_known e.name name) (member_known int_known e.values value))
 
 unknown_known : (variables : List Entry) (name : List ℕ) → Known (IsUnknownName variables name)
-unknown_known variables name = known_not (some_known (λ e. e.name ≡ name) variables (λ e. name_known e.name name))
+unknown_known variables name = known_not (name_known (λ e. e.name) variables name)
 
 misdeclared_known : (d : Draft) (s : Statement) → Known (IsMisdeclared d s)
 misdeclared_known d Comment = known_never
@@ -145,25 +120,15 @@ pair_with variables name value a =
 
 -- ---- limits
 
-large_known : (domain : DomainText) → Known (IsLarge domain)
-large_known (Range low high) = by_lt_z (high -ℤ low) (pos 256) (λ l. inr (λ h. absurd (omega (arith, ints, l, h)))) (λ g. inl g)
-large_known (Set values) = above_known 256 (length values)
-
-rows_known : (shape : Shape) → Known (HasManyRows shape)
-rows_known (Table vars rows) = above_known 256 (length rows)
-rows_known (Element outcome index entries) = above_known 256 (length entries)
-rows_known (CompareVar left op right offset) = known_never
-rows_known _ = known_never
-
-beyond_known : (d : Draft) (s : Statement) → Known (IsBeyondLimits d s)
-beyond_known d (Variable name domain) = known_either (large_known domain) (most_known 64 (length d.book.variables))
-beyond_known d (Constraint name shape) = known_either (known_either (above_known 16 (length (names_of shape))) (rows_known shape)) (most_known 256 (length d.book.constraints))
-beyond_known d Comment = known_never
-beyond_known d Header = known_never
-beyond_known d (Step name value by reasons) = known_never
-beyond_known d (ValueClaim name value) = known_never
-beyond_known d (ConflictClaim name) = known_never
-beyond_known d End = known_never
+limits_known : (d : Draft) (s : Statement) → Known (IsBeyondLimits d s)
+limits_known d (Variable name domain) = known_either (beyond_known (Var name domain)) (most_known 64 (length d.book.variables))
+limits_known d (Constraint name shape) = known_either (beyond_known (Add name shape)) (most_known 256 (length d.book.constraints))
+limits_known d Comment = known_never
+limits_known d Header = known_never
+limits_known d (Step name value by reasons) = known_never
+limits_known d (ValueClaim name value) = known_never
+limits_known d (ConflictClaim name) = known_never
+limits_known d End = known_never
 
 -- ---- steps and claims
 
@@ -189,7 +154,7 @@ right_known : (book : Contents) (proved : List Pair) (pair : Pair) (by : List �
 right_known book proved pair by reasons =
     let d : Domains = without (initial_of book) (pairs_at proved reasons) in
     let Owns : BookCon → Type 0 = λ c. (c.name ≡ by) × LacksSupport d c.con pair.var pair.value in
-    elim (any_known Owns book.constraints (λ c m. known_both (name_known c.name by) (lacks_known d c.con pair.var pair.value))) [
+    elim (any_known Owns book.constraints (λ c m. known_both (list_known nat_known c.name by) (lacks_known d c.con pair.var pair.value))) [
       | inl r ↦ inl (record { owner = r.0; listed = r.1; named = r.2.0; lacks = r.2.1 })
       | inr none ↦ inr (λ h. none h.owner h.listed (h.named, h.lacks))
     ]
@@ -221,7 +186,7 @@ asked_of_pair variables name value Wrong apart known = elim (declared_pair varia
 ]
   where
     declared_pair : (variables : List Entry) (name : List ℕ) (value : ℤ) → Known ((pair : Pair) × IsPair variables name value pair)
-    declared_pair variables name value = elim (some_known (λ e. e.name ≡ name) variables (λ e. name_known e.name name)) [
+    declared_pair variables name value = elim (name_known (λ e. e.name) variables name) [
       | inl a ↦ let x = variable_with variables name a in inl (record { var = x.0; value = value }, record { variable = record { declared = x.1; named = x.2 }; gives = refl })
       | inr none ↦ inr (λ q. none (named_variable variables name q.0.var q.1.variable))
     ]
@@ -239,7 +204,7 @@ not_right_known d End apart = known_never
 
 asked_of_variable : (variables : List Entry) (name : List ℕ) (Wrong : ℕ → Type 0) → Apart variables → ((x : ℕ) → Known (Wrong x))
     → Known ((x : ℕ) × IsVariable variables name x × Wrong x)
-asked_of_variable variables name Wrong apart known = elim (some_known (λ e. e.name ≡ name) variables (λ e. name_known e.name name)) [
+asked_of_variable variables name Wrong apart known = elim (name_known (λ e. e.name) variables name) [
   | inl a ↦
       let x = variable_with variables name a in
       let is : IsVariable variables name x.0 = record { declared = x.1; named = x.2 } in
@@ -265,7 +230,7 @@ not_reached_known d End apart = known_never
 meets_known : (d : Draft) (s : Statement) → Apart d.book.variables → (cause : Cause) → Known (Meets d s cause)
 meets_known d s apart Malformed = known_not (stand_known d.stage s)
 meets_known d s apart Misdeclared = misdeclared_known d s
-meets_known d s apart Beyond = beyond_known d s
+meets_known d s apart Beyond = limits_known d s
 meets_known d s apart Unproved = unproved_known d s
 meets_known d s apart NotRight = not_right_known d s apart
 meets_known d s apart NotReached = not_reached_known d s apart
@@ -289,7 +254,7 @@ settled known twice = elim known [ inl h ↦ h | inr n ↦ absurd (twice n) ]
 named_all : (variables : List Entry) (names : List (List ℕ)) → (Any (IsUnknownName variables) names → ⊥) → All (λ name. Any (λ e. e.name ≡ name) variables) names
 named_all variables names none =
     all_members (λ name. Any (λ e. e.name ≡ name) variables) names (λ name m.
-    settled (some_known (λ e. e.name ≡ name) variables (λ e. name_known e.name name)) (λ unknown. none (any_member (IsUnknownName variables) names name m unknown)))
+    settled (name_known (λ e. e.name) variables name) (λ unknown. none (any_member (IsUnknownName variables) names name m unknown)))
 
 claimed_end : (stage : Stage) → ((MayStand stage End → ⊥) → ⊥) → (claim : Claim) × (stage ≡ Claimed claim)
 claimed_end Unopened twice = absurd (twice (λ h. h))
@@ -341,4 +306,7 @@ judged (line ∷ lines) d n apart = elim (line_answered d line apart) [
 ]
 
 pub each_judged : (bytes : List ℕ) → (verdict : Verdict) × IsVerdict bytes verdict
-each_judged bytes = judged (lines_of bytes) blank 1 apart_none
+each_judged bytes =
+    let lines = has_lines bytes in
+    let one = judged lines.0 blank 1 apart_none in
+    (one.0, record { lines = lines.0; are_lines = lines.1; judged = one.1 })

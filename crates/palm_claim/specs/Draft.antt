@@ -1,9 +1,9 @@
 -- What the lines of a certificate have said so far, which lines may follow, and what each adds.
-use Rattle.std.specs.Prelude.{◌≡◌, ℕ, ℤ, ◌+◌, ◌<◌, true, List, [], ◌∷◌, ◌++◌, length, Any, Contains, ⊤}
+use Rattle.std.specs.Prelude.{◌≡◌, ℕ, ℤ, List, [], ◌∷◌, ◌++◌, ⊤}
 use Rattle.palm_base.specs.declared.terms.Pair.{Pair}
-use Rattle.palm_book.specs.Book.{Contents, Entry, name_of}
-use Rattle.palm_book.specs.Named.{Resolves}
-use Rattle.palm_book.specs.declared.book.BookCon.{BookCon}
+use Rattle.palm_book.specs.Book.{Contents, with_listed}
+use Rattle.palm_book.specs.Book as in_book
+use Rattle.palm_book.specs.Named.{IsPair, IsVariable, Resolves}
 use Rattle.palm_model.specs.declared.constraint.Con.{Con}
 use Rattle.palm_read.specs.Domain.{values_in}
 use Rattle.palm_claim.specs.declared.statement.Statement.{Statement}
@@ -45,40 +45,13 @@ MayStand stage (ConflictClaim name) = IsOpen stage
 MayStand (Claimed claim) End = ⊤
 MayStand stage End = ⊥
 
--- ---- names
-
--- the variable has the name
-pub record IsVariable (variables : List Entry) (name : List ℕ) (x : ℕ) : Type 0 where
-  pub declared : x < length variables
-  pub named : name_of variables x ≡ name
-
--- the pair has the value, and its variable has the name
-pub record IsPair (variables : List Entry) (name : List ℕ) (value : ℤ) (pair : Pair) : Type 0 where
-  pub variable : IsVariable variables name pair.var
-  pub gives : pair.value ≡ value
-
--- the variable with the name was declared with the value
-abbrev pub IsDeclared : List Entry → List ℕ → ℤ → Type 0
-IsDeclared variables name value = Any (λ e. (e.name ≡ name) × Contains e.values value) variables
-
--- a variable has the name, or a constraint has
-abbrev pub HasVariable : Contents → List ℕ → Type 0
-HasVariable book name = Any (λ e. e.name ≡ name) book.variables
-
-abbrev pub HasConstraint : Contents → List ℕ → Type 0
-HasConstraint book name = Any (λ c. c.name ≡ name) book.constraints
-
 -- ---- what a line adds
 
 abbrev pub with_variable : Draft → List ℕ → List ℤ → Draft
-with_variable d name values = record d { book = record d.book { variables = d.book.variables ++ record { name = name; values = values } ∷ [] } }
-
--- the listed constraint with the next number, which is active
-abbrev pub listed : Contents → List ℕ → Con → BookCon
-listed book name con = record { number = length book.constraints + 1; name = name; active = true; con = con }
+with_variable d name values = record d { book = in_book.with_variable d.book name values }
 
 abbrev pub with_constraint : Draft → List ℕ → Con → Draft
-with_constraint d name con = record d { stage = Listing; book = record d.book { constraints = d.book.constraints ++ listed d.book name con ∷ [] } }
+with_constraint d name con = record d { stage = Listing; book = with_listed d.book name con }
 
 abbrev pub with_step : Draft → Pair → Draft
 with_step d pair = record d { stage = Proving; proved = d.proved ++ pair ∷ [] }

@@ -1,14 +1,14 @@
 -- Readers of the forms that only certificates have. That they read just these forms is proved of them.
-use Rattle.std.specs.Prelude.{ℕ, ℤ, pos, ◌-ℤ◌, nat_le, Bool, true, false, not, int_lt, ◌&&◌, Option, Some, None, List, [], ◌∷◌, codes}
+use Rattle.std.specs.Prelude.{ℕ, ℤ, pos, ◌-ℤ◌, nat_le, Bool, true, false, not, int_lt, ◌&&◌, ◌||◌, Option, Some, None, List, [], ◌∷◌, codes}
 use Rattle.std.specs.Str.{bytes_eq}
 use Rattle.palm_model.specs.declared.limits.TheConstants.{GREATEST_VALUE}
 use Rattle.palm_read.specs.Piece.{digits_number}
 use Rattle.palm_read.specs.Reader.Lists.{many_at}
-use Rattle.palm_read.specs.Reader.Steps.{Reading, ◌>>=◌, when, choose, is_empty, token_at, behind, keyword_at, mark_at, name_at, integer_at}
+use Rattle.palm_read.specs.Reader.Steps.{Reading, ◌>>=◌, when, choose, is_empty, front_text, token_at, behind, keyword_at, mark_at, name_at, integer_at}
 use Rattle.palm_read.specs.Token.{Lexeme}
 use Rattle.palm_read.specs.declared.line.Line.{Line}
 use Rattle.palm_read.specs.declared.line.Line.TheVariants.{Comment as CommentLine, Var, Add}
-use Rattle.palm_read.specs.declared.tokens.TokenKind.TheVariants.{Digits}
+use Rattle.palm_read.specs.declared.tokens.TokenKind.TheVariants.{Word, Digits}
 use Rattle.palm_claim.specs.declared.statement.Statement.{Statement}
 use Rattle.palm_claim.specs.declared.statement.Statement.TheVariants.{Comment, Header, Variable, Constraint, Step, ValueClaim, ConflictClaim, End}
 
@@ -95,3 +95,17 @@ unfoldable pub phrase_of : List Lexeme → Option Statement
 phrase_of tokens = do
   phrase ← phrase_at tokens
   choose (is_empty phrase.1) (Some phrase.0) None
+
+-- ---- the first word
+
+-- the first words of these forms
+abbrev pub is_lead : List ℕ → Bool
+is_lead w = bytes_eq w (codes "step") || (bytes_eq w (codes "claim") || (bytes_eq w (codes "end") || bytes_eq w (codes "palm")))
+
+abbrev pub is_some_lead : Option (List ℕ) → Bool
+is_some_lead None = false
+is_some_lead (Some w) = is_lead w
+
+-- the token in front is one of them
+unfoldable pub begins_phrase : List Lexeme → Bool
+begins_phrase tokens = is_some_lead (front_text Word tokens)

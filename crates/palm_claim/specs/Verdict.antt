@@ -1,13 +1,13 @@
 -- The verdict on a text: the first line that has a cause, with its first cause, or that it is accepted.
 use Rattle.std.specs.Prelude.{◌≡◌, ℕ, ◌+◌, ◌<◌, ◌≤◌, ◌⊎◌, List, [], ◌∷◌, length, Any, ⊤}
 use Rattle.palm_base.specs.declared.terms.Pair.{Pair}
-use Rattle.palm_book.specs.Book.{Contents}
-use Rattle.palm_book.specs.Named.{IsUnknownName}
+use Rattle.palm_book.specs.Book.{Contents, HasConstraint, HasVariable}
+use Rattle.palm_book.specs.Named.{IsDeclared, IsPair, IsUnknownName, IsVariable}
 use Rattle.palm_book.specs.declared.limits.TheConstants.{MOST_VARIABLES, MOST_CONSTRAINTS}
 use Rattle.palm_read.specs.Limits.{IsBeyond, names_of}
+use Rattle.palm_read.specs.Lines.{AreLines}
 use Rattle.palm_read.specs.declared.line.Line.TheVariants.{Var, Add}
-use Rattle.palm_claim.specs.Draft.{Draft, HasConstraint, HasVariable, IsDeclared, IsPair, IsVariable, Leads, MayStand, blank}
-use Rattle.palm_claim.specs.Lines.{lines_of}
+use Rattle.palm_claim.specs.Draft.{Draft, Leads, MayStand, blank}
 use Rattle.palm_claim.specs.Statement.{Says}
 use Rattle.palm_claim.specs.Step.{IsReached, IsRight}
 use Rattle.palm_claim.specs.declared.statement.Statement.{Statement}
@@ -106,5 +106,7 @@ Judges d n (line ∷ lines) verdict =
     ⊎ ((e : Draft) × Passes d line e × Judges e (n + 1) lines verdict)
 
 -- the verdict on a text
-abbrev pub IsVerdict : List ℕ → Verdict → Type 0
-IsVerdict bytes verdict = Judges blank 1 (lines_of bytes) verdict
+pub record IsVerdict (bytes : List ℕ) (verdict : Verdict) : Type 0 where
+  pub lines : List (List ℕ)
+  pub are_lines : AreLines bytes lines
+  pub judged : Judges blank 1 lines verdict

@@ -3,7 +3,7 @@ use Rattle.std.proofs.Common.{◌≡◌, ℕ, List, [], ◌∷◌, ◌++◌, map
 use Rattle.std.proofs.lemmas.List.Elements.{All-head, All-tail}
 use Rattle.palm_lang.specs.Reply.{ended}
 use Rattle.palm_session.specs.State.{SessionState}
-use Rattle.palm_session.specs.Lines.{HasNoFeed, without_return}
+use Rattle.palm_read.specs.Lines.{HasNoFeed, without_return}
 use Rattle.palm_session.specs.Replies.{GoesOn, Ends}
 use Rattle.palm_session.specs.Feeding.{FeedsOn}
 use Rattle.palm_session.proofs.cited.Keeping.{line_apart}

@@ -14,7 +14,7 @@ use Rattle.palm_read.specs.Reading.{IsRead, a_comment, a_form, line_of}
 use Rattle.palm_read.specs.Token.{Lexeme, tokens_of, lexeme_at}
 use Rattle.palm_read.specs.declared.line.Line.{Line}
 use Rattle.palm_read.specs.declared.line.Line.TheVariants.{Quit}
-use Rattle.palm_session.specs.Lines.{HasNoFeed, without_return}
+use Rattle.palm_read.specs.Lines.{HasNoFeed, without_return}
 use Rattle.palm_session.specs.Objects.{numbered, numbered_from}
 use Rattle.palm_cli.specs.Generator.{queen_name, queen_line, differ_line, diagonal_line, pair_lines, solve_line, retract_line, where_several, posing_lines, easing_lines, generated_lines}
 use Rattle.palm_cli.specs.Solving.{IsInner}

@@ -8,7 +8,7 @@ use Rattle.palm_base.specs.Streams.{SinkState, Consumes, Appended, AppendedFront
 use Rattle.palm_base.proofs.cited.StreamLemmas.{consumes_nothing, consumes_both, appended_nothing, appended_both}
 use Rattle.palm_lang.specs.Reply.{ended}
 use Rattle.palm_session.specs.State.{SessionState, fresh}
-use Rattle.palm_session.specs.Lines.{HasNoFeed, Cuts, AreLines, last_line, without_return}
+use Rattle.palm_read.specs.Lines.{HasNoFeed, Cuts, AreLines, last_line, without_return}
 use Rattle.palm_session.specs.Replies.{Run, AreAnswered, GoesOn, Ends, KeepsOn, all, until}
 use Rattle.palm_session.specs.Feeding.{View, FeedsOn, FeedsEnd, FeedsPart, FinishesAll, FinishesPart}
 use Rattle.palm_session.proofs.cited.FeedLemmas.{feeds_more, feeds_more_end, feeds_more_part, feeds_none, run_append, run_then, map_more, map_append}

@@ -7,15 +7,15 @@ use Rattle.palm_base.proofs.cited.StreamLemmas.{appended_nothing}
 use Rattle.palm_lang.specs.Reply.{ended}
 use Rattle.palm_session.specs.Answers.{Answers}
 use Rattle.palm_session.specs.Feeding.{View, Feeds, KeepsRest, FeedsEnd, FeedsPart}
-use Rattle.palm_session.specs.Lines.{HasNoFeed, without_return}
+use Rattle.palm_read.specs.Lines.{HasNoFeed, without_return}
 use Rattle.palm_session.specs.Replies.{Run, Ends, GoesOn}
 use Rattle.palm_session.specs.State.{SessionState, IsState}
-use Rattle.palm_session.specs.Writing.{HasStopCause}
+use Rattle.palm_lang.specs.Writing.{HasStopCause}
 use Rattle.palm_session.specs.declared.going.Going.{Going}
 use Rattle.palm_session.specs.declared.going.Going.TheVariants.{More, Quit}
 use Rattle.palm_session.specs.declared.limits.TheConstants.{MOST_KEPT_BYTES}
-use Rattle.palm_session.specs.declared.stop.Stop.{Stop}
-use Rattle.palm_session.specs.declared.stop.Stop.TheVariants.{WriteFault, NoMemory}
+use Rattle.palm_lang.specs.declared.stop.WriteStop.{WriteStop as Stop}
+use Rattle.palm_lang.specs.declared.stop.WriteStop.TheVariants.{WriteFault, NoMemory}
 use Rattle.palm_session.proofs.cited.Asked.{run_of}
 use Rattle.palm_session.proofs.cited.FeedLemmas.{run_then}
 use Rattle.palm_session.proofs.cited.Keeping.{line_apart}

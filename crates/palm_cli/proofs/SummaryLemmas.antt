@@ -6,7 +6,7 @@ use Rattle.palm_base.proofs.cited.StreamLemmas.{appended_nothing, appended_both}
 use Rattle.palm_base.specs.Streams.{SinkState, Appended, AppendedFront, Rose}
 use Rattle.palm_lang.specs.Reply.{ended}
 use Rattle.palm_session.specs.Answers.{Answers}
-use Rattle.palm_session.specs.Lines.{without_return}
+use Rattle.palm_read.specs.Lines.{without_return}
 use Rattle.palm_session.specs.Replies.{Run, Replies, ChoosesObject, chooses_guide, chooses_order, all}
 use Rattle.palm_session.specs.State.{SessionState, IsState, fresh}
 use Rattle.palm_session.proofs.cited.FeedLemmas.{run_then}
@@ -22,8 +22,8 @@ use Rattle.palm_cli.specs.Generator.{IsSummary, heading, posing_lines, easing_li
 use Rattle.palm_cli.specs.Solving.{Solves, SolvesPart, SolvesAfter}
 use Rattle.palm_cli.specs.declared.limits.TheConstants.{MOST_QUEENS}
 use Rattle.palm_cli.specs.declared.status.Status.TheVariants.{WriteFault, NoMemory}
-use Rattle.palm_session.specs.declared.stop.Stop.{Stop}
-use Rattle.palm_session.specs.declared.stop.Stop.TheVariants as stop
+use Rattle.palm_lang.specs.declared.stop.WriteStop.{WriteStop as Stop}
+use Rattle.palm_lang.specs.declared.stop.WriteStop.TheVariants as stop
 use Rattle.palm_session.specs.Feeding.{View}
 
 abbrev start : SessionState

@@ -8,11 +8,11 @@ use Rattle.palm_claim.specs.declared.verdict.Verdict.{Verdict}
 use Rattle.palm_claim.specs.declared.verdict.Verdict.TheVariants as verdict
 use Rattle.palm_lang.specs.Reply.{ended}
 use Rattle.palm_session.specs.State.{SessionState, fresh}
-use Rattle.palm_session.specs.Lines.{HasNoFeed, AreLines, without_return}
+use Rattle.palm_read.specs.Lines.{HasNoFeed, AreLines, without_return}
 use Rattle.palm_session.specs.Replies.{Replies, Run as RunLines, Ends, KeepsOn}
 use Rattle.palm_session.specs.Feeding.{FeedsOn}
-use Rattle.palm_session.specs.declared.stop.Stop.{Stop}
-use Rattle.palm_session.specs.declared.stop.Stop.TheVariants as stop
+use Rattle.palm_lang.specs.declared.stop.WriteStop.{WriteStop as Stop}
+use Rattle.palm_lang.specs.declared.stop.WriteStop.TheVariants as stop
 use Rattle.palm_cli.specs.Generator.{IsSummary}
 use Rattle.palm_cli.specs.Verdicts.{verdict_line, verdict_status}
 use Rattle.palm_cli.specs.declared.limits.TheConstants.{MOST_INPUT_BYTES, PIECE}

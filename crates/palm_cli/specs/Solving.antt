@@ -4,11 +4,11 @@ use Rattle.palm_base.specs.Streams.{SinkState, Appended, AppendedFront, Rose}
 use Rattle.palm_lang.specs.Reply.{ended}
 use Rattle.palm_session.specs.Answers.{Answers}
 use Rattle.palm_session.specs.Feeding.{View}
-use Rattle.palm_session.specs.Lines.{HasNoFeed, without_return}
+use Rattle.palm_read.specs.Lines.{HasNoFeed, without_return}
 use Rattle.palm_session.specs.Replies.{Run, GoesOn}
 use Rattle.palm_session.specs.State.{SessionState}
-use Rattle.palm_session.specs.declared.stop.Stop.{Stop}
-use Rattle.palm_session.specs.declared.stop.Stop.TheVariants.{WriteFault, NoMemory}
+use Rattle.palm_lang.specs.declared.stop.WriteStop.{WriteStop as Stop}
+use Rattle.palm_lang.specs.declared.stop.WriteStop.TheVariants.{WriteFault, NoMemory}
 use Rattle.palm_cli.specs.Generator.{solve_line}
 
 -- a line that is one line as it stands, and does not end the session

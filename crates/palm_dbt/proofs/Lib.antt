@@ -1,3 +1,2 @@
-pub mod Breaking
-pub mod Retreating
-pub mod Running
+pub mod Answering
+pub mod Taking

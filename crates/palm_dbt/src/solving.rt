@@ -1,22 +1,19 @@
 //! The whole search.
-ghost use Rattle.std.specs.Prelude.{◌≡◌, ℕ, ◌+◌, ◌-◌, ◌≤◌, [], min, IfOk, OnErr, OnOk, is_some};
-ghost use Rattle.palm_base.specs.declared.limits.TheConstants.{LAST_COUNT};
-ghost use Rattle.palm_events.specs.Along.{IsStill};
+ghost use Rattle.std.specs.Prelude.{◌≡◌, [], IfOk, OnErr, is_some};
 ghost use Rattle.palm_model.specs.State.{IsValid};
+ghost use Rattle.palm_search.specs.Breaking.{BreaksOff, IsCutOff};
 ghost use Rattle.palm_search.specs.Calls.{search_state};
 ghost use Rattle.palm_search.specs.Kept.{HasDecisions, HasOnlyUsers};
+ghost use Rattle.palm_search.specs.Leaves.{Counts, Leaves, Lent};
 ghost use Rattle.palm_search.specs.Search.{SearchRun, Searches};
-ghost use Rattle.palm_dbt.specs.Answers.{IsTrueOf, end_of};
-ghost use Rattle.palm_dbt.specs.Turning.{BreaksOff, IsCutOff};
+ghost use Rattle.palm_dbt.specs.Answers.{IsTrueOf};
 
-use crate::answer::Answer;
-use crate::turns::advance;
 use palm_agenda::Order;
 use palm_base::{NoMemory, Steps};
 use palm_engine::Engine;
 use palm_filter::Filter;
 use palm_guide::Guide;
-use palm_search::Search;
+use palm_search::{Next, Search, SearchEnd, next_of, undo_latest};
 use std::alloc::Global;
 use std::sync::ledger::Ledger;
 
@@ -29,24 +26,26 @@ fn run<F: Filter, G: Guide, O: Order, L: Ledger>(
     order: &mut Option<O>,
     budget: u64,
     steps: &mut Steps<L>,
-) -> Result<Answer, NoMemory>
+) -> Result<SearchEnd, NoMemory>
     requires fresh { search.old ≡ record { decisions = []; journal = [] } }
     requires users { HasOnlyUsers engine.old.state }
-    ensures ok { IfOk result (λ answer. SearchRun (is_some guide.old) (is_some order.old) budget engine.old.state search.new.journal (end_of answer) (search_state engine.new.state search.new)) }
+    ensures ok { IfOk result (λ answer. SearchRun (is_some guide.old) (is_some order.old) budget engine.old.state search.new.journal answer (search_state engine.new.state search.new)) }
     ensures err { OnErr result (IsCutOff (is_some guide.old) (is_some order.old) budget engine.old.state search.new.journal engine.new.state) }
     ensures decisions { HasDecisions (search_state engine.new.state search.new) }
-    ensures later { steps.old ≤ steps.new }
-    ensures checks { engine.new.checks ≡ min (engine.old.checks + (steps.new - steps.old)) LAST_COUNT }
-    ensures guide { is_some guide.new ≡ is_some guide.old }
-    ensures order { is_some order.new ≡ is_some order.old }
+    ensures counts { Counts engine.old engine.new steps.old steps.new }
+    ensures lent { Lent guide.old guide.new order.old order.new }
     ensures before { IsValid engine.old.state }
 {
     // What holds of every engine is known once its store is read.
     let _store = engine.store();
     engine.settle(order, None, steps)?;
     loop {
-        if let Some(answer) = advance(alloc, engine, search, guide, budget)? {
-            return Ok(answer);
+        match next_of(alloc, engine, search, budget)? {
+            Next::Ended(end) => return Ok(end),
+            Next::Decide => {
+                search.decide(engine, guide)?;
+            }
+            Next::Undo(conflict) => undo_latest(alloc, engine, search, guide, &conflict)?,
         }
         engine.settle(order, None, steps)?;
     }
@@ -65,26 +64,19 @@ pub fn solve<F: Filter, G: Guide, O: Order, L: Ledger>(
     order: &mut Option<O>,
     budget: u64,
     steps: &mut Steps<L>,
-) -> Result<Answer, NoMemory>
+) -> Result<SearchEnd, NoMemory>
     requires fresh { search.old ≡ record { decisions = []; journal = [] } }
     requires users { HasOnlyUsers engine.old.state }
-    ensures ok { IfOk result (λ answer. Searches (is_some guide.old) (is_some order.old) budget engine.old.state search.new.journal (end_of answer) engine.new.state) }
+    ensures ok { IfOk result (λ answer. Searches (is_some guide.old) (is_some order.old) budget engine.old.state search.new.journal answer engine.new.state) }
     ensures holds { IfOk result (IsTrueOf engine.old.state budget) }
     ensures err { OnErr result (BreaksOff (is_some guide.old) (is_some order.old) budget engine.old.state search.new.journal engine.new.state) }
-    ensures active { engine.new.state.active ≡ engine.old.state.active }
-    ensures initial { engine.new.state.initial ≡ engine.old.state.initial }
-    ensures log { IsStill engine.old.state → engine.new.state.log ≡ engine.old.state.log }
-    ensures still { OnOk result (IsStill engine.new.state) }
-    ensures decisions { search.new.decisions ≡ [] }
-    ensures later { steps.old ≤ steps.new }
-    ensures checks { engine.new.checks ≡ min (engine.old.checks + (steps.new - steps.old)) LAST_COUNT }
-    ensures guide { is_some guide.new ≡ is_some guide.old }
-    ensures order { is_some order.new ≡ is_some order.old }
-    ensures valid { IsValid engine.new.state }
+    ensures leaves { Leaves engine.old.state engine.new.state search.new result }
+    ensures counts { Counts engine.old engine.new steps.old steps.new }
+    ensures lent { Lent guide.old guide.new order.old order.new }
 {
-    let answer = run(alloc, engine, search, guide, order, budget, steps);
+    let end = run(alloc, engine, search, guide, order, budget, steps);
     search.close(engine);
-    let answer = answer?;
+    let end = end?;
     engine.settle(order, None, steps)?;
-    Ok(answer)
+    Ok(end)
 }

@@ -1,2 +1,3 @@
+pub mod cited
 pub mod IntervalLemmas
 pub mod PrintLemmas

@@ -8,6 +8,7 @@ use Rattle.palm_model.specs.declared.constraint.Con.{Con}
 use Rattle.palm_book.specs.Named.{named}
 use Rattle.palm_book.specs.Book.{Entry, Contents, name_of}
 use Rattle.palm_read.specs.Domain.{range_text, set_text}
+pub use Rattle.palm_read.specs.Lines.{ended}
 use Rattle.palm_read.specs.Text.{shape_words}
 use Rattle.palm_read.specs.Words.{spaced}
 use Rattle.palm_book.specs.declared.book.BookCon.{BookCon}
@@ -17,10 +18,6 @@ use Rattle.palm_lang.specs.declared.reply.Refusal.{Refusal}
 use Rattle.palm_lang.specs.declared.reply.Refusal.TheVariants.{E1, E2, E3, E4, E5, E6, E7, E8, E9, E10, E11, E12}
 use Rattle.palm_lang.specs.declared.reply.Lead.{Lead}
 use Rattle.palm_lang.specs.declared.reply.Lead.TheVariants.{Because, Conflict, NoSolution}
-
--- a line with its line feed
-abbrev pub ended : List ℕ → List ℕ
-ended line = line ++ 10 ∷ []
 
 -- a reply of one word
 abbrev pub fixed_word : Fixed → List ℕ

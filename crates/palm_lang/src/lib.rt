@@ -1,12 +1,15 @@
-//! The session language: every text that is printed. What reads it, and the book of a session, stand below and are
-//! passed on.
+//! The session language: every text that is printed, and the writing of lines. What reads it, the book of a session and
+//! what a certificate claims stand below and are passed on.
 #![tactic(auto)]
 
 pub mod laws;
 mod print;
 mod reply;
+mod stop;
+mod writer;
 
 pub use palm_book::{Book, BookCon, MOST_ADDED, MOST_CONSTRAINTS, MOST_VARIABLES, Unresolved};
+pub use palm_claim::Claim;
 pub use palm_read::{
     DomainText, Line, LineError, MOST_VALUES, Name, NameList, NameTarget, NameTerm, NameTermList,
     Shape, Token, TokenKind, beyond, parse_line, token,
@@ -16,3 +19,5 @@ pub use print::{
     print_ran, print_refusal, print_removal, print_spent, print_var,
 };
 pub use reply::{Fixed, Lead, Refusal};
+pub use stop::WriteStop;
+pub use writer::{write_fixed, write_text, write_var};

@@ -3,7 +3,7 @@ pub mod DomainValues
 pub mod HeldLemmas
 pub mod Items
 pub mod LongestTokens
-pub mod PlainTokens
 pub mod ReadBack
+pub mod Refusals
 pub mod ShapeForms
 pub mod Twice

@@ -19,7 +19,7 @@ says_something : (form : Form) → is_note (after_blanks (text_of (line_of form)
 says_something (DeclareForm name domain) = refl
 says_something _ = refl
 
-form_back : (bytes : List ℕ) (form : Form) → IsForm (tokens_of bytes) form → IsInRange form → (HasNothing form → ⊥) → (HasRepeat form → ⊥) → (IsBeyond (line_of form) → ⊥) → IsRead (text_of (line_of form)) (line_of form)
+form_back : (bytes : List ℕ) (form : Form) → IsForm (tokens_of bytes) form → IsInRange form → (HasNothing (line_of form) → ⊥) → (HasRepeat (line_of form) → ⊥) → (IsBeyond (line_of form) → ⊥) → IsRead (text_of (line_of form)) (line_of form)
 form_back bytes form f range some once near =
     let names = has_names (pieces form) (tokens_of bytes) (wordy_tokens bytes) f.spells in
     let printed = words_line form f.proper some (numbers_within form range) names near in

@@ -48,10 +48,6 @@ target_numbers (Variable name) = []
 abbrev pub count_numbers : ℤ → TargetForm → List Bounded
 count_numbers value target = a_value value ∷ target_numbers target
 
-abbrev pub target_names : TargetForm → List (List ℕ)
-target_names (Number value) = []
-target_names (Variable name) = name ∷ []
-
 abbrev pub line_target_names : NameTarget → List (List ℕ)
 line_target_names (ConstTarget value) = []
 line_target_names (VariableTarget name) = name ∷ []

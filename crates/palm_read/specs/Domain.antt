@@ -1,5 +1,5 @@
 -- Domains: `LO..HI` and `{1,2}`.
-use Rattle.std.specs.Prelude.{◌≡◌, ℕ, zero, suc, ℤ, pos, negsuc, ◌+◌, ◌<◌, ◌+ℤ◌, ◌-ℤ◌, ◌<ℤ◌, ◌≤ℤ◌, List, [], ◌∷◌, ◌++◌, length, map, All, int_lt, codes, if◌then◌else◌}
+use Rattle.std.specs.Prelude.{ℕ, zero, suc, ℤ, pos, negsuc, ◌+◌, ◌<◌, ◌+ℤ◌, ◌-ℤ◌, ◌≤ℤ◌, List, [], ◌∷◌, ◌++◌, length, map, All, int_lt, codes, if◌then◌else◌}
 use Rattle.std.specs.Ordering.{int_eq}
 use Rattle.std.specs.Fmt.{signed_decimal}
 use Rattle.palm_base.specs.Ascending.{Ascends}
@@ -57,11 +57,6 @@ values_in (Set values) = values
 abbrev pub domain_numbers : DomainForm → List Bounded
 domain_numbers (Interval low high) = a_value low ∷ a_value high ∷ []
 domain_numbers (Members values) = map a_value values
-
--- no value is in it
-abbrev pub IsEmptyDomain : DomainForm → Type 0
-IsEmptyDomain (Interval low high) = high <ℤ low
-IsEmptyDomain (Members values) = values ≡ []
 
 -- more values than a variable may have
 abbrev pub IsLarge : DomainText → Type 0

@@ -9,6 +9,7 @@ pub mod Form
 pub mod Grammar
 pub mod Limits
 pub mod Linear
+pub mod Lines
 pub mod Name
 pub mod Piece
 pub mod Reader

@@ -1,16 +1,17 @@
--- The limits of the language: which numbers a form may have, which lists may not be empty, which names may not stand
--- twice, and how many of each there may be.
-use Rattle.std.specs.Prelude.{◌≡◌, ℕ, ◌<◌, ◌<ℤ◌, ◌≤ℤ◌, List, [], ◌∷◌, ◌++◌, ◌⊎◌, length, map, All, Any, Contains, option_to_list}
+-- The limits of the language: which numbers a form may have, and of the line that it says, which lists may not be empty,
+-- which names may not stand twice, and how many of each there may be.
+use Rattle.std.specs.Prelude.{◌≡◌, ℕ, pos, ◌<◌, ◌<ℤ◌, ◌≤ℤ◌, List, [], ◌∷◌, ◌++◌, ◌⊎◌, length, map, All, Any, Contains, option_to_list}
 use Rattle.palm_model.specs.declared.limits.TheConstants.{MOST_SCOPE}
 use Rattle.palm_read.specs.Bounds.{Bounded, a_value, from_one_to}
 use Rattle.palm_read.specs.Comparison.{offset_numbers, compare_const_numbers}
-use Rattle.palm_read.specs.Count.{count_numbers, target_names, line_target_names}
-use Rattle.palm_read.specs.Domain.{domain_numbers, IsEmptyDomain, IsLarge}
+use Rattle.palm_read.specs.Count.{count_numbers, line_target_names}
+use Rattle.palm_read.specs.Domain.{domain_numbers, IsLarge}
 use Rattle.palm_read.specs.Element.{element_numbers, HasManyEntries}
 use Rattle.palm_read.specs.Form.{ShapeForm, CompareVarForm, CompareConstForm, LinearForm, TableForm, ElementForm, CountForm, DifferForm, Form, DeclareForm, AddForm, WhyForm, MinimalForm, StepForm, SolveDbtForm, SolveRepairForm, CertForm, GuideForm, OrderForm, DropGuideForm, DropOrderForm}
-use Rattle.palm_read.specs.Linear.{linear_numbers, HasZeroFactor}
+use Rattle.palm_read.specs.Linear.{linear_numbers}
 use Rattle.palm_read.specs.Table.{table_numbers, HasManyTableRows}
 use Rattle.palm_read.specs.declared.limits.TheConstants.{GREATEST_NUMBER, GREATEST_TABU, NO_BUDGET}
+use Rattle.palm_read.specs.declared.line.DomainText.TheVariants.{Range, Set}
 use Rattle.palm_read.specs.declared.line.Line.{Line}
 use Rattle.palm_read.specs.declared.line.Line.TheVariants.{Var, Add}
 use Rattle.palm_read.specs.declared.line.Shape.{Shape}
@@ -51,34 +52,20 @@ abbrev pub IsOutOfRange : Form → Type 0
 IsOutOfRange form = Any (λ b. (b.number <ℤ b.least) ⊎ (b.greatest <ℤ b.number)) (numbers form)
 
 -- a domain, a table or a list of entries has nothing in it, or a coefficient is 0
-abbrev pub HasNothing : Form → Type 0
-HasNothing (DeclareForm name domain) = IsEmptyDomain domain
-HasNothing (AddForm name (LinearForm terms op bound)) = HasZeroFactor terms
-HasNothing (AddForm name (TableForm vars rows)) = rows ≡ []
-HasNothing (AddForm name (ElementForm outcome index entries)) = entries ≡ []
+abbrev pub HasNothing : Line → Type 0
+HasNothing (Var name (Range low high)) = high <ℤ low
+HasNothing (Var name (Set values)) = values ≡ []
+HasNothing (Add name (Linear terms op bound)) = Any (λ t. t.factor ≡ pos 0) terms
+HasNothing (Add name (Table vars rows)) = rows ≡ []
+HasNothing (Add name (Element outcome index entries)) = entries ≡ []
 HasNothing _ = ⊥
-
--- the variables' names of a constraint, in the order of its text
-abbrev pub scope_names : ShapeForm → List (List ℕ)
-scope_names (CompareVarForm left op right _) = left ∷ right ∷ []
-scope_names (CompareConstForm left op value) = left ∷ []
-scope_names (LinearForm terms op bound) = map (λ t. t.name) terms
-scope_names (TableForm vars rows) = vars
-scope_names (ElementForm outcome index entries) = outcome ∷ index ∷ []
-scope_names (CountForm value vars op target) = vars ++ target_names target
-scope_names (DifferForm vars) = vars
 
 -- some name stands again behind its first place
 abbrev pub Repeats : List (List ℕ) → Type 0
 Repeats [] = ⊥
 Repeats (name ∷ names) = Contains names name ⊎ Repeats names
 
--- a variable stands twice in the constraint
-abbrev pub HasRepeat : Form → Type 0
-HasRepeat (AddForm name shape) = Repeats (scope_names shape)
-HasRepeat _ = ⊥
-
--- the variables' names of a constraint that was read
+-- the variables' names of a constraint, in the order of its text
 abbrev pub names_of : Shape → List (List ℕ)
 names_of (CompareVar left op right offset) = left ∷ right ∷ []
 names_of (CompareConst left op value) = left ∷ []
@@ -87,6 +74,11 @@ names_of (Table vars rows) = vars
 names_of (Element outcome index entries) = outcome ∷ index ∷ []
 names_of (Count value vars op target) = vars ++ line_target_names target
 names_of (Differ vars) = vars
+
+-- a variable stands twice in the constraint
+abbrev pub HasRepeat : Line → Type 0
+HasRepeat (Add name shape) = Repeats (names_of shape)
+HasRepeat _ = ⊥
 
 -- more rows or entries than there may be
 abbrev pub HasManyRows : Shape → Type 0

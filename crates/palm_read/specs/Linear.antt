@@ -1,5 +1,5 @@
 -- A linear constraint on a line: `sum -2*x + y <= 3`.
-use Rattle.std.specs.Prelude.{◌≡◌, ◌≢◌, ℕ, ℤ, pos, negsuc, neg_ℤ, ◌+◌, ◌<◌, ◌==◌, Bool, true, false, Option, Some, None, List, [], ◌∷◌, ◌++◌, length, map, flat_map, Any, option_to_list, unwrap_or, codes, decimal, if◌then◌else◌}
+use Rattle.std.specs.Prelude.{◌≢◌, ℕ, ℤ, pos, negsuc, neg_ℤ, ◌+◌, ◌<◌, ◌==◌, Bool, true, false, Option, Some, None, List, [], ◌∷◌, ◌++◌, length, map, flat_map, option_to_list, unwrap_or, codes, decimal, if◌then◌else◌}
 use Rattle.std.specs.Fmt.{signed_decimal}
 use Rattle.palm_model.specs.Limits.{IsUpTo}
 use Rattle.palm_model.specs.Linear.{IsLinearOp}
@@ -68,10 +68,6 @@ abbrev pub linear_numbers : List TermForm → ℤ → List Bounded
 linear_numbers terms bound =
     flat_map (λ t. map (up_to GREATEST_FACTOR) (option_to_list t.factor)) terms
     ++ record { number = bound; least = neg_ℤ (pos GREATEST_BOUND); greatest = pos GREATEST_BOUND } ∷ []
-
--- a coefficient of 0 is written
-abbrev pub HasZeroFactor : List TermForm → Type 0
-HasZeroFactor terms = Any (λ t. t.factor ≡ Some 0) terms
 
 abbrev pub IsSoundTerm : NameTerm → Type 0
 IsSoundTerm t = (t.factor ≢ pos 0) × IsUpTo GREATEST_FACTOR t.factor

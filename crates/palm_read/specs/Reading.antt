@@ -65,7 +65,7 @@ line_of QuitForm = Quit
 -- the bytes are a comment, or of a form whose numbers are in range, that has nothing empty and no name twice
 pub data IsRead : List ℕ → Line → Type 0 where
   a_comment : {bytes : List ℕ} → IsComment bytes → IsRead bytes Comment
-  a_form : {bytes : List ℕ} {line : Line} → (form : Form) → IsPlain bytes → IsForm (tokens_of bytes) form → IsInRange form → (HasNothing form → ⊥) → (HasRepeat form → ⊥) → line ≡ line_of form → IsRead bytes line
+  a_form : {bytes : List ℕ} {line : Line} → (form : Form) → IsPlain bytes → IsForm (tokens_of bytes) form → IsInRange form → (HasNothing (line_of form) → ⊥) → (HasRepeat (line_of form) → ⊥) → line ≡ line_of form → IsRead bytes line
 
 -- the line is too long, or is no comment and has a byte that may not stand in it
 pub record HasBadBytes (bytes : List ℕ) : Type 0 where
@@ -77,9 +77,9 @@ abbrev pub IsRefusedBy : List ℕ → LineError → Type 0
 IsRefusedBy bytes Bytes = HasBadBytes bytes
 IsRefusedBy bytes NoForm = IsPlain bytes × ((form : Form) → IsForm (tokens_of bytes) form → ⊥)
 IsRefusedBy bytes OutOfRange = IsPlain bytes × (form : Form) × IsForm (tokens_of bytes) form × IsOutOfRange form
-IsRefusedBy bytes Empty = IsPlain bytes × (form : Form) × IsForm (tokens_of bytes) form × IsInRange form × HasNothing form
+IsRefusedBy bytes Empty = IsPlain bytes × (form : Form) × IsForm (tokens_of bytes) form × IsInRange form × HasNothing (line_of form)
 IsRefusedBy bytes Repeated =
-    IsPlain bytes × (form : Form) × IsForm (tokens_of bytes) form × IsInRange form × (HasNothing form → ⊥) × HasRepeat form
+    IsPlain bytes × (form : Form) × IsForm (tokens_of bytes) form × IsInRange form × (HasNothing (line_of form) → ⊥) × HasRepeat (line_of form)
 IsRefusedBy bytes NoMemory = ⊤
 
 -- what reading answers: the line, or the first refusal, unless memory ran out

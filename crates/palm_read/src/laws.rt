@@ -1,18 +1,32 @@
-//! Laws of the language. A token is the longest that fits, a domain has the values that it writes, no line has two
-//! forms, two readings or two refusals, and a line that is printed reads back as it was.
-ghost use Rattle.std.specs.Prelude.{◌≡◌, ◌≢◌, ◌⊎◌, ◌↔◌, ◌≤ℤ◌, ℕ, ℤ, List, Contains, drop};
+//! Laws of the language. A text has lines in one way, a token is the longest that fits, a domain has the values that it
+//! writes, no line has two forms, two readings or two refusals, and a line that is printed reads back as it was.
+ghost use Rattle.std.specs.Prelude.{◌≡◌, ◌≢◌, ◌⊎◌, ◌↔◌, ◌≤ℤ◌, ℕ, ℤ, pos, true, Some, List, [], All, Any, Contains, drop, flat_map, map};
 ghost use Rattle.palm_base.specs.Ascending.{Ascends};
 ghost use Rattle.palm_read.specs.declared.tokens.Token.{Token};
-ghost use Rattle.palm_read.specs.Domain.{Interval, Members, domain_of, values_in};
+ghost use Rattle.palm_read.specs.Bytes.{is_plain};
+ghost use Rattle.palm_read.specs.Domain.{Interval, Members, domain_of, set_of, values_in};
 ghost use Rattle.palm_read.specs.declared.line.Line.{Line};
 ghost use Rattle.palm_read.specs.declared.parse.LineError.{LineError};
 ghost use Rattle.palm_read.specs.declared.parse.LineError.TheVariants.{NoMemory};
 ghost use Rattle.palm_read.specs.Form.{Form};
 ghost use Rattle.palm_read.specs.Grammar.{IsForm};
 ghost use Rattle.palm_read.specs.Limits.{IsBeyond};
+ghost use Rattle.palm_read.specs.Lines.{AreLines, ended};
+ghost use Rattle.palm_read.specs.Linear.{TermForm, term_of};
 ghost use Rattle.palm_read.specs.Reading.{IsRead, IsRefusedBy};
 ghost use Rattle.palm_read.specs.Text.{text_of};
 ghost use Rattle.palm_read.specs.Token.{Lexeme, IsFirstToken, IsLongest, IsNoToken, lexeme_of};
+
+/// A text has lines, and it has them in one way.
+pub fn a_text_has_its_lines()
+    ensures some { (text : List ℕ) → (lines : List (List ℕ)) × AreLines text lines }
+    ensures once { (text : List ℕ) (a b : List (List ℕ)) → AreLines text a → AreLines text b → a ≡ b }
+{}
+
+/// A text of plain lines, each ended by a line feed, has these lines.
+pub fn ended_lines_are_cut_apart()
+    ensures { (lines : List (List ℕ)) → All (λ line. All (λ b. is_plain b ≡ true) line) lines → AreLines (flat_map ended lines) lines }
+{}
 
 /// A token is the longest text of the table that fits at its place; where none fits, it is one byte.
 pub fn longest_token()
@@ -30,6 +44,14 @@ pub fn set_of_what_is_written()
 pub fn range_of_all_between()
     ensures { (low high v : ℤ) → low ≤ℤ high
         → Contains (values_in (domain_of (Interval low high))) v ↔ ((low ≤ℤ v) × (v ≤ℤ high)) }
+{}
+
+/// What a line lacks is lacking as it is written: a set in braces is empty where no value is, and a coefficient is 0 where
+/// 0 is. The names of a sum are those that are written.
+pub fn lacking_as_written()
+    ensures set { (values : List ℤ) → (set_of values ≡ []) ↔ (values ≡ []) }
+    ensures factors { (terms : List TermForm) → Any (λ t. t.factor ≡ pos 0) (map term_of terms) ↔ Any (λ t. t.factor ≡ Some 0) terms }
+    ensures names { (terms : List TermForm) → map (λ t. t.name) (map term_of terms) ≡ map (λ t. t.name) terms }
 {}
 
 /// No tokens are those of two forms.

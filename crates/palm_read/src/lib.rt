@@ -5,6 +5,7 @@ mod amounts;
 pub mod laws;
 mod limits;
 mod line;
+mod lines;
 mod parse;
 mod reader;
 mod scan;
@@ -15,6 +16,8 @@ pub use limits::{
     GREATEST_NUMBER, GREATEST_TABU, MOST_LINE_BYTES, MOST_NAME_BYTES, MOST_VALUES, NO_BUDGET,
 };
 pub use line::{DomainText, Line, Name, NameList, NameTarget, NameTerm, NameTermList, Shape};
-pub use parse::{LineError, parse_line};
+pub use lines::{next_feed, next_line, without_return};
+pub use parse::{LineError, parse_line, parse_tokens};
+pub use reader::cursor::Cursor;
 pub use scan::token;
 pub use tokens::{Token, TokenKind};

@@ -56,13 +56,23 @@ pub fn parse_line(alloc: Global, bytes: &[u8]) -> Result<Line, LineError>
     ensures read { IsReadAs bytes.now result }
     ensures sound { IfOk result IsSound }
 {
+    let mut cursor = Cursor::new(bytes);
+    parse_tokens(alloc, bytes, &mut cursor)
+}
+
+/// Reads the same line, with a cursor at its first token.
+pub fn parse_tokens(alloc: Global, bytes: &[u8], cursor: &mut Cursor<'_>) -> Result<Line, LineError>
+    requires { cursor.old ≡ tokens_of bytes.now }
+    ensures read { IsReadAs bytes.now result }
+    ensures sound { IfOk result IsSound }
+{
     if bytes.len() > MOST_LINE_BYTES {
         return Err(LineError::Bytes);
     }
     if is_note(bytes) {
         return Ok(Line::Comment);
     }
-    match read_form(alloc, bytes) {
+    match read_form(alloc, cursor) {
         Ok(line) => within_limits(alloc, line),
         Err(LineError::Form) => Err(without_form(bytes)),
         Err(error) => Err(error),
@@ -106,12 +116,11 @@ fn is_plain(byte: u8) -> bool
     matches!(byte, b' '..=b'~' | b'\t')
 }
 
-/// Reads the form that all tokens of the line make.
+/// Reads the form that all tokens make.
 #[tactic(auto, unfolding(crate::specs::Reader::Lines::form_at, crate::specs::Reader::Steps::choose, crate::specs::Reader::Steps::and_then))]
-fn read_form(alloc: Global, bytes: &[u8]) -> Result<Line, LineError>
-    ensures { GivesAll held_line result (form_at (tokens_of bytes.now)) }
+fn read_form(alloc: Global, cursor: &mut Cursor<'_>) -> Result<Line, LineError>
+    ensures { GivesAll held_line result (form_at cursor.old) }
 {
-    let mut cursor = Cursor::new(bytes);
     let line = cursor.line(alloc)?;
     if !cursor.is_at_end() {
         return Err(LineError::Form);

@@ -9,6 +9,7 @@ use Rattle.palm_base.specs.declared.terms.Cid.TheVariants.{Decide}
 use Rattle.palm_base.proofs.cited.Members.{member_place}
 use Rattle.palm_repair.specs.Repair.{weight_of}
 use Rattle.palm_repair.specs.Learned.{IsHeaviestAt}
+use Rattle.palm_repair.proofs.Reading.{some_same}
 
 -- among the first so many decisions the heaviest one stands at this place, and this is its weight
 pub record HeaviestBelow (weights : List ℕ) (decisions : List Pair) (names : List Cid) (i place greatest : ℕ) : Type 0 where
@@ -27,9 +28,6 @@ IsHeaviestYet weights decisions names i (Some place) greatest = HeaviestBelow we
 
 same_at : (decisions : List Pair) (k i : ℕ) (p q : Pair) → k ≡ i → slice_get decisions k ≡ Some p → slice_get decisions i ≡ Some q → p ≡ q
 same_at decisions k i p q e f g = some_same p q (sym f ∙ ap (slice_get decisions) e ∙ g)
-  where
-    some_same : (x y : Pair) → Some x ≡ Some y → x ≡ y
-    some_same x y e = cc
 
 last_below : (k i : ℕ) → k < i + 1 → (k ≡ i → ⊥) → k < i
 last_below k i lt ne = omega (arith, lt, ne)

@@ -2,7 +2,7 @@
 use Rattle.std.proofs.Common.{◌≡◌, ℕ, zero, suc, ◌+◌, ◌<◌, ◌≤◌, Bool, true, false, not, ◌||◌, cond, Option, None, Some, List, [], ◌∷◌, ◌++◌, filter, length, map, slice_set, get_or, take, drop, replicate, Contains, ℤ, inl, inr, refl, sym, ap, ◌∙◌, subst, arith, nat_eq, eq-eqb, eqb-true, take_all}
 use Rattle.std.specs.List.{list_any}
 use Rattle.std.proofs.lemmas.Bool.{cases_Bool}
-use Rattle.std.proofs.lemmas.List.{take_more, length-map}
+use Rattle.std.proofs.lemmas.List.{take_more, take-append-drop, length-map}
 use Rattle.palm_base.specs.declared.terms.Pair.{Pair}
 use Rattle.palm_base.specs.declared.terms.Cid.TheVariants.{Decide, Not}
 use Rattle.palm_base.proofs.cited.Members.{member_nil, member_here, member_there, member_cases, member_same}
@@ -17,14 +17,13 @@ use Rattle.palm_domain.specs.Rows.{Row, initial_of}
 use Rattle.palm_search.specs.Calls.{SearchView, search_state}
 use Rattle.palm_search.specs.Kept.{HasDecisions}
 use Rattle.palm_search.proofs.cited.Deciding.{posted_has}
-use Rattle.palm_repair.specs.Posting.{Nogood, Origin, RepairState, PostsFor, PostsFrom, PostsAll, undecided, justification, with_origin}
+use Rattle.palm_repair.specs.Posting.{Nogood, Origin, RepairState, PostsFor, PostsFrom, PostsAll, PostsSome, undecided, justification, with_origin}
 use Rattle.palm_repair.specs.Repair.{raised, raised_from, weight_of}
 use Rattle.palm_repair.specs.Kept.{HasOrigins, IsNumbered, IsRepairing}
 use Rattle.palm_repair.specs.Learned.{Forces, IsForced, LearnedView, ShowsDecisions, left_open, repair_state}
-use Rattle.palm_repair.specs.Turning.{Moves}
-use Rattle.palm_repair.specs.Turning.Moves.{moves_none, moves_posted}
 use Rattle.palm_repair.proofs.Forcing.{Leaves, leaves_none, leaves_then, justification_grounds, one_left, posts_for_keeps, posts_for_leaves}
 use Rattle.palm_repair.proofs.Reading.{at_member, open_is, split_at}
+use Rattle.palm_repair.proofs.Repairing.{raised_length}
 
 -- ---- places
 
@@ -91,10 +90,6 @@ raised_other x (w ∷ weights) vars zero none =
     ap (λ b. cond b (w + 1) w) f
 raised_other x (w ∷ weights) vars (suc k) none = raised_other (x + 1) weights vars k (λ m. none (member_same vars ((x + 1) + k) (x + suc k) (omega arith) m))
 
-raised_length : (x : ℕ) (weights vars : List ℕ) → length (raised_from x weights vars) ≡ length weights
-raised_length x [] vars = refl
-raised_length x (w ∷ weights) vars = ap suc (raised_length (x + 1) weights vars)
-
 -- a variable is none of those before it
 apart : (vars : List ℕ) (i v : ℕ) → i < length vars → v ≡ get_or vars i v → Distinct vars → Contains (take i vars) v → ⊥
 apart [] i v lt is distinct m = omega (arith, lt)
@@ -131,7 +126,6 @@ pub record IsPosting (decisions : List Pair) (start : View) (first : LearnedView
   pub posts : PostsFrom (repair_state start.state decisions first) first.dropped (take index first.nogoods) (repair_state engine.state decisions learned)
   pub repairing : IsRepairing (repair_state engine.state decisions learned)
   pub leaves : Leaves (repair_state start.state decisions first) (repair_state engine.state decisions learned)
-  pub moves : Moves start.state engine.state
   pub counts : KeepsCounts start engine
 
 pub counts_same : (a b c : View) → KeepsCounts a b → KeepsCounts b c → KeepsCounts a c
@@ -142,7 +136,6 @@ posting_starts decisions start first repairing = record {
   posts = refl;
   repairing = repairing;
   leaves = leaves_none (repair_state start.state decisions first);
-  moves = moves_none start.state refl;
   counts = record { revisions = refl; checks = refl };
 }
 
@@ -185,8 +178,8 @@ listed_forced decisions engine learned values nogood p repairing shows m one =
 -- one more nogood was walked
 walked : (decisions : List Pair) (start : View) (first : LearnedView) (index : ℕ) (engine next : View) (learned after : LearnedView) (nogood : Nogood) → index < length first.nogoods → nogood ≡ get_or learned.nogoods index nogood
     → PostsFor (repair_state engine.state decisions learned) (first.dropped + index) nogood (undecided decisions nogood) (repair_state next.state decisions after)
-    → Moves start.state next.state → KeepsCounts engine next → IsPosting decisions start first index engine learned → IsPosting decisions start first (index + 1) next after
-walked decisions start first index engine next learned after nogood lt is one moves counts posting =
+    → KeepsCounts engine next → IsPosting decisions start first index engine learned → IsPosting decisions start first (index + 1) next after
+walked decisions start first index engine next learned after nogood lt is one counts posting =
     let s = repair_state start.state decisions first in
     let m = repair_state engine.state decisions learned in
     let t = repair_state next.state decisions after in
@@ -204,7 +197,6 @@ walked decisions start first index engine next learned after nogood lt is one mo
           (posts_push s first.dropped (take index first.nogoods) nogood m t posting.posts (subst (λ k. PostsFor m (first.dropped + k) nogood (undecided decisions nogood) t) (sym long) one));
       repairing = posts_for_keeps m (first.dropped + index) nogood (undecided decisions nogood) t refl one numbered posting.repairing;
       leaves = leaves_then s m t posting.leaves leaves;
-      moves = moves;
       counts = counts_same start engine next posting.counts counts;
     }
 
@@ -215,7 +207,7 @@ pub posting_kept : (decisions : List Pair) (start : View) (first : LearnedView) 
 posting_kept decisions start first index engine next learned values nogood lt is shows forces counts posting =
     walked decisions start first index engine next learned learned nogood lt is
     (by_left (undecided decisions nogood) (λ p e. forces.0 p (open_is decisions values nogood shows ∙ e)))
-    (subst (Moves start.state) (sym forces.1) posting.moves) counts posting
+    counts posting
   where
     same : repair_state next.state decisions learned ≡ repair_state engine.state decisions learned
     same = ap (λ z. repair_state z decisions learned) forces.1
@@ -243,20 +235,42 @@ posting_more decisions start first index engine next learned after values nogood
         origins = record { pair = p; nogood = same i } ∷ learned.origins;
       }) ∙ ap (λ l. record m { search = record { engine = next.state; decisions = decisions }; origins = l }) (sym origins);
     })))
-    (moves_posted engine.state (negation_of p (justification nogood p)) next.state posting.moves refl forces.1) counts posting
+    counts posting
 
 pub posting_ends : (decisions : List Pair) (start : View) (first : LearnedView) (index : ℕ) (engine : View) (learned : LearnedView) → length first.nogoods ≤ index → IsPosting decisions start first index engine learned
     → PostsAll (repair_state start.state decisions first) (repair_state engine.state decisions learned)
 posting_ends decisions start first index engine learned le posting =
     subst (λ l. PostsFrom (repair_state start.state decisions first) first.dropped l (repair_state engine.state decisions learned)) (take_all index first.nogoods le) posting.posts
 
+-- it stops where no nogood was walked
+pub posts_none : (s : RepairState) → PostsSome s s.search.engine
+posts_none s = record { walked = []; others = s.nogoods; are = refl; last = s; posts = refl; is = refl }
+
+-- it stops here
+pub posting_stops : (decisions : List Pair) (start : View) (first : LearnedView) (index : ℕ) (engine : View) (learned : LearnedView) → IsPosting decisions start first index engine learned
+    → PostsSome (repair_state start.state decisions first) engine.state
+posting_stops decisions start first index engine learned posting = record {
+  walked = take index first.nogoods;
+  others = drop index first.nogoods;
+  are = sym (take-append-drop index first.nogoods);
+  last = repair_state engine.state decisions learned;
+  posts = posting.posts;
+  is = refl;
+}
+
+-- it stops after a negation was posted, whose origin is not noted
+pub posting_cut : (decisions : List Pair) (start : View) (first : LearnedView) (index : ℕ) (engine next : View) (learned : LearnedView) (values : List (Option ℤ)) (nogood : Nogood) (p : Pair) → index < length first.nogoods
+    → nogood ≡ get_or learned.nogoods index nogood → ShowsDecisions decisions values → Forces nogood (left_open values nogood) engine.state next.state (Some p) → KeepsCounts engine next
+    → IsPosting decisions start first index engine learned → PostsSome (repair_state start.state decisions first) next.state
+posting_cut decisions start first index engine next learned values nogood p lt is shows forces counts posting =
+    let number = learned.dropped + index in
+    let after : LearnedView = record learned { origins = record { pair = p; nogood = number } ∷ learned.origins } in
+    posting_stops decisions start first (index + 1) next after (posting_more decisions start first index engine next learned after values nogood p number lt is shows forces counts refl refl posting)
+
 -- ---- what one posting leaves
 
 pub rows_length : (rows : List Row) (initial : Domains) → initial_of rows ≡ initial → length rows ≡ length initial
 rows_length rows initial e = sym (length-map rows (λ (r : Row). r.initial)) ∙ ap length e
-
-pub forced_moves : (s m t : EngineState) (nogood : Nogood) (left : List Pair) (p : Pair) → Forces nogood left m t (Some p) → Moves s m → Moves s t
-forced_moves s m t nogood left p forces moves = moves_posted m (negation_of p (justification nogood p)) t moves refl forces.1
 
 pub forced_has : (m t : EngineState) (search : SearchView) (nogood : Nogood) (left : List Pair) (p : Pair) → Forces nogood left m t (Some p) → HasDecisions (search_state m search) → HasDecisions (search_state t search)
 forced_has m t search nogood left p forces has =

@@ -1,4 +1,5 @@
 pub mod Blocking
+pub mod Breaking
 pub mod Choosing
 pub mod cited
 pub mod Forcing

@@ -1,76 +1,20 @@
--- What is read from a flat conflict, from the decisions and from a nogood.
-use Rattle.std.proofs.Common.{◌≡◌, ℕ, zero, suc, ◌+◌, ◌<◌, ◌≤◌, Bool, true, false, not, cond, Option, None, Some, List, [], ◌∷◌, ◌++◌, filter, length, map, slice_get, slice_set, get_or, take, drop, replicate, Contains, ℤ, ◌⊎◌, inl, inr, refl, sym, ap, ◌∙◌, subst, arith}
-use Rattle.std.specs.Prelude.{OnErr, Result, Ok, Err, is_some}
+-- What is read from the decisions and from a nogood.
+use Rattle.std.proofs.Common.{◌≡◌, ℕ, zero, suc, ◌+◌, ◌<◌, Bool, true, false, not, cond, Option, None, Some, List, [], ◌∷◌, ◌++◌, filter, length, map, slice_get, slice_set, get_or, take, drop, replicate, Contains, ℤ, ◌⊎◌, inl, inr, refl, sym, ap, ◌∙◌, subst, arith}
+use Rattle.std.specs.Prelude.{is_some}
 use Rattle.std.proofs.lemmas.Bool.{cases_eq}
 use Rattle.std.proofs.lemmas.Bool.Decides.{Decides-int_eq}
 use Rattle.std.proofs.lemmas.List.{take_more, map-append, append-nil}
 use Rattle.std.proofs.lemmas.List.Elements.{Contains-append_left, Contains-append_right, filter-append}
 use Rattle.palm_base.specs.declared.terms.Pair.{Pair}
 use Rattle.palm_base.specs.declared.terms.Cid.{Cid}
-use Rattle.palm_base.specs.declared.terms.Cid.TheVariants.{Decide, Not, User}
+use Rattle.palm_base.specs.declared.terms.Cid.TheVariants.{Decide}
 use Rattle.palm_base.proofs.cited.Members.{member_nil, member_here, member_cases, member_same, member_map, member_take_more, filter_agree_members}
-use Rattle.palm_model.specs.Conflict.{InConflict, InFlat, IsKeptConflict}
-use Rattle.palm_model.specs.Conflict.InFlat.{as_it_is, in_place}
 use Rattle.palm_model.specs.Constraint.{Distinct}
 use Rattle.palm_model.specs.Event.{vars_of}
-use Rattle.palm_model.specs.Log.{Active, IsActive, IsListOf, same_pair}
-use Rattle.palm_model.specs.State.{EngineState, IsValid, present}
-use Rattle.palm_events.proofs.cited.Conflicts.{conflict_active}
-use Rattle.palm_search.specs.Turns.{HasFlatConflict, decided_vars}
+use Rattle.palm_model.specs.Log.{same_pair}
 use Rattle.palm_repair.specs.Posting.{Nogood, is_decided, undecided}
 use Rattle.palm_repair.specs.Learned.{ShowsDecisions, is_shown, is_value, left_open, listed_pair}
-use Rattle.palm_repair.specs.Turning.{HasOnlyEmpty}
 use Rattle.palm_repair.proofs.Forcing.{decided_member, member_decided}
-
--- ---- the flat conflict
-
-pub kept_active : (s : EngineState) (x : ℕ) (kept : List Cid) → IsValid s → IsKeptConflict s x kept → (c : Cid) → Contains kept c → IsActive s.active c
-kept_active s x kept valid is c m = conflict_active s valid x c (is.sound c m)
-
-in_flat_alike : (active : List Active) (K L : Cid → Type 0) → ((c : Cid) → K c → L c) → (c : Cid) → InFlat active K c → InFlat active L c
-in_flat_alike active K L to c (as_it_is k ground) = as_it_is (to c k) ground
-in_flat_alike active K L to c (in_place p a k m named held) = in_place p a (to (Not p) k) m named held
-
-pub flat_is : (s : EngineState) (kept flat : List Cid) (empty : HasOnlyEmpty (present s)) → IsKeptConflict s empty.var kept → IsListOf (InFlat s.active (Contains kept)) flat → HasFlatConflict s flat
-flat_is s kept flat empty is list = record {
-  var = empty.var;
-  empty = empty.empty;
-  lowest = λ y e. at_most empty.var y (empty.only y e);
-  is = record {
-    rising = list.rising;
-    sound = λ c m. in_flat_alike s.active (Contains kept) (InConflict s empty.var) is.sound c (list.sound c m);
-    whole = λ c m. list.whole c (in_flat_alike s.active (InConflict s empty.var) (Contains kept) is.whole c m);
-  };
-}
-  where
-    at_most : (x y : ℕ) → y ≡ x → x ≤ y
-    at_most x y e = omega (arith, e)
-
--- ---- answers
-
-pub on_err : {T E : Type 0} (P : Type 0) (result : Result T E) → P → OnErr result P
-on_err P (Ok x) p = tt
-on_err P (Err e) p = p
-
-pub not_spent : (taken budget : ℕ) → taken ≤ budget → (taken ≡ budget → ⊥) → taken < budget
-not_spent taken budget le ne = omega (arith, le, ne)
-
--- ---- the variables of decisions
-
-decided_both : (xs ys : List Cid) → decided_vars (xs ++ ys) ≡ decided_vars xs ++ decided_vars ys
-decided_both [] ys = refl
-decided_both (Decide x ∷ xs) ys = ap (λ l. x ∷ l) (decided_both xs ys)
-decided_both (Not p ∷ xs) ys = decided_both xs ys
-decided_both (User n ∷ xs) ys = decided_both xs ys
-
-pub no_variable : (name : Cid) → ((x : ℕ) → name ≡ Decide x → ⊥) → decided_vars (name ∷ []) ≡ []
-no_variable (Decide x) none = absurd (none x refl)
-no_variable (Not p) none = refl
-no_variable (User n) none = refl
-
-pub decided_more : (names : List Cid) (i : ℕ) (name : Cid) (vars now : List ℕ) → i < length names → name ≡ get_or names i name → vars ≡ decided_vars (take i names) → now ≡ vars ++ decided_vars (name ∷ []) → now ≡ decided_vars (take (i + 1) names)
-decided_more names i name vars now lt is e f =
-    f ∙ (λ j. e j ++ decided_vars (is j ∷ [])) ∙ sym (decided_both (take i names) (get_or names i name ∷ [])) ∙ ap decided_vars (sym (take_more names i name lt))
 
 -- ---- places
 
@@ -89,10 +33,10 @@ at_place (y ∷ xs) (suc i) x lt is = at_place xs i x (omega (arith, lt)) is
 
 -- ---- decided values
 
-some_same : {X : Type 0} (x y : X) → Some x ≡ Some y → x ≡ y
+pub some_same : {X : Type 0} (x y : X) → Some x ≡ Some y → x ≡ y
 some_same x y e = cc
 
-none_some : {X : Type 0} (x : X) → None ≡ Some x → ⊥
+pub none_some : {X : Type 0} (x : X) → None ≡ Some x → ⊥
 none_some x e = cc
 
 get_set_same : {X : Type 0} (xs : List X) (k : ℕ) (y : X) → k < length xs → slice_get (slice_set xs k y) k ≡ Some y

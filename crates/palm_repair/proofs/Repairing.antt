@@ -106,7 +106,7 @@ undone_searching s gone earlier later engine e withdraws searching =
       };
     }
 
-raised_length : (x : ℕ) (weights vars : List ℕ) → length (raised_from x weights vars) ≡ length weights
+pub raised_length : (x : ℕ) (weights vars : List ℕ) → length (raised_from x weights vars) ≡ length weights
 raised_length x [] vars = refl
 raised_length x (w ∷ weights) vars = let e = raised_length (x + 1) weights vars in omega (arith, e)
 

@@ -1,67 +1,39 @@
 -- A turn of a repair, and one after another.
-use Rattle.std.proofs.Common.{◌≡◌, ℕ, zero, suc, ◌+◌, ◌-◌, ◌<◌, ◌≤◌, Bool, true, false, cond, nat_eq, Option, None, Some, List, [], ◌∷◌, ◌++◌, length, slice_get, take, drop, Contains, inl, inr, refl, sym, ap, ◌∙◌, subst, arith, length-append}
+use Rattle.std.proofs.Common.{◌≡◌, ℕ, zero, suc, ◌+◌, ◌<◌, ◌≤◌, Bool, true, false, cond, nat_eq, Option, None, Some, List, [], ◌∷◌, ◌++◌, length, slice_get, take, drop, Contains, inl, inr, refl, sym, ap, ◌∙◌, subst, arith, length-append}
 use Rattle.std.specs.List.{list_any}
-use Rattle.std.specs.Prelude.{MatchOption, OnErr, OnOk, Result, Ok, Err, remove, is_some}
+use Rattle.std.specs.Prelude.{MatchOption, remove, is_some}
 use Rattle.std.proofs.lemmas.List.Elements.{All-contains}
 use Rattle.palm_base.specs.declared.terms.Pair.{Pair}
 use Rattle.palm_base.specs.declared.terms.Cid.{Cid}
 use Rattle.palm_base.specs.declared.terms.Cid.TheVariants.{Decide, Not, User}
 use Rattle.palm_base.proofs.cited.Members.{member_nil, member_here, member_there, member_cases, member_same, member_place}
 use Rattle.palm_model.specs.Constraint.{Distinct}
-use Rattle.palm_model.specs.Event.{Posts, Withdraws, gone_with}
+use Rattle.palm_model.specs.Event.{gone_with}
 use Rattle.palm_model.specs.Log.{Active, Rises, cid_before}
-use Rattle.palm_model.specs.State.{EngineState, IsValid, decision_of}
+use Rattle.palm_model.specs.State.{EngineState}
 use Rattle.palm_model.proofs.cited.Narrowing.{has_declared}
 use Rattle.palm_events.specs.Reasons.{ReasonsAreRight}
 use Rattle.palm_events.proofs.cited.Conflicts.{flat_grounds}
 use Rattle.palm_events.proofs.cited.Names.{not_before_itself}
-use Rattle.palm_events.proofs.cited.States.{gone_grounds}
 use Rattle.palm_search.specs.declared.turn.Pick.{Pick}
 use Rattle.palm_search.specs.declared.turn.Turn.{Turn}
 use Rattle.palm_search.specs.declared.turn.Turn.TheVariants.{Decide as TurnDecide, Undo as TurnUndo}
 use Rattle.palm_search.specs.Calls.{SearchView, TakesBack, TakesTurn, search_state}
 use Rattle.palm_search.specs.Turns.{HasFlatConflict, decided_vars}
 use Rattle.palm_search.proofs.cited.Going.{vars_member}
-use Rattle.palm_search.proofs.cited.Showing.{split_place}
-use Rattle.palm_repair.specs.Posting.{Nogood, RepairState, PostsAll, nogood_of}
+use Rattle.palm_search.proofs.cited.Showing.{at_drop, split_place}
+use Rattle.palm_repair.specs.Posting.{Nogood, RepairState, PostsAll, PostsSome, nogood_of}
 use Rattle.palm_repair.specs.Repair.{IsHeaviest, MakesRoom, RepairUndoes, RepairTakes, RepairFollows, raised, raised_from, weight_of}
 use Rattle.palm_repair.specs.Kept.{IsNogood, IsRepairing}
 use Rattle.palm_repair.specs.Learned.{IsHeaviestAt, LearnedView, repair_state}
-use Rattle.palm_repair.specs.Turning.{IsCutTurn, IsReady, Learns, Moves, TakesRepairTurn, filtered}
+use Rattle.palm_repair.specs.Turning.{IsCutTurn, IsReady, Learns, LearnsSome, filtered}
 use Rattle.palm_repair.specs.Turning.IsCutTurn.{cut_within}
-use Rattle.palm_repair.specs.Turning.Moves.{moves_none, moves_posted, moves_withdrawn, moves_filtered}
 use Rattle.palm_repair.proofs.Blocking.{follows_at_turn}
-use Rattle.palm_repair.proofs.cited.Existing.{posting_exists, room_exists, settles_short, takes_short}
+use Rattle.palm_repair.proofs.cited.Existing.{posting_exists, settles_short, takes_short}
 use Rattle.palm_repair.proofs.Forcing.{posts_from_leaves}
+use Rattle.palm_repair.proofs.Reading.{none_some, some_same}
 use Rattle.palm_repair.proofs.Refuting.{flat_nogood, nogood_kept, users_withdrawn}
-use Rattle.palm_repair.proofs.Repairing.{decided_repairing, decision_no_user, roomy_repairing, undone, withdrawn_repairing}
-
--- ---- moves
-
-pub moves_then : (s m t : EngineState) → Moves s m → Moves m t → Moves s t
-moves_then s m _ one (moves_none t e) = subst (Moves s) (sym e) one
-moves_then s m _ one (moves_posted n a t two user posts) = moves_posted n a t (moves_then s m n one two) user posts
-moves_then s m _ one (moves_withdrawn n gone t two keeps none withdraws) = moves_withdrawn n gone t (moves_then s m n one two) keeps none withdraws
-moves_then s m _ one (moves_filtered n t two filters) = moves_filtered n t (moves_then s m n one two) filters
-
-pub moves_decided : (s t : EngineState) (p : Pair) → Posts s (decision_of p) t → Moves s t
-moves_decided s t p posts = moves_posted s (decision_of p) t (moves_none s refl) refl posts
-
-pub moves_undone : (s t : EngineState) (x : ℕ) → IsValid s → Withdraws s (Decide x) t → Moves s t
-moves_undone s t x valid withdraws =
-    moves_withdrawn s (gone_with s.active (Decide x)) t (moves_none s refl) (gone_grounds (length s.initial) s.active (Decide x) valid.formed) (decision_no_user s valid x) withdraws
-
-pub on_ok : {T E : Type 0} (P Q : Type 0) (result : Result T E) → (P → Q) → OnOk result P → OnOk result Q
-on_ok P Q (Ok x) to p = to p
-on_ok P Q (Err e) to p = tt
-
-pub on_err : {T E : Type 0} (P : Type 0) (result : Result T E) → P → OnErr result P
-on_err P (Ok x) p = tt
-on_err P (Err e) p = p
-
-pub on_err_to : {T E : Type 0} (P Q : Type 0) (result : Result T E) → (P → Q) → OnErr result P → OnErr result Q
-on_err_to P Q (Ok x) to p = tt
-on_err_to P Q (Err e) to p = to p
+use Rattle.palm_repair.proofs.Repairing.{decided_repairing, decision_no_user, raised_length, roomy_repairing, undone, withdrawn_repairing}
 
 -- ---- how many there are
 
@@ -158,23 +130,16 @@ follows_ready right guided ordered tabu count s turn t follows ready =
 
 -- ---- deciding
 
-pub decided_turn : (guided : Bool) (tabu : ℕ) (e m t : EngineState) (before after : SearchView) (learned now : LearnedView) (p : Pair) (pick : Pick) → TakesTurn guided (TurnDecide p pick) e before m after
-    → PostsAll (repair_state m after.decisions learned) (repair_state t after.decisions now) → TakesRepairTurn guided tabu (TurnDecide p pick) (repair_state e before.decisions learned) before (repair_state t after.decisions now) after
-decided_turn guided tabu e m t before after learned now p pick taken posts = record {
-  takes = record { middle = search_state m after; decides = taken.takes; posts = posts };
-  journal = taken.journal;
-}
-
 pub decided_ready : (guided : Bool) (e m : EngineState) (before after : SearchView) (learned : LearnedView) (p : Pair) (pick : Pick) → TakesTurn guided (TurnDecide p pick) e before m after → IsRepairing (repair_state e before.decisions learned)
     → IsRepairing (repair_state m after.decisions learned)
 decided_ready guided e m before after learned p pick taken repairing = decided_repairing guided (repair_state e before.decisions learned) p pick (search_state m after) taken.takes repairing
 
 -- memory ran out after the decision
-pub decided_cut : (guided : Bool) (tabu : ℕ) (e m : EngineState) (before after : SearchView) (learned : LearnedView) (p : Pair) (pick : Pick) → TakesTurn guided (TurnDecide p pick) e before m after → IsRepairing (repair_state e before.decisions learned)
-    → IsCutTurn guided tabu (repair_state e before.decisions learned) before after
-decided_cut guided tabu e m before after learned p pick taken repairing =
+pub decided_cut : (guided : Bool) (tabu : ℕ) (e m t : EngineState) (before after : SearchView) (learned : LearnedView) (p : Pair) (pick : Pick) → TakesTurn guided (TurnDecide p pick) e before m after → IsRepairing (repair_state e before.decisions learned)
+    → PostsSome (repair_state m after.decisions learned) t → IsCutTurn guided tabu (repair_state e before.decisions learned) before t after
+decided_cut guided tabu e m t before after learned p pick taken repairing some =
     let posting = posting_exists (repair_state m after.decisions learned) (decided_ready guided e m before after learned p pick taken repairing) in
-    cut_within (TurnDecide p pick) posting.0 (record { middle = search_state m after; decides = taken.takes; posts = posting.1 }) taken.journal
+    cut_within (TurnDecide p pick) posting.0 (record { middle = search_state m after; decides = taken.takes; posts = posting.1 }) some taken.journal
 
 -- ---- undoing
 
@@ -211,11 +176,7 @@ conflict_weighed s conflict x repairing flat m =
     subst (λ y. y < length s.weights) d.2 (decision_weighed s d.0 repairing d.1)
 
 pub raised_weighed : (s : RepairState) (vars : List ℕ) (p : Pair) → IsRepairing s → Contains s.search.decisions p → p.var < length (raised s.weights vars)
-raised_weighed s vars p repairing m = let lt = decision_weighed s p repairing m in let e = raised_long 0 s.weights vars in omega (arith, lt, e)
-  where
-    raised_long : (x : ℕ) (weights vars : List ℕ) → length (raised_from x weights vars) ≡ length weights
-    raised_long x [] vars = refl
-    raised_long x (w ∷ weights) vars = ap suc (raised_long (x + 1) weights vars)
+raised_weighed s vars p repairing m = let lt = decision_weighed s p repairing m in let e = raised_length 0 s.weights vars in omega (arith, lt, e)
 
 -- so the heaviest decision is found
 pub heaviest_found : (s : RepairState) (weights : List ℕ) (conflict : List Cid) (x : ℕ) (place : Option ℕ) (decisions : List Pair) (names : List Cid) → IsRepairing s → HasFlatConflict s.search.engine conflict → Contains conflict (Decide x)
@@ -226,22 +187,11 @@ heaviest_found s weights conflict x None decisions names repairing flat held ed 
     absurd (found d.0 (subst (λ l. Contains l d.0) (sym ed) d.1) (subst (λ l. Contains l (Decide d.0.var)) (sym en) (member_same conflict (Decide x) (Decide d.0.var) (ap Decide (sym d.2)) held)))
 heaviest_found s weights conflict x (Some place) decisions names repairing flat held ed en found = refl
 
-some_same : {X : Type 0} (x y : X) → Some x ≡ Some y → x ≡ y
-some_same x y e = cc
-
-none_some : {X : Type 0} (x : X) → None ≡ Some x → ⊥
-none_some x e = cc
-
 at_take : {X : Type 0} (n : ℕ) (xs : List X) (j : ℕ) (x : X) → slice_get (take n xs) j ≡ Some x → (j < n) × (slice_get xs j ≡ Some x)
 at_take zero xs j x e = absurd (none_some x e)
 at_take (suc n) [] j x e = absurd (none_some x e)
 at_take (suc n) (y ∷ xs) zero x e = (omega arith, e)
 at_take (suc n) (y ∷ xs) (suc j) x e = let r = at_take n xs j x e in let lt = r.0 in (omega (arith, lt), r.1)
-
-at_drop : {X : Type 0} (n : ℕ) (xs : List X) (j : ℕ) (x : X) → slice_get (drop n xs) j ≡ Some x → (k : ℕ) × (n ≤ k) × (slice_get xs k ≡ Some x)
-at_drop zero xs j x e = (j, omega arith, e)
-at_drop (suc n) [] j x e = absurd (none_some x e)
-at_drop (suc n) (y ∷ xs) j x e = let r = at_drop n xs j x e in let le = r.1 in (suc r.0, omega (arith, le), r.2)
 
 is_heaviest : (weights : List ℕ) (decisions : List Pair) (names : List Cid) (k : ℕ) (gone : Pair) → slice_get decisions k ≡ Some gone → IsHeaviestAt weights decisions names k → IsHeaviest weights decisions names gone (remove decisions k)
 is_heaviest weights decisions names k gone stood at =
@@ -267,31 +217,27 @@ is_heaviest weights decisions names k gone stood at =
 pub record IsUndone (tabu : ℕ) (e m : EngineState) (before after : SearchView) (learned : LearnedView) (conflict : List Cid) (gone : Pair) : Type 0 where
   pub repairing : IsRepairing (filtered (repair_state m after.decisions (record learned { weights = raised learned.weights (decided_vars conflict) })))
   pub nogood : IsNogood m (nogood_of before.decisions conflict)
-  pub moves : Moves e m
   pub turn : (now : LearnedView) (t : EngineState) → Learns tabu (nogood_of before.decisions conflict) (filtered (repair_state m after.decisions (record learned { weights = raised learned.weights (decided_vars conflict) }))) (repair_state t after.decisions now)
       → RepairUndoes tabu (repair_state e before.decisions learned) gone conflict (repair_state t after.decisions now)
-  pub cut : (next : RepairState) × RepairUndoes tabu (repair_state e before.decisions learned) gone conflict next
+  pub cut : (guided : Bool) (t : EngineState) → LearnsSome tabu (nogood_of before.decisions conflict) (filtered (repair_state m after.decisions (record learned { weights = raised learned.weights (decided_vars conflict) }))) t
+      → IsCutTurn guided tabu (repair_state e before.decisions learned) before t after
   pub journal : after.journal ≡ before.journal ++ TurnUndo gone conflict ∷ []
 
-pub undone_here : (tabu count : ℕ) (e m : EngineState) (before after : SearchView) (learned : LearnedView) (conflict : List Cid) (k : ℕ) (back : TakesBack conflict k e before m after) → 0 < tabu
+pub undone_here : (tabu count : ℕ) (e m : EngineState) (before after : SearchView) (learned : LearnedView) (conflict : List Cid) (k : ℕ) (back : TakesBack conflict k e before m after)
     → IsReady tabu count (repair_state e before.decisions learned) → HasFlatConflict e conflict → IsHeaviestAt (raised learned.weights (decided_vars conflict)) before.decisions conflict k
     → IsUndone tabu e m before after learned conflict back.gone
-undone_here tabu count e m before after learned conflict k back some ready flat at =
+undone_here tabu count e m before after learned conflict k back ready flat at =
     let s = repair_state e before.decisions learned in
     let vars = decided_vars conflict in
     let repairing = ready.at.repairing in
     let heaviest : IsHeaviest (raised learned.weights vars) before.decisions conflict back.gone after.decisions =
     subst (IsHeaviest (raised learned.weights vars) before.decisions conflict back.gone) (sym back.decisions) (is_heaviest (raised learned.weights vars) before.decisions conflict k back.gone back.stood at) in
     let here : IsRepairing (undone s m after.decisions vars) = withdrawn_repairing s back.gone conflict after.decisions m heaviest back.withdraws repairing in
-    let room = room_exists tabu (undone s m after.decisions vars) some ready.few here in
-    let whole = roomy_repairing tabu s back.gone conflict after.decisions m room.0 flat heaviest back.withdraws room.1 repairing in
-    let posting = posting_exists (record room.0 { nogoods = room.0.nogoods ++ nogood_of before.decisions conflict ∷ [] }) whole in
     record {
       repairing = here;
       nogood = nogood_kept e m (nogood_of before.decisions conflict)
           (users_withdrawn e (gone_with e.active (Decide back.gone.var)) m (decision_no_user e repairing.searching.valid back.gone.var) back.withdraws)
           (flat_nogood s.search conflict repairing.searching flat);
-      moves = moves_undone e m back.gone.var repairing.searching.valid back.withdraws;
       turn = λ now t learns. record {
         flat = flat;
         left = after.decisions;
@@ -302,30 +248,31 @@ undone_here tabu count e m before after learned conflict k back some ready flat 
         makes_room = learns.makes_room;
         posts = learns.posts;
       };
-      cut = (
-        posting.0,
-        record {
-          flat = flat;
-          left = after.decisions;
-          heaviest = heaviest;
-          engine = m;
-          withdraws = back.withdraws;
-          roomy = room.0;
-          makes_room = room.1;
-          posts = posting.1;
-        },
-      );
+      cut = λ guided t learns.
+          let roomy = learns.roomy in
+          let whole = roomy_repairing tabu s back.gone conflict after.decisions m roomy flat heaviest back.withdraws learns.makes_room repairing in
+          let posting = posting_exists (record roomy { nogoods = roomy.nogoods ++ nogood_of before.decisions conflict ∷ [] }) whole in
+          cut_within (TurnUndo back.gone conflict) posting.0 (record {
+            flat = flat;
+            left = after.decisions;
+            heaviest = heaviest;
+            engine = m;
+            withdraws = back.withdraws;
+            roomy = roomy;
+            makes_room = learns.makes_room;
+            posts = posting.1;
+          }) learns.posts back.journal;
       journal = back.journal;
     }
 
 -- the same, from what the calls told
 pub undone_by : (tabu : ℕ) (e m : EngineState) (before after : SearchView) (learned : LearnedView) (conflict : List Cid) (found : Option ℕ) (k : ℕ) (weights : List ℕ) (decisions : List Pair) (names : List Cid)
     → weights ≡ raised learned.weights (decided_vars conflict) → decisions ≡ before.decisions → names ≡ conflict
-    → MatchOption found ((p : Pair) → Contains decisions p → Contains names (Decide p.var) → ⊥) (IsHeaviestAt weights decisions names) → found ≡ Some k → (back : TakesBack conflict k e before m after) → 0 < tabu
+    → MatchOption found ((p : Pair) → Contains decisions p → Contains names (Decide p.var) → ⊥) (IsHeaviestAt weights decisions names) → found ≡ Some k → (back : TakesBack conflict k e before m after)
     → IsReady tabu (length before.journal) (repair_state e before.decisions learned) → HasFlatConflict e conflict → IsUndone tabu e m before after learned conflict back.gone
-undone_by tabu e m before after learned conflict found k weights decisions names ew ed en told is back some ready flat =
+undone_by tabu e m before after learned conflict found k weights decisions names ew ed en told is back ready flat =
     let here : IsHeaviestAt weights decisions names k =
     subst (λ o. MatchOption o ((p : Pair) → Contains decisions p → Contains names (Decide p.var) → ⊥) (IsHeaviestAt weights decisions names)) is told in
-    undone_here tabu (length before.journal) e m before after learned conflict k back some ready flat
+    undone_here tabu (length before.journal) e m before after learned conflict k back ready flat
     (subst (λ l. IsHeaviestAt (raised learned.weights (decided_vars conflict)) before.decisions l k) en
     (subst (λ l. IsHeaviestAt (raised learned.weights (decided_vars conflict)) l names k) ed (subst (λ l. IsHeaviestAt l decisions names k) ew here)))

@@ -18,10 +18,7 @@ use Rattle.palm_engine.proofs.cited.Withdrawing.{loses_none, none_lost, withdraw
 use Rattle.palm_repair.specs.Posting.{Nogood, Origin, active_origins}
 use Rattle.palm_repair.specs.Repair.{Drops, MakesRoom, negations_from, forced_by}
 use Rattle.palm_repair.specs.Learned.{LearnedView, repair_state}
-use Rattle.palm_repair.specs.Turning.{Moves}
-use Rattle.palm_repair.specs.Turning.Moves.{moves_none, moves_withdrawn}
 use Rattle.palm_repair.proofs.Reading.{at_member}
-use Rattle.palm_repair.proofs.Repairing.{forced_keeps, forced_no_user}
 
 -- ---- withdrawals of the same names
 
@@ -189,9 +186,6 @@ taken_all number origins i s t le walked =
     ]) taking.withdraws
 
 -- ---- room
-
-pub taken_moves : (s t : EngineState) (number : ℕ) (origins : List Origin) → WithdrawsAll s (forced_by s number origins) t → Moves s t
-taken_moves s t number origins withdraws = moves_withdrawn s (forced_by s number origins) t (moves_none s refl) (forced_keeps s number origins) (forced_no_user s number origins) withdraws
 
 pub room_made : (tabu : ℕ) (s t : EngineState) (decisions : List Pair) (before after : LearnedView) → 0 < tabu → length before.nogoods ≡ tabu → WithdrawsAll s (forced_by s before.dropped before.origins) t
     → after ≡ record before { nogoods = remove before.nogoods 0; origins = active_origins t.active before.origins; dropped = before.dropped + 1 }

@@ -1,14 +1,13 @@
 -- How a repair ended, and what the answer holds of the constraints that were active before it.
 use Rattle.std.specs.Prelude.{◌≡◌, ℕ, ⊤, ◌<◌, ◌⊎◌, Bool, List, Contains}
-use Rattle.palm_base.specs.declared.terms.Cid.{Cid}
-use Rattle.palm_model.specs.Domains.{Assignment}
 use Rattle.palm_model.specs.Closure.{IsSolution}
-use Rattle.palm_model.specs.Log.{IsActive, Named, cons_of}
+use Rattle.palm_model.specs.Log.{cons_of}
 use Rattle.palm_model.specs.State.{EngineState}
 use Rattle.palm_model.specs.Trial.{listed}
 use Rattle.palm_search.specs.declared.turn.Turn.{Turn}
-use Rattle.palm_search.specs.Search.{SearchEnd}
-use Rattle.palm_search.specs.Search.SearchEnd.{Found as EndFound, NoSolution as EndNoSolution, Spent as EndSpent}
+use Rattle.palm_search.specs.declared.ending.SearchEnd.{SearchEnd}
+use Rattle.palm_search.specs.declared.ending.SearchEnd.TheVariants.{Found as EndFound, NoSolution as EndNoSolution, Spent as EndSpent}
+use Rattle.palm_search.specs.Search.{AreUnsolved}
 use Rattle.palm_repair.specs.declared.answer.RepairAnswer.{RepairAnswer}
 use Rattle.palm_repair.specs.declared.answer.RepairAnswer.TheVariants.{Found, NoSolution, Spent}
 use Rattle.palm_repair.specs.Repair.{Repairs}
@@ -31,11 +30,6 @@ pub record HasRepaired (guided ordered : Bool) (tabu budget : ℕ) (s : EngineSt
   pub dropped : ℕ
   pub repairs : Repairs guided ordered tabu budget s turns (end_of answer) dropped t
   pub told : TellsDropped answer dropped
-
--- the users are active, and have no common solution
-pub record AreUnsolved (s : EngineState) (users : List Cid) : Type 0 where
-  pub active : (c : Cid) → Contains users c → IsActive s.active c
-  pub none : (a : Assignment) → IsSolution s.initial (Named s.active (Contains users)) a → ⊥
 
 -- the values satisfy all active constraints; the users have no common solution; the turns are as many as the budget
 -- allows, and a nogood was dropped or they are below the bound

@@ -1,7 +1,7 @@
 -- Nogoods, and the negations that are posted for them.
 use Rattle.std.specs.Prelude.{◌≡◌, ℕ, ◌+◌, ◌⊎◌, Bool, not, List, [], ◌∷◌, ◌++◌, map, flat_map, filter, nat_eq}
 use Rattle.std.specs.List.{list_any}
-use Rattle.palm_model.specs.State.{is_user, negation_of}
+use Rattle.palm_model.specs.State.{EngineState, is_user, negation_of}
 use Rattle.palm_base.specs.declared.terms.Pair.{Pair}
 use Rattle.palm_base.specs.declared.terms.Cid.{Cid}
 use Rattle.palm_base.specs.declared.terms.Cid.TheVariants.{Decide, Not, User}
@@ -86,3 +86,12 @@ PostsFrom s number (nogood ∷ nogoods) t =
 -- negations are posted for all listed nogoods
 abbrev pub PostsAll : RepairState → RepairState → Type 0
 PostsAll s t = PostsFrom s s.dropped s.nogoods t
+
+-- negations are posted for the oldest of the listed nogoods, up to some place, and the engine is as it is then
+pub record PostsSome (s : RepairState) (t : EngineState) : Type 0 where
+  pub walked : List Nogood
+  pub others : List Nogood
+  pub are : s.nogoods ≡ walked ++ others
+  pub last : RepairState
+  pub posts : PostsFrom s s.dropped walked last
+  pub is : t ≡ last.search.engine

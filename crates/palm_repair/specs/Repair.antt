@@ -11,7 +11,8 @@ use Rattle.palm_search.specs.declared.turn.Pick.{Pick}
 use Rattle.palm_search.specs.declared.turn.Turn.{Turn}
 use Rattle.palm_search.specs.declared.turn.Turn.TheVariants.{Decide as TurnDecide, Undo as TurnUndo}
 use Rattle.palm_search.specs.Turns.{SearchState, HasFlatConflict, Decides, SettlesAfter, decided_vars}
-use Rattle.palm_search.specs.Search.{SearchEnd, EndsWith, Closes, IsPicked, begun}
+use Rattle.palm_search.specs.declared.ending.SearchEnd.{SearchEnd}
+use Rattle.palm_search.specs.Search.{EndsWith, Closes, IsPicked, begun}
 use Rattle.palm_repair.specs.Posting.{Nogood, Origin, RepairState, PostsAll, nogood_of, active_origins}
 
 -- ---- decisions

@@ -10,11 +10,11 @@ ghost use Rattle.palm_model.specs.Log.{IsActive, cids_of, is_named};
 ghost use Rattle.palm_model.specs.State.{IsValid};
 ghost use Rattle.palm_search.specs.Calls.{search_state};
 ghost use Rattle.palm_search.specs.Kept.{HasDecisions};
-ghost use Rattle.palm_repair.specs.Posting.{Origin as OriginTerm, PostsAll, active_origins};
+ghost use Rattle.palm_repair.specs.Posting.{Origin as OriginTerm, PostsAll, PostsSome, active_origins};
 ghost use Rattle.palm_repair.specs.Repair.{MakesRoom, forced_by, raised, weight_of};
 ghost use Rattle.palm_repair.specs.Kept.{IsNogood, IsRepairing};
 ghost use Rattle.palm_repair.specs.Learned.{repair_state};
-ghost use Rattle.palm_repair.specs.Turning.{Learns, Moves, filtered};
+ghost use Rattle.palm_repair.specs.Turning.{Learns, LearnsSome, filtered};
 
 use crate::nogood::{Nogood, decided_values, force};
 use palm_base::{Cid, NoMemory, Pair, Var};
@@ -137,7 +137,6 @@ impl Learned {
         requires active { (o : OriginTerm) → Contains self.old.origins o → IsActive engine.old.state.active (CidTerm.Not o.pair) }
         requires small { self.old.dropped < LAST_COUNT }
         ensures ok { (decisions : List PairTerm) → MakesRoom tabu (repair_state engine.old.state decisions self.old) (repair_state engine.new.state decisions self.new) }
-        ensures moves { Moves engine.old.state engine.new.state }
         ensures counts { KeepsCounts engine.old engine.new }
         ensures valid { IsValid engine.new.state }
     {
@@ -175,7 +174,7 @@ impl Learned {
         requires few { length self.old.nogoods ≤ tabu }
         requires small { self.old.dropped + length self.old.nogoods < LAST_COUNT }
         ensures ok { OnOk result (Learns tabu nogood (filtered (repair_state engine.old.state search.now.decisions self.old)) (repair_state engine.new.state search.now.decisions self.new)) }
-        ensures moves { Moves engine.old.state engine.new.state }
+        ensures err { OnErr result (LearnsSome tabu nogood (filtered (repair_state engine.old.state search.now.decisions self.old)) engine.new.state) }
         ensures decisions { HasDecisions (search_state engine.new.state search.now) }
         ensures counts { KeepsCounts engine.old engine.new }
     {
@@ -219,7 +218,7 @@ impl Learned {
         requires repairing { IsRepairing (repair_state engine.old.state search.now.decisions self.old) }
         requires few { self.old.dropped + length self.old.nogoods ≤ LAST_COUNT }
         ensures ok { OnOk result (PostsAll (repair_state engine.old.state search.now.decisions self.old) (repair_state engine.new.state search.now.decisions self.new)) }
-        ensures moves { Moves engine.old.state engine.new.state }
+        ensures err { OnErr result (PostsSome (repair_state engine.old.state search.now.decisions self.old) engine.new.state) }
         ensures decisions { HasDecisions (search_state engine.new.state search.now) }
         ensures counts { KeepsCounts engine.old engine.new }
     {

@@ -9,10 +9,10 @@ ghost use Rattle.palm_model.specs.Log.{same_pair};
 ghost use Rattle.palm_repair.specs.Posting.{justification, nogood_of, pairs_under};
 ghost use Rattle.palm_repair.specs.Learned.{Forces, IsForced, ShowsDecisions, is_shown, left_open};
 
-use crate::conflict::users_of;
 use palm_base::{Cid, CidList, NoMemory, Pair, Value, Var};
 use palm_engine::Engine;
 use palm_filter::Filter;
+use palm_search::users_of;
 use std::alloc::Global;
 use std::marker::Model;
 

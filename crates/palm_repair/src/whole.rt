@@ -1,12 +1,11 @@
 //! The whole repair.
-ghost use Rattle.std.specs.Prelude.{◌≡◌, ◌+◌, ◌-◌, ◌<◌, ◌≤◌, [], min, IfOk, OnErr, OnOk, is_some};
-ghost use Rattle.palm_base.specs.declared.limits.TheConstants.{LAST_COUNT};
-ghost use Rattle.palm_events.specs.Along.{IsStill};
+ghost use Rattle.std.specs.Prelude.{◌≡◌, ◌<◌, [], IfOk, OnErr, is_some};
 ghost use Rattle.palm_model.specs.State.{IsValid};
 ghost use Rattle.palm_search.specs.Calls.{search_state};
 ghost use Rattle.palm_search.specs.Kept.{HasDecisions, HasOnlyUsers};
+ghost use Rattle.palm_search.specs.Leaves.{Counts, Leaves, Lent};
 ghost use Rattle.palm_repair.specs.Answers.{HasRepaired, IsTrueOf};
-ghost use Rattle.palm_repair.specs.Turning.{HasRun, IsBeginning, Moves};
+ghost use Rattle.palm_repair.specs.Turning.{BreaksOff, HasRun, IsCutOff};
 
 use crate::answer::RepairAnswer;
 use crate::learned::Learned;
@@ -35,13 +34,10 @@ fn run<F: Filter, G: Guide, O: Order, L: Ledger>(
     requires users { HasOnlyUsers engine.old.state }
     requires some { 0 < tabu }
     ensures ok { IfOk result (HasRun (is_some guide.old) (is_some order.old) tabu budget engine.old.state search.new.journal engine.new.state) }
-    ensures err { OnErr result (IsBeginning (is_some guide.old) (is_some order.old) tabu budget engine.old.state search.new.journal) }
-    ensures moves { Moves engine.old.state engine.new.state }
+    ensures err { OnErr result (IsCutOff (is_some guide.old) (is_some order.old) tabu budget engine.old.state search.new.journal engine.new.state) }
     ensures decisions { HasDecisions (search_state engine.new.state search.new) }
-    ensures later { steps.old ≤ steps.new }
-    ensures checks { engine.new.checks ≡ min (engine.old.checks + (steps.new - steps.old)) LAST_COUNT }
-    ensures guide { is_some guide.new ≡ is_some guide.old }
-    ensures order { is_some order.new ≡ is_some order.old }
+    ensures counts { Counts engine.old engine.new steps.old steps.new }
+    ensures lent { Lent guide.old guide.new order.old order.new }
     ensures before { IsValid engine.old.state }
 {
     // What holds of every engine is known once its store is read.
@@ -79,17 +75,10 @@ pub fn repair<F: Filter, G: Guide, O: Order, L: Ledger>(
     requires some { 0 < tabu }
     ensures ok { IfOk result (HasRepaired (is_some guide.old) (is_some order.old) tabu budget engine.old.state search.new.journal engine.new.state) }
     ensures holds { IfOk result (IsTrueOf engine.old.state budget) }
-    ensures err { OnErr result (IsBeginning (is_some guide.old) (is_some order.old) tabu budget engine.old.state search.new.journal) }
-    ensures active { engine.new.state.active ≡ engine.old.state.active }
-    ensures initial { engine.new.state.initial ≡ engine.old.state.initial }
-    ensures log { IsStill engine.old.state → engine.new.state.log ≡ engine.old.state.log }
-    ensures still { OnOk result (IsStill engine.new.state) }
-    ensures decisions { search.new.decisions ≡ [] }
-    ensures later { steps.old ≤ steps.new }
-    ensures checks { engine.new.checks ≡ min (engine.old.checks + (steps.new - steps.old)) LAST_COUNT }
-    ensures guide { is_some guide.new ≡ is_some guide.old }
-    ensures order { is_some order.new ≡ is_some order.old }
-    ensures valid { IsValid engine.new.state }
+    ensures err { OnErr result (BreaksOff (is_some guide.old) (is_some order.old) tabu budget engine.old.state search.new.journal engine.new.state) }
+    ensures leaves { Leaves engine.old.state engine.new.state search.new result }
+    ensures counts { Counts engine.old engine.new steps.old steps.new }
+    ensures lent { Lent guide.old guide.new order.old order.new }
 {
     let answer = run(alloc, engine, search, guide, order, tabu, budget, steps);
     search.close(engine);

@@ -1,9 +1,5 @@
 -- A user's constraint that is posted between two turns keeps what a search keeps, and does not lower the measure.
 use Rattle.std.proofs.Common.{◌≡◌, ℕ, ◌+◌, ◌≤◌, true, length, filter, take, Contains, inl, inr, sym, ap, ◌∙◌, subst, arith}
-use Rattle.std.proofs.lemmas.Bool.{false≢true}
-use Rattle.palm_base.specs.declared.terms.Pair.{Pair}
-use Rattle.palm_base.specs.declared.terms.Cid.{Cid}
-use Rattle.palm_base.specs.declared.terms.Cid.TheVariants.{Decide, Not}
 use Rattle.palm_model.specs.Domains.{Domains, Has}
 use Rattle.palm_model.specs.Trial.{value_count}
 use Rattle.palm_model.specs.Log.{Active}
@@ -18,18 +14,13 @@ use Rattle.palm_search.specs.Turns.{SearchState}
 use Rattle.palm_search.specs.Kept.{HasDecisions, HasDeclared, IsSearching}
 use Rattle.palm_search.specs.Measure.{negations_within, weighed, measure}
 use Rattle.palm_search.proofs.cited.Deciding.{posted_has, same_state}
+use Rattle.palm_search.proofs.cited.Keeping.{user_not, user_not_decision}
 use Rattle.palm_search.proofs.cited.Measuring.{held, count_posted, weighed_is}
 use Rattle.palm_search.proofs.cited.Weighing.{weighed_more}
 
-user_no_decision : (c : Cid) (x : ℕ) → is_user c ≡ true → c ≡ Decide x → ⊥
-user_no_decision c x t e = false≢true (subst (λ d. is_user d ≡ true) e t)
-
-user_no_negation : (c : Cid) (p : Pair) → is_user c ≡ true → c ≡ Not p → ⊥
-user_no_negation c p t e = false≢true (subst (λ d. is_user d ≡ true) e t)
-
 joined_decisions : (s : SearchState) (a : Active) (t : SearchState) → is_user a.cid ≡ true → Posts s.engine a t.engine → t.decisions ≡ s.decisions → HasDecisions s → HasDecisions t
 joined_decisions s a t user posts same has =
-    subst HasDecisions (same_state t s.decisions same) (posted_has s a t.engine (ap (λ (z : EngineState). z.active) posts.after) posts.inactive (λ x. user_no_decision a.cid x user) has)
+    subst HasDecisions (same_state t s.decisions same) (posted_has s a t.engine (ap (λ (z : EngineState). z.active) posts.after) posts.inactive (λ x. user_not_decision a.cid x user) has)
 
 joined_declared : (s : SearchState) (a : Active) (t : SearchState) → is_user a.cid ≡ true → Posts s.engine a t.engine → t.decisions ≡ s.decisions → HasDeclared s → HasDeclared t
 joined_declared s a t user posts same declared =
@@ -37,7 +28,7 @@ joined_declared s a t user posts same declared =
     record {
       decided = λ p m. subst (λ d. Has d p.var p.value) (sym ei) (declared.decided p (subst (λ l. Contains l p) same m));
       negated = λ b p m named. subst (λ d. Has d p.var p.value) (sym ei) (elim (with_posted_cases a s.engine.active b (subst (λ (z : EngineState). Contains z.active b) posts.after m)) [
-        | inl e ↦ absurd (user_no_negation a.cid p user (ap (λ (c : Active). c.cid) e ∙ named))
+        | inl e ↦ absurd (user_not a.cid p user (ap (λ (c : Active). c.cid) e ∙ named))
         | inr k ↦ declared.negated b p k named
       ]);
     }
@@ -45,7 +36,7 @@ joined_declared s a t user posts same declared =
 pub joined_searching : (s : SearchState) (a : Active) (t : SearchState) → is_user a.cid ≡ true → Posts s.engine a t.engine → t.decisions ≡ s.decisions → IsSearching s → IsSearching t
 joined_searching s a t user posts same searching = record {
   valid = posts_valid s.engine t.engine a posts searching.valid;
-  justified = step_justified s.engine (Happens (Post a)) t.engine posts searching.valid (λ p e. absurd (user_no_negation a.cid p user e)) searching.justified;
+  justified = step_justified s.engine (Happens (Post a)) t.engine posts searching.valid (λ p e. absurd (user_not a.cid p user e)) searching.justified;
   decisions = joined_decisions s a t user posts same searching.decisions;
   declared = joined_declared s a t user posts same searching.declared;
 }

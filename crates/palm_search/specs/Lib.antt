@@ -1,6 +1,9 @@
 pub mod Asked
+pub mod Breaking
 pub mod Calls
 pub mod Kept
+pub mod Leaves
 pub mod Measure
 pub mod Search
+pub mod Turning
 pub mod Turns

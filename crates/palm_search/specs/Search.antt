@@ -2,23 +2,20 @@
 use Rattle.std.specs.Prelude.{◌≡◌, ℕ, suc, ℤ, ◌≤◌, ⊤, Bool, not, List, [], ◌∷◌, length, map, filter, Contains, None}
 use Rattle.palm_base.specs.declared.terms.Cid.{Cid}
 use Rattle.palm_base.specs.declared.terms.Cid.TheVariants.{Decide}
-use Rattle.palm_model.specs.Domains.{Domains}
-use Rattle.palm_model.specs.Log.{Active, cids_of}
+use Rattle.palm_model.specs.Domains.{Assignment, Domains}
+use Rattle.palm_model.specs.Closure.{IsSolution}
+use Rattle.palm_model.specs.Log.{Active, IsActive, Named, cids_of}
 use Rattle.palm_model.specs.State.{EngineState, AllFilled, present, is_user}
 use Rattle.palm_model.specs.Event.{WithdrawsAll}
 use Rattle.palm_engine.specs.Settling.{Revision, Settles, FitsOrder}
+use Rattle.palm_search.specs.declared.ending.SearchEnd.{SearchEnd}
+use Rattle.palm_search.specs.declared.ending.SearchEnd.TheVariants.{Found, NoSolution, Spent}
 use Rattle.palm_search.specs.declared.turn.Pick.{Pick}
 use Rattle.palm_search.specs.declared.turn.Turn.{Turn}
 use Rattle.palm_search.specs.declared.turn.Turn.TheVariants.{Decide as TurnDecide, Undo as TurnUndo}
 use Rattle.palm_search.specs.Turns.{SearchState, IsOpen, HasFlatConflict, SettlesAfter, Turns, decided_vars}
 
 -- ---- ends
-
--- how a run ends
-pub data SearchEnd : Type 0 where
-  Found : (values : List ℤ) → SearchEnd
-  NoSolution : (users : List Cid) → SearchEnd
-  Spent : (turns : ℕ) → SearchEnd
 
 -- a domain is empty and its flat conflict holds no decision; the users are those of the flat conflict
 pub record HasNoSolution (s : EngineState) (users : List Cid) : Type 0 where
@@ -41,6 +38,11 @@ abbrev pub EndsWith : ℕ → ℕ → EngineState → SearchEnd → Type 0
 EndsWith budget count s (NoSolution users) = HasNoSolution s users
 EndsWith budget count s (Found values) = IsFound (present s) values
 EndsWith budget count s (Spent turns) = (turns ≡ count) × (count ≡ budget) × GoesOn s
+
+-- the users are active, and have no common solution
+pub record AreUnsolved (s : EngineState) (users : List Cid) : Type 0 where
+  pub active : (c : Cid) → Contains users c → IsActive s.active c
+  pub none : (a : Assignment) → IsSolution s.initial (Named s.active (Contains users)) a → ⊥
 
 -- ---- runs
 

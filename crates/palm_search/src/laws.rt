@@ -10,8 +10,9 @@ ghost use Rattle.palm_events.specs.Along.{IsStill};
 ghost use Rattle.palm_search.specs.declared.turn.Pick.{Pick};
 ghost use Rattle.palm_search.specs.declared.turn.Turn.{Turn};
 ghost use Rattle.palm_search.specs.Turns.{SearchState, FitsGuide, Takes, SettlesAfter, Turns};
-ghost use Rattle.palm_search.specs.Search.{SearchEnd, Searches, SearchesTo, IsSameSearch, begun};
-ghost use Rattle.palm_search.specs.Search.SearchEnd.{Found, NoSolution};
+ghost use Rattle.palm_search.specs.declared.ending.SearchEnd.{SearchEnd};
+ghost use Rattle.palm_search.specs.Search.{Searches, SearchesTo, IsSameSearch, begun};
+ghost use Rattle.palm_search.specs.declared.ending.SearchEnd.TheVariants.{Found, NoSolution};
 ghost use Rattle.palm_search.specs.Kept.{HasOnlyUsers, IsSearching, Rests};
 
 pub mod bound;

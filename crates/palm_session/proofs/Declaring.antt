@@ -7,7 +7,7 @@ use Rattle.palm_book.proofs.cited.Any.{any_member}
 use Rattle.palm_model.specs.Domains.{Domains, Has, values_of}
 use Rattle.palm_session.specs.Refusals.{IsUndeclared}
 use Rattle.palm_session.specs.State.{SessionState, IsHeld}
-use Rattle.palm_session.proofs.LawsOfLines.{variable_once}
+use Rattle.palm_book.proofs.cited.Naming.{variable_once}
 
 abbrev nobody : Entry
 nobody = record { name = []; values = [] }

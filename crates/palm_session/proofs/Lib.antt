@@ -10,7 +10,6 @@ pub mod Emptied
 pub mod Explained
 pub mod Following
 pub mod HeldObjects
-pub mod Intervals
 pub mod LawsOfDomains
 pub mod LawsOfLines
 pub mod Least
@@ -30,4 +29,3 @@ pub mod Spending
 pub mod Standing
 pub mod Telling
 pub mod Users
-pub mod WellFormed

@@ -2,7 +2,7 @@
 use Rattle.std.proofs.Common.{◌≡◌, ℕ, List, [], false, sym, subst, arith}
 use Rattle.std.proofs.lemmas.List.Elements.{All-nil}
 use Rattle.palm_session.specs.Feeding.{IsSession, view_of}
-use Rattle.palm_session.specs.Lines.{IsUnfinished}
+use Rattle.palm_session.specs.Feeding.{IsUnfinished}
 use Rattle.palm_session.specs.Serving.{DeskView}
 use Rattle.palm_session.specs.State.{fresh}
 use Rattle.palm_session.proofs.cited.LawsOfStates.{fresh_is}

@@ -13,8 +13,9 @@ use Rattle.palm_events.specs.Along.{IsStill}
 use Rattle.palm_events.proofs.cited.Reasons.{reasons_right}
 use Rattle.palm_search.specs.Measure.{most_turns}
 use Rattle.palm_search.specs.Kept.{HasOnlyUsers, Rests as RestsAfter}
-use Rattle.palm_search.specs.Search.{SearchEnd as RunEnd, Searches as SearchesWhole, EndsWith, IsFound, HasNoSolution}
-use Rattle.palm_search.specs.Search.SearchEnd.{Found as RunFound, NoSolution as RunNoSolution, Spent as RunSpent}
+use Rattle.palm_search.specs.declared.ending.SearchEnd.{SearchEnd as RunEnd}
+use Rattle.palm_search.specs.Search.{Searches as SearchesWhole, EndsWith, IsFound, HasNoSolution}
+use Rattle.palm_search.specs.declared.ending.SearchEnd.TheVariants.{Found as RunFound, NoSolution as RunNoSolution, Spent as RunSpent}
 use Rattle.palm_search.specs.Turns.{FitsGuide, SearchState}
 use Rattle.palm_search.specs.declared.turn.Pick.{Pick}
 use Rattle.palm_search.specs.declared.turn.Pick.TheVariants.{NoGuide, Nothing as NothingPicked}

@@ -1,5 +1,5 @@
 -- What serving a search does.
-use Rattle.std.proofs.Common.{◌≡◌, ℕ, ℤ, Bool, true, false, is_some, Some, List, length, All, refl, sym, ap, ◌∙◌, subst}
+use Rattle.std.proofs.Common.{◌≡◌, ℕ, ℤ, Bool, true, false, is_some, None, Some, List, length, All, refl, sym, ap, ◌∙◌, subst}
 use Rattle.palm_base.specs.declared.terms.Cid.{Cid}
 use Rattle.palm_base.proofs.cited.Members.{all_members}
 use Rattle.palm_model.specs.State.{EngineState}
@@ -7,9 +7,7 @@ use Rattle.palm_engine.specs.Engine.{View}
 use Rattle.palm_search.specs.Calls.{SearchView}
 use Rattle.palm_search.specs.Search.{Searches as SearchesWhole}
 use Rattle.palm_search.specs.declared.turn.Turn.{Turn}
-use Rattle.palm_dbt.specs.Answers.{end_of as dbt_run_end}
-use Rattle.palm_dbt.specs.declared.answer.Answer.{Answer}
-use Rattle.palm_dbt.specs.declared.answer.Answer.TheVariants.{Found as DbtFound, NoSolution as DbtNoSolution, Spent as DbtSpent}
+use Rattle.palm_search.specs.declared.ending.SearchEnd.{SearchEnd as RunEnd}
 use Rattle.palm_repair.specs.Answers.{end_of as repair_run_end, HasRepaired}
 use Rattle.palm_repair.specs.declared.answer.RepairAnswer.{RepairAnswer}
 use Rattle.palm_repair.specs.declared.answer.RepairAnswer.TheVariants.{Found as RepairFound, NoSolution as RepairNoSolution, Spent as RepairSpent}
@@ -18,10 +16,10 @@ use Rattle.palm_read.specs.declared.line.Line.TheVariants.{SolveDbt, SolveRepair
 use Rattle.palm_lang.specs.Reply.{fixed_text}
 use Rattle.palm_lang.specs.declared.reply.Fixed.TheVariants.{Paused}
 use Rattle.palm_session.specs.Answers.{waits, end_text}
-use Rattle.palm_session.specs.Effects.{SearchEnd, Found, NoSolution, Spent, Searched, Procedure, ByDbt, ByRepair, search_line, SearchesIn, SearchesByDbt, SearchesByRepair}
+use Rattle.palm_session.specs.Effects.{SearchEnd, Found, NoSolution, Spent, Searched, Procedure, ByDbt, ByRepair, search_line, told_end, SearchesIn, SearchesByDbt, SearchesByRepair}
 use Rattle.palm_session.specs.Objects.{ObjectsView}
 use Rattle.palm_session.specs.Refusals.{IsNone, Meets, in_order}
-use Rattle.palm_session.specs.Serving.{AsksFor, asks_after, DeskView, desk_of, dbt_end, repair_end, HasSearched, Serves, accepts}
+use Rattle.palm_session.specs.Serving.{AsksFor, asks_after, DeskView, desk_of, repair_end, HasSearched, Serves, accepts}
 use Rattle.palm_session.specs.State.{SessionState, IsHeld}
 use Rattle.palm_session.proofs.Accepting.{accepts_quietly, awake_goes}
 use Rattle.palm_session.proofs.Searched.{search_pausable}
@@ -60,14 +58,10 @@ none_fits s t by names is h =
 
 -- ---- the answers of the searches
 
-pub dbt_searches : (s : SessionState) (budget : ℕ) (turns : List Turn) (e : EngineState) (answer : Answer) → SearchesWhole (is_some s.guide) (is_some s.order) budget s.engine turns (dbt_run_end answer) e
-    → SearchesIn s (ByDbt budget) turns (dbt_end answer) e
-dbt_searches s budget turns e (DbtFound values) h =
-    let searches : SearchesByDbt s budget turns (Found values) e = record { ended = dbt_run_end (DbtFound values); searches = h; told = refl } in searches
-dbt_searches s budget turns e (DbtNoSolution users) h =
-    let searches : SearchesByDbt s budget turns (NoSolution users) e = record { ended = dbt_run_end (DbtNoSolution users); searches = h; told = refl } in searches
-dbt_searches s budget turns e (DbtSpent count) h =
-    let searches : SearchesByDbt s budget turns (dbt_end (DbtSpent count)) e = record { ended = dbt_run_end (DbtSpent count); searches = h; told = refl } in searches
+pub dbt_searches : (s : SessionState) (budget : ℕ) (turns : List Turn) (e : EngineState) (answer : RunEnd) → SearchesWhole (is_some s.guide) (is_some s.order) budget s.engine turns answer e
+    → SearchesIn s (ByDbt budget) turns (told_end None answer) e
+dbt_searches s budget turns e answer h =
+    let searches : SearchesByDbt s budget turns (told_end None answer) e = record { ended = answer; searches = h; told = refl } in searches
 
 pub repair_searches : (s : SessionState) (tabu budget : ℕ) (turns : List Turn) (e : EngineState) (answer : RepairAnswer) → HasRepaired (is_some s.guide) (is_some s.order) tabu budget s.engine turns e answer
     → SearchesIn s (ByRepair tabu budget) turns (repair_end answer) e

@@ -6,8 +6,9 @@ use Rattle.palm_model.specs.State.{EngineState}
 use Rattle.palm_model.specs.Event.{Posts, Withdraws, Declares}
 use Rattle.palm_model.specs.declared.constraint.Con.{Con}
 use Rattle.palm_engine.specs.Settling.{Revision, Settles, FitsOrder}
-use Rattle.palm_search.specs.Search.{SearchEnd as RunEnd, Searches as SearchesWhole}
-use Rattle.palm_search.specs.Search.SearchEnd.{Found as RunFound, NoSolution as RunNoSolution, Spent as RunSpent}
+use Rattle.palm_search.specs.declared.ending.SearchEnd.{SearchEnd as RunEnd}
+use Rattle.palm_search.specs.Search.{Searches as SearchesWhole}
+use Rattle.palm_search.specs.declared.ending.SearchEnd.TheVariants.{Found as RunFound, NoSolution as RunNoSolution, Spent as RunSpent}
 use Rattle.palm_search.specs.declared.turn.Turn.{Turn}
 use Rattle.palm_repair.specs.Repair.{Repairs}
 use Rattle.palm_book.specs.Book.{with_active, user_at}

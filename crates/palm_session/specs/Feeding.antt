@@ -7,12 +7,17 @@ use Rattle.palm_session.specs.Answers.{Answers}
 use Rattle.palm_base.specs.declared.limits.TheConstants.{LAST_COUNT}
 use Rattle.palm_lang.specs.Reply.{ended}
 use Rattle.palm_session.specs.Asking.{Asks, RunAsking}
-use Rattle.palm_session.specs.Lines.{HasNoFeed, IsUnfinished, without_return, last_line}
+use Rattle.palm_read.specs.Lines.{HasNoFeed, without_return, last_line}
 use Rattle.palm_session.specs.Replies.{Run, Answered, GoesOn, Ends, KeepsOn}
 use Rattle.palm_session.specs.declared.limits.TheConstants.{MOST_KEPT_BYTES}
 use Rattle.palm_session.specs.declared.going.Going.{Going}
 use Rattle.palm_session.specs.declared.going.Going.TheVariants.{More, Quit}
-use Rattle.palm_session.specs.declared.stop.Stop.{Stop}
+use Rattle.palm_lang.specs.declared.stop.WriteStop.{WriteStop as Stop}
+
+-- bytes of an unfinished line, as many as are kept of one
+pub record IsUnfinished (bytes : List ℕ) : Type 0 where
+  pub few : length bytes ≤ MOST_KEPT_BYTES
+  pub unbroken : HasNoFeed bytes
 
 -- what is seen of a session: what it holds, how often its engine has asked for support, the bytes that it keeps of an
 -- unfinished line, and whether it is over

@@ -2,7 +2,6 @@ pub mod Answers
 pub mod Asking
 pub mod Effects
 pub mod Feeding
-pub mod Lines
 pub mod Logged
 pub mod Objects
 pub mod Refusals
@@ -11,4 +10,3 @@ pub mod ReplyText
 pub mod Serving
 pub mod State
 pub mod Told
-pub mod Writing

@@ -5,7 +5,7 @@ use Rattle.palm_read.specs.declared.line.Line.TheVariants.{Guide, Order, Quit}
 use Rattle.palm_session.specs.State.{SessionState, fresh}
 use Rattle.palm_session.specs.Answers.{Answers}
 use Rattle.palm_lang.specs.Reply.{ended}
-use Rattle.palm_session.specs.Lines.{AreLines, HasNoFeed, without_return}
+use Rattle.palm_read.specs.Lines.{AreLines, HasNoFeed, without_return}
 
 -- the line ends the session
 abbrev pub Ends : List ℕ → Type 0

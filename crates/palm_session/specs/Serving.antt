@@ -9,8 +9,6 @@ use Rattle.palm_engine.specs.Engine.{View}
 use Rattle.palm_engine.specs.Work.{most_questions}
 use Rattle.palm_search.specs.Calls.{SearchView}
 use Rattle.palm_search.specs.declared.turn.Turn.{Turn}
-use Rattle.palm_dbt.specs.declared.answer.Answer.{Answer}
-use Rattle.palm_dbt.specs.declared.answer.Answer.TheVariants.{Found as DbtFound, NoSolution as DbtNoSolution, Spent as DbtSpent}
 use Rattle.palm_repair.specs.declared.answer.RepairAnswer.{RepairAnswer}
 use Rattle.palm_repair.specs.declared.answer.RepairAnswer.TheVariants.{Found as RepairFound, NoSolution as RepairNoSolution, Spent as RepairSpent}
 use Rattle.palm_book.specs.Book.{Contents, name_of}
@@ -85,12 +83,6 @@ pub record Followed (s : SessionState) (what : Next) (t : SessionState) (asked :
   pub asks : AsksWithin s.engine what t.engine asked
 
 -- ---- searches
-
--- the end that the answer of mac-dbt tells, which drops no nogoods
-abbrev pub dbt_end : Answer → SearchEnd
-dbt_end (DbtFound values) = Found values
-dbt_end (DbtNoSolution users) = NoSolution users
-dbt_end (DbtSpent turns) = Spent turns None
 
 -- the end that the answer of decision-repair tells
 abbrev pub repair_end : RepairAnswer → SearchEnd

@@ -1,5 +1,5 @@
 -- What a session holds between two lines.
-use Rattle.std.specs.Prelude.{◌≡◌, ℕ, ◌≤◌, Bool, true, false, List, [], All, Any, Contains, Option, None, IfSome}
+use Rattle.std.specs.Prelude.{◌≡◌, ℕ, ◌≤◌, Bool, true, false, List, [], All, Contains, Option, None, IfSome}
 use Rattle.std.specs.List.{list_any}
 use Rattle.palm_model.specs.Domains.{Domains}
 use Rattle.palm_model.specs.Closure.{IsGreatest}
@@ -9,6 +9,7 @@ use Rattle.palm_events.specs.Along.{IsStill}
 use Rattle.palm_book.specs.declared.limits.TheConstants.{MOST_ADDED}
 use Rattle.palm_search.specs.declared.turn.Turn.{Turn}
 use Rattle.palm_book.specs.Book.{Contents, IsBook, initial_of, active_of}
+use Rattle.palm_book.specs.Book as in_book
 
 -- the book, how many `add` lines were accepted, whether filtering waits, the guides and orders (the numbers of those
 -- that are there, and which one is chosen), the turns of the last search, and what the engine holds
@@ -57,11 +58,11 @@ pub record IsState (s : SessionState) : Type 0 where
 
 -- a variable has the name
 abbrev pub HasVariable : SessionState → List ℕ → Type 0
-HasVariable s name = Any (λ e. e.name ≡ name) s.book.variables
+HasVariable s name = in_book.HasVariable s.book name
 
 -- a constraint has the name
 abbrev pub HasConstraint : SessionState → List ℕ → Type 0
-HasConstraint s name = Any (λ c. c.name ≡ name) s.book.constraints
+HasConstraint s name = in_book.HasConstraint s.book name
 
 -- the greatest closed domains of the active constraints
 abbrev pub AreDomains : SessionState → Domains → Type 0

@@ -1,6 +1,6 @@
 //! Answering one line.
 ghost use Rattle.std.specs.Prelude.{◌-◌, IfOk, OnOk};
-ghost use Rattle.palm_session.specs.Writing.{IsCounted};
+ghost use Rattle.palm_lang.specs.Writing.{IsCounted};
 ghost use Rattle.palm_session.specs.Answers.{Answers};
 ghost use Rattle.palm_session.specs.Asking.{Asks};
 ghost use Rattle.palm_session.specs.Feeding.{AnswersTo, Decides};

@@ -1,31 +1,30 @@
 //! Writing replies, a line at a time, so that no whole reply is held.
 ghost use Rattle.std.specs.Prelude.{◌≡◌, ◌<◌, length, flat_map, All, OnOk};
-ghost use Rattle.palm_book.specs.Book.{AreValues, IsUser, name_of, values_at};
+ghost use Rattle.palm_book.specs.Book.{HasNumber, IsUser, name_of, number_name};
 ghost use Rattle.palm_cert.specs.Certificate.{certificate_text};
 ghost use Rattle.palm_cert.specs.Needs.{CanClaim};
 ghost use Rattle.palm_domain.specs.Rows.{present_of, present_values};
 ghost use Rattle.palm_explain.specs.Explanations.{reasons_of};
-ghost use Rattle.palm_lang.specs.Reply.{fixed_text, refusal_text, ran_text, domain_line, var_line, entry_at, entry_line, found_line, spent_line};
+ghost use Rattle.palm_lang.specs.Reply.{refusal_text, ran_text, domain_line, var_line, entry_at, entry_line, removal_line, found_line, spent_line};
+ghost use Rattle.palm_lang.specs.Writing.{Writes};
 ghost use Rattle.palm_model.specs.Domains.{AllAscend, values_of};
 ghost use Rattle.palm_session.specs.Answers.{domains_text, list_text, log_text, users_text};
 ghost use Rattle.palm_session.specs.Logged.{AreLogged, IsNumbered, log_line_at};
 ghost use Rattle.palm_session.specs.ReplyText.{reply_text, ReplyFits};
 ghost use Rattle.palm_session.specs.State.{IsHeld};
-ghost use Rattle.palm_session.specs.Writing.{Delivers};
 
 use crate::desk::Desk;
 use crate::reply::Reply;
 use crate::stop::Stop;
 use palm_agenda::Order;
-use palm_base::{Cid, CidList, Failed, NoMemory, Pair, Sink, Value, ValueList, Var, write_all};
-use palm_cert::{CertStop, write_cert};
-use palm_claim::Claim;
+use palm_base::{Cid, CidList, NoMemory, Pair, Sink, Value, ValueList, Var};
+use palm_cert::write_cert;
 use palm_domain::DomainStore;
 use palm_explain::ExplainStore;
 use palm_guide::Guide;
 use palm_lang::{
-    Book, Fixed, Lead, Refusal, print_domain, print_entry, print_fixed, print_found, print_names,
-    print_ran, print_refusal, print_removal, print_spent, print_var,
+    Book, Claim, Fixed, Lead, Refusal, print_domain, print_entry, print_found, print_names,
+    print_ran, print_refusal, print_removal, print_spent, write_fixed, write_line, write_var,
 };
 
 /// Writes a reply.
@@ -37,11 +36,11 @@ pub fn deliver<G: Guide, O: Order, K: Sink>(
 ) -> Result<(), Stop>
     requires held { IsHeld desk.now.state }
     requires fits { ReplyFits desk.now.state reply.now }
-    ensures { Delivers (K.state out.old) (K.state out.new) (reply_text desk.now.state reply.now) result }
+    ensures { Writes (K.state out.old) (K.state out.new) (reply_text desk.now.state reply.now) result }
 {
     match reply {
         Reply::Nothing => Ok(()),
-        Reply::Word(word) => write_word(*word, out, buffer),
+        Reply::Word(word) => write_fixed(*word, out, buffer),
         Reply::Refused(refusal) => write_refusal(*refusal, out, buffer),
         Reply::Ran(revisions) => write_ran(*revisions, out, buffer),
         Reply::Domains => write_domains(desk, out, buffer),
@@ -55,31 +54,18 @@ pub fn deliver<G: Guide, O: Order, K: Sink>(
     }
 }
 
-/// Writes a reply of one word.
-fn write_word<K: Sink>(word: Fixed, out: &mut K, buffer: &mut Vec<u8>) -> Result<(), Stop>
-    ensures { Delivers (K.state out.old) (K.state out.new) (fixed_text word) result }
-{
-    buffer.clear();
-    print_fixed(word, buffer)?;
-    write_text(out, buffer)
-}
-
 /// Writes a refusal.
 fn write_refusal<K: Sink>(refusal: Refusal, out: &mut K, buffer: &mut Vec<u8>) -> Result<(), Stop>
-    ensures { Delivers (K.state out.old) (K.state out.new) (refusal_text refusal) result }
+    ensures { Writes (K.state out.old) (K.state out.new) (refusal_text refusal) result }
 {
-    buffer.clear();
-    print_refusal(refusal, buffer)?;
-    write_text(out, buffer)
+    write_line!(out, buffer, print_refusal(refusal))
 }
 
 /// Writes how many revisions ran.
 fn write_ran<K: Sink>(revisions: u64, out: &mut K, buffer: &mut Vec<u8>) -> Result<(), Stop>
-    ensures { Delivers (K.state out.old) (K.state out.new) (ran_text revisions) result }
+    ensures { Writes (K.state out.old) (K.state out.new) (ran_text revisions) result }
 {
-    buffer.clear();
-    print_ran(revisions, buffer)?;
-    write_text(out, buffer)
+    write_line!(out, buffer, print_ran(revisions))
 }
 
 /// Writes the names of users' constraints behind a word.
@@ -91,11 +77,9 @@ fn write_names<K: Sink>(
     buffer: &mut Vec<u8>,
 ) -> Result<(), Stop>
     requires { All (IsUser book.now) names.now }
-    ensures { Delivers (K.state out.old) (K.state out.new) (users_text book.now lead names.now) result }
+    ensures { Writes (K.state out.old) (K.state out.new) (users_text book.now lead names.now) result }
 {
-    buffer.clear();
-    print_names(book, lead, names, buffer)?;
-    write_text(out, buffer)
+    write_line!(out, buffer, print_names(book, lead, names))
 }
 
 /// The same claim.
@@ -119,13 +103,9 @@ fn write_certificate<G: Guide, O: Order, K: Sink>(
 ) -> Result<(), Stop>
     requires held { IsHeld desk.now.state }
     requires holds { CanClaim desk.now.state.engine claim.now }
-    ensures { Delivers (K.state out.old) (K.state out.new) (certificate_text desk.now.state.book desk.now.state.engine.log claim.now) result }
+    ensures { Writes (K.state out.old) (K.state out.new) (certificate_text desk.now.state.book desk.now.state.engine.log claim.now) result }
 {
-    match write_cert(desk.alloc, desk.engine(), desk.book(), copy_of(claim), out) {
-        Ok(()) => Ok(()),
-        Err(CertStop::WriteFault) => Err(Stop::WriteFault),
-        Err(CertStop::NoMemory) => Err(Stop::NoMemory),
-    }
+    write_cert(desk.alloc, desk.engine(), desk.book(), copy_of(claim), out)
 }
 
 /// Writes a value for each variable.
@@ -136,11 +116,9 @@ fn write_found<K: Sink>(
     buffer: &mut Vec<u8>,
 ) -> Result<(), Stop>
     requires { length values.now ≡ length book.now.variables }
-    ensures { Delivers (K.state out.old) (K.state out.new) (found_line book.now.variables values.now) result }
+    ensures { Writes (K.state out.old) (K.state out.new) (found_line book.now.variables values.now) result }
 {
-    buffer.clear();
-    print_found(book, values, buffer)?;
-    write_text(out, buffer)
+    write_line!(out, buffer, print_found(book, values))
 }
 
 /// Writes how many turns were taken, and how many nogoods dropped.
@@ -150,11 +128,9 @@ fn write_spent<K: Sink>(
     out: &mut K,
     buffer: &mut Vec<u8>,
 ) -> Result<(), Stop>
-    ensures { Delivers (K.state out.old) (K.state out.new) (spent_line turns dropped) result }
+    ensures { Writes (K.state out.old) (K.state out.new) (spent_line turns dropped) result }
 {
-    buffer.clear();
-    print_spent(turns, dropped, buffer)?;
-    write_text(out, buffer)
+    write_line!(out, buffer, print_spent(turns, dropped))
 }
 
 /// Makes the list the present values of a variable.
@@ -184,12 +160,10 @@ fn write_domain<K: Sink>(
     requires variable { var < length book.now.variables }
     requires domain { var < length store.now }
     requires ascend { AllAscend (present_of store.now) }
-    ensures { Delivers (K.state out.old) (K.state out.new) (domain_line (name_of book.now.variables var) (values_of (present_of store.now) var)) result }
+    ensures { Writes (K.state out.old) (K.state out.new) (domain_line (name_of book.now.variables var) (values_of (present_of store.now) var)) result }
 {
     collect_values(store, var, values)?;
-    buffer.clear();
-    print_domain(book.variable_name(var), values, buffer)?;
-    write_text(out, buffer)
+    write_line!(out, buffer, print_domain(book.variable_name(var), values))
 }
 
 /// Writes the values of one variable.
@@ -201,7 +175,7 @@ fn write_one_domain<G: Guide, O: Order, K: Sink>(
 ) -> Result<(), Stop>
     requires held { IsHeld desk.now.state }
     requires variable { var < length desk.now.state.book.variables }
-    ensures { Delivers (K.state out.old) (K.state out.new) (reply_text desk.now.state (Reply.Domain var)) result }
+    ensures { Writes (K.state out.old) (K.state out.new) (reply_text desk.now.state (Reply.Domain var)) result }
 {
     let mut values = Vec::new(desk.alloc);
     write_domain(
@@ -221,7 +195,7 @@ fn write_domains<G: Guide, O: Order, K: Sink>(
     buffer: &mut Vec<u8>,
 ) -> Result<(), Stop>
     requires { IsHeld desk.now.state }
-    ensures { Delivers (K.state out.old) (K.state out.new) (reply_text desk.now.state Reply.Domains) result }
+    ensures { Writes (K.state out.old) (K.state out.new) (reply_text desk.now.state Reply.Domains) result }
 {
     let mut values = Vec::new(desk.alloc);
     write_each_domain(desk.book(), desk.engine().store(), &mut values, out, buffer)
@@ -237,56 +211,36 @@ fn write_each_domain<K: Sink>(
 ) -> Result<(), Stop>
     requires long { length store.now ≡ length book.now.variables }
     requires ascend { AllAscend (present_of store.now) }
-    ensures { Delivers (K.state out.old) (K.state out.new) (domains_text book.now.variables (present_of store.now)) result }
+    ensures { Writes (K.state out.old) (K.state out.new) (domains_text book.now.variables (present_of store.now)) result }
 {
     for index in 0..book.variables() {
         write_domain(book, store, Var(index), values, out, buffer)?;
     }
-    write_word(Fixed::End, out, buffer)
+    write_fixed(Fixed::End, out, buffer)
 }
 
 /// Writes the book.
 fn write_list<K: Sink>(book: &Book, out: &mut K, buffer: &mut Vec<u8>) -> Result<(), Stop>
-    ensures { Delivers (K.state out.old) (K.state out.new) (list_text book.now) result }
+    ensures { Writes (K.state out.old) (K.state out.new) (list_text book.now) result }
 {
     write_variables(book, out, buffer)?;
     write_constraints(book, out, buffer)?;
-    write_word(Fixed::End, out, buffer)
+    write_fixed(Fixed::End, out, buffer)
 }
 
 /// Writes the variables as `list` shows them.
 fn write_variables<K: Sink>(book: &Book, out: &mut K, buffer: &mut Vec<u8>) -> Result<(), Stop>
-    ensures { Delivers (K.state out.old) (K.state out.new) (flat_map (λ e. var_line e.name e.values) book.now.variables) result }
+    ensures { Writes (K.state out.old) (K.state out.new) (flat_map (λ e. var_line e.name e.values) book.now.variables) result }
 {
     for index in 0..book.variables() {
-        write_variable(book, Var(index), out, buffer)?;
+        write_var(book, Var(index), out, buffer)?;
     }
     Ok(())
 }
 
-/// Writes a variable as `list` shows it.
-fn write_variable<K: Sink>(
-    book: &Book,
-    var: Var,
-    out: &mut K,
-    buffer: &mut Vec<u8>,
-) -> Result<(), Stop>
-    requires variable { var < length book.now.variables }
-    requires values { AreValues (values_at book.now.variables var) }
-    ensures { Delivers (K.state out.old) (K.state out.new) (var_line (name_of book.now.variables var) (values_at book.now.variables var)) result }
-{
-    buffer.clear();
-    print_var(
-        book.variable_name(var),
-        book.initial(var).as_slice(),
-        buffer,
-    )?;
-    write_text(out, buffer)
-}
-
 /// Writes the constraints as `list` shows them.
 fn write_constraints<K: Sink>(book: &Book, out: &mut K, buffer: &mut Vec<u8>) -> Result<(), Stop>
-    ensures { Delivers (K.state out.old) (K.state out.new) (flat_map (entry_line book.now.variables) book.now.constraints) result }
+    ensures { Writes (K.state out.old) (K.state out.new) (flat_map (entry_line book.now.variables) book.now.constraints) result }
 {
     for place in 0..book.constraints() {
         write_entry(book, place, out, buffer)?;
@@ -302,11 +256,9 @@ fn write_entry<K: Sink>(
     buffer: &mut Vec<u8>,
 ) -> Result<(), Stop>
     requires { place < length book.now.constraints }
-    ensures { Delivers (K.state out.old) (K.state out.new) (entry_at book.now place) result }
+    ensures { Writes (K.state out.old) (K.state out.new) (entry_at book.now place) result }
 {
-    buffer.clear();
-    print_entry(book, place, buffer)?;
-    write_text(out, buffer)
+    write_line!(out, buffer, print_entry(book, place))
 }
 
 /// Writes the log.
@@ -316,7 +268,7 @@ fn write_log<G: Guide, O: Order, K: Sink>(
     buffer: &mut Vec<u8>,
 ) -> Result<(), Stop>
     requires { IsHeld desk.now.state }
-    ensures { Delivers (K.state out.old) (K.state out.new) (log_text desk.now.state.book desk.now.state.engine.log) result }
+    ensures { Writes (K.state out.old) (K.state out.new) (log_text desk.now.state.book desk.now.state.engine.log) result }
 {
     let mut reasons = Vec::new(desk.alloc);
     write_removals(desk.book(), desk.engine().log(), &mut reasons, out, buffer)
@@ -331,12 +283,12 @@ fn write_removals<K: Sink>(
     buffer: &mut Vec<u8>,
 ) -> Result<(), Stop>
     requires { AreLogged book.now log.now.log }
-    ensures { Delivers (K.state out.old) (K.state out.new) (log_text book.now log.now.log) result }
+    ensures { Writes (K.state out.old) (K.state out.new) (log_text book.now log.now.log) result }
 {
     for place in 0..log.removals() {
         write_removal(book, log, place, reasons, out, buffer)?;
     }
-    write_word(Fixed::End, out, buffer)
+    write_fixed(Fixed::End, out, buffer)
 }
 
 /// Writes the removal at a place.
@@ -350,13 +302,28 @@ fn write_removal<K: Sink>(
 ) -> Result<(), Stop>
     requires logged { AreLogged book.now log.now.log }
     requires place { place < length log.now.log }
-    ensures { Delivers (K.state out.old) (K.state out.new) (log_line_at book.now log.now.log place) result }
+    ensures { Writes (K.state out.old) (K.state out.new) (log_line_at book.now log.now.log place) result }
 {
     collect_reasons(log, place, reasons)?;
-    buffer.clear();
     let by = number_of(log.by_at(place));
-    print_removal(book, log.pair_at(place), by, reasons, buffer)?;
-    write_text(out, buffer)
+    write_removal_line(book, log.pair_at(place), by, reasons, out, buffer)
+}
+
+/// Writes a removal with its reasons.
+fn write_removal_line<K: Sink>(
+    book: &Book,
+    pair: Pair,
+    by: u32,
+    reasons: &[Pair],
+    out: &mut K,
+    buffer: &mut Vec<u8>,
+) -> Result<(), Stop>
+    requires variable { pair.var < length book.now.variables }
+    requires constraint { HasNumber book.now by }
+    requires reasons { All (λ p. p.var < length book.now.variables) reasons.now }
+    ensures { Writes (K.state out.old) (K.state out.new) (removal_line book.now.variables (number_name book.now.constraints by) pair reasons.now) result }
+{
+    write_line!(out, buffer, print_removal(book, pair, by, reasons))
 }
 
 /// Makes the list the reasons of the removal at a place.
@@ -383,15 +350,5 @@ fn number_of(cid: Cid) -> u32
     match cid {
         Cid::User(number) => number,
         Cid::Decide(_) | Cid::Not(_) => unreachable!(),
-    }
-}
-
-/// Writes a text that was made.
-fn write_text<K: Sink>(out: &mut K, text: &[u8]) -> Result<(), Stop>
-    ensures { Delivers (K.state out.old) (K.state out.new) text.now result }
-{
-    match write_all(out, text) {
-        Ok(()) => Ok(()),
-        Err(Failed) => Err(Stop::WriteFault),
     }
 }

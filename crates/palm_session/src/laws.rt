@@ -2,7 +2,7 @@
 ghost use Rattle.std.specs.Prelude.{◌≡◌, ◌↔◌, ℕ, None, List, take};
 ghost use Rattle.palm_session.specs.State.{SessionState, IsState, fresh};
 ghost use Rattle.palm_session.specs.Answers.{Answers};
-ghost use Rattle.palm_session.specs.Lines.{without_return};
+ghost use Rattle.palm_read.specs.Lines.{without_return};
 ghost use Rattle.palm_session.specs.Replies.{ChoosesNone, Ends, Replies, Run};
 ghost use Rattle.palm_events.specs.Scoped.{HasScopedReasons};
 

@@ -9,7 +9,6 @@ mod desk;
 mod going;
 mod laws;
 mod limits;
-mod lines;
 mod objects;
 mod questions;
 mod refuse;

@@ -3,14 +3,11 @@ ghost use Rattle.std.specs.Prelude.{◌≡◌, ◌⊎◌};
 ghost use Rattle.palm_base.specs.Tells.{Tells};
 ghost use Rattle.palm_read.specs.Limits.{IsBeyond};
 ghost use Rattle.palm_session.specs.Refusals.{HasNoRoom, TakesName, refusal_of};
-ghost use Rattle.palm_session.specs.State.{HasVariable, HasConstraint};
 
 use crate::desk::Desk;
 use palm_agenda::Order;
 use palm_guide::Guide;
-use palm_lang::{
-    Line, LineError, MOST_ADDED, MOST_CONSTRAINTS, MOST_VARIABLES, Name, Refusal, beyond,
-};
+use palm_lang::{Line, LineError, MOST_ADDED, MOST_CONSTRAINTS, MOST_VARIABLES, Refusal, beyond};
 
 /// The refusal of a line that could not be read; want of memory has none.
 pub fn refusal_of(error: LineError) -> Option<Refusal>
@@ -27,33 +24,13 @@ pub fn refusal_of(error: LineError) -> Option<Refusal>
 }
 
 impl<G: Guide, O: Order> Desk<G, O> {
-    /// Whether a variable has the name.
-    fn has_variable(&self, name: &Name) -> bool
-        ensures { Tells result (HasVariable self.now.state name.now) }
-    {
-        match self.book.variable_named(name) {
-            Some(_) => true,
-            None => false,
-        }
-    }
-
-    /// Whether a constraint has the name.
-    fn has_constraint(&self, name: &Name) -> bool
-        ensures { Tells result (HasConstraint self.now.state name.now) }
-    {
-        match self.book.constraint_named(name) {
-            Some(_) => true,
-            None => false,
-        }
-    }
-
     /// Whether the line declares or adds a name that stands for something already.
     pub fn takes_name(&self, line: &Line) -> bool
         ensures { Tells result (TakesName self.now.state line.now) }
     {
         match line {
-            Line::Var { name, domain: _ } => self.has_variable(name),
-            Line::Add { name, shape: _ } => self.has_constraint(name),
+            Line::Var { name, domain: _ } => self.book.has_variable(name),
+            Line::Add { name, shape: _ } => self.book.has_constraint(name),
             _ => false,
         }
     }

@@ -1,8 +1,8 @@
 //! Sessions: bytes in, in any pieces; lines cut out of them; replies out.
 ghost use Rattle.std.specs.Prelude.{◌≡◌, ◌-◌, ◌≤◌, ◌++◌, [], true, false, IfOk, OnOk, take};
-ghost use Rattle.palm_session.specs.Writing.{IsCounted};
-ghost use Rattle.palm_session.specs.Feeding.{AnswersLines, Feeds, FeedsText, Finishes, FinishesTo, RaisesChecks};
-ghost use Rattle.palm_session.specs.Lines.{HasNoFeed, IsUnfinished};
+ghost use Rattle.palm_lang.specs.Writing.{IsCounted};
+ghost use Rattle.palm_session.specs.Feeding.{AnswersLines, Feeds, FeedsText, Finishes, FinishesTo, IsUnfinished, RaisesChecks};
+ghost use Rattle.palm_read.specs.Lines.{HasNoFeed};
 ghost use Rattle.palm_session.specs.Serving.{Spends};
 ghost use Rattle.palm_session.specs.State.{IsState};
 ghost use Rattle.palm_model.specs.State.{IsValid};
@@ -10,7 +10,6 @@ ghost use Rattle.palm_model.specs.State.{IsValid};
 use crate::desk::Desk;
 use crate::going::Going;
 use crate::limits::MOST_KEPT_BYTES;
-use crate::lines::{next_feed, without_return};
 use crate::stop::Stop;
 use palm_agenda::Order;
 use palm_base::{NoMemory, Sink, Steps};
@@ -18,6 +17,7 @@ use palm_engine::Engine;
 use palm_guide::Guide;
 use palm_kind::Kind;
 use palm_lang::Book;
+use palm_read::{next_feed, without_return};
 use palm_search::Turn;
 use std::alloc::Global;
 use std::marker::Model;

@@ -4,11 +4,10 @@ ghost use Rattle.palm_base.specs.declared.limits.TheConstants.{LAST_COUNT};
 ghost use Rattle.palm_model.specs.State.{IsValid};
 ghost use Rattle.palm_search.specs.Kept.{HasOnlyUsers};
 ghost use Rattle.palm_search.specs.Search.{Searches};
-ghost use Rattle.palm_dbt.specs.Answers.{end_of};
 ghost use Rattle.palm_repair.specs.Answers.{HasRepaired};
-ghost use Rattle.palm_session.specs.Effects.{ByDbt, ByRepair};
+ghost use Rattle.palm_session.specs.Effects.{ByDbt, ByRepair, told_end};
 ghost use Rattle.palm_session.specs.ReplyText.{reply_text, ReplyFits};
-ghost use Rattle.palm_session.specs.Serving.{AsksFor, HasSearched, Serves, Spends, dbt_end, repair_end};
+ghost use Rattle.palm_session.specs.Serving.{AsksFor, HasSearched, Serves, Spends, repair_end};
 ghost use Rattle.palm_session.specs.State.{IsState};
 
 use crate::desk::Desk;
@@ -62,7 +61,7 @@ impl<G: Guide, O: Order> Desk<G, O> {
         steps: &mut Steps<L>,
     ) -> Result<Answer, NoMemory>
         requires { IsState self.old.state }
-        ensures searched { IfOk result (λ answer. HasSearched self.old.state (ByDbt budget) (dbt_end answer) self.new.state) }
+        ensures searched { IfOk result (λ answer. HasSearched self.old.state (ByDbt budget) (told_end None answer) self.new.state) }
         ensures spends { Spends self.old self.new steps.old steps.new }
     {
         self.search = Search::begin(self.alloc);
@@ -147,7 +146,7 @@ fn solve_by<G: Guide, O: Order, L: Ledger>(
 ) -> Result<Answer, NoMemory>
     requires fresh { search.old ≡ record { decisions = []; journal = [] } }
     requires users { HasOnlyUsers engine.old.state }
-    ensures ok { IfOk result (λ answer. Searches (is_some guides.old.chosen) (is_some orders.old.chosen) budget engine.old.state search.new.journal (end_of answer) engine.new.state) }
+    ensures ok { IfOk result (λ answer. Searches (is_some guides.old.chosen) (is_some orders.old.chosen) budget engine.old.state search.new.journal answer engine.new.state) }
     ensures later { steps.old ≤ steps.new }
     ensures checks { engine.new.checks ≡ min (engine.old.checks + (steps.new - steps.old)) LAST_COUNT }
     ensures guides { guides.new ≡ guides.old }

@@ -1,11 +1,10 @@
 //! Lines that declare variables.
-ghost use Rattle.std.specs.Prelude.{◌≡◌, ◌≤ℤ◌, ◌-ℤ◌, ◌≤◌, ◌+◌, ◌⊎◌, pos, length, IfOk, OnOk};
+ghost use Rattle.std.specs.Prelude.{◌≡◌, ◌≤◌, ◌⊎◌, length, IfOk, OnOk};
 ghost use Rattle.palm_base.specs.Tells.{Tells};
 ghost use Rattle.palm_book.specs.Book.{AreValues};
 ghost use Rattle.palm_model.specs.Event.{Declares};
-ghost use Rattle.palm_model.specs.Limits.{IsValue};
 ghost use Rattle.palm_model.specs.State.{EngineState};
-ghost use Rattle.palm_read.specs.Domain.{IsLarge, count_in, IsSoundDomain, values_in, from_on};
+ghost use Rattle.palm_read.specs.Domain.{IsLarge};
 ghost use Rattle.palm_read.specs.Name.{IsNameText};
 ghost use Rattle.palm_read.specs.Sound.{IsSound};
 ghost use Rattle.palm_session.specs.Effects.{with_engine, with_variable};
@@ -16,10 +15,10 @@ ghost use Rattle.palm_session.specs.State.{HasVariable, IsHeld, IsState};
 use crate::desk::Desk;
 use crate::reply::Reply;
 use palm_agenda::Order;
-use palm_base::{NoMemory, Value, ValueList};
+use palm_base::{NoMemory, ValueList};
+use palm_book::values_in;
 use palm_guide::Guide;
-use palm_lang::{DomainText, Line, MOST_VALUES, MOST_VARIABLES, Name, Refusal};
-use std::alloc::Global;
+use palm_lang::{DomainText, Line, MOST_VARIABLES, Name, Refusal};
 
 impl<G: Guide, O: Order> Desk<G, O> {
     /// Serves `var`; it is told whether the line goes beyond a limit.
@@ -59,34 +58,4 @@ impl<G: Guide, O: Order> Desk<G, O> {
         self.book.add_variable(name, values)?;
         Ok(())
     }
-}
-
-/// The values of a domain, ascending.
-fn values_in(alloc: Global, domain: DomainText) -> Result<ValueList, NoMemory>
-    requires sound { IsSoundDomain domain }
-    requires small { IsLarge domain → ⊥ }
-    ensures values { IfOk result (λ values. values ≡ values_in domain) }
-    ensures fit { IfOk result AreValues }
-{
-    match domain {
-        DomainText::Range { low, high } => interval(alloc, low, high),
-        DomainText::Set(values) => Ok(values),
-    }
-}
-
-/// All values from `low` to `high`.
-fn interval(alloc: Global, low: Value, high: Value) -> Result<ValueList, NoMemory>
-    requires low { IsValue low }
-    requires high { IsValue high }
-    requires ordered { low ≤ℤ high }
-    requires small { (pos MOST_VALUES ≤ℤ (high -ℤ low)) → ⊥ }
-    ensures values { IfOk result (λ values. values ≡ from_on low (count_in (high -ℤ low) + 1)) }
-    ensures fit { IfOk result AreValues }
-{
-    let count = (high.0 - low.0) as u16 + 1;
-    let mut values = ValueList::new(alloc);
-    for offset in 0..count {
-        values.push(Value(low.0 + i32::from(offset)))?;
-    }
-    Ok(values)
 }

@@ -16,7 +16,6 @@ use Rattle.palm_model.proofs.cited.Without.{has_without, pair_of}
 use Rattle.palm_laws.proofs.cited.Solutions.{explained_missing}
 use Rattle.palm_claim.specs.Claim.{HoldsIn, IsExplained, IsOver, IsOverItsBook, constraints_of}
 use Rattle.palm_claim.specs.Draft.{Draft, Leads, MayStand, at_stage, blank, with_constraint, with_step, with_variable}
-use Rattle.palm_claim.specs.Lines.{lines_of}
 use Rattle.palm_claim.specs.Statement.{IsStepNumber, Says}
 use Rattle.palm_claim.specs.Step.{IsReached, IsRight, pair_at, pairs_at}
 use Rattle.palm_claim.specs.Verdict.{IsNone, IsVerdict, Judges, Meets, ending, in_order}
@@ -217,10 +216,10 @@ judged_explained (line ∷ lines) d n proved keeps j = elim j [
 ]
 
 pub accepted_explained : (bytes : List ℕ) (proved : Proved) → IsVerdict bytes (Accepted proved) → IsExplained proved.book proved.claim
-accepted_explained bytes proved is = (judged_explained (lines_of bytes) blank 1 proved (keeps_early blank tt refl) is).0
+accepted_explained bytes proved is = (judged_explained is.lines blank 1 proved (keeps_early blank tt refl) is.judged).0
 
 pub verdict_over : (bytes : List ℕ) (verdict : Verdict) → IsVerdict bytes verdict → IsOverItsBook verdict
-verdict_over bytes (Accepted proved) is = (judged_explained (lines_of bytes) blank 1 proved (keeps_early blank tt refl) is).1
+verdict_over bytes (Accepted proved) is = (judged_explained is.lines blank 1 proved (keeps_early blank tt refl) is.judged).1
 verdict_over bytes (Refused line cause) is = tt
 
 pub accepted_conflict : (bytes : List ℕ) (proved : Proved) (x : ℕ) → IsVerdict bytes (Accepted proved) → proved.claim ≡ Conflict x → IsConflict (initial_of proved.book) (Contains (constraints_of proved.book))

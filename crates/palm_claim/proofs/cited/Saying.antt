@@ -1,19 +1,27 @@
 -- What a line says: the reader finds it, and no line says two things.
-use Rattle.std.proofs.Common.{◌≡◌, ℕ, Option, Some, None, List, refl, sym, ap, ◌∙◌, subst, inl, inr, ◌⊎◌}
+use Rattle.std.proofs.Common.{◌≡◌, ℕ, ◌<◌, ◌≤◌, true, false, codes, [], ◌∷◌, length, drop, All, arith, Option, Some, None, List, refl, sym, ap, ◌∙◌, subst, inl, inr, ◌⊎◌}
 use Rattle.std.proofs.lemmas.Bool.{false≢true}
+use Rattle.std.proofs.lemmas.List.Elements.{All-nil, All-cons}
 use Rattle.std.proofs.lemmas.Option.{same_Some, none-some}
 use Rattle.palm_read.specs.Bytes.{IsComment, IsPlain}
+use Rattle.palm_read.specs.Grammar.{IsForm, pieces}
+use Rattle.palm_read.specs.Piece.{Keyword, word, sign}
+use Rattle.palm_read.specs.Reader.Steps.{front_text, token_at, and_then, choose}
 use Rattle.palm_read.specs.Form.{Form}
 use Rattle.palm_read.specs.Reading.{IsRead, IsRefusedBy, a_comment, a_form, line_of}
-use Rattle.palm_read.specs.Token.{tokens_of}
+use Rattle.palm_read.specs.Token.{Lexeme, tokens_of}
+use Rattle.palm_read.specs.declared.tokens.TokenKind.TheVariants.{Word, Digits}
 use Rattle.palm_read.specs.declared.line.Line.{Line}
 use Rattle.palm_read.specs.declared.line.Line.TheVariants.{Comment as CommentLine, Var, Add, Relax}
-use Rattle.palm_read.specs.Form.{RelaxForm}
+use Rattle.palm_read.specs.Form.{DeclareForm, AddForm, RelaxForm}
 use Rattle.palm_read.specs.declared.parse.LineError.{LineError}
 use Rattle.palm_read.specs.declared.parse.LineError.TheVariants.{Bytes, Form as NoForm, Range as OutOfRange, Empty, Repeated, NoMemory}
+use Rattle.palm_read.proofs.cited.Begins.{begins_from_spells, keyword_first}
+use Rattle.palm_read.proofs.cited.Front.{token_is}
+use Rattle.palm_read.proofs.cited.PlainTokens.{IsKnown, digits_known, sign_known, spelled_known, tokens_plain, word_known, word_says}
 use Rattle.palm_read.proofs.cited.Parsing.{one_reading, read_not_refused, each_answered}
-use Rattle.palm_claim.specs.Reader.{of_line, phrase_of}
-use Rattle.palm_claim.specs.Statement.{AreInRange, IsSpelled, Says}
+use Rattle.palm_claim.specs.Reader.{begins_phrase, is_lead, is_some_lead, of_line, phrase_of}
+use Rattle.palm_claim.specs.Statement.{AreInRange, IsSpelled, Says, conflict_claim_pieces, step_pieces, value_claim_pieces}
 use Rattle.palm_claim.specs.declared.statement.Statement.{Statement}
 use Rattle.palm_claim.specs.declared.statement.Statement.TheVariants.{Comment, Header, Variable, Constraint, Step, ValueClaim, ConflictClaim, End}
 use Rattle.palm_claim.proofs.cited.Phrases.{phrase_is, is_phrase, phrase_no_form}
@@ -140,3 +148,90 @@ each_said bytes = elim (each_answered bytes) [
     by_error Empty known refused = inr (refused_says_nothing bytes Empty refused known (λ e. cc))
     by_error Repeated known refused = inr (refused_says_nothing bytes Repeated refused known (λ e. cc))
     by_error NoMemory known refused = absurd (known refl)
+
+-- ---- the first word decides
+
+front_is : (tokens : List Lexeme) (w : List ℕ) → front_text Word tokens ≡ Some w → tokens ≡ word w ∷ drop 1 tokens
+unfolding token_at and_then
+front_is tokens w e = token_is Word tokens (w, drop 1 tokens) (rw e refl)
+
+led : (tokens : List Lexeme) → begins_phrase tokens ≡ true → (w : List ℕ) × (tokens ≡ word w ∷ drop 1 tokens)
+unfolding begins_phrase
+led tokens b = go (front_text Word tokens) refl b
+  where
+    go : (o : Option (List ℕ)) → front_text Word tokens ≡ o → is_some_lead o ≡ true → (w : List ℕ) × (tokens ≡ word w ∷ drop 1 tokens)
+    go None f e = absurd (false≢true e)
+    go (Some w) f e = (w, front_is tokens w f)
+
+lead_of : (w : List ℕ) (tokens rest : List Lexeme) → tokens ≡ word w ∷ rest → begins_phrase tokens ≡ is_lead w
+unfolding begins_phrase front_text choose
+lead_of w tokens rest e = ap begins_phrase e
+
+-- no form that says something in a certificate begins with such a word
+led_form : (tokens : List Lexeme) (form : Form) (s : Statement) → IsForm tokens form → begins_phrase tokens ≡ true → of_line (line_of form) ≡ Some s → ⊥
+led_form tokens (DeclareForm name domain) s is b e =
+    let k = keyword_first (begins_from_spells (pieces (DeclareForm name domain)) tokens is.spells) in
+    false≢true (sym (lead_of (codes "var") tokens k.0 k.1) ∙ b)
+led_form tokens (AddForm name shape) s is b e =
+    let k = keyword_first (begins_from_spells (pieces (AddForm name shape)) tokens is.spells) in
+    false≢true (sym (lead_of (codes "add") tokens k.0 k.1) ∙ b)
+led_form tokens (RelaxForm name) s is b e = none-some s e
+led_form tokens _ s is b e = none-some s e
+
+led_read : (bytes : List ℕ) (line : Line) (s : Statement) → begins_phrase (tokens_of bytes) ≡ true → IsRead bytes line → of_line line ≡ Some s → ⊥
+led_read bytes _ s b (a_comment c) e = let w = led (tokens_of bytes) b in false≢true (sym (word_says bytes w.0 (drop 1 (tokens_of bytes)) w.1) ∙ c.note)
+led_read bytes line s b (a_form form p is r n t same) e = led_form (tokens_of bytes) form s is b (ap of_line (sym same) ∙ e)
+
+-- each form that only certificates have does
+led_spelled : (tokens : List Lexeme) (s : Statement) → IsSpelled tokens s → begins_phrase tokens ≡ true
+led_spelled tokens Comment h = absurd h
+led_spelled tokens Header h = lead_of (codes "palm") tokens _ h
+led_spelled tokens (Variable name domain) h = absurd h
+led_spelled tokens (Constraint name shape) h = absurd h
+led_spelled tokens (Step name value by reasons) h = let k = keyword_first (begins_from_spells (step_pieces name value by reasons) tokens h) in lead_of (codes "step") tokens k.0 k.1
+led_spelled tokens (ValueClaim name value) h = let k = keyword_first (begins_from_spells (value_claim_pieces name value) tokens h) in lead_of (codes "claim") tokens k.0 k.1
+led_spelled tokens (ConflictClaim name) h = let k = keyword_first (begins_from_spells (conflict_claim_pieces name) tokens h) in lead_of (codes "claim") tokens k.0 k.1
+led_spelled tokens End h = let k = keyword_first (begins_from_spells (Keyword (codes "end") ∷ []) tokens h) in lead_of (codes "end") tokens k.0 k.1
+
+phrase_known : (tokens : List Lexeme) (s : Statement) → IsSpelled tokens s → All IsKnown tokens
+phrase_known tokens Comment h = absurd h
+phrase_known tokens Header h =
+    let one : List Lexeme = record { kind = Digits; text = codes "1" } ∷ [] in
+    let cert : List Lexeme = word (codes "cert") ∷ one in
+    let all_one : All IsKnown one = All-cons IsKnown (record { kind = Digits; text = codes "1" }) [] (digits_known (codes "1")) (All-nil IsKnown) in
+    let all_cert : All IsKnown cert = All-cons IsKnown (word (codes "cert")) one (word_known (codes "cert")) all_one in
+    subst (All IsKnown) (sym h)
+    (All-cons IsKnown (word (codes "palm")) (sign (codes "-") ∷ cert) (word_known (codes "palm")) (All-cons IsKnown (sign (codes "-")) cert (sign_known (codes "-")) all_cert))
+phrase_known tokens (Variable name domain) h = absurd h
+phrase_known tokens (Constraint name shape) h = absurd h
+phrase_known tokens (Step name value by reasons) h = spelled_known tokens (step_pieces name value by reasons) h
+phrase_known tokens (ValueClaim name value) h = spelled_known tokens (value_claim_pieces name value) h
+phrase_known tokens (ConflictClaim name) h = spelled_known tokens (conflict_claim_pieces name) h
+phrase_known tokens End h = spelled_known tokens (Keyword (codes "end") ∷ []) h
+
+phrase_plain : (bytes : List ℕ) (s : Statement) → length bytes ≤ 65536 → IsSpelled (tokens_of bytes) s → IsPlain bytes
+phrase_plain bytes s short h =
+    let w = led (tokens_of bytes) (led_spelled (tokens_of bytes) s h) in
+    record {
+      short = short;
+      says = word_says bytes w.0 (drop 1 (tokens_of bytes)) w.1;
+      plain = tokens_plain (length bytes) bytes (omega arith) (phrase_known (tokens_of bytes) s h);
+    }
+
+-- a line that begins so says what its phrase says
+pub led_says : (bytes : List ℕ) (s : Statement) → length bytes ≤ 65536 → phrase_of (tokens_of bytes) ≡ Some s → Says bytes s
+led_says bytes s short e = phrase_says bytes s (phrase_plain bytes s short (phrase_is (tokens_of bytes) s e).0) e
+
+-- and nothing else
+pub led_says_nothing : (bytes : List ℕ) → begins_phrase (tokens_of bytes) ≡ true → phrase_of (tokens_of bytes) ≡ None → (s : Statement) → Says bytes s → ⊥
+led_says_nothing bytes b none s h = elim (says_as bytes s h) [ inl l ↦ led_read bytes l.0 s b l.1 l.2 | inr p ↦ none-some s (sym none ∙ p.1) ]
+
+pub long_says_nothing : (bytes : List ℕ) → begins_phrase (tokens_of bytes) ≡ true → 65536 < length bytes → (s : Statement) → Says bytes s → ⊥
+long_says_nothing bytes b long s h = elim (says_as bytes s h) [ inl l ↦ led_read bytes l.0 s b l.1 l.2 | inr p ↦ absurd (omega (arith, long, p.0.short)) ]
+
+-- a line that does not is a line of a session, or says nothing
+pub unled_says_nothing : (bytes : List ℕ) (error : LineError) → begins_phrase (tokens_of bytes) ≡ false → IsRefusedBy bytes error → (error ≡ NoMemory → ⊥) → (s : Statement) → Says bytes s → ⊥
+unled_says_nothing bytes error b refused known s h = elim (says_as bytes s h) [
+  | inl l ↦ no_line bytes error refused known s l
+  | inr p ↦ false≢true (sym b ∙ led_spelled (tokens_of bytes) s (phrase_is (tokens_of bytes) s p.1).0)
+]

@@ -1,13 +1,13 @@
 -- No text has two verdicts: no line says two things, each name names one variable, and a shape says one constraint.
-use Rattle.std.proofs.Common.{◌≡◌, ◌≢◌, ℕ, ◌+◌, ℤ, List, [], ◌∷◌, ◌++◌, get_or, Any, AllPairs, inl, inr, sym, ap, ◌∙◌, subst, arith}
+use Rattle.std.proofs.Common.{◌≡◌, ◌≢◌, ℕ, ◌+◌, ℤ, List, [], ◌∷◌, ◌++◌, get_or, Any, inl, inr, sym, ap, ◌∙◌, subst, arith}
 use Rattle.std.proofs.lemmas.List.{get_or_default}
 use Rattle.std.proofs.lemmas.List.Quantifiers.{all_pairs_push}
 use Rattle.palm_base.specs.declared.terms.Pair.{Pair}
 use Rattle.palm_book.specs.Book.{Entry}
 use Rattle.palm_model.specs.declared.constraint.Con.{Con}
 use Rattle.palm_read.specs.Domain.{values_in}
-use Rattle.palm_claim.specs.Draft.{Draft, IsPair, IsVariable, Leads, at_stage, blank, with_constraint, with_step}
-use Rattle.palm_claim.specs.Lines.{lines_of}
+use Rattle.palm_read.proofs.cited.Cutting.{lines_once}
+use Rattle.palm_claim.specs.Draft.{Draft, Leads, at_stage, blank, with_constraint, with_step}
 use Rattle.palm_claim.specs.Verdict.{IsFirst, IsNone, IsRefusedFor, IsVerdict, Judges, Meets, Passes, in_order}
 use Rattle.palm_claim.specs.declared.statement.Stage.{Stage}
 use Rattle.palm_claim.specs.declared.statement.Stage.TheVariants.{Claimed, Closed}
@@ -18,7 +18,8 @@ use Rattle.palm_claim.specs.declared.verdict.Claim.TheVariants.{Gone, Conflict}
 use Rattle.palm_claim.specs.declared.verdict.Cause.{Cause}
 use Rattle.palm_claim.specs.declared.verdict.Verdict.{Verdict}
 use Rattle.palm_claim.specs.declared.verdict.Verdict.TheVariants.{Refused}
-use Rattle.palm_claim.proofs.Once.{constraint_once, variable_once}
+use Rattle.palm_book.proofs.cited.Naming.{constraint_once}
+use Rattle.palm_book.proofs.cited.Pairs.{Apart, pair_is, variable_is}
 use Rattle.palm_claim.proofs.cited.Saying.{one_saying}
 
 -- ---- first causes
@@ -54,18 +55,6 @@ refused_or_passes d line a e p passes = elim p [
 ]
 
 -- ---- names that differ
-
-abbrev pub Apart : List Entry → Type 0
-Apart variables = AllPairs (λ (e f : Entry). e.name ≢ f.name) variables
-
-pub variable_is : (variables : List Entry) (name : List ℕ) (x y : ℕ) → Apart variables → IsVariable variables name x → IsVariable variables name y → x ≡ y
-variable_is variables name x y apart p q = variable_once variables apart x y p.declared q.declared (p.named ∙ sym q.named)
-
-pub pair_is : (variables : List Entry) (name : List ℕ) (value : ℤ) (p q : Pair) → Apart variables → IsPair variables name value p → IsPair variables name value q → p ≡ q
-pair_is variables name value p q apart a b =
-    let build : ℕ → ℤ → Pair = λ x v. record { var = x; value = v } in
-    ap (λ (x : ℕ). build x p.value) (variable_is variables name p.var q.var apart a.variable b.variable)
-    ∙ ap (λ (v : ℤ). build q.var v) (a.gives ∙ sym b.gives)
 
 -- a new variable's name differs from those before it
 pub apart_more : (variables : List Entry) (name : List ℕ) (values : List ℤ) → Apart variables → (Any (λ e. e.name ≡ name) variables → ⊥) → Apart (variables ++ record { name = name; values = values } ∷ [])
@@ -130,4 +119,6 @@ pub apart_none : Apart []
 apart_none i j d below lt = absurd (omega (arith, lt))
 
 pub one_verdict : (bytes : List ℕ) (a b : Verdict) → IsVerdict bytes a → IsVerdict bytes b → a ≡ b
-one_verdict bytes a b p q = judged_once (lines_of bytes) blank 1 a b apart_none p q
+one_verdict bytes a b p q =
+    let same : p.lines ≡ q.lines = lines_once bytes p.lines q.lines p.are_lines q.are_lines in
+    judged_once q.lines blank 1 a b apart_none (subst (λ (ls : List (List ℕ)). Judges blank 1 ls a) same p.judged) q.judged

@@ -11,7 +11,6 @@ use Rattle.palm_read.specs.Linear.{TermForm, term_of}
 use Rattle.palm_read.specs.Grammar.{IsProper, IsProperShape}
 use Rattle.palm_read.specs.Bounds.{Bounded, a_value, up_to, from_one_to}
 use Rattle.palm_read.specs.Limits.{shape_numbers, numbers, IsInRange, HasNothing, HasRepeat}
-use Rattle.palm_read.specs.Reader.Checks.{LacksSomething, RepeatsName}
 use Rattle.palm_read.specs.Reading.{shape_of, budget_of, line_of}
 use Rattle.palm_read.specs.declared.limits.TheConstants.{NO_BUDGET}
 use Rattle.palm_read.specs.declared.line.Line.TheVariants.{Var, Add, SolveDbt}
@@ -20,7 +19,6 @@ use Rattle.palm_read.specs.declared.line.NameTerm.{NameTerm}
 use Rattle.palm_read.specs.declared.line.DomainText.TheVariants.{Set}
 use Rattle.palm_read.proofs.cited.Sets.{contains_here, contains_there, rises_set, same_rising, set_member, member_set}
 use Rattle.palm_read.proofs.cited.Ranges.{IsWithin, term_numbers, a_bound}
-use Rattle.palm_read.proofs.cited.Refusals.{nothing_in, in_nothing, repeat_in, in_repeat}
 
 -- a set is printed ascending and without repeats
 abbrev pub canonical_domain : DomainForm → DomainForm
@@ -120,11 +118,11 @@ canonical_proper (DeclareForm name domain) p = tt
 canonical_proper (SolveDbtForm b) p = tt
 canonical_proper _ p = p
 
-pub canonical_something : (form : Form) → (HasNothing form → ⊥) → HasNothing (canonical form) → ⊥
-canonical_something form some h = some (nothing_in form (subst LacksSomething (canonical_line form) (in_nothing (canonical form) h)))
+pub canonical_something : (form : Form) → (HasNothing (line_of form) → ⊥) → HasNothing (line_of (canonical form)) → ⊥
+canonical_something form some h = some (subst HasNothing (canonical_line form) h)
 
-pub canonical_once : (form : Form) → (HasRepeat form → ⊥) → HasRepeat (canonical form) → ⊥
-canonical_once form once h = once (repeat_in form (subst RepeatsName (canonical_line form) (in_repeat (canonical form) h)))
+pub canonical_once : (form : Form) → (HasRepeat (line_of form) → ⊥) → HasRepeat (line_of (canonical form)) → ⊥
+canonical_once form once h = once (subst HasRepeat (canonical_line form) h)
 
 -- ---- its numbers are in range
 

@@ -14,14 +14,14 @@ use Rattle.palm_read.specs.Token.{tokens_of}
 use Rattle.palm_read.specs.Form.{Form}
 use Rattle.palm_read.specs.Grammar.{IsForm}
 use Rattle.palm_read.specs.Limits.{IsInRange, HasNothing, HasRepeat}
-use Rattle.palm_read.specs.Reader.Checks.{HasLineInRange, LacksSomething, RepeatsName, IsKept}
+use Rattle.palm_read.specs.Reader.Checks.{HasLineInRange, IsKept}
 use Rattle.palm_read.specs.Reading.{line_of, IsRead, a_comment, a_form, HasBadBytes, IsRefusedBy, IsReadAs}
 use Rattle.palm_read.specs.Reader.Lines.{form_at}
 use Rattle.palm_read.specs.Reader.Held.{HoldsAll, GivesAll, held_line}
 use Rattle.palm_read.proofs.cited.TokenLemmas.{drop-blanks}
 use Rattle.palm_read.proofs.cited.LineForms.{form_takes, form_again, one_form}
 use Rattle.palm_read.proofs.cited.Ranges.{same_form, line_in, in_line, range_decided, out_not_in}
-use Rattle.palm_read.proofs.cited.Refusals.{nothing_in, in_nothing, nothing_decided, repeat_in, in_repeat, repeat_decided}
+use Rattle.palm_read.proofs.Refusals.{nothing_decided, repeat_decided}
 
 -- ---- the first byte behind the blanks
 
@@ -64,8 +64,8 @@ answered bytes line (Ok kept) plain h k =
     let range = in_line h.form (subst HasLineInRange h.is k.1) in
     let same : line ≡ line_of h.form = h.is ∙ ap line_of (same_form h.form range) in
     a_form h.form plain (form_takes (tokens_of bytes) h.form h.read) range
-    (λ n. k.2 (subst LacksSomething (sym same) (in_nothing h.form n)))
-    (λ r. k.3 (subst RepeatsName (sym same) (in_repeat h.form r)))
+    (λ n. k.2 (subst HasNothing (sym same) n))
+    (λ r. k.3 (subst HasRepeat (sym same) r))
     (k.0 ∙ same)
 answered bytes line (Err OutOfRange) plain h k =
     elim (range_decided h.form) [
@@ -75,11 +75,11 @@ answered bytes line (Err OutOfRange) plain h k =
 answered bytes line (Err Empty) plain h k =
     let range = in_line h.form (subst HasLineInRange h.is k.0) in
     let same : line ≡ line_of h.form = h.is ∙ ap line_of (same_form h.form range) in
-    (plain, h.form, form_takes (tokens_of bytes) h.form h.read, range, nothing_in h.form (subst LacksSomething same k.1))
+    (plain, h.form, form_takes (tokens_of bytes) h.form h.read, range, subst HasNothing same k.1)
 answered bytes line (Err Repeated) plain h k =
     let range = in_line h.form (subst HasLineInRange h.is k.0) in
     let same : line ≡ line_of h.form = h.is ∙ ap line_of (same_form h.form range) in
-    (plain, h.form, form_takes (tokens_of bytes) h.form h.read, range, λ n. k.1 (subst LacksSomething (sym same) (in_nothing h.form n)), repeat_in h.form (subst RepeatsName same k.2))
+    (plain, h.form, form_takes (tokens_of bytes) h.form h.read, range, λ n. k.1 (subst HasNothing (sym same) n), subst HasRepeat same k.2)
 answered bytes line (Err NoMemory) plain h k = tt
 answered bytes line (Err Bytes) plain h k = absurd k
 answered bytes line (Err NoForm) plain h k = absurd k
@@ -88,6 +88,12 @@ answered bytes line (Err NoForm) plain h k = absurd k
 
 comment_not_plain : (bytes : List ℕ) → IsComment bytes → IsPlain bytes → ⊥
 comment_not_plain bytes c p = false≢true (sym p.says ∙ c.note)
+
+abbrev NothingIn : Form → Type 0
+NothingIn form = HasNothing (line_of form)
+
+abbrev RepeatIn : Form → Type 0
+RepeatIn form = HasRepeat (line_of form)
 
 same_forms : (bytes : List ℕ) (f g : Form) → IsForm (tokens_of bytes) f → IsForm (tokens_of bytes) g → f ≡ g
 same_forms bytes f g h k = one_form (tokens_of bytes) f g h k
@@ -108,8 +114,8 @@ read_not_refused bytes line NoMemory (a_comment c) r = refl
 read_not_refused bytes line Bytes (a_form f p h i n t e) r = absurd (r.not_plain p)
 read_not_refused bytes line NoForm (a_form f p h i n t e) r = absurd (r.1 f h)
 read_not_refused bytes line OutOfRange (a_form f p h i n t e) r = absurd (out_not_in r.1 r.3 (subst IsInRange (same_forms bytes f r.1 h r.2) i))
-read_not_refused bytes line Empty (a_form f p h i n t e) r = absurd (n (subst HasNothing (same_forms bytes r.1 f r.2 h) r.4))
-read_not_refused bytes line Repeated (a_form f p h i n t e) r = absurd (t (subst HasRepeat (same_forms bytes r.1 f r.2 h) r.5))
+read_not_refused bytes line Empty (a_form f p h i n t e) r = absurd (n (subst NothingIn (same_forms bytes r.1 f r.2 h) r.4))
+read_not_refused bytes line Repeated (a_form f p h i n t e) r = absurd (t (subst RepeatIn (same_forms bytes r.1 f r.2 h) r.5))
 read_not_refused bytes line NoMemory (a_form f p h i n t e) r = refl
 
 pub one_refusal : (bytes : List ℕ) (d e : LineError) → IsRefusedBy bytes d → IsRefusedBy bytes e → (d ≡ NoMemory → ⊥) → (e ≡ NoMemory → ⊥) → d ≡ e
@@ -135,12 +141,12 @@ one_refusal bytes Empty Bytes r s m n = absurd (s.not_plain r.0)
 one_refusal bytes Empty NoForm r s m n = absurd (s.1 r.1 r.2)
 one_refusal bytes Empty OutOfRange r s m n = absurd (out_not_in s.1 s.3 (subst IsInRange (same_forms bytes r.1 s.1 r.2 s.2) r.3))
 one_refusal bytes Empty Empty r s m n = refl
-one_refusal bytes Empty Repeated r s m n = absurd (s.4 (subst HasNothing (same_forms bytes r.1 s.1 r.2 s.2) r.4))
+one_refusal bytes Empty Repeated r s m n = absurd (s.4 (subst NothingIn (same_forms bytes r.1 s.1 r.2 s.2) r.4))
 one_refusal bytes Empty NoMemory r s m n = absurd (n refl)
 one_refusal bytes Repeated Bytes r s m n = absurd (s.not_plain r.0)
 one_refusal bytes Repeated NoForm r s m n = absurd (s.1 r.1 r.2)
 one_refusal bytes Repeated OutOfRange r s m n = absurd (out_not_in s.1 s.3 (subst IsInRange (same_forms bytes r.1 s.1 r.2 s.2) r.3))
-one_refusal bytes Repeated Empty r s m n = absurd (r.4 (subst HasNothing (same_forms bytes s.1 r.1 s.2 r.2) s.4))
+one_refusal bytes Repeated Empty r s m n = absurd (r.4 (subst NothingIn (same_forms bytes s.1 r.1 s.2 r.2) s.4))
 one_refusal bytes Repeated Repeated r s m n = refl
 one_refusal bytes Repeated NoMemory r s m n = absurd (n refl)
 one_refusal bytes NoMemory e r s m n = absurd (m refl)
@@ -166,9 +172,9 @@ answer_form : (bytes : List ℕ) (form : Form) → IsPlain bytes → IsForm (tok
 answer_form bytes form plain is =
     elim (range_decided form) [
       | inr out ↦ inr (OutOfRange, λ e. cc, (plain, form, is, out))
-      | inl range ↦ elim (nothing_decided form) [
+      | inl range ↦ elim (nothing_decided (line_of form)) [
         | inl none ↦ inr (Empty, λ e. cc, (plain, form, is, range, none))
-        | inr some ↦ elim (repeat_decided form) [
+        | inr some ↦ elim (repeat_decided (line_of form)) [
           | inl twice ↦ inr (Repeated, λ e. cc, (plain, form, is, range, some, twice))
           | inr apart ↦ inl (line_of form, a_form form plain is range some apart refl)
         ]

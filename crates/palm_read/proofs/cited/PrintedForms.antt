@@ -21,6 +21,7 @@ use Rattle.palm_read.specs.declared.line.NameTerm.{NameTerm}
 use Rattle.palm_read.proofs.cited.Ranges.{IsWithin, term_numbers, a_bound}
 use Rattle.palm_read.proofs.cited.Layouts.{Apart, apart_no_digit, Lays, lays_weaker, Words, is_word, words_none, words_next, words_append, words_weaker, words_keyword, words_name, words_op, words_mark, words_number}
 use Rattle.palm_read.proofs.cited.Canonical.{canonical_domain, canonical_shape, canonical_budget, canonical, AreWithin, within_left, within_right, set_within}
+use Rattle.palm_read.proofs.Refusals.{in_zeros}
 use Rattle.palm_read.proofs.cited.PrintedParts.{names_left, names_right, words_names, lays_value, lays_bound, lays_counted, lays_set, lays_row, lays_range, words_rows, words_linear, words_offset, words_target, HasNames}
 
 -- ---- constraints
@@ -40,13 +41,13 @@ few_vars vars more h = omega (arith, length-append vars more)
 narrow_rows : (vars : List (List ℕ)) (rows : List (List ℤ)) → length vars ≤ 16 → All (λ row. length row ≡ length vars) rows → All (λ row. length row ≤ 16) rows
 narrow_rows vars rows few h = All-weaker (λ (row : List ℤ). length row ≡ length vars) (λ row. length row ≤ 16) (λ row e. omega arith) rows h
 
-words_shape : (name : List ℕ) (s : ShapeForm) → IsProperShape s → (HasNothing (AddForm name s) → ⊥) → AreWithin (shape_numbers s) → HasNames (shape_pieces s) → length (names_of (shape_of s)) ≤ 16 → (HasManyRows (shape_of s) → ⊥) → Words 40000 (shape_words (shape_of s)) (shape_pieces (canonical_shape s))
+words_shape : (name : List ℕ) (s : ShapeForm) → IsProperShape s → (HasNothing (line_of (AddForm name s)) → ⊥) → AreWithin (shape_numbers s) → HasNames (shape_pieces s) → length (names_of (shape_of s)) ≤ 16 → (HasManyRows (shape_of s) → ⊥) → Words 40000 (shape_words (shape_of s)) (shape_pieces (canonical_shape s))
 words_shape name (CompareVarForm left op right k) p some w h few rows =
     words_weaker 40000 (words_name left h.0 (words_op op (words_name right h.1.0 (words_offset k w)))) (omega arith)
 words_shape name (CompareConstForm left op v) p some w h few rows =
     words_weaker 40000 (words_name left h.0 (words_op op (words_number (lays_value v w.0) words_none))) (omega arith)
 words_shape name (LinearForm ts op b) p some w h few rows =
-    let terms = words_linear ts some (within_left (flat_map term_numbers ts) (a_bound b ∷ []) w) (names_left (linear_terms ts) (Mark (op_text op) ∷ Integer b ∷ []) h) in
+    let terms = words_linear ts (λ a. some (in_zeros ts a)) (within_left (flat_map term_numbers ts) (a_bound b ∷ []) w) (names_left (linear_terms ts) (Mark (op_text op) ∷ Integer b ∷ []) h) in
     let bound = within_right (flat_map term_numbers ts) (a_bound b ∷ []) w in
     let short = few_terms ts few in
     words_weaker 40000 (words_keyword (codes "sum") refl (words_append terms (words_op op (words_number (lays_bound b bound.0) words_none)))) (omega arith)
@@ -103,7 +104,7 @@ words_number_of text z is short w = words_weaker 32 (words_keyword text is (word
 abbrev IsPrinted : Form → Type 0
 IsPrinted form = Words 50000 (line_words (line_of form)) (pieces (canonical form))
 
-pub words_line : (form : Form) → IsProper form → (HasNothing form → ⊥) → AreWithin (numbers form) → HasNames (pieces form) → (IsBeyond (line_of form) → ⊥) → IsPrinted form
+pub words_line : (form : Form) → IsProper form → (HasNothing (line_of form) → ⊥) → AreWithin (numbers form) → HasNames (pieces form) → (IsBeyond (line_of form) → ⊥) → IsPrinted form
 words_line (DeclareForm name domain) p some w h near =
     words_weaker 50000 (words_keyword (codes "var") refl (words_name name h.0 (words_domain name domain w near))) (omega arith)
 words_line (AddForm name shape) p some w h near =

@@ -1,7 +1,7 @@
--- What the limits ask of a line that was read, number by number and name by name.
-use Rattle.std.specs.Prelude.{◌≡◌, pos, ◌<◌, ◌<ℤ◌, [], All, Any, Result, Ok, Err, ⊤}
+-- What the limits ask of the numbers of a line that was read, one by one.
+use Rattle.std.specs.Prelude.{◌≡◌, ◌<◌, All, Result, Ok, Err, ⊤}
 use Rattle.palm_model.specs.Limits.{IsUpTo, IsValue}
-use Rattle.palm_read.specs.Limits.{names_of, Repeats}
+use Rattle.palm_read.specs.Limits.{HasNothing, HasRepeat}
 use Rattle.palm_read.specs.declared.parse.LineError.{LineError}
 use Rattle.palm_read.specs.declared.parse.LineError.TheVariants.{Range as OutOfRange, Empty, Repeated, NoMemory}
 use Rattle.palm_read.specs.declared.line.Line.{Line}
@@ -47,25 +47,11 @@ HasLineInRange (DropGuide number) = 0 < number
 HasLineInRange (DropOrder number) = 0 < number
 HasLineInRange _ = ⊤
 
--- nothing stands where something has to, or a coefficient is 0
-abbrev pub LacksSomething : Line → Type 0
-LacksSomething (Var name (Range low high)) = high <ℤ low
-LacksSomething (Var name (Set values)) = values ≡ []
-LacksSomething (Add name (Linear terms op bound)) = Any (λ t. t.factor ≡ pos 0) terms
-LacksSomething (Add name (Table vars rows)) = rows ≡ []
-LacksSomething (Add name (Element outcome index entries)) = entries ≡ []
-LacksSomething _ = ⊥
-
--- a variable stands twice in the constraint
-abbrev pub RepeatsName : Line → Type 0
-RepeatsName (Add name shape) = Repeats (names_of shape)
-RepeatsName _ = ⊥
-
 -- what asking the limits of a line answers: the line, or the first limit that it breaks, unless memory ran out
 abbrev pub IsKept : Line → Result Line LineError → Type 0
-IsKept line (Ok kept) = (kept ≡ line) × HasLineInRange line × (LacksSomething line → ⊥) × (RepeatsName line → ⊥)
+IsKept line (Ok kept) = (kept ≡ line) × HasLineInRange line × (HasNothing line → ⊥) × (HasRepeat line → ⊥)
 IsKept line (Err OutOfRange) = HasLineInRange line → ⊥
-IsKept line (Err Empty) = HasLineInRange line × LacksSomething line
-IsKept line (Err Repeated) = HasLineInRange line × (LacksSomething line → ⊥) × RepeatsName line
+IsKept line (Err Empty) = HasLineInRange line × HasNothing line
+IsKept line (Err Repeated) = HasLineInRange line × (HasNothing line → ⊥) × HasRepeat line
 IsKept line (Err NoMemory) = ⊤
 IsKept line (Err _) = ⊥

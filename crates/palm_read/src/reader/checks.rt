@@ -1,7 +1,8 @@
 //! Whether the numbers of a line are within their ranges, and whether nothing is missing in it.
 ghost use Rattle.std.specs.Prelude.{◌<◌, All};
 ghost use Rattle.palm_base.specs.Tells.{Tells};
-ghost use Rattle.palm_read.specs.Reader.Checks.{HasDomainInRange, HasTargetInRange, HasShapeInRange, HasLineInRange, LacksSomething};
+ghost use Rattle.palm_read.specs.Limits.{HasNothing};
+ghost use Rattle.palm_read.specs.Reader.Checks.{HasDomainInRange, HasTargetInRange, HasShapeInRange, HasLineInRange};
 ghost use Rattle.palm_model.specs.Limits.{IsUpTo, IsValue};
 
 use crate::line::{DomainText, Line, NameTarget, NameTerm, Shape};
@@ -91,7 +92,7 @@ fn is_up_to(most: u64, number: i64) -> bool
 
 /// Whether nothing stands where something has to, or a coefficient is 0.
 pub fn lacks_something(line: &Line) -> bool
-    ensures { Tells result (LacksSomething line.now) }
+    ensures { Tells result (HasNothing line.now) }
 {
     match line {
         Line::Var { domain, .. } => match domain {

@@ -15,7 +15,7 @@ const OFFSET_CAP: u128 = GREATEST_OFFSET as u128 + 1;
 
 impl<'a> Cursor<'a> {
     #[tactic(auto, unfolding(crate::specs::Reader::Shapes::comparison_at, crate::specs::Reader::Steps::when, crate::specs::Reader::Steps::and_then))]
-    pub fn comparison(&mut self, alloc: Global) -> Result<Shape, LineError>
+    pub(crate) fn comparison(&mut self, alloc: Global) -> Result<Shape, LineError>
         ensures { Gives (λ s. shape_of (held_shape s)) result self.new (comparison_at self.old) }
     {
         let left = self.owned_name(alloc)?;

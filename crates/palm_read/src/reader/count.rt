@@ -11,7 +11,7 @@ use std::alloc::Global;
 
 impl<'a> Cursor<'a> {
     #[tactic(auto, unfolding(crate::specs::Reader::Shapes::count_at, crate::specs::Reader::Steps::and_then))]
-    pub fn count(&mut self, alloc: Global) -> Result<Shape, LineError>
+    pub(crate) fn count(&mut self, alloc: Global) -> Result<Shape, LineError>
         ensures { Gives (λ s. shape_of (held_shape s)) result self.new (count_at self.old) }
     {
         let value = self.value()?;

@@ -97,8 +97,9 @@ impl<'a> Cursor<'a> {
         self.takes(TokenKind::Sign, text)
     }
 
+    /// Takes this token, if it stands in front.
     #[tactic(auto, unfolding(crate::specs::Reader::Steps::behind, crate::specs::Reader::Steps::token_at, crate::specs::Reader::Steps::and_then, crate::specs::Reader::Steps::choose))]
-    fn takes(&mut self, kind: TokenKind, text: &[u8]) -> bool
+    pub fn takes(&mut self, kind: TokenKind, text: &[u8]) -> bool
         ensures { TakesIf result self.old self.new (behind kind text.now self.old) }
     {
         let is_there = self.text(kind) == Some(text);
@@ -120,7 +121,7 @@ impl<'a> Cursor<'a> {
 
     /// The text of the token in front, where it is of this kind.
     #[tactic(auto, unfolding(crate::specs::Reader::Steps::front_text, crate::specs::Reader::Steps::choose))]
-    fn text(&self, kind: TokenKind) -> Option<&'a [u8]>
+    pub fn text(&self, kind: TokenKind) -> Option<&'a [u8]>
         ensures value { option_copied result ≡ front_text kind self.now }
         ensures digits { kind ≡ Digits → IfSome result (λ text. AreDigits text.now) }
     {

@@ -10,7 +10,7 @@ use std::alloc::Global;
 
 impl<'a> Cursor<'a> {
     #[tactic(auto, unfolding(crate::specs::Reader::Shapes::differ_at, crate::specs::Reader::Steps::and_then))]
-    pub fn differ(&mut self, alloc: Global) -> Result<Shape, LineError>
+    pub(crate) fn differ(&mut self, alloc: Global) -> Result<Shape, LineError>
         ensures { Gives (λ s. shape_of (held_shape s)) result self.new (differ_at self.old) }
     {
         let vars = self.names(alloc, 2)?;

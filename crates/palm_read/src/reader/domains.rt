@@ -13,7 +13,7 @@ use std::alloc::Global;
 impl<'a> Cursor<'a> {
     /// Reads a domain.
     #[tactic(auto, unfolding(crate::specs::Reader::Shapes::domain_at, crate::specs::Reader::Shapes::interval_at, crate::specs::Reader::Steps::when, crate::specs::Reader::Steps::and_then))]
-    pub fn domain(&mut self, alloc: Global) -> Result<DomainText, LineError>
+    pub(crate) fn domain(&mut self, alloc: Global) -> Result<DomainText, LineError>
         ensures { Gives (λ d. domain_of (held_domain d)) result self.new (domain_at self.old) }
     {
         if self.takes_sign(b"{") {

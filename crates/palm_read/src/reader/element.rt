@@ -10,7 +10,7 @@ use std::alloc::Global;
 
 impl<'a> Cursor<'a> {
     #[tactic(auto, unfolding(crate::specs::Reader::Shapes::element_at, crate::specs::Reader::Steps::and_then))]
-    pub fn element(&mut self, alloc: Global) -> Result<Shape, LineError>
+    pub(crate) fn element(&mut self, alloc: Global) -> Result<Shape, LineError>
         ensures { Gives (λ s. shape_of (held_shape s)) result self.new (element_at self.old) }
     {
         let outcome = self.owned_name(alloc)?;

@@ -18,7 +18,7 @@ const FACTOR_CAP: u128 = GREATEST_FACTOR as u128 + 1;
 
 impl<'a> Cursor<'a> {
     #[tactic(auto, unfolding(crate::specs::Reader::Shapes::linear_at, crate::specs::Reader::Steps::choose, crate::specs::Reader::Steps::and_then))]
-    pub fn linear(&mut self, alloc: Global) -> Result<Shape, LineError>
+    pub(crate) fn linear(&mut self, alloc: Global) -> Result<Shape, LineError>
         ensures { Gives (λ s. shape_of (held_shape s)) result self.new (linear_at self.old) }
     {
         let terms = self.linear_terms(alloc)?;
@@ -32,7 +32,7 @@ impl<'a> Cursor<'a> {
 
     /// Reads the terms of a sum.
     #[tactic(auto, unfolding(crate::specs::Reader::Shapes::linear_terms_at, crate::specs::Reader::Steps::and_then))]
-    pub fn linear_terms(&mut self, alloc: Global) -> Result<NameTermList, LineError>
+    pub(crate) fn linear_terms(&mut self, alloc: Global) -> Result<NameTermList, LineError>
         ensures { Gives (map (λ t. term_of (held_term t))) result self.new (linear_terms_at self.old) }
     {
         let mut terms = NameTermList::new(alloc);

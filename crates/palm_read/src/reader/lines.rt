@@ -15,7 +15,7 @@ use std::alloc::Global;
 impl<'a> Cursor<'a> {
     /// Reads a form by its first word.
     #[tactic(auto, unfolding(crate::specs::Reader::Lines::line_at, crate::specs::Reader::Steps::when))]
-    pub fn line(&mut self, alloc: Global) -> Result<Line, LineError>
+    pub(crate) fn line(&mut self, alloc: Global) -> Result<Line, LineError>
         ensures { Gives held_line result self.new (line_at self.old) }
     {
         if self.takes_word(b"var") {

@@ -46,7 +46,7 @@ impl<'a> Cursor<'a> {
 
     /// Reads numbers with commas between them, and then a sign.
     #[tactic(auto, unfolding(crate::specs::Reader::Lists::values_at, crate::specs::Reader::Steps::when, crate::specs::Reader::Steps::and_then))]
-    pub fn values(&mut self, alloc: Global, close: &[u8]) -> Result<ValueList, LineError>
+    pub(crate) fn values(&mut self, alloc: Global, close: &[u8]) -> Result<ValueList, LineError>
         ensures { Gives (map held_value) result self.new (values_at close.now self.old) }
     {
         let mut values = ValueList::new(alloc);
@@ -83,7 +83,7 @@ impl<'a> Cursor<'a> {
 
     /// Reads so many names or more, as long as a name stands in front.
     #[tactic(auto, unfolding(crate::specs::Reader::Lists::names_at, crate::specs::Reader::Steps::and_then, crate::specs::Reader::Steps::choose))]
-    pub fn names(&mut self, alloc: Global, least: usize) -> Result<NameList, LineError>
+    pub(crate) fn names(&mut self, alloc: Global, least: usize) -> Result<NameList, LineError>
         ensures { Gives (λ names. names) result self.new (names_at least self.old) }
     {
         let names = self.all_names(alloc)?;
@@ -115,7 +115,7 @@ impl<'a> Cursor<'a> {
     }
 
     /// Reads rows of so many numbers, as long as a parenthesis stands in front.
-    pub fn rows(&mut self, alloc: Global, width: usize) -> Result<RowList, LineError>
+    pub(crate) fn rows(&mut self, alloc: Global, width: usize) -> Result<RowList, LineError>
         ensures { Gives (map (map held_value)) result self.new (many_at (next_row width) self.old) }
     {
         let mut rows = RowList::new(alloc);

@@ -13,7 +13,7 @@ use palm_model::{GREATEST_BOUND, GREATEST_VALUE};
 impl<'a> Cursor<'a> {
     /// Reads digits: their number, or the cap where it is above that.
     #[tactic(auto, unfolding(crate::specs::Reader::Steps::natural_at, crate::specs::Reader::Steps::and_then))]
-    pub fn natural(&mut self, cap: u128) -> Result<u128, LineError>
+    pub(crate) fn natural(&mut self, cap: u128) -> Result<u128, LineError>
         requires { cap < 2 ^ 127 }
         ensures { Gives (λ n. min n cap) result self.new (natural_at self.old) }
     {
@@ -25,7 +25,7 @@ impl<'a> Cursor<'a> {
 
     /// Reads a whole number, and holds it up to the cap and down to that below 0.
     #[tactic(auto, unfolding(crate::specs::Reader::Steps::integer_at, crate::specs::Reader::Steps::when, crate::specs::Reader::Steps::and_then))]
-    pub fn integer(&mut self, cap: u128) -> Result<i128, LineError>
+    pub(crate) fn integer(&mut self, cap: u128) -> Result<i128, LineError>
         requires { cap < 2 ^ 127 }
         ensures { Gives (held cap) result self.new (integer_at self.old) }
     {
@@ -38,7 +38,7 @@ impl<'a> Cursor<'a> {
     }
 
     /// Reads a value.
-    pub fn value(&mut self) -> Result<Value, LineError>
+    pub(crate) fn value(&mut self) -> Result<Value, LineError>
         ensures { Gives held_value result self.new (integer_at self.old) }
     {
         let number = self.integer(VALUE_CAP)?;
@@ -46,7 +46,7 @@ impl<'a> Cursor<'a> {
     }
 
     /// Reads the right side of a sum.
-    pub fn bound(&mut self) -> Result<i64, LineError>
+    pub(crate) fn bound(&mut self) -> Result<i64, LineError>
         ensures { Gives (held (GREATEST_BOUND + 1)) result self.new (integer_at self.old) }
     {
         let number = self.integer(BOUND_CAP)?;
@@ -54,7 +54,7 @@ impl<'a> Cursor<'a> {
     }
 
     /// Reads a number from 1 to the most, and holds 0 in place of any other.
-    pub fn counted(&mut self, most: u64) -> Result<u64, LineError>
+    pub(crate) fn counted(&mut self, most: u64) -> Result<u64, LineError>
         ensures { Gives (λ z. count_in (counted most z)) result self.new (integer_at self.old) }
     {
         let number = self.integer(u128::from(most) + 1)?;

@@ -1,8 +1,7 @@
 //! Whether a variable stands twice in a constraint.
 ghost use Rattle.std.specs.Prelude.{◌≡◌, ◌<◌, IfOk, map};
 ghost use Rattle.palm_base.specs.Tells.{Tells};
-ghost use Rattle.palm_read.specs.Reader.Checks.{RepeatsName};
-ghost use Rattle.palm_read.specs.Limits.{names_of, Repeats};
+ghost use Rattle.palm_read.specs.Limits.{HasRepeat, Repeats, names_of};
 
 use crate::line::{Line, Name, NameTarget, NameTerm, Shape};
 use palm_base::NoMemory;
@@ -15,7 +14,7 @@ type Texts<'a> = SmallVec<&'a [u8], MOST_SCOPE>;
 
 /// Whether a variable stands twice in the constraint.
 pub fn repeats_name(alloc: Global, line: &Line) -> Result<bool, NoMemory>
-    ensures { IfOk result (λ found. Tells found (RepeatsName line.now)) }
+    ensures { IfOk result (λ found. Tells found (HasRepeat line.now)) }
 {
     match line {
         Line::Add { shape, .. } => repeats_variable(alloc, shape),

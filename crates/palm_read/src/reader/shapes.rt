@@ -13,7 +13,7 @@ use std::alloc::Global;
 impl<'a> Cursor<'a> {
     /// Reads a constraint.
     #[tactic(auto, unfolding(crate::specs::Reader::Shapes::shape_at, crate::specs::Reader::Steps::when))]
-    pub fn shape(&mut self, alloc: Global) -> Result<Shape, LineError>
+    pub(crate) fn shape(&mut self, alloc: Global) -> Result<Shape, LineError>
         ensures { Gives (λ s. shape_of (held_shape s)) result self.new (shape_at self.old) }
     {
         if self.takes_word(b"sum") {
@@ -33,7 +33,7 @@ impl<'a> Cursor<'a> {
 
     /// Reads a relation.
     #[tactic(auto, unfolding(crate::specs::Reader::Steps::op_at, crate::specs::Reader::Steps::op_of, crate::specs::Reader::Steps::choose, crate::specs::Reader::Steps::and_then))]
-    pub fn op(&mut self) -> Result<Op, LineError>
+    pub(crate) fn op(&mut self) -> Result<Op, LineError>
         ensures { Gives (λ op. op) result self.new (op_at self.old) }
     {
         match self.any_sign() {

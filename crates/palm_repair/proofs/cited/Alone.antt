@@ -13,7 +13,8 @@ use Rattle.palm_search.specs.declared.turn.Pick.{Pick}
 use Rattle.palm_search.specs.declared.turn.Turn.{Turn}
 use Rattle.palm_search.specs.declared.turn.Turn.TheVariants.{Decide as TurnDecide, Undo as TurnUndo}
 use Rattle.palm_search.specs.Turns.{decided_vars}
-use Rattle.palm_search.specs.Search.{SearchEnd, EndsWith, GoesOn, Closes}
+use Rattle.palm_search.specs.declared.ending.SearchEnd.{SearchEnd}
+use Rattle.palm_search.specs.Search.{EndsWith, GoesOn, Closes}
 use Rattle.palm_search.specs.Search.GoesOn.{could_decide, could_undo}
 use Rattle.palm_search.specs.Kept.{HasOnlyUsers}
 use Rattle.palm_search.proofs.cited.Alone.{decides_same, flat_same, has_empty, settles_same, decided_open, end_stops, ends_same, head_same, tail_same, later_member}

@@ -20,8 +20,8 @@ use Rattle.palm_search.specs.declared.turn.Pick.{Pick}
 use Rattle.palm_search.specs.declared.turn.Turn.{Turn}
 use Rattle.palm_search.specs.declared.turn.Turn.TheVariants.{Decide as TurnDecide, Undo as TurnUndo}
 use Rattle.palm_search.specs.Turns.{decided_vars}
-use Rattle.palm_search.specs.Search.{SearchEnd}
-use Rattle.palm_search.specs.Search.SearchEnd.{Spent}
+use Rattle.palm_search.specs.declared.ending.SearchEnd.{SearchEnd}
+use Rattle.palm_search.specs.declared.ending.SearchEnd.TheVariants.{Spent}
 use Rattle.palm_search.specs.Kept.{HasOnlyUsers}
 use Rattle.palm_search.proofs.cited.Measuring.{decides_in, undoes_in, none_counted, decide_counted, undo_counted, turns_counted, decisions_few}
 use Rattle.palm_search.proofs.cited.Weighing.{turns_few}

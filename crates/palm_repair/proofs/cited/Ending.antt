@@ -12,12 +12,14 @@ use Rattle.palm_engine.proofs.cited.Settled.{settling_filters}
 use Rattle.palm_search.specs.declared.turn.Turn.{Turn}
 use Rattle.palm_search.specs.declared.turn.Turn.TheVariants.{Decide as TurnDecide, Undo as TurnUndo}
 use Rattle.palm_search.specs.Turns.{decided_vars}
-use Rattle.palm_search.specs.Search.{SearchEnd, begun}
+use Rattle.palm_search.specs.declared.ending.SearchEnd.{SearchEnd}
+use Rattle.palm_search.specs.Search.{begun}
 use Rattle.palm_search.specs.Kept.{HasOnlyUsers, Rests}
 use Rattle.palm_search.proofs.cited.Leaving.{Searched, searched_none, searched_posted, searched_withdrawn, searched_settles, closing_leaves, Remembers, remembers_none, remembers_posted, remembers_withdrawn, remembers_settles, users_later, Ended, ended_rests}
-use Rattle.palm_repair.specs.Posting.{RepairState, nogood_of}
-use Rattle.palm_repair.specs.Repair.{MakesRoom, RepairTakes, RepairTurns, RepairRun, Repairs, forced_by}
+use Rattle.palm_repair.specs.Posting.{Nogood, RepairState, PostsFrom, PostsSome, nogood_of}
+use Rattle.palm_repair.specs.Repair.{MakesRoom, RepairTakes, RepairSettles, RepairTurns, RepairRun, Repairs, forced_by, repair_begun}
 use Rattle.palm_repair.specs.Kept.{IsRepairing}
+use Rattle.palm_repair.specs.Turning.{before_posting}
 use Rattle.palm_repair.proofs.Forcing.{posts_from_along}
 use Rattle.palm_repair.proofs.Repairing.{undone, decision_no_user, forced_no_user, forced_keeps, repair_takes_keep, repair_settles_keep}
 use Rattle.palm_repair.proofs.Blocking.{starts_at_turn, turns_at_turn}
@@ -25,14 +27,14 @@ use Rattle.palm_repair.proofs.Blocking.{starts_at_turn, turns_at_turn}
 -- ---- what holds along the turns
 
 -- the names of no users, none of them a ground of a negation that stays
-record MayGo (m : EngineState) (gone : List Cid) : Type 0 where
-  keeps : KeepsGrounds m.active gone
-  none : (c : Cid) → Contains gone c → is_user c ≡ true → ⊥
+pub record MayGo (m : EngineState) (gone : List Cid) : Type 0 where
+  pub keeps : KeepsGrounds m.active gone
+  pub none : (c : Cid) → Contains gone c → is_user c ≡ true → ⊥
 
 -- kept by each posting of what is no user's, and by each withdrawal of what is none
-record IsKeptAlong (Q : EngineState → Type 0) : Type 0 where
-  posts : (m : EngineState) (a : Active) (t : EngineState) → is_user a.cid ≡ false → Posts m a t → Q m → Q t
-  withdraws : (m : EngineState) (gone : List Cid) (t : EngineState) → MayGo m gone → WithdrawsAll m gone t → Q m → Q t
+pub record IsKeptAlong (Q : EngineState → Type 0) : Type 0 where
+  pub posts : (m : EngineState) (a : Active) (t : EngineState) → is_user a.cid ≡ false → Posts m a t → Q m → Q t
+  pub withdraws : (m : EngineState) (gone : List Cid) (t : EngineState) → MayGo m gone → WithdrawsAll m gone t → Q m → Q t
 
 room_along : (Q : EngineState → Type 0) → IsKeptAlong Q → (tabu : ℕ) (s t : RepairState) → MakesRoom tabu s t → Q s.search.engine → Q t.search.engine
 room_along Q kept tabu s t room q = elim room [
@@ -45,26 +47,41 @@ room_along Q kept tabu s t room q = elim room [
       }) r.1.withdraws q)
 ]
 
-takes_along : (Q : EngineState → Type 0) → IsKeptAlong Q → (guided : Bool) (tabu : ℕ) (s : RepairState) (turn : Turn) (t : RepairState) → RepairTakes guided tabu s turn t → IsValid s.search.engine
-    → Q s.search.engine → Q t.search.engine
-takes_along Q kept guided tabu s (TurnDecide pair pick) t takes valid q =
-    posts_from_along Q (λ m p because u posts k. kept.posts m (negation_of p because) u refl posts k) (record s { search = takes.middle }) s.dropped s.nogoods t takes.posts
-    (kept.posts s.search.engine (decision_of pair) takes.middle.engine refl takes.decides.posts q)
-takes_along Q kept guided tabu s (TurnUndo gone conflict) t takes valid q =
+posting_along : (Q : EngineState → Type 0) → IsKeptAlong Q → (s : RepairState) (number : ℕ) (walked : List Nogood) (t : RepairState) → PostsFrom s number walked t → Q s.search.engine → Q t.search.engine
+posting_along Q kept s number walked t posts q = posts_from_along Q (λ m p because u one k. kept.posts m (negation_of p because) u refl one k) s number walked t posts q
+
+-- within a turn, before the negations that follow
+before_along : (Q : EngineState → Type 0) → IsKeptAlong Q → (guided : Bool) (tabu : ℕ) (s : RepairState) (turn : Turn) (t : RepairState) (takes : RepairTakes guided tabu s turn t) → IsValid s.search.engine
+    → Q s.search.engine → Q (before_posting guided tabu s turn t takes).search.engine
+before_along Q kept guided tabu s (TurnDecide pair pick) t takes valid q = kept.posts s.search.engine (decision_of pair) takes.middle.engine refl takes.decides.posts q
+before_along Q kept guided tabu s (TurnUndo gone conflict) t takes valid q =
     let cid : Cid = Decide gone.var in
     let names = gone_with s.search.engine.active cid in
-    let roomy = takes.roomy in
-    let nogoods = roomy.nogoods ++ nogood_of s.search.decisions conflict ∷ [] in
-    posts_from_along Q (λ m p because u posts k. kept.posts m (negation_of p because) u refl posts k) (record roomy { nogoods = nogoods }) roomy.dropped nogoods t takes.posts
-    (room_along Q kept tabu (undone s takes.engine takes.left (decided_vars conflict)) roomy takes.makes_room
+    room_along Q kept tabu (undone s takes.engine takes.left (decided_vars conflict)) takes.roomy takes.makes_room
     (kept.withdraws s.search.engine names takes.engine (record {
       keeps = gone_grounds (length s.search.engine.initial) s.search.engine.active cid valid.formed;
       none = decision_no_user s.search.engine valid gone.var;
-    }) takes.withdraws q))
+    }) takes.withdraws q)
+
+pub takes_along : (Q : EngineState → Type 0) → IsKeptAlong Q → (guided : Bool) (tabu : ℕ) (s : RepairState) (turn : Turn) (t : RepairState) → RepairTakes guided tabu s turn t → IsValid s.search.engine
+    → Q s.search.engine → Q t.search.engine
+takes_along Q kept guided tabu s (TurnDecide pair pick) t takes valid q =
+    posting_along Q kept (record s { search = takes.middle }) s.dropped s.nogoods t takes.posts (before_along Q kept guided tabu s (TurnDecide pair pick) t takes valid q)
+takes_along Q kept guided tabu s (TurnUndo gone conflict) t takes valid q =
+    let roomy = takes.roomy in
+    let nogoods = roomy.nogoods ++ nogood_of s.search.decisions conflict ∷ [] in
+    posting_along Q kept (record roomy { nogoods = nogoods }) roomy.dropped nogoods t takes.posts (before_along Q kept guided tabu s (TurnUndo gone conflict) t takes valid q)
+
+-- within a turn whose negations are posted in part
+pub part_along : (Q : EngineState → Type 0) → IsKeptAlong Q → (guided : Bool) (tabu : ℕ) (s : RepairState) (turn : Turn) (next : RepairState) (takes : RepairTakes guided tabu s turn next) (t : EngineState) → IsValid s.search.engine
+    → PostsSome (before_posting guided tabu s turn next takes) t → Q s.search.engine → Q t
+part_along Q kept guided tabu s turn next takes t valid some q =
+    let m = before_posting guided tabu s turn next takes in
+    subst Q (sym some.is) (posting_along Q kept m m.dropped some.walked some.last some.posts (before_along Q kept guided tabu s turn next takes valid q))
 
 -- ---- the log
 
-searched_along : (s : EngineState) → HasOnlyUsers s → IsValid s → IsKeptAlong (Searched s)
+pub searched_along : (s : EngineState) → HasOnlyUsers s → IsValid s → IsKeptAlong (Searched s)
 searched_along s users valid = record {
   posts = λ m a t f posts searched. searched_posted s m a t f posts searched;
   withdraws = λ m gone t may withdraws searched. searched_withdrawn s m gone t may.keeps (users_later s users gone may.none) withdraws valid searched;
@@ -78,12 +95,17 @@ searched_turns right guided ordered tabu s m (turn ∷ turns) t users valid stil
     let taken = takes_along (Searched s) (searched_along s users valid) guided tabu m turn follows.middle follows.takes searched.valid searched in
     searched_turns right guided ordered tabu s run.0 turns t users valid still run.2 (searched_settles right ordered s follows.middle.search run.0.search follows.settles.settles valid still taken)
 
+-- a settling and turns lead from s to t
+pub turned_searched : ReasonsAreRight → (guided ordered : Bool) (tabu : ℕ) (s : EngineState) (start : RepairState) (turns : List Turn) (t : RepairState) → HasOnlyUsers s → IsValid s → IsStill s
+    → RepairSettles ordered (repair_begun s) start → RepairTurns guided ordered tabu start turns t → Searched s t.search.engine
+turned_searched right guided ordered tabu s start turns t users valid still settles taken =
+    searched_turns right guided ordered tabu s start turns t users valid still taken (searched_settles right ordered s (begun s) start.search settles.settles valid still (searched_none s valid))
+
 pub repair_leaves : ReasonsAreRight → (guided ordered : Bool) (tabu budget : ℕ) (s : EngineState) (turns : List Turn) (end : SearchEnd) (dropped : ℕ) (t : EngineState) → HasOnlyUsers s → IsValid s → IsStill s
     → Repairs guided ordered tabu budget s turns end dropped t → t.log ≡ s.log
 repair_leaves right guided ordered tabu budget s turns end dropped t users valid still repairs =
     let run = repairs.run in
-    let start = searched_settles right ordered s (begun s) run.start.search run.settles.settles valid still (searched_none s valid) in
-    let last = searched_turns right guided ordered tabu s run.start turns repairs.last users valid still run.taken start in
+    let last = turned_searched right guided ordered tabu s run.start turns repairs.last users valid still run.settles run.taken in
     let closes = repairs.closes in
     closing_leaves right s repairs.last.search.engine closes.middle t users valid still last closes.withdraws (settling_filters None closes.middle closes.revisions t closes.settles)
 
@@ -105,17 +127,22 @@ remembers_turns right guided ordered tabu s m (turn ∷ turns) t users repairing
     remembers_turns right guided ordered tabu s run.0 turns t users (repair_settles_keep right ordered follows.middle run.0 follows.settles middle) run.2
     (remembers_settles ordered s follows.middle.search run.0.search follows.settles.settles taken)
 
-pub repair_ended : ReasonsAreRight → (guided ordered : Bool) (tabu budget : ℕ) (s : EngineState) (turns : List Turn) (end : SearchEnd) (dropped : ℕ) (t : RepairState) → HasOnlyUsers s → IsValid s
-    → RepairRun guided ordered tabu budget s turns end dropped t → Ended s t.search
-repair_ended right guided ordered tabu budget s turns end dropped t users valid run =
-    let start = starts_at_turn right ordered s run.start valid users run.settles in
-    let last = turns_at_turn right guided ordered tabu run.start turns t run.taken start in
-    let first = remembers_settles ordered s (begun s) run.start.search run.settles.settles (remembers_none s) in
+-- a settling and turns lead from s to t
+pub turned_ended : ReasonsAreRight → (guided ordered : Bool) (tabu : ℕ) (s : EngineState) (start : RepairState) (turns : List Turn) (t : RepairState) → HasOnlyUsers s → IsValid s
+    → RepairSettles ordered (repair_begun s) start → RepairTurns guided ordered tabu start turns t → Ended s t.search
+turned_ended right guided ordered tabu s start turns t users valid settles taken =
+    let at = starts_at_turn right ordered s start valid users settles in
+    let last = turns_at_turn right guided ordered tabu start turns t taken at in
+    let first = remembers_settles ordered s (begun s) start.search settles.settles (remembers_none s) in
     record {
       searching = last.repairing.searching;
       still = last.still;
-      remembers = remembers_turns right guided ordered tabu s run.start turns t users start.repairing run.taken first;
+      remembers = remembers_turns right guided ordered tabu s start turns t users at.repairing taken first;
     }
+
+pub repair_ended : ReasonsAreRight → (guided ordered : Bool) (tabu budget : ℕ) (s : EngineState) (turns : List Turn) (end : SearchEnd) (dropped : ℕ) (t : RepairState) → HasOnlyUsers s → IsValid s
+    → RepairRun guided ordered tabu budget s turns end dropped t → Ended s t.search
+repair_ended right guided ordered tabu budget s turns end dropped t users valid run = turned_ended right guided ordered tabu s run.start turns t users valid run.settles run.taken
 
 pub repair_rests : ReasonsAreRight → (guided ordered : Bool) (tabu budget : ℕ) (s : EngineState) (turns : List Turn) (end : SearchEnd) (dropped : ℕ) (t : EngineState) → HasOnlyUsers s → IsValid s
     → Repairs guided ordered tabu budget s turns end dropped t → Rests s t

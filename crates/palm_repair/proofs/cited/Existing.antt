@@ -20,8 +20,9 @@ use Rattle.palm_search.specs.declared.turn.Pick.{Pick}
 use Rattle.palm_search.specs.declared.turn.Turn.{Turn}
 use Rattle.palm_search.specs.declared.turn.Turn.TheVariants.{Decide as TurnDecide, Undo as TurnUndo}
 use Rattle.palm_search.specs.Turns.{FitsGuide, HasFlatConflict, decided_vars}
-use Rattle.palm_search.specs.Search.{SearchEnd, EndsWith, GoesOn, IsPicked}
-use Rattle.palm_search.specs.Search.SearchEnd.{Spent}
+use Rattle.palm_search.specs.declared.ending.SearchEnd.{SearchEnd}
+use Rattle.palm_search.specs.Search.{EndsWith, GoesOn, IsPicked}
+use Rattle.palm_search.specs.declared.ending.SearchEnd.TheVariants.{Spent}
 use Rattle.palm_search.specs.Search.GoesOn.{could_decide, could_undo}
 use Rattle.palm_search.specs.Kept.{HasOnlyUsers}
 use Rattle.palm_search.proofs.cited.Going.{IsPickedBy, picks_after, picked_more, fits_after, settle_exists, decides_some, turn_or_end}

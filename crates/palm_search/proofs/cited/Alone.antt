@@ -20,8 +20,9 @@ use Rattle.palm_search.specs.declared.turn.Pick.TheVariants.{NoGuide, Nothing, A
 use Rattle.palm_search.specs.declared.turn.Turn.{Turn}
 use Rattle.palm_search.specs.declared.turn.Turn.TheVariants.{Decide as TurnDecide, Undo as TurnUndo}
 use Rattle.palm_search.specs.Turns.{SearchState, IsOpen, IsDefault, IsDecided, FitsGuide, Decides, HasFlatConflict, IsLatest, Undoes, Takes, SettlesAfter, Follows, Turns}
-use Rattle.palm_search.specs.Search.{SearchEnd, HasNoSolution, IsFound, GoesOn, EndsWith, SearchRun, begun}
-use Rattle.palm_search.specs.Search.SearchEnd.{Found, NoSolution, Spent}
+use Rattle.palm_search.specs.declared.ending.SearchEnd.{SearchEnd}
+use Rattle.palm_search.specs.Search.{HasNoSolution, IsFound, GoesOn, EndsWith, SearchRun, begun}
+use Rattle.palm_search.specs.declared.ending.SearchEnd.TheVariants.{Found, NoSolution, Spent}
 use Rattle.palm_search.specs.Search.GoesOn.{could_decide, could_undo}
 use Rattle.palm_search.specs.Kept.{HasOnlyUsers, IsSearching}
 use Rattle.palm_search.proofs.cited.Keeping.{begins, takes_keep, settles_keep}

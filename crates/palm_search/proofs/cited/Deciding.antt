@@ -56,7 +56,7 @@ distinct_without (x ∷ xs) ys z d =
 decide_same : (x y : ℕ) → Decide x ≡ Decide y → x ≡ y
 decide_same x y e = cc
 
-apart_not : (p : Pair) (x : ℕ) → Not p ≡ Decide x → ⊥
+pub apart_not : (p : Pair) (x : ℕ) → Not p ≡ Decide x → ⊥
 apart_not p x e = cc
 
 -- a variable with no active decision has none in the search
@@ -176,7 +176,7 @@ settles_has s t e f has = record {
 
 -- ---- declared pairs
 
-not_negation : (x : ℕ) (p : Pair) → Decide x ≡ Not p → ⊥
+pub not_negation : (x : ℕ) (p : Pair) → Decide x ≡ Not p → ⊥
 not_negation x p e = cc
 
 negation_same : (q p : Pair) → Not q ≡ Not p → q ≡ p

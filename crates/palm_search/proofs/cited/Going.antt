@@ -33,8 +33,9 @@ use Rattle.palm_search.specs.declared.turn.Turn.{Turn}
 use Rattle.palm_search.specs.declared.turn.Turn.TheVariants.{Decide as TurnDecide, Undo as TurnUndo}
 use Rattle.palm_search.specs.Turns.IsUnlawful.{no_variable, few_values, no_value}
 use Rattle.palm_search.specs.Turns.{SearchState, IsOpen, IsLawful, IsUnlawful, IsDefault, IsDecided, FitsGuide, HasFlatConflict, IsLatest, Decides, Undoes, Takes, SettlesAfter, Follows, Turns, decided_vars}
-use Rattle.palm_search.specs.Search.{SearchEnd, IsFound, GoesOn, EndsWith, SearchRun, IsPicked, begun}
-use Rattle.palm_search.specs.Search.SearchEnd.{Found, NoSolution, Spent}
+use Rattle.palm_search.specs.declared.ending.SearchEnd.{SearchEnd}
+use Rattle.palm_search.specs.Search.{IsFound, GoesOn, EndsWith, SearchRun, IsPicked, begun}
+use Rattle.palm_search.specs.declared.ending.SearchEnd.TheVariants.{Found, NoSolution, Spent}
 use Rattle.palm_search.specs.Search.GoesOn.{could_decide, could_undo}
 use Rattle.palm_search.specs.Kept.{HasDecisions, HasNoneNegated, HasOnlyUsers, IsSearching}
 use Rattle.palm_search.proofs.cited.Deciding.{ground_stays, latest_vars, others_taken}

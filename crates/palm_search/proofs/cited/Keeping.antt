@@ -33,7 +33,7 @@ use Rattle.palm_search.specs.declared.turn.Turn.TheVariants.{Decide as TurnDecid
 use Rattle.palm_search.specs.Turns.{SearchState, Decides, Undoes, Takes, SettlesAfter, Follows, Turns}
 use Rattle.palm_search.specs.Search.{begun}
 use Rattle.palm_search.specs.Kept.{HasOnlyUsers, IsSearching}
-use Rattle.palm_search.proofs.cited.Deciding.{decides_has, undoes_has, settles_has, decides_declared, undoes_declared, settles_declared, ground_stays}
+use Rattle.palm_search.proofs.cited.Deciding.{decides_has, undoes_has, settles_has, decides_declared, undoes_declared, settles_declared, ground_stays, not_negation}
 
 -- ---- filtering
 
@@ -65,9 +65,6 @@ settles_keep right ordered s t settles searching =
     }
 
 -- ---- deciding
-
-not_negation : (x : ℕ) (p : Pair) → Decide x ≡ Not p → ⊥
-not_negation x p e = cc
 
 decides_keep : (guided : Bool) (s : SearchState) (p : Pair) (pick : Pick) (t : SearchState) → Decides guided s p pick t → IsSearching s → IsSearching t
 decides_keep guided s p pick t turn searching = record {
@@ -142,13 +139,13 @@ pub turns_keep : ReasonsAreRight → (guided ordered : Bool) (s : SearchState) (
 turns_keep right guided ordered s [] t run searching = subst IsSearching (sym run) searching
 turns_keep right guided ordered s (turn ∷ turns) t run searching = turns_keep right guided ordered run.0 turns t run.2 (follows_keep right guided ordered s turn run.0 run.1 searching)
 
--- a valid state without decisions and negations begins a search
 pub user_not : (c : Cid) (p : Pair) → is_user c ≡ true → c ≡ Not p → ⊥
 user_not c p t e = false≢true (subst (λ d. is_user d ≡ true) e t)
 
-user_not_decision : (c : Cid) (x : ℕ) → is_user c ≡ true → c ≡ Decide x → ⊥
+pub user_not_decision : (c : Cid) (x : ℕ) → is_user c ≡ true → c ≡ Decide x → ⊥
 user_not_decision c x t e = false≢true (subst (λ d. is_user d ≡ true) e t)
 
+-- a valid state without decisions and negations begins a search
 pub begins : (s : EngineState) → IsValid s → HasOnlyUsers s → IsSearching (begun s)
 begins s valid users = record {
   valid = valid;

@@ -25,10 +25,11 @@ use Rattle.palm_engine.proofs.cited.Settled.{settling_filters, filters_valid, se
 use Rattle.palm_search.specs.declared.turn.Turn.{Turn}
 use Rattle.palm_search.specs.declared.turn.Turn.TheVariants.{Decide as TurnDecide, Undo as TurnUndo}
 use Rattle.palm_search.specs.Turns.{SearchState, Takes, Undoes, SettlesAfter, Turns}
-use Rattle.palm_search.specs.Search.{SearchEnd, SearchRun, Closes, Searches, HasNoSolution, IsFound, begun, search_cids}
+use Rattle.palm_search.specs.declared.ending.SearchEnd.{SearchEnd}
+use Rattle.palm_search.specs.Search.{SearchRun, Closes, Searches, HasNoSolution, IsFound, begun, search_cids}
 use Rattle.palm_search.specs.Kept.{HasOnlyUsers, IsSearching, Rests}
 use Rattle.palm_search.proofs.cited.Deciding.{ground_stays}
-use Rattle.palm_search.proofs.cited.Keeping.{begins, settles_keep, follows_keep, turns_keep}
+use Rattle.palm_search.proofs.cited.Keeping.{begins, settles_keep, follows_keep, turns_keep, user_not_decision}
 use Rattle.palm_search.proofs.Solving.{found_solves, users_unsolved, users_active}
 
 -- what a search has gained on the state s before it: the engine is valid, and all that came later is no user's
@@ -201,10 +202,7 @@ remembers_filtered s m t filters old = record {
 
 -- what goes with a decision is no user
 pub gone_no_user : (n : ℕ) (active : List Active) (x : ℕ) → ((a : Active) → Contains active a → FitsName n active a) → (c : Cid) → Contains (gone_with active (Decide x)) c → is_user c ≡ true → ⊥
-gone_no_user n active x formed c m user = ground_stays n active (Decide x) formed c (user_ground c user) (not_decision c x user) m
-  where
-    not_decision : (c : Cid) (x : ℕ) → is_user c ≡ true → c ≡ Decide x → ⊥
-    not_decision c x user e = false≢true (subst (λ d. is_user d ≡ true) e user)
+gone_no_user n active x formed c m user = ground_stays n active (Decide x) formed c (user_ground c user) (user_not_decision c x user) m
 
 pub users_later : (s : EngineState) → HasOnlyUsers s → (gone : List Cid) → ((c : Cid) → Contains gone c → is_user c ≡ true → ⊥) → AreNew s gone
 users_later s users gone none c m is = none c m (subst (λ d. is_user d ≡ true) is.named (users is.owner is.posted))

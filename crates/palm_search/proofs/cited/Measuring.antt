@@ -25,8 +25,9 @@ use Rattle.palm_search.specs.declared.turn.Pick.{Pick}
 use Rattle.palm_search.specs.declared.turn.Turn.{Turn}
 use Rattle.palm_search.specs.declared.turn.Turn.TheVariants.{Decide as TurnDecide, Undo as TurnUndo}
 use Rattle.palm_search.specs.Turns.{SearchState, Decides, Undoes, SettlesAfter, Follows, Turns}
-use Rattle.palm_search.specs.Search.{SearchEnd, SearchRun, begun}
-use Rattle.palm_search.specs.Search.SearchEnd.{Spent}
+use Rattle.palm_search.specs.declared.ending.SearchEnd.{SearchEnd}
+use Rattle.palm_search.specs.Search.{SearchRun, begun}
+use Rattle.palm_search.specs.declared.ending.SearchEnd.TheVariants.{Spent}
 use Rattle.palm_search.specs.Kept.{HasDeclared, HasOnlyUsers, IsSearching}
 use Rattle.palm_search.specs.Measure.{is_negation, is_within, negations_within, weighed, measure, most_turns}
 use Rattle.palm_search.proofs.cited.Deciding.{latest_vars}

@@ -1,13 +1,13 @@
 -- Places in lists, and the rows of a view.
-use Rattle.std.proofs.Common.{◌≡◌, ℕ, zero, suc, None, Some, List, [], ◌∷◌, ◌++◌, length, slice_get, take, drop, ◌⊎◌, inl, inr, refl, sym, ap, ◌∙◌, subst}
+use Rattle.std.proofs.Common.{◌≡◌, ℕ, zero, suc, ◌≤◌, None, Some, List, [], ◌∷◌, ◌++◌, length, slice_get, take, drop, ◌⊎◌, inl, inr, refl, sym, ap, ◌∙◌, subst, arith}
 use Rattle.palm_model.specs.Domains.{Domains}
 use Rattle.palm_guide.specs.declared.guide.ViewRow.{ViewRow}
 use Rattle.palm_search.specs.Asked.{IsRow, AreRows}
 
-some_same : {X : Type 0} (x y : X) → Some x ≡ Some y → x ≡ y
+pub some_same : {X : Type 0} (x y : X) → Some x ≡ Some y → x ≡ y
 some_same x y e = cc
 
-none_some : {X : Type 0} (x : X) → None ≡ Some x → ⊥
+pub none_some : {X : Type 0} (x : X) → None ≡ Some x → ⊥
 none_some x e = cc
 
 -- what stands at a place when one is appended
@@ -22,6 +22,12 @@ pub split_place : {X : Type 0} (xs : List X) (k : ℕ) (x : X) → slice_get xs 
 split_place [] k x e = absurd (none_some x e)
 split_place (y ∷ ys) zero x e = ap (λ z. z ∷ ys) (some_same y x e)
 split_place (y ∷ ys) (suc k) x e = ap (λ l. y ∷ l) (split_place ys k x e)
+
+-- what stands behind a place
+pub at_drop : {X : Type 0} (n : ℕ) (xs : List X) (j : ℕ) (x : X) → slice_get (drop n xs) j ≡ Some x → (k : ℕ) × (n ≤ k) × (slice_get xs k ≡ Some x)
+at_drop zero xs j x e = (j, omega arith, e)
+at_drop (suc n) [] j x e = absurd (none_some x e)
+at_drop (suc n) (y ∷ xs) j x e = let r = at_drop n xs j x e in let le = r.1 in (suc r.0, omega (arith, le), r.2)
 
 pub rows_push : (d : Domains) (view now : List ViewRow) (row : ViewRow) (x : ℕ) → x ≡ length view → IsRow d x row → now ≡ view ++ row ∷ [] → AreRows d view → AreRows d now
 rows_push d view now row x e is_row en rows y other f = elim (push_place view row y other (ap (λ l. slice_get l y) (sym en) ∙ f)) [

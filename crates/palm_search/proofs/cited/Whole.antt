@@ -10,7 +10,8 @@ use Rattle.palm_engine.proofs.cited.Settled.{plainly_exists, plainly_same}
 use Rattle.palm_search.specs.declared.turn.Pick.{Pick}
 use Rattle.palm_search.specs.declared.turn.Turn.{Turn}
 use Rattle.palm_search.specs.Turns.{SearchState, FitsGuide}
-use Rattle.palm_search.specs.Search.{SearchEnd, SearchRun, Closes, Searches, SearchesTo, IsSameSearch, begun, search_cids}
+use Rattle.palm_search.specs.declared.ending.SearchEnd.{SearchEnd}
+use Rattle.palm_search.specs.Search.{SearchRun, Closes, Searches, SearchesTo, IsSameSearch, begun, search_cids}
 use Rattle.palm_search.specs.Kept.{HasOnlyUsers, IsSearching}
 use Rattle.palm_search.proofs.cited.Keeping.{begins, settles_keep, turns_keep}
 use Rattle.palm_search.proofs.cited.Leaving.{closing_keeps}

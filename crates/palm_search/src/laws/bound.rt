@@ -9,8 +9,9 @@ ghost use Rattle.palm_model.specs.Event.{Posts};
 ghost use Rattle.palm_search.specs.declared.turn.Pick.{Pick};
 ghost use Rattle.palm_search.specs.declared.turn.Turn.{Turn};
 ghost use Rattle.palm_search.specs.Turns.{SearchState, Decides, Undoes, SettlesAfter};
-ghost use Rattle.palm_search.specs.Search.{SearchEnd, Searches};
-ghost use Rattle.palm_search.specs.Search.SearchEnd.{Spent};
+ghost use Rattle.palm_search.specs.declared.ending.SearchEnd.{SearchEnd};
+ghost use Rattle.palm_search.specs.Search.{Searches};
+ghost use Rattle.palm_search.specs.declared.ending.SearchEnd.TheVariants.{Spent};
 ghost use Rattle.palm_search.specs.Kept.{HasOnlyUsers, IsSearching};
 ghost use Rattle.palm_search.specs.Measure.{measure, most_turns};
 

@@ -3,7 +3,7 @@ use Rattle.std.proofs.Common.{ℕ, List, [], ◌∷◌, map}
 use Rattle.palm_session.specs.State.{SessionState}
 use Rattle.palm_session.specs.Asking.{RunAsking}
 use Rattle.palm_session.specs.Feeding.{Served}
-use Rattle.palm_session.specs.Lines.{without_return}
+use Rattle.palm_read.specs.Lines.{without_return}
 use Rattle.palm_session.specs.Replies.{Run, Answered}
 
 pub run_of : (s : SessionState) (lines : List (List ℕ)) (replies : List ℕ) (t : SessionState) (count : ℕ) → RunAsking s lines replies t count → Run s lines replies t

@@ -8,7 +8,7 @@ use Rattle.palm_base.proofs.cited.StreamLemmas.{appended_nothing, appended_both}
 use Rattle.palm_lang.specs.Reply.{ended}
 use Rattle.palm_session.specs.State.{SessionState}
 use Rattle.palm_session.specs.Answers.{Answers}
-use Rattle.palm_session.specs.Lines.{HasNoFeed, IsNextFeed, without_return}
+use Rattle.palm_read.specs.Lines.{HasNoFeed, IsNextFeed, without_return}
 use Rattle.palm_session.specs.Replies.{Run, Answered, GoesOn, Ends, KeepsOn}
 use Rattle.palm_session.specs.Asking.{Asks, RunAsking}
 use Rattle.palm_session.specs.Feeding.{AnswersLine, AnswersFront, Served, FeedsOn, FeedsEnd, FeedsPart, FinishesAll, FinishesPart}

@@ -9,16 +9,16 @@ use Rattle.palm_lang.specs.Reply.{ended}
 use Rattle.palm_read.specs.declared.line.Line.TheVariants.{Quit as QuitLine}
 use Rattle.palm_session.specs.State.{SessionState, IsState}
 use Rattle.palm_session.specs.Answers.{Answers}
-use Rattle.palm_session.specs.Lines.{HasNoFeed, IsNextFeed, without_return, last_line}
+use Rattle.palm_read.specs.Lines.{HasNoFeed, IsNextFeed, without_return, last_line}
 use Rattle.palm_session.specs.Replies.{Run, Answered, GoesOn, Ends, KeepsOn}
 use Rattle.palm_session.specs.Asking.{Asks, asks_none, asks_search, asks_settling, RunAsking}
 use Rattle.palm_session.specs.Feeding.{View, AnswersLine, AnswersFront, Served, Decides, FeedsOn, FeedsEnd, FeedsPart, FeedsText, KeepsRest, FinishesAll, FinishesPart}
 use Rattle.palm_session.specs.declared.limits.TheConstants.{MOST_KEPT_BYTES}
 use Rattle.palm_session.specs.declared.going.Going.{Going}
 use Rattle.palm_session.specs.declared.going.Going.TheVariants.{More, Quit}
-use Rattle.palm_session.specs.declared.stop.Stop.{Stop}
+use Rattle.palm_lang.specs.declared.stop.WriteStop.{WriteStop as Stop}
 use Rattle.palm_session.proofs.cited.FeedLemmas.{one_line, feeds_on, feeds_more, feeds_more_end, feeds_more_part, so_far_none}
-use Rattle.palm_session.proofs.LawsOfLines.{all_right}
+use Rattle.palm_book.proofs.cited.Naming.{all_right}
 use Rattle.palm_session.proofs.cited.LawsOfAnswers.{has_answer, first_bytes_decide, first_bytes_read, same_first_bytes, same_first_bytes_read, kept_more}
 use Rattle.palm_base.proofs.cited.StreamLemmas.{appended_nothing}
 

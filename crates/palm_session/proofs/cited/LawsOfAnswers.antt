@@ -40,12 +40,14 @@ use Rattle.palm_session.specs.State.{SessionState, IsState, HasVariable, AreDoma
 use Rattle.palm_session.specs.Refusals.{IsUnknown, TakesName, NamesNone, NamesNoConstraint, HasNoRoom, NamesNoObject, IsUndeclared, AsksUndeclared, HasActive, IsInWrongState, Meets, in_order, IsFirst, IsNone, refusal_of, heard}
 use Rattle.palm_session.specs.Effects.{Effect, Nothing, Settled, Searched, Rests, Filters, Procedure, ByDbt, ByRepair, search_line, Searches, Follows, Does}
 use Rattle.palm_session.specs.Answers.{IsPausable, IsContradictable, domains_text, list_text, log_text, users_text, SaysWhy, HasConflict, SaysConflict, SaysMinimal, SaysMinimalConflict, SaysCert, SaysCertConflict, end_text, Says, WaitsFor, Contradicts, Accepts, waits, contradicts, says, Answers, misread, refused, accepted}
-use Rattle.palm_session.specs.Lines.{without_return}
+use Rattle.palm_read.specs.Lines.{without_return}
 use Rattle.palm_session.specs.Replies.{ChoosesObject, chooses_guide, chooses_order}
 use Rattle.palm_session.specs.declared.limits.TheConstants.{MOST_KEPT_BYTES}
 use Rattle.palm_session.proofs.cited.LawsOfChanges.{variable_known, has_variable, IsOther, IsWithout}
 use Rattle.palm_session.proofs.LawsOfDomains.{empty_domains, explanation_names, conflict_exists, lowest_empty}
-use Rattle.palm_session.proofs.LawsOfLines.{known_either, most_known, some_known, name_known, beyond_known, long_bytes, long_unread, tabu_read, variable_with, variable_once}
+use Rattle.palm_book.proofs.cited.Naming.{some_known, name_known, variable_with, variable_once}
+use Rattle.palm_read.proofs.cited.KnownLimits.{known_either, most_known, beyond_known}
+use Rattle.palm_session.proofs.LawsOfLines.{long_bytes, long_unread, tabu_read}
 use Rattle.palm_session.proofs.cited.LawsOfStates.{does_keeps, does_exist, does_once, does_without, rests_same, domains_exist, domains_once, bool_known, contradiction_known}
 
 -- ---- whether a refusal holds is known

@@ -41,9 +41,9 @@ use Rattle.palm_session.specs.Effects.{with_engine, with_variable, with_constrai
 use Rattle.palm_session.specs.Objects.{without_number, chosen_without}
 use Rattle.palm_session.proofs.ActiveLists.{turned_cases, active_member, active_added, active_enforced, active_relaxed, active_retracted, active_alike, relaxed_inactive, user_same}
 use Rattle.palm_session.proofs.HeldObjects.{listed, left_inside, left_chosen, held_guides, held_orders}
-use Rattle.palm_session.proofs.Intervals.{are_values, narrow}
-use Rattle.palm_session.proofs.LawsOfLines.{name_known, constraint_once, constraint_with}
-use Rattle.palm_session.proofs.WellFormed.{well_formed}
+use Rattle.palm_book.proofs.cited.Intervals.{are_values, narrow}
+use Rattle.palm_book.proofs.cited.Naming.{name_known, constraint_once, constraint_with}
+use Rattle.palm_book.proofs.cited.WellFormed.{well_formed}
 
 -- ---- one more variable
 

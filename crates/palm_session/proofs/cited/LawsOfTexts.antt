@@ -1,110 +1,14 @@
--- A text has lines in one way, and its lines are answered in one way.
-use Rattle.std.proofs.Common.{◌≡◌, ◌≢◌, ℕ, List, [], ◌∷◌, ◌++◌, map, flat_map, All, Contains, ◌⊎◌, inl, inr, refl, sym, ap, ◌∙◌, subst, append_assoc}
+-- The lines of a text are answered in one way.
+use Rattle.std.proofs.Common.{◌≡◌, ℕ, List, [], ◌∷◌, ◌++◌, All, Contains, ◌⊎◌, inl, inr, refl, sym, ap, ◌∙◌, subst}
 use Rattle.std.proofs.lemmas.List.Elements.{All-nil, All-cons, All-head, All-tail, All-contains, Contains-append_right}
-use Rattle.palm_base.proofs.cited.Members.{nat_known, member_here}
-use Rattle.palm_lang.specs.Reply.{ended}
+use Rattle.palm_base.proofs.cited.Members.{member_here}
 use Rattle.palm_session.specs.State.{SessionState, IsState, fresh}
-use Rattle.palm_session.specs.Lines.{HasNoFeed, Cuts, without_return, last_line, AreLines}
+use Rattle.palm_read.proofs.cited.Cutting.{has_lines, lines_once}
 use Rattle.palm_session.specs.Replies.{Ends, GoesOn, Run, AreAnswered, all, until, Replies, ChoosesObject, ChoosesNone}
 use Rattle.palm_session.proofs.cited.LawsOfAnswers.{has_answer, answers_keep, answers_without, answers_once}
 use Rattle.palm_session.proofs.LawsOfLines.{quit_known}
 use Rattle.palm_session.proofs.cited.LawsOfChanges.{IsWithout}
 use Rattle.palm_session.proofs.cited.LawsOfStates.{fresh_is}
-
--- ---- a text is cut in one way
-
-abbrev IsNoFeed : ℕ → Type 0
-IsNoFeed b = b ≢ 10
-
--- what stands before the first line feed, and what behind it
-split_once : (a b x y : List ℕ) → HasNoFeed a → HasNoFeed b → a ++ 10 ∷ x ≡ b ++ 10 ∷ y → (a ≡ b) × (x ≡ y)
-split_once [] [] x y na nb e = let t : x ≡ y = cc in (refl, t)
-split_once [] (c ∷ b) x y na nb e = let h : c ≡ 10 = cc in absurd (All-head IsNoFeed c b nb h)
-split_once (c ∷ a) [] x y na nb e = let h : c ≡ 10 = cc in absurd (All-head IsNoFeed c a na h)
-split_once (c ∷ a) (d ∷ b) x y na nb e =
-    let h : c ≡ d = cc in
-    let t : a ++ 10 ∷ x ≡ b ++ 10 ∷ y = cc in
-    let r = split_once a b x y (All-tail IsNoFeed c a na) (All-tail IsNoFeed d b nb) t in
-    let s : a ≡ b = r.0 in
-    let both : c ∷ a ≡ d ∷ b = cc in
-    (both, r.1)
-
--- a text that begins with a line
-begins : (line : List ℕ) (lines : List (List ℕ)) (rest : List ℕ) → flat_map ended (line ∷ lines) ++ rest ≡ line ++ 10 ∷ (flat_map ended lines ++ rest)
-begins line lines rest = append_assoc (ended line) (flat_map ended lines) rest ∙ append_assoc line (10 ∷ []) (flat_map ended lines ++ rest)
-
--- what has no line feed begins with no line
-unbegun : (rest line more : List ℕ) → HasNoFeed rest → rest ≡ line ++ 10 ∷ more → ⊥
-unbegun rest line more none e =
-    let m : Contains (line ++ 10 ∷ more) 10 = Contains-append_right line (10 ∷ more) 10 (member_here 10 more) in
-    All-contains IsNoFeed rest 10 none (subst (λ (z : List ℕ). Contains z 10) (sym e) m) refl
-
-cuts_once : (xs ys : List (List ℕ)) (x y : List ℕ) → flat_map ended xs ++ x ≡ flat_map ended ys ++ y → All HasNoFeed xs → All HasNoFeed ys → HasNoFeed x → HasNoFeed y → (xs ≡ ys) × (x ≡ y)
-cuts_once [] [] x y e ns ms n m = (refl, e)
-cuts_once [] (l ∷ ls) x y e ns ms n m = absurd (unbegun x l (flat_map ended ls ++ y) n (e ∙ begins l ls y))
-cuts_once (l ∷ ls) [] x y e ns ms n m = absurd (unbegun y l (flat_map ended ls ++ x) m (sym e ∙ begins l ls x))
-cuts_once (k ∷ ks) (l ∷ ls) x y e ns ms n m =
-    let s = split_once k l (flat_map ended ks ++ x) (flat_map ended ls ++ y) (All-head HasNoFeed k ks ns) (All-head HasNoFeed l ls ms) (sym (begins k ks x) ∙ e ∙ begins l ls y) in
-    let r = cuts_once ks ls x y s.1 (All-tail HasNoFeed k ks ns) (All-tail HasNoFeed l ls ms) n m in
-    let a : k ≡ l = s.0 in
-    let b : ks ≡ ls = r.0 in
-    let both : k ∷ ks ≡ l ∷ ls = cc in
-    (both, r.1)
-
-lines_once : (text : List ℕ) (xs ys : List (List ℕ)) → AreLines text xs → AreLines text ys → xs ≡ ys
-lines_once text xs ys a b =
-    let r = cuts_once a.ended_lines b.ended_lines a.rest b.rest (sym a.cuts.whole ∙ b.cuts.whole) a.cuts.unbroken b.cuts.unbroken a.cuts.unfinished b.cuts.unfinished in
-    a.all ∙ ap (λ (z : List (List ℕ)). map without_return z ++ last_line a.rest) r.0
-    ∙ ap (λ (z : List ℕ). map without_return b.ended_lines ++ last_line z) r.1 ∙ sym b.all
-
--- ---- and it can be cut
-
-abbrev HasCut : List ℕ → Type 0
-HasCut text = (lines : List (List ℕ)) × (rest : List ℕ) × Cuts text lines rest
-
--- one more byte in front, which is no line feed
-cut_byte : (b : ℕ) (text : List ℕ) (lines : List (List ℕ)) (rest : List ℕ) → IsNoFeed b → Cuts text lines rest → HasCut (b ∷ text)
-cut_byte b text [] rest n c = (
-  [],
-  b ∷ rest,
-  record {
-    whole = ap (λ (z : List ℕ). b ∷ z) c.whole;
-    unbroken = All-nil HasNoFeed;
-    unfinished = All-cons IsNoFeed b rest n c.unfinished;
-  },
-)
-cut_byte b text (l ∷ ls) rest n c = (
-  (b ∷ l) ∷ ls,
-  rest,
-  record {
-    whole = ap (λ (z : List ℕ). b ∷ z) c.whole;
-    unbroken = All-cons HasNoFeed (b ∷ l) ls (All-cons IsNoFeed b l n (All-head HasNoFeed l ls c.unbroken)) (All-tail HasNoFeed l ls c.unbroken);
-    unfinished = c.unfinished;
-  },
-)
-
--- a line feed in front
-cut_feed : (b : ℕ) (text : List ℕ) (lines : List (List ℕ)) (rest : List ℕ) → b ≡ 10 → Cuts text lines rest → HasCut (b ∷ text)
-cut_feed b text lines rest e c = (
-  [] ∷ lines,
-  rest,
-  record {
-    whole = ap (λ (z : ℕ). z ∷ text) e ∙ ap (λ (z : List ℕ). 10 ∷ z) c.whole;
-    unbroken = All-cons HasNoFeed [] lines (All-nil IsNoFeed) c.unbroken;
-    unfinished = c.unfinished;
-  },
-)
-
-has_cut : (text : List ℕ) → HasCut text
-has_cut [] = ([], [], record { whole = refl; unbroken = All-nil HasNoFeed; unfinished = All-nil IsNoFeed })
-has_cut (b ∷ text) =
-    let r = has_cut text in
-    elim (nat_known b 10) [ inl e ↦ cut_feed b text r.0 r.1 e r.2 | inr n ↦ cut_byte b text r.0 r.1 n r.2 ]
-
-has_lines : (text : List ℕ) → (lines : List (List ℕ)) × AreLines text lines
-has_lines text =
-    let r = has_cut text in
-    (map without_return r.0 ++ last_line r.1, record { ended_lines = r.0; rest = r.1; cuts = r.2; all = refl })
 
 -- ---- the lines that are answered
 

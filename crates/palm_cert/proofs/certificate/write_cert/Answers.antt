@@ -7,9 +7,9 @@ use Rattle.palm_cert.specs.Certificate.{certificate_text, claim_line, declaratio
 use Rattle.palm_cert.specs.Needs.{IsOfBook, marked}
 use Rattle.palm_cert.proofs.cited.Accepted.{certificate_accepted}
 use Rattle.palm_cert.proofs.cited.Logged.{claim_declared, log_of_book}
-use Rattle.palm_cert.proofs.Made.{in_turn, steps_made, text_made}
+use Rattle.palm_cert.proofs.Made.{at_ok, in_turn, steps_made, text_made}
 use Rattle.palm_cert.proofs.cited.Readable.{readable}
-use Rattle.palm_cert.proofs.Writes.{at_ok, writes_front, writes_text, writes_then, writes_within}
+use Rattle.palm_lang.proofs.cited.Writes.{writes_front, writes_text, writes_then, writes_within}
 use Rattle.palm_cert.proofs.certificate.write_cert.Goals as goal
 
 pub needs_of-requires-clause-logged : goal.needs_of-requires-clause-logged
@@ -92,7 +92,7 @@ returns-clause-text g c =
     let text = text_made book log c.args.claim needs c.in_ok-needs.ensures c.deref.result.now c.claimed_var.result c.deref.ensures.value c.claimed_var.ensures
     ∙ ap (λ (l : List Removal). certificate_text book l c.args.claim) c.log-log.ensures in
     writes_text _ _ _ _ _ (append_assoc (first ++ second) third (fixed_text End) ∙ sym (in_turn first second third (fixed_text End)) ∙ text)
-    (writes_then _ _ _ _ _ _ _ (writes_then _ _ _ _ _ _ _ (writes_then _ _ _ _ _ _ _ c.in_ok-write_declarations.ensures c.in_ok-write_steps.ensures) c.in_ok-write_claim.ensures) c.write_end.ensures)
+    (writes_then _ _ _ _ _ _ _ (writes_then _ _ _ _ _ _ _ (writes_then _ _ _ _ _ _ _ c.in_ok-write_declarations.ensures c.in_ok-write_steps.ensures) c.in_ok-write_claim.ensures) c.write_fixed.ensures)
 
 pub returns-clause-accepted : goal.returns-clause-accepted
 returns-clause-accepted g c =
@@ -100,4 +100,4 @@ returns-clause-accepted g c =
     let book = c.args.book.now in
     let claim = c.args.claim in
     let read = readable s book claim c.variables.ensures.valid c.store.ensures.valid c.requires.initial c.requires.active c.requires.holds c.store.ensures.scoped in
-    at_ok c.write_end.result (certificate_accepted s book claim c.variables.ensures.valid c.store.ensures.valid c.requires.initial c.requires.active c.requires.holds read)
+    at_ok c.write_fixed.result (certificate_accepted s book claim c.variables.ensures.valid c.store.ensures.valid c.requires.initial c.requires.active c.requires.holds read)

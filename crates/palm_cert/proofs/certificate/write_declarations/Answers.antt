@@ -2,7 +2,7 @@ use Rattle.std.proofs.Common.{flat_map, sym, append_assoc}
 use Rattle.std.proofs.lemmas.Result.{err_from_is_err_and}
 use Rattle.palm_cert.specs.Certificate.{added_line, declared_line, header_line, used}
 use Rattle.palm_cert.specs.Needs.{marked}
-use Rattle.palm_cert.proofs.Writes.{writes_front, writes_text, writes_then, writes_within}
+use Rattle.palm_lang.proofs.cited.Writes.{writes_front, writes_text, writes_then, writes_within}
 use Rattle.palm_cert.proofs.certificate.write_declarations.Goals as goal
 
 pub returns-in_err-write_header : goal.returns-in_err-write_header

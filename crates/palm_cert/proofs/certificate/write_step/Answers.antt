@@ -1,31 +1,22 @@
-use Rattle.std.proofs.Common.{◌<◌, ◌++◌, ◌∙◌, List, ℕ, length, true, sym, ap, arith}
-use Rattle.std.proofs.lemmas.Result.{err_from_is_err_and}
-use Rattle.palm_book.specs.Book.{number_name}
-use Rattle.palm_cert.specs.Certificate.{step_line, step_words}
+use Rattle.std.proofs.Common.{◌<◌, ◌∙◌, length, true, sym, arith}
+use Rattle.palm_cert.specs.Certificate.{step_line}
 use Rattle.palm_cert.specs.Needs.{marked}
 use Rattle.palm_cert.proofs.cited.Logged.{numbered_user, some_removal, step_read, user_at_place, user_numbered, variable_at}
 use Rattle.palm_cert.proofs.Marked.{index_read, text_one}
-use Rattle.palm_cert.proofs.Writes.{writes_nothing, writes_text}
-use Rattle.palm_lang.specs.Reply.{ended}
-use Rattle.palm_read.specs.Words.{spaced}
+use Rattle.palm_lang.proofs.cited.Writes.{writes_text}
 use Rattle.palm_cert.proofs.certificate.write_step.Goals as goal
 
 pub number_of-by-requires : goal.number_of-by-requires
 number_of-by-requires g c =
     user_numbered c.args.book.now c.by_at.result (user_at_place c.args.book.now c.args.log.now.log c.requires.logged c.args.place c.requires.place c.by_at.result c.by_at.ensures)
 
-pub put_step-requires-clause-variable : goal.put_step-requires-clause-variable
-put_step-requires-clause-variable g c = variable_at c.args.book.now c.args.log.now.log c.requires.logged c.args.place c.requires.place c.pair_at.result c.pair_at.ensures
+pub write_removal-requires-clause-variable : goal.write_removal-requires-clause-variable
+write_removal-requires-clause-variable g c = variable_at c.args.book.now c.args.log.now.log c.requires.logged c.args.place c.requires.place c.pair_at.result c.pair_at.ensures
 
-pub put_step-requires-clause-constraint : goal.put_step-requires-clause-constraint
-put_step-requires-clause-constraint g c =
+pub write_removal-requires-clause-constraint : goal.write_removal-requires-clause-constraint
+write_removal-requires-clause-constraint g c =
     numbered_user c.args.book.now c.by_at.result c.number_of-by.result c.number_of-by.ensures
     (user_at_place c.args.book.now c.args.log.now.log c.requires.logged c.args.place c.requires.place c.by_at.result c.by_at.ensures)
-
-pub returns-in_err-put_step : goal.returns-in_err-put_step
-returns-in_err-put_step g c =
-    let p = err_from_is_err_and c.from_residual-in_err-put_step.result c.from_residual-in_err-put_step.ensures.1 in
-    rw (p.1, p.2) (writes_nothing _ _)
 
 pub returns : goal.returns
 returns g c =
@@ -35,10 +26,7 @@ returns g c =
     let steps = marked marks log in
     let lt : c.args.place < length marks = omega (arith, c.requires.place, c.requires.steps.marks) in
     let r = some_removal log c.args.place c.requires.place in
-    let line = ended (spaced (step_words book.variables c.pair_at.result (number_name book.constraints c.number_of-by.result) c.deref.result.now)) in
-    let text = c.deref-2.ensures.value ∙ c.in_ok-put_step.ensures ∙ ap (λ (b : List ℕ). b ++ line) c.clear.ensures.items in
     writes_text _ _ _ _ _
-    (text
-    ∙ step_read book steps log c.args.place r.0 c.pair_at.result c.by_at.result c.number_of-by.result c.deref.result.now r.1 c.pair_at.ensures c.by_at.ensures c.number_of-by.ensures (c.deref.ensures.value ∙ c.in_ok-collect_numbers.ensures)
+    (step_read book steps log c.args.place r.0 c.pair_at.result c.by_at.result c.number_of-by.result c.deref.result.now r.1 c.pair_at.ensures c.by_at.ensures c.number_of-by.ensures (c.deref.ensures.value ∙ c.in_ok-collect_numbers.ensures)
     ∙ text_one (step_line book steps) marks log c.args.place r.0 (index_read marks c.args.place true _ lt (sym c.if-not-is_step.false ∙ c.index-is_step.ensures)) r.1)
-    c.write_text.ensures
+    c.write_removal.ensures

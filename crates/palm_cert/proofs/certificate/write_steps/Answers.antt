@@ -3,7 +3,7 @@ use Rattle.std.proofs.lemmas.Result.{err_from_is_err_and}
 use Rattle.palm_cert.specs.Certificate.{step_line}
 use Rattle.palm_cert.specs.Needs.{marked}
 use Rattle.palm_cert.proofs.Marked.{text_all, text_split, text_step}
-use Rattle.palm_cert.proofs.Writes.{writes_text, writes_then, writes_within}
+use Rattle.palm_lang.proofs.cited.Writes.{writes_text, writes_then, writes_within}
 use Rattle.palm_cert.proofs.certificate.write_steps.Goals as goal
 
 pub returns-in_err-write_step : goal.returns-in_err-write_step

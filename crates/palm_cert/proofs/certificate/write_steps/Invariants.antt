@@ -1,7 +1,7 @@
 use Rattle.std.proofs.Common.{take, flat_map, Ok}
 use Rattle.palm_cert.specs.Certificate.{step_line}
 use Rattle.palm_cert.specs.Needs.{marked}
-use Rattle.palm_cert.specs.Writing.{Writes}
+use Rattle.palm_lang.specs.Writing.{Writes}
 use Rattle.palm_cert.proofs.certificate.write_steps.Given as goal
 
 abbrev pub invariant-loop-place : goal.invariant-loop-place

@@ -3,7 +3,7 @@ use Rattle.std.proofs.lemmas.Result.{err_from_is_err_and}
 use Rattle.palm_cert.specs.Certificate.{declared_line, is_used}
 use Rattle.palm_cert.specs.Needs.{marked}
 use Rattle.palm_cert.proofs.Counting.{below_all, below_more, below_split}
-use Rattle.palm_cert.proofs.Writes.{writes_text, writes_then, writes_within}
+use Rattle.palm_lang.proofs.cited.Writes.{writes_text, writes_then, writes_within}
 use Rattle.palm_cert.proofs.certificate.write_variables.Goals as goal
 
 pub returns-in_err-write_variable : goal.returns-in_err-write_variable

@@ -1,7 +1,7 @@
 use Rattle.std.proofs.Common.{length, Ok}
 use Rattle.palm_cert.specs.Certificate.{declared_line, is_used}
 use Rattle.palm_cert.specs.Needs.{marked}
-use Rattle.palm_cert.specs.Writing.{Writes}
+use Rattle.palm_lang.specs.Writing.{Writes}
 use Rattle.palm_cert.proofs.Counting.{below}
 use Rattle.palm_cert.proofs.certificate.write_variables.Given as goal
 

@@ -7,21 +7,21 @@ use Rattle.palm_read.proofs.cited.Many.{item_shortens, running_start, running_mo
 use Rattle.palm_check.proofs.phrases.numbers.Goals as goal
 
 pub loop-numbers-init : goal.loop-numbers-init
-loop-numbers-init c = rw c.new-numbers.ensures (running_start next_number (λ number. number) c.args.words.now [])
+loop-numbers-init c = rw c.new-numbers.ensures (running_start next_number (λ number. number) c.args.cursor.now [])
 
 pub returns-in_err-number : goal.returns-in_err-number
 returns-in_err-number c =
     let p = err_from_is_err_and c.from_residual.result c.from_residual.ensures.1 in
-    rw (p.1, p.2) (running_fails next_number (λ number. number) c.args.words.now c.loop-numbers.words c.next_number.new.words [] c.loop-numbers.numbers c.in_err-number.field-0.0 c.loop-numbers.invariant c.in_err-number.ensures)
+    rw (p.1, p.2) (running_fails next_number (λ number. number) c.args.cursor.now c.loop-numbers.cursor c.next_number.new.cursor [] c.loop-numbers.numbers c.in_err-number.field-0.0 c.loop-numbers.invariant c.in_err-number.ensures)
 
 pub loop-numbers-smaller : goal.loop-numbers-smaller
 loop-numbers-smaller c =
-    running_shorter next_number (item_shortens number_item) (λ number. number) c.loop-numbers.words c.next_number.new.words c.in-Some.number (rw c.in-Some.is at c.in_ok-number.ensures)
+    running_shorter next_number (item_shortens number_item) (λ number. number) c.loop-numbers.cursor c.next_number.new.cursor c.in-Some.number (rw c.in-Some.is at c.in_ok-number.ensures)
 
 pub loop-numbers-preserved : goal.loop-numbers-preserved
 loop-numbers-preserved c =
-    rw c.in_ok-push.ensures.ok (running_more next_number (item_shortens number_item) (λ number. number) c.args.words.now c.loop-numbers.words c.next_number.new.words [] c.loop-numbers.numbers c.in-Some.number c.loop-numbers.invariant (rw c.in-Some.is at c.in_ok-number.ensures))
+    rw c.in_ok-push.ensures.ok (running_more next_number (item_shortens number_item) (λ number. number) c.args.cursor.now c.loop-numbers.cursor c.next_number.new.cursor [] c.loop-numbers.numbers c.in-Some.number c.loop-numbers.invariant (rw c.in-Some.is at c.in_ok-number.ensures))
 
 pub returns : goal.returns
 returns c =
-    plain_over c.loop-numbers.numbers c.next_number.new.words (many_at next_number c.args.words.now) (running_over next_number (λ number. number) c.args.words.now c.loop-numbers.words c.next_number.new.words [] c.loop-numbers.numbers c.loop-numbers.invariant (rw c.in_default.is at c.in_ok-number.ensures))
+    plain_over c.loop-numbers.numbers c.next_number.new.cursor (many_at next_number c.args.cursor.now) (running_over next_number (λ number. number) c.args.cursor.now c.loop-numbers.cursor c.next_number.new.cursor [] c.loop-numbers.numbers c.loop-numbers.invariant (rw c.in_default.is at c.in_ok-number.ensures))

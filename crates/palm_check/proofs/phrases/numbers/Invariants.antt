@@ -4,7 +4,7 @@ use Rattle.palm_read.proofs.cited.Many.{Running}
 use Rattle.palm_check.proofs.phrases.numbers.Given as goal
 
 abbrev pub invariant-loop-numbers : goal.invariant-loop-numbers
-invariant-loop-numbers l = Running next_number (λ number. number) l.initial.words l.words [] l.numbers
+invariant-loop-numbers l = Running next_number (λ number. number) l.initial.cursor l.cursor [] l.numbers
 
 abbrev pub decreases-loop-numbers : goal.decreases-loop-numbers
-decreases-loop-numbers l = length l.words
+decreases-loop-numbers l = length l.cursor

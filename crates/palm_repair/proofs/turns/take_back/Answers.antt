@@ -1,28 +1,24 @@
 use Rattle.std.proofs.Common.{◌≡◌, ◌+◌, ◌<◌, ◌≤◌, Some, [], ◌∷◌, slice_get, length, Contains, refl, sym, ap, ◌∙◌, subst, arith, length-append}
+use Rattle.std.proofs.lemmas.Result.{on_ok_weaker, on_err_weaker}
 use Rattle.palm_base.specs.declared.limits.TheConstants.{LAST_COUNT}
-use Rattle.std.specs.Prelude.{MatchOption}
+use Rattle.std.specs.Prelude.{MatchOption, is_some}
 use Rattle.palm_base.specs.declared.terms.Pair.{Pair}
 use Rattle.palm_base.specs.declared.terms.Cid.TheVariants.{Decide}
 use Rattle.palm_engine.specs.Engine.{View}
 use Rattle.palm_model.specs.Constraint.{Distinct}
 use Rattle.palm_search.specs.Calls.{SearchView}
+use Rattle.palm_search.specs.Turning.{Hears}
 use Rattle.palm_search.specs.Turns.{decided_vars}
 use Rattle.palm_search.specs.declared.turn.Turn.TheVariants.{Undo}
+use Rattle.palm_search.proofs.cited.Results.{on_err}
 use Rattle.palm_repair.specs.Kept.{IsNogood, IsRepairing}
 use Rattle.palm_repair.specs.Learned.{IsHeaviestAt, LearnedView, repair_state}
 use Rattle.palm_repair.specs.Posting.{Nogood, nogood_of}
 use Rattle.palm_repair.specs.Repair.{raised}
-use Rattle.palm_repair.specs.Turning.{Hears, Learns, filtered}
-use Rattle.palm_repair.specs.Turning.IsCutTurn.{cut_before, cut_within}
-use Rattle.palm_repair.specs.Turning.Moves.{moves_none}
-use Rattle.palm_repair.proofs.Stepping.{conflict_distinct, conflict_weighed, heaviest_found, moves_then, on_err, on_ok, raised_weighed, undone_by}
+use Rattle.palm_repair.specs.Turning.{Learns, LearnsSome, filtered}
+use Rattle.palm_repair.specs.Turning.IsCutTurn.{cut_before}
+use Rattle.palm_repair.proofs.Stepping.{conflict_distinct, conflict_weighed, heaviest_found, raised_weighed, undone_by}
 use Rattle.palm_repair.proofs.turns.take_back.Goals as goal
-
-pub returns-in_err-vars-clause-moves : goal.returns-in_err-vars-clause-moves
-returns-in_err-vars-clause-moves g c = moves_none c.args.engine.now.state refl
-
-pub returns-in_err-nogood-clause-moves : goal.returns-in_err-nogood-clause-moves
-returns-in_err-nogood-clause-moves g c = moves_none c.args.engine.now.state refl
 
 pub raise-requires-clause-distinct : goal.raise-requires-clause-distinct
 raise-requires-clause-distinct g c =
@@ -51,31 +47,28 @@ unwrap-place-requires g c =
     heaviest_found s c.weights.result.now c.args.conflict.now c.requires.held.0 c.heaviest.result c.decisions-2.result.now c.as_slice-5.result.now c.requires.ready.at.repairing c.requires.flat c.requires.held.1
     c.decisions-2.ensures c.as_slice-5.ensures c.heaviest.ensures
 
-pub returns-in_err-undo-clause-moves : goal.returns-in_err-undo-clause-moves
-returns-in_err-undo-clause-moves g c = moves_none c.undo.new.engine.state (ap (λ (v : View). v.state) c.in_err-undo.ensures.err.0)
-
 pub learn-requires-clause-repairing : goal.learn-requires-clause-repairing
 learn-requires-clause-repairing g c =
     let undone = undone_by c.args.tabu c.args.engine.now.state c.undo.new.engine.state c.args.search.now c.undo.new.self c.args.learned.now c.args.conflict.now c.heaviest.result c.unwrap-place.result
     c.weights.result.now c.decisions-2.result.now c.as_slice-5.result.now (c.weights.ensures ∙ ap (λ (v : LearnedView). v.weights) (c.raise.ensures ∙ ap (λ l. record c.args.learned.now { weights = raised c.args.learned.now.weights l }) (c.as_slice-3.ensures ∙ c.in_ok-vars.ensures ∙ ap decided_vars c.as_slice.ensures))) c.decisions-2.ensures c.as_slice-5.ensures c.heaviest.ensures c.unwrap-place.ensures
-    c.in_ok-undo.ensures.ok c.requires.some c.requires.ready c.requires.flat in
+    c.in_ok-undo.ensures.ok c.requires.ready c.requires.flat in
     subst (λ (v : LearnedView). IsRepairing (filtered (repair_state c.undo.new.engine.state c.undo.new.self.decisions v))) (sym (c.raise.ensures ∙ ap (λ l. record c.args.learned.now { weights = raised c.args.learned.now.weights l }) (c.as_slice-3.ensures ∙ c.in_ok-vars.ensures ∙ ap decided_vars c.as_slice.ensures))) undone.repairing
 
 pub learn-requires-clause-nogood : goal.learn-requires-clause-nogood
 learn-requires-clause-nogood g c =
     let undone = undone_by c.args.tabu c.args.engine.now.state c.undo.new.engine.state c.args.search.now c.undo.new.self c.args.learned.now c.args.conflict.now c.heaviest.result c.unwrap-place.result
     c.weights.result.now c.decisions-2.result.now c.as_slice-5.result.now (c.weights.ensures ∙ ap (λ (v : LearnedView). v.weights) (c.raise.ensures ∙ ap (λ l. record c.args.learned.now { weights = raised c.args.learned.now.weights l }) (c.as_slice-3.ensures ∙ c.in_ok-vars.ensures ∙ ap decided_vars c.as_slice.ensures))) c.decisions-2.ensures c.as_slice-5.ensures c.heaviest.ensures c.unwrap-place.ensures
-    c.in_ok-undo.ensures.ok c.requires.some c.requires.ready c.requires.flat in
+    c.in_ok-undo.ensures.ok c.requires.ready c.requires.flat in
     subst (IsNogood c.undo.new.engine.state) (sym (c.in_ok-nogood.ensures ∙ (λ i. nogood_of (c.decisions.ensures i) (c.as_slice-2.ensures i)))) undone.nogood
 
 pub returns-clause-ok : goal.returns-clause-ok
 returns-clause-ok g c =
     let undone = undone_by c.args.tabu c.args.engine.now.state c.undo.new.engine.state c.args.search.now c.undo.new.self c.args.learned.now c.args.conflict.now c.heaviest.result c.unwrap-place.result
     c.weights.result.now c.decisions-2.result.now c.as_slice-5.result.now (c.weights.ensures ∙ ap (λ (v : LearnedView). v.weights) (c.raise.ensures ∙ ap (λ l. record c.args.learned.now { weights = raised c.args.learned.now.weights l }) (c.as_slice-3.ensures ∙ c.in_ok-vars.ensures ∙ ap decided_vars c.as_slice.ensures))) c.decisions-2.ensures c.as_slice-5.ensures c.heaviest.ensures c.unwrap-place.ensures
-    c.in_ok-undo.ensures.ok c.requires.some c.requires.ready c.requires.flat in
+    c.in_ok-undo.ensures.ok c.requires.ready c.requires.flat in
     let t = repair_state c.learn.new.engine.state c.undo.new.self.decisions c.learn.new.self in
     let from = λ (v : LearnedView). filtered (repair_state c.undo.new.engine.state c.undo.new.self.decisions v) in
-    on_ok _ _ c.learn.result (λ learns. (
+    on_ok_weaker c.learn.result (λ learns. (
       c.in_ok-undo.ensures.ok.gone,
       record {
         takes = undone.turn c.learn.new.self c.learn.new.engine.state (subst (λ (n : Nogood). Learns c.args.tabu n (from (record c.args.learned.now { weights = raised c.args.learned.now.weights (decided_vars c.args.conflict.now) })) t) (c.in_ok-nogood.ensures ∙ (λ i. nogood_of (c.decisions.ensures i) (c.as_slice-2.ensures i)))
@@ -88,24 +81,21 @@ pub returns-clause-err : goal.returns-clause-err
 returns-clause-err g c =
     let undone = undone_by c.args.tabu c.args.engine.now.state c.undo.new.engine.state c.args.search.now c.undo.new.self c.args.learned.now c.args.conflict.now c.heaviest.result c.unwrap-place.result
     c.weights.result.now c.decisions-2.result.now c.as_slice-5.result.now (c.weights.ensures ∙ ap (λ (v : LearnedView). v.weights) (c.raise.ensures ∙ ap (λ l. record c.args.learned.now { weights = raised c.args.learned.now.weights l }) (c.as_slice-3.ensures ∙ c.in_ok-vars.ensures ∙ ap decided_vars c.as_slice.ensures))) c.decisions-2.ensures c.as_slice-5.ensures c.heaviest.ensures c.unwrap-place.ensures
-    c.in_ok-undo.ensures.ok c.requires.some c.requires.ready c.requires.flat in
-    on_err _ c.learn.result (cut_within (Undo c.in_ok-undo.ensures.ok.gone c.args.conflict.now) undone.cut.0 undone.cut.1 undone.journal)
-
-pub returns-clause-moves : goal.returns-clause-moves
-returns-clause-moves g c =
-    let undone = undone_by c.args.tabu c.args.engine.now.state c.undo.new.engine.state c.args.search.now c.undo.new.self c.args.learned.now c.args.conflict.now c.heaviest.result c.unwrap-place.result
-    c.weights.result.now c.decisions-2.result.now c.as_slice-5.result.now (c.weights.ensures ∙ ap (λ (v : LearnedView). v.weights) (c.raise.ensures ∙ ap (λ l. record c.args.learned.now { weights = raised c.args.learned.now.weights l }) (c.as_slice-3.ensures ∙ c.in_ok-vars.ensures ∙ ap decided_vars c.as_slice.ensures))) c.decisions-2.ensures c.as_slice-5.ensures c.heaviest.ensures c.unwrap-place.ensures
-    c.in_ok-undo.ensures.ok c.requires.some c.requires.ready c.requires.flat in
-    moves_then c.args.engine.now.state c.undo.new.engine.state c.learn.new.engine.state undone.moves c.learn.ensures.moves
+    c.in_ok-undo.ensures.ok c.requires.ready c.requires.flat in
+    let t = c.learn.new.engine.state in
+    let from = λ (v : LearnedView). filtered (repair_state c.undo.new.engine.state c.undo.new.self.decisions v) in
+    on_err_weaker c.learn.result (λ learns. undone.cut (is_some c.args.guide.now) t
+    (subst (λ (n : Nogood). LearnsSome c.args.tabu n (from (record c.args.learned.now { weights = raised c.args.learned.now.weights (decided_vars c.args.conflict.now) })) t) (c.in_ok-nogood.ensures ∙ (λ i. nogood_of (c.decisions.ensures i) (c.as_slice-2.ensures i)))
+    (subst (λ (v : LearnedView). LearnsSome c.args.tabu c.in_ok-nogood.nogood (from v) t) (c.raise.ensures ∙ ap (λ l. record c.args.learned.now { weights = raised c.args.learned.now.weights l }) (c.as_slice-3.ensures ∙ c.in_ok-vars.ensures ∙ ap decided_vars c.as_slice.ensures)) learns))) c.learn.ensures.err
 
 pub returns-in_err-vars-clause-err : goal.returns-in_err-vars-clause-err
-returns-in_err-vars-clause-err g c = on_err _ c.from_residual.result (cut_before refl)
+returns-in_err-vars-clause-err g c = on_err _ c.from_residual.result (cut_before refl refl)
 
 pub returns-in_err-vars-clause-decisions : goal.returns-in_err-vars-clause-decisions
 returns-in_err-vars-clause-decisions g c = c.requires.ready.at.repairing.searching.decisions
 
 pub returns-in_err-nogood-clause-err : goal.returns-in_err-nogood-clause-err
-returns-in_err-nogood-clause-err g c = on_err _ c.from_residual-in_err-nogood.result (cut_before refl)
+returns-in_err-nogood-clause-err g c = on_err _ c.from_residual-in_err-nogood.result (cut_before refl refl)
 
 pub returns-in_err-nogood-clause-decisions : goal.returns-in_err-nogood-clause-decisions
 returns-in_err-nogood-clause-decisions g c = c.requires.ready.at.repairing.searching.decisions
@@ -114,7 +104,7 @@ pub undo-requires-clause-decisions : goal.undo-requires-clause-decisions
 undo-requires-clause-decisions g c = c.requires.ready.at.repairing.searching.decisions
 
 pub returns-in_err-undo-clause-err : goal.returns-in_err-undo-clause-err
-returns-in_err-undo-clause-err g c = on_err _ c.from_residual-in_err-undo.result (cut_before (ap (λ (v : SearchView). v.journal) c.in_err-undo.ensures.err.1))
+returns-in_err-undo-clause-err g c = on_err _ c.from_residual-in_err-undo.result (cut_before (ap (λ (v : View). v.state) c.in_err-undo.ensures.err.0) (ap (λ (v : SearchView). v.journal) c.in_err-undo.ensures.err.1))
 
 pub returns-in_err-undo-clause-decisions : goal.returns-in_err-undo-clause-decisions
 returns-in_err-undo-clause-decisions g c = c.in_err-undo.ensures.decisions
@@ -131,7 +121,7 @@ learn-requires-clause-small g c =
 pub returns-clause-told : goal.returns-clause-told
 returns-clause-told g c =
     let back = c.in_ok-undo.ensures.ok in
-    on_ok _ _ c.learn.result (λ learns. record {
+    on_ok_weaker c.learn.result (λ learns. record {
       gone = back.gone;
       conflict = c.args.conflict.now;
       journal = back.journal;

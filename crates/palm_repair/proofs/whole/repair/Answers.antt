@@ -1,33 +1,93 @@
-use Rattle.std.proofs.Common.{None, sym, subst}
-use Rattle.std.specs.Prelude.{is_some}
+use Rattle.std.proofs.Common.{None, rules, sym, ◌∙◌, subst}
+use Rattle.std.specs.Prelude.{IfOk, OnErr, is_some}
 use Rattle.palm_events.proofs.cited.Reasons.{reasons_right}
 use Rattle.palm_engine.specs.Engine.{HasSettled}
 use Rattle.palm_engine.proofs.cited.Walking.{filters_none}
-use Rattle.palm_repair.specs.Answers.{HasRepaired}
-use Rattle.palm_repair.proofs.Running.{answer_true, interrupted_filters, moved_leaves, moved_returns, repaired, settled_filters}
+use Rattle.palm_search.proofs.cited.Results.{on_err}
+use Rattle.palm_search.proofs.cited.Running.{counts_then, interrupted_filters}
+use Rattle.palm_repair.specs.Answers.{HasRepaired, end_of}
+use Rattle.palm_repair.specs.Turning.{BreaksOff, HasRun, IsCutOff}
+use Rattle.palm_repair.proofs.Breaking.{broken_at_end, broken_in_run, broken_leaves, repaired_leaves}
+use Rattle.palm_repair.proofs.Running.{answer_true, counts_kept, repaired}
 use Rattle.palm_repair.proofs.whole.repair.Goals as goal
 
 -- ---- memory ran out in the run
 
-pub returns-in_err-answer-clause-active : goal.returns-in_err-answer-clause-active
-returns-in_err-answer-clause-active g c = (moved_returns reasons_right c.args.engine.now.state c.run-answer.new.engine.state c.close.new.engine.state c.close.new.engine.state c.requires.users c.run-answer.ensures.before c.run-answer.ensures.moves c.close.ensures.withdraws (filters_none c.close.new.engine.state)).active
+pub returns-in_err-answer-clause-err : goal.returns-in_err-answer-clause-err
+returns-in_err-answer-clause-err g c =
+    let guided = is_some c.args.guide.now in
+    let ordered = is_some c.args.order.now in
+    let tabu = c.args.tabu in
+    let budget = c.args.budget in
+    let s = c.args.engine.now.state in
+    let run = c.run-answer in
+    let turns = run.new.search.journal in
+    let t = c.close.new.engine.state in
+    let cut = subst (λ r. OnErr r (IsCutOff guided ordered tabu budget s turns run.new.engine.state)) c.in_err-answer.was run.ensures.err in
+    let broken = broken_in_run guided ordered tabu budget s turns run.new.engine.state t t cut c.close.ensures.withdraws (filters_none t) in
+    on_err _ c.from_residual.result (subst (λ l. BreaksOff guided ordered tabu budget s l t) (sym c.close.ensures.journal) broken)
 
-pub returns-in_err-answer-clause-initial : goal.returns-in_err-answer-clause-initial
-returns-in_err-answer-clause-initial g c = (moved_returns reasons_right c.args.engine.now.state c.run-answer.new.engine.state c.close.new.engine.state c.close.new.engine.state c.requires.users c.run-answer.ensures.before c.run-answer.ensures.moves c.close.ensures.withdraws (filters_none c.close.new.engine.state)).initial
+pub returns-in_err-answer-clause-leaves : goal.returns-in_err-answer-clause-leaves
+returns-in_err-answer-clause-leaves g c =
+    let guided = is_some c.args.guide.now in
+    let ordered = is_some c.args.order.now in
+    let tabu = c.args.tabu in
+    let budget = c.args.budget in
+    let s = c.args.engine.now.state in
+    let run = c.run-answer in
+    let turns = run.new.search.journal in
+    let t = c.close.new.engine.state in
+    let cut = subst (λ r. OnErr r (IsCutOff guided ordered tabu budget s turns run.new.engine.state)) c.in_err-answer.was run.ensures.err in
+    let broken = broken_in_run guided ordered tabu budget s turns run.new.engine.state t t cut c.close.ensures.withdraws (filters_none t) in
+    broken_leaves reasons_right guided ordered tabu budget s turns t c.close.new.self c.from_residual.result c.requires.users run.ensures.before broken c.close.ensures.decisions (search rules)
 
-pub returns-in_err-answer-clause-log : goal.returns-in_err-answer-clause-log
-returns-in_err-answer-clause-log g c still = moved_leaves reasons_right c.args.engine.now.state c.run-answer.new.engine.state c.close.new.engine.state c.close.new.engine.state c.requires.users c.run-answer.ensures.before still c.run-answer.ensures.moves c.close.ensures.withdraws (filters_none c.close.new.engine.state)
+pub returns-in_err-answer-clause-counts : goal.returns-in_err-answer-clause-counts
+returns-in_err-answer-clause-counts g c = counts_kept c.args.engine.now c.run-answer.new.engine c.close.new.engine c.args.steps.now c.run-answer.new.steps c.run-answer.ensures.counts c.close.ensures.counts
+
+pub returns-in_err-answer-clause-lent : goal.returns-in_err-answer-clause-lent
+returns-in_err-answer-clause-lent g c = c.run-answer.ensures.lent
 
 -- ---- memory ran out in the last settling
 
-pub returns-in_err-settle-clause-active : goal.returns-in_err-settle-clause-active
-returns-in_err-settle-clause-active g c = (moved_returns reasons_right c.args.engine.now.state c.run-answer.new.engine.state c.close.new.engine.state c.settle.new.self.state c.requires.users c.run-answer.ensures.before c.run-answer.ensures.moves c.close.ensures.withdraws (interrupted_filters (is_some c.run-answer.new.order) c.close.new.engine c.settle.new.self c.in_err-settle.ensures.err)).active
+pub returns-in_err-settle-clause-err : goal.returns-in_err-settle-clause-err
+returns-in_err-settle-clause-err g c =
+    let guided = is_some c.args.guide.now in
+    let ordered = is_some c.args.order.now in
+    let tabu = c.args.tabu in
+    let budget = c.args.budget in
+    let s = c.args.engine.now.state in
+    let run = c.run-answer in
+    let turns = run.new.search.journal in
+    let n = c.close.new.engine in
+    let t = c.settle.new.self in
+    let has = subst (λ r. IfOk r (HasRun guided ordered tabu budget s turns run.new.engine.state)) c.in_ok-answer.was run.ensures.ok in
+    let broken = broken_at_end guided ordered tabu budget s turns run.new.engine.state c.in_ok-answer.answer n.state t.state has c.close.ensures.withdraws (interrupted_filters (is_some run.new.order) n t c.in_err-settle.ensures.err) in
+    on_err _ c.from_residual-in_err-settle.result (subst (λ l. BreaksOff guided ordered tabu budget s l t.state) (sym c.close.ensures.journal) broken)
 
-pub returns-in_err-settle-clause-initial : goal.returns-in_err-settle-clause-initial
-returns-in_err-settle-clause-initial g c = (moved_returns reasons_right c.args.engine.now.state c.run-answer.new.engine.state c.close.new.engine.state c.settle.new.self.state c.requires.users c.run-answer.ensures.before c.run-answer.ensures.moves c.close.ensures.withdraws (interrupted_filters (is_some c.run-answer.new.order) c.close.new.engine c.settle.new.self c.in_err-settle.ensures.err)).initial
+pub returns-in_err-settle-clause-leaves : goal.returns-in_err-settle-clause-leaves
+returns-in_err-settle-clause-leaves g c =
+    let guided = is_some c.args.guide.now in
+    let ordered = is_some c.args.order.now in
+    let tabu = c.args.tabu in
+    let budget = c.args.budget in
+    let s = c.args.engine.now.state in
+    let run = c.run-answer in
+    let turns = run.new.search.journal in
+    let n = c.close.new.engine in
+    let t = c.settle.new.self in
+    let has = subst (λ r. IfOk r (HasRun guided ordered tabu budget s turns run.new.engine.state)) c.in_ok-answer.was run.ensures.ok in
+    let broken = broken_at_end guided ordered tabu budget s turns run.new.engine.state c.in_ok-answer.answer n.state t.state has c.close.ensures.withdraws (interrupted_filters (is_some run.new.order) n t c.in_err-settle.ensures.err) in
+    broken_leaves reasons_right guided ordered tabu budget s turns t.state c.close.new.self c.from_residual-in_err-settle.result c.requires.users run.ensures.before broken c.close.ensures.decisions (search rules)
 
-pub returns-in_err-settle-clause-log : goal.returns-in_err-settle-clause-log
-returns-in_err-settle-clause-log g c still = moved_leaves reasons_right c.args.engine.now.state c.run-answer.new.engine.state c.close.new.engine.state c.settle.new.self.state c.requires.users c.run-answer.ensures.before still c.run-answer.ensures.moves c.close.ensures.withdraws (interrupted_filters (is_some c.run-answer.new.order) c.close.new.engine c.settle.new.self c.in_err-settle.ensures.err)
+pub returns-in_err-settle-clause-counts : goal.returns-in_err-settle-clause-counts
+returns-in_err-settle-clause-counts g c =
+    let first = c.args.engine.now in
+    let run = c.run-answer in
+    let closed = c.close.new.engine in
+    counts_then first run.new.engine closed c.settle.new.self c.args.steps.now run.new.steps c.settle.new.steps run.ensures.counts c.close.ensures.counts.checks c.settle.ensures.asked.later c.settle.ensures.checks
+
+pub returns-in_err-settle-clause-lent : goal.returns-in_err-settle-clause-lent
+returns-in_err-settle-clause-lent g c = record { guide = c.run-answer.ensures.lent.guide; order = c.settle.ensures.stays ∙ c.run-answer.ensures.lent.order }
 
 -- ---- an answer
 
@@ -38,9 +98,14 @@ returns-clause-ok g c =
     let tabu = c.args.tabu in
     let budget = c.args.budget in
     let s = c.args.engine.now.state in
-    let settled = subst (λ b. HasSettled None b c.in_ok-settle.field-0 c.close.new.engine c.settle.new.self) c.run-answer.ensures.order c.in_ok-settle.ensures.ok in
-    let whole = repaired guided ordered tabu budget s c.run-answer.new.search.journal c.run-answer.new.engine.state c.in_ok-answer.answer c.in_ok-settle.field-0 c.close.new.engine c.settle.new.self c.in_ok-answer.ensures.ok c.close.ensures.withdraws settled in
-    subst (λ turns. HasRepaired guided ordered tabu budget s turns c.settle.new.self.state c.in_ok-answer.answer) (sym c.close.ensures.journal) whole
+    let run = c.run-answer in
+    let turns = run.new.search.journal in
+    let n = c.close.new.engine in
+    let t = c.settle.new.self in
+    let settled = subst (λ b. HasSettled None b c.in_ok-settle.field-0 n t) run.ensures.lent.order c.in_ok-settle.ensures.ok in
+    let has = subst (λ r. IfOk r (HasRun guided ordered tabu budget s turns run.new.engine.state)) c.in_ok-answer.was run.ensures.ok in
+    let whole = repaired guided ordered tabu budget s turns run.new.engine.state c.in_ok-answer.answer c.in_ok-settle.field-0 n t has c.close.ensures.withdraws settled in
+    subst (λ l. HasRepaired guided ordered tabu budget s l t.state c.in_ok-answer.answer) (sym c.close.ensures.journal) whole
 
 pub returns-clause-holds : goal.returns-clause-holds
 returns-clause-holds g c =
@@ -49,15 +114,37 @@ returns-clause-holds g c =
     let tabu = c.args.tabu in
     let budget = c.args.budget in
     let s = c.args.engine.now.state in
-    let settled = subst (λ b. HasSettled None b c.in_ok-settle.field-0 c.close.new.engine c.settle.new.self) c.run-answer.ensures.order c.in_ok-settle.ensures.ok in
-    let whole = repaired guided ordered tabu budget s c.run-answer.new.search.journal c.run-answer.new.engine.state c.in_ok-answer.answer c.in_ok-settle.field-0 c.close.new.engine c.settle.new.self c.in_ok-answer.ensures.ok c.close.ensures.withdraws settled in
-    answer_true reasons_right guided ordered tabu budget s c.run-answer.new.search.journal c.settle.new.self.state c.in_ok-answer.answer c.requires.users c.run-answer.ensures.before whole
+    let run = c.run-answer in
+    let turns = run.new.search.journal in
+    let n = c.close.new.engine in
+    let t = c.settle.new.self in
+    let settled = subst (λ b. HasSettled None b c.in_ok-settle.field-0 n t) run.ensures.lent.order c.in_ok-settle.ensures.ok in
+    let has = subst (λ r. IfOk r (HasRun guided ordered tabu budget s turns run.new.engine.state)) c.in_ok-answer.was run.ensures.ok in
+    let whole = repaired guided ordered tabu budget s turns run.new.engine.state c.in_ok-answer.answer c.in_ok-settle.field-0 n t has c.close.ensures.withdraws settled in
+    answer_true reasons_right guided ordered tabu budget s turns t.state c.in_ok-answer.answer c.requires.users run.ensures.before whole
 
-pub returns-clause-active : goal.returns-clause-active
-returns-clause-active g c = (moved_returns reasons_right c.args.engine.now.state c.run-answer.new.engine.state c.close.new.engine.state c.settle.new.self.state c.requires.users c.run-answer.ensures.before c.run-answer.ensures.moves c.close.ensures.withdraws (settled_filters (is_some c.run-answer.new.order) c.in_ok-settle.field-0 c.close.new.engine c.settle.new.self c.in_ok-settle.ensures.ok)).active
+pub returns-clause-leaves : goal.returns-clause-leaves
+returns-clause-leaves g c =
+    let guided = is_some c.args.guide.now in
+    let ordered = is_some c.args.order.now in
+    let tabu = c.args.tabu in
+    let budget = c.args.budget in
+    let s = c.args.engine.now.state in
+    let run = c.run-answer in
+    let turns = run.new.search.journal in
+    let n = c.close.new.engine in
+    let t = c.settle.new.self in
+    let settled = subst (λ b. HasSettled None b c.in_ok-settle.field-0 n t) run.ensures.lent.order c.in_ok-settle.ensures.ok in
+    let has = subst (λ r. IfOk r (HasRun guided ordered tabu budget s turns run.new.engine.state)) c.in_ok-answer.was run.ensures.ok in
+    let whole = repaired guided ordered tabu budget s turns run.new.engine.state c.in_ok-answer.answer c.in_ok-settle.field-0 n t has c.close.ensures.withdraws settled in
+    repaired_leaves reasons_right guided ordered tabu budget s turns (end_of c.in_ok-answer.answer) whole.dropped t.state c.close.new.self c.in_ok-answer.answer c.requires.users run.ensures.before whole.repairs c.close.ensures.decisions
 
-pub returns-clause-initial : goal.returns-clause-initial
-returns-clause-initial g c = (moved_returns reasons_right c.args.engine.now.state c.run-answer.new.engine.state c.close.new.engine.state c.settle.new.self.state c.requires.users c.run-answer.ensures.before c.run-answer.ensures.moves c.close.ensures.withdraws (settled_filters (is_some c.run-answer.new.order) c.in_ok-settle.field-0 c.close.new.engine c.settle.new.self c.in_ok-settle.ensures.ok)).initial
+pub returns-clause-counts : goal.returns-clause-counts
+returns-clause-counts g c =
+    let first = c.args.engine.now in
+    let run = c.run-answer in
+    let closed = c.close.new.engine in
+    counts_then first run.new.engine closed c.settle.new.self c.args.steps.now run.new.steps c.settle.new.steps run.ensures.counts c.close.ensures.counts.checks c.settle.ensures.asked.later c.settle.ensures.checks
 
-pub returns-clause-log : goal.returns-clause-log
-returns-clause-log g c still = moved_leaves reasons_right c.args.engine.now.state c.run-answer.new.engine.state c.close.new.engine.state c.settle.new.self.state c.requires.users c.run-answer.ensures.before still c.run-answer.ensures.moves c.close.ensures.withdraws (settled_filters (is_some c.run-answer.new.order) c.in_ok-settle.field-0 c.close.new.engine c.settle.new.self c.in_ok-settle.ensures.ok)
+pub returns-clause-lent : goal.returns-clause-lent
+returns-clause-lent g c = record { guide = c.run-answer.ensures.lent.guide; order = c.settle.ensures.stays ∙ c.run-answer.ensures.lent.order }

@@ -1,7 +1,7 @@
 use Rattle.std.proofs.Common.{refl, rules, ◌∙◌}
 use Rattle.palm_base.specs.declared.terms.Cid.TheVariants.{Decide}
 use Rattle.palm_search.proofs.Calling.{last_active, last_withdrawn, none_decided}
-use Rattle.palm_search.proofs.cited.Closing.{goes_none, goes_one, goes_then}
+use Rattle.palm_search.proofs.Closing.{goes_none, goes_one, goes_then}
 use Rattle.palm_search.proofs.search.withdraw_decisions.Goals as goal
 
 pub loop-pair-init : goal.loop-pair-init

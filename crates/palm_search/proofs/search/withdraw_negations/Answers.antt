@@ -1,6 +1,6 @@
 use Rattle.std.proofs.Common.{refl, ◌∙◌}
 use Rattle.palm_base.specs.declared.terms.Cid.TheVariants.{Not}
-use Rattle.palm_search.proofs.cited.Closing.{goes_none, goes_one, goes_then, withdrawn_fewer}
+use Rattle.palm_search.proofs.Closing.{goes_none, goes_one, goes_then, withdrawn_fewer}
 use Rattle.palm_search.proofs.search.withdraw_negations.Goals as goal
 
 pub loop-pair-init : goal.loop-pair-init

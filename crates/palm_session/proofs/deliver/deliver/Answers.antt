@@ -1,7 +1,7 @@
 use Rattle.palm_session.proofs.deliver.deliver.Goals as goal
 
 pub returns-in-Word : goal.returns-in-Word
-returns-in-Word g c = rw c.in-Word.is c.write_word.ensures
+returns-in-Word g c = rw c.in-Word.is c.write_fixed.ensures
 
 pub returns-in-Refused : goal.returns-in-Refused
 returns-in-Refused g c = rw c.in-Refused.is c.write_refusal.ensures

@@ -3,30 +3,31 @@ use Rattle.std.proofs.lemmas.List.{take_all}
 use Rattle.std.proofs.lemmas.Result.{err_from_is_err_and}
 use Rattle.palm_book.specs.Book.{Entry}
 use Rattle.palm_lang.specs.Reply.{var_line}
-use Rattle.palm_session.proofs.Delivering.{delivers_text, delivers_then, delivers_within, flat_split, flat_step}
+use Rattle.palm_lang.proofs.cited.Writes.{writes_text, writes_then, writes_within}
+use Rattle.palm_session.proofs.Delivering.{flat_split, flat_step}
 use Rattle.palm_session.proofs.deliver.write_variables.Goals as goal
 
-pub returns-in_err-write_variable : goal.returns-in_err-write_variable
-returns-in_err-write_variable g c =
+pub returns-in_err-write_var : goal.returns-in_err-write_var
+returns-in_err-write_var g c =
     let p = err_from_is_err_and c.from_residual.result c.from_residual.ensures.1 in
     let lt : c.loop-index.index < length c.args.book.now.variables = omega (arith, c.loop-index-test.true, c.variables-index-end.ensures.count) in
     rw (p.1, p.2)
-    (delivers_within _ _ _ _ _ _ _ tt c.in_err-write_variable.field-0.0
+    (writes_within _ _ _ _ _ _ _ tt c.in_err-write_var.field-0.0
     (flat_split (λ e. var_line e.name e.values) c.args.book.now.variables c.loop-index.index (record { name = []; values = [] }) lt)
-    c.loop-index.invariant c.in_err-write_variable.ensures)
+    c.loop-index.invariant c.in_err-write_var.ensures)
 
 pub loop-index-preserved : goal.loop-index-preserved
 loop-index-preserved g c =
     let lt : c.loop-index.index < length c.args.book.now.variables = omega (arith, c.loop-index-test.true, c.variables-index-end.ensures.count) in
-    delivers_text _ _ _ _ _ (flat_step (λ e. var_line e.name e.values) c.args.book.now.variables c.loop-index.index (record { name = []; values = [] }) lt)
-    (delivers_then _ _ _ _ _ tt _ c.loop-index.invariant c.in_ok-write_variable.ensures)
+    writes_text _ _ _ _ _ (flat_step (λ e. var_line e.name e.values) c.args.book.now.variables c.loop-index.index (record { name = []; values = [] }) lt)
+    (writes_then _ _ _ _ _ tt _ c.loop-index.invariant c.in_ok-write_var.ensures)
 
-pub write_variable-requires-clause-values : goal.write_variable-requires-clause-values
-write_variable-requires-clause-values g c =
+pub write_var-requires-clause-values : goal.write_var-requires-clause-values
+write_var-requires-clause-values g c =
     let lt : c.loop-index.index < length c.args.book.now.variables = omega (arith, c.loop-index-test.true, c.variables-index-end.ensures.count) in
     c.variables-index-end.ensures.valid.values c.loop-index.index (record { name = []; values = [] }) lt
 
 pub returns : goal.returns
 returns g c =
     let all : length c.args.book.now.variables ≤ c.loop-index.index = omega (arith, c.loop-index-test.false, c.variables-index-end.ensures.count) in
-    delivers_text _ _ _ _ _ (ap (λ (es : List Entry). flat_map (λ e. var_line e.name e.values) es) (take_all _ _ all)) c.loop-index.invariant
+    writes_text _ _ _ _ _ (ap (λ (es : List Entry). flat_map (λ e. var_line e.name e.values) es) (take_all _ _ all)) c.loop-index.invariant

@@ -1,22 +1,23 @@
 use Rattle.std.proofs.Common.{ap, subst}
-use Rattle.palm_claim.specs.Draft.{Draft, IsVariable, at_stage}
+use Rattle.palm_claim.specs.Draft.{Draft, at_stage}
+use Rattle.palm_book.specs.Named.{IsVariable}
 use Rattle.palm_claim.specs.Step.{IsReached}
 use Rattle.palm_claim.specs.declared.statement.Stage.TheVariants.{Claimed}
 use Rattle.palm_claim.specs.declared.statement.Statement.TheVariants.{ConflictClaim}
 use Rattle.palm_claim.specs.declared.verdict.Claim.TheVariants.{Conflict}
-use Rattle.palm_claim.proofs.cited.Unique.{variable_is}
+use Rattle.palm_book.proofs.cited.Pairs.{variable_is, variable_known}
 use Rattle.palm_check.specs.Kept.{draft_of}
-use Rattle.palm_check.proofs.Hearing.{variable_known, without_cause}
+use Rattle.palm_check.proofs.Hearing.{without_cause}
 use Rattle.palm_check.proofs.checker.Checker.claim_conflict.Goals as goal
 
 pub returns-clause-hears : goal.returns-clause-hears
 returns-clause-hears c =
-    let book = c.args.self.now.book in
+    let book = c.args.self.now.listed.book in
     let x = c.in-Some.var in
     let is : IsVariable book.variables c.args.name.now x = record { declared = c.in-Some.ensures.found.0; named = c.in-Some.ensures.found.1 } in (
       without_cause (draft_of c.args.self.now) (ConflictClaim c.args.name.now) c.requires.stands
           (λ m. m (variable_known book.variables c.args.name.now x is))
           (λ h. h) (λ h. h) (λ h. h)
-          (λ w. w.2 (subst (λ y. IsReached book c.args.self.now.proved.items (Conflict y)) (variable_is book.variables c.args.name.now x w.0 c.requires.kept.formed.different_variables is w.1) c.if-not-is_empty.ensures.tells)),
+          (λ w. w.2 (subst (λ y. IsReached book c.args.self.now.proved.items (Conflict y)) (variable_is book.variables c.args.name.now x w.0 c.requires.kept.lists.formed.different_variables is w.1) c.if-not-is_empty.ensures.tells)),
       (x, is, ap (λ (d : Draft). at_stage d (Claimed (Conflict x))) c.is_empty.ensures.same),
     )

@@ -1,35 +1,18 @@
-use Rattle.std.proofs.Common.{◌∙◌, sym, subst, slice_index_or, All, Contains}
-use Rattle.palm_domain.specs.Rows.{IsDeclared, values_of}
-use Rattle.palm_domain.proofs.cited.StoreRows.{exists_from_declared}
-use Rattle.palm_check.specs.Store.{PutsBack, TakesOut}
-use Rattle.palm_check.proofs.Keeping.{keeps_store}
-use Rattle.palm_check.proofs.Taking.{full_again, gone_tells}
+use Rattle.std.proofs.Common.{sym, subst, All, Contains, List}
+use Rattle.palm_base.specs.declared.terms.Pair.{Pair}
+use Rattle.palm_base.specs.Tells.{Tells}
+use Rattle.palm_book.specs.Book.{initial_of}
+use Rattle.palm_model.specs.Domains.{Has}
+use Rattle.palm_check.proofs.Keeping.{keeps_book}
 use Rattle.palm_check.proofs.checker.Checker.is_gone.Goals as goal
 
-pub take_out_all-requires : goal.take_out_all-requires
-take_out_all-requires c = λ k d lt.
-    let store = c.args.self.now.store in
-    let p = slice_index_or c.deref.result.now k d in
-    exists_from_declared store p.var p.value (subst (All (λ q. IsDeclared store q.var q.value)) (sym c.deref.ensures.value) c.requires.kept.declared k d lt)
-
-pub put_back_all-requires : goal.put_back_all-requires
-put_back_all-requires c = λ k d lt.
-    let store = c.args.self.now.store in
-    let p = slice_index_or c.deref-2.result.now k d in
-    subst (λ ds. Contains (values_of ds p.var) p.value) (sym c.take_out_all.ensures.initial) (subst (All (λ q. IsDeclared store q.var q.value)) (sym c.deref-2.ensures.value) c.requires.kept.declared k d lt)
+pub is_gone-requires-clause-removed : goal.is_gone-requires-clause-removed
+is_gone-requires-clause-removed c =
+    subst (All (λ (q : Pair). Has (initial_of c.args.self.now.listed.book) q.var q.value)) (sym c.deref.ensures.value) c.requires.kept.declared
 
 pub returns-clause-tells : goal.returns-clause-tells
-returns-clause-tells c =
-    let store = c.args.self.now.store in
-    let p = c.args.pair.now in
-    gone_tells store c.take_out_all.new.store c.args.self.now.proved.items p c.contains-is_gone.result c.requires.kept.full
-    (subst (λ ds. Contains (values_of ds p.var) p.value) (sym c.requires.kept.initial) c.requires.declared)
-    (subst (TakesOut store c.take_out_all.new.store) c.deref.ensures.value c.take_out_all.ensures) c.contains-is_gone.ensures
+returns-clause-tells c = subst (λ (ps : List Pair). Tells c.is_gone.result (Contains ps c.args.pair.now)) c.deref.ensures.value c.is_gone.ensures.tells
 
 pub returns-clause-kept : goal.returns-clause-kept
 returns-clause-kept c =
-    let store = c.args.self.now.store in
-    let takes = subst (TakesOut store c.take_out_all.new.store) c.deref.ensures.value c.take_out_all.ensures in
-    let puts = subst (PutsBack c.take_out_all.new.store c.put_back_all.new.store) c.deref-2.ensures.value c.put_back_all.ensures in
-    keeps_store c.args.self.now.book store c.put_back_all.new.store c.args.self.now.kinds.items c.args.self.now.proved.items c.requires.kept
-    (c.put_back_all.ensures.initial ∙ c.take_out_all.ensures.initial) (full_again store c.take_out_all.new.store c.put_back_all.new.store c.args.self.now.proved.items c.requires.kept.full takes puts)
+    keeps_book c.args.self.now.listed c.is_gone.new.self c.args.self.now.proved.items c.requires.kept c.is_gone.ensures.listed c.is_gone.ensures.same

@@ -1,10 +1,9 @@
-use Rattle.std.proofs.Common.{◌+◌, ◌<◌, length, remove, Contains, refl, sym, ap, ◌∙◌, subst, arith}
+use Rattle.std.proofs.Common.{◌+◌, ◌<◌, length, remove, Contains, sym, ap, ◌∙◌, subst, arith}
 use Rattle.palm_base.specs.declared.limits.TheConstants.{LAST_COUNT}
 use Rattle.palm_model.specs.Event.{WithdrawsAll}
 use Rattle.palm_repair.specs.Learned.{LearnedView}
 use Rattle.palm_repair.specs.Repair.{forced_by}
-use Rattle.palm_repair.specs.Turning.Moves.{moves_none}
-use Rattle.palm_repair.proofs.Taking.{room_left, room_made, taken_moves}
+use Rattle.palm_repair.proofs.Taking.{room_left, room_made}
 use Rattle.palm_repair.proofs.learned.Learned.make_room.Goals as goal
 
 pub withdraw_forced-requires : goal.withdraw_forced-requires
@@ -31,13 +30,6 @@ returns-then-listed-tabu-clause-ok g c = λ decisions.
     room_made c.args.tabu s t decisions before c.forget.new.self c.requires.some (sym c.listed.ensures ∙ c.if-listed-tabu.true) withdraws
     (c.forget.ensures ∙ ap (λ (v : LearnedView). record v { nogoods = remove v.nogoods 0; dropped = v.dropped + 1 }) c.keep_active.ensures)
 
-pub returns-then-listed-tabu-clause-moves : goal.returns-then-listed-tabu-clause-moves
-returns-then-listed-tabu-clause-moves g c =
-    taken_moves c.args.engine.now.state c.withdraw_forced.new.engine.state c.dropped.result c.origins.result.now c.withdraw_forced.ensures.withdraws
-
 pub returns-else-listed-tabu-clause-ok : goal.returns-else-listed-tabu-clause-ok
 returns-else-listed-tabu-clause-ok g c = λ decisions.
     room_left c.args.tabu c.args.engine.now.state decisions c.args.self.now c.requires.few (λ e. c.if-listed-tabu.false (c.listed.ensures ∙ e))
-
-pub returns-else-listed-tabu-clause-moves : goal.returns-else-listed-tabu-clause-moves
-returns-else-listed-tabu-clause-moves g c = moves_none c.args.engine.now.state refl

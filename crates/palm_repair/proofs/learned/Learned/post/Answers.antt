@@ -1,4 +1,4 @@
-use Rattle.std.proofs.Common.{◌+◌, ◌<◌, ◌≤◌, length, Contains, refl, sym, ap, ◌∙◌, subst, arith}
+use Rattle.std.proofs.Common.{◌+◌, ◌<◌, ◌≤◌, length, Contains, sym, ap, ◌∙◌, subst, arith}
 use Rattle.std.proofs.lemmas.Option.{get_or_from_slice_get}
 use Rattle.palm_base.proofs.cited.Members.{member_get}
 use Rattle.palm_model.specs.Constraint.{Distinct}
@@ -7,10 +7,10 @@ use Rattle.palm_model.specs.State.{EngineState}
 use Rattle.palm_model.proofs.cited.Narrowing.{has_declared}
 use Rattle.palm_search.specs.Calls.{search_state}
 use Rattle.palm_search.specs.Kept.{HasDecisions}
-use Rattle.palm_repair.specs.Learned.{Forces, LearnedView, ShowsDecisions, left_open}
-use Rattle.palm_repair.specs.Turning.{Moves}
-use Rattle.palm_repair.specs.Turning.Moves.{moves_none}
-use Rattle.palm_repair.proofs.Learning.{IsPosting, forced_has, forced_moves, listed_forced, none_forced, posting_ends, posting_kept, posting_more, posting_starts, rows_length}
+use Rattle.palm_search.proofs.cited.Results.{on_err}
+use Rattle.palm_repair.specs.Learned.{Forces, LearnedView, ShowsDecisions, left_open, repair_state}
+use Rattle.palm_repair.specs.Posting.{PostsSome}
+use Rattle.palm_repair.proofs.Learning.{IsPosting, forced_has, listed_forced, none_forced, posting_cut, posting_ends, posting_kept, posting_more, posting_starts, posting_stops, posts_none, rows_length}
 use Rattle.palm_repair.proofs.learned.Learned.post.Goals as goal
 use Rattle.palm_repair.proofs.learned.Learned.post.Goals.{in-Some+in_ok-note, in_default}
 
@@ -25,8 +25,8 @@ decided_values-requires-clause-within g c = λ p m.
 pub decided_values-requires-clause-distinct : goal.decided_values-requires-clause-distinct
 decided_values-requires-clause-distinct g c = subst (λ l. Distinct (vars_of l)) (sym c.decisions.ensures) c.requires.repairing.searching.decisions.distinct
 
-pub returns-in_err-values-clause-moves : goal.returns-in_err-values-clause-moves
-returns-in_err-values-clause-moves g c = moves_none c.args.engine.now.state refl
+pub returns-in_err-values-clause-err : goal.returns-in_err-values-clause-err
+returns-in_err-values-clause-err g c = on_err _ c.from_residual.result (posts_none (repair_state c.args.engine.now.state c.args.search.now.decisions c.args.self.now))
 
 pub returns-in_err-values-clause-decisions : goal.returns-in_err-values-clause-decisions
 returns-in_err-values-clause-decisions g c = c.requires.repairing.searching.decisions
@@ -50,20 +50,35 @@ force-requires g c = λ p one.
     listed_forced decisions c.loop-index.engine.state c.loop-index.self values nogood p c.loop-index.invariant.repairing shows
     (member_get c.loop-index.self.nogoods c.loop-index.index nogood c.nogood.ensures) one
 
-pub returns-in_err-posted-clause-moves : goal.returns-in_err-posted-clause-moves
-returns-in_err-posted-clause-moves g c = subst (Moves c.args.engine.now.state) (sym c.in_err-posted.ensures.err) c.loop-index.invariant.moves
+pub returns-in_err-posted-clause-err : goal.returns-in_err-posted-clause-err
+returns-in_err-posted-clause-err g c =
+    let decisions = c.args.search.now.decisions in
+    let start = c.args.engine.now in
+    let stops = posting_stops decisions start c.args.self.now c.loop-index.index c.loop-index.engine c.loop-index.self c.loop-index.invariant in
+    on_err _ c.from_residual-in_err-posted.result (subst (PostsSome (repair_state start.state decisions c.args.self.now)) (sym c.in_err-posted.ensures.err) stops)
 
 pub returns-in_err-posted-clause-decisions : goal.returns-in_err-posted-clause-decisions
 returns-in_err-posted-clause-decisions g c =
     subst (λ (z : EngineState). HasDecisions (search_state z c.args.search.now)) (sym c.in_err-posted.ensures.err) c.loop-index.invariant.repairing.searching.decisions
 
-pub returns-in_err-note-clause-moves : goal.returns-in_err-note-clause-moves
-returns-in_err-note-clause-moves g c =
+pub returns-in_err-note-clause-err : goal.returns-in_err-note-clause-err
+returns-in_err-note-clause-err g c =
+    let decisions = c.args.search.now.decisions in
+    let first = c.args.self.now in
+    let index = c.loop-index.index in
+    let engine = c.loop-index.engine in
+    let next = c.force.new.engine in
+    let learned = c.loop-index.self in
+    let values = c.deref.result.now in
     let nogood = c.nogood.result.now in
-    let left = left_open c.deref.result.now nogood in
-    let m = c.loop-index.engine.state in
-    let t = c.force.new.engine.state in
-    forced_moves c.args.engine.now.state m t nogood left c.in-Some.pair (subst (Forces nogood left m t) c.in-Some.is c.in_ok-posted.ensures.ok) c.loop-index.invariant.moves
+    let left = left_open values nogood in
+    let shows = subst (ShowsDecisions decisions) (sym c.deref.ensures.value) (subst (λ l. ShowsDecisions l c.in_ok-values.values.items) c.decisions.ensures c.in_ok-values.ensures) in
+    let test = c.loop-index-test.true in
+    let end = c.listed-index-end.ensures in
+    let lt : index < length first.nogoods = omega (arith, test, end) in
+    let is = sym (get_or_from_slice_get learned.nogoods index nogood nogood c.nogood.ensures) in
+    let forces = subst (Forces nogood left engine.state next.state) c.in-Some.is c.in_ok-posted.ensures.ok in
+    on_err _ c.from_residual-in_err-note.result (posting_cut decisions c.args.engine.now first index engine next learned values nogood c.in-Some.pair lt is shows forces c.force.ensures.counts c.loop-index.invariant)
 
 pub returns-in_err-note-clause-decisions : goal.returns-in_err-note-clause-decisions
 returns-in_err-note-clause-decisions g c =
@@ -108,9 +123,6 @@ returns-clause-ok g c =
     let end = c.listed-index-end.ensures in
     let le : length c.args.self.now.nogoods ≤ c.loop-index.index = omega (arith, test, end) in
     posting_ends c.args.search.now.decisions c.args.engine.now c.args.self.now c.loop-index.index c.loop-index.engine c.loop-index.self le c.loop-index.invariant
-
-pub returns-clause-moves : goal.returns-clause-moves
-returns-clause-moves g c = c.loop-index.invariant.moves
 
 pub returns-clause-decisions : goal.returns-clause-decisions
 returns-clause-decisions g c = c.loop-index.invariant.repairing.searching.decisions

@@ -1,4 +1,4 @@
-use Rattle.palm_search.proofs.cited.Closing.{goes_then, gone_all, users_left}
+use Rattle.palm_search.proofs.Closing.{goes_then, gone_all, users_left}
 use Rattle.palm_search.proofs.search.Search.close.Goals as goal
 
 pub returns-clause-withdraws : goal.returns-clause-withdraws

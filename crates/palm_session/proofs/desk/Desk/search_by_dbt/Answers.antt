@@ -1,9 +1,8 @@
-use Rattle.std.proofs.Common.{is_some, sym, subst}
+use Rattle.std.proofs.Common.{is_some, None, sym, subst}
 use Rattle.std.proofs.lemmas.Result.{IfOk-weaker}
 use Rattle.palm_search.specs.Search.{Searches}
-use Rattle.palm_dbt.specs.Answers.{end_of}
-use Rattle.palm_session.specs.Effects.{ByDbt}
-use Rattle.palm_session.specs.Serving.{DeskView, desk_of, dbt_end, HasSearched}
+use Rattle.palm_session.specs.Effects.{ByDbt, told_end}
+use Rattle.palm_session.specs.Serving.{DeskView, desk_of, HasSearched}
 use Rattle.palm_session.specs.State.{IsHeld}
 use Rattle.palm_session.proofs.Searching.{held_users}
 use Rattle.palm_session.proofs.Solved.{dbt_searches, searched_desk}
@@ -18,7 +17,7 @@ returns-clause-searched g c =
     let now = c.solve_by.new in
     let before = desk_of was.book was.engine was.accepted was.paused was.guides was.orders was.search in
     IfOk-weaker c.solve_by.result
-    (λ answer. Searches (is_some was.guides.chosen) (is_some was.orders.chosen) c.args.budget was.engine.state now.search.journal (end_of answer) now.engine.state)
-    (λ answer. HasSearched c.args.self.now.state (ByDbt c.args.budget) (dbt_end answer) (desk_of was.book now.engine was.accepted was.paused now.guides now.orders now.search).state)
-    (λ answer h. searched_desk was.book was.engine now.engine was.accepted was.paused was.guides was.orders now.guides now.orders was.search now.search c.args.self.now (ByDbt c.args.budget) (dbt_end answer) c.self.view_is
+    (λ answer. Searches (is_some was.guides.chosen) (is_some was.orders.chosen) c.args.budget was.engine.state now.search.journal answer now.engine.state)
+    (λ answer. HasSearched c.args.self.now.state (ByDbt c.args.budget) (told_end None answer) (desk_of was.book now.engine was.accepted was.paused now.guides now.orders now.search).state)
+    (λ answer h. searched_desk was.book was.engine now.engine was.accepted was.paused was.guides was.orders now.guides now.orders was.search now.search c.args.self.now (ByDbt c.args.budget) (told_end None answer) c.self.view_is
     c.solve_by.ensures.guides c.solve_by.ensures.orders (dbt_searches before.state c.args.budget now.search.journal now.engine.state answer h)) c.solve_by.ensures.ok

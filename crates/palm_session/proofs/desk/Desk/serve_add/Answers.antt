@@ -11,7 +11,7 @@ use Rattle.palm_session.specs.Serving.{DeskView}
 use Rattle.palm_session.proofs.Accepting.{asked_after, served_after}
 use Rattle.palm_session.proofs.cited.LawsOfChanges.{changes_keep}
 use Rattle.palm_session.proofs.Serving.{none_met, over_refused, unknown_refused}
-use Rattle.palm_session.proofs.WellFormed.{well_formed}
+use Rattle.palm_book.proofs.cited.WellFormed.{well_formed}
 use Rattle.palm_session.proofs.desk.Desk.serve_add.Goals as goal
 
 pub returns-in-Err-UnknownName-clause-serves : goal.returns-in-Err-UnknownName-clause-serves

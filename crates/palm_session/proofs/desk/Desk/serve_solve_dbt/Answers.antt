@@ -1,7 +1,7 @@
-use Rattle.std.proofs.Common.{◌≡◌, true, false, subst}
-use Rattle.palm_dbt.specs.declared.answer.Answer.TheVariants.{Found, NoSolution, Spent}
-use Rattle.palm_session.specs.Effects.{ByDbt}
-use Rattle.palm_session.specs.Serving.{DeskView, dbt_end}
+use Rattle.std.proofs.Common.{◌≡◌, true, false, None, subst}
+use Rattle.palm_search.specs.declared.ending.SearchEnd.TheVariants.{Found, NoSolution, Spent}
+use Rattle.palm_session.specs.Effects.{ByDbt, told_end}
+use Rattle.palm_session.specs.Serving.{DeskView}
 use Rattle.palm_session.proofs.Solved.{search_waits, search_serves, search_asks, found_fits, none_fits}
 use Rattle.palm_session.proofs.desk.Desk.serve_solve_dbt.Goals as goal
 
@@ -11,7 +11,7 @@ returns-then-self-clause-serves g c = search_waits c.args.self.now.state (ByDbt 
 pub returns-in-Found-clause-serves : goal.returns-in-Found-clause-serves
 returns-in-Found-clause-serves g c =
     let awake = subst (λ (d : DeskView). d.state.paused ≡ false) c.self.view_is c.if-self.false in
-    search_serves c.args.self.now.state c.search_by_dbt.new.self.state (ByDbt c.args.budget) (dbt_end (Found c.in-Found.values)) awake (rw c.in-Found.is at c.in_ok-values.ensures.searched)
+    search_serves c.args.self.now.state c.search_by_dbt.new.self.state (ByDbt c.args.budget) (told_end None (Found c.in-Found.values)) awake (rw c.in-Found.is at c.in_ok-values.ensures.searched)
 
 pub returns-in-Found-clause-asks : goal.returns-in-Found-clause-asks
 returns-in-Found-clause-asks g c = search_asks c.args.self.now.state c.search_by_dbt.new.self.state (ByDbt c.args.budget) _
@@ -23,7 +23,7 @@ returns-in-Found-clause-fits g c =
 pub returns-in-NoSolution-clause-serves : goal.returns-in-NoSolution-clause-serves
 returns-in-NoSolution-clause-serves g c =
     let awake = subst (λ (d : DeskView). d.state.paused ≡ false) c.self.view_is c.if-self.false in
-    search_serves c.args.self.now.state c.search_by_dbt.new.self.state (ByDbt c.args.budget) (dbt_end (NoSolution c.in-NoSolution.names)) awake (rw c.in-NoSolution.is at c.in_ok-values.ensures.searched)
+    search_serves c.args.self.now.state c.search_by_dbt.new.self.state (ByDbt c.args.budget) (told_end None (NoSolution c.in-NoSolution.names)) awake (rw c.in-NoSolution.is at c.in_ok-values.ensures.searched)
 
 pub returns-in-NoSolution-clause-asks : goal.returns-in-NoSolution-clause-asks
 returns-in-NoSolution-clause-asks g c = search_asks c.args.self.now.state c.search_by_dbt.new.self.state (ByDbt c.args.budget) _
@@ -35,7 +35,7 @@ returns-in-NoSolution-clause-fits g c =
 pub returns-in-Spent-clause-serves : goal.returns-in-Spent-clause-serves
 returns-in-Spent-clause-serves g c =
     let awake = subst (λ (d : DeskView). d.state.paused ≡ false) c.self.view_is c.if-self.false in
-    search_serves c.args.self.now.state c.search_by_dbt.new.self.state (ByDbt c.args.budget) (dbt_end (Spent c.in-Spent.turns)) awake (rw c.in-Spent.is at c.in_ok-values.ensures.searched)
+    search_serves c.args.self.now.state c.search_by_dbt.new.self.state (ByDbt c.args.budget) (told_end None (Spent c.in-Spent.turns)) awake (rw c.in-Spent.is at c.in_ok-values.ensures.searched)
 
 pub returns-in-Spent-clause-asks : goal.returns-in-Spent-clause-asks
 returns-in-Spent-clause-asks g c = search_asks c.args.self.now.state c.search_by_dbt.new.self.state (ByDbt c.args.budget) _

@@ -1,7 +1,7 @@
 use Rattle.std.proofs.Common.{◌++◌, ◌+◌, ◌-◌, arith, rules, subst}
 use Rattle.std.proofs.lemmas.Result.{err_from_is_err_and}
 use Rattle.palm_session.specs.Feeding.{View, KeepsRest, FeedsEnd, FeedsPart, FeedsText}
-use Rattle.palm_session.specs.Lines.{HasNoFeed}
+use Rattle.palm_read.specs.Lines.{HasNoFeed}
 use Rattle.palm_session.proofs.cited.FeedLemmas.{part_nothing}
 use Rattle.palm_session.proofs.cited.Keeping.{keeps_piece, first_more, first_ends, first_part, rest_whole}
 use Rattle.palm_session.proofs.Spending.{counts_add}

@@ -1,7 +1,7 @@
 use Rattle.std.proofs.lemmas.Result.{err_from_is_err_and}
 use Rattle.std.proofs.Common.{sym, subst}
 use Rattle.palm_session.specs.Feeding.{View, FeedsPart}
-use Rattle.palm_session.specs.Lines.{HasNoFeed}
+use Rattle.palm_read.specs.Lines.{HasNoFeed}
 use Rattle.palm_session.proofs.cited.FeedLemmas.{part_all}
 use Rattle.palm_session.proofs.cited.Keeping.{rest_whole}
 use Rattle.palm_session.proofs.session.Session.feed_text.Goals as goal

@@ -1,5 +1,0 @@
-use Rattle.palm_check.proofs.Taking.{Putting}
-use Rattle.palm_check.proofs.steps.put_back_all.Given as goal
-
-abbrev pub invariant-loop-pair : goal.invariant-loop-pair
-invariant-loop-pair l = Putting l.fn.store l.store l.pairs l.pair-index

@@ -1,5 +1,0 @@
-use Rattle.palm_check.proofs.Taking.{Taking}
-use Rattle.palm_check.proofs.steps.take_out_all.Given as goal
-
-abbrev pub invariant-loop-pair : goal.invariant-loop-pair
-invariant-loop-pair l = Taking l.fn.store l.store l.pairs l.pair-index

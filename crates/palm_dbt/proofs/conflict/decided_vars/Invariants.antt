@@ -1,6 +1,0 @@
-use Rattle.std.proofs.Common.{◌≡◌, take}
-use Rattle.palm_search.specs.Turns.{decided_vars}
-use Rattle.palm_dbt.proofs.conflict.decided_vars.Given as goal
-
-abbrev pub invariant-loop-name : goal.invariant-loop-name
-invariant-loop-name l = l.vars ≡ decided_vars (take l.name-index l.names)

@@ -1,0 +1,20 @@
+-- What writing a text to a sink does.
+use Rattle.std.specs.Prelude.{◌≡◌, ℕ, ◌≤◌, List, Result, MatchResult, OnOk, OnErr}
+use Rattle.palm_base.specs.Streams.{SinkState, Appended, AppendedFront, Rose}
+use Rattle.palm_lang.specs.declared.stop.WriteStop.{WriteStop}
+use Rattle.palm_lang.specs.declared.stop.WriteStop.TheVariants.{WriteFault, NoMemory}
+
+-- the sink's count of faults rose at a fault of writing, and stands at want of memory
+abbrev pub HasStopCause : ℕ → ℕ → WriteStop → Type 0
+HasStopCause before now WriteFault = (before ≤ now) × Rose before now
+HasStopCause before now NoMemory = now ≡ before
+
+-- the count rose at a fault of writing, and stands at every other answer
+abbrev pub IsCounted : {T : Type 0} → ℕ → ℕ → Result T WriteStop → Type 0
+IsCounted before now result = MatchResult result (λ _. now ≡ before) (λ stop. HasStopCause before now stop)
+
+-- the text was written, or a front of it at a stop
+pub record Writes {T : Type 0} (before now : SinkState) (text : List ℕ) (result : Result T WriteStop) : Type 0 where
+  pub counted : IsCounted before.faults now.faults result
+  pub ok : OnOk result (Appended before.written now.written text)
+  pub err : OnErr result (AppendedFront before.written now.written text)

@@ -1,6 +1,0 @@
-use Rattle.std.proofs.Common.{◌≡◌}
-use Rattle.palm_read.specs.Domain.{from_on}
-use Rattle.palm_session.proofs.variables.interval.Given as goal
-
-abbrev pub invariant-loop-offset : goal.invariant-loop-offset
-invariant-loop-offset l = l.values ≡ from_on l.fn.low l.offset
