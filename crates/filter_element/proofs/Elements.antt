@@ -4,7 +4,7 @@ use Rattle.std.specs.List.{AllWithin}
 use Rattle.std.proofs.lemmas.List.{get_or_default}
 use Rattle.std.proofs.lemmas.List.Elements.{All-nil, All-contains, AllWithin-more}
 use Rattle.std.proofs.lemmas.Option.{same_Some, slice_get_within}
-use Rattle.palm_base.proofs.cited.Members.{member_nil, member_here, member_there, member_single, member_same, filter_member, member_filter}
+use Rattle.palm_base.proofs.cited.Members.{member_here, member_there, member_single, member_same, filter_member, member_filter}
 use Rattle.palm_base.specs.declared.terms.Pair.{Pair}
 use Rattle.palm_model.specs.Domains.{Domains, Has, Ascends, values_of}
 use Rattle.palm_model.specs.Constraint.{scope, Distinct, IsWellFormed}

@@ -1,16 +1,17 @@
--- Flags place by place: how many are raised, which is the first, and the names at the raised ones.
+-- Flags place by place: how many are raised, which is the first, and the ids at the raised ones.
 use Rattle.std.proofs.Common.{◌≡◌, ℕ, zero, suc, ◌+◌, ◌-◌, ◌<◌, ◌≤◌, Bool, true, false, not, length-set, List, [], ◌∷◌, ◌++◌, length, get_or, set, take, slice_get, insert, remove, Contains, Some, ◌⊎◌, ◌↔◌, inl, inr, refl, sym, ap, ◌∙◌, subst, arith, get_or-set_same, get_or-set_other}
 use Rattle.std.specs.List.{AllWithin}
 use Rattle.std.proofs.lemmas.Bool.{cases_lt, false≢true}
 use Rattle.std.proofs.lemmas.List.Edits.{get_or-insert_below, get_or-remove_below, get_or-remove_above}
 use Rattle.palm_base.specs.declared.terms.Cid.{Cid}
 use Rattle.palm_base.proofs.cited.Members.{member_nil, member_here, member_there, member_cases, member_same, all_members, nat_known}
-use Rattle.palm_model.specs.Log.{Rises, cid_before, is_named}
+use Rattle.palm_base.specs.Order.{Rises, cid_before}
+use Rattle.palm_model.specs.Log.{is_named}
 use Rattle.palm_model.specs.State.{without_cid}
-use Rattle.palm_events.proofs.cited.Names.{not_before_itself}
+use Rattle.palm_base.proofs.cited.CidOrder.{not_before_itself}
 use Rattle.palm_agenda.specs.Flags.{IsCounted, count_raised, flagged}
-use Rattle.palm_agenda.proofs.cited.NameLists.{first_cut, not_other, without_cid_same}
-use Rattle.palm_agenda.proofs.cited.Sorted.{filter_passes}
+use Rattle.palm_agenda.proofs.CidLists.{first_cut, not_other, without_cid_same}
+use Rattle.palm_base.proofs.cited.Sorted.{filter_passes}
 
 abbrev pub AreLowered : List Bool → ℕ → Type 0
 AreLowered flags place = AllWithin (λ b. b ≡ false) flags 0 place
@@ -132,186 +133,186 @@ lowered_more flags place b lowered within item is k d ge lt = elim (cases_lt k p
     get_or_any (x ∷ flags) zero d b lt = refl
     get_or_any (x ∷ flags) (suc i) d b lt = get_or_any flags i d b (omega arith)
 
--- ---- the names at the raised flags
+-- ---- the ids at the raised flags
 
-pub flagged_member : (names : List Cid) (flags : List Bool) (c : Cid) → Contains (flagged names flags) c → Contains names c
+pub flagged_member : (cids : List Cid) (flags : List Bool) (c : Cid) → Contains (flagged cids flags) c → Contains cids c
 flagged_member [] flags c m = absurd (member_nil c m)
-flagged_member (n ∷ names) [] c m = absurd (member_nil c m)
-flagged_member (n ∷ names) (true ∷ flags) c m = elim (member_cases n (flagged names flags) c m) [
-  | inl e ↦ member_same (n ∷ names) n c e (member_here n names)
-  | inr k ↦ member_there n names c (flagged_member names flags c k)
+flagged_member (n ∷ cids) [] c m = absurd (member_nil c m)
+flagged_member (n ∷ cids) (true ∷ flags) c m = elim (member_cases n (flagged cids flags) c m) [
+  | inl e ↦ member_same (n ∷ cids) n c e (member_here n cids)
+  | inr k ↦ member_there n cids c (flagged_member cids flags c k)
 ]
-flagged_member (n ∷ names) (false ∷ flags) c m = member_there n names c (flagged_member names flags c m)
+flagged_member (n ∷ cids) (false ∷ flags) c m = member_there n cids c (flagged_member cids flags c m)
 
-pub flagged_rises : (names : List Cid) (flags : List Bool) → Rises names → Rises (flagged names flags)
+pub flagged_rises : (cids : List Cid) (flags : List Bool) → Rises cids → Rises (flagged cids flags)
 flagged_rises [] flags rises = tt
-flagged_rises (n ∷ names) [] rises = tt
-flagged_rises (n ∷ names) (true ∷ flags) rises = (
-  all_members (λ d. cid_before n d ≡ true) (flagged names flags) (λ d m.
-      let k = flagged_member names flags d m in subst (λ e. cid_before n e ≡ true) k.2 (rises.0 k.0 d k.1)),
-  flagged_rises names flags rises.1,
+flagged_rises (n ∷ cids) [] rises = tt
+flagged_rises (n ∷ cids) (true ∷ flags) rises = (
+  all_members (λ d. cid_before n d ≡ true) (flagged cids flags) (λ d m.
+      let k = flagged_member cids flags d m in subst (λ e. cid_before n e ≡ true) k.2 (rises.0 k.0 d k.1)),
+  flagged_rises cids flags rises.1,
 )
-flagged_rises (n ∷ names) (false ∷ flags) rises = flagged_rises names flags rises.1
+flagged_rises (n ∷ cids) (false ∷ flags) rises = flagged_rises cids flags rises.1
 
-pub flagged_length : (names : List Cid) (flags : List Bool) → length flags ≡ length names → length (flagged names flags) ≡ count_raised flags
+pub flagged_length : (cids : List Cid) (flags : List Bool) → length flags ≡ length cids → length (flagged cids flags) ≡ count_raised flags
 flagged_length [] [] same = refl
 flagged_length [] (b ∷ flags) same = absurd (omega arith)
-flagged_length (n ∷ names) [] same = absurd (omega arith)
-flagged_length (n ∷ names) (true ∷ flags) same = ap suc (flagged_length names flags (omega arith))
-flagged_length (n ∷ names) (false ∷ flags) same = flagged_length names flags (omega arith)
+flagged_length (n ∷ cids) [] same = absurd (omega arith)
+flagged_length (n ∷ cids) (true ∷ flags) same = ap suc (flagged_length cids flags (omega arith))
+flagged_length (n ∷ cids) (false ∷ flags) same = flagged_length cids flags (omega arith)
 
--- the name at the place is among them once its flag is raised
+-- the id at the place is among them once its flag is raised
 module _ (cid c : Cid) where
-  pub raised_cases : (names : List Cid) (flags : List Bool) (i : ℕ) → ((d : Cid) → get_or names i d ≡ cid) → Contains (flagged names (set flags i true)) c → Contains (flagged names flags) c ⊎ (c ≡ cid)
+  pub raised_cases : (cids : List Cid) (flags : List Bool) (i : ℕ) → ((d : Cid) → get_or cids i d ≡ cid) → Contains (flagged cids (set flags i true)) c → Contains (flagged cids flags) c ⊎ (c ≡ cid)
   raised_cases [] flags i at m = absurd (member_nil c m)
-  raised_cases (n ∷ names) [] i at m = inl m
-  raised_cases (n ∷ names) (true ∷ flags) zero at m = inl m
-  raised_cases (n ∷ names) (false ∷ flags) zero at m = elim (member_cases n (flagged names flags) c m) [
+  raised_cases (n ∷ cids) [] i at m = inl m
+  raised_cases (n ∷ cids) (true ∷ flags) zero at m = inl m
+  raised_cases (n ∷ cids) (false ∷ flags) zero at m = elim (member_cases n (flagged cids flags) c m) [
     | inl e ↦ inr (sym e ∙ at n)
     | inr k ↦ inl k
   ]
-  raised_cases (n ∷ names) (true ∷ flags) (suc i) at m = elim (member_cases n (flagged names (set flags i true)) c m) [
-    | inl e ↦ inl (member_same (n ∷ flagged names flags) n c e (member_here n (flagged names flags)))
-    | inr k ↦ elim (raised_cases names flags i at k) [
-      | inl j ↦ inl (member_there n (flagged names flags) c j)
+  raised_cases (n ∷ cids) (true ∷ flags) (suc i) at m = elim (member_cases n (flagged cids (set flags i true)) c m) [
+    | inl e ↦ inl (member_same (n ∷ flagged cids flags) n c e (member_here n (flagged cids flags)))
+    | inr k ↦ elim (raised_cases cids flags i at k) [
+      | inl j ↦ inl (member_there n (flagged cids flags) c j)
       | inr e ↦ inr e
     ]
   ]
-  raised_cases (n ∷ names) (false ∷ flags) (suc i) at m = raised_cases names flags i at m
+  raised_cases (n ∷ cids) (false ∷ flags) (suc i) at m = raised_cases cids flags i at m
 
-  pub still_raised : (names : List Cid) (flags : List Bool) (i : ℕ) → Contains (flagged names flags) c → Contains (flagged names (set flags i true)) c
+  pub still_raised : (cids : List Cid) (flags : List Bool) (i : ℕ) → Contains (flagged cids flags) c → Contains (flagged cids (set flags i true)) c
   still_raised [] flags i m = absurd (member_nil c m)
-  still_raised (n ∷ names) [] i m = absurd (member_nil c m)
-  still_raised (n ∷ names) (true ∷ flags) zero m = m
-  still_raised (n ∷ names) (false ∷ flags) zero m = member_there n (flagged names flags) c m
-  still_raised (n ∷ names) (true ∷ flags) (suc i) m = elim (member_cases n (flagged names flags) c m) [
-    | inl e ↦ member_same (n ∷ flagged names (set flags i true)) n c e (member_here n (flagged names (set flags i true)))
-    | inr k ↦ member_there n (flagged names (set flags i true)) c (still_raised names flags i k)
+  still_raised (n ∷ cids) [] i m = absurd (member_nil c m)
+  still_raised (n ∷ cids) (true ∷ flags) zero m = m
+  still_raised (n ∷ cids) (false ∷ flags) zero m = member_there n (flagged cids flags) c m
+  still_raised (n ∷ cids) (true ∷ flags) (suc i) m = elim (member_cases n (flagged cids flags) c m) [
+    | inl e ↦ member_same (n ∷ flagged cids (set flags i true)) n c e (member_here n (flagged cids (set flags i true)))
+    | inr k ↦ member_there n (flagged cids (set flags i true)) c (still_raised cids flags i k)
   ]
-  still_raised (n ∷ names) (false ∷ flags) (suc i) m = still_raised names flags i m
+  still_raised (n ∷ cids) (false ∷ flags) (suc i) m = still_raised cids flags i m
 
-  pub inserted_cases : (names : List Cid) (flags : List Bool) (i : ℕ) → length flags ≡ length names → Contains (flagged (insert names i cid) (insert flags i true)) c → Contains (flagged names flags) c ⊎ (c ≡ cid)
+  pub inserted_cases : (cids : List Cid) (flags : List Bool) (i : ℕ) → length flags ≡ length cids → Contains (flagged (insert cids i cid) (insert flags i true)) c → Contains (flagged cids flags) c ⊎ (c ≡ cid)
   inserted_cases [] [] zero same m = elim (member_cases cid [] c m) [ inl e ↦ inr (sym e) | inr k ↦ inl k ]
   inserted_cases [] [] (suc i) same m = elim (member_cases cid [] c m) [ inl e ↦ inr (sym e) | inr k ↦ inl k ]
   inserted_cases [] (b ∷ flags) i same m = absurd (omega arith)
-  inserted_cases (n ∷ names) [] i same m = absurd (omega arith)
-  inserted_cases (n ∷ names) (b ∷ flags) zero same m = elim (member_cases cid (flagged (n ∷ names) (b ∷ flags)) c m) [ inl e ↦ inr (sym e) | inr k ↦ inl k ]
-  inserted_cases (n ∷ names) (true ∷ flags) (suc i) same m = elim (member_cases n (flagged (insert names i cid) (insert flags i true)) c m) [
-    | inl e ↦ inl (member_same (n ∷ flagged names flags) n c e (member_here n (flagged names flags)))
-    | inr k ↦ elim (inserted_cases names flags i (omega arith) k) [
-      | inl j ↦ inl (member_there n (flagged names flags) c j)
+  inserted_cases (n ∷ cids) [] i same m = absurd (omega arith)
+  inserted_cases (n ∷ cids) (b ∷ flags) zero same m = elim (member_cases cid (flagged (n ∷ cids) (b ∷ flags)) c m) [ inl e ↦ inr (sym e) | inr k ↦ inl k ]
+  inserted_cases (n ∷ cids) (true ∷ flags) (suc i) same m = elim (member_cases n (flagged (insert cids i cid) (insert flags i true)) c m) [
+    | inl e ↦ inl (member_same (n ∷ flagged cids flags) n c e (member_here n (flagged cids flags)))
+    | inr k ↦ elim (inserted_cases cids flags i (omega arith) k) [
+      | inl j ↦ inl (member_there n (flagged cids flags) c j)
       | inr e ↦ inr e
     ]
   ]
-  inserted_cases (n ∷ names) (false ∷ flags) (suc i) same m = inserted_cases names flags i (omega arith) m
+  inserted_cases (n ∷ cids) (false ∷ flags) (suc i) same m = inserted_cases cids flags i (omega arith) m
 
-  pub still_inserted : (names : List Cid) (flags : List Bool) (i : ℕ) → length flags ≡ length names → Contains (flagged names flags) c → Contains (flagged (insert names i cid) (insert flags i true)) c
+  pub still_inserted : (cids : List Cid) (flags : List Bool) (i : ℕ) → length flags ≡ length cids → Contains (flagged cids flags) c → Contains (flagged (insert cids i cid) (insert flags i true)) c
   still_inserted [] flags i same m = absurd (member_nil c m)
-  still_inserted (n ∷ names) [] i same m = absurd (omega arith)
-  still_inserted (n ∷ names) (b ∷ flags) zero same m = member_there cid (flagged (n ∷ names) (b ∷ flags)) c m
-  still_inserted (n ∷ names) (true ∷ flags) (suc i) same m = elim (member_cases n (flagged names flags) c m) [
-    | inl e ↦ member_same (n ∷ flagged (insert names i cid) (insert flags i true)) n c e (member_here n (flagged (insert names i cid) (insert flags i true)))
-    | inr k ↦ member_there n (flagged (insert names i cid) (insert flags i true)) c (still_inserted names flags i (omega arith) k)
+  still_inserted (n ∷ cids) [] i same m = absurd (omega arith)
+  still_inserted (n ∷ cids) (b ∷ flags) zero same m = member_there cid (flagged (n ∷ cids) (b ∷ flags)) c m
+  still_inserted (n ∷ cids) (true ∷ flags) (suc i) same m = elim (member_cases n (flagged cids flags) c m) [
+    | inl e ↦ member_same (n ∷ flagged (insert cids i cid) (insert flags i true)) n c e (member_here n (flagged (insert cids i cid) (insert flags i true)))
+    | inr k ↦ member_there n (flagged (insert cids i cid) (insert flags i true)) c (still_inserted cids flags i (omega arith) k)
   ]
-  still_inserted (n ∷ names) (false ∷ flags) (suc i) same m = still_inserted names flags i (omega arith) m
+  still_inserted (n ∷ cids) (false ∷ flags) (suc i) same m = still_inserted cids flags i (omega arith) m
 
-pub raised_here : (cid : Cid) (names : List Cid) (flags : List Bool) (i : ℕ) → i < length names → i < length flags → ((d : Cid) → get_or names i d ≡ cid) → Contains (flagged names (set flags i true)) cid
+pub raised_here : (cid : Cid) (cids : List Cid) (flags : List Bool) (i : ℕ) → i < length cids → i < length flags → ((d : Cid) → get_or cids i d ≡ cid) → Contains (flagged cids (set flags i true)) cid
 raised_here cid [] flags i lt within at = absurd (omega arith)
-raised_here cid (n ∷ names) [] i lt within at = absurd (omega arith)
-raised_here cid (n ∷ names) (b ∷ flags) zero lt within at = member_same (n ∷ flagged names flags) n cid (at n) (member_here n (flagged names flags))
-raised_here cid (n ∷ names) (true ∷ flags) (suc i) lt within at = member_there n (flagged names (set flags i true)) cid (raised_here cid names flags i (omega arith) (omega arith) at)
-raised_here cid (n ∷ names) (false ∷ flags) (suc i) lt within at = raised_here cid names flags i (omega arith) (omega arith) at
+raised_here cid (n ∷ cids) [] i lt within at = absurd (omega arith)
+raised_here cid (n ∷ cids) (b ∷ flags) zero lt within at = member_same (n ∷ flagged cids flags) n cid (at n) (member_here n (flagged cids flags))
+raised_here cid (n ∷ cids) (true ∷ flags) (suc i) lt within at = member_there n (flagged cids (set flags i true)) cid (raised_here cid cids flags i (omega arith) (omega arith) at)
+raised_here cid (n ∷ cids) (false ∷ flags) (suc i) lt within at = raised_here cid cids flags i (omega arith) (omega arith) at
 
-pub inserted_here : (cid : Cid) (names : List Cid) (flags : List Bool) (i : ℕ) → length flags ≡ length names → Contains (flagged (insert names i cid) (insert flags i true)) cid
+pub inserted_here : (cid : Cid) (cids : List Cid) (flags : List Bool) (i : ℕ) → length flags ≡ length cids → Contains (flagged (insert cids i cid) (insert flags i true)) cid
 inserted_here cid [] [] zero same = member_here cid []
 inserted_here cid [] [] (suc i) same = member_here cid []
 inserted_here cid [] (b ∷ flags) i same = absurd (omega arith)
-inserted_here cid (n ∷ names) [] i same = absurd (omega arith)
-inserted_here cid (n ∷ names) (b ∷ flags) zero same = member_here cid (flagged (n ∷ names) (b ∷ flags))
-inserted_here cid (n ∷ names) (true ∷ flags) (suc i) same = member_there n (flagged (insert names i cid) (insert flags i true)) cid (inserted_here cid names flags i (omega arith))
-inserted_here cid (n ∷ names) (false ∷ flags) (suc i) same = inserted_here cid names flags i (omega arith)
+inserted_here cid (n ∷ cids) [] i same = absurd (omega arith)
+inserted_here cid (n ∷ cids) (b ∷ flags) zero same = member_here cid (flagged (n ∷ cids) (b ∷ flags))
+inserted_here cid (n ∷ cids) (true ∷ flags) (suc i) same = member_there n (flagged (insert cids i cid) (insert flags i true)) cid (inserted_here cid cids flags i (omega arith))
+inserted_here cid (n ∷ cids) (false ∷ flags) (suc i) same = inserted_here cid cids flags i (omega arith)
 
-pub raised_set : (cid : Cid) (names : List Cid) (flags : List Bool) (i : ℕ) → i < length names → i < length flags → ((d : Cid) → get_or names i d ≡ cid) → (c : Cid)
-    → Contains (flagged names (set flags i true)) c ↔ (Contains (flagged names flags) c ⊎ (c ≡ cid))
-raised_set cid names flags i lt within at c = (
-  raised_cases cid c names flags i at,
+pub raised_set : (cid : Cid) (cids : List Cid) (flags : List Bool) (i : ℕ) → i < length cids → i < length flags → ((d : Cid) → get_or cids i d ≡ cid) → (c : Cid)
+    → Contains (flagged cids (set flags i true)) c ↔ (Contains (flagged cids flags) c ⊎ (c ≡ cid))
+raised_set cid cids flags i lt within at c = (
+  raised_cases cid c cids flags i at,
   λ h. elim h [
-    | inl m ↦ still_raised cid c names flags i m
-    | inr e ↦ member_same (flagged names (set flags i true)) cid c (sym e) (raised_here cid names flags i lt within at)
+    | inl m ↦ still_raised cid c cids flags i m
+    | inr e ↦ member_same (flagged cids (set flags i true)) cid c (sym e) (raised_here cid cids flags i lt within at)
   ],
 )
 
-pub inserted_set : (cid : Cid) (names : List Cid) (flags : List Bool) (i : ℕ) → length flags ≡ length names → (c : Cid)
-    → Contains (flagged (insert names i cid) (insert flags i true)) c ↔ (Contains (flagged names flags) c ⊎ (c ≡ cid))
-inserted_set cid names flags i same c = (
-  inserted_cases cid c names flags i same,
+pub inserted_set : (cid : Cid) (cids : List Cid) (flags : List Bool) (i : ℕ) → length flags ≡ length cids → (c : Cid)
+    → Contains (flagged (insert cids i cid) (insert flags i true)) c ↔ (Contains (flagged cids flags) c ⊎ (c ≡ cid))
+inserted_set cid cids flags i same c = (
+  inserted_cases cid c cids flags i same,
   λ h. elim h [
-    | inl m ↦ still_inserted cid c names flags i same m
-    | inr e ↦ member_same (flagged (insert names i cid) (insert flags i true)) cid c (sym e) (inserted_here cid names flags i same)
+    | inl m ↦ still_inserted cid c cids flags i same m
+    | inr e ↦ member_same (flagged (insert cids i cid) (insert flags i true)) cid c (sym e) (inserted_here cid cids flags i same)
   ],
 )
 
--- the name at the place is not among them once its flag is lowered
-pub lowered_without : (cid : Cid) (names : List Cid) (flags : List Bool) (i : ℕ) → Rises names → i < length names → i < length flags → ((d : Cid) → get_or names i d ≡ cid) → flagged names (set flags i false) ≡ without_cid cid (flagged names flags)
+-- the id at the place is not among them once its flag is lowered
+pub lowered_without : (cid : Cid) (cids : List Cid) (flags : List Bool) (i : ℕ) → Rises cids → i < length cids → i < length flags → ((d : Cid) → get_or cids i d ≡ cid) → flagged cids (set flags i false) ≡ without_cid cid (flagged cids flags)
 lowered_without cid [] flags i rises lt within at = absurd (omega arith)
-lowered_without cid (n ∷ names) [] i rises lt within at = absurd (omega arith)
-lowered_without cid (n ∷ names) (true ∷ flags) zero rises lt within at =
-    subst (λ k. flagged names flags ≡ without_cid k (n ∷ flagged names flags)) (at n) (sym (first_cut n (flagged names flags) (flagged_rises (n ∷ names) (true ∷ flags) rises)))
-lowered_without cid (n ∷ names) (false ∷ flags) zero rises lt within at =
-    subst (λ k. flagged names flags ≡ without_cid k (flagged names flags)) (at n)
-    (without_cid_same n (flagged names flags) (flagged_rises names flags rises.1) (λ m.
-    let k = flagged_member names flags n m in
+lowered_without cid (n ∷ cids) [] i rises lt within at = absurd (omega arith)
+lowered_without cid (n ∷ cids) (true ∷ flags) zero rises lt within at =
+    subst (λ k. flagged cids flags ≡ without_cid k (n ∷ flagged cids flags)) (at n) (sym (first_cut n (flagged cids flags) (flagged_rises (n ∷ cids) (true ∷ flags) rises)))
+lowered_without cid (n ∷ cids) (false ∷ flags) zero rises lt within at =
+    subst (λ k. flagged cids flags ≡ without_cid k (flagged cids flags)) (at n)
+    (without_cid_same n (flagged cids flags) (flagged_rises cids flags rises.1) (λ m.
+    let k = flagged_member cids flags n m in
     not_before_itself n (subst (λ d. cid_before n d ≡ true) k.2 (rises.0 k.0 n k.1))))
-lowered_without cid (n ∷ names) (true ∷ flags) (suc i) rises lt within at =
-    ap (λ cs. n ∷ cs) (lowered_without cid names flags i rises.1 (omega arith) (omega arith) at)
-    ∙ sym (filter_passes (λ d. not (is_named (cid ∷ []) d)) n (flagged names flags)
+lowered_without cid (n ∷ cids) (true ∷ flags) (suc i) rises lt within at =
+    ap (λ cs. n ∷ cs) (lowered_without cid cids flags i rises.1 (omega arith) (omega arith) at)
+    ∙ sym (filter_passes (λ d. not (is_named (cid ∷ []) d)) n (flagged cids flags)
     (not_other cid n (λ e. not_before_itself n (subst (λ d. cid_before n d ≡ true) (at n ∙ sym e) (rises.0 i n (omega arith))))))
-lowered_without cid (n ∷ names) (false ∷ flags) (suc i) rises lt within at = lowered_without cid names flags i rises.1 (omega arith) (omega arith) at
+lowered_without cid (n ∷ cids) (false ∷ flags) (suc i) rises lt within at = lowered_without cid cids flags i rises.1 (omega arith) (omega arith) at
 
-pub removed_lowered : (names : List Cid) (flags : List Bool) (i : ℕ) → i < length names → i < length flags → flagged (remove names i) (remove flags i) ≡ flagged names (set flags i false)
+pub removed_lowered : (cids : List Cid) (flags : List Bool) (i : ℕ) → i < length cids → i < length flags → flagged (remove cids i) (remove flags i) ≡ flagged cids (set flags i false)
 removed_lowered [] flags i lt within = absurd (omega arith)
-removed_lowered (n ∷ names) [] i lt within = absurd (omega arith)
-removed_lowered (n ∷ names) (b ∷ flags) zero lt within = refl
-removed_lowered (n ∷ names) (true ∷ flags) (suc i) lt within = ap (λ cs. n ∷ cs) (removed_lowered names flags i (omega arith) (omega arith))
-removed_lowered (n ∷ names) (false ∷ flags) (suc i) lt within = removed_lowered names flags i (omega arith) (omega arith)
+removed_lowered (n ∷ cids) [] i lt within = absurd (omega arith)
+removed_lowered (n ∷ cids) (b ∷ flags) zero lt within = refl
+removed_lowered (n ∷ cids) (true ∷ flags) (suc i) lt within = ap (λ cs. n ∷ cs) (removed_lowered cids flags i (omega arith) (omega arith))
+removed_lowered (n ∷ cids) (false ∷ flags) (suc i) lt within = removed_lowered cids flags i (omega arith) (omega arith)
 
-pub first_flagged : (cid : Cid) (names : List Cid) (flags : List Bool) (i : ℕ) → i < length names → i < length flags → ((d : Cid) → get_or names i d ≡ cid) → ((d : Bool) → get_or flags i d ≡ true) → AreLowered flags i
-    → slice_get (flagged names flags) 0 ≡ Some cid
+pub first_flagged : (cid : Cid) (cids : List Cid) (flags : List Bool) (i : ℕ) → i < length cids → i < length flags → ((d : Cid) → get_or cids i d ≡ cid) → ((d : Bool) → get_or flags i d ≡ true) → AreLowered flags i
+    → slice_get (flagged cids flags) 0 ≡ Some cid
 first_flagged cid [] flags i lt within at raised lowered = absurd (omega arith)
-first_flagged cid (n ∷ names) [] i lt within at raised lowered = absurd (omega arith)
-first_flagged cid (n ∷ names) (true ∷ flags) zero lt within at raised lowered = ap Some (at n)
-first_flagged cid (n ∷ names) (false ∷ flags) zero lt within at raised lowered = absurd (false≢true (raised false))
-first_flagged cid (n ∷ names) (true ∷ flags) (suc i) lt within at raised lowered = absurd (false≢true (sym (lowered 0 true (omega arith) (omega arith))))
-first_flagged cid (n ∷ names) (false ∷ flags) (suc i) lt within at raised lowered =
-    first_flagged cid names flags i (omega arith) (omega arith) at raised (λ k d ge l. lowered (suc k) d (omega arith) (omega arith))
+first_flagged cid (n ∷ cids) [] i lt within at raised lowered = absurd (omega arith)
+first_flagged cid (n ∷ cids) (true ∷ flags) zero lt within at raised lowered = ap Some (at n)
+first_flagged cid (n ∷ cids) (false ∷ flags) zero lt within at raised lowered = absurd (false≢true (raised false))
+first_flagged cid (n ∷ cids) (true ∷ flags) (suc i) lt within at raised lowered = absurd (false≢true (sym (lowered 0 true (omega arith) (omega arith))))
+first_flagged cid (n ∷ cids) (false ∷ flags) (suc i) lt within at raised lowered =
+    first_flagged cid cids flags i (omega arith) (omega arith) at raised (λ k d ge l. lowered (suc k) d (omega arith) (omega arith))
 
 -- ---- a walk over all of them
 
-walked_past : (names : List Cid) (flags : List Bool) (i : ℕ) (d : Bool) → i < length flags → get_or flags i d ≡ false → flagged (take (suc i) names) (take (suc i) flags) ≡ flagged (take i names) (take i flags)
+walked_past : (cids : List Cid) (flags : List Bool) (i : ℕ) (d : Bool) → i < length flags → get_or flags i d ≡ false → flagged (take (suc i) cids) (take (suc i) flags) ≡ flagged (take i cids) (take i flags)
 walked_past [] flags zero d within is = refl
 walked_past [] flags (suc i) d within is = refl
-walked_past (n ∷ names) [] i d within is = absurd (omega arith)
-walked_past (n ∷ names) (true ∷ flags) zero d within is = absurd (false≢true (sym is))
-walked_past (n ∷ names) (false ∷ flags) zero d within is = refl
-walked_past (n ∷ names) (true ∷ flags) (suc i) d within is = ap (λ cs. n ∷ cs) (walked_past names flags i d (omega arith) is)
-walked_past (n ∷ names) (false ∷ flags) (suc i) d within is = walked_past names flags i d (omega arith) is
+walked_past (n ∷ cids) [] i d within is = absurd (omega arith)
+walked_past (n ∷ cids) (true ∷ flags) zero d within is = absurd (false≢true (sym is))
+walked_past (n ∷ cids) (false ∷ flags) zero d within is = refl
+walked_past (n ∷ cids) (true ∷ flags) (suc i) d within is = ap (λ cs. n ∷ cs) (walked_past cids flags i d (omega arith) is)
+walked_past (n ∷ cids) (false ∷ flags) (suc i) d within is = walked_past cids flags i d (omega arith) is
 
-walked_more : (names : List Cid) (flags : List Bool) (i : ℕ) (d : Bool) (c : Cid) → i < length names → i < length flags → get_or flags i d ≡ true
-    → flagged (take (suc i) names) (take (suc i) flags) ≡ flagged (take i names) (take i flags) ++ get_or names i c ∷ []
+walked_more : (cids : List Cid) (flags : List Bool) (i : ℕ) (d : Bool) (c : Cid) → i < length cids → i < length flags → get_or flags i d ≡ true
+    → flagged (take (suc i) cids) (take (suc i) flags) ≡ flagged (take i cids) (take i flags) ++ get_or cids i c ∷ []
 walked_more [] flags i d c lt within is = absurd (omega arith)
-walked_more (n ∷ names) [] i d c lt within is = absurd (omega arith)
-walked_more (n ∷ names) (true ∷ flags) zero d c lt within is = refl
-walked_more (n ∷ names) (false ∷ flags) zero d c lt within is = absurd (false≢true is)
-walked_more (n ∷ names) (true ∷ flags) (suc i) d c lt within is = ap (λ cs. n ∷ cs) (walked_more names flags i d c (omega arith) (omega arith) is)
-walked_more (n ∷ names) (false ∷ flags) (suc i) d c lt within is = walked_more names flags i d c (omega arith) (omega arith) is
+walked_more (n ∷ cids) [] i d c lt within is = absurd (omega arith)
+walked_more (n ∷ cids) (true ∷ flags) zero d c lt within is = refl
+walked_more (n ∷ cids) (false ∷ flags) zero d c lt within is = absurd (false≢true is)
+walked_more (n ∷ cids) (true ∷ flags) (suc i) d c lt within is = ap (λ cs. n ∷ cs) (walked_more cids flags i d c (omega arith) (omega arith) is)
+walked_more (n ∷ cids) (false ∷ flags) (suc i) d c lt within is = walked_more cids flags i d c (omega arith) (omega arith) is
 
 plus_one : (k : ℕ) → suc k ≡ k + 1
 plus_one k = omega arith
 
-pub shown_past : (names : List Cid) (flags : List Bool) (i : ℕ) (d : Bool) → i < length flags → get_or flags i d ≡ false → flagged (take i names) (take i flags) ≡ flagged (take (i + 1) names) (take (i + 1) flags)
-shown_past names flags i d within is = sym (walked_past names flags i d within is) ∙ ap (λ k. flagged (take k names) (take k flags)) (plus_one i)
+pub shown_past : (cids : List Cid) (flags : List Bool) (i : ℕ) (d : Bool) → i < length flags → get_or flags i d ≡ false → flagged (take i cids) (take i flags) ≡ flagged (take (i + 1) cids) (take (i + 1) flags)
+shown_past cids flags i d within is = sym (walked_past cids flags i d within is) ∙ ap (λ k. flagged (take k cids) (take k flags)) (plus_one i)
 
-pub shown_more : (names : List Cid) (flags : List Bool) (i : ℕ) (d : Bool) (cid : Cid) → i < length names → i < length flags → get_or flags i d ≡ true → get_or names i cid ≡ cid
-    → flagged (take i names) (take i flags) ++ cid ∷ [] ≡ flagged (take (i + 1) names) (take (i + 1) flags)
-shown_more names flags i d cid lt within is at =
-    ap (λ c. flagged (take i names) (take i flags) ++ c ∷ []) (sym at) ∙ sym (walked_more names flags i d cid lt within is) ∙ ap (λ k. flagged (take k names) (take k flags)) (plus_one i)
+pub shown_more : (cids : List Cid) (flags : List Bool) (i : ℕ) (d : Bool) (cid : Cid) → i < length cids → i < length flags → get_or flags i d ≡ true → get_or cids i cid ≡ cid
+    → flagged (take i cids) (take i flags) ++ cid ∷ [] ≡ flagged (take (i + 1) cids) (take (i + 1) flags)
+shown_more cids flags i d cid lt within is at =
+    ap (λ c. flagged (take i cids) (take i flags) ++ c ∷ []) (sym at) ∙ sym (walked_more cids flags i d cid lt within is) ∙ ap (λ k. flagged (take k cids) (take k flags)) (plus_one i)

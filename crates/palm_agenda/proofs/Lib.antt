@@ -1,3 +1,4 @@
+pub mod CidLists
 pub mod cited
 pub mod Flagged
 pub mod Rows

@@ -1,4 +1,4 @@
--- A list of names for each variable: what a longer table and a change of one list leave.
+-- A list of ids for each variable: what a longer table and a change of one list leave.
 use Rattle.std.proofs.Common.{◌≡◌, ℕ, zero, suc, ◌+◌, ◌<◌, ◌≤◌, List, [], ◌∷◌, ◌++◌, length, get_or, set, take, Contains, ◌⊎◌, ◌↔◌, inl, inr, refl, sym, ap, ◌∙◌, subst, arith, get_or-set_same, get_or-set_other, length-set}
 use Rattle.std.proofs.lemmas.List.{get_or_past, take_all, take_more}
 use Rattle.std.proofs.lemmas.Bool.{cases_lt}
@@ -7,8 +7,10 @@ use Rattle.palm_base.specs.declared.terms.Cid.{Cid}
 use Rattle.palm_base.proofs.cited.Members.{member_nil, member_here, member_same, member_take_more, nat_known}
 use Rattle.palm_model.specs.State.{without_cid}
 use Rattle.palm_events.proofs.cited.States.{without_cid_member, member_without_cid}
-use Rattle.palm_agenda.specs.Names.{Roomy, HasRoomFor, HasSpace, names_at, row_at, with_name}
-use Rattle.palm_agenda.proofs.cited.NameLists.{with_name_cases, with_name_here, member_with_name, roomy}
+use Rattle.palm_base.specs.Order.{with_cid}
+use Rattle.palm_agenda.specs.Cids.{Roomy, HasRoomFor, HasSpace, cids_at, row_at}
+use Rattle.palm_base.proofs.cited.RisingLists.{with_cid_cases, with_cid_here, member_with_cid}
+use Rattle.palm_agenda.proofs.CidLists.{roomy}
 
 -- ---- the first members
 
@@ -29,11 +31,11 @@ row_pushed [] (suc x) = refl
 row_pushed (r ∷ rows) zero = refl
 row_pushed (r ∷ rows) (suc x) = row_pushed rows x
 
--- a variable with a name has a list
-pub row_within : (rows : List Roomy) (x : ℕ) (c : Cid) → Contains (names_at rows x) c → x < length rows
+-- a variable with an id has a list
+pub row_within : (rows : List Roomy) (x : ℕ) (c : Cid) → Contains (cids_at rows x) c → x < length rows
 row_within rows x c m = elim (cases_lt x (length rows)) [
   | inl lt ↦ lt
-  | inr past ↦ absurd (member_nil c (subst (λ (r : Roomy). Contains r.names c) (get_or_past rows x (roomy [] 0) past) m))
+  | inr past ↦ absurd (member_nil c (subst (λ (r : Roomy). Contains r.cids c) (get_or_past rows x (roomy [] 0) past) m))
 ]
 
 module _ (rows after : List Roomy) (v : ℕ) (row : Roomy) (within : v < length rows) (is : after ≡ set rows v row) where
@@ -46,12 +48,12 @@ module _ (rows after : List Roomy) (v : ℕ) (row : Roomy) (within : v < length 
   pub same_many : length after ≡ length rows
   same_many = ap length is ∙ length-set rows v row
 
-  -- the names stay and the room grows, where they do in this row
-  module _ (names : row.names ≡ names_at rows v) (grows : (row_at rows v).room ≤ row.room) where
-    pub names_stay : (x : ℕ) → names_at after x ≡ names_at rows x
-    names_stay x = elim (nat_known x v) [
-      | inl e ↦ subst (λ k. names_at after k ≡ names_at rows k) (sym e) (ap (λ (r : Roomy). r.names) row_here ∙ names)
-      | inr ne ↦ ap (λ (r : Roomy). r.names) (row_other x ne)
+  -- the ids stay and the room grows, where they do in this row
+  module _ (cids : row.cids ≡ cids_at rows v) (grows : (row_at rows v).room ≤ row.room) where
+    pub cids_stay : (x : ℕ) → cids_at after x ≡ cids_at rows x
+    cids_stay x = elim (nat_known x v) [
+      | inl e ↦ subst (λ k. cids_at after k ≡ cids_at rows k) (sym e) (ap (λ (r : Roomy). r.cids) row_here ∙ cids)
+      | inr ne ↦ ap (λ (r : Roomy). r.cids) (row_other x ne)
     ]
 
     pub room_grows : (x : ℕ) → (row_at rows x).room ≤ (row_at after x).room
@@ -60,49 +62,49 @@ module _ (rows after : List Roomy) (v : ℕ) (row : Roomy) (within : v < length 
       | inr ne ↦ subst (λ (r : Roomy). (row_at rows x).room ≤ r.room) (sym (row_other x ne)) (omega arith)
     ]
 
-pub space_stays : (rows after : List Roomy) (x : ℕ) → names_at after x ≡ names_at rows x → (row_at rows x).room ≤ (row_at after x).room → length rows ≤ length after → HasSpace rows x → HasSpace after x
-space_stays rows after x names grows longer space = record {
+pub space_stays : (rows after : List Roomy) (x : ℕ) → cids_at after x ≡ cids_at rows x → (row_at rows x).room ≤ (row_at after x).room → length rows ≤ length after → HasSpace rows x → HasSpace after x
+space_stays rows after x cids grows longer space = record {
   within = omega (arith, space.within);
-  room = omega (arith, space.room, ap length names);
+  room = omega (arith, space.room, ap length cids);
 }
 
--- ---- a name put into one list
+-- ---- an id put into one list
 
 abbrev pub row_put : List Roomy → ℕ → Cid → Roomy
-row_put rows v cid = roomy (with_name cid (names_at rows v)) (row_at rows v).room
+row_put rows v cid = roomy (with_cid cid (cids_at rows v)) (row_at rows v).room
 
 module _ (rows after : List Roomy) (v : ℕ) (cid : Cid) (within : v < length rows) (is : after ≡ set rows v (row_put rows v cid)) where
-  put_cases : (x : ℕ) (c : Cid) → Contains (names_at after x) c → Contains (names_at rows x) c ⊎ ((x ≡ v) × (c ≡ cid))
+  put_cases : (x : ℕ) (c : Cid) → Contains (cids_at after x) c → Contains (cids_at rows x) c ⊎ ((x ≡ v) × (c ≡ cid))
   put_cases x c m = elim (nat_known x v) [
     | inl e ↦
-        let k : Contains (with_name cid (names_at rows v)) c = subst (λ (r : Roomy). Contains r.names c) (row_here rows after v (row_put rows v cid) within is) (subst (λ y. Contains (names_at after y) c) e m) in
-        elim (with_name_cases cid (names_at rows v) c k) [
-          | inl n ↦ inl (subst (λ y. Contains (names_at rows y) c) (sym e) n)
+        let k : Contains (with_cid cid (cids_at rows v)) c = subst (λ (r : Roomy). Contains r.cids c) (row_here rows after v (row_put rows v cid) within is) (subst (λ y. Contains (cids_at after y) c) e m) in
+        elim (with_cid_cases cid (cids_at rows v) c k) [
+          | inl n ↦ inl (subst (λ y. Contains (cids_at rows y) c) (sym e) n)
           | inr s ↦ inr (e, s)
         ]
-    | inr ne ↦ inl (subst (λ (r : Roomy). Contains r.names c) (row_other rows after v (row_put rows v cid) within is x ne) m)
+    | inr ne ↦ inl (subst (λ (r : Roomy). Contains r.cids c) (row_other rows after v (row_put rows v cid) within is x ne) m)
   ]
 
-  put_here : Contains (names_at after v) cid
-  put_here = subst (λ (r : Roomy). Contains r.names cid) (sym (row_here rows after v (row_put rows v cid) within is)) (with_name_here cid (names_at rows v))
+  put_here : Contains (cids_at after v) cid
+  put_here = subst (λ (r : Roomy). Contains r.cids cid) (sym (row_here rows after v (row_put rows v cid) within is)) (with_cid_here cid (cids_at rows v))
 
-  put_there : (x : ℕ) (c : Cid) → Contains (names_at rows x) c → Contains (names_at after x) c
+  put_there : (x : ℕ) (c : Cid) → Contains (cids_at rows x) c → Contains (cids_at after x) c
   put_there x c m = elim (nat_known x v) [
-    | inl e ↦ subst (λ y. Contains (names_at after y) c) (sym e)
-        (subst (λ (r : Roomy). Contains r.names c) (sym (row_here rows after v (row_put rows v cid) within is))
-        (member_with_name cid (names_at rows v) c (subst (λ y. Contains (names_at rows y) c) e m)))
-    | inr ne ↦ subst (λ (r : Roomy). Contains r.names c) (sym (row_other rows after v (row_put rows v cid) within is x ne)) m
+    | inl e ↦ subst (λ y. Contains (cids_at after y) c) (sym e)
+        (subst (λ (r : Roomy). Contains r.cids c) (sym (row_here rows after v (row_put rows v cid) within is))
+        (member_with_cid cid (cids_at rows v) c (subst (λ y. Contains (cids_at rows y) c) e m)))
+    | inr ne ↦ subst (λ (r : Roomy). Contains r.cids c) (sym (row_other rows after v (row_put rows v cid) within is x ne)) m
   ]
 
   pub put_room_stays : (x : ℕ) → HasRoomFor cid (row_at rows x) → HasRoomFor cid (row_at after x)
   put_room_stays x room = elim (nat_known x v) [
-    | inl e ↦ inl (subst (λ y. Contains (names_at after y) cid) (sym e) put_here)
+    | inl e ↦ inl (subst (λ y. Contains (cids_at after y) cid) (sym e) put_here)
     | inr ne ↦ subst (HasRoomFor cid) (sym (row_other rows after v (row_put rows v cid) within is x ne)) room
   ]
 
   module _ (first : List Roomy) (scope : List ℕ) (i : ℕ) (lt : i < length scope) (item : v ≡ get_or scope i v)
-      (so_far : (x : ℕ) (c : Cid) → Contains (names_at rows x) c ↔ (Contains (names_at first x) c ⊎ (Contains (take i scope) x × (c ≡ cid)))) where
-    pub put_more : (x : ℕ) (c : Cid) → Contains (names_at after x) c ↔ (Contains (names_at first x) c ⊎ (Contains (take (i + 1) scope) x × (c ≡ cid)))
+      (so_far : (x : ℕ) (c : Cid) → Contains (cids_at rows x) c ↔ (Contains (cids_at first x) c ⊎ (Contains (take i scope) x × (c ≡ cid)))) where
+    pub put_more : (x : ℕ) (c : Cid) → Contains (cids_at after x) c ↔ (Contains (cids_at first x) c ⊎ (Contains (take (i + 1) scope) x × (c ≡ cid)))
     put_more x c = (
       λ m. elim (put_cases x c m) [
         | inl k ↦ elim ((so_far x c).0 k) [
@@ -115,46 +117,46 @@ module _ (rows after : List Roomy) (v : ℕ) (cid : Cid) (within : v < length ro
         | inl n ↦ put_there x c ((so_far x c).1 (inl n))
         | inr both ↦ elim (member_take_more scope i v x lt item both.0) [
           | inl k ↦ put_there x c ((so_far x c).1 (inr (k, both.1)))
-          | inr e ↦ subst (λ y. Contains (names_at after y) c) e (member_same (names_at after v) cid c (sym both.1) put_here)
+          | inr e ↦ subst (λ y. Contains (cids_at after y) c) e (member_same (cids_at after v) cid c (sym both.1) put_here)
         ]
       ],
     )
 
-pub put_none : (names : List Cid) (x : ℕ) (cid c : Cid) → Contains names c ↔ (Contains names c ⊎ (Contains {X = ℕ} [] x × (c ≡ cid)))
-put_none names x cid c = (λ m. inl m, λ h. elim h [ inl m ↦ m | inr both ↦ absurd (member_nil x both.0) ])
+pub put_none : (cids : List Cid) (x : ℕ) (cid c : Cid) → Contains cids c ↔ (Contains cids c ⊎ (Contains {X = ℕ} [] x × (c ≡ cid)))
+put_none cids x cid c = (λ m. inl m, λ h. elim h [ inl m ↦ m | inr both ↦ absurd (member_nil x both.0) ])
 
 pub put_all : (rows first : List Roomy) (scope : List ℕ) (i : ℕ) (cid : Cid) → length scope ≤ i
-    → ((x : ℕ) (c : Cid) → Contains (names_at rows x) c ↔ (Contains (names_at first x) c ⊎ (Contains (take i scope) x × (c ≡ cid))))
-    → (x : ℕ) (c : Cid) → Contains (names_at rows x) c ↔ (Contains (names_at first x) c ⊎ (Contains scope x × (c ≡ cid)))
+    → ((x : ℕ) (c : Cid) → Contains (cids_at rows x) c ↔ (Contains (cids_at first x) c ⊎ (Contains (take i scope) x × (c ≡ cid))))
+    → (x : ℕ) (c : Cid) → Contains (cids_at rows x) c ↔ (Contains (cids_at first x) c ⊎ (Contains scope x × (c ≡ cid)))
 put_all rows first scope i cid past so_far x c =
-    subst (λ xs. Contains (names_at rows x) c ↔ (Contains (names_at first x) c ⊎ (Contains xs x × (c ≡ cid)))) (take_all i scope past) (so_far x c)
+    subst (λ xs. Contains (cids_at rows x) c ↔ (Contains (cids_at first x) c ⊎ (Contains xs x × (c ≡ cid)))) (take_all i scope past) (so_far x c)
 
--- ---- a name taken out of one list
+-- ---- an id taken out of one list
 
 abbrev pub row_cut : List Roomy → ℕ → Cid → Roomy
-row_cut rows v cid = roomy (without_cid cid (names_at rows v)) (row_at rows v).room
+row_cut rows v cid = roomy (without_cid cid (cids_at rows v)) (row_at rows v).room
 
 module _ (rows after : List Roomy) (v : ℕ) (cid : Cid) (within : v < length rows) (is : after ≡ set rows v (row_cut rows v cid)) where
-  cut_member : (x : ℕ) (c : Cid) → Contains (names_at after x) c → Contains (names_at rows x) c × (x ≡ v → c ≡ cid → ⊥)
+  cut_member : (x : ℕ) (c : Cid) → Contains (cids_at after x) c → Contains (cids_at rows x) c × (x ≡ v → c ≡ cid → ⊥)
   cut_member x c m = elim (nat_known x v) [
     | inl e ↦
-        let k : Contains (without_cid cid (names_at rows v)) c = subst (λ (r : Roomy). Contains r.names c) (row_here rows after v (row_cut rows v cid) within is) (subst (λ y. Contains (names_at after y) c) e m) in
-        let r = without_cid_member cid (names_at rows v) c k in
-        (subst (λ y. Contains (names_at rows y) c) (sym e) r.0, λ _. r.1)
-    | inr ne ↦ (subst (λ (r : Roomy). Contains r.names c) (row_other rows after v (row_cut rows v cid) within is x ne) m, λ e s. ne e)
+        let k : Contains (without_cid cid (cids_at rows v)) c = subst (λ (r : Roomy). Contains r.cids c) (row_here rows after v (row_cut rows v cid) within is) (subst (λ y. Contains (cids_at after y) c) e m) in
+        let r = without_cid_member cid (cids_at rows v) c k in
+        (subst (λ y. Contains (cids_at rows y) c) (sym e) r.0, λ _. r.1)
+    | inr ne ↦ (subst (λ (r : Roomy). Contains r.cids c) (row_other rows after v (row_cut rows v cid) within is x ne) m, λ e s. ne e)
   ]
 
-  member_cut : (x : ℕ) (c : Cid) → Contains (names_at rows x) c → (x ≡ v → c ≡ cid → ⊥) → Contains (names_at after x) c
+  member_cut : (x : ℕ) (c : Cid) → Contains (cids_at rows x) c → (x ≡ v → c ≡ cid → ⊥) → Contains (cids_at after x) c
   member_cut x c m apart = elim (nat_known x v) [
-    | inl e ↦ subst (λ y. Contains (names_at after y) c) (sym e)
-        (subst (λ (r : Roomy). Contains r.names c) (sym (row_here rows after v (row_cut rows v cid) within is))
-        (member_without_cid cid (names_at rows v) c (subst (λ y. Contains (names_at rows y) c) e m) (apart e)))
-    | inr ne ↦ subst (λ (r : Roomy). Contains r.names c) (sym (row_other rows after v (row_cut rows v cid) within is x ne)) m
+    | inl e ↦ subst (λ y. Contains (cids_at after y) c) (sym e)
+        (subst (λ (r : Roomy). Contains r.cids c) (sym (row_here rows after v (row_cut rows v cid) within is))
+        (member_without_cid cid (cids_at rows v) c (subst (λ y. Contains (cids_at rows y) c) e m) (apart e)))
+    | inr ne ↦ subst (λ (r : Roomy). Contains r.cids c) (sym (row_other rows after v (row_cut rows v cid) within is x ne)) m
   ]
 
   module _ (first : List Roomy) (scope : List ℕ) (i : ℕ) (lt : i < length scope) (item : v ≡ get_or scope i v)
-      (so_far : (x : ℕ) (c : Cid) → Contains (names_at rows x) c ↔ (Contains (names_at first x) c × (Contains (take i scope) x → c ≡ cid → ⊥))) where
-    pub cut_more : (x : ℕ) (c : Cid) → Contains (names_at after x) c ↔ (Contains (names_at first x) c × (Contains (take (i + 1) scope) x → c ≡ cid → ⊥))
+      (so_far : (x : ℕ) (c : Cid) → Contains (cids_at rows x) c ↔ (Contains (cids_at first x) c × (Contains (take i scope) x → c ≡ cid → ⊥))) where
+    pub cut_more : (x : ℕ) (c : Cid) → Contains (cids_at after x) c ↔ (Contains (cids_at first x) c × (Contains (take (i + 1) scope) x → c ≡ cid → ⊥))
     cut_more x c = (
       λ m.
           let r = cut_member x c m in
@@ -166,7 +168,7 @@ module _ (rows after : List Roomy) (v : ℕ) (cid : Cid) (within : v < length ro
     )
 
 pub cut_all : (rows first : List Roomy) (scope : List ℕ) (i : ℕ) (cid : Cid) → length scope ≤ i
-    → ((x : ℕ) (c : Cid) → Contains (names_at rows x) c ↔ (Contains (names_at first x) c × (Contains (take i scope) x → c ≡ cid → ⊥)))
-    → (x : ℕ) (c : Cid) → Contains (names_at rows x) c ↔ (Contains (names_at first x) c × (Contains scope x → c ≡ cid → ⊥))
+    → ((x : ℕ) (c : Cid) → Contains (cids_at rows x) c ↔ (Contains (cids_at first x) c × (Contains (take i scope) x → c ≡ cid → ⊥)))
+    → (x : ℕ) (c : Cid) → Contains (cids_at rows x) c ↔ (Contains (cids_at first x) c × (Contains scope x → c ≡ cid → ⊥))
 cut_all rows first scope i cid past so_far x c =
-    subst (λ xs. Contains (names_at rows x) c ↔ (Contains (names_at first x) c × (Contains xs x → c ≡ cid → ⊥))) (take_all i scope past) (so_far x c)
+    subst (λ xs. Contains (cids_at rows x) c ↔ (Contains (cids_at first x) c × (Contains xs x → c ≡ cid → ⊥))) (take_all i scope past) (so_far x c)

@@ -2,5 +2,3 @@
 pub mod Connecting
 pub mod Keeping
 pub mod Marking
-pub mod NameLists
-pub mod Sorted

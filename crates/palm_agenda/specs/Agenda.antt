@@ -1,47 +1,48 @@
--- What an agenda holds: the connected constraints with their marks, and the names of those that wait to be revised.
+-- What an agenda holds: the connected constraints with their marks, and the ids of those that wait to be revised.
 use Rattle.std.specs.Prelude.{◌≡◌, ℕ, ◌<◌, if◌then◌else◌, Bool, true, false, not, ◌||◌, Some, List, [], ◌∷◌, ◌++◌, length, map, filter, All, Contains, nat_eq, nat_lt, slice_get, slice_set, replicate}
 use Rattle.std.specs.List.{list_any}
 use Rattle.palm_base.specs.declared.terms.Cid.{Cid}
-use Rattle.palm_model.specs.Log.{Rises, cid_before, same_cid, is_named}
+use Rattle.palm_base.specs.Order.{Rises, cid_before, same_cid}
+use Rattle.palm_model.specs.Log.{is_named}
 use Rattle.palm_model.specs.State.{without_cid}
 
--- a constraint by its name, the variables of its scope, and a mark at each place of the scope where values of the
+-- a constraint by its id, the variables of its scope, and a mark at each place of the scope where values of the
 -- variable may lack support
 pub record Connected : Type 0 where
   pub cid : Cid
   pub scope : List ℕ
   pub marks : List Bool
 
--- the connected constraints by rising name, and the names of those that are pending, by rising name too
+-- the connected constraints by rising id, and the ids of those that are pending, by rising id too
 pub record Waiting : Type 0 where
   pub connected : List Connected
   pub pending : List Cid
 
--- the names of connected constraints
-abbrev pub names_of : List Connected → List Cid
-names_of connected = map (λ d. d.cid) connected
+-- the ids of connected constraints
+abbrev pub connected_cids : List Connected → List Cid
+connected_cids connected = map (λ d. d.cid) connected
 
--- a constraint is connected under the name
+-- a constraint is connected under the id
 pub record IsConnected (connected : List Connected) (cid : Cid) : Type 0 where
   pub owner : Connected
   pub listed : Contains connected owner
   pub named : owner.cid ≡ cid
 
--- a constraint over the variable is connected under the name
+-- a constraint over the variable is connected under the id
 pub record IsOver (connected : List Connected) (x : ℕ) (cid : Cid) : Type 0 where
   pub owner : Connected
   pub listed : Contains connected owner
   pub named : owner.cid ≡ cid
   pub over : Contains owner.scope x
 
--- the scope of the constraint under the name has the place
+-- the scope of the constraint under the id has the place
 pub record HasPlace (connected : List Connected) (cid : Cid) (place : ℕ) : Type 0 where
   pub owner : Connected
   pub listed : Contains connected owner
   pub named : owner.cid ≡ cid
   pub within : place < length owner.scope
 
--- the constraint under the name is marked at the place
+-- the constraint under the id is marked at the place
 pub record IsMarked (connected : List Connected) (cid : Cid) (place : ℕ) : Type 0 where
   pub owner : Connected
   pub listed : Contains connected owner
@@ -54,7 +55,7 @@ HasMarks d = length d.marks ≡ length d.scope
 
 -- what holds of every agenda
 pub record IsFormed (w : Waiting) : Type 0 where
-  pub rising : Rises (names_of w.connected)
+  pub rising : Rises (connected_cids w.connected)
   pub pending_rising : Rises w.pending
   pub pending_connected : (c : Cid) → Contains w.pending c → IsConnected w.connected c
   pub marks : All HasMarks w.connected
@@ -65,11 +66,11 @@ pub record IsFormed (w : Waiting) : Type 0 where
 abbrev pub marked_whole : Cid → List ℕ → Connected
 marked_whole cid scope = record { cid = cid; scope = scope; marks = replicate (length scope) true }
 
--- the connected constraints with one more, by rising name
+-- the connected constraints with one more, by rising id
 abbrev pub with_connected : Connected → List Connected → List Connected
 with_connected d connected = filter (λ e. cid_before e.cid d.cid) connected ++ d ∷ filter (λ e. cid_before d.cid e.cid) connected
 
--- the connected constraints but the one under this name
+-- the connected constraints but the one under this id
 abbrev pub without_connected : Cid → List Connected → List Connected
 without_connected cid connected = filter (λ d. not (is_named (cid ∷ []) d.cid)) connected
 
@@ -97,13 +98,13 @@ mark_others x d = if is_over x d then marked_where (λ y. not (nat_eq y x)) d el
 abbrev pub mark_own : ℕ → Connected → Connected
 mark_own x d = marked_where (λ y. nat_eq y x) d
 
--- the change, at the constraint under this name alone
+-- the change, at the constraint under this id alone
 abbrev pub changed_at : Cid → (Connected → Connected) → Connected → Connected
 changed_at cid change d = if same_cid cid d.cid then change d else d
 
--- the change, at the constraints under these names
+-- the change, at the constraints under these ids
 abbrev pub changed_among : List Cid → (Connected → Connected) → Connected → Connected
-changed_among names change d = if is_named names d.cid then change d else d
+changed_among cids change d = if is_named cids d.cid then change d else d
 
 -- the constraint without the mark at a place
 abbrev pub unmarked : ℕ → Connected → Connected
@@ -115,7 +116,7 @@ unmarked place d = record d { marks = slice_set d.marks place false }
 abbrev pub index_within : ℕ → ℕ → ℕ
 index_within index count = if nat_lt index count then index else 0
 
--- the name at the answered index is pending no longer
+-- the id at the answered index is pending no longer
 pub record Takes (before after : List Cid) (answer : ℕ) (cid : Cid) : Type 0 where
   pub chosen : slice_get before (index_within answer (length before)) ≡ Some cid
   pub pending : after ≡ without_cid cid before

@@ -8,12 +8,12 @@ pub record FlagRow : Type 0 where
   pub flags : List Bool
   pub room : ℕ
 
--- the names at the places whose flag is raised
+-- the ids at the places whose flag is raised
 abbrev pub flagged : List Cid → List Bool → List Cid
 flagged [] flags = []
-flagged (c ∷ names) [] = []
-flagged (c ∷ names) (true ∷ flags) = c ∷ flagged names flags
-flagged (c ∷ names) (false ∷ flags) = flagged names flags
+flagged (c ∷ cids) [] = []
+flagged (c ∷ cids) (true ∷ flags) = c ∷ flagged cids flags
+flagged (c ∷ cids) (false ∷ flags) = flagged cids flags
 
 -- how many flags are raised
 abbrev pub count_raised : List Bool → ℕ

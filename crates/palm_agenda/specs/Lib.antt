@@ -1,6 +1,6 @@
 pub mod Agenda
 pub mod Flags
 pub mod Kept
-pub mod Names
+pub mod Cids
 pub mod Orders
 pub mod Places

@@ -2,99 +2,54 @@
 ghost use Rattle.std.specs.Prelude.{◌≡◌, ℕ, ◌<◌, ◌≤◌, ◌↔◌, ◌⊎◌, [], ◌∷◌, ◌++◌, length, map, Contains, MatchOption, IfSome, IfNone, IsSomeAnd, Some, OnOk, OnErr, is_some, slice_get, vec_capacity};
 ghost use Rattle.palm_base.specs.Tells.{Tells};
 ghost use Rattle.palm_base.specs.declared.terms.Cid.{Cid as CidTerm};
-ghost use Rattle.palm_model.specs.Log.{Rises, cid_before};
+ghost use Rattle.palm_base.specs.Order.{Rises, cid_before, IsPartedAt};
 ghost use Rattle.palm_model.specs.State.{without_cid};
-ghost use Rattle.palm_agenda.specs.Agenda.{Connected, HasPlace, IsConnected, IsFormed, IsMarked, IsOver, Takes, changed_among, changed_at, index_within, marked_whole, mark_others, mark_own, names_of, unmarked, with_connected, without_connected};
+ghost use Rattle.palm_agenda.specs.Agenda.{Connected, HasPlace, IsConnected, IsFormed, IsMarked, IsOver, Takes, changed_among, changed_at, index_within, marked_whole, mark_others, mark_own, connected_cids, unmarked, with_connected, without_connected};
 ghost use Rattle.palm_agenda.specs.Flags.{flagged};
-ghost use Rattle.palm_agenda.specs.Names.{HasSpace, IsPartedAt, names_at};
+ghost use Rattle.palm_agenda.specs.Cids.{HasSpace, cids_at};
 ghost use Rattle.palm_agenda.specs.Places.{mark_places};
 
+use crate::cids::Cids;
 use crate::connection::{Connection, Places};
 use crate::flags::Flags;
-use crate::names::{Names, copy_of, is_before, is_same, likely_place};
 use crate::order::Order;
-use crate::over::{insert_over, make_room, names_over, remove_over};
-use palm_base::{Cid, NoMemory, Var};
+use crate::over::{cids_over, insert_over, make_room, remove_over};
+use palm_base::{Cid, HasCid, NoMemory, Var, place_at, place_from, place_of};
 use std::alloc::Global;
 use std::marker::Model;
 
-/// The connected constraints by rising name, a flag for each of them that is raised where it is pending, and the names of
-/// the constraints over each variable. There is room for every name among those that an order is shown. The place of the
+/// The connected constraints by rising id, a flag for each of them that is raised where it is pending, and the ids of
+/// the constraints over each variable. There is room for every id among those that an order is shown. The place of the
 /// constraint that was taken last is where one is looked for first.
 #[derive(Debug, Drop)]
 pub struct Agenda {
     connections: Vec<Connection>,
     pending: Flags,
-    over: Vec<Names>,
+    over: Vec<Cids>,
     shown: Vec<Cid>,
     near: usize,
 }
 
 impl Model for Agenda {
     ghost use Rattle.std.specs.Prelude.{vec_capacity};
-    ghost use Rattle.palm_agenda.specs.Agenda.{Waiting, names_of};
+    ghost use Rattle.palm_agenda.specs.Agenda.{Waiting, connected_cids};
     ghost use Rattle.palm_agenda.specs.Flags.{flagged};
-    ghost use Rattle.palm_agenda.specs.Kept.{IsKept};
+    ghost use Rattle.palm_agenda.specs.Kept.{IsAgenda};
 
     ghost Value = { Waiting };
 
-    ghost view = { λ a. record { connected = a.connections.items; pending = flagged (names_of a.connections.items) a.pending.flags } };
+    ghost view = { λ a. record { connected = a.connections.items; pending = flagged (connected_cids a.connections.items) a.pending.flags } };
 
-    ghost invariant = { λ a. IsKept a.connections.items a.over.items a.pending.flags (vec_capacity a.shown) };
+    ghost invariant = { λ a. IsAgenda a.connections.items a.over.items a.pending.flags (vec_capacity a.shown) };
 }
 
-/// The place of the constraint under the name, where it is the one at `near`.
-#[inline(always)]
-fn near_place(connections: &[Connection], near: usize, cid: &Cid) -> Option<usize>
-    requires { Rises (names_of connections.now) }
-    ensures { IfSome result (IsPartedAt (λ d. cid_before d.cid cid.now) connections.now) }
-{
-    if near < connections.len() && is_same(connections[near].cid(), cid) {
-        Some(near)
-    } else {
-        None
-    }
-}
-
-/// The place of the constraint under the name, where the numbers of users leave none out from it to the one at `near`.
-fn counted_place(connections: &[Connection], near: usize, cid: &Cid) -> Option<usize>
-    requires { Rises (names_of connections.now) }
-    ensures { IfSome result (IsPartedAt (λ d. cid_before d.cid cid.now) connections.now) }
-{
-    if near >= connections.len() {
-        return None;
-    }
-    let place = likely_place(near + 1, connections[near].cid(), cid)?;
-    near_place(connections, place, cid)
-}
-
-/// How many of the connected constraints have names that come before this one, counted from the one at `near`.
-#[inline(never)]
-fn place_from(connections: &[Connection], near: usize, cid: &Cid) -> usize
-    requires { Rises (names_of connections.now) }
-    ensures { IsPartedAt (λ d. cid_before d.cid cid.now) connections.now result }
-{
-    match counted_place(connections, near, cid) {
-        Some(place) => place,
-        None => connections.partition_point(|connection| is_before(connection.cid(), cid)),
-    }
-}
-
-/// How many of the connected constraints have names that come before this one.
-fn place_of(connections: &[Connection], cid: &Cid) -> usize
-    requires { Rises (names_of connections.now) }
-    ensures { IsPartedAt (λ d. cid_before d.cid cid.now) connections.now result }
-{
-    place_from(connections, connections.len().wrapping_sub(1), cid)
-}
-
-/// How many of the connected constraints have names that come before this one, which is looked for at `near` first.
+/// How many of the connected constraints have ids that come before this one, which is looked for at `near` first.
 #[inline(always)]
 fn place_near(connections: &[Connection], near: usize, cid: &Cid) -> usize
-    requires { Rises (names_of connections.now) }
+    requires { Rises (connected_cids connections.now) }
     ensures { IsPartedAt (λ d. cid_before d.cid cid.now) connections.now result }
 {
-    match near_place(connections, near, cid) {
+    match place_at(connections, near, cid) {
         Some(place) => place,
         None => place_of(connections, cid),
     }
@@ -110,12 +65,12 @@ fn wake_named(
     places: Places,
     var: &Var,
 )
-    requires rising { Rises (names_of connections.old.items) }
+    requires rising { Rises (connected_cids connections.old.items) }
     requires flags { length pending.old.flags ≡ length connections.old.items }
     requires over { IsOver connections.old.items var.now cid.now }
     ensures marks { connections.new.items ≡ map (changed_at cid.now (mark_places places var.now)) connections.old.items }
-    ensures pending { (c : CidTerm) → Contains (flagged (names_of connections.new.items) pending.new.flags) c
-        ↔ (Contains (flagged (names_of connections.old.items) pending.old.flags) c ⊎ (c ≡ cid.now)) }
+    ensures pending { (c : CidTerm) → Contains (flagged (connected_cids connections.new.items) pending.new.flags) c
+        ↔ (Contains (flagged (connected_cids connections.old.items) pending.old.flags) c ⊎ (c ≡ cid.now)) }
     ensures flags { length pending.new.flags ≡ length pending.old.flags }
 {
     let place = place_from(connections, *near, cid);
@@ -129,27 +84,27 @@ fn wake_named(
 fn wake_each(
     connections: &mut Vec<Connection>,
     pending: &mut Flags,
-    names: &[Cid],
+    cids: &[Cid],
     places: Places,
     var: &Var,
 )
-    requires rising { Rises (names_of connections.old.items) }
+    requires rising { Rises (connected_cids connections.old.items) }
     requires flags { length pending.old.flags ≡ length connections.old.items }
-    requires over { (c : CidTerm) → Contains names.now c → IsOver connections.old.items var.now c }
-    ensures marks { connections.new.items ≡ map (changed_among names.now (mark_places places var.now)) connections.old.items }
-    ensures pending { (c : CidTerm) → Contains (flagged (names_of connections.new.items) pending.new.flags) c
-        ↔ (Contains (flagged (names_of connections.old.items) pending.old.flags) c ⊎ Contains names.now c) }
+    requires over { (c : CidTerm) → Contains cids.now c → IsOver connections.old.items var.now c }
+    ensures marks { connections.new.items ≡ map (changed_among cids.now (mark_places places var.now)) connections.old.items }
+    ensures pending { (c : CidTerm) → Contains (flagged (connected_cids connections.new.items) pending.new.flags) c
+        ↔ (Contains (flagged (connected_cids connections.old.items) pending.old.flags) c ⊎ Contains cids.now c) }
     ensures flags { length pending.new.flags ≡ length pending.old.flags }
 {
     let mut near = connections.len().wrapping_sub(1);
-    for cid in names {
+    for cid in cids {
         wake_named(connections, pending, &mut near, cid, places, var);
     }
 }
 
 /// Takes a mark of the constraint away, which is looked for at `near` first.
 fn unmark_named(connections: &mut Vec<Connection>, near: usize, cid: &Cid, place: usize)
-    requires rising { Rises (names_of connections.old.items) }
+    requires rising { Rises (connected_cids connections.old.items) }
     requires connected { HasPlace connections.old.items cid.now place }
     ensures { connections.new.items ≡ map (changed_at cid.now (unmarked place)) connections.old.items }
 {
@@ -158,16 +113,16 @@ fn unmark_named(connections: &mut Vec<Connection>, near: usize, cid: &Cid, place
     connection.unmark(place);
 }
 
-/// Makes room for one more constraint over the scope: for its name over each variable, for its flag, and for so many names
+/// Makes room for one more constraint over the scope: for its id over each variable, for its flag, and for so many ids
 /// among those that an order is shown.
 fn make_room_for(
-    over: &mut Vec<Names>,
+    over: &mut Vec<Cids>,
     pending: &mut Flags,
     shown: &mut Vec<Cid>,
     scope: &[Var],
     count: usize,
 ) -> Result<(), NoMemory>
-    ensures names { (x : ℕ) → names_at over.new.items x ≡ names_at over.old.items x }
+    ensures cids { (x : ℕ) → cids_at over.new.items x ≡ cids_at over.old.items x }
     ensures flags { pending.new.flags ≡ pending.old.flags }
     ensures grows { vec_capacity shown.old ≤ vec_capacity shown.new }
     ensures space { OnOk result ((x : ℕ) → Contains scope.now x → HasSpace over.new.items x) }
@@ -181,46 +136,46 @@ fn make_room_for(
     Ok(())
 }
 
-/// Writes one more name, where there is room.
+/// Writes one more id, where there is room.
 fn show_one(shown: &mut Vec<Cid>, cid: &Cid)
     requires { length shown.old.items < vec_capacity shown.old }
-    ensures names { shown.new.items ≡ shown.old.items ++ cid.now ∷ [] }
+    ensures cids { shown.new.items ≡ shown.old.items ++ cid.now ∷ [] }
     ensures room { vec_capacity shown.old ≤ vec_capacity shown.new }
 {
-    let pushed = shown.push(copy_of(cid));
+    let pushed = shown.push(cid.copy());
     prove!(pushed.is_ok());
 }
 
-/// Writes the names of the constraints whose flags are raised.
+/// Writes the ids of the constraints whose flags are raised.
 fn show(shown: &mut Vec<Cid>, connections: &[Connection], flags: &[bool])
     requires room { length connections.now ≤ vec_capacity shown.old }
     requires flags { length flags.now ≡ length connections.now }
-    ensures names { shown.new.items ≡ flagged (names_of connections.now) flags.now }
+    ensures cids { shown.new.items ≡ flagged (connected_cids connections.now) flags.now }
     ensures room { vec_capacity shown.old ≤ vec_capacity shown.new }
 {
     shown.clear();
     for place in 0..connections.len() {
         if flags[place] {
-            show_one(shown, connections[place].cid());
+            show_one(shown, &connections[place].cid());
         }
     }
 }
 
-/// The name of the constraint at the place.
-fn name_at(connections: &[Connection], place: usize) -> Cid
+/// The id of the constraint at the place.
+fn cid_at(connections: &[Connection], place: usize) -> Cid
     requires { place < length connections.now }
-    ensures { slice_get (names_of connections.now) place ≡ Some result }
+    ensures { slice_get (connected_cids connections.now) place ≡ Some result }
 {
-    copy_of(connections[place].cid())
+    connections[place].cid()
 }
 
-/// The name at the answered index, and the first one where it is out of range.
+/// The id at the answered index, and the first one where it is out of range.
 fn chosen(shown: &[Cid], answer: usize) -> Cid
     requires { shown.now ≡ [] → ⊥ }
     ensures { slice_get shown.now (index_within answer (length shown.now)) ≡ Some result }
 {
     let index = if answer < shown.len() { answer } else { 0 };
-    copy_of(&shown[index])
+    shown[index].copy()
 }
 
 impl Agenda {
@@ -254,7 +209,7 @@ impl Agenda {
             count,
         )?;
         let alloc = *self.connections.allocator();
-        let connection = Connection::new(alloc, copy_of(&cid), scope)?;
+        let connection = Connection::new(alloc, cid.copy(), scope)?;
         let place = place_of(&self.connections, &cid);
         self.connections.insert(place, connection)?;
         self.pending.insert(place);
@@ -281,11 +236,11 @@ impl Agenda {
         ensures pending { (c : CidTerm) → Contains self.new.pending c ↔ (Contains self.old.pending c ⊎ IsOver self.old.connected var c) }
         ensures formed { IsFormed self.new }
     {
-        let names = names_over(&self.over, &var);
+        let cids = cids_over(&self.over, &var);
         wake_each(
             &mut self.connections,
             &mut self.pending,
-            names,
+            cids,
             Places::Others,
             &var,
         );
@@ -298,11 +253,11 @@ impl Agenda {
         ensures pending { (c : CidTerm) → Contains self.new.pending c ↔ (Contains self.old.pending c ⊎ IsOver self.old.connected var c) }
         ensures formed { IsFormed self.new }
     {
-        let names = names_over(&self.over, &var);
+        let cids = cids_over(&self.over, &var);
         wake_each(
             &mut self.connections,
             &mut self.pending,
-            names,
+            cids,
             Places::Own,
             &var,
         );
@@ -380,7 +335,7 @@ impl Agenda {
     {
         let place = self.pending.lower_first()?;
         self.near = place;
-        Some(name_at(&self.connections, place))
+        Some(cid_at(&self.connections, place))
     }
 
     /// The pending constraint that the order answers when it is asked once, which is pending no longer. The order is not

@@ -3,7 +3,7 @@ ghost use Rattle.std.specs.Prelude.{◌≡◌, ◌<◌, length, IfOk, slice_set}
 ghost use Rattle.palm_agenda.specs.Agenda.{HasMarks, marked_where, marked_whole, unmarked};
 ghost use Rattle.palm_agenda.specs.Places.{is_place};
 
-use palm_base::{Cid, NoMemory, Var, VarList};
+use palm_base::{Cid, HasCid, NoMemory, Var, VarList};
 use std::alloc::Global;
 use std::marker::Model;
 
@@ -33,6 +33,17 @@ impl Model for Connection {
     ghost view = { λ d. record { cid = d.cid; scope = d.scope; marks = d.marks.items } };
 
     ghost invariant = { λ d. length d.marks.items ≡ length d.scope };
+}
+
+impl HasCid for Connection {
+    ghost id = { λ d. d.cid };
+
+    #[inline(always)]
+    fn cid(&self) -> Cid
+        ensures { result ≡ self.now.cid }
+    {
+        self.cid.copy()
+    }
 }
 
 /// Whether a place with the variable `at` is one of the places, as seen from the variable `var`.
@@ -65,13 +76,6 @@ impl Connection {
             scope: VarList::from_slice(alloc, scope)?,
             marks,
         })
-    }
-
-    /// The name of the constraint.
-    pub(crate) fn cid(&self) -> &Cid
-        ensures { result.now ≡ self.now.cid }
-    {
-        &self.cid
     }
 
     /// The variables of the constraint.

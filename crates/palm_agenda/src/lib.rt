@@ -3,12 +3,11 @@
 #![tactic(auto)]
 
 mod agenda;
+mod cids;
 mod connection;
 mod flags;
-mod names;
 mod order;
 mod over;
 
 pub use agenda::Agenda;
-pub use names::likely_place;
 pub use order::{LastOrder, Order, RotateOrder};

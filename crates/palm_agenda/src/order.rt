@@ -12,13 +12,13 @@ pub trait Order: Drop {
     /// Numbers that tell the object's state.
     ghost state: { Self → List ℕ };
 
-    /// Asked with these pending names, the object answers this index and is left in this state.
+    /// Asked with these pending ids, the object answers this index and is left in this state.
     ghost answers: { Self → List CidTerm → ℕ → List ℕ → Type 0 };
 
     /// Told of a revision of this constraint and how many values it took out, the object is left in this state.
     ghost hears: { Self → CidTerm → ℕ → List ℕ → Type 0 };
 
-    /// The index of the constraint that is revised next. The names rise. An index out of range stands for the first.
+    /// The index of the constraint that is revised next. The ids rise. An index out of range stands for the first.
     fn next(&mut self, pending: &[Cid]) -> usize
         ensures { answers self.old pending.now result (state self.new) };
 

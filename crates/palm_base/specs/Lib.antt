@@ -1,6 +1,7 @@
 pub mod Adapters
 pub mod Ascending
 pub mod Counts
+pub mod First
 pub mod Memory
 pub mod Numbers
 pub mod Order

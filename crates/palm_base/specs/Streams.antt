@@ -61,14 +61,15 @@ Writes before now piece result =
     MatchResult result (λ n. (0 < n) × (n ≤ length piece) × Appended before.written now.written (take n piece))
     (λ _. Appended before.written now.written [])
 
--- a front of the text was written
-pub record AppendedFront (before now : Option (List ℕ)) (text : List ℕ) : Type 0 where
+-- a proper front of the text was written: something of it was not
+pub record AppendedProperFront (before now : Option (List ℕ)) (text : List ℕ) : Type 0 where
   pub front : List ℕ
   pub back : List ℕ
   pub whole : text ≡ front ++ back
+  pub proper : 0 < length back
   pub written : Appended before now front
 
--- the whole text is written, or a front of it at a failure
+-- the whole text is written, or a proper front of it at a failure
 abbrev pub WritesAll : {T E : Type 0} → SinkState → SinkState → List ℕ → Result T E → Type 0
 WritesAll before now text result =
-    MatchResult result (λ _. Appended before.written now.written text) (λ _. AppendedFront before.written now.written text)
+    MatchResult result (λ _. Appended before.written now.written text) (λ _. AppendedProperFront before.written now.written text)

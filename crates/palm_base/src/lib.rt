@@ -1,8 +1,9 @@
-//! The plain words that every crate of palm shares: variables, values and names of constraints, lists that
+//! The plain words that every crate of palm shares: variables, values and ids of constraints, lists that
 //! contracts see as lists, the want of memory, and the byte streams at the edge with their counts of faults.
 #![tactic(auto)]
 
 mod adapters;
+mod by_cid;
 mod counts;
 mod errors;
 mod laws;
@@ -16,8 +17,9 @@ mod terms;
 mod writing;
 
 pub use adapters::{StdSink, StdSource};
+pub use by_cid::{HasCid, place_at, place_for, place_from, place_of, stands_at};
 pub use errors::{Failed, NoMemory};
-pub use laws::names_are_ordered;
+pub use laws::{ids_are_ordered, limits_are_these_numbers};
 pub use limits::LAST_COUNT;
 pub use memory::sinks::{MemorySink, SteadySink};
 pub use memory::sources::{MemorySource, SteadySource};

@@ -24,7 +24,7 @@ impl<T> Model for Sequence<T> {
     ghost view = { λ s. s.items.items };
 }
 
-/// Names of constraints.
+/// Ids of constraints.
 pub type CidList = Sequence<Cid>;
 
 /// Variables.

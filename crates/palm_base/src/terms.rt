@@ -1,4 +1,7 @@
-//! Variables, values, pairs of the two, and the names under which constraints are active.
+//! Variables, values, pairs of the two, and the ids under which constraints are active.
+ghost use Rattle.std.specs.Prelude.{◌≡◌};
+ghost use Rattle.palm_base.specs.Order.{cid_before, same_cid, same_pair};
+
 use std::marker::Model;
 
 /// A variable, by its place in the order of the declarations.
@@ -41,7 +44,28 @@ pub struct Pair {
     pub value: Value,
 }
 
-/// The name of an active constraint: decisions before negations before the constraints of users.
+impl Pair {
+    /// The pair again.
+    #[inline(always)]
+    pub fn copy(&self) -> Pair
+        ensures { result ≡ self.now }
+    {
+        Pair {
+            var: self.var,
+            value: self.value,
+        }
+    }
+
+    /// Whether the two pairs are one.
+    #[inline(always)]
+    pub fn is_same(&self, other: &Pair) -> bool
+        ensures { result ≡ same_pair self.now other.now }
+    {
+        self.var == other.var && self.value == other.value
+    }
+}
+
+/// The id of an active constraint: decisions before negations before the constraints of users.
 #[derive(Clone, Copy, Debug, PartialEq, Eq, PartialOrd, Ord, Hash)]
 pub enum Cid {
     /// The decision on a variable.
@@ -50,4 +74,40 @@ pub enum Cid {
     Not(Pair),
     /// A constraint of the user, by its number.
     User(u32),
+}
+
+impl Cid {
+    /// The id again.
+    #[inline(always)]
+    pub fn copy(&self) -> Cid
+        ensures { result ≡ self.now }
+    {
+        match self {
+            Cid::Decide(var) => Cid::Decide(*var),
+            Cid::Not(pair) => Cid::Not(Pair {
+                var: pair.var,
+                value: pair.value,
+            }),
+            Cid::User(number) => Cid::User(*number),
+        }
+    }
+
+    /// Whether the two ids are one.
+    #[inline(always)]
+    pub fn is_same(&self, other: &Cid) -> bool
+        ensures { result ≡ same_cid self.now other.now }
+    {
+        self == other
+    }
+
+    /// Whether the id comes before the other one. Most ids are of users.
+    #[inline(always)]
+    pub fn is_before(&self, other: &Cid) -> bool
+        ensures { result ≡ cid_before self.now other.now }
+    {
+        match (self, other) {
+            (Cid::User(first), Cid::User(second)) => first < second,
+            _ => self < other,
+        }
+    }
 }

@@ -14,13 +14,13 @@ use Rattle.palm_model.specs.Limits.{IsValue}
 use Rattle.palm_model.specs.declared.constraint.Con.{Con}
 
 -- a variable
-pub record Entry : Type 0 where
+pub record BookVar : Type 0 where
   pub name : List ℕ
   pub values : List ℤ
 
 -- the variables in the order of their declarations, and the constraints by rising number
 pub record Contents : Type 0 where
-  pub variables : List Entry
+  pub variables : List BookVar
   pub constraints : List BookCon
 
 -- the book whose variables and constraints stand under their names
@@ -28,11 +28,11 @@ abbrev pub contents : List (List ℕ × List ℤ) → List (List ℕ × BookCon)
 contents variables constraints = record { variables = map (λ e. record { name = e.0; values = e.1 }) variables; constraints = map (λ e. e.1) constraints }
 
 -- the name of a variable, and of nothing where there is none
-abbrev pub name_of : List Entry → ℕ → List ℕ
+abbrev pub name_of : List BookVar → ℕ → List ℕ
 name_of variables x = (slice_index_or variables x (record { name = []; values = [] })).name
 
 -- the initial values of a variable, and none where there is none
-abbrev pub values_at : List Entry → ℕ → List ℤ
+abbrev pub values_at : List BookVar → ℕ → List ℤ
 values_at variables x = (slice_index_or variables x (record { name = []; values = [] })).values
 
 -- the constraint at the place is active or relaxed

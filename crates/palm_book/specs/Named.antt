@@ -13,17 +13,17 @@ use Rattle.palm_read.specs.declared.line.NameTarget.TheVariants.{Const as ConstT
 use Rattle.palm_read.specs.declared.line.NameTerm.{NameTerm}
 use Rattle.palm_read.specs.declared.line.Shape.{Shape}
 use Rattle.palm_read.specs.declared.line.Shape.TheVariants.{CompareVar, CompareConst, Linear, Table, Element, Count, Differ}
-use Rattle.palm_book.specs.Book.{Entry, name_of}
+use Rattle.palm_book.specs.Book.{BookVar, name_of}
 
-abbrev pub named_target : List Entry → Target → NameTarget
+abbrev pub named_target : List BookVar → Target → NameTarget
 named_target variables (Const w) = ConstTarget w
 named_target variables (Variable x) = VariableTarget (name_of variables x)
 
-abbrev pub named_term : List Entry → Term → NameTerm
+abbrev pub named_term : List BookVar → Term → NameTerm
 named_term variables t = record { factor = t.factor; name = name_of variables t.var }
 
 -- a constraint with the names of its variables
-abbrev pub named : List Entry → Con → Shape
+abbrev pub named : List BookVar → Con → Shape
 named variables (CompareVarCon left op right offset) = CompareVar (name_of variables left) op (name_of variables right) offset
 named variables (CompareConstCon left op value) = CompareConst (name_of variables left) op value
 named variables (LinearCon terms op bound) = Linear (map (named_term variables) terms) op bound
@@ -33,24 +33,24 @@ named variables (CountCon value vars op target) = Count value (map (name_of vari
 named variables (DifferCon vars) = Differ (map (name_of variables) vars)
 
 -- the variable has the name
-pub record IsVariable (variables : List Entry) (name : List ℕ) (x : ℕ) : Type 0 where
+pub record IsVariable (variables : List BookVar) (name : List ℕ) (x : ℕ) : Type 0 where
   pub declared : x < length variables
   pub named : name_of variables x ≡ name
 
 -- the pair has the value, and its variable has the name
-pub record IsPair (variables : List Entry) (name : List ℕ) (value : ℤ) (pair : Pair) : Type 0 where
+pub record IsPair (variables : List BookVar) (name : List ℕ) (value : ℤ) (pair : Pair) : Type 0 where
   pub variable : IsVariable variables name pair.var
   pub gives : pair.value ≡ value
 
 -- the variable with the name was declared with the value
-abbrev pub IsDeclared : List Entry → List ℕ → ℤ → Type 0
+abbrev pub IsDeclared : List BookVar → List ℕ → ℤ → Type 0
 IsDeclared variables name value = Any (λ e. (e.name ≡ name) × Contains e.values value) variables
 
 -- no variable has the name
-abbrev pub IsUnknownName : List Entry → List ℕ → Type 0
+abbrev pub IsUnknownName : List BookVar → List ℕ → Type 0
 IsUnknownName variables name = Any (λ e. e.name ≡ name) variables → ⊥
 
 -- the constraint says what the shape says, of the variables with these names
-pub record Resolves (variables : List Entry) (shape : Shape) (con : Con) : Type 0 where
+pub record Resolves (variables : List BookVar) (shape : Shape) (con : Con) : Type 0 where
   pub declared : All (λ x. x < length variables) (scope con)
   pub says : named variables con ≡ shape

@@ -1,8 +1,18 @@
-//! A law of books.
-ghost use Rattle.palm_model.specs.Log.{Rises, cids_of};
+//! Laws of books.
+ghost use Rattle.std.specs.Prelude.{◌≡◌};
+ghost use Rattle.palm_base.specs.Order.{Rises};
+ghost use Rattle.palm_model.specs.Log.{cids_of};
 ghost use Rattle.palm_book.specs.Book.{Contents, IsBook, active_of};
+ghost use Rattle.palm_book.specs.declared.limits.TheConstants.{MOST_ADDED, MOST_CONSTRAINTS, MOST_VARIABLES};
 
-/// The active constraints of a book stand under rising names.
+/// The numbers of the limits of a book.
+pub fn limits_are_these_numbers()
+    ensures variables { MOST_VARIABLES ≡ 64 }
+    ensures constraints { MOST_CONSTRAINTS ≡ 256 }
+    ensures added { MOST_ADDED ≡ 65535 }
+{}
+
+/// The active constraints of a book stand under rising ids.
 pub fn active_constraints_rise()
     ensures rise { (book : Contents) → IsBook book → Rises (cids_of (active_of book)) }
 {}

@@ -10,6 +10,6 @@ mod resolve;
 
 pub use book::{Book, BookCon};
 pub use domains::values_in;
-pub use laws::active_constraints_rise;
+pub use laws::{active_constraints_rise, limits_are_these_numbers};
 pub use limits::{MOST_ADDED, MOST_CONSTRAINTS, MOST_VARIABLES};
 pub use resolve::Unresolved;

@@ -13,7 +13,8 @@ use Rattle.palm_base.specs.declared.terms.Cid.TheVariants.{User}
 use Rattle.palm_base.proofs.cited.Members.{map_agree, member_single, member_get, member_here}
 use Rattle.palm_book.specs.Book.{Contents, IsBook}
 use Rattle.palm_book.specs.declared.book.BookCon.{BookCon}
-use Rattle.palm_model.specs.Log.{Removal, log_pairs, same_cid}
+use Rattle.palm_base.specs.Order.{same_cid}
+use Rattle.palm_model.specs.Log.{Removal, log_pairs}
 use Rattle.palm_explain.specs.Explanations.{IsLinked}
 use Rattle.palm_cert.specs.Certificate.{asked, is_asked, is_cited, pairs_with}
 use Rattle.palm_cert.specs.Needs.{cites_of, marks_of}

@@ -6,7 +6,7 @@ use Rattle.std.proofs.lemmas.Int.{ints}
 use Rattle.std.proofs.lemmas.List.{length-map}
 use Rattle.std.proofs.lemmas.List.Elements.{All-contains, All-head, All-map, All-tail, All-weaker}
 use Rattle.palm_base.proofs.cited.Members.{member_same, member_unmap}
-use Rattle.palm_book.specs.Book.{AreValues, Contents, Entry, IsBook, name_of, values_at}
+use Rattle.palm_book.specs.Book.{AreValues, Contents, BookVar, IsBook, name_of, values_at}
 use Rattle.palm_book.specs.Named.{named, named_target, named_term}
 use Rattle.palm_book.proofs.cited.Resolving.{scope_names}
 use Rattle.palm_lang.specs.Reply.{ended, is_interval, last_of, var_line}
@@ -111,15 +111,15 @@ var_says name (v ∷ vs) text are = go (is_interval (v ∷ vs)) refl
 
 -- ---- names of variables
 
-pub name_text : (variables : List Entry) (x : ℕ) → All (λ e. IsNameText e.name) variables → x < length variables → IsNameText (name_of variables x)
+pub name_text : (variables : List BookVar) (x : ℕ) → All (λ e. IsNameText e.name) variables → x < length variables → IsNameText (name_of variables x)
 name_text [] x h lt = absurd (omega (arith, lt))
-name_text (e ∷ es) zero h lt = All-head (λ (f : Entry). IsNameText f.name) e es h
-name_text (e ∷ es) (suc x) h lt = name_text es x (All-tail (λ (f : Entry). IsNameText f.name) e es h) (omega (arith, lt))
+name_text (e ∷ es) zero h lt = All-head (λ (f : BookVar). IsNameText f.name) e es h
+name_text (e ∷ es) (suc x) h lt = name_text es x (All-tail (λ (f : BookVar). IsNameText f.name) e es h) (omega (arith, lt))
 
-pub are_values : (variables : List Entry) (x : ℕ) → All (λ e. AreValues e.values) variables → x < length variables → AreValues (values_at variables x)
+pub are_values : (variables : List BookVar) (x : ℕ) → All (λ e. AreValues e.values) variables → x < length variables → AreValues (values_at variables x)
 are_values [] x h lt = absurd (omega (arith, lt))
-are_values (e ∷ es) zero h lt = All-head (λ (f : Entry). AreValues f.values) e es h
-are_values (e ∷ es) (suc x) h lt = are_values es x (All-tail (λ (f : Entry). AreValues f.values) e es h) (omega (arith, lt))
+are_values (e ∷ es) zero h lt = All-head (λ (f : BookVar). AreValues f.values) e es h
+are_values (e ∷ es) (suc x) h lt = are_values es x (All-tail (λ (f : BookVar). AreValues f.values) e es h) (omega (arith, lt))
 
 -- the line of each variable of a book says it
 pub variable_says : (book : Contents) → IsBook book → (x : ℕ) → x < length book.variables → (line : List ℕ) × IsDeclaredBy book.variables x line
@@ -128,9 +128,9 @@ variable_says book is x lt =
     (v.line, record { domain = v.domain; values = v.same; ends = v.ends; says = v.reads; near = v.near })
 
 -- different variables have different names
-name_same : (variables : List Entry) (x y : ℕ) → AllPairs (λ e f. e.name ≢ f.name) variables → x < length variables → y < length variables → name_of variables x ≡ name_of variables y → x ≡ y
+name_same : (variables : List BookVar) (x y : ℕ) → AllPairs (λ e f. e.name ≢ f.name) variables → x < length variables → y < length variables → name_of variables x ≡ name_of variables y → x ≡ y
 name_same variables x y different here there e =
-    let none : Entry = record { name = []; values = [] } in
+    let none : BookVar = record { name = []; values = [] } in
     elim (cases_lt x y) [
       | inl before ↦ absurd (different x y none before there e)
       | inr after ↦ elim (cases_lt y x) [
@@ -139,7 +139,7 @@ name_same variables x y different here there e =
       ]
     ]
 
-no_repeat : (variables : List Entry) (xs : List ℕ) → AllPairs (λ e f. e.name ≢ f.name) variables → All (λ x. x < length variables) xs → Distinct xs → Repeats (map (name_of variables) xs) → ⊥
+no_repeat : (variables : List BookVar) (xs : List ℕ) → AllPairs (λ e f. e.name ≢ f.name) variables → All (λ x. x < length variables) xs → Distinct xs → Repeats (map (name_of variables) xs) → ⊥
 no_repeat variables [] different declared distinct r = r
 no_repeat variables (x ∷ xs) different declared distinct r =
     let later = All-tail (λ (y : ℕ). y < length variables) x xs declared in
@@ -153,7 +153,7 @@ no_repeat variables (x ∷ xs) different declared distinct r =
 
 -- ---- a constraint of a book, with names
 
-module _ (variables : List Entry) where
+module _ (variables : List BookVar) where
   some_named : (f : ℕ → List ℕ) (xs : List ℕ) → 0 < length xs → 0 < length (map f xs)
   some_named f xs some = omega (arith, some, length-map xs f)
 

@@ -3,7 +3,7 @@ use Rattle.std.proofs.Common.{◌≡◌, ◌≢◌, ℕ, ℤ, ◌+◌, ◌<◌, 
 use Rattle.std.proofs.lemmas.List.{length-append, length-map, map-append}
 use Rattle.std.proofs.lemmas.List.Elements.{Contains-append_left, Contains-append_right, Contains-push, Contains-push_cases}
 use Rattle.palm_base.proofs.cited.Members.{member_here, member_map, member_nil, member_unmap}
-use Rattle.palm_book.specs.Book.{Contents, Entry, HasConstraint, HasVariable, name_of}
+use Rattle.palm_book.specs.Book.{Contents, BookVar, HasConstraint, HasVariable, name_of}
 use Rattle.palm_book.specs.Named.{named}
 use Rattle.palm_book.specs.declared.book.BookCon.{BookCon}
 use Rattle.palm_book.proofs.cited.Any.{member_any}
@@ -79,12 +79,12 @@ module _ (book : Contents) (us : List ℕ) (cs : List BookCon) (are : AreDeclare
   -- a variable has another name than those before it
   variable_new : (earlier : List ℕ) (x : ℕ) (later : List ℕ) → us ≡ earlier ++ x ∷ later → HasVariable (declaring earlier).book (name_of book.variables x) → ⊥
   variable_new earlier x later split has =
-      let a = member_any (λ (e : Entry). e.name ≡ name_of book.variables x) (entries book.variables earlier) has in
+      let a = member_any (λ (e : BookVar). e.name ≡ name_of book.variables x) (entries book.variables earlier) has in
       let y = member_unmap (entry book.variables) earlier a.0 a.1 in
       let here = subst (λ (zs : List ℕ). Contains zs x) (sym split) (Contains-append_right earlier (x ∷ later) x (member_here x later)) in
       let rises = subst (λ (zs : List ℕ). Before (λ (i j : ℕ). i < j) zs) split (before_from (λ (i j : ℕ). i < j) us are.rises) in
       let below = before_split (λ (i j : ℕ). i < j) earlier x later rises y.0 y.1 in
-      are.apart y.0 x (record { name = []; values = [] }) below (are.variables x here) (ap (λ (e : Entry). e.name) y.2 ∙ a.2)
+      are.apart y.0 x (record { name = []; values = [] }) below (are.variables x here) (ap (λ (e : BookVar). e.name) y.2 ∙ a.2)
 
   variable_room : (earlier : List ℕ) (x : ℕ) (later : List ℕ) → us ≡ earlier ++ x ∷ later → 64 ≤ length (entries book.variables earlier) → ⊥
   variable_room earlier x later split full =
@@ -92,14 +92,14 @@ module _ (book : Contents) (us : List ℕ) (cs : List BookCon) (are : AreDeclare
 
   variable_added : (earlier : List ℕ) (x : ℕ) (line : List ℕ) (d : IsDeclaredBy book.variables x line) → entries book.variables (earlier ++ x ∷ []) ≡ entries book.variables earlier ++ record { name = name_of book.variables x; values = values_in d.domain } ∷ []
   variable_added earlier x line d =
-      let build : List ℤ → Entry = λ values. record { name = name_of book.variables x; values = values } in
+      let build : List ℤ → BookVar = λ values. record { name = name_of book.variables x; values = values } in
       map-append (entry book.variables) earlier (x ∷ [])
       ∙ ap (λ (values : List ℤ). entries book.variables earlier ++ build values ∷ []) (sym d.values)
 
   variable_reads : (earlier : List ℕ) (x : ℕ) (later : List ℕ) (line : List ℕ) → us ≡ earlier ++ x ∷ later → IsDeclaredBy book.variables x line
       → Reads (declaring earlier) (declared_line book.variables x) (declaring (earlier ++ x ∷ []))
   variable_reads earlier x later line split d =
-      let build : List Entry → Draft = λ es. record { stage = Declaring; book = record { variables = es; constraints = [] }; proved = [] } in
+      let build : List BookVar → Draft = λ es. record { stage = Declaring; book = record { variables = es; constraints = [] }; proved = [] } in
       reads_line (declaring earlier) (declaring (earlier ++ x ∷ [])) line (declared_line book.variables x) d.ends
       (plain_read line (Var (name_of book.variables x) d.domain) (λ e. cc) d.says).plain
       (record {

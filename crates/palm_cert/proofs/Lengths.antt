@@ -8,7 +8,7 @@ use Rattle.std.proofs.lemmas.List.FromFn.{get_or-range_with_len, length-range_wi
 use Rattle.std.proofs.lemmas.Option.{slice_get_within}
 use Rattle.palm_base.specs.declared.terms.Pair.{Pair}
 use Rattle.palm_base.proofs.cited.Members.{all_members, filter_member, member_flat_map, member_here, member_map, member_nil, member_place, member_remove, member_same, member_there}
-use Rattle.palm_book.specs.Book.{AreValues, Entry, values_at}
+use Rattle.palm_book.specs.Book.{AreValues, BookVar, values_at}
 use Rattle.palm_claim.specs.Statement.{IsStepNumber}
 use Rattle.palm_model.specs.Log.{Removal, log_pairs}
 use Rattle.palm_cert.specs.Certificate.{is_asked, numbers_from, numbers_of, pairs_with}
@@ -35,20 +35,20 @@ apart_filter t (p ∷ ps) apart = apart_cond (t p) p (filter t ps) (λ m. apart.
 
 -- ---- the pairs of some variables
 
-abbrev pub pairs_over : List Entry → List ℕ → List Pair
+abbrev pub pairs_over : List BookVar → List ℕ → List Pair
 pairs_over variables xs = flat_map (λ x. pairs_with x (values_at variables x)) xs
 
-pub over_member : (variables : List Entry) (xs : List ℕ) (p : Pair) → Contains xs p.var → Contains (values_at variables p.var) p.value → Contains (pairs_over variables xs) p
+pub over_member : (variables : List BookVar) (xs : List ℕ) (p : Pair) → Contains xs p.var → Contains (values_at variables p.var) p.value → Contains (pairs_over variables xs) p
 over_member variables xs p among value =
     let pair = λ (v : ℤ). let q : Pair = record { var = p.var; value = v } in q in
     member_flat_map (λ x. pairs_with x (values_at variables x)) xs p.var p among (member_map pair (values_at variables p.var) p.value value)
 
-few_values : (variables : List Entry) (x : ℕ) → All (λ e. AreValues e.values) variables → length (values_at variables x) ≤ 256
+few_values : (variables : List BookVar) (x : ℕ) → All (λ e. AreValues e.values) variables → length (values_at variables x) ≤ 256
 few_values [] x h = omega arith
-few_values (e ∷ es) zero h = let are = All-head (λ (f : Entry). AreValues f.values) e es h in omega (arith, are.few)
-few_values (e ∷ es) (suc x) h = few_values es x (All-tail (λ (f : Entry). AreValues f.values) e es h)
+few_values (e ∷ es) zero h = let are = All-head (λ (f : BookVar). AreValues f.values) e es h in omega (arith, are.few)
+few_values (e ∷ es) (suc x) h = few_values es x (All-tail (λ (f : BookVar). AreValues f.values) e es h)
 
-pub over_few : (variables : List Entry) (xs : List ℕ) → All (λ e. AreValues e.values) variables → length (pairs_over variables xs) ≤ length xs * 256
+pub over_few : (variables : List BookVar) (xs : List ℕ) → All (λ e. AreValues e.values) variables → length (pairs_over variables xs) ≤ length xs * 256
 over_few variables [] h = omega arith
 over_few variables (x ∷ xs) h =
     let here = pairs_with x (values_at variables x) in
@@ -56,13 +56,13 @@ over_few variables (x ∷ xs) h =
     omega (arith, length-append here (pairs_over variables xs), length-map (values_at variables x) pair, few_values variables x h, over_few variables xs h)
 
 -- the variable of a value is declared
-pub within_book : (variables : List Entry) (x : ℕ) (v : ℤ) → Contains (values_at variables x) v → x < length variables
+pub within_book : (variables : List BookVar) (x : ℕ) (v : ℤ) → Contains (values_at variables x) v → x < length variables
 within_book [] x v m = absurd (member_nil v m)
 within_book (e ∷ es) zero v m = omega arith
 within_book (e ∷ es) (suc x) v m = let lt = within_book es x v m in omega (arith, lt)
 
 -- each variable of the book
-abbrev all_of : List Entry → List ℕ
+abbrev all_of : List BookVar → List ℕ
 all_of variables = range_with_len 0 (length variables)
 
 range_member : (n x : ℕ) → x < n → Contains (range_with_len 0 n) x
@@ -87,7 +87,7 @@ numbers_few steps reasons qs apart inside =
     omega (arith, numbers_length 1 steps reasons, short)
 
 -- steps over the variables of a book have step numbers
-pub are_step_numbers : (variables : List Entry) (steps : List Removal) (reasons : List Pair) → length variables ≤ 64 → All (λ e. AreValues e.values) variables → Apart (log_pairs steps)
+pub are_step_numbers : (variables : List BookVar) (steps : List Removal) (reasons : List Pair) → length variables ≤ 64 → All (λ e. AreValues e.values) variables → Apart (log_pairs steps)
     → ((p : Pair) → Contains (log_pairs steps) p → Contains (values_at variables p.var) p.value) → All IsStepNumber (numbers_of steps reasons)
 are_step_numbers variables steps reasons few values apart declared =
     let whole = pairs_over variables (all_of variables) in

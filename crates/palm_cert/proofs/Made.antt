@@ -50,11 +50,6 @@ pub at_ok : {T E P : Type 0} (r : Result T E) → P → OnOk r P
 at_ok (Ok t) p = p
 at_ok (Err e) p = tt
 
--- what holds at a good answer, and then more
-pub ok_then : {T E A : Type 0} (r : Result T E) (x y z : A) → OnOk r (x ≡ y) → y ≡ z → OnOk r (x ≡ z)
-ok_then (Ok t) x y z e f = e ∙ f
-ok_then (Err error) x y z e f = tt
-
 -- four texts, one after another
 pub in_turn : (first second third last : List ℕ) → first ++ (second ++ third ++ last) ≡ first ++ second ++ (third ++ last)
 in_turn first second third last = ap (λ (t : List ℕ). first ++ t) (append_assoc second third last) ∙ sym (append_assoc first second (third ++ last))

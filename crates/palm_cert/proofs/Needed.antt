@@ -7,9 +7,10 @@ use Rattle.palm_base.specs.declared.terms.Cid.TheVariants.{User}
 use Rattle.palm_base.proofs.cited.Members.{member_here, member_there, member_same, member_map, member_unmap, member_filter, filter_member}
 use Rattle.palm_book.specs.declared.book.BookCon.{BookCon}
 use Rattle.palm_book.proofs.cited.Any.{any_member, member_any}
-use Rattle.palm_events.proofs.cited.Names.{cid_same, same_cid_itself}
+use Rattle.palm_base.proofs.cited.CidOrder.{cid_same, same_cid_itself}
 use Rattle.palm_model.specs.Domains.{Domains}
-use Rattle.palm_model.specs.Log.{Active, AreRight, IsRight, IsWellFounded, Removal, Names, NamesOfPair, log_pairs, same_cid}
+use Rattle.palm_base.specs.Order.{same_cid}
+use Rattle.palm_model.specs.Log.{Active, AreRight, IsRight, IsWellFounded, Removal, Names, NamesOfPair, log_pairs}
 use Rattle.palm_model.specs.Log.Names.{by_itself, by_reason}
 use Rattle.palm_explain.specs.Explanations.{AreLinked, IsLinked, NamesOfSome}
 use Rattle.palm_cert.specs.Certificate.{asked, is_asked, is_cited, pairs_with, steps_of}

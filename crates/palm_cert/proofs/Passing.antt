@@ -1,15 +1,15 @@
 -- Texts whose lines lead from one draft to another, and the verdict on such a text.
-use Rattle.std.proofs.Common.{◌≡◌, ℕ, ◌+◌, true, List, [], ◌∷◌, ◌++◌, flat_map, All, inr, refl, sym, ap, ◌∙◌, subst, append_assoc, append-nil}
+use Rattle.std.proofs.Common.{◌≡◌, ℕ, ◌+◌, List, [], ◌∷◌, ◌++◌, flat_map, All, inr, refl, sym, ap, ◌∙◌, subst, append_assoc, append-nil}
 use Rattle.std.proofs.lemmas.List.Elements.{All-nil, All-cons}
+use Rattle.palm_base.specs.First.{IsNone}
 use Rattle.palm_base.specs.declared.terms.Pair.{Pair}
 use Rattle.palm_book.specs.Book.{Contents}
 use Rattle.palm_claim.specs.Draft.{Draft, blank}
-use Rattle.palm_claim.specs.Verdict.{IsNone, IsVerdict, Judges, Meets, Passes, ending, in_order}
+use Rattle.palm_claim.specs.Verdict.{IsVerdict, Judges, Meets, Passes, ending, in_order}
 use Rattle.palm_claim.specs.declared.statement.Stage.TheVariants.{Closed}
 use Rattle.palm_claim.specs.declared.statement.Statement.{Statement}
 use Rattle.palm_claim.specs.declared.verdict.Cause.TheVariants.{Malformed, Misdeclared, Beyond, Unproved, NotRight, NotReached}
 use Rattle.palm_claim.specs.declared.verdict.Claim.{Claim}
-use Rattle.palm_claim.specs.declared.verdict.Verdict.{Verdict}
 use Rattle.palm_claim.specs.declared.verdict.Verdict.TheVariants.{Accepted}
 use Rattle.palm_lang.specs.Reply.{ended}
 use Rattle.palm_read.proofs.cited.Cutting.{IsOfPlain, ended_lines}

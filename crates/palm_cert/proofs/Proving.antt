@@ -4,7 +4,7 @@ use Rattle.std.proofs.lemmas.List.{get_or-map, length-map, map-append}
 use Rattle.std.proofs.lemmas.List.Elements.{All-contains, Contains-append_right}
 use Rattle.palm_base.specs.declared.terms.Pair.{Pair}
 use Rattle.palm_base.proofs.cited.Members.{member_here, member_map, member_same, member_unmap}
-use Rattle.palm_book.specs.Book.{Contents, Entry, HasConstraint, HasVariable, initial_of, name_of, user_name}
+use Rattle.palm_book.specs.Book.{Contents, BookVar, HasConstraint, HasVariable, initial_of, name_of, user_name}
 use Rattle.palm_book.specs.declared.book.BookCon.{BookCon}
 use Rattle.palm_book.proofs.cited.Any.{any_member, member_any}
 use Rattle.palm_claim.specs.Draft.{Draft, IsOpen}
@@ -71,7 +71,7 @@ module _ (book : Contents) (us : List ℕ) (cs acc : List BookCon) (are : AreDec
   abbrev pub proving : Stage → List Pair → Draft
   proving stage proved = record { stage = stage; book = own; proved = proved }
 
-  apart : AllPairs (λ (e f : Entry). e.name ≢ f.name) own.variables
+  apart : AllPairs (λ (e f : BookVar). e.name ≢ f.name) own.variables
   apart = entries_apart book.variables us are.variables are.rises are.apart
 
   -- ---- variables
@@ -90,11 +90,11 @@ module _ (book : Contents) (us : List ℕ) (cs acc : List BookCon) (are : AreDec
 
   own_declared : (p : Pair) → Contains us p.var → Has (initial_of book) p.var p.value → IsDeclared own.variables (name_of book.variables p.var) p.value
   own_declared p m has =
-      any_member (λ (e : Entry). (e.name ≡ name_of book.variables p.var) × Contains e.values p.value) own.variables (entry book.variables p.var) (place_member book.variables us p.var m)
+      any_member (λ (e : BookVar). (e.name ≡ name_of book.variables p.var) × Contains e.values p.value) own.variables (entry book.variables p.var) (place_member book.variables us p.var m)
       (refl, subst (λ (vs : List ℤ). Contains vs p.value) (values_same book.variables p.var) has)
 
   own_named : (x : ℕ) → Contains us x → HasVariable own (name_of book.variables x)
-  own_named x m = any_member (λ (e : Entry). e.name ≡ name_of book.variables x) own.variables (entry book.variables x) (place_member book.variables us x m) refl
+  own_named x m = any_member (λ (e : BookVar). e.name ≡ name_of book.variables x) own.variables (entry book.variables x) (place_member book.variables us x m) refl
 
   -- ---- a step
 

@@ -2,7 +2,7 @@
 use Rattle.std.proofs.Common.{◌≡◌, ℕ, ℤ, zero, suc, List, [], ◌∷◌, Contains, refl, sym, subst}
 use Rattle.palm_base.specs.declared.terms.Pair.{Pair}
 use Rattle.palm_base.proofs.cited.Members.{member_here, member_map, member_nil, member_same}
-use Rattle.palm_book.specs.Book.{Contents, Entry, initial_of, values_at}
+use Rattle.palm_book.specs.Book.{Contents, BookVar, initial_of, values_at}
 use Rattle.palm_claim.specs.Step.{IsReached}
 use Rattle.palm_claim.specs.declared.verdict.Claim.{Claim}
 use Rattle.palm_claim.specs.declared.verdict.Claim.TheVariants.{Gone, Conflict}
@@ -17,7 +17,7 @@ use Rattle.palm_cert.specs.Needs.{CanClaim}
 use Rattle.palm_cert.proofs.Links.{pair_logged, pair_removal}
 use Rattle.palm_cert.proofs.Needed.{needed_step, right_linked}
 
-pub values_same : (variables : List Entry) (x : ℕ) → values_of (initial_of (record { variables = variables; constraints = [] })) x ≡ values_at variables x
+pub values_same : (variables : List BookVar) (x : ℕ) → values_of (initial_of (record { variables = variables; constraints = [] })) x ≡ values_at variables x
 values_same [] x = refl
 values_same (e ∷ variables) zero = refl
 values_same (e ∷ variables) (suc x) = values_same variables x

@@ -6,7 +6,7 @@ use Rattle.std.proofs.lemmas.List.{get_or-map, length-map}
 use Rattle.std.proofs.lemmas.List.Elements.{Contains-append_left, Contains-append_right, Contains-get_or}
 use Rattle.std.proofs.lemmas.Option.{get_or_from_slice_get, none-some, same_Some, slice_get_within}
 use Rattle.palm_base.proofs.cited.Members.{all_members, member_get, member_here, member_nil, member_same, member_tail, member_there, member_unmap}
-use Rattle.palm_book.specs.Book.{Entry, name_of, values_at}
+use Rattle.palm_book.specs.Book.{BookVar, name_of, values_at}
 use Rattle.palm_book.specs.Named.{Resolves, named, named_target, named_term}
 use Rattle.palm_model.specs.Constraint.{scope}
 use Rattle.palm_model.specs.Count.{target_scope}
@@ -41,29 +41,29 @@ get_map f [] k x at = absurd (none-some x at)
 get_map f (y ∷ xs) zero x at = ap (λ z. Some (f z)) (same_Some y x at)
 get_map f (y ∷ xs) (suc k) x at = get_map f xs k x at
 
-module _ (variables : List Entry) where
+module _ (variables : List BookVar) where
   -- the variable's name and values
-  abbrev pub entry : ℕ → Entry
+  abbrev pub entry : ℕ → BookVar
   entry x = record { name = name_of variables x; values = values_at variables x }
 
   -- the variables of the certificate
-  abbrev pub entries : List ℕ → List Entry
+  abbrev pub entries : List ℕ → List BookVar
   entries xs = map entry xs
 
   -- a variable of the certificate is one of the book
-  pub entry_member : (xs : List ℕ) → ((x : ℕ) → Contains xs x → x < length variables) → (e : Entry) → Contains (entries xs) e → Contains variables e
+  pub entry_member : (xs : List ℕ) → ((x : ℕ) → Contains xs x → x < length variables) → (e : BookVar) → Contains (entries xs) e → Contains variables e
   entry_member xs declared e m =
       let r = member_unmap entry xs e m in
-      let none : Entry = record { name = []; values = [] } in
+      let none : BookVar = record { name = []; values = [] } in
       member_same variables (get_or variables r.0 none) e r.2 (Contains-get_or variables r.0 none (declared r.0 r.1))
 
   -- names that differ in the book differ in the certificate
-  pub entries_apart : (xs : List ℕ) → ((x : ℕ) → Contains xs x → x < length variables) → AllPairs (λ x y. x < y) xs → AllPairs (λ (e f : Entry). e.name ≢ f.name) variables → AllPairs (λ (e f : Entry). e.name ≢ f.name) (entries xs)
+  pub entries_apart : (xs : List ℕ) → ((x : ℕ) → Contains xs x → x < length variables) → AllPairs (λ x y. x < y) xs → AllPairs (λ (e f : BookVar). e.name ≢ f.name) variables → AllPairs (λ (e f : BookVar). e.name ≢ f.name) (entries xs)
   entries_apart xs declared rises apart i j d below within same =
       let long = length-map xs entry in
       let second : j < length xs = omega (arith, long, within) in
       let first : i < length xs = omega (arith, below, second) in
-      let at : (k : ℕ) → k < length xs → (get_or (entries xs) k d).name ≡ name_of variables (get_or xs k 0) = λ k lt. ap (λ (e : Entry). e.name) (get_or-map entry xs k 0 d lt) in
+      let at : (k : ℕ) → k < length xs → (get_or (entries xs) k d).name ≡ name_of variables (get_or xs k 0) = λ k lt. ap (λ (e : BookVar). e.name) (get_or-map entry xs k 0 d lt) in
       apart (get_or xs i 0) (get_or xs j 0) (record { name = []; values = [] }) (rises i j 0 below second) (declared (get_or xs j 0) (Contains-get_or xs j 0 second))
       (sym (at i first) ∙ same ∙ at j second)
 
@@ -78,14 +78,14 @@ module _ (variables : List Entry) where
     place_member = member_get (entries xs) (place_in xs x) (entry x) entry_placed
 
     pub place_name : name_of (entries xs) (place_in xs x) ≡ name_of variables x
-    place_name = ap (λ (e : Entry). e.name) (get_or_from_slice_get (entries xs) (place_in xs x) (entry x) (record { name = []; values = [] }) entry_placed)
+    place_name = ap (λ (e : BookVar). e.name) (get_or_from_slice_get (entries xs) (place_in xs x) (entry x) (record { name = []; values = [] }) entry_placed)
 
     pub place_values : values_at (entries xs) (place_in xs x) ≡ values_at variables x
-    place_values = ap (λ (e : Entry). e.values) (get_or_from_slice_get (entries xs) (place_in xs x) (entry x) (record { name = []; values = [] }) entry_placed)
+    place_values = ap (λ (e : BookVar). e.values) (get_or_from_slice_get (entries xs) (place_in xs x) (entry x) (record { name = []; values = [] }) entry_placed)
 
   -- ---- a constraint with the other numbers says the same
 
-  module _ (more : List Entry) (other : ℕ → ℕ) where
+  module _ (more : List BookVar) (other : ℕ → ℕ) where
     vars_named : (ys : List ℕ) → ((y : ℕ) → Contains ys y → name_of more (other y) ≡ name_of variables y) → map (name_of more) (map other ys) ≡ map (name_of variables) ys
     vars_named [] same = refl
     vars_named (y ∷ ys) same =

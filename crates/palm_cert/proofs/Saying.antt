@@ -2,7 +2,7 @@
 use Rattle.std.proofs.Common.{ℕ, ℤ, ◌+◌, ◌*◌, ◌≤◌, List, [], ◌∷◌, length, map, codes, All, refl, arith, decimal}
 use Rattle.std.proofs.lemmas.List.Elements.{All-head, All-tail}
 use Rattle.palm_base.specs.declared.terms.Pair.{Pair}
-use Rattle.palm_book.specs.Book.{Entry, name_of}
+use Rattle.palm_book.specs.Book.{BookVar, name_of}
 use Rattle.palm_claim.specs.Statement.{IsStepNumber, Says, conflict_claim_pieces, reasons_pieces, step_pieces, value_claim_pieces}
 use Rattle.palm_claim.specs.declared.statement.Statement.TheVariants.{ConflictClaim, Step, ValueClaim}
 use Rattle.palm_claim.specs.declared.verdict.Claim.TheVariants.{Gone, Conflict}
@@ -29,7 +29,7 @@ words_from : (ks : List ℕ) → All IsStepNumber ks → Words (5 + length ks * 
 words_from [] small = words_weaker 5 words_none (omega arith)
 words_from (k ∷ ks) small = words_keyword (codes "from") refl (words_numbers (k ∷ ks) small)
 
-module _ (variables : List Entry) where
+module _ (variables : List BookVar) where
   words_step : (pair : Pair) (by : List ℕ) (ks : List ℕ) → IsNameText (name_of variables pair.var) → IsNameText by → IsValue pair.value → All IsStepNumber ks
       → Words (100 + length ks * 11) (step_words variables pair by ks) (step_pieces (name_of variables pair.var) pair.value by ks)
   words_step pair by ks named cited value small =

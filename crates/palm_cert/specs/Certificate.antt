@@ -5,7 +5,7 @@ use Rattle.std.specs.Fmt.{signed_decimal}
 use Rattle.palm_base.specs.declared.terms.Pair.{Pair}
 use Rattle.palm_base.specs.declared.terms.Cid.TheVariants.{User}
 use Rattle.palm_read.specs.Words.{spaced}
-use Rattle.palm_book.specs.Book.{Contents, Entry, name_of, user_name, values_at}
+use Rattle.palm_book.specs.Book.{Contents, BookVar, name_of, user_name, values_at}
 use Rattle.palm_book.specs.Named.{named}
 use Rattle.palm_book.specs.declared.book.BookCon.{BookCon}
 use Rattle.palm_read.specs.Text.{text_of}
@@ -15,7 +15,8 @@ use Rattle.palm_lang.specs.declared.reply.Fixed.TheVariants.{End}
 use Rattle.palm_claim.specs.declared.verdict.Claim.{Claim}
 use Rattle.palm_claim.specs.declared.verdict.Claim.TheVariants.{Gone, Conflict}
 use Rattle.palm_model.specs.Domains.{is_among}
-use Rattle.palm_model.specs.Log.{Removal, same_cid}
+use Rattle.palm_base.specs.Order.{same_cid}
+use Rattle.palm_model.specs.Log.{Removal}
 use Rattle.palm_model.specs.State.{is_over}
 
 -- ---- what a claim is about
@@ -76,11 +77,11 @@ abbrev pub header_line : List ℕ
 header_line = ended (codes "palm-cert 1")
 
 -- "var" NAME DOMAIN
-abbrev pub declared_line : List Entry → ℕ → List ℕ
+abbrev pub declared_line : List BookVar → ℕ → List ℕ
 declared_line variables x = var_line (name_of variables x) (values_at variables x)
 
 -- "add" NAME ":" CONSTRAINT
-abbrev pub added_line : List Entry → BookCon → List ℕ
+abbrev pub added_line : List BookVar → BookCon → List ℕ
 added_line variables c = ended (text_of (Add c.name (named variables c.con)))
 
 -- the numbers of those of the steps that proved one of the pairs, where the first of the steps has the number k
@@ -98,7 +99,7 @@ from_words [] = []
 from_words (k ∷ ks) = codes "from" ∷ map decimal (k ∷ ks)
 
 -- "step" NAME VALUE "by" NAME, and the numbers
-abbrev pub step_words : List Entry → Pair → List ℕ → List ℕ → List (List ℕ)
+abbrev pub step_words : List BookVar → Pair → List ℕ → List ℕ → List (List ℕ)
 step_words variables pair by numbers =
     codes "step" ∷ name_of variables pair.var ∷ signed_decimal pair.value ∷ codes "by" ∷ by ∷ from_words numbers
 
@@ -107,11 +108,11 @@ abbrev pub step_line : Contents → List Removal → Removal → List ℕ
 step_line book steps r = ended (spaced (step_words book.variables r.pair (user_name book.constraints r.by) (numbers_of steps r.reasons)))
 
 -- "claim" NAME VALUE, or "claim" "conflict" NAME
-abbrev pub claim_words : List Entry → Claim → List (List ℕ)
+abbrev pub claim_words : List BookVar → Claim → List (List ℕ)
 claim_words variables (Gone pair) = codes "claim" ∷ name_of variables pair.var ∷ signed_decimal pair.value ∷ []
 claim_words variables (Conflict x) = codes "claim" ∷ codes "conflict" ∷ name_of variables x ∷ []
 
-abbrev pub claim_line : List Entry → Claim → List ℕ
+abbrev pub claim_line : List BookVar → Claim → List ℕ
 claim_line variables claim = ended (spaced (claim_words variables claim))
 
 -- ---- the text

@@ -1,6 +1,6 @@
 -- What must be known of a certificate's lines before it can be judged: each says what was written.
 use Rattle.std.specs.Prelude.{◌≡◌, ℕ, ◌<◌, List, length, codes, Contains}
-use Rattle.palm_book.specs.Book.{Contents, Entry, name_of, user_name, values_at}
+use Rattle.palm_book.specs.Book.{Contents, BookVar, name_of, user_name, values_at}
 use Rattle.palm_book.specs.Named.{named}
 use Rattle.palm_book.specs.declared.book.BookCon.{BookCon}
 use Rattle.palm_cert.specs.Certificate.{claim_words, declared_line, numbers_of, step_words}
@@ -19,7 +19,7 @@ use Rattle.palm_read.specs.declared.line.DomainText.{DomainText}
 use Rattle.palm_read.specs.declared.line.Line.TheVariants.{Add, Var}
 
 -- the line of a variable says its name and its values, within the limits
-pub record IsDeclaredBy (variables : List Entry) (x : ℕ) (line : List ℕ) : Type 0 where
+pub record IsDeclaredBy (variables : List BookVar) (x : ℕ) (line : List ℕ) : Type 0 where
   pub domain : DomainText
   pub values : values_in domain ≡ values_at variables x
   pub ends : ended line ≡ declared_line variables x
@@ -27,7 +27,7 @@ pub record IsDeclaredBy (variables : List Entry) (x : ℕ) (line : List ℕ) : T
   pub near : IsBeyond (Var (name_of variables x) domain) → ⊥
 
 -- what a claim is to say
-abbrev pub claim_statement : List Entry → Claim → Statement
+abbrev pub claim_statement : List BookVar → Claim → Statement
 claim_statement variables (Gone pair) = ValueClaim (name_of variables pair.var) pair.value
 claim_statement variables (Conflict x) = ConflictClaim (name_of variables x)
 

@@ -4,7 +4,7 @@ ghost use Rattle.palm_book.specs.Book.{HasNumber, active_of, initial_of, number_
 ghost use Rattle.palm_cert.specs.Accepted.{IsAccepted};
 ghost use Rattle.palm_cert.specs.Certificate.{added_line, certificate_text, claim_line, claim_var, declarations, declared_line, header_line, step_line, step_words, used};
 ghost use Rattle.palm_cert.specs.Needs.{AreSteps, CanClaim, IsOfBook, declared_at, marked, marked_at};
-ghost use Rattle.palm_lang.specs.Reply.{ended, fixed_text};
+ghost use Rattle.palm_lang.specs.Reply.{ended};
 ghost use Rattle.palm_lang.specs.Writing.{Writes};
 ghost use Rattle.palm_model.specs.Constraint.{scope};
 ghost use Rattle.palm_read.specs.Words.{spaced};

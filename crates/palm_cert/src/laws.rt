@@ -2,7 +2,7 @@
 ghost use Rattle.std.specs.Prelude.{◌≡◌, ◌↔◌, ◌≤◌, ◌++◌, ◌∷◌, ℕ, ℤ, List, length, All, Contains, true};
 ghost use Rattle.palm_base.specs.declared.terms.Pair.{Pair};
 ghost use Rattle.palm_base.specs.declared.terms.Cid.TheVariants.{User};
-ghost use Rattle.palm_book.specs.declared.book.BookCon.{BookCon};
+ghost use Rattle.palm_book.specs.declared.book.BookCon.{BookCon as BookConTerm};
 ghost use Rattle.palm_book.specs.Book.{Contents, IsBook, active_of, initial_of, user_name};
 ghost use Rattle.palm_cert.specs.Certificate.{certificate_text, claimed, is_cited, numbers_of, pairs_with, steps_of};
 ghost use Rattle.palm_claim.specs.Step.{IsReached, IsRight};
@@ -36,7 +36,7 @@ pub fn steps_are_right_by_themselves()
 
 /// The constraints of a certificate are exactly those of the kept explanation of what is claimed to be gone.
 pub fn constraints_are_those_of_the_explanation()
-    ensures { (log : List Removal) (x : ℕ) (values : List ℤ) (c : BookCon) → IsLinked log
+    ensures { (log : List Removal) (x : ℕ) (values : List ℤ) (c : BookConTerm) → IsLinked log
         → (is_cited (steps_of log (pairs_with x values)) c ≡ true) ↔ NamesOfSome log x values (User c.number) }
 {}
 

@@ -14,4 +14,5 @@ pub use laws::{
     steps_are_right_behind_earlier_ones, steps_are_right_by_themselves,
     steps_are_what_the_claim_needs,
 };
+pub use needs::number_of;
 pub use palm_lang::WriteStop as CertStop;

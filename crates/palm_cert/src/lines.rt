@@ -7,47 +7,25 @@ ghost use Rattle.palm_lang.specs.Reply.{ended};
 ghost use Rattle.palm_model.specs.Constraint.{scope};
 ghost use Rattle.palm_read.specs.Words.{after_spaces, spaced};
 
-use palm_base::{NoMemory, Pair, Value, Var, push_int};
-use palm_lang::{Book, BookCon, Claim, Name, print_con};
-
-/// A fixed text.
-fn put_text(text: &str, out: &mut Vec<u8>) -> Result<(), NoMemory>
-    ensures { OnOk result (out.new.items ≡ out.old.items ++ text.now) }
-{
-    out.extend_from_slice(text.as_bytes())?;
-    Ok(())
-}
-
-/// A space and a name.
-fn put_name(name: &Name, out: &mut Vec<u8>) -> Result<(), NoMemory>
-    ensures { OnOk result (out.new.items ≡ out.old.items ++ (codes " " ++ name.now)) }
-{
-    put_text(" ", out)?;
-    out.extend_from_slice(name.as_slice())?;
-    Ok(())
-}
-
-/// A space and a value.
-fn put_value(value: &Value, out: &mut Vec<u8>) -> Result<(), NoMemory>
-    ensures { OnOk result (out.new.items ≡ out.old.items ++ (codes " " ++ signed_decimal value.now)) }
-{
-    put_text(" ", out)?;
-    push_int(out, i128::from(value.0))
-}
+use palm_base::{NoMemory, Pair, Var};
+use palm_lang::{
+    Book, BookCon, Claim, print_con, put_spaced_int, put_spaced_name, put_spaced_value, put_text,
+};
 
 /// A space and a number.
 fn put_number(number: usize, out: &mut Vec<u8>) -> Result<(), NoMemory>
     ensures { OnOk result (out.new.items ≡ out.old.items ++ (codes " " ++ decimal number)) }
 {
-    put_text(" ", out)?;
-    push_int(out, number as i128)
+    put_spaced_int(number as i128, out)?;
+    Ok(())
 }
 
 /// `palm-cert 1`
 pub fn put_header(out: &mut Vec<u8>) -> Result<(), NoMemory>
     ensures { OnOk result (out.new.items ≡ out.old.items ++ header_line) }
 {
-    put_text("palm-cert 1\n", out)
+    put_text("palm-cert 1\n", out)?;
+    Ok(())
 }
 
 /// `add NAME : CONSTRAINT`
@@ -56,10 +34,11 @@ pub fn put_added(book: &Book, entry: &BookCon, out: &mut Vec<u8>) -> Result<(), 
     ensures { OnOk result (out.new.items ≡ out.old.items ++ added_line book.now.variables entry.now) }
 {
     put_text("add", out)?;
-    put_name(&entry.name, out)?;
+    put_spaced_name(&entry.name, out)?;
     put_text(" : ", out)?;
     print_con(book, &entry.con, out)?;
-    put_text("\n", out)
+    put_text("\n", out)?;
+    Ok(())
 }
 
 /// ` from K K`, where there is a number
@@ -96,12 +75,13 @@ pub fn put_step(
     ensures { OnOk result (out.new.items ≡ out.old.items ++ ended (spaced (step_words book.now.variables pair.now (number_name book.now.constraints by) numbers.now))) }
 {
     put_text("step", out)?;
-    put_name(book.variable_name(pair.var), out)?;
-    put_value(&pair.value, out)?;
+    put_spaced_name(book.variable_name(pair.var), out)?;
+    put_spaced_value(&pair.value, out)?;
     put_text(" by", out)?;
-    put_name(book.constraint_name(by), out)?;
+    put_spaced_name(book.constraint_name(by), out)?;
     put_from(numbers, out)?;
-    put_text("\n", out)
+    put_text("\n", out)?;
+    Ok(())
 }
 
 /// `claim NAME VALUE` or `claim conflict NAME`
@@ -121,9 +101,10 @@ fn put_gone(book: &Book, pair: &Pair, out: &mut Vec<u8>) -> Result<(), NoMemory>
     ensures { OnOk result (out.new.items ≡ out.old.items ++ claim_line book.now.variables (Claim.Gone pair.now)) }
 {
     put_text("claim", out)?;
-    put_name(book.variable_name(pair.var), out)?;
-    put_value(&pair.value, out)?;
-    put_text("\n", out)
+    put_spaced_name(book.variable_name(pair.var), out)?;
+    put_spaced_value(&pair.value, out)?;
+    put_text("\n", out)?;
+    Ok(())
 }
 
 /// `claim conflict NAME`
@@ -132,6 +113,7 @@ fn put_conflict(book: &Book, var: Var, out: &mut Vec<u8>) -> Result<(), NoMemory
     ensures { OnOk result (out.new.items ≡ out.old.items ++ claim_line book.now.variables (Claim.Conflict var)) }
 {
     put_text("claim conflict", out)?;
-    put_name(book.variable_name(var), out)?;
-    put_text("\n", out)
+    put_spaced_name(book.variable_name(var), out)?;
+    put_text("\n", out)?;
+    Ok(())
 }

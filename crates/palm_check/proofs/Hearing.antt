@@ -4,6 +4,7 @@ use Rattle.std.proofs.lemmas.Bool.{cases_lt}
 use Rattle.std.proofs.lemmas.List.{get_or_default}
 use Rattle.std.proofs.lemmas.List.Elements.{All-contains}
 use Rattle.std.proofs.lemmas.Option.{none-some, slice_get_cases}
+use Rattle.palm_base.specs.First.{IsFirst, IsNone}
 use Rattle.palm_base.specs.declared.terms.Pair.{Pair}
 use Rattle.palm_base.proofs.cited.Members.{Known, all_members, any_known, member_get}
 use Rattle.palm_book.specs.Book.{Contents, initial_of}
@@ -14,7 +15,7 @@ use Rattle.palm_model.specs.Support.{LacksSupport}
 use Rattle.palm_claim.specs.Draft.{Draft, MayStand}
 use Rattle.palm_claim.specs.Statement.{IsStepNumber}
 use Rattle.palm_claim.specs.Step.{IsRight, pairs_at}
-use Rattle.palm_claim.specs.Verdict.{HasUnproved, IsBeyondLimits, IsFirst, IsMisdeclared, IsNone, IsNotReached, IsNotRight, Meets, in_order}
+use Rattle.palm_claim.specs.Verdict.{HasUnproved, IsBeyondLimits, IsMisdeclared, IsNotReached, IsNotRight, Meets, in_order}
 use Rattle.palm_claim.specs.declared.statement.Statement.{Statement}
 use Rattle.palm_claim.specs.declared.verdict.Cause.TheVariants.{Malformed, Misdeclared, Beyond, Unproved, NotRight}
 

@@ -4,7 +4,7 @@ use Rattle.std.proofs.lemmas.List.{map_push}
 use Rattle.std.proofs.lemmas.List.Elements.{All-contains, All-push, All-weaker}
 use Rattle.palm_base.specs.declared.terms.Pair.{Pair}
 use Rattle.palm_base.proofs.cited.Members.{all_members, member_unmap}
-use Rattle.palm_book.specs.Book.{Contents, Entry, initial_of, with_listed, with_variable}
+use Rattle.palm_book.specs.Book.{Contents, BookVar, initial_of, with_listed, with_variable}
 use Rattle.palm_claim.specs.Draft.{Draft}
 use Rattle.palm_claim.specs.Step.{pair_at, pairs_at}
 use Rattle.palm_claim.specs.declared.statement.Stage.TheVariants.{Proving}
@@ -34,9 +34,9 @@ has_push (w ∷ ws) vs (suc x) v h = has_push ws vs x v h
 pub keeps_variable : (before after : Listed) (proved : List Pair) (name : List ℕ) (vs : List ℤ)
     → AreKept before proved → IsListed after → after.book ≡ with_variable before.book name vs → AreKept after proved
 keeps_variable before after proved name vs kept lists same =
-    let entry : Entry = record { name = name; values = vs } in
+    let entry : BookVar = record { name = name; values = vs } in
     let bigger : Contents = with_variable before.book name vs in
-    let pushed : initial_of bigger ≡ initial_of before.book ++ vs ∷ [] = map_push (λ (e : Entry). e.values) before.book.variables entry in
+    let pushed : initial_of bigger ≡ initial_of before.book ++ vs ∷ [] = map_push (λ (e : BookVar). e.values) before.book.variables entry in
     let declared : All (λ (p : Pair). Has (initial_of bigger) p.var p.value) proved =
     All-weaker (λ (p : Pair). Has (initial_of before.book) p.var p.value) (λ (p : Pair). Has (initial_of bigger) p.var p.value)
     (λ p h. subst (λ (ds : Domains). Has ds p.var p.value) (sym pushed) (has_push (initial_of before.book) vs p.var p.value h)) proved kept.declared in

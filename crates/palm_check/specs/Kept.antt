@@ -1,5 +1,6 @@
 -- What the checker keeps of a certificate, and what it answers to a line.
 use Rattle.std.specs.Prelude.{ℕ, Option, Some, None, List, All, ⊤}
+use Rattle.palm_base.specs.First.{IsFirst, IsNone}
 use Rattle.palm_base.specs.declared.terms.Pair.{Pair}
 use Rattle.palm_book.specs.Book.{initial_of}
 use Rattle.palm_listed.specs.Lists.{IsListed}
@@ -10,7 +11,7 @@ use Rattle.palm_read.specs.Sound.{IsSound}
 use Rattle.palm_read.specs.declared.line.Line.TheVariants.{Var, Add}
 use Rattle.palm_claim.specs.Draft.{Draft, Leads}
 use Rattle.palm_claim.specs.Statement.{IsStepNumber, Says}
-use Rattle.palm_claim.specs.Verdict.{IsFirst, IsNone, IsRefusedFor, Meets, Passes, in_order}
+use Rattle.palm_claim.specs.Verdict.{IsRefusedFor, Meets, Passes, in_order}
 use Rattle.palm_claim.specs.declared.statement.Statement.{Statement}
 use Rattle.palm_claim.specs.declared.statement.Statement.TheVariants.{Variable, Constraint, Step}
 use Rattle.palm_claim.specs.declared.verdict.Cause.{Cause}
@@ -26,8 +27,8 @@ pub record AreKept (listed : Listed) (proved : List Pair) : Type 0 where
   pub lists : IsListed listed
   pub declared : All (λ p. Has (initial_of listed.book) p.var p.value) proved
 
-abbrev pub IsKept : Checker → Type 0
-IsKept c = AreKept c.listed c.proved.items
+abbrev pub IsChecker : Checker → Type 0
+IsChecker c = AreKept c.listed c.proved.items
 
 -- what every statement that a line says keeps to
 abbrev pub IsSoundStatement : Statement → Type 0
@@ -37,14 +38,14 @@ IsSoundStatement (Step name value by reasons) = All IsStepNumber reasons
 IsSoundStatement _ = ⊤
 
 -- what is answered to a statement: its first cause, or that it has none, and then the draft behind it
-abbrev pub Hears : Draft → Statement → Option Cause → Draft → Type 0
-Hears d s None e = IsNone (Meets d s) in_order × Leads d s e
-Hears d s (Some cause) e = IsFirst (Meets d s) in_order cause
+abbrev pub TakesStatement : Draft → Statement → Option Cause → Draft → Type 0
+TakesStatement d s None e = IsNone (Meets d s) in_order × Leads d s e
+TakesStatement d s (Some cause) e = IsFirst (Meets d s) in_order cause
 
 -- and to a line
-abbrev pub Takes : Draft → List ℕ → Option Cause → Draft → Type 0
-Takes d line None e = Passes d line e
-Takes d line (Some cause) e = IsRefusedFor d line cause
+abbrev pub TakesLine : Draft → List ℕ → Option Cause → Draft → Type 0
+TakesLine d line None e = Passes d line e
+TakesLine d line (Some cause) e = IsRefusedFor d line cause
 
 -- the statement breaks a limit by itself
 abbrev pub IsBeyondAlone : Statement → Type 0

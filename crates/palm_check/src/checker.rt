@@ -2,8 +2,8 @@
 ghost use Rattle.std.specs.Prelude.{◌≡◌, ◌<◌, ◌≤◌, Some, length, slice_get, All, IfOk, OnOk};
 ghost use Rattle.palm_base.specs.Tells.{Tells};
 ghost use Rattle.palm_book.specs.Book.{AreValues, HasConstraint, HasVariable, initial_of};
-ghost use Rattle.palm_book.specs.declared.book.BookCon.{BookCon as Entry};
-ghost use Rattle.palm_check.specs.Kept.{Hears, IsBeyondAlone, IsKept, IsSoundStatement, Takes, draft_of};
+ghost use Rattle.palm_book.specs.declared.book.BookCon.{BookCon as BookConTerm};
+ghost use Rattle.palm_check.specs.Kept.{TakesStatement, IsBeyondAlone, IsChecker, IsSoundStatement, TakesLine, draft_of};
 ghost use Rattle.palm_claim.specs.Draft.{Leads, MayStand, blank, with_constraint, with_variable};
 ghost use Rattle.palm_claim.specs.Statement.{IsStepNumber};
 ghost use Rattle.palm_claim.specs.Step.{IsReached, pairs_at};
@@ -39,7 +39,7 @@ impl Checker {
     /// No line was read.
     pub fn new(alloc: Global) -> Checker
         ensures blank { draft_of result ≡ blank }
-        ensures kept { IsKept result }
+        ensures kept { IsChecker result }
     {
         Checker {
             alloc,
@@ -49,11 +49,11 @@ impl Checker {
         }
     }
 
-    /// Takes the next line, or answers its first cause.
+    /// TakesLine the next line, or answers its first cause.
     pub fn take(&mut self, line: &[u8]) -> Result<Option<Cause>, NoMemory>
-        requires { IsKept self.old }
-        ensures takes { IfOk result (λ cause. Takes (draft_of self.old) line.now cause (draft_of self.new)) }
-        ensures kept { OnOk result (IsKept self.new) }
+        requires { IsChecker self.old }
+        ensures takes { IfOk result (λ cause. TakesLine (draft_of self.old) line.now cause (draft_of self.new)) }
+        ensures kept { OnOk result (IsChecker self.new) }
     {
         let Some(
             Reading {
@@ -70,15 +70,15 @@ impl Checker {
         self.hear(statement, is_beyond)
     }
 
-    /// Takes what a line says that may stand there, or answers its first cause. It is told whether the line breaks a limit
+    /// TakesLine what a line says that may stand there, or answers its first cause. It is told whether the line breaks a limit
     /// by itself.
     fn hear(&mut self, statement: Statement, is_beyond: bool) -> Result<Option<Cause>, NoMemory>
         requires stands { MayStand self.old.stage statement }
         requires sound { IsSoundStatement statement }
         requires beyond { Tells is_beyond (IsBeyondAlone statement) }
-        requires kept { IsKept self.old }
-        ensures hears { IfOk result (λ cause. Hears (draft_of self.old) statement cause (draft_of self.new)) }
-        ensures kept { OnOk result (IsKept self.new) }
+        requires kept { IsChecker self.old }
+        ensures takes { IfOk result (λ cause. TakesStatement (draft_of self.old) statement cause (draft_of self.new)) }
+        ensures kept { OnOk result (IsChecker self.new) }
     {
         match statement {
             Statement::Comment => Ok(None),
@@ -103,7 +103,7 @@ impl Checker {
         }
     }
 
-    /// Takes a variable.
+    /// TakesLine a variable.
     fn declare(
         &mut self,
         name: Name,
@@ -113,9 +113,9 @@ impl Checker {
         requires stands { MayStand self.old.stage (Statement.Variable name domain) }
         requires sound { IsSoundStatement (Statement.Variable name domain) }
         requires beyond { Tells is_beyond (IsBeyondAlone (Statement.Variable name domain)) }
-        requires kept { IsKept self.old }
-        ensures hears { IfOk result (λ cause. Hears (draft_of self.old) (Statement.Variable name domain) cause (draft_of self.new)) }
-        ensures kept { OnOk result (IsKept self.new) }
+        requires kept { IsChecker self.old }
+        ensures takes { IfOk result (λ cause. TakesStatement (draft_of self.old) (Statement.Variable name domain) cause (draft_of self.new)) }
+        ensures kept { OnOk result (IsChecker self.new) }
     {
         if self.listed.book.has_variable(&name) {
             return Ok(Some(Cause::Misdeclared));
@@ -130,26 +130,26 @@ impl Checker {
 
     /// Adds a variable.
     fn add_variable(&mut self, name: Name, values: ValueList) -> Result<(), NoMemory>
-        requires kept { IsKept self.old }
+        requires kept { IsChecker self.old }
         requires text { IsNameText name }
         requires fresh { HasVariable self.old.listed.book name → ⊥ }
         requires values { AreValues values }
         requires room { MOST_VARIABLES ≤ length self.old.listed.book.variables → ⊥ }
         ensures ok { OnOk result (draft_of self.new ≡ with_variable (draft_of self.old) name values) }
-        ensures kept { OnOk result (IsKept self.new) }
+        ensures kept { OnOk result (IsChecker self.new) }
     {
         self.listed.declare(name, values)?;
         Ok(())
     }
 
-    /// Takes a constraint.
+    /// TakesLine a constraint.
     fn list(&mut self, name: Name, shape: Shape, is_beyond: bool) -> Result<Option<Cause>, NoMemory>
         requires stands { MayStand self.old.stage (Statement.Constraint name shape) }
         requires sound { IsSoundStatement (Statement.Constraint name shape) }
         requires beyond { Tells is_beyond (IsBeyondAlone (Statement.Constraint name shape)) }
-        requires kept { IsKept self.old }
-        ensures hears { IfOk result (λ cause. Hears (draft_of self.old) (Statement.Constraint name shape) cause (draft_of self.new)) }
-        ensures kept { OnOk result (IsKept self.new) }
+        requires kept { IsChecker self.old }
+        ensures takes { IfOk result (λ cause. TakesStatement (draft_of self.old) (Statement.Constraint name shape) cause (draft_of self.new)) }
+        ensures kept { OnOk result (IsChecker self.new) }
     {
         if self.listed.book.has_constraint(&name) {
             return Ok(Some(Cause::Misdeclared));
@@ -168,20 +168,20 @@ impl Checker {
 
     /// Adds a constraint under the next number.
     fn add_constraint(&mut self, name: Name, con: Con) -> Result<(), NoMemory>
-        requires kept { IsKept self.old }
+        requires kept { IsChecker self.old }
         requires text { IsNameText name }
         requires fresh { HasConstraint self.old.listed.book name → ⊥ }
         requires formed { IsWellFormed (length self.old.listed.book.variables) con }
         requires room { MOST_CONSTRAINTS ≤ length self.old.listed.book.constraints → ⊥ }
         ensures ok { OnOk result (draft_of self.new ≡ with_constraint (draft_of self.old) name con) }
-        ensures kept { OnOk result (IsKept self.new) }
+        ensures kept { OnOk result (IsChecker self.new) }
     {
         self.listed.list(name, con)?;
         self.stage = Stage::Listing;
         Ok(())
     }
 
-    /// Takes a step.
+    /// TakesLine a step.
     fn prove(
         &mut self,
         name: &Name,
@@ -191,9 +191,9 @@ impl Checker {
     ) -> Result<Option<Cause>, NoMemory>
         requires stands { MayStand self.old.stage (Statement.Step name.now value by.now reasons.now) }
         requires sound { All IsStepNumber reasons.now }
-        requires kept { IsKept self.old }
-        ensures hears { IfOk result (λ cause. Hears (draft_of self.old) (Statement.Step name.now value by.now reasons.now) cause (draft_of self.new)) }
-        ensures kept { OnOk result (IsKept self.new) }
+        requires kept { IsChecker self.old }
+        ensures takes { IfOk result (λ cause. TakesStatement (draft_of self.old) (Statement.Step name.now value by.now reasons.now) cause (draft_of self.new)) }
+        ensures kept { OnOk result (IsChecker self.new) }
     {
         let Some(pair) = self.listed.declared_pair(name, value) else {
             return Ok(Some(Cause::Misdeclared));
@@ -223,25 +223,25 @@ impl Checker {
     /// Whether the pair lacks support in the constraint at a place within the declared values without the pairs of the
     /// reasons.
     fn is_right(&mut self, pair: &Pair, place: usize, reasons: &[u32]) -> Result<bool, NoMemory>
-        requires kept { IsKept self.old }
+        requires kept { IsChecker self.old }
         requires place { place < length self.old.listed.book.constraints }
         requires declared { Has (initial_of self.old.listed.book) pair.now.var pair.now.value }
         requires reasons { All (λ k. (1 ≤ k) × (k ≤ length self.old.proved.items)) reasons.now }
-        ensures tells { IfOk result (λ is. (c : Entry) → slice_get self.old.listed.book.constraints place ≡ Some c
+        ensures tells { IfOk result (λ is. (c : BookConTerm) → slice_get self.old.listed.book.constraints place ≡ Some c
             → Tells is (LacksSupport (without (initial_of self.old.listed.book) (pairs_at self.old.proved.items reasons.now)) c.con pair.now.var pair.now.value)) }
         ensures same { draft_of self.new ≡ draft_of self.old }
-        ensures kept { IsKept self.new }
+        ensures kept { IsChecker self.new }
     {
         let pairs = pairs_at(self.alloc, &self.proved, reasons)?;
         Ok(self.listed.lacks_support(pair, place, &pairs))
     }
 
-    /// Takes the claim that a value is gone.
+    /// TakesLine the claim that a value is gone.
     fn claim_value(&mut self, name: &Name, value: Value) -> Option<Cause>
         requires stands { MayStand self.old.stage (Statement.ValueClaim name.now value) }
-        requires kept { IsKept self.old }
-        ensures hears { Hears (draft_of self.old) (Statement.ValueClaim name.now value) result (draft_of self.new) }
-        ensures kept { IsKept self.new }
+        requires kept { IsChecker self.old }
+        ensures takes { TakesStatement (draft_of self.old) (Statement.ValueClaim name.now value) result (draft_of self.new) }
+        ensures kept { IsChecker self.new }
     {
         let Some(pair) = self.listed.declared_pair(name, value) else {
             return Some(Cause::Misdeclared);
@@ -253,12 +253,12 @@ impl Checker {
         None
     }
 
-    /// Takes the claim that a variable has no value.
+    /// TakesLine the claim that a variable has no value.
     fn claim_conflict(&mut self, name: &Name) -> Option<Cause>
         requires stands { MayStand self.old.stage (Statement.ConflictClaim name.now) }
-        requires kept { IsKept self.old }
-        ensures hears { Hears (draft_of self.old) (Statement.ConflictClaim name.now) result (draft_of self.new) }
-        ensures kept { IsKept self.new }
+        requires kept { IsChecker self.old }
+        ensures takes { TakesStatement (draft_of self.old) (Statement.ConflictClaim name.now) result (draft_of self.new) }
+        ensures kept { IsChecker self.new }
     {
         let Some(var) = self.listed.book.variable_named(name) else {
             return Some(Cause::Misdeclared);
@@ -272,32 +272,32 @@ impl Checker {
 
     /// Whether a step proved the pair.
     fn is_gone(&mut self, pair: &Pair) -> bool
-        requires kept { IsKept self.old }
+        requires kept { IsChecker self.old }
         requires declared { Has (initial_of self.old.listed.book) pair.now.var pair.now.value }
         ensures tells { Tells result (IsReached self.old.listed.book self.old.proved.items (Claim.Gone pair.now)) }
         ensures same { draft_of self.new ≡ draft_of self.old }
-        ensures kept { IsKept self.new }
+        ensures kept { IsChecker self.new }
     {
         self.listed.is_gone(pair, &self.proved)
     }
 
     /// Whether steps proved each value of the variable.
     fn is_empty(&mut self, var: Var) -> bool
-        requires kept { IsKept self.old }
+        requires kept { IsChecker self.old }
         requires declared { var < length self.old.listed.book.variables }
         ensures tells { Tells result (IsReached self.old.listed.book self.old.proved.items (Claim.Conflict var)) }
         ensures same { draft_of self.new ≡ draft_of self.old }
-        ensures kept { IsKept self.new }
+        ensures kept { IsChecker self.new }
     {
         self.listed.is_empty(var, &self.proved)
     }
 
-    /// Takes the end.
+    /// TakesLine the end.
     fn close(&mut self)
         requires stands { MayStand self.old.stage Statement.End }
-        requires kept { IsKept self.old }
+        requires kept { IsChecker self.old }
         ensures leads { Leads (draft_of self.old) Statement.End (draft_of self.new) }
-        ensures kept { IsKept self.new }
+        ensures kept { IsChecker self.new }
     {
         let stage = std::mem::replace(&mut self.stage, Stage::Unopened);
         if let Stage::Claimed(claim) = stage {

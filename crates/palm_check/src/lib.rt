@@ -8,4 +8,5 @@ mod reasons;
 mod statements;
 mod verdict;
 
+pub use palm_claim::{Cause, Proved, Verdict};
 pub use verdict::check;

@@ -1,9 +1,11 @@
 -- Every text has a verdict: whatever is asked of a line is known.
 use Rattle.std.proofs.Common.{◌≡◌, ℕ, ◌+◌, ◌<◌, ℤ, List, [], ◌∷◌, length, get_or, All, Any, Contains, ◌⊎◌, inl, inr, refl, ap, ◌∙◌, subst}
 use Rattle.std.proofs.lemmas.List.{get_or_default}
+use Rattle.palm_base.proofs.cited.FirstCauses.{first_known}
+use Rattle.palm_base.specs.First.{IsNone}
 use Rattle.palm_base.specs.declared.terms.Pair.{Pair}
 use Rattle.palm_base.proofs.cited.Members.{Known, all_members, any_known, int_known, known_both, known_like, known_not, list_known, member_known, nat_known}
-use Rattle.palm_book.specs.Book.{Contents, Entry, HasConstraint, HasVariable, initial_of}
+use Rattle.palm_book.specs.Book.{Contents, BookVar, HasConstraint, HasVariable, initial_of}
 use Rattle.palm_book.specs.Named.{IsDeclared, IsPair, IsUnknownName, IsVariable}
 use Rattle.palm_book.specs.declared.book.BookCon.{BookCon}
 use Rattle.palm_book.proofs.cited.Any.{any_member}
@@ -18,7 +20,7 @@ use Rattle.palm_read.specs.Domain.{values_in}
 use Rattle.palm_read.specs.Limits.{names_of}
 use Rattle.palm_claim.specs.Draft.{Draft, IsOpen, Leads, MayStand, at_stage, blank, with_constraint, with_step, with_variable}
 use Rattle.palm_claim.specs.Step.{IsReached, IsRight, pairs_at}
-use Rattle.palm_claim.specs.Verdict.{HasUnproved, IsBeyondLimits, IsFirst, IsMisdeclared, IsNone, IsNotReached, IsNotRight, IsRefusedFor, IsVerdict, Judges, Meets, Passes, ending, in_order}
+use Rattle.palm_claim.specs.Verdict.{HasUnproved, IsBeyondLimits, IsMisdeclared, IsNotReached, IsNotRight, IsRefusedFor, IsVerdict, Judges, Meets, Passes, ending, in_order}
 use Rattle.palm_claim.specs.declared.statement.Stage.{Stage}
 use Rattle.palm_claim.specs.declared.statement.Stage.TheVariants.{Unopened, Declaring, Listing, Proving, Claimed, Closed}
 use Rattle.palm_claim.specs.declared.statement.Statement.{Statement}
@@ -95,11 +97,11 @@ variable_known book name = name_known (λ e. e.name) book.variables name
 constraint_known : (book : Contents) (name : List ℕ) → Known (HasConstraint book name)
 constraint_known book name = name_known (λ c. c.name) book.constraints name
 
-declared_known : (variables : List Entry) (name : List ℕ) (value : ℤ) → Known (IsDeclared variables name value)
+declared_known : (variables : List BookVar) (name : List ℕ) (value : ℤ) → Known (IsDeclared variables name value)
 declared_known variables name value =
     some_known (λ e. (e.name ≡ name) × Contains e.values value) variables (λ e. known_both (list_known nat_known e.name name) (member_known int_known e.values value))
 
-unknown_known : (variables : List Entry) (name : List ℕ) → Known (IsUnknownName variables name)
+unknown_known : (variables : List BookVar) (name : List ℕ) → Known (IsUnknownName variables name)
 unknown_known variables name = known_not (name_known (λ e. e.name) variables name)
 
 misdeclared_known : (d : Draft) (s : Statement) → Known (IsMisdeclared d s)
@@ -113,7 +115,7 @@ misdeclared_known d (ConflictClaim name) = known_not (variable_known d.book name
 misdeclared_known d End = known_never
 
 -- a declared name and value are those of a pair
-pub pair_with : (variables : List Entry) (name : List ℕ) (value : ℤ) → IsDeclared variables name value → (pair : Pair) × IsPair variables name value pair
+pub pair_with : (variables : List BookVar) (name : List ℕ) (value : ℤ) → IsDeclared variables name value → (pair : Pair) × IsPair variables name value pair
 pair_with variables name value a =
     let x = variable_with variables name (a.0, a.1, a.2, a.3, a.4.0) in
     (record { var = x.0; value = value }, record { variable = record { declared = x.1; named = x.2 }; gives = refl })
@@ -169,13 +171,13 @@ reached_known book proved (Conflict x) =
     ]
 
 -- a variable that has the name is one that has it
-named_variable : (variables : List Entry) (name : List ℕ) (x : ℕ) → IsVariable variables name x → Any (λ e. e.name ≡ name) variables
+named_variable : (variables : List BookVar) (name : List ℕ) (x : ℕ) → IsVariable variables name x → Any (λ e. e.name ≡ name) variables
 named_variable variables name x is =
-    let none : Entry = record { name = []; values = [] } in
+    let none : BookVar = record { name = []; values = [] } in
     (x, get_or variables x none, is.declared, get_or_default variables x (get_or variables x none) none is.declared, is.named)
 
 -- what is asked of the one pair that a name and a value stand for
-asked_of_pair : (variables : List Entry) (name : List ℕ) (value : ℤ) (Wrong : Pair → Type 0) → Apart variables → ((p : Pair) → Known (Wrong p))
+asked_of_pair : (variables : List BookVar) (name : List ℕ) (value : ℤ) (Wrong : Pair → Type 0) → Apart variables → ((p : Pair) → Known (Wrong p))
     → Known ((pair : Pair) × IsPair variables name value pair × Wrong pair)
 asked_of_pair variables name value Wrong apart known = elim (declared_pair variables name value) [
   | inl r ↦ elim (known r.0) [
@@ -185,7 +187,7 @@ asked_of_pair variables name value Wrong apart known = elim (declared_pair varia
   | inr none ↦ inr (λ q. none (q.0, q.1))
 ]
   where
-    declared_pair : (variables : List Entry) (name : List ℕ) (value : ℤ) → Known ((pair : Pair) × IsPair variables name value pair)
+    declared_pair : (variables : List BookVar) (name : List ℕ) (value : ℤ) → Known ((pair : Pair) × IsPair variables name value pair)
     declared_pair variables name value = elim (name_known (λ e. e.name) variables name) [
       | inl a ↦ let x = variable_with variables name a in inl (record { var = x.0; value = value }, record { variable = record { declared = x.1; named = x.2 }; gives = refl })
       | inr none ↦ inr (λ q. none (named_variable variables name q.0.var q.1.variable))
@@ -202,7 +204,7 @@ not_right_known d (ValueClaim name value) apart = known_never
 not_right_known d (ConflictClaim name) apart = known_never
 not_right_known d End apart = known_never
 
-asked_of_variable : (variables : List Entry) (name : List ℕ) (Wrong : ℕ → Type 0) → Apart variables → ((x : ℕ) → Known (Wrong x))
+asked_of_variable : (variables : List BookVar) (name : List ℕ) (Wrong : ℕ → Type 0) → Apart variables → ((x : ℕ) → Known (Wrong x))
     → Known ((x : ℕ) × IsVariable variables name x × Wrong x)
 asked_of_variable variables name Wrong apart known = elim (name_known (λ e. e.name) variables name) [
   | inl a ↦
@@ -237,21 +239,11 @@ meets_known d s apart NotReached = not_reached_known d s apart
 
 -- ---- a line
 
-first_or_none : (holds : Cause → Type 0) (cs : List Cause) → ((c : Cause) → Known (holds c)) → ((cause : Cause) × IsFirst holds cs cause) ⊎ IsNone holds cs
-first_or_none holds [] known = inr tt
-first_or_none holds (c ∷ cs) known = elim (known c) [
-  | inl h ↦ inl (c, inl (h, refl))
-  | inr n ↦ elim (first_or_none holds cs known) [
-    | inl r ↦ inl (r.0, inr (n, r.1))
-    | inr none ↦ inr (n, none)
-  ]
-]
-
 -- what is not refuted and known is so
 settled : {P : Type 0} → Known P → ((P → ⊥) → ⊥) → P
 settled known twice = elim known [ inl h ↦ h | inr n ↦ absurd (twice n) ]
 
-named_all : (variables : List Entry) (names : List (List ℕ)) → (Any (IsUnknownName variables) names → ⊥) → All (λ name. Any (λ e. e.name ≡ name) variables) names
+named_all : (variables : List BookVar) (names : List (List ℕ)) → (Any (IsUnknownName variables) names → ⊥) → All (λ name. Any (λ e. e.name ≡ name) variables) names
 named_all variables names none =
     all_members (λ name. Any (λ e. e.name ≡ name) variables) names (λ name m.
     settled (name_known (λ e. e.name) variables name) (λ unknown. none (any_member (IsUnknownName variables) names name m unknown)))
@@ -286,7 +278,7 @@ leads_on d End none = let c = claimed_end d.stage none.0 in (at_stage d (Closed 
 line_answered : (d : Draft) (line : List ℕ) → Apart d.book.variables → ((cause : Cause) × IsRefusedFor d line cause) ⊎ ((e : Draft) × Passes d line e)
 line_answered d line apart = elim (each_said line) [
   | inr none ↦ inl (Malformed, inl (none, refl))
-  | inl said ↦ elim (first_or_none (Meets d said.0) in_order (meets_known d said.0 apart)) [
+  | inl said ↦ elim (first_known (Meets d said.0) (meets_known d said.0 apart) in_order) [
     | inl r ↦ inl (r.0, inr (said.0, said.1, r.1))
     | inr none ↦
         let on = leads_on d said.0 none in

@@ -1,5 +1,6 @@
 -- The verdict on a text: the first line that has a cause, with its first cause, or that it is accepted.
 use Rattle.std.specs.Prelude.{◌≡◌, ℕ, ◌+◌, ◌<◌, ◌≤◌, ◌⊎◌, List, [], ◌∷◌, length, Any, ⊤}
+use Rattle.palm_base.specs.First.{IsFirst, IsNone}
 use Rattle.palm_base.specs.declared.terms.Pair.{Pair}
 use Rattle.palm_book.specs.Book.{Contents, HasConstraint, HasVariable}
 use Rattle.palm_book.specs.Named.{IsDeclared, IsPair, IsUnknownName, IsVariable}
@@ -65,16 +66,6 @@ Meets d statement NotReached = IsNotReached d statement
 -- the order in which causes are looked for
 abbrev pub in_order : List Cause
 in_order = Malformed ∷ Misdeclared ∷ Beyond ∷ Unproved ∷ NotRight ∷ NotReached ∷ []
-
--- the first of the list that holds
-abbrev pub IsFirst : (Cause → Type 0) → List Cause → Cause → Type 0
-IsFirst holds [] cause = ⊥
-IsFirst holds (c ∷ cs) cause = (holds c × (cause ≡ c)) ⊎ ((holds c → ⊥) × IsFirst holds cs cause)
-
--- none of the list holds
-abbrev pub IsNone : (Cause → Type 0) → List Cause → Type 0
-IsNone holds [] = ⊤
-IsNone holds (c ∷ cs) = (holds c → ⊥) × IsNone holds cs
 
 -- ---- lines
 

@@ -1,7 +1,7 @@
 -- What `check` keeps from one read to the next, and how it ends.
 use Rattle.std.proofs.Common.{◌≡◌, ℕ, ◌+◌, ◌<◌, ◌≤◌, List, [], ◌∷◌, ◌++◌, length, take, Ok, Err, refl, sym, ap, ◌∙◌, subst, arith, append-nil, length-append, inl, inr}
 use Rattle.std.proofs.lemmas.List.{length-take}
-use Rattle.palm_base.specs.Streams.{SourceState, SinkState, Consumes, IsAtEnd, Appended, AppendedFront, Rose}
+use Rattle.palm_base.specs.Streams.{SourceState, SinkState, Consumes, IsAtEnd, Appended, AppendedProperFront, Rose}
 use Rattle.palm_base.proofs.cited.StreamLemmas.{consumes_nothing, consumes_both}
 use Rattle.palm_claim.specs.Verdict.{IsVerdict}
 use Rattle.palm_claim.specs.declared.verdict.Verdict.{Verdict}
@@ -112,8 +112,8 @@ tells text line before after (verdict.Refused n cause) status is e s calm w =
     subst (WritesVerdict text before after) (sym s) (calm, n, cause, is, subst (λ (z : List ℕ). Appended before.written after.written z) e w)
 
 pub tells_front : (text line : List ℕ) (before after : SinkState) (told : Verdict) → IsVerdict text told → line ≡ verdict_line told
-    → Rose before.faults after.faults → AppendedFront before.written after.written line → WritesVerdict text before after WriteFault
-tells_front text line before after told is e rose w = (rose, told, is, subst (λ (z : List ℕ). AppendedFront before.written after.written z) e w)
+    → Rose before.faults after.faults → AppendedProperFront before.written after.written line → WritesVerdict text before after WriteFault
+tells_front text line before after told is e rose w = (rose, told, is, subst (λ (z : List ℕ). AppendedProperFront before.written after.written z) e w)
 
 -- ---- the ends of the command
 

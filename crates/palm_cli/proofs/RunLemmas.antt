@@ -4,14 +4,18 @@ use Rattle.std.proofs.lemmas.List.{take_all, length-take, take-append-drop}
 use Rattle.std.proofs.Math.Seq.{take-append-add}
 use Rattle.std.proofs.lemmas.List.Elements.{All-nil, All-cons, All-append, All-head, All-tail}
 use Rattle.palm_base.proofs.cited.Members.{Known, nat_known}
-use Rattle.palm_base.specs.Streams.{SinkState, Consumes, Appended, AppendedFront, Rose}
-use Rattle.palm_base.proofs.cited.StreamLemmas.{consumes_nothing, consumes_both, appended_nothing, appended_both}
+use Rattle.palm_base.specs.Streams.{SinkState, Consumes, Rose}
+use Rattle.palm_base.proofs.cited.StreamLemmas.{consumes_nothing, consumes_both, appended_both}
+use Rattle.palm_lang.proofs.cited.Writes.{stopped_in_second}
 use Rattle.palm_lang.specs.Reply.{ended}
+use Rattle.palm_lang.specs.declared.stop.WriteStop.{WriteStop as Stop}
+use Rattle.palm_lang.specs.declared.stop.WriteStop.TheVariants as stops
 use Rattle.palm_session.specs.State.{SessionState, fresh}
 use Rattle.palm_read.specs.Lines.{HasNoFeed, Cuts, AreLines, last_line, without_return}
-use Rattle.palm_session.specs.Replies.{Run, AreAnswered, GoesOn, Ends, KeepsOn, all, until}
+use Rattle.palm_session.specs.Replies.{Run, AreAnswered, GoesOn, Ends, all, until}
 use Rattle.palm_session.specs.Feeding.{View, FeedsOn, FeedsEnd, FeedsPart, FinishesAll, FinishesPart}
-use Rattle.palm_session.proofs.cited.FeedLemmas.{feeds_more, feeds_more_end, feeds_more_part, feeds_none, run_append, run_then, map_more, map_append}
+use Rattle.palm_session.proofs.cited.FeedLemmas.{feeds_more, feeds_more_end, feeds_more_part, feeds_none, part_nothing, run_append, run_then, map_more, map_append}
+use Rattle.palm_session.proofs.cited.LawsOfTexts.{last_known}
 use Rattle.palm_session.proofs.cited.Asked.{run_of}
 use Rattle.palm_session.proofs.cited.Keeping.{feeds_long, feeds_long_end, feeds_long_part, finishes_long, finishes_long_part}
 use Rattle.palm_session.specs.declared.limits.TheConstants.{MOST_KEPT_BYTES}
@@ -67,27 +71,17 @@ module _ (guides orders : List ℕ) where
         calm = calm_still before;
       })
 
-  no_lines : AreLines [] []
-  no_lines = record { ended_lines = []; rest = []; cuts = record { whole = refl; unbroken = All-nil HasNoFeed; unfinished = All-nil (λ b. b ≡ 10 → ⊥) }; all = refl }
-
   -- nothing was taken and nothing written
-  part_nothing : (before : Streams) → RunsPart guides orders before before
-  part_nothing before = record {
-    text = [];
-    lines = [];
-    others = [];
-    replies = [];
-    state = (fresh guides orders);
-    takes = consumes_nothing before.source.left;
-    in_time = in_time_nothing;
-    are_lines = no_lines;
-    keeps_on = tt;
-    run = (refl, refl);
-    written = record { front = []; back = []; whole = refl; written = appended_nothing before.sink.written };
-  }
-
   pub want_at_once : (before : Streams) → Runs guides orders before before NoMemory
-  want_at_once before = (calm_still before, part_nothing before)
+  want_at_once before = (
+    calm_still before,
+    record {
+      text = [];
+      takes = consumes_nothing before.source.left;
+      in_time = in_time_nothing;
+      part = inl (part_nothing (fresh guides orders) [] before.sink.written);
+    },
+  )
 
   -- a text in which the session's bytes are all that was taken
   whole_text : (text : List ℕ) (taken : ℕ) → length text ≡ taken → taken ≤ MOST_INPUT_BYTES → first_bytes text ≡ text
@@ -226,19 +220,6 @@ module _ (guides orders : List ℕ) where
   answered_lines lines [] on (inr ends) = all (All-append GoesOn lines [] on (All-nil GoesOn))
   answered_lines lines (b ∷ bs) on (inr ends) = until lines [] (without_return (b ∷ bs)) on (All-head Ends (without_return (b ∷ bs)) [] ends) refl
 
-  keeps_on_all : (xs ys : List (List ℕ)) → All GoesOn xs → KeepsOn ys → KeepsOn (xs ++ ys)
-  keeps_on_all [] ys on keeps = keeps
-  keeps_on_all (x ∷ []) [] on keeps = tt
-  keeps_on_all (x ∷ []) (y ∷ ys) on keeps = (All-head GoesOn x [] on, keeps)
-  keeps_on_all (x ∷ z ∷ xs) ys on keeps = (All-head GoesOn x (z ∷ xs) on, keeps_on_all (z ∷ xs) ys (All-tail GoesOn x (z ∷ xs) on) keeps)
-
-  keeps_on_last : (rest : List ℕ) → KeepsOn (last_line rest)
-  keeps_on_last [] = tt
-  keeps_on_last (b ∷ bs) = tt
-
-  front_whole : (was now : Option (List ℕ)) (x : List ℕ) → Appended was now x → AppendedFront was now x
-  front_whole was now x w = record { front = x; back = []; whole = sym (append-nil x); written = w }
-
   finish_done : (before mid now : Streams) (taken : ℕ) (session : View) (t : SessionState) (n : ℕ) → Served guides orders before mid taken session → taken ≤ MOST_INPUT_BYTES
       → ReadsEnd mid.source now.source → FinishesAll session.state session.unfinished mid.sink.written now.sink.written t n → RunsAll guides orders before now
   finish_done before mid now taken session t n s le e short =
@@ -262,30 +243,30 @@ module _ (guides orders : List ℕ) where
         written = appended_both before.sink.written mid.sink.written now.sink.written fs.replies f.replies fs.written f.written;
       }
 
-  finish_part : (before mid now : Streams) (taken : ℕ) (session : View) → Served guides orders before mid taken session → taken ≤ MOST_INPUT_BYTES → ReadsEnd mid.source now.source
-      → FinishesPart session.state session.unfinished mid.sink.written now.sink.written → RunsPart guides orders before now
+  finish_part : {stop : Stop} (before mid now : Streams) (taken : ℕ) (session : View) → Served guides orders before mid taken session → taken ≤ MOST_INPUT_BYTES → ReadsEnd mid.source now.source
+      → FinishesPart stop session.state session.unfinished mid.sink.written now.sink.written → RunsPart stop guides orders before now
   finish_part before mid now taken session s le e short =
       let fs = whole_feeds before mid taken session s le in
       let f = finishes_long_part session.state session.unfinished s.rest mid.sink.written now.sink.written s.kept short in
       record {
         text = s.text;
-        lines = map without_return fs.lines ++ last_line s.rest;
-        others = [];
-        replies = fs.replies ++ f.replies;
-        state = f.after;
         takes = takes_more_nothing before.source.left mid.source.left now.source.left s.text s.takes e.takes;
         in_time = in_time_whole s.text (omega (arith, s.long, le)) (served_unended before mid taken session s le);
-        are_lines = subst (λ (ls : List (List ℕ)). AreLines s.text ls) (sym (append-nil (map without_return fs.lines ++ last_line s.rest)))
-            (lines_of s.text fs.lines s.rest fs.answered.whole fs.answered.unbroken fs.unfinished);
-        keeps_on = keeps_on_all (map without_return fs.lines) (last_line s.rest) fs.goes_on (keeps_on_last s.rest);
-        run = run_then (fresh guides orders) session.state f.after (map without_return fs.lines) (last_line s.rest) fs.replies f.replies
-            (run_of (fresh guides orders) (map without_return fs.lines) fs.replies session.state s.asked fs.answered.run) f.run;
-        written = record {
-          front = fs.replies ++ f.written.front;
-          back = f.written.back;
-          whole = ap (λ (z : List ℕ). fs.replies ++ z) f.written.whole ∙ sym (append_assoc fs.replies f.written.front f.written.back);
-          written = appended_both before.sink.written mid.sink.written now.sink.written fs.replies f.written.front fs.written f.written.written;
-        };
+        part = inr (record {
+          short = omega (arith, s.long, le);
+          all = all_left before.source.left mid.source.left s.text s.takes e.at_end;
+          output = fs.replies ++ f.replies;
+          replies = record {
+            lines = map without_return fs.lines ++ last_line s.rest;
+            answered = map without_return fs.lines ++ last_line s.rest;
+            state = f.after;
+            are_lines = lines_of s.text fs.lines s.rest fs.answered.whole fs.answered.unbroken fs.unfinished;
+            are_answered = answered_lines (map without_return fs.lines) s.rest fs.goes_on (last_known s.rest);
+            run = run_then (fresh guides orders) session.state f.after (map without_return fs.lines) (last_line s.rest) fs.replies f.replies
+                (run_of (fresh guides orders) (map without_return fs.lines) fs.replies session.state s.asked fs.answered.run) f.run;
+          };
+          written = stopped_in_second before.sink.written mid.sink.written now.sink.written fs.replies f.replies fs.written f.written;
+        });
       }
 
   fails_more : (before mid now : Streams) → IsCalm before mid → now.source.faults ≡ mid.source.faults → Rose mid.sink.faults now.sink.faults → FailsToWrite before now
@@ -386,33 +367,19 @@ module _ (guides orders : List ℕ) where
         written = e.written;
       }
 
-  part_runs : (before now : Streams) (text : List ℕ) → Consumes before.source.left now.source.left text → StopsInTime text
-      → FeedsPart (fresh guides orders) (first_bytes text) before.sink.written now.sink.written → RunsPart guides orders before now
-  part_runs before now text takes in_time p =
-      let l = text_lines text p.lines (p.rest ++ drop MOST_INPUT_BYTES text) (whole_end MOST_INPUT_BYTES text p.rest p.lines p.answered.whole) p.answered.unbroken in
-      record {
-        text = text;
-        lines = map without_return p.lines;
-        others = l.0;
-        replies = p.replies;
-        state = p.after;
-        takes = takes;
-        in_time = in_time;
-        are_lines = l.1;
-        keeps_on = p.keeps_on;
-        run = p.answered.run;
-        written = p.written;
-      }
-
-  more_part : (before mid now : Streams) (taken : ℕ) (session : View) (piece : List ℕ) → Served guides orders before mid taken session → taken ≤ MOST_INPUT_BYTES
+  more_part : {stop : Stop} (before mid now : Streams) (taken : ℕ) (session : View) (piece : List ℕ) → Served guides orders before mid taken session → taken ≤ MOST_INPUT_BYTES
       → ReadsPiece mid.source now.source piece
-      → FeedsPart session.state (session.unfinished ++ take (MOST_INPUT_BYTES - taken) piece) mid.sink.written now.sink.written → RunsPart guides orders before now
-  more_part before mid now taken session piece s le r f =
-      part_runs before now (s.text ++ piece) (consumes_both before.source.left mid.source.left now.source.left s.text piece s.takes r.takes)
-      (in_time_more s.text piece (omega (arith, s.long, le)) (served_unended before mid taken session s le) r.small)
-      (subst (λ (z : List ℕ). FeedsPart (fresh guides orders) z before.sink.written now.sink.written) (sym (fed_text s.text piece taken s.long le))
-      (feeds_more_part (fresh guides orders) session.state (first_bytes s.text) (take (MOST_INPUT_BYTES - taken) piece) s.rest before.sink.written mid.sink.written now.sink.written s.asked s.feeds
-      (feeds_long_part session.state session.unfinished s.rest (take (MOST_INPUT_BYTES - taken) piece) mid.sink.written now.sink.written s.kept s.feeds.unfinished f)))
+      → FeedsPart stop session.state (session.unfinished ++ take (MOST_INPUT_BYTES - taken) piece) mid.sink.written now.sink.written → RunsPart stop guides orders before now
+  more_part {stop} before mid now taken session piece s le r f =
+      let fed : List ℕ = take (MOST_INPUT_BYTES - taken) piece in
+      let long = feeds_long_part session.state session.unfinished s.rest fed mid.sink.written now.sink.written s.kept s.feeds.unfinished f in
+      record {
+        text = s.text ++ piece;
+        takes = consumes_both before.source.left mid.source.left now.source.left s.text piece s.takes r.takes;
+        in_time = in_time_more s.text piece (omega (arith, s.long, le)) (served_unended before mid taken session s le) r.small;
+        part = inl (subst (λ (z : List ℕ). FeedsPart stop (fresh guides orders) z before.sink.written now.sink.written) (sym (fed_text s.text piece taken s.long le))
+            (feeds_more_part (fresh guides orders) session.state (first_bytes s.text) fed s.rest before.sink.written mid.sink.written now.sink.written s.asked s.feeds long));
+      }
 
   more_end : (before mid now : Streams) (taken : ℕ) (session later : View) (piece : List ℕ) (n : ℕ) → Served guides orders before mid taken session → taken ≤ MOST_INPUT_BYTES
       → ReadsPiece mid.source now.source piece

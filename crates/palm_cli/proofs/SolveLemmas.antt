@@ -2,15 +2,15 @@
 use Rattle.std.proofs.Common.{◌≡◌, ℕ, List, [], ◌∷◌, ◌++◌, map, flat_map, take, All, Option, Ok, Err, false, refl, sym, ap, ◌∙◌, arith, subst, append_assoc, append-nil}
 use Rattle.std.proofs.lemmas.List.Elements.{All-nil, All-cons, All-head, All-tail}
 use Rattle.std.proofs.lemmas.List.{take_all}
-use Rattle.palm_base.specs.Streams.{SinkState, Appended, AppendedFront}
-use Rattle.palm_base.proofs.cited.StreamLemmas.{appended_nothing}
+use Rattle.palm_base.specs.Streams.{SinkState, Appended}
+use Rattle.palm_lang.proofs.cited.Writes.{stopped_at_once, stopped_in_first}
 use Rattle.palm_lang.specs.Reply.{ended}
 use Rattle.palm_session.specs.Answers.{Answers}
 use Rattle.palm_session.specs.Feeding.{View, Feeds, KeepsRest, FeedsEnd, FeedsPart}
 use Rattle.palm_read.specs.Lines.{HasNoFeed, without_return}
 use Rattle.palm_session.specs.Replies.{Run, Ends, GoesOn}
 use Rattle.palm_session.specs.State.{SessionState, IsState}
-use Rattle.palm_lang.specs.Writing.{HasStopCause}
+use Rattle.palm_lang.specs.Writing.{AppendedUntil, HasStopCause}
 use Rattle.palm_session.specs.declared.going.Going.{Going}
 use Rattle.palm_session.specs.declared.going.Going.TheVariants.{More, Quit}
 use Rattle.palm_session.specs.declared.limits.TheConstants.{MOST_KEPT_BYTES}
@@ -111,14 +111,15 @@ takes_no_end s t lines was now n inner e =
     let last = last_one e.lines e.last one in
     last.goes_on (subst (λ (z : List ℕ). Ends z) last.bare e.ends)
 
--- a front of the replies to all lines was written
-pub record TakesPart (s : SessionState) (lines : List (List ℕ)) (was now : Option (List ℕ)) : Type 0 where
+-- the replies to all lines were written until the stop
+pub record TakesPart (stop : Stop) (s : SessionState) (lines : List (List ℕ)) (was now : Option (List ℕ)) : Type 0 where
   pub replies : List ℕ
   pub after : SessionState
   pub run : Run s lines replies after
-  pub written : AppendedFront was now replies
+  pub written : AppendedUntil stop was now replies
 
-pub takes_part : (s : SessionState) (lines : List (List ℕ)) (was now : Option (List ℕ)) → IsState s → All IsInner lines → FeedsPart s (flat_map ended lines) was now → TakesPart s lines was now
+pub takes_part : {stop : Stop} (s : SessionState) (lines : List (List ℕ)) (was now : Option (List ℕ)) → IsState s → All IsInner lines → FeedsPart stop s (flat_map ended lines) was now
+    → TakesPart stop s lines was now
 takes_part s lines was now is inner p =
     let b = begins lines p.lines p.rest (all_unbroken lines inner) p.answered.unbroken p.answered.whole in
     let firsts : All IsInner p.lines = first_ones p.lines b.others (subst (λ (z : List (List ℕ)). All IsInner z) b.whole inner) in
@@ -128,12 +129,7 @@ takes_part s lines was now is inner p =
       replies = p.replies ++ more.0;
       after = more.1;
       run = subst (λ (z : List (List ℕ)). Run s z (p.replies ++ more.0) more.1) (sym b.whole) (run_then s p.after more.1 p.lines b.others p.replies more.0 ran more.2);
-      written = record {
-        front = p.written.front;
-        back = p.written.back ++ more.0;
-        whole = ap (λ (z : List ℕ). z ++ more.0) p.written.whole ∙ append_assoc p.written.front p.written.back more.0;
-        written = p.written.written;
-      };
+      written = stopped_in_first was now p.replies more.0 p.written;
     }
 
 -- ---- lines, and then a `solve` line
@@ -154,8 +150,8 @@ solved s m t lines a b was now x y one two = record {
   written = two.written;
 }
 
--- the reply to the `solve` line was not reached
-pub unsolved : (s : SessionState) (lines : List (List ℕ)) (was : Option (List ℕ)) → IsState s → SolvesPart s lines was was
+-- memory ran out before the reply to the `solve` line
+pub unsolved : (s : SessionState) (lines : List (List ℕ)) (was : Option (List ℕ)) → IsState s → SolvesPart NoMemory s lines was was
 unsolved s lines was is =
     let one = has_run s lines is in
     let two = has_answer one.1 (run_keeps s lines one.0 one.1 is one.2) solve_line in
@@ -166,11 +162,12 @@ unsolved s lines was is =
       reply = two.0;
       run = one.2;
       answers = two.2;
-      written = record { front = []; back = two.0; whole = refl; written = appended_nothing was };
+      written = stopped_at_once was two.0;
     }
 
 -- it was written in part
-pub part_solved : (s m : SessionState) (lines : List (List ℕ)) (a b was now : Option (List ℕ)) (x : List ℕ) → TakesLines s lines a b x m → TakesPart m (solve_line ∷ []) was now → SolvesPart s lines was now
+pub part_solved : {stop : Stop} (s m : SessionState) (lines : List (List ℕ)) (a b was now : Option (List ℕ)) (x : List ℕ) → TakesLines s lines a b x m → TakesPart stop m (solve_line ∷ []) was now
+    → SolvesPart stop s lines was now
 part_solved s m lines a b was now x one two = record {
   between = m;
   after = two.after;
@@ -215,11 +212,11 @@ stopped_after T session mid later last text solve lines a b before after n m g s
     let there : mid.unfinished ++ solve ≡ flat_map ended (solve_line ∷ []) = ap (λ (u : List ℕ). u ++ solve) one.0.none ∙ (solve_is solve e).whole in
     let mid_state = run_keeps session.state lines one.0.replies mid.state state one.0.run in
     let two = takes_part mid.state (solve_line ∷ []) before.written after.written mid_state solve_text_is
-    (subst (λ (z : List ℕ). FeedsPart mid.state z before.written after.written) there k.0) in
+    (subst (λ (z : List ℕ). FeedsPart stop mid.state z before.written after.written) there k.0) in
     by_stop T session before after last stop lines cause (part_solved session.state mid.state lines a b before.written after.written mid.unfinished one.0 two)
   where
     by_stop : (T : Type 0) (session : View) (before after : SinkState) (last : View) (stop : Stop) (lines : List (List ℕ)) → HasStopCause before.faults after.faults stop
-        → SolvesPart session.state lines before.written after.written → SolvesAfter {T = T} session lines before after last (Err stop)
+        → SolvesPart stop session.state lines before.written after.written → SolvesAfter {T = T} session lines before after last (Err stop)
     by_stop T session before after last WriteFault lines cause p = (cause.1, p)
     by_stop T session before after last NoMemory lines cause p = (cause, p)
 

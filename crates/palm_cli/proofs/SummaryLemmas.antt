@@ -2,9 +2,11 @@
 use Rattle.std.proofs.Common.{◌≡◌, ℕ, ◌≤◌, false, List, [], ◌∷◌, ◌++◌, map, flat_map, Option, Result, Ok, Err, refl, sym, ap, ◌∙◌, subst, append_assoc, append-nil}
 use Rattle.std.proofs.lemmas.List.Elements.{All-nil}
 use Rattle.palm_base.proofs.cited.Members.{member_nil}
-use Rattle.palm_base.proofs.cited.StreamLemmas.{appended_nothing, appended_both}
-use Rattle.palm_base.specs.Streams.{SinkState, Appended, AppendedFront, Rose}
+use Rattle.palm_base.proofs.cited.StreamLemmas.{appended_both}
+use Rattle.palm_base.specs.Streams.{SinkState, Appended, AppendedProperFront, Rose}
+use Rattle.palm_lang.proofs.cited.Writes.{stopped_at_fault, stopped_at_once, stopped_in_first, stopped_in_second}
 use Rattle.palm_lang.specs.Reply.{ended}
+use Rattle.palm_lang.specs.Writing.{AppendedUntil}
 use Rattle.palm_session.specs.Answers.{Answers}
 use Rattle.palm_read.specs.Lines.{without_return}
 use Rattle.palm_session.specs.Replies.{Run, Replies, ChoosesObject, chooses_guide, chooses_order, all}
@@ -23,7 +25,7 @@ use Rattle.palm_cli.specs.Solving.{Solves, SolvesPart, SolvesAfter}
 use Rattle.palm_cli.specs.declared.limits.TheConstants.{MOST_QUEENS}
 use Rattle.palm_cli.specs.declared.status.Status.TheVariants.{WriteFault, NoMemory}
 use Rattle.palm_lang.specs.declared.stop.WriteStop.{WriteStop as Stop}
-use Rattle.palm_lang.specs.declared.stop.WriteStop.TheVariants as stop
+use Rattle.palm_lang.specs.declared.stop.WriteStop.TheVariants as stops
 use Rattle.palm_session.specs.Feeding.{View}
 
 abbrev start : SessionState
@@ -82,50 +84,37 @@ has_summary size =
     let more = behind size poses.1 solves.1 poses.0 solves.0 poses.2 solves.2 in
     record { first = solves.0; second = more.second; is = more.is }
 
--- a front of the summary was written
-pub record TellsPart (size : ℕ) (was now : Option (List ℕ)) : Type 0 where
+-- the summary was written until the stop
+pub record TellsPart (stop : Stop) (size : ℕ) (was now : Option (List ℕ)) : Type 0 where
   pub summary : List ℕ
   pub is : IsSummary size summary
-  pub written : AppendedFront was now summary
+  pub written : AppendedUntil stop was now summary
 
-pub told_nothing : (size : ℕ) (was : Option (List ℕ)) → TellsPart size was was
+pub told_nothing : (size : ℕ) (was : Option (List ℕ)) → TellsPart stops.NoMemory size was was
 told_nothing size was =
     let h = has_summary size in
     record {
       summary = heading size ++ h.first ++ h.second;
       is = h.is;
-      written = record { front = []; back = heading size ++ h.first ++ h.second; whole = refl; written = appended_nothing was };
+      written = stopped_at_once was (heading size ++ h.first ++ h.second);
     }
 
-pub told_heading : (size : ℕ) (was now : Option (List ℕ)) → AppendedFront was now (heading size) → TellsPart size was now
+pub told_heading : (size : ℕ) (was now : Option (List ℕ)) → AppendedProperFront was now (heading size) → TellsPart stops.WriteFault size was now
 told_heading size was now f =
     let h = has_summary size in
     record {
       summary = heading size ++ h.first ++ h.second;
       is = h.is;
-      written = record {
-        front = f.front;
-        back = f.back ++ h.first ++ h.second;
-        whole = ap (λ (z : List ℕ). z ++ h.first ++ h.second) f.whole ∙ ap (λ (z : List ℕ). z ++ h.second) (append_assoc f.front f.back h.first)
-            ∙ append_assoc f.front (f.back ++ h.first) h.second;
-        written = f.written;
-      };
+      written = stopped_in_first was now (heading size ++ h.first) h.second (stopped_in_first was now (heading size) h.first (stopped_at_fault was now (heading size) f));
     }
 
-pub told_first : (size : ℕ) (was mid now : Option (List ℕ)) → Appended was mid (heading size) → SolvesPart start (posing_lines size) mid now → TellsPart size was now
+pub told_first : {stop : Stop} (size : ℕ) (was mid now : Option (List ℕ)) → Appended was mid (heading size) → SolvesPart stop start (posing_lines size) mid now → TellsPart stop size was now
 told_first size was mid now h p =
     let more = behind size p.between p.after p.replies p.reply p.run p.answers in
-    let f = p.written in
     record {
       summary = heading size ++ p.reply ++ more.second;
       is = more.is;
-      written = record {
-        front = heading size ++ f.front;
-        back = f.back ++ more.second;
-        whole = ap (λ (z : List ℕ). heading size ++ z ++ more.second) f.whole ∙ ap (λ (z : List ℕ). z ++ more.second) (sym (append_assoc (heading size) f.front f.back))
-            ∙ append_assoc (heading size ++ f.front) f.back more.second;
-        written = appended_both was mid now (heading size) f.front h f.written;
-      };
+      written = stopped_in_first was now (heading size ++ p.reply) more.second (stopped_in_second was mid now (heading size) p.reply h p.written);
     }
 
 -- the summary by its two steps
@@ -147,20 +136,13 @@ summed size s t a b one between replies reply run answers = record {
   whole = refl;
 }
 
-pub told_second : (size : ℕ) (s : SessionState) (was then mid now : Option (List ℕ)) → Appended was then (heading size) → Solves start (posing_lines size) then mid s
-    → SolvesPart s (easing_lines size) mid now → TellsPart size was now
+pub told_second : {stop : Stop} (size : ℕ) (s : SessionState) (was then mid now : Option (List ℕ)) → Appended was then (heading size) → Solves start (posing_lines size) then mid s
+    → SolvesPart stop s (easing_lines size) mid now → TellsPart stop size was now
 told_second size s was then mid now h one p =
-    let f = p.written in
-    let far : List ℕ = heading size ++ one.reply in
     record {
       summary = heading size ++ one.reply ++ p.reply;
       is = summed size s p.after then mid one p.between p.replies p.reply p.run p.answers;
-      written = record {
-        front = far ++ f.front;
-        back = f.back;
-        whole = ap (λ (z : List ℕ). far ++ z) f.whole ∙ sym (append_assoc far f.front f.back);
-        written = appended_both was mid now far f.front (appended_both was then mid (heading size) one.reply h one.written) f.written;
-      };
+      written = stopped_in_second was mid now (heading size ++ one.reply) p.reply (appended_both was then mid (heading size) one.reply h one.written) p.written;
     }
 
 -- the whole summary was written
@@ -182,20 +164,20 @@ told_all size s t was then mid now h one two = record {
 pub wants : (size : ℕ) (before : SinkState) → WritesSummary size before before NoMemory
 wants size before = let t = told_nothing size before.written in (refl, t.summary, t.is, t.written)
 
-pub fails_heading : (size : ℕ) (before after : SinkState) → Rose before.faults after.faults → AppendedFront before.written after.written (heading size) → WritesSummary size before after WriteFault
+pub fails_heading : (size : ℕ) (before after : SinkState) → Rose before.faults after.faults → AppendedProperFront before.written after.written (heading size) → WritesSummary size before after WriteFault
 fails_heading size before after rose f = let t = told_heading size before.written after.written f in (rose, t.summary, t.is, t.written)
 
-pub stops_heading : (size : ℕ) (before after : SinkState) (text : List ℕ) → text ≡ heading size → Rose before.faults after.faults → AppendedFront before.written after.written text → WritesSummary size before after WriteFault
-stops_heading size before after text is rose f = fails_heading size before after rose (subst (λ (z : List ℕ). AppendedFront before.written after.written z) is f)
+pub stops_heading : (size : ℕ) (before after : SinkState) (text : List ℕ) → text ≡ heading size → Rose before.faults after.faults → AppendedProperFront before.written after.written text → WritesSummary size before after WriteFault
+stops_heading size before after text is rose f = fails_heading size before after rose (subst (λ (z : List ℕ). AppendedProperFront before.written after.written z) is f)
 
 -- the first step stopped
 pub first_stops : (T U : Type 0) (size : ℕ) (before mid after : SinkState) (session later : View) (e : Stop) → session.state ≡ start → mid.faults ≡ before.faults
     → Appended before.written mid.written (heading size) → SolvesAfter {T = T} session (posing_lines size) mid after later (Err e) → WritesSummary size before after (status_of {T = U} (Err e))
-first_stops T U size before mid after session later stop.WriteFault is calm h p =
-    let t = told_first size before.written mid.written after.written h (subst (λ (s : SessionState). SolvesPart s (posing_lines size) mid.written after.written) is p.1) in
+first_stops T U size before mid after session later stops.WriteFault is calm h p =
+    let t = told_first size before.written mid.written after.written h (subst (λ (s : SessionState). SolvesPart stops.WriteFault s (posing_lines size) mid.written after.written) is p.1) in
     (rose_after before.faults mid.faults after.faults calm p.0, t.summary, t.is, t.written)
-first_stops T U size before mid after session later stop.NoMemory is calm h p =
-    let t = told_first size before.written mid.written after.written h (subst (λ (s : SessionState). SolvesPart s (posing_lines size) mid.written after.written) is p.1) in
+first_stops T U size before mid after session later stops.NoMemory is calm h p =
+    let t = told_first size before.written mid.written after.written h (subst (λ (s : SessionState). SolvesPart stops.NoMemory s (posing_lines size) mid.written after.written) is p.1) in
     (p.0 ∙ calm, t.summary, t.is, t.written)
 
 -- the second step stopped, or did not
@@ -206,11 +188,11 @@ second_ends x size before mid then after session first last (Ok y) is calm h one
     let begun : Solves start (posing_lines size) mid.written then.written first.state = subst (λ (s : SessionState). Solves s (posing_lines size) mid.written then.written first.state) is one.1 in
     let t = told_all size first.state last.state before.written mid.written then.written after.written h begun two.1 in
     (two.0 ∙ one.0 ∙ calm, t.summary, t.is, t.written)
-second_ends x size before mid then after session first last (Err stop.WriteFault) is calm h one two =
+second_ends x size before mid then after session first last (Err stops.WriteFault) is calm h one two =
     let begun : Solves start (posing_lines size) mid.written then.written first.state = subst (λ (s : SessionState). Solves s (posing_lines size) mid.written then.written first.state) is one.1 in
     let t = told_second size first.state before.written mid.written then.written after.written h begun two.1 in
     (rose_after before.faults then.faults after.faults (one.0 ∙ calm) two.0, t.summary, t.is, t.written)
-second_ends x size before mid then after session first last (Err stop.NoMemory) is calm h one two =
+second_ends x size before mid then after session first last (Err stops.NoMemory) is calm h one two =
     let begun : Solves start (posing_lines size) mid.written then.written first.state = subst (λ (s : SessionState). Solves s (posing_lines size) mid.written then.written first.state) is one.1 in
     let t = told_second size first.state before.written mid.written then.written after.written h begun two.1 in
     (two.0 ∙ one.0 ∙ calm, t.summary, t.is, t.written)

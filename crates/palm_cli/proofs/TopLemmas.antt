@@ -1,11 +1,10 @@
 -- What was asked for, and what was done.
 use Rattle.std.proofs.Common.{ℕ, List, [], Option, Some, None, refl, subst}
-use Rattle.palm_base.proofs.cited.StreamLemmas.{appended_nothing}
 use Rattle.palm_cli.proofs.CheckLemmas.{checks_nothing}
 use Rattle.palm_cli.proofs.RunLemmas.{want_at_once}
 use Rattle.palm_cli.proofs.SummaryLemmas.{wants}
 use Rattle.palm_cli.proofs.WordLemmas.{check_no_gen, one_size, run_no_check, run_no_gen}
-use Rattle.palm_cli.specs.Commands.{Streams, Runs, Checks, Generates, Refuses, Obeys, WritesSummary, HasNoFault, IsWhole, usage_line}
+use Rattle.palm_cli.specs.Commands.{Streams, Runs, Checks, Generates, Refuses, Obeys, WritesSummary, HasNoFault, IsWhole}
 use Rattle.palm_cli.specs.Words.{Asks, IsCheck, IsFit, IsGen, IsNoCommand, IsRun}
 use Rattle.palm_cli.specs.declared.status.Status.{Status}
 use Rattle.palm_cli.specs.declared.status.Status.TheVariants.{Done, Refused, Usage, ReadFault, WriteFault, NoMemory, TooLong}
@@ -67,7 +66,4 @@ pub wants_gen : (size : ℕ) (before : Streams) → Generates size before before
 wants_gen size before = record { unread = refl; summary = wants size before.sink }
 
 pub wants_usage : (before : Streams) → Refuses before before NoMemory
-wants_usage before = record {
-  unread = refl;
-  usage = (refl, record { front = []; back = usage_line; whole = refl; written = appended_nothing before.sink.written });
-}
+wants_usage before = record { unread = refl; usage = refl }

@@ -1,6 +1,6 @@
 -- What the steps of `check` do: one read, all reads, and the line of the verdict.
 use Rattle.std.specs.Prelude.{◌≡◌, ℕ, ◌<◌, ◌≤◌, List, [], ◌++◌, length, Result, Ok, Err}
-use Rattle.palm_base.specs.Streams.{SourceState, SinkState, Consumes, IsAtEnd, Appended, AppendedFront, Rose}
+use Rattle.palm_base.specs.Streams.{SourceState, SinkState, Consumes, IsAtEnd, Appended, AppendedProperFront, Rose}
 use Rattle.palm_claim.specs.Verdict.{IsVerdict}
 use Rattle.palm_claim.specs.declared.verdict.Cause.{Cause}
 use Rattle.palm_claim.specs.declared.verdict.Proved.{Proved}
@@ -58,6 +58,6 @@ WritesVerdict text before after Refused =
     (after.faults ≡ before.faults) × (line : ℕ) × (cause : Cause) × IsVerdict text (verdict.Refused line cause)
     × Appended before.written after.written (verdict_line (verdict.Refused line cause))
 WritesVerdict text before after WriteFault =
-    Rose before.faults after.faults × (told : Verdict) × IsVerdict text told × AppendedFront before.written after.written (verdict_line told)
+    Rose before.faults after.faults × (told : Verdict) × IsVerdict text told × AppendedProperFront before.written after.written (verdict_line told)
 WritesVerdict text before after NoMemory = after ≡ before
 WritesVerdict text before after _ = ⊥

@@ -1,18 +1,19 @@
 -- What the commands do: the bytes that are taken, the bytes that are written, and the cause of each status.
 use Rattle.std.specs.Prelude.{◌≡◌, ℕ, ◌<◌, ◌≤◌, ◌⊎◌, List, [], ◌∷◌, ◌++◌, ◌+◌, length, take, flat_map, codes, All, Option, Some, None, Result, Ok, Err, ⊤}
-use Rattle.palm_base.specs.Streams.{SourceState, SinkState, Consumes, Appended, AppendedFront, Rose}
+use Rattle.palm_base.specs.Streams.{SourceState, SinkState, Consumes, Appended, AppendedProperFront, Rose}
 use Rattle.palm_claim.specs.Verdict.{IsVerdict}
 use Rattle.palm_claim.specs.declared.verdict.Cause.{Cause}
 use Rattle.palm_claim.specs.declared.verdict.Proved.{Proved}
 use Rattle.palm_claim.specs.declared.verdict.Verdict.{Verdict}
 use Rattle.palm_claim.specs.declared.verdict.Verdict.TheVariants as verdict
 use Rattle.palm_lang.specs.Reply.{ended}
+use Rattle.palm_lang.specs.Writing.{AppendedUntil}
 use Rattle.palm_session.specs.State.{SessionState, fresh}
-use Rattle.palm_read.specs.Lines.{HasNoFeed, AreLines, without_return}
-use Rattle.palm_session.specs.Replies.{Replies, Run as RunLines, Ends, KeepsOn}
-use Rattle.palm_session.specs.Feeding.{FeedsOn}
+use Rattle.palm_read.specs.Lines.{HasNoFeed, without_return}
+use Rattle.palm_session.specs.Replies.{Replies, Ends}
+use Rattle.palm_session.specs.Feeding.{FeedsOn, FeedsPart}
 use Rattle.palm_lang.specs.declared.stop.WriteStop.{WriteStop as Stop}
-use Rattle.palm_lang.specs.declared.stop.WriteStop.TheVariants as stop
+use Rattle.palm_lang.specs.declared.stop.WriteStop.TheVariants as stops
 use Rattle.palm_cli.specs.Generator.{IsSummary}
 use Rattle.palm_cli.specs.Verdicts.{verdict_line, verdict_status}
 use Rattle.palm_cli.specs.declared.limits.TheConstants.{MOST_INPUT_BYTES, PIECE}
@@ -107,19 +108,22 @@ pub record RunsOver (guides orders : List ℕ) (before after : Streams) : Type 0
   pub in_time : StopsInTime text
   pub feeds : FeedsOn (fresh guides orders) (first_bytes text) before.sink.written after.sink.written rest state asked
 
--- a front of the replies to the first lines of what was taken was written
-pub record RunsPart (guides orders : List ℕ) (before after : Streams) : Type 0 where
+-- the source ended within the limit, and the replies to all lines of the text were written until the stop, that to a last
+-- line without its line feed among them
+pub record RunsLast (stop : Stop) (guides orders : List ℕ) (before after : Streams) (text : List ℕ) : Type 0 where
+  pub short : length text ≤ MOST_INPUT_BYTES
+  pub all : IsAll before.source.left text
+  pub output : List ℕ
+  pub replies : Replies guides orders text output
+  pub written : AppendedUntil stop before.sink.written after.sink.written output
+
+-- the replies to the lines that the first bytes complete of what was taken were written until the stop, or, where the source
+-- ended, those to all lines
+pub record RunsPart (stop : Stop) (guides orders : List ℕ) (before after : Streams) : Type 0 where
   pub text : List ℕ
-  pub lines : List (List ℕ)
-  pub others : List (List ℕ)
-  pub replies : List ℕ
-  pub state : SessionState
   pub takes : Consumes before.source.left after.source.left text
   pub in_time : StopsInTime text
-  pub are_lines : AreLines text (lines ++ others)
-  pub keeps_on : KeepsOn lines
-  pub run : RunLines (fresh guides orders) lines replies state
-  pub written : AppendedFront before.sink.written after.sink.written replies
+  pub part : FeedsPart stop (fresh guides orders) (first_bytes text) before.sink.written after.sink.written ⊎ RunsLast stop guides orders before after text
 
 -- what `run` does where guides and orders with these numbers were handed in, by the status that it ends with
 abbrev pub Runs : List ℕ → List ℕ → Streams → Streams → Status → Type 0
@@ -127,8 +131,8 @@ Runs guides orders before after Done = IsCalm before after × RunsAll guides ord
 Runs guides orders before after Refused = ⊥
 Runs guides orders before after Usage = ⊥
 Runs guides orders before after ReadFault = FailsToRead before after × RunsLines guides orders before after
-Runs guides orders before after WriteFault = FailsToWrite before after × RunsPart guides orders before after
-Runs guides orders before after NoMemory = IsCalm before after × RunsPart guides orders before after
+Runs guides orders before after WriteFault = FailsToWrite before after × RunsPart stops.WriteFault guides orders before after
+Runs guides orders before after NoMemory = IsCalm before after × RunsPart stops.NoMemory guides orders before after
 Runs guides orders before after TooLong = IsCalm before after × RunsOver guides orders before after
 
 -- the whole text was taken: to its end, and within the limit
@@ -148,13 +152,13 @@ pub record ChecksAll (before after : Streams) (told : Verdict) : Type 0 where
   pub is : IsVerdict text told
   pub written : Appended before.sink.written after.sink.written (verdict_line told)
 
--- the whole text was taken, and a front of the line of its verdict was written
+-- the whole text was taken, and a proper front of the line of its verdict was written
 pub record ChecksPart (before after : Streams) : Type 0 where
   pub text : List ℕ
   pub told : Verdict
   pub takes : TakesText before.source after.source text
   pub is : IsVerdict text told
-  pub written : AppendedFront before.sink.written after.sink.written (verdict_line told)
+  pub written : AppendedProperFront before.sink.written after.sink.written (verdict_line told)
 
 -- these bytes were taken, and nothing was written
 pub record ChecksNone (before after : Streams) (text : List ℕ) : Type 0 where
@@ -171,11 +175,11 @@ Checks before after WriteFault = FailsToWrite before after × ChecksPart before 
 Checks before after NoMemory = IsCalm before after × (text : List ℕ) × ChecksNone before after text × IsInTime text
 Checks before after TooLong = IsCalm before after × (text : List ℕ) × ChecksNone before after text × (MOST_INPUT_BYTES < length text) × IsInTime text
 
--- the usage line was written, or a front of it where a write failed or memory ran out
+-- the usage line was written, or a proper front of it where a write failed, or nothing where memory ran out
 abbrev pub WritesUsage : SinkState → SinkState → Status → Type 0
 WritesUsage before after Usage = (after.faults ≡ before.faults) × Appended before.written after.written usage_line
-WritesUsage before after WriteFault = Rose before.faults after.faults × AppendedFront before.written after.written usage_line
-WritesUsage before after NoMemory = (after.faults ≡ before.faults) × AppendedFront before.written after.written usage_line
+WritesUsage before after WriteFault = Rose before.faults after.faults × AppendedProperFront before.written after.written usage_line
+WritesUsage before after NoMemory = after ≡ before
 WritesUsage before after _ = ⊥
 
 -- other words: nothing was read, and the usage line was written
@@ -183,14 +187,14 @@ pub record Refuses (before after : Streams) (status : Status) : Type 0 where
   pub unread : after.source ≡ before.source
   pub usage : WritesUsage before.sink after.sink status
 
--- the summary was written, or a front of it where a write failed or memory ran out
+-- the summary was written, or until a write failed or memory ran out
 abbrev pub WritesSummary : ℕ → SinkState → SinkState → Status → Type 0
 WritesSummary size before after Done =
     (after.faults ≡ before.faults) × (summary : List ℕ) × IsSummary size summary × Appended before.written after.written summary
 WritesSummary size before after WriteFault =
-    Rose before.faults after.faults × (summary : List ℕ) × IsSummary size summary × AppendedFront before.written after.written summary
+    Rose before.faults after.faults × (summary : List ℕ) × IsSummary size summary × AppendedUntil stops.WriteFault before.written after.written summary
 WritesSummary size before after NoMemory =
-    (after.faults ≡ before.faults) × (summary : List ℕ) × IsSummary size summary × AppendedFront before.written after.written summary
+    (after.faults ≡ before.faults) × (summary : List ℕ) × IsSummary size summary × AppendedUntil stops.NoMemory before.written after.written summary
 WritesSummary size before after _ = ⊥
 
 -- `gen`: nothing was read, and the summary of the session of so many queens was written
@@ -208,8 +212,8 @@ Obeys guides orders (Some (Gen size)) before after status = Generates size befor
 -- the status of a command that stopped, or did not
 abbrev pub status_of : {T : Type 0} → Result T Stop → Status
 status_of (Ok _) = Done
-status_of (Err stop.WriteFault) = WriteFault
-status_of (Err stop.NoMemory) = NoMemory
+status_of (Err stops.WriteFault) = WriteFault
+status_of (Err stops.NoMemory) = NoMemory
 
 -- neither count of faults rose
 pub record HasNoFault (before after : Streams) : Type 0 where

@@ -2,6 +2,7 @@
 use Rattle.std.specs.Prelude.{◌≡◌, ℕ, ◌<◌, ◌≤◌, ◌⊎◌, List, [], ◌++◌, length, take, Option, Some, None, Result, Ok, Err, false}
 use Rattle.palm_base.specs.Streams.{SourceState, SinkState, Consumes, IsAtEnd, Rose}
 use Rattle.palm_session.specs.State.{SessionState, fresh}
+use Rattle.palm_lang.specs.declared.stop.WriteStop.TheVariants as stops
 use Rattle.palm_session.specs.Feeding.{View, KeepsRest, FeedsEnd, FeedsPart, FinishesAll, FinishesPart}
 use Rattle.palm_cli.specs.Commands.{Streams}
 use Rattle.palm_cli.specs.declared.limits.TheConstants.{PIECE}
@@ -20,9 +21,9 @@ FeedsStatus session piece before after later None =
 FeedsStatus session piece before after later (Some Done) =
     (after.faults ≡ before.faults) × ((asked : ℕ) × FeedsEnd session.state (session.unfinished ++ piece) before.written after.written later.state asked)
 FeedsStatus session piece before after later (Some WriteFault) =
-    Rose before.faults after.faults × FeedsPart session.state (session.unfinished ++ piece) before.written after.written
+    Rose before.faults after.faults × FeedsPart stops.WriteFault session.state (session.unfinished ++ piece) before.written after.written
 FeedsStatus session piece before after later (Some NoMemory) =
-    (after.faults ≡ before.faults) × FeedsPart session.state (session.unfinished ++ piece) before.written after.written
+    (after.faults ≡ before.faults) × FeedsPart stops.NoMemory session.state (session.unfinished ++ piece) before.written after.written
 FeedsStatus session piece before after later (Some _) = ⊥
 
 -- what finishing does, by the status of the run
@@ -30,9 +31,9 @@ abbrev pub FinishesStatus : View → SinkState → SinkState → Status → Type
 FinishesStatus session before after Done =
     (after.faults ≡ before.faults) × ((state : SessionState) × (asked : ℕ) × FinishesAll session.state session.unfinished before.written after.written state asked)
 FinishesStatus session before after WriteFault =
-    Rose before.faults after.faults × FinishesPart session.state session.unfinished before.written after.written
+    Rose before.faults after.faults × FinishesPart stops.WriteFault session.state session.unfinished before.written after.written
 FinishesStatus session before after NoMemory =
-    (after.faults ≡ before.faults) × FinishesPart session.state session.unfinished before.written after.written
+    (after.faults ≡ before.faults) × FinishesPart stops.NoMemory session.state session.unfinished before.written after.written
 FinishesStatus session before after _ = ⊥
 
 -- a read gave this piece

@@ -1,7 +1,8 @@
 -- What the steps of `gen` do: lines whose replies are not kept, and then a `solve` line whose reply is written.
 use Rattle.std.specs.Prelude.{◌≡◌, ℕ, List, [], flat_map, All, Option, Result, Ok, Err, false}
-use Rattle.palm_base.specs.Streams.{SinkState, Appended, AppendedFront, Rose}
+use Rattle.palm_base.specs.Streams.{SinkState, Appended, Rose}
 use Rattle.palm_lang.specs.Reply.{ended}
+use Rattle.palm_lang.specs.Writing.{AppendedUntil}
 use Rattle.palm_session.specs.Answers.{Answers}
 use Rattle.palm_session.specs.Feeding.{View}
 use Rattle.palm_read.specs.Lines.{HasNoFeed, without_return}
@@ -31,21 +32,21 @@ pub record Solves (before : SessionState) (lines : List (List ℕ)) (was now : O
   pub answers : Answers between solve_line reply after
   pub written : Appended was now reply
 
--- a front of the reply of that one was written
-pub record SolvesPart (before : SessionState) (lines : List (List ℕ)) (was now : Option (List ℕ)) : Type 0 where
+-- the reply of that one was written until the stop
+pub record SolvesPart (stop : Stop) (before : SessionState) (lines : List (List ℕ)) (was now : Option (List ℕ)) : Type 0 where
   pub between : SessionState
   pub after : SessionState
   pub replies : List ℕ
   pub reply : List ℕ
   pub run : Run before lines replies between
   pub answers : Answers between solve_line reply after
-  pub written : AppendedFront was now reply
+  pub written : AppendedUntil stop was now reply
 
 -- the same by the answer of the step
 abbrev pub SolvesAfter : {T : Type 0} → View → List (List ℕ) → SinkState → SinkState → View → Result T Stop → Type 0
 SolvesAfter session lines before after later (Ok _) =
     (after.faults ≡ before.faults) × Solves session.state lines before.written after.written later.state × (later.unfinished ≡ []) × (later.over ≡ false)
 SolvesAfter session lines before after later (Err WriteFault) =
-    Rose before.faults after.faults × SolvesPart session.state lines before.written after.written
+    Rose before.faults after.faults × SolvesPart WriteFault session.state lines before.written after.written
 SolvesAfter session lines before after later (Err NoMemory) =
-    (after.faults ≡ before.faults) × SolvesPart session.state lines before.written after.written
+    (after.faults ≡ before.faults) × SolvesPart NoMemory session.state lines before.written after.written

@@ -1,6 +1,6 @@
 -- The line that tells a verdict, and the status that goes with it.
 use Rattle.std.specs.Prelude.{ℕ, List, ◌++◌, map, codes, decimal}
-use Rattle.palm_book.specs.Book.{Entry, name_of}
+use Rattle.palm_book.specs.Book.{BookVar, name_of}
 use Rattle.palm_claim.specs.declared.verdict.Cause.{Cause}
 use Rattle.palm_claim.specs.declared.verdict.Cause.TheVariants.{Malformed, Misdeclared, Beyond, Unproved, NotRight, NotReached}
 use Rattle.palm_claim.specs.declared.verdict.Claim.{Claim}
@@ -22,7 +22,7 @@ cause_code NotRight = codes "C4"
 cause_code NotReached = codes "C5"
 
 -- NAME VALUE, or conflict NAME
-abbrev pub claim_text : List Entry → Claim → List ℕ
+abbrev pub claim_text : List BookVar → Claim → List ℕ
 claim_text variables (Gone pair) = pair_text variables pair
 claim_text variables (Conflict x) = codes "conflict " ++ name_of variables x
 

@@ -1,8 +1,17 @@
-//! Laws of the summary of a generated session.
+//! Laws of the limits of the commands, and of the summary of a generated session.
 ghost use Rattle.std.specs.Prelude.{◌≡◌, ◌≤◌, ℕ, List, [], ◌++◌};
 ghost use Rattle.palm_session.specs.Replies.{Replies};
 ghost use Rattle.palm_cli.specs.Generator.{IsSummary, generated_text};
-ghost use Rattle.palm_cli.specs.declared.limits.TheConstants.{MOST_QUEENS};
+ghost use Rattle.palm_cli.specs.declared.limits.TheConstants.{MOST_INPUT_BYTES, MOST_QUEENS, MOST_SIZE_DIGITS, PIECE, SEARCH_BUDGET};
+
+/// The numbers of the limits.
+pub fn limits_are_these_numbers()
+    ensures input { MOST_INPUT_BYTES ≡ 16777216 }
+    ensures piece { PIECE ≡ 4096 }
+    ensures queens { MOST_QUEENS ≡ 16 }
+    ensures digits { MOST_SIZE_DIGITS ≡ 3 }
+    ensures budget { SEARCH_BUDGET ≡ 20000 }
+{}
 
 /// A number of queens has one summary.
 pub fn a_size_has_one_summary()

@@ -13,6 +13,6 @@ mod verdicts;
 mod words;
 
 pub use command::top;
-pub use laws::{a_size_has_one_summary, summaries_are_of_replies};
+pub use laws::{a_size_has_one_summary, limits_are_these_numbers, summaries_are_of_replies};
 pub use limits::{MOST_INPUT_BYTES, MOST_QUEENS, MOST_SIZE_DIGITS, PIECE, SEARCH_BUDGET};
 pub use status::Status;

@@ -1,11 +1,12 @@
 //! The whole search.
 ghost use Rattle.std.specs.Prelude.{◌≡◌, [], IfOk, OnErr, is_some};
 ghost use Rattle.palm_model.specs.State.{IsValid};
+ghost use Rattle.palm_engine.specs.Following.{OrderFollows};
 ghost use Rattle.palm_search.specs.Breaking.{BreaksOff, IsCutOff};
 ghost use Rattle.palm_search.specs.Calls.{search_state};
+ghost use Rattle.palm_search.specs.Following.{GuideFollows, SearchRunBy, SearchesBy};
 ghost use Rattle.palm_search.specs.Kept.{HasDecisions, HasOnlyUsers};
 ghost use Rattle.palm_search.specs.Leaves.{Counts, Leaves, Lent};
-ghost use Rattle.palm_search.specs.Search.{SearchRun, Searches};
 ghost use Rattle.palm_dbt.specs.Answers.{IsTrueOf};
 
 use palm_agenda::Order;
@@ -29,7 +30,8 @@ fn run<F: Filter, G: Guide, O: Order, L: Ledger>(
 ) -> Result<SearchEnd, NoMemory>
     requires fresh { search.old ≡ record { decisions = []; journal = [] } }
     requires users { HasOnlyUsers engine.old.state }
-    ensures ok { IfOk result (λ answer. SearchRun (is_some guide.old) (is_some order.old) budget engine.old.state search.new.journal answer (search_state engine.new.state search.new)) }
+    ensures ok { IfOk result (λ answer. SearchRunBy (GuideFollows G.answers G.hears G.state) (OrderFollows O.answers O.hears O.state) guide.old guide.new order.old order.new
+        budget engine.old.state search.new.journal answer (search_state engine.new.state search.new)) }
     ensures err { OnErr result (IsCutOff (is_some guide.old) (is_some order.old) budget engine.old.state search.new.journal engine.new.state) }
     ensures decisions { HasDecisions (search_state engine.new.state search.new) }
     ensures counts { Counts engine.old engine.new steps.old steps.new }
@@ -53,9 +55,10 @@ fn run<F: Filter, G: Guide, O: Order, L: Ledger>(
 
 /// Searches for values that satisfy all constraints, within so many turns: it settles, decides, and at a conflict undoes
 /// the latest decision of it, until each variable has one value, a conflict holds no decision, or the budget is spent.
-/// Then all decisions and negations are withdrawn, and the engine settles once more. The journal holds the turns. After
-/// want of memory the decisions and negations are withdrawn too, the journal holds the turns so far, and constraints may
-/// be pending. (Jussien, Debruyne and Boizumault 2000)
+/// Then all decisions and negations are withdrawn, and the engine settles once more. The journal holds the turns. The guide
+/// is asked once at each decision and told once of each undoing, and the order is asked and told in all settlings, and
+/// neither at any other moment. After want of memory the decisions and negations are withdrawn too, the journal holds the
+/// turns so far, and constraints may be pending. (Jussien, Debruyne and Boizumault 2000)
 pub fn solve<F: Filter, G: Guide, O: Order, L: Ledger>(
     alloc: Global,
     engine: &mut Engine<F>,
@@ -67,7 +70,8 @@ pub fn solve<F: Filter, G: Guide, O: Order, L: Ledger>(
 ) -> Result<SearchEnd, NoMemory>
     requires fresh { search.old ≡ record { decisions = []; journal = [] } }
     requires users { HasOnlyUsers engine.old.state }
-    ensures ok { IfOk result (λ answer. Searches (is_some guide.old) (is_some order.old) budget engine.old.state search.new.journal answer engine.new.state) }
+    ensures ok { IfOk result (λ answer. SearchesBy (GuideFollows G.answers G.hears G.state) (OrderFollows O.answers O.hears O.state) guide.old guide.new order.old order.new
+        budget engine.old.state search.new.journal answer engine.new.state) }
     ensures holds { IfOk result (IsTrueOf engine.old.state budget) }
     ensures err { OnErr result (BreaksOff (is_some guide.old) (is_some order.old) budget engine.old.state search.new.journal engine.new.state) }
     ensures leaves { Leaves engine.old.state engine.new.state search.new result }

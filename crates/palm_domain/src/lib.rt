@@ -3,10 +3,12 @@
 
 mod bits;
 mod domain;
+mod laws;
 mod limits;
 mod marks;
 mod places;
 mod store;
 
+pub use laws::limits_are_these_numbers;
 pub use limits::MOST_VALUES;
 pub use store::DomainStore;

@@ -6,7 +6,8 @@ use Rattle.palm_base.specs.declared.terms.Pair.{Pair}
 use Rattle.palm_base.specs.declared.terms.Cid.{Cid}
 use Rattle.palm_base.proofs.cited.Members.{member_here}
 use Rattle.palm_model.specs.Domains.{Has}
-use Rattle.palm_model.specs.Log.{Active, Rises, cids_of, log_pairs}
+use Rattle.palm_base.specs.Order.{Rises}
+use Rattle.palm_model.specs.Log.{Active, cids_of, log_pairs}
 use Rattle.palm_model.specs.State.{EngineState, HasEmpty, AllFilled, IsValid, present}
 use Rattle.palm_model.specs.Event.{Removes, removal_of}
 use Rattle.palm_model.proofs.cited.Without.{without_has}

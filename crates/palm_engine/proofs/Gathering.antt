@@ -1,4 +1,4 @@
--- Conflicts and flat conflicts, gathered from one value or one name after another.
+-- Conflicts and flat conflicts, gathered from one value or one id after another.
 use Rattle.std.proofs.Common.{◌≡◌, ℕ, ◌+◌, ◌<◌, ◌≤◌, List, [], ◌∷◌, ◌++◌, length, get_or, take, Contains, Some, ℤ, ◌⊎◌, inl, inr, sym, ap, ◌∙◌, subst}
 use Rattle.std.proofs.lemmas.List.{take_more, take_all}
 use Rattle.std.proofs.lemmas.List.Elements.{Contains-append_left, Contains-push, Contains-push_cases}
@@ -10,8 +10,9 @@ use Rattle.palm_domain.specs.Rows.{initial_of, present_of, declared_values}
 use Rattle.palm_model.specs.Conflict.{InFlat, IsKeptConflict}
 use Rattle.palm_model.specs.Conflict.InFlat.{as_it_is, in_place}
 use Rattle.palm_model.specs.Domains.{Has}
-use Rattle.palm_model.specs.Log.{Active, IsListOf, Rises, cids_of, log_pairs}
-use Rattle.palm_model.specs.State.{IsEmptyAt, IsGround, present}
+use Rattle.palm_base.specs.Order.{Rises}
+use Rattle.palm_model.specs.Log.{Active, IsListOf, cids_of, log_pairs}
+use Rattle.palm_model.specs.State.{IsEmptyAt, IsJustifier, present}
 use Rattle.palm_model.proofs.cited.Without.{pair_of}
 use Rattle.palm_events.proofs.cited.Agreeing.{gone_member}
 use Rattle.palm_events.proofs.cited.Names.{single}
@@ -19,17 +20,17 @@ use Rattle.palm_explain.specs.Explanations.{LacksExactly, NamesOfSome}
 use Rattle.palm_explain.specs.Merging.{IsMerged}
 use Rattle.palm_engine.specs.declared.filtering.Filtering.{Filtering}
 use Rattle.palm_engine.specs.Gathered.{Gathers}
-use Rattle.palm_engine.specs.Kept.{IsEmptyKept, IsKept, state_of}
+use Rattle.palm_engine.specs.Kept.{IsEmptyKept, IsInStep, state_of}
 
 -- the empty list, where nothing has the property
-pub nothing_listed : (P : Cid → Type 0) (names : List Cid) → names ≡ [] → ((c : Cid) → P c → ⊥) → IsListOf P names
-nothing_listed P names e none = record {
+pub nothing_listed : (P : Cid → Type 0) (cids : List Cid) → cids ≡ [] → ((c : Cid) → P c → ⊥) → IsListOf P cids
+nothing_listed P cids e none = record {
   rising = subst Rises (sym e) tt;
   sound = λ c m. absurd (member_nil c (subst (λ ns. Contains ns c) e m));
   whole = λ c p. absurd (none c p);
 }
 
--- one more name or value
+-- one more id or value
 more_cases : {X : Type 0} (xs : List X) (i : ℕ) (x : X) → i < length xs → x ≡ get_or xs i x → (y : X) → Contains (take (i + 1) xs) y → Contains (take i xs) y ⊎ (x ≡ y)
 more_cases xs i x lt at y m = Contains-push_cases (take i xs) x y (subst (λ ys. Contains ys y) (take_more xs i x lt ∙ ap (λ z. take i xs ++ z ∷ []) (sym at)) m)
 
@@ -41,10 +42,10 @@ more_last xs i x lt at = subst (λ ys. Contains ys x) (sym (take_more xs i x lt 
 
 -- ---- conflicts
 
--- the names in the explanations of all declared values are the conflict
-pub conflict_listed : (f : Filtering) (active : List Active) (x : ℕ) (values : List ℤ) (names : List Cid) → values ≡ declared_values f.store x
-    → IsListOf (NamesOfSome f.log.log x values) names → IsKeptConflict (state_of f active) x names
-conflict_listed f active x values names declared listed = record {
+-- the ids in the explanations of all declared values are the conflict
+pub conflict_listed : (f : Filtering) (active : List Active) (x : ℕ) (values : List ℤ) (cids : List Cid) → values ≡ declared_values f.store x
+    → IsListOf (NamesOfSome f.log.log x values) cids → IsKeptConflict (state_of f active) x cids
+conflict_listed f active x values cids declared listed = record {
   rising = listed.rising;
   sound = λ c m. let some = listed.sound c m in record { value = some.value; declared = subst (λ vs. Contains vs some.value) declared some.among; names = some.names };
   whole = λ c held. listed.whole c (record { value = held.value; among = subst (λ vs. Contains vs held.value) (sym declared) held.declared; names = held.names });
@@ -59,32 +60,32 @@ empty_logged f x values lacks empty declared v among =
     (λ has. member_nil v (subst (λ vs. Contains vs v) empty.empty (subst (λ d. Has d x v) (sym lacks.present) has)))
 
 -- the empty variable is the one that is kept
-pub kept_conflict : (f : Filtering) (active : List Active) (var x : ℕ) (names : List Cid) → IsKept f active → f.empty ≡ Some var → IsEmptyAt (present (state_of f active)) x
-    → IsKeptConflict (state_of f active) var names → IsKeptConflict (state_of f active) x names
-kept_conflict f active var x names kept known is conflict =
+pub kept_conflict : (f : Filtering) (active : List Active) (var x : ℕ) (cids : List Cid) → IsInStep f active → f.empty ≡ Some var → IsEmptyAt (present (state_of f active)) x
+    → IsKeptConflict (state_of f active) var cids → IsKeptConflict (state_of f active) x cids
+kept_conflict f active var x cids kept known is conflict =
     let empty = subst (IsEmptyKept (present_of f.store)) known kept.empty in
-    subst (λ y. IsKeptConflict (state_of f active) y names) (sym (empty.1 x (subst (λ d. IsEmptyAt d x) (sym kept.removed.present) is))) conflict
+    subst (λ y. IsKeptConflict (state_of f active) y cids) (sym (empty.1 x (subst (λ d. IsEmptyAt d x) (sym kept.removed.present) is))) conflict
 
 -- ---- flat conflicts
 
-pub flat_none : (active : List Active) (from names : List Cid) → from ≡ [] → names ≡ [] → IsListOf (InFlat active (Contains from)) names
-flat_none active from names e f = nothing_listed (InFlat active (Contains from)) names f (λ c flat. none active from c e flat)
+pub flat_none : (active : List Active) (from cids : List Cid) → from ≡ [] → cids ≡ [] → IsListOf (InFlat active (Contains from)) cids
+flat_none active from cids e f = nothing_listed (InFlat active (Contains from)) cids f (λ c flat. none active from c e flat)
   where
     none : (active : List Active) (from : List Cid) (c : Cid) → from ≡ [] → InFlat active (Contains from) c → ⊥
-    none active from c e (as_it_is k ground) = member_nil c (subst (λ ns. Contains ns c) e k)
+    none active from c e (as_it_is k justifier) = member_nil c (subst (λ ns. Contains ns c) e k)
     none active from c e (in_place p a k m n held) = member_nil (Not p) (subst (λ ns. Contains ns (Not p)) e k)
 
 flat_weaker : (active : List Active) (K L : Cid → Type 0) → ((c : Cid) → K c → L c) → (c : Cid) → InFlat active K c → InFlat active L c
-flat_weaker active K L sub c (as_it_is k ground) = as_it_is (sub c k) ground
+flat_weaker active K L sub c (as_it_is k justifier) = as_it_is (sub c k) justifier
 flat_weaker active K L sub c (in_place p a k m n held) = in_place p a (sub (Not p) k) m n held
 
 flat_either : (active : List Active) (K L M : Cid → Type 0) → ((c : Cid) → K c → L c ⊎ M c) → (c : Cid) → InFlat active K c → InFlat active L c ⊎ InFlat active M c
-flat_either active K L M split c (as_it_is k ground) = elim (split c k) [ inl l ↦ inl (as_it_is l ground) | inr m ↦ inr (as_it_is m ground) ]
+flat_either active K L M split c (as_it_is k justifier) = elim (split c k) [ inl l ↦ inl (as_it_is l justifier) | inr m ↦ inr (as_it_is m justifier) ]
 flat_either active K L M split c (in_place p a k m n held) = elim (split (Not p) k) [ inl l ↦ inl (in_place p a l m n held) | inr o ↦ inr (in_place p a o m n held) ]
 
-pub flat_more : (active : List Active) (from : List Cid) (i : ℕ) (cid : Cid) (names gathered : List Cid) → i < length from → cid ≡ get_or from i cid
-    → IsListOf (InFlat active (Contains (take i from))) names → Gathers (InFlat active (λ d. d ≡ cid)) names gathered → IsListOf (InFlat active (Contains (take (i + 1) from))) gathered
-flat_more active from i cid names gathered lt at listed gathers = record {
+pub flat_more : (active : List Active) (from : List Cid) (i : ℕ) (cid : Cid) (cids gathered : List Cid) → i < length from → cid ≡ get_or from i cid
+    → IsListOf (InFlat active (Contains (take i from))) cids → Gathers (InFlat active (λ d. d ≡ cid)) cids gathered → IsListOf (InFlat active (Contains (take (i + 1) from))) gathered
+flat_more active from i cid cids gathered lt at listed gathers = record {
   rising = gathers.rising;
   sound = λ c m. elim (gathers.sound c m) [
     | inl k ↦ flat_weaker active (Contains (take i from)) (Contains (take (i + 1) from)) (more_left from i cid lt at) c (listed.sound c k)
@@ -96,13 +97,13 @@ flat_more active from i cid names gathered lt at listed gathers = record {
   ];
 }
 
-pub flat_all : (active : List Active) (from : List Cid) (i : ℕ) (names : List Cid) → length from ≤ i → IsListOf (InFlat active (Contains (take i from))) names → IsListOf (InFlat active (Contains from)) names
-flat_all active from i names le listed = subst (λ ns. IsListOf (InFlat active (Contains ns)) names) (take_all i from le) listed
+pub flat_all : (active : List Active) (from : List Cid) (i : ℕ) (cids : List Cid) → length from ≤ i → IsListOf (InFlat active (Contains (take i from))) cids → IsListOf (InFlat active (Contains from)) cids
+flat_all active from i cids le listed = subst (λ ns. IsListOf (InFlat active (Contains ns)) cids) (take_all i from le) listed
 
 -- a negation stands for its justification
-pub flat_negation : (active : List Active) (cid : Cid) (p : Pair) (a : Active) (names because gathered : List Cid) → Rises (cids_of active) → cid ≡ Not p → Contains active a → a.cid ≡ cid → because ≡ a.because
-    → IsMerged names because gathered → Gathers (InFlat active (λ d. d ≡ cid)) names gathered
-flat_negation active cid p a names because gathered rises is posted named told merged = record {
+pub flat_negation : (active : List Active) (cid : Cid) (p : Pair) (a : Active) (cids justification gathered : List Cid) → Rises (cids_of active) → cid ≡ Not p → Contains active a → a.cid ≡ cid → justification ≡ a.justification
+    → IsMerged cids justification gathered → Gathers (InFlat active (λ d. d ≡ cid)) cids gathered
+flat_negation active cid p a cids justification gathered rises is posted named told merged = record {
   rising = merged.rising;
   sound = λ c m. elim (merged.sound c m) [
     | inl k ↦ inl k
@@ -112,17 +113,17 @@ flat_negation active cid p a names because gathered rises is posted named told m
   second = λ c flat. merged.second c (held c flat);
 }
   where
-    held : (c : Cid) → InFlat active (λ d. d ≡ cid) c → Contains because c
-    held c (as_it_is e ground) = absurd (subst IsGround (e ∙ is) ground)
-    held c (in_place q b e m n k) = subst (λ ns. Contains ns c) (sym told) (subst (λ (z : Active). Contains z.because c) (single active rises b a m posted (n ∙ e ∙ sym named)) k)
+    held : (c : Cid) → InFlat active (λ d. d ≡ cid) c → Contains justification c
+    held c (as_it_is e justifier) = absurd (subst IsJustifier (e ∙ is) justifier)
+    held c (in_place q b e m n k) = subst (λ ns. Contains ns c) (sym told) (subst (λ (z : Active). Contains z.justification c) (single active rises b a m posted (n ∙ e ∙ sym named)) k)
 
--- any other name stands for itself
-pub flat_ground : (active : List Active) (cid : Cid) (names more gathered : List Cid) → IsGround cid → more ≡ cid ∷ [] → IsMerged names more gathered → Gathers (InFlat active (λ d. d ≡ cid)) names gathered
-flat_ground active cid names more gathered ground told merged = record {
+-- any other id stands for itself
+pub flat_justifier : (active : List Active) (cid : Cid) (cids more gathered : List Cid) → IsJustifier cid → more ≡ cid ∷ [] → IsMerged cids more gathered → Gathers (InFlat active (λ d. d ≡ cid)) cids gathered
+flat_justifier active cid cids more gathered justifier told merged = record {
   rising = merged.rising;
   sound = λ c m. elim (merged.sound c m) [
     | inl k ↦ inl k
-    | inr k ↦ let e = member_single cid c (subst (λ ns. Contains ns c) told k) in inr (as_it_is (sym e) (subst IsGround e ground))
+    | inr k ↦ let e = member_single cid c (subst (λ ns. Contains ns c) told k) in inr (as_it_is (sym e) (subst IsJustifier e justifier))
   ];
   first = merged.first;
   second = λ c flat. merged.second c (itself c flat);
@@ -130,4 +131,4 @@ flat_ground active cid names more gathered ground told merged = record {
   where
     itself : (c : Cid) → InFlat active (λ d. d ≡ cid) c → Contains more c
     itself c (as_it_is e g) = subst (λ ns. Contains ns c) (sym told) (member_same (cid ∷ []) cid c (sym e) (member_here cid []))
-    itself c (in_place q b e m n k) = absurd (subst IsGround (sym e) ground)
+    itself c (in_place q b e m n k) = absurd (subst IsJustifier (sym e) justifier)

@@ -11,22 +11,24 @@ use Rattle.palm_base.proofs.cited.Members.{member_nil, member_here, member_there
 use Rattle.palm_domain.specs.Rows.{Row, IsPresent, LosesPair, initial_of, present_of, present_values, values_without}
 use Rattle.palm_model.specs.Domains.{Domains, AllAscend, Ascends, Has, IsInside, values_of, without}
 use Rattle.palm_model.specs.Constraint.{scope}
-use Rattle.palm_model.specs.Log.{Active, IsActive, Removal, Rises, cids_of, is_named, log_pairs}
-use Rattle.palm_model.specs.State.{EngineState, FitsName, IsEmptyAt, AllFilled, is_awake, is_over, present, woken}
-use Rattle.palm_model.specs.Event.{Declares, Posts, WithdrawsAll, with_posted, without_names, posted, vars_of, lost_pairs}
+use Rattle.palm_base.specs.Order.{Rises}
+use Rattle.palm_model.specs.Log.{Active, IsActive, Removal, cids_of, is_named, log_pairs}
+use Rattle.palm_model.specs.State.{EngineState, FitsCid, IsEmptyAt, AllFilled, is_awake, is_over, present, woken}
+use Rattle.palm_model.specs.Event.{Declares, Posts, WithdrawsAll, with_posted, without_cids, posted, vars_of, lost_pairs}
 use Rattle.palm_model.proofs.cited.Narrowing.{has_declared}
 use Rattle.palm_model.proofs.cited.Supports.{any_member}
 use Rattle.palm_model.proofs.cited.Ascending.{domains_same}
 use Rattle.palm_model.proofs.cited.Without.{ascend_without, has_without, length_without, pair_of, without_has}
 use Rattle.palm_events.proofs.cited.Agreeing.{has_more, more_has, values_of_more}
-use Rattle.palm_events.proofs.cited.Names.{named_member, rising_same}
+use Rattle.palm_base.proofs.cited.CidOrder.{rising_same}
+use Rattle.palm_events.proofs.cited.Names.{named_member}
 use Rattle.palm_events.proofs.cited.Scoped.{posts_scoped}
-use Rattle.palm_events.proofs.cited.States.{over_member, awake_named, awake_over, woken_active, member_woken, woken_rises, without_cid_member, member_without_cid, without_names_member, member_without_names, without_names_rises, with_posted_rises, with_posted_here, member_with_posted}
+use Rattle.palm_events.proofs.cited.States.{over_member, awake_named, awake_over, woken_active, member_woken, woken_rises, without_cid_member, member_without_cid, without_cids_member, member_without_cids, without_cids_rises, with_posted_rises, with_posted_here, member_with_posted}
 use Rattle.palm_events.proofs.cited.Valid.{active_declared, declares_valid, left_grows, left_same, posts_valid}
 use Rattle.palm_explain.specs.Explanations.{Explanations, LacksExactly}
 use Rattle.palm_agenda.specs.Agenda.{Waiting, IsFormed, IsOver, mark_others, marked_whole, with_connected, without_connected}
 use Rattle.palm_engine.specs.declared.filtering.Filtering.{Filtering}
-use Rattle.palm_engine.specs.Kept.{AreConnected, AreMarked, IsEmptyKept, IsKept, IsEngine, state_of}
+use Rattle.palm_engine.specs.Kept.{AreConnected, AreMarked, IsEmptyKept, IsInStep, IsEngine, state_of}
 use Rattle.palm_engine.specs.Changed.{NotesGain, NotesLoss, PutsBack, TakesOut, is_one_of}
 use Rattle.palm_engine.proofs.Scopes.{connected_is_active, over_active, active_over, others_connected, marked_connected, without_is_connected, with_is_connected}
 use Rattle.palm_engine.proofs.Taking.{without_push}
@@ -104,7 +106,7 @@ gain_empty (Some x) after d e long inside kept notes = elim (empty_or_filled (va
 -- ---- a removal
 
 pub taken_kept : (f g : Filtering) (p : Pair) (by : Cid) (reasons : List Pair) (active : List Active) → Rises (cids_of active)
-    → TakesOut f p by reasons g → p.var < length (initial_of f.store) → f.empty ≡ None → IsKept f active → IsKept g active
+    → TakesOut f p by reasons g → p.var < length (initial_of f.store) → f.empty ≡ None → IsInStep f active → IsInStep g active
 taken_kept f g p by reasons active rises takes lt none kept =
     let others : (z : ℕ) (u : ℤ) → (z ≡ p.var → ⊥) → Has (present_of f.store) z u → Has (present_of g.store) z u = λ z u ne has. takes.loses.others z u (λ e h. ne e) has in
     let long : length (present_of f.store) ≡ length (present_of g.store) = present_long f.store ∙ ap (λ (d : Domains). length d) (sym takes.initial) ∙ sym (present_long g.store) in
@@ -155,7 +157,7 @@ took_out f store log agenda empty p by reasons lacks has initial now loses logge
 
 -- ---- a withdrawal
 
-pub put_back_kept : (f g : Filtering) (cid : Cid) (active : List Active) → PutsBack f cid g → IsKept f active → IsKept g (without_names (cid ∷ []) active)
+pub put_back_kept : (f g : Filtering) (cid : Cid) (active : List Active) → PutsBack f cid g → IsInStep f active → IsInStep g (without_cids (cid ∷ []) active)
 put_back_kept f g cid active puts kept =
     let s = state_of f active in
     let now : present_of f.store ≡ present s = kept.removed.present in
@@ -169,19 +171,19 @@ put_back_kept f g cid active puts kept =
     record {
       removed = puts.removed;
       formed = puts.formed;
-      connected = subst (AreConnected (without_names (cid ∷ []) active)) (sym puts.connected)
-          (marked_connected (without_names (cid ∷ []) active) (without_connected cid f.agenda.connected) (is_one_of g.log.restored) without);
-      marked = subst (AreMarked (present_of g.store) (without_names (cid ∷ []) active)) (sym puts.connected)
+      connected = subst (AreConnected (without_cids (cid ∷ []) active)) (sym puts.connected)
+          (marked_connected (without_cids (cid ∷ []) active) (without_connected cid f.agenda.connected) (is_one_of g.log.restored) without);
+      marked = subst (AreMarked (present_of g.store) (without_cids (cid ∷ []) active)) (sym puts.connected)
           (restored_marked active f.agenda.connected (present_of f.store) (present_of g.store) cid g.log.restored grows only kept.marked);
       empty = gain_empty f.empty g.empty (present_of f.store) (present_of g.store) long grows kept.empty puts.empty;
     }
 
-pub put_back_withdraws : (f g : Filtering) (cid : Cid) (active : List Active) → Rises (cids_of active) → PutsBack f cid g → IsKept f active
-    → WithdrawsAll (state_of f active) (cid ∷ []) (state_of g (without_names (cid ∷ []) active))
+pub put_back_withdraws : (f g : Filtering) (cid : Cid) (active : List Active) → Rises (cids_of active) → PutsBack f cid g → IsInStep f active
+    → WithdrawsAll (state_of f active) (cid ∷ []) (state_of g (without_cids (cid ∷ []) active))
 put_back_withdraws f g cid active rises puts kept =
-    let left = without_names (cid ∷ []) active in
+    let left = without_cids (cid ∷ []) active in
     let vars = vars_of (lost_pairs f.log.log g.log.log) in
-    let after_rises : Rises (cids_of left) = without_names_rises (cid ∷ []) active rises in
+    let after_rises : Rises (cids_of left) = without_cids_rises (cid ∷ []) active rises in
     let connected = without_is_connected active f.agenda.connected cid kept.connected in
     let same : g.agenda.pending ≡ woken left f.agenda.pending vars =
     rising_same g.agenda.pending (woken left f.agenda.pending vars) puts.formed.pending_rising (woken_rises left f.agenda.pending vars after_rises)
@@ -189,7 +191,7 @@ put_back_withdraws f g cid active rises puts kept =
       | inl k ↦
           let r = without_cid_member cid f.agenda.pending c k in
           let is = connected_is_active active f.agenda.connected kept.connected c (kept.formed.pending_connected c r.0) in
-          let stays = member_without_names (cid ∷ []) active is.owner is.posted (λ n. r.1 (sym (is.named) ∙ sym (single_name cid is.owner.cid n))) in
+          let stays = member_without_cids (cid ∷ []) active is.owner is.posted (λ n. r.1 (sym (is.named) ∙ sym (single_cid cid is.owner.cid n))) in
           subst (Contains (woken left f.agenda.pending vars)) is.named
           (member_woken left f.agenda.pending vars is.owner stays (awake_named f.agenda.pending vars is.owner (member_same f.agenda.pending c is.owner.cid (sym is.named) r.0)))
       | inr k ↦
@@ -199,7 +201,7 @@ put_back_withdraws f g cid active rises puts kept =
     ])
     (λ c m.
     let r = woken_active left f.agenda.pending vars c m in
-    let stays = without_names_member (cid ∷ []) active r.0 r.1 in
+    let stays = without_cids_member (cid ∷ []) active r.0 r.1 in
     (puts.pending c).1 (elim (or_cases (is_named f.agenda.pending r.0.cid) (list_any (λ x. is_over r.0.con x) vars) r.3) [
       | inl t ↦ inl (member_without_cid cid f.agenda.pending c (member_same f.agenda.pending r.0.cid c r.2 (named_member f.agenda.pending r.0.cid t))
           (λ e. stays.1 (member_same (cid ∷ []) cid r.0.cid (sym (r.2 ∙ e)) (member_here cid []))))
@@ -213,13 +215,13 @@ put_back_withdraws f g cid active rises puts kept =
       after = λ i. record { initial = puts.initial i; active = left; log = g.log.log; pending = same i };
     }
   where
-    single_name : (c d : Cid) → Contains (c ∷ []) d → c ≡ d
-    single_name c d m = elim (member_cases c [] d m) [ inl e ↦ e | inr k ↦ absurd (member_nil d k) ]
+    single_cid : (c d : Cid) → Contains (c ∷ []) d → c ≡ d
+    single_cid c d m = elim (member_cases c [] d m) [ inl e ↦ e | inr k ↦ absurd (member_nil d k) ]
 
 -- ---- a posting
 
 pub posted_kept : (f : Filtering) (w : Waiting) (a : Active) (active : List Active) → (IsActive active a.cid → ⊥) → IsFormed w
-    → w.connected ≡ with_connected (marked_whole a.cid (scope a.con)) f.agenda.connected → IsKept f active → IsKept (record f { agenda = w }) (with_posted a active)
+    → w.connected ≡ with_connected (marked_whole a.cid (scope a.con)) f.agenda.connected → IsInStep f active → IsInStep (record f { agenda = w }) (with_posted a active)
 posted_kept f w a active inactive formed connected kept = record {
   removed = kept.removed;
   formed = formed;
@@ -229,31 +231,31 @@ posted_kept f w a active inactive formed connected kept = record {
 }
 
 -- where no variable is restored, only what was pending is awake
-awake_alone : (names : List Cid) (a : Active) → is_awake names [] a ≡ true → Contains names a.cid
-awake_alone names a h = elim (or_cases (is_named names a.cid) false h) [
-  | inl t ↦ named_member names a.cid t
+awake_alone : (cids : List Cid) (a : Active) → is_awake cids [] a ≡ true → Contains cids a.cid
+awake_alone cids a h = elim (or_cases (is_named cids a.cid) false h) [
+  | inl t ↦ named_member cids a.cid t
   | inr f ↦ absurd (false≢true f)
 ]
 
 pub posted_state : (f : Filtering) (w : Waiting) (a : Active) (active : List Active) → Rises (cids_of active) → (IsActive active a.cid → ⊥) → IsFormed w
-    → ((c : Cid) → Contains w.pending c ↔ (Contains f.agenda.pending c ⊎ (c ≡ a.cid))) → IsKept f active
+    → ((c : Cid) → Contains w.pending c ↔ (Contains f.agenda.pending c ⊎ (c ≡ a.cid))) → IsInStep f active
     → state_of (record f { agenda = w }) (with_posted a active) ≡ posted (state_of f active) a
 posted_state f w a active rises inactive formed pending kept =
     let more = with_posted a active in
-    let names = a.cid ∷ f.agenda.pending in
-    let same : w.pending ≡ woken more names [] =
-    rising_same w.pending (woken more names []) formed.pending_rising (woken_rises more names [] (with_posted_rises a active rises))
+    let cids = a.cid ∷ f.agenda.pending in
+    let same : w.pending ≡ woken more cids [] =
+    rising_same w.pending (woken more cids []) formed.pending_rising (woken_rises more cids [] (with_posted_rises a active rises))
     (λ c m. elim ((pending c).0 m) [
       | inl k ↦
           let is = connected_is_active active f.agenda.connected kept.connected c (kept.formed.pending_connected c k) in
-          subst (Contains (woken more names [])) is.named
-          (member_woken more names [] is.owner (member_with_posted a active is.owner inactive is.posted)
-          (awake_named names [] is.owner (member_there a.cid f.agenda.pending is.owner.cid (member_same f.agenda.pending c is.owner.cid (sym is.named) k))))
-      | inr e ↦ subst (Contains (woken more names [])) (sym e) (member_woken more names [] a (with_posted_here a active) (awake_named names [] a (member_here a.cid f.agenda.pending)))
+          subst (Contains (woken more cids [])) is.named
+          (member_woken more cids [] is.owner (member_with_posted a active is.owner inactive is.posted)
+          (awake_named cids [] is.owner (member_there a.cid f.agenda.pending is.owner.cid (member_same f.agenda.pending c is.owner.cid (sym is.named) k))))
+      | inr e ↦ subst (Contains (woken more cids [])) (sym e) (member_woken more cids [] a (with_posted_here a active) (awake_named cids [] a (member_here a.cid f.agenda.pending)))
     ])
     (λ c m.
-    let r = woken_active more names [] c m in
-    (pending c).1 (elim (member_cases a.cid f.agenda.pending r.0.cid (awake_alone names r.0 r.3)) [
+    let r = woken_active more cids [] c m in
+    (pending c).1 (elim (member_cases a.cid f.agenda.pending r.0.cid (awake_alone cids r.0 r.3)) [
       | inl e ↦ inr (sym (e ∙ r.2))
       | inr k ↦ inl (member_same f.agenda.pending r.0.cid c r.2 k)
     ])) in
@@ -261,7 +263,7 @@ posted_state f w a active rises inactive formed pending kept =
 
 -- what a posting leaves, where it succeeded
 pub record IsActivated (f : Filtering) (w : Waiting) (a : Active) (active after : List Active) : Type 0 where
-  pub fits : FitsName (length (initial_of f.store)) active a
+  pub fits : FitsCid (length (initial_of f.store)) active a
   pub posted : after ≡ with_posted a active
   pub connected : w.connected ≡ with_connected (marked_whole a.cid (scope a.con)) f.agenda.connected
   pub pending : (c : Cid) → Contains w.pending c ↔ (Contains f.agenda.pending c ⊎ (c ≡ a.cid))
@@ -278,7 +280,7 @@ activated_posts f w a active after inactive is engine = record {
 pub activated_engine : (f : Filtering) (w : Waiting) (a : Active) (active after : List Active) → (IsActive active a.cid → ⊥) → IsActivated f w a active after → IsEngine f active
     → IsEngine (record f { agenda = w }) after
 activated_engine f w a active after inactive is engine = record {
-  kept = subst (IsKept (record f { agenda = w })) (sym is.posted) (posted_kept f w a active inactive is.formed is.connected engine.kept);
+  kept = subst (IsInStep (record f { agenda = w })) (sym is.posted) (posted_kept f w a active inactive is.formed is.connected engine.kept);
   valid = posts_valid (state_of f active) (state_of (record f { agenda = w }) after) a (activated_posts f w a active after inactive is engine) engine.valid;
   scoped = posts_scoped (state_of f active) (state_of (record f { agenda = w }) after) a (activated_posts f w a active after inactive is engine) engine.scoped;
 }

@@ -8,12 +8,13 @@ use Rattle.palm_base.proofs.cited.Members.{member_cases, member_unmap, member_sa
 use Rattle.palm_model.specs.Constraint.{scope}
 use Rattle.palm_model.specs.Domains.{Domains, Has, IsInside}
 use Rattle.palm_model.specs.Support.{IsSupported}
-use Rattle.palm_model.specs.Log.{Active, IsActive, Rises, cid_before, cids_of, is_named}
-use Rattle.palm_model.specs.Event.{with_posted, without_names}
+use Rattle.palm_base.specs.Order.{Rises, cid_before}
+use Rattle.palm_model.specs.Log.{Active, IsActive, cids_of, is_named}
+use Rattle.palm_model.specs.Event.{with_posted, without_cids}
 use Rattle.palm_model.specs.declared.constraint.Con.{Con}
 use Rattle.palm_model.proofs.cited.Formed.{part_scope}
 use Rattle.palm_model.proofs.cited.Supports.{any_member, member_any}
-use Rattle.palm_events.proofs.cited.States.{with_posted_cases, without_names_member}
+use Rattle.palm_events.proofs.cited.States.{with_posted_cases, without_cids_member}
 use Rattle.palm_agenda.specs.Agenda.{Connected, is_over, marked_whole, marked_where, marks_where, mark_others, with_connected, without_connected}
 use Rattle.palm_engine.specs.Kept.{Scoped, AreConnected, AreMarked}
 use Rattle.palm_engine.specs.Changed.{is_one_of}
@@ -115,7 +116,7 @@ taken_marked active connected d e x rises are inside others marked a c k y w am 
 
 pub restored_marked : (active : List Active) (connected : List Connected) (d e : Domains) (cid : Cid) (vars : List ℕ)
     → IsInside d e → ((z : ℕ) (u : ℤ) → (Contains vars z → ⊥) → Has e z u → Has d z u)
-    → AreMarked d active connected → AreMarked e (without_names (cid ∷ []) active) (map (marked_where (is_one_of vars)) (without_connected cid connected))
+    → AreMarked d active connected → AreMarked e (without_cids (cid ∷ []) active) (map (marked_where (is_one_of vars)) (without_connected cid connected))
 restored_marked active connected d e cid vars grows only marked a c k y w am cm named var plain has =
     let r = member_unmap (marked_where (is_one_of vars)) (without_connected cid connected) c cm in
     let listed = (filter_member (λ (d : Connected). not (is_named (cid ∷ []) d.cid)) connected r.0 r.1).0 in
@@ -123,7 +124,7 @@ restored_marked active connected d e cid vars grows only marked a c k y w am cm 
     let is : IsPlain (marked_where (is_one_of vars) r.0) k y = subst (λ z. IsPlain z k y) (sym r.2) (record { var = var; plain = plain }) in
     let o = plain_marked (is_one_of vars) r.0 k y is in
     supported_still d e a.con y w has (λ z u over ne had. grows z u had)
-    (marked a r.0 k y w (without_names_member (cid ∷ []) active a am).0 listed was o.0.var o.0.plain (only y w (none_of vars y o.1) has))
+    (marked a r.0 k y w (without_cids_member (cid ∷ []) active a am).0 listed was o.0.var o.0.plain (only y w (none_of vars y o.1) has))
 
 -- ---- with one more constraint, marked whole
 

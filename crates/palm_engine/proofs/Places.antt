@@ -14,11 +14,12 @@ use Rattle.palm_model.specs.Domains.{Domains, Has, values_of}
 use Rattle.palm_model.specs.Constraint.{scope}
 use Rattle.palm_model.specs.Support.{IsSupported}
 use Rattle.palm_model.specs.Removed.{pairs_of}
-use Rattle.palm_model.specs.Log.{Active, Rises, same_cid, log_pairs}
+use Rattle.palm_base.specs.Order.{Rises, same_cid}
+use Rattle.palm_model.specs.Log.{Active, log_pairs}
 use Rattle.palm_explain.specs.Explanations.{Explanations, LacksExactly}
 use Rattle.palm_model.specs.State.{HasEmpty, IsValid, present, woken}
 use Rattle.palm_model.proofs.cited.Without.{pair_of}
-use Rattle.palm_agenda.specs.Agenda.{Connected, Waiting, HasMarks, HasPlace, IsFormed, IsMarked, names_of}
+use Rattle.palm_agenda.specs.Agenda.{Connected, Waiting, HasMarks, HasPlace, IsFormed, IsMarked, connected_cids}
 use Rattle.palm_engine.specs.declared.filtering.Filtering.{Filtering}
 use Rattle.palm_engine.specs.Settling.{Walks, walk_order}
 use Rattle.palm_engine.specs.Settling.Walks.{walked_empty}
@@ -42,14 +43,14 @@ unmark_marks cid place d h = elim (cases_Bool (same_cid cid d.cid)) [
     set_length (m ∷ marks) zero = refl
     set_length (m ∷ marks) (suc k) = ap suc (set_length marks k)
 
-unmark_names : (cid : Cid) (place : ℕ) (connected : List Connected) → names_of (map (unmark cid place) connected) ≡ names_of connected
-unmark_names cid place [] = refl
-unmark_names cid place (d ∷ connected) =
-    ap (λ c. c ∷ names_of (map (unmark cid place) connected)) (unmark_cid cid place d) ∙ ap (λ cs. d.cid ∷ cs) (unmark_names cid place connected)
+unmark_cids : (cid : Cid) (place : ℕ) (connected : List Connected) → connected_cids (map (unmark cid place) connected) ≡ connected_cids connected
+unmark_cids cid place [] = refl
+unmark_cids cid place (d ∷ connected) =
+    ap (λ c. c ∷ connected_cids (map (unmark cid place) connected)) (unmark_cid cid place d) ∙ ap (λ cs. d.cid ∷ cs) (unmark_cids cid place connected)
 
 pub formed_unmarked : (before after : Waiting) (cid : Cid) (place : ℕ) → after.connected ≡ map (unmark cid place) before.connected → after.pending ≡ before.pending → IsFormed before → IsFormed after
 formed_unmarked before after cid place connected pending formed = record {
-  rising = subst (λ cs. Rises (names_of cs)) (sym connected) (subst Rises (sym (unmark_names cid place before.connected)) formed.rising);
+  rising = subst (λ cs. Rises (connected_cids cs)) (sym connected) (subst Rises (sym (unmark_cids cid place before.connected)) formed.rising);
   pending_rising = subst Rises (sym pending) formed.pending_rising;
   pending_connected = λ c m.
       let is = formed.pending_connected c (subst (λ cs. Contains cs c) pending m) in

@@ -5,21 +5,23 @@ use Rattle.std.specs.List.Sorted.{IsPartitionedBy}
 use Rattle.std.proofs.lemmas.Bool.{cases_lt, false≢true}
 use Rattle.std.proofs.lemmas.List.{get_or_default, get_or-drop, get_or-take, length-drop, length-map, length-take, map-append}
 use Rattle.std.proofs.lemmas.List.Elements.{All-contains, Contains-get_or}
+use Rattle.std.proofs.lemmas.Simd.{map-map}
 use Rattle.std.proofs.lemmas.Option.{slice_get-map, slice_get-get_or, slice_get_within, get_or_from_slice_get}
 use Rattle.palm_base.specs.declared.terms.Pair.{Pair}
 use Rattle.palm_base.specs.declared.terms.Cid.{Cid}
 use Rattle.palm_base.specs.declared.terms.Cid.TheVariants.{Decide, Not}
 use Rattle.palm_base.proofs.cited.Members.{member_here, member_map, member_unmap, member_single}
-use Rattle.palm_model.specs.Log.{Active, IsActive, Rises, cid_before, cids_of, is_named, pair_before, same_cid}
-use Rattle.palm_model.specs.Event.{with_posted, without_names}
+use Rattle.palm_base.specs.Order.{Rises, cid_before, pair_before, same_cid, IsPartedAt}
+use Rattle.palm_model.specs.Log.{Active, IsActive, cids_of, is_named}
+use Rattle.palm_model.specs.Event.{with_posted, without_cids}
 use Rattle.palm_model.specs.declared.constraint.Con.{Con}
 use Rattle.palm_base.specs.Tells.{Tells}
 use Rattle.palm_base.proofs.cited.Telling.{tells_both}
-use Rattle.palm_events.proofs.cited.Names.{before_then, cid_same, not_before_itself, member_named, member_not_named, same_cid_itself}
-use Rattle.palm_events.proofs.cited.States.{without_names_rises}
-use Rattle.palm_agenda.specs.Names.{IsPartedAt}
-use Rattle.palm_agenda.proofs.cited.NameLists.{rising}
-use Rattle.palm_agenda.proofs.cited.Sorted.{IsSortedKeys, parted, listed_at, apart, filter_removes, inserted, parted_where}
+use Rattle.palm_base.proofs.cited.CidOrder.{before_then, cid_same, not_before_itself, same_cid_itself}
+use Rattle.palm_events.proofs.cited.Names.{member_named, member_not_named}
+use Rattle.palm_events.proofs.cited.States.{without_cids_rises}
+use Rattle.palm_base.proofs.cited.RisingLists.{rising, sorted_keys}
+use Rattle.palm_base.proofs.cited.Sorted.{IsSortedKeys, parted, listed_at, apart, filter_removes, inserted, parted_where}
 use Rattle.palm_engine.specs.declared.posted.Posted.{Posted}
 use Rattle.palm_engine.specs.declared.posted.Posted.TheVariants.{Decision, Negation, User as UserPosted}
 use Rattle.palm_engine.specs.Posted.{active_of, actives_of, is_decision, is_negation, negated}
@@ -27,40 +29,16 @@ use Rattle.palm_engine.proofs.Scopes.{map_filter}
 
 -- ---- constraints that rise
 
-pub actives_at : (active : List Active) → Rises (cids_of active) → (i j : ℕ) (d : Active) → i < j → j < length active → cid_before (get_or active i d).cid (get_or active j d).cid ≡ true
-actives_at [] rises i j d lt within = absurd (omega arith)
-actives_at (a ∷ active) rises zero zero d lt within = absurd (omega arith)
-actives_at (a ∷ active) rises zero (suc j) d lt within =
-    All-contains (λ e. cid_before a.cid e ≡ true) (cids_of active) (get_or active j d).cid rises.0
-    (member_map (λ (b : Active). b.cid) active (get_or active j d) (Contains-get_or active j d (omega arith)))
-actives_at (a ∷ active) rises (suc i) zero d lt within = absurd (omega arith)
-actives_at (a ∷ active) rises (suc i) (suc j) d lt within = actives_at active rises.1 i j d (omega arith) (omega arith)
-
 pub sorted_actives : (active : List Active) → Rises (cids_of active) → IsSortedKeys (λ (a : Active). a.cid) cid_before active
-sorted_actives active rises = record { at = actives_at active rises }
+sorted_actives active rises = sorted_keys (λ (a : Active). a.cid) active rises
 
-pub sorted_at : {X : Type 0} (active : X → Active) (xs : List X) → Rises (cids_of (map active xs)) → (i j : ℕ) (d : X) → i < j → j < length xs → cid_before (active (get_or xs i d)).cid (active (get_or xs j d)).cid ≡ true
-sorted_at active [] rises i j d lt within = absurd (omega arith)
-sorted_at active (x ∷ xs) rises zero zero d lt within = absurd (omega arith)
-sorted_at active (x ∷ xs) rises zero (suc j) d lt within =
-    All-contains (λ e. cid_before (active x).cid e ≡ true) (cids_of (map active xs)) (active (get_or xs j d)).cid rises.0
-    (member_map (λ (b : Active). b.cid) (map active xs) (active (get_or xs j d)) (member_map active xs (get_or xs j d) (Contains-get_or xs j d (omega arith))))
-sorted_at active (x ∷ xs) rises (suc i) zero d lt within = absurd (omega arith)
-sorted_at active (x ∷ xs) rises (suc i) (suc j) d lt within = sorted_at active xs rises.1 i j d (omega arith) (omega arith)
+pub items_rise : {X : Type 0} (active : X → Active) (xs : List X) → Rises (cids_of (map active xs)) → Rises (map (λ x. (active x).cid) xs)
+items_rise active xs rises = subst Rises (map-map (λ (a : Active). a.cid) active xs) rises
 
 pub sorted : {X : Type 0} (active : X → Active) (xs : List X) → Rises (cids_of (map active xs)) → IsSortedKeys (λ x. (active x).cid) cid_before xs
-sorted active xs rises = record { at = sorted_at active xs rises }
+sorted active xs rises = sorted_keys (λ x. (active x).cid) xs (items_rise active xs rises)
 
-pub parted_names : {X : Type 0} (active : X → Active) (xs : List X) (cid : Cid) → Rises (cids_of (map active xs)) → IsPartitionedBy (λ x. cid_before (active x).cid cid) xs
-parted_names active xs cid rises = parted (λ x. (active x).cid) cid_before rising xs (sorted active xs rises) cid
-
--- where a constraint under the name stands, the names are parted
-pub counted_there : {X : Type 0} (active : X → Active) (xs : List X) → Rises (cids_of (map active xs)) → (cid name : Cid) (same : Bool) (place : ℕ) (x : X) → place < length xs → x ≡ get_or xs place x → name ≡ (active x).cid
-    → same ≡ same_cid name cid → same ≡ true → IsPartedAt (λ y. cid_before (active y).cid cid) xs place
-counted_there active xs rises cid name same place x within item is told passed =
-    parted_where (λ y. (active y).cid) cid_before rising xs (sorted active xs rises) cid place x (slice_get-get_or xs place x within ∙ ap Some (sym item)) (sym is ∙ cid_same name cid (sym told ∙ passed))
-
--- the constraint under the name stands behind those that come before
+-- the constraint under the id stands behind those that come before
 pub owner_placed : {X : Type 0} (active : X → Active) (xs : List X) (cid : Cid) (place : ℕ) → Rises (cids_of (map active xs)) → IsPartedAt (λ x. cid_before (active x).cid cid) xs place
     → (a : Active) → Contains (map active xs) a → a.cid ≡ cid → slice_get (map active xs) place ≡ Some a
 owner_placed active xs cid place rises at a m named =
@@ -85,9 +63,9 @@ placed_within active xs place a e = subst (λ n. place < n) (length-map xs activ
 
 -- ---- one constraint more
 
-pub inserted_names : {X : Type 0} (active : X → Active) (xs : List X) (y : X) (place : ℕ) → Rises (cids_of (map active xs)) → IsPartedAt (λ x. cid_before (active x).cid (active y).cid) xs place
+pub inserted_cids : {X : Type 0} (active : X → Active) (xs : List X) (y : X) (place : ℕ) → Rises (cids_of (map active xs)) → IsPartedAt (λ x. cid_before (active x).cid (active y).cid) xs place
     → (IsActive (map active xs) (active y).cid → ⊥) → map active (insert xs place y) ≡ with_posted (active y) (map active xs)
-inserted_names active xs y place rises at inactive =
+inserted_cids active xs y place rises at inactive =
     let cid = (active y).cid in
     let low = filter (λ x. cid_before (active x).cid cid) xs in
     let high = filter (λ x. cid_before cid (active x).cid) xs in
@@ -105,7 +83,7 @@ map_remove f [] (suc k) = refl
 map_remove f (x ∷ xs) zero = refl
 map_remove f (x ∷ xs) (suc k) = ap (λ ys. f x ∷ ys) (map_remove f xs k)
 
-removed_from : (active : List Active) (place : ℕ) (a : Active) → Rises (cids_of active) → slice_get active place ≡ Some a → remove active place ≡ without_names (a.cid ∷ []) active
+removed_from : (active : List Active) (place : ℕ) (a : Active) → Rises (cids_of active) → slice_get active place ≡ Some a → remove active place ≡ without_cids (a.cid ∷ []) active
 removed_from active place a rises e =
     filter_removes (λ (b : Active). not (is_named (a.cid ∷ []) b.cid)) active place (slice_get_within active place a e)
     (λ d. ap (λ (b : Active). not (is_named (a.cid ∷ []) b.cid)) (get_or_from_slice_get active place a d e) ∙ ap not (member_named (a.cid ∷ []) a.cid (member_here a.cid [])))
@@ -113,34 +91,34 @@ removed_from active place a rises e =
     apart (λ (b : Active). b.cid) cid_before rising active (sorted_actives active rises) k place d lt (slice_get_within active place a e) ne
     (sym (member_single a.cid (get_or active k d).cid m) ∙ ap (λ (b : Active). b.cid) (sym (get_or_from_slice_get active place a d e)))))
 
-pub removed_names : {X : Type 0} (active : X → Active) (xs : List X) (place : ℕ) (a : Active) → Rises (cids_of (map active xs)) → slice_get (map active xs) place ≡ Some a
-    → map active (remove xs place) ≡ without_names (a.cid ∷ []) (map active xs)
-removed_names active xs place a rises e = map_remove active xs place ∙ removed_from (map active xs) place a rises e
+pub removed_cids : {X : Type 0} (active : X → Active) (xs : List X) (place : ℕ) (a : Active) → Rises (cids_of (map active xs)) → slice_get (map active xs) place ≡ Some a
+    → map active (remove xs place) ≡ without_cids (a.cid ∷ []) (map active xs)
+removed_cids active xs place a rises e = map_remove active xs place ∙ removed_from (map active xs) place a rises e
 
 pub removed_rises : {X : Type 0} (active : X → Active) (xs ys : List X) (place : ℕ) (a : Active) → Rises (cids_of (map active xs)) → slice_get (map active xs) place ≡ Some a → ys ≡ remove xs place → Rises (cids_of (map active ys))
 removed_rises active xs ys place a rises e left =
-    subst (λ l. Rises (cids_of l)) (sym (ap (map active) left ∙ removed_names active xs place a rises e)) (without_names_rises (a.cid ∷ []) (map active xs) rises)
+    subst (λ l. Rises (cids_of l)) (sym (ap (map active) left ∙ removed_cids active xs place a rises e)) (without_cids_rises (a.cid ∷ []) (map active xs) rises)
 
 -- ---- decisions, then negations, then users
 
 decision_first : {F : Type 0} (meaning : F → Con) (p q : Posted F) → cid_before (active_of meaning p).cid (active_of meaning q).cid ≡ true → is_decision q ≡ true → is_decision p ≡ true
 decision_first meaning (Decision x) q h t = refl
-decision_first meaning (Negation x because) (Decision y) h t = absurd (false≢true h)
-decision_first meaning (Negation x because) (Negation y more) h t = absurd (false≢true t)
-decision_first meaning (Negation x because) (UserPosted n f) h t = absurd (false≢true t)
+decision_first meaning (Negation x justification) (Decision y) h t = absurd (false≢true h)
+decision_first meaning (Negation x justification) (Negation y more) h t = absurd (false≢true t)
+decision_first meaning (Negation x justification) (UserPosted n f) h t = absurd (false≢true t)
 decision_first meaning (UserPosted m e) (Decision y) h t = absurd (false≢true h)
 decision_first meaning (UserPosted m e) (Negation y more) h t = absurd (false≢true t)
 decision_first meaning (UserPosted m e) (UserPosted n f) h t = absurd (false≢true t)
 
 pub parted_decisions : {F : Type 0} (meaning : F → Con) (xs : List (Posted F)) → Rises (cids_of (actives_of meaning xs)) → IsPartitionedBy is_decision xs
 parted_decisions meaning xs rises i j d le lt h = elim (cases_lt i j) [
-  | inl l ↦ decision_first meaning (get_or xs i d) (get_or xs j d) (sorted_at (active_of meaning) xs rises i j d l lt) h
+  | inl l ↦ decision_first meaning (get_or xs i d) (get_or xs j d) ((sorted (active_of meaning) xs rises).at i j d l lt) h
   | inr ge ↦ let e : j ≡ i = omega arith in subst (λ k. is_decision (get_or xs k d) ≡ true) e h
 ]
 
 not_decision : {F : Type 0} (meaning : F → Con) (p : Posted F) (q : Pair) → (active_of meaning p).cid ≡ Not q → is_decision p ≡ false
 not_decision meaning (Decision x) q e = cc
-not_decision meaning (Negation x because) q e = refl
+not_decision meaning (Negation x justification) q e = refl
 not_decision meaning (UserPosted n f) q e = refl
 
 -- an active negation, at its place
@@ -158,8 +136,8 @@ stands meaning xs q is =
       named = λ d. ap (λ p. (active_of meaning p).cid) (get_or_from_slice_get xs r.1.0 r.0 d (slice_get-get_or xs r.1.0 r.0 r.1.1 ∙ ap Some r.1.2)) ∙ ap (λ (a : Active). a.cid) r.2 ∙ is.named;
     }
 
-pair_in : {F : Type 0} (x y : Posted F) (p : Pair) (because : List Cid) (q : Pair) (more : List Cid) → x ≡ Negation p because → y ≡ Negation q more → x ≡ y → p ≡ q
-pair_in x y p because q more e f g = cc
+pair_in : {F : Type 0} (x y : Posted F) (p : Pair) (justification : List Cid) (q : Pair) (more : List Cid) → x ≡ Negation p justification → y ≡ Negation q more → x ≡ y → p ≡ q
+pair_in x y p justification q more e f g = cc
 
 -- it stands behind the decisions
 behind : {F : Type 0} (meaning : F → Con) (xs : List (Posted F)) (place : ℕ) → IsPartedAt is_decision xs place → (q : Pair) (at : StandsAt meaning xs q) → Posted F → place ≤ at.place
@@ -170,28 +148,28 @@ behind meaning xs place front q at d = elim (cases_lt at.place place) [
 
 -- what the first constraint behind the decisions says of an active negation
 first_is : {F : Type 0} (meaning : F → Con) (xs : List (Posted F)) (place : ℕ) → Rises (cids_of (actives_of meaning xs)) → IsPartedAt is_decision xs place
-    → (q : Pair) → StandsAt meaning xs q → (x : Posted F) → slice_get xs place ≡ Some x → (p : Pair) × (because : List Cid) × (x ≡ Negation p because) × (pair_before q p ≡ true → ⊥)
+    → (q : Pair) → StandsAt meaning xs q → (x : Posted F) → slice_get xs place ≡ Some x → (p : Pair) × (justification : List Cid) × (x ≡ Negation p justification) × (pair_before q p ≡ true → ⊥)
 first_is meaning xs place rises front q at x e = elim (cases_lt place at.place) [
-  | inl l ↦ later x (subst (λ y. cid_before (active_of meaning y).cid (Not q) ≡ true) (get_or_from_slice_get xs place x x e) (subst (λ c. cid_before (active_of meaning (get_or xs place x)).cid c ≡ true) (at.named x) (sorted_at (active_of meaning) xs rises place at.place x l at.within)))
+  | inl l ↦ later x (subst (λ y. cid_before (active_of meaning y).cid (Not q) ≡ true) (get_or_from_slice_get xs place x x e) (subst (λ c. cid_before (active_of meaning (get_or xs place x)).cid c ≡ true) (at.named x) ((sorted (active_of meaning) xs rises).at place at.place x l at.within)))
       (subst (λ y. is_decision y ≡ false) (get_or_from_slice_get xs place x x e) (front.after place x (omega arith) (slice_get_within xs place x e)))
   | inr ge ↦
       let same : at.place ≡ place = omega (arith, behind meaning xs place front q at x) in
       here x (subst (λ y. (active_of meaning y).cid ≡ Not q) (ap (λ k. get_or xs k x) same ∙ get_or_from_slice_get xs place x x e) (at.named x))
 ]
   where
-    later : (y : Posted _) → cid_before (active_of meaning y).cid (Not q) ≡ true → is_decision y ≡ false → (p : Pair) × (because : List Cid) × (y ≡ Negation p because) × (pair_before q p ≡ true → ⊥)
+    later : (y : Posted _) → cid_before (active_of meaning y).cid (Not q) ≡ true → is_decision y ≡ false → (p : Pair) × (justification : List Cid) × (y ≡ Negation p justification) × (pair_before q p ≡ true → ⊥)
     later (Decision p) h f = absurd (false≢true (sym f))
-    later (Negation p because) h f = (p, because, refl, λ k. not_before_itself (Not q) (before_then (Not q) (Not p) (Not q) k h))
+    later (Negation p justification) h f = (p, justification, refl, λ k. not_before_itself (Not q) (before_then (Not q) (Not p) (Not q) k h))
     later (UserPosted n g) h f = absurd (false≢true h)
 
-    here : (y : Posted _) → (active_of meaning y).cid ≡ Not q → (p : Pair) × (because : List Cid) × (y ≡ Negation p because) × (pair_before q p ≡ true → ⊥)
+    here : (y : Posted _) → (active_of meaning y).cid ≡ Not q → (p : Pair) × (justification : List Cid) × (y ≡ Negation p justification) × (pair_before q p ≡ true → ⊥)
     here (Decision p) f = cc
-    here (Negation p because) f = (p, because, refl, λ k. not_before_itself (Not q) (subst (λ c. cid_before (Not q) c ≡ true) f k))
+    here (Negation p justification) f = (p, justification, refl, λ k. not_before_itself (Not q) (subst (λ c. cid_before (Not q) c ≡ true) f k))
     here (UserPosted n g) f = cc
 
 -- where no negation stands behind the decisions, none is active
 pub no_negation : {F : Type 0} (meaning : F → Con) (xs : List (Posted F)) (place : ℕ) → Rises (cids_of (actives_of meaning xs)) → IsPartedAt is_decision xs place
-    → ((p : Pair) (because : List Cid) → slice_get xs place ≡ Some (Negation p because) → ⊥) → (q : Pair) → IsActive (actives_of meaning xs) (Not q) → ⊥
+    → ((p : Pair) (justification : List Cid) → slice_get xs place ≡ Some (Negation p justification) → ⊥) → (q : Pair) → IsActive (actives_of meaning xs) (Not q) → ⊥
 no_negation meaning xs place rises front none q is =
     let at = stands meaning xs q is in
     let x = (member_unmap (active_of meaning) xs is.owner is.posted).0 in
@@ -201,50 +179,50 @@ no_negation meaning xs place rises front none q is =
     none r.0 r.1 (e ∙ ap Some r.2)
 
 -- the negation that stands there is the least
-pub least_negation : {F : Type 0} (meaning : F → Con) (xs : List (Posted F)) (place : ℕ) (p : Pair) (because : List Cid) → Rises (cids_of (actives_of meaning xs)) → IsPartedAt is_decision xs place
-    → slice_get xs place ≡ Some (Negation p because) → IsActive (actives_of meaning xs) (Not p) × ((q : Pair) → IsActive (actives_of meaning xs) (Not q) → pair_before q p ≡ true → ⊥)
-least_negation meaning xs place p because rises front e = (
+pub least_negation : {F : Type 0} (meaning : F → Con) (xs : List (Posted F)) (place : ℕ) (p : Pair) (justification : List Cid) → Rises (cids_of (actives_of meaning xs)) → IsPartedAt is_decision xs place
+    → slice_get xs place ≡ Some (Negation p justification) → IsActive (actives_of meaning xs) (Not p) × ((q : Pair) → IsActive (actives_of meaning xs) (Not q) → pair_before q p ≡ true → ⊥)
+least_negation meaning xs place p justification rises front e = (
   record {
-    owner = active_of meaning (Negation p because);
-    posted = member_map (active_of meaning) xs (Negation p because) (place, slice_get_within xs place (Negation p because) e, get_or_from_slice_get xs place (Negation p because) (Negation p because) e);
+    owner = active_of meaning (Negation p justification);
+    posted = member_map (active_of meaning) xs (Negation p justification) (place, slice_get_within xs place (Negation p justification) e, get_or_from_slice_get xs place (Negation p justification) (Negation p justification) e);
     named = refl;
   },
   λ q is k.
-      let r = first_is meaning xs place rises front q (stands meaning xs q is) (Negation p because) e in
-      r.3 (subst (λ z. pair_before q z ≡ true) (pair_in (Negation p because) (Negation r.0 r.1) p because r.0 r.1 refl refl r.2) k),
+      let r = first_is meaning xs place rises front q (stands meaning xs q is) (Negation p justification) e in
+      r.3 (subst (λ z. pair_before q z ≡ true) (pair_in (Negation p justification) (Negation r.0 r.1) p justification r.0 r.1 refl refl r.2) k),
 )
 
 -- what the first constraint behind the decisions says
 pub negation_first : {F : Type 0} (meaning : F → Con) (xs : List (Posted F)) (place : ℕ) (x : Posted F) → Rises (cids_of (actives_of meaning xs)) → IsPartedAt is_decision xs place → slice_get xs place ≡ Some x
     → MatchOption (negated x) ((p : Pair) → IsActive (actives_of meaning xs) (Not p) → ⊥)
     (λ p. IsActive (actives_of meaning xs) (Not p) × ((q : Pair) → IsActive (actives_of meaning xs) (Not q) → pair_before q p ≡ true → ⊥))
-negation_first meaning xs place (Decision y) rises front e = no_negation meaning xs place rises front (λ p because f. cc)
-negation_first meaning xs place (Negation y because) rises front e = least_negation meaning xs place y because rises front e
-negation_first meaning xs place (UserPosted n f) rises front e = no_negation meaning xs place rises front (λ p because g. cc)
+negation_first meaning xs place (Decision y) rises front e = no_negation meaning xs place rises front (λ p justification f. cc)
+negation_first meaning xs place (Negation y justification) rises front e = least_negation meaning xs place y justification rises front e
+negation_first meaning xs place (UserPosted n f) rises front e = no_negation meaning xs place rises front (λ p justification g. cc)
 
 pub negation_past : {F : Type 0} (meaning : F → Con) (xs : List (Posted F)) (place : ℕ) → Rises (cids_of (actives_of meaning xs)) → IsPartedAt is_decision xs place → length xs ≤ place
     → (p : Pair) → IsActive (actives_of meaning xs) (Not p) → ⊥
-negation_past meaning xs place rises front le = no_negation meaning xs place rises front (λ p because e. absurd (omega (arith, slice_get_within xs place (Negation p because) e)))
+negation_past meaning xs place rises front le = no_negation meaning xs place rises front (λ p justification e. absurd (omega (arith, slice_get_within xs place (Negation p justification) e)))
 
 -- ---- the walk over the negations
 
 -- decisions rest on nothing, and so do users' constraints
-because_none : {F : Type 0} (meaning : F → Con) (x : Posted F) → is_negation x ≡ false → (active_of meaning x).because ≡ []
-because_none meaning (Decision p) e = refl
-because_none meaning (Negation p because) e = absurd (false≢true (sym e))
-because_none meaning (UserPosted n f) e = refl
+justification_none : {F : Type 0} (meaning : F → Con) (x : Posted F) → is_negation x ≡ false → (active_of meaning x).justification ≡ []
+justification_none meaning (Decision p) e = refl
+justification_none meaning (Negation p justification) e = absurd (false≢true (sym e))
+justification_none meaning (UserPosted n f) e = refl
 
 decision_not_negation : {F : Type 0} (x : Posted F) → is_decision x ≡ true → is_negation x ≡ false
 decision_not_negation (Decision p) e = refl
-decision_not_negation (Negation p because) e = absurd (false≢true e)
+decision_not_negation (Negation p justification) e = absurd (false≢true e)
 decision_not_negation (UserPosted n f) e = absurd (false≢true e)
 
 -- behind one that is neither a decision nor a negation there are users alone
 user_then : {F : Type 0} (meaning : F → Con) (x y : Posted F) → is_negation x ≡ false → ((v : ℕ) → (active_of meaning x).cid ≡ Decide v → ⊥) → cid_before (active_of meaning x).cid (active_of meaning y).cid ≡ true → is_negation y ≡ false
 user_then meaning (Decision p) y e n h = absurd (n p.var refl)
-user_then meaning (Negation p because) y e n h = absurd (false≢true (sym e))
+user_then meaning (Negation p justification) y e n h = absurd (false≢true (sym e))
 user_then meaning (UserPosted m f) (Decision q) e n h = refl
-user_then meaning (UserPosted m f) (Negation q because) e n h = absurd (false≢true h)
+user_then meaning (UserPosted m f) (Negation q justification) e n h = absurd (false≢true h)
 user_then meaning (UserPosted m f) (UserPosted k g) e n h = refl
 
 map_take : {X Y : Type 0} (f : X → Y) (n : ℕ) (xs : List X) → take n (map f xs) ≡ map f (take n xs)
@@ -270,16 +248,16 @@ dropped_at : {X : Type 0} (place : ℕ) (xs : List X) (x : X) → Contains (drop
 dropped_at place xs x m = (place + m.0, omega arith, omega (arith, length-drop place xs, m.1), sym (get_or-drop place xs m.0 x) ∙ m.2)
 
 -- the decisions rest on nothing
-pub front_stands : {F : Type 0} (meaning : F → Con) (xs : List (Posted F)) (place : ℕ) → IsPartedAt is_decision xs place → (a : Active) → Contains (take place (actives_of meaning xs)) a → a.because ≡ []
+pub front_stands : {F : Type 0} (meaning : F → Con) (xs : List (Posted F)) (place : ℕ) → IsPartedAt is_decision xs place → (a : Active) → Contains (take place (actives_of meaning xs)) a → a.justification ≡ []
 front_stands meaning xs place front a m =
     let r = member_unmap (active_of meaning) (take place xs) a (subst (λ l. Contains l a) (map_take (active_of meaning) place xs) m) in
     let at = taken_at place xs r.0 r.1 in
     let decides = subst (λ x. is_decision x ≡ true) at.3 (front.before at.0 r.0 (omega arith) at.1) in
-    ap (λ (b : Active). b.because) (sym r.2) ∙ because_none meaning r.0 (decision_not_negation r.0 decides)
+    ap (λ (b : Active). b.justification) (sym r.2) ∙ justification_none meaning r.0 (decision_not_negation r.0 decides)
 
 decides_is : {F : Type 0} (meaning : F → Con) (x : Posted F) (v : ℕ) → (active_of meaning x).cid ≡ Decide v → is_decision x ≡ true
 decides_is meaning (Decision p) v e = refl
-decides_is meaning (Negation p because) v e = cc
+decides_is meaning (Negation p justification) v e = cc
 decides_is meaning (UserPosted n f) v e = cc
 
 pub behind_decisions : {F : Type 0} (meaning : F → Con) (xs : List (Posted F)) (place : ℕ) → IsPartedAt is_decision xs place → (a : Active) (v : ℕ) → Contains (drop place (actives_of meaning xs)) a → a.cid ≡ Decide v → ⊥
@@ -291,7 +269,7 @@ behind_decisions meaning xs place front a v m e =
 
 -- where neither a decision nor a negation stands, those from there on rest on nothing
 pub rest_stands : {F : Type 0} (meaning : F → Con) (xs : List (Posted F)) (place : ℕ) → Rises (cids_of (actives_of meaning xs)) → IfSome (slice_get xs place) (λ p. is_negation p ≡ false)
-    → ((a : Active) (v : ℕ) → Contains (drop place (actives_of meaning xs)) a → a.cid ≡ Decide v → ⊥) → (a : Active) → Contains (drop place (actives_of meaning xs)) a → a.because ≡ []
+    → ((a : Active) (v : ℕ) → Contains (drop place (actives_of meaning xs)) a → a.cid ≡ Decide v → ⊥) → (a : Active) → Contains (drop place (actives_of meaning xs)) a → a.justification ≡ []
 rest_stands {F = F} meaning xs place rises other behind a m =
     let r = member_unmap (active_of meaning) (drop place xs) a (subst (λ l. Contains l a) (map_drop (active_of meaning) place xs) m) in
     let at = dropped_at place xs r.0 r.1 in
@@ -302,10 +280,10 @@ rest_stands {F = F} meaning xs place rises other behind a m =
     let free : (v : ℕ) → (active_of meaning x).cid ≡ Decide v → ⊥ = λ v e.
     behind (active_of meaning x) v (subst (λ l. Contains l (active_of meaning x)) (sym (map_drop (active_of meaning) place xs)) (member_map (active_of meaning) (drop place xs) x here)) e in
     let stands : is_negation r.0 ≡ false = elim (cases_lt place at.0) [
-      | inl l ↦ user_then meaning x r.0 first free (subst (λ y. cid_before (active_of meaning x).cid (active_of meaning y).cid ≡ true) at.3 (sorted_at (active_of meaning) xs rises place at.0 r.0 l at.2))
+      | inl l ↦ user_then meaning x r.0 first free (subst (λ y. cid_before (active_of meaning x).cid (active_of meaning y).cid ≡ true) at.3 ((sorted (active_of meaning) xs rises).at place at.0 r.0 l at.2))
       | inr ge ↦ let e : place ≡ at.0 = omega (arith, at.1) in subst (λ y. is_negation y ≡ false) (ap (λ k. get_or xs k r.0) e ∙ at.3) first
     ] in
-    ap (λ (b : Active). b.because) (sym r.2) ∙ because_none meaning r.0 stands
+    ap (λ (b : Active). b.justification) (sym r.2) ∙ justification_none meaning r.0 stands
 
 -- ---- whether a constraint is active
 

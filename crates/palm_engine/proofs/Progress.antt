@@ -18,7 +18,7 @@ use Rattle.palm_engine.specs.declared.filtering.Filtering.{Filtering}
 use Rattle.palm_engine.specs.Changed.{TakesOut}
 use Rattle.palm_engine.specs.Settling.{IsDue}
 use Rattle.palm_engine.specs.Settling.Walks.{walked_all}
-use Rattle.palm_engine.specs.Kept.{IsKept, state_in_revision}
+use Rattle.palm_engine.specs.Kept.{IsInStep, state_in_revision}
 use Rattle.palm_engine.specs.Revising.{IsRevising, IsAgain, Walked, WalkedPart, AreSupportedAt, HasCounted}
 use Rattle.palm_engine.proofs.cited.Walking.{walk_filters}
 use Rattle.palm_engine.proofs.Joined.{walk_has, walk_then, walk_one_past, walk_one_out}
@@ -147,7 +147,7 @@ declared_ascend : (f : Filtering) (active : List Active) (owner : Active) → Is
 declared_ascend f active owner r x = Ascends-at (initial_of f.store) x r.valid.ascend
 
 -- a present value is declared
-pub has_declared_value : (f : Filtering) (active : List Active) → IsKept f active → (x : ℕ) (v : ℤ) → Has (present_of f.store) x v → Has (initial_of f.store) x v
+pub has_declared_value : (f : Filtering) (active : List Active) → IsInStep f active → (x : ℕ) (v : ℤ) → Has (present_of f.store) x v → Has (initial_of f.store) x v
 has_declared_value f active kept x v has = (without_has (initial_of f.store) (log_pairs f.log.log) x v (subst (λ d. Has d x v) kept.removed.present has)).0
 
 pub values_start : (active : List Active) (owner : Active) (x : ℕ) (v : ℤ) (f : Filtering) (s : ℕ) → IsRevising f active owner → AllFilled (present_of f.store) → IsLeastOf (present_values f.store x) v

@@ -6,13 +6,14 @@ use Rattle.std.proofs.lemmas.List.Elements.{All-filter, Contains-append_left, Co
 use Rattle.palm_base.specs.declared.terms.Cid.{Cid}
 use Rattle.palm_base.proofs.cited.Members.{member_nil, member_map, member_unmap}
 use Rattle.palm_domain.specs.Rows.{Row, initial_of, present_of}
-use Rattle.palm_model.specs.Log.{Loses, Rises, is_named, log_pairs}
+use Rattle.palm_base.specs.Order.{Rises}
+use Rattle.palm_model.specs.Log.{Loses, is_named, log_pairs}
 use Rattle.palm_model.specs.State.{without_cid}
 use Rattle.palm_model.specs.Event.{lost_pairs, vars_of}
 use Rattle.palm_explain.specs.Explanations.{Explanations, LacksExactly}
 use Rattle.palm_events.proofs.cited.States.{without_cid_member, without_cid_rises}
-use Rattle.palm_agenda.proofs.cited.Connecting.{member_without_connected, names_without}
-use Rattle.palm_agenda.specs.Agenda.{Connected, Waiting, HasMarks, IsConnected, IsFormed, IsOver, names_of, mark_own, marked_where, marks_where, without_connected}
+use Rattle.palm_agenda.proofs.cited.Connecting.{member_without_connected, cids_without}
+use Rattle.palm_agenda.specs.Agenda.{Connected, Waiting, HasMarks, IsConnected, IsFormed, IsOver, connected_cids, mark_own, marked_where, marks_where, without_connected}
 use Rattle.palm_engine.specs.declared.filtering.Filtering.{Filtering}
 use Rattle.palm_engine.specs.Changed.{NotesGain, PutsBack, is_one_of}
 
@@ -63,7 +64,7 @@ woken_more vars i x before middle after lt at was own =
 pub woken_all : (vars : List ℕ) (i : ℕ) (before after : List Connected) → length vars ≤ i → after ≡ map (marked_where (is_one_of (take i vars))) before → after ≡ map (marked_where (is_one_of vars)) before
 woken_all vars i before after le e = e ∙ ap (λ vs. map (marked_where (is_one_of vs)) before) (take_all i vars le)
 
--- ---- pending names
+-- ---- pending ids
 
 -- over one of the variables
 abbrev pub IsOverSome : List Connected → List ℕ → Cid → Type 0
@@ -122,7 +123,7 @@ waits_all vars i before old new le are c = subst (λ vs. Contains new c ↔ (Con
 -- an agenda without one constraint
 pub away_formed : (before away : Waiting) (cid : Cid) → away.connected ≡ without_connected cid before.connected → away.pending ≡ without_cid cid before.pending → IsFormed before → IsFormed away
 away_formed before away cid connected pending formed = record {
-  rising = subst (λ ds. Rises (names_of ds)) (sym connected) (subst Rises (sym (names_without cid before.connected)) (without_cid_rises cid (names_of before.connected) formed.rising));
+  rising = subst (λ ds. Rises (connected_cids ds)) (sym connected) (subst Rises (sym (cids_without cid before.connected)) (without_cid_rises cid (connected_cids before.connected) formed.rising));
   pending_rising = subst Rises (sym pending) (without_cid_rises cid before.pending formed.pending_rising);
   pending_connected = λ c m.
       let k = without_cid_member cid before.pending c (subst (λ ns. Contains ns c) pending m) in

@@ -10,7 +10,7 @@ use Rattle.palm_model.specs.Constraint.{scope}
 use Rattle.palm_model.specs.Support.{IsSupported, LacksSupport}
 use Rattle.palm_model.specs.Reason.{AreFilled, reason}
 use Rattle.palm_model.specs.Log.{Active, log_pairs}
-use Rattle.palm_model.specs.State.{EngineState, FitsName, IsEmptyAt, AllFilled, present}
+use Rattle.palm_model.specs.State.{EngineState, FitsCid, IsEmptyAt, AllFilled, present}
 use Rattle.palm_model.specs.Event.{Removes, removed}
 use Rattle.palm_model.proofs.cited.Without.{pair_of, length_without}
 use Rattle.palm_events.proofs.cited.Names.{single}
@@ -20,7 +20,7 @@ use Rattle.palm_agenda.specs.Agenda.{IsOver as IsOverConnected}
 use Rattle.palm_engine.specs.declared.filtering.Filtering.{Filtering}
 use Rattle.palm_engine.specs.Settling.{Walks}
 use Rattle.palm_engine.specs.Settling.Walks.{walked_all, walked_empty, walked_past, walked_out}
-use Rattle.palm_engine.specs.Kept.{IsKept, IsEmptyKept, AreConnected, AreMarked, state_in_revision}
+use Rattle.palm_engine.specs.Kept.{IsInStep, IsEmptyKept, AreConnected, AreMarked, state_in_revision}
 use Rattle.palm_engine.specs.Changed.{TakesOut, NotesLoss}
 use Rattle.palm_engine.specs.Posted.{IsInForm}
 use Rattle.palm_engine.specs.Revising.{IsRevising}
@@ -30,17 +30,17 @@ use Rattle.palm_engine.proofs.Waking.{IsOver, woken_beside}
 
 -- ---- what is known in a revision
 
-pub present_is : (f : Filtering) (active : List Active) (cid : Cid) → IsKept f active → present (state_in_revision f active cid) ≡ present_of f.store
+pub present_is : (f : Filtering) (active : List Active) (cid : Cid) → IsInStep f active → present (state_in_revision f active cid) ≡ present_of f.store
 present_is f active cid kept = sym kept.removed.present
 
 -- as many variables have present values as have declared ones
-pub present_length : (f : Filtering) (active : List Active) → IsKept f active → length (present_of f.store) ≡ length (initial_of f.store)
+pub present_length : (f : Filtering) (active : List Active) → IsInStep f active → length (present_of f.store) ≡ length (initial_of f.store)
 present_length f active kept = ap length kept.removed.present ∙ length_without (initial_of f.store) (log_pairs f.log.log)
 
 pub owner_in_form : (f : Filtering) (active : List Active) (owner : Active) → IsRevising f active owner → IsInForm (length f.store) owner
 owner_in_form f active owner r = record {
   active = active;
-  fits = subst (λ n. FitsName n active owner) (length-map f.store (λ (w : Row). w.initial)) (r.valid.formed owner r.posted);
+  fits = subst (λ n. FitsCid n active owner) (length-map f.store (λ (w : Row). w.initial)) (r.valid.formed owner r.posted);
 }
 
 pub owner_declared : (f : Filtering) (active : List Active) (owner : Active) → IsRevising f active owner → (x : ℕ) → Contains (scope owner.con) x → x < length (initial_of f.store)
@@ -80,12 +80,12 @@ one_supports a x v s n t walk w other = support_stays (present s) (present t) a.
 
 -- ---- the pair is taken out
 
-pub over_connected : (f : Filtering) (active : List Active) → IsKept f active → (x : ℕ) (c : Cid) → IsOver active x c → IsOverConnected f.agenda.connected x c
+pub over_connected : (f : Filtering) (active : List Active) → IsInStep f active → (x : ℕ) (c : Cid) → IsOver active x c → IsOverConnected f.agenda.connected x c
 over_connected f active kept x c o =
     let r = active_connected active f.agenda.connected kept.connected o.0 o.1 in
     record { owner = r.0; listed = r.1; named = r.2 ∙ o.2; over = subst (λ xs. Contains xs x) (sym r.3) o.3 }
 
-connected_over : (f : Filtering) (active : List Active) → IsKept f active → (x : ℕ) (c : Cid) → IsOverConnected f.agenda.connected x c → IsOver active x c
+connected_over : (f : Filtering) (active : List Active) → IsInStep f active → (x : ℕ) (c : Cid) → IsOverConnected f.agenda.connected x c → IsOver active x c
 connected_over f active kept x c o =
     let r = connected_active active f.agenda.connected kept.connected o.owner o.listed in
     (r.0, r.1, r.2 ∙ o.named, subst (λ xs. Contains xs x) (sym r.3) o.over)
@@ -153,7 +153,7 @@ loses_keeps : (before after : List Row) (x : ℕ) (v : ℤ) → LosesPair before
 loses_keeps before after x v loses y w other has = loses.others y w (λ first second. let a = sym first in let b = sym second in other (λ i. pair_of (a i) (b i))) has
 
 pub out_kept : (f : Filtering) (active : List Active) (owner : Active) (p : Pair) (g : Filtering) → IsRevising f active owner → AllFilled (present_of f.store) → Contains (scope owner.con) p.var
-    → TakesOut f p owner.cid (stated f owner p) g → IsKept g active
+    → TakesOut f p owner.cid (stated f owner p) g → IsInStep g active
 out_kept f active owner p g r filled over takes =
     let keeps = loses_keeps f.store g.store p.var p.value takes.loses in
     let rises = r.valid.rising in

@@ -1,34 +1,36 @@
 -- A settling as it runs: what its revisions so far have done.
-use Rattle.std.proofs.Common.{◌≡◌, ℕ, ◌+◌, ◌-◌, ◌<◌, ◌≤◌, min, Bool, true, false, Option, Some, None, IfSome, List, [], ◌∷◌, ◌++◌, length, All, Contains, refl, sym, ap, ◌∙◌, subst, arith, length-append}
+use Rattle.std.proofs.Common.{◌≡◌, ℕ, ◌+◌, ◌-◌, ◌<◌, ◌≤◌, min, Bool, true, false, Option, Some, None, IfSome, is_some, List, [], ◌∷◌, ◌++◌, length, All, Contains, refl, sym, ap, ◌∙◌, subst, arith, length-append}
 use Rattle.std.proofs.lemmas.List.Elements.{All-nil, All-cons, All-append}
 use Rattle.palm_base.specs.declared.terms.Cid.{Cid}
 use Rattle.palm_base.specs.declared.limits.TheConstants.{LAST_COUNT}
 use Rattle.palm_base.proofs.cited.Members.{member_get, member_same}
 use Rattle.palm_domain.specs.Rows.{initial_of, present_of}
-use Rattle.palm_model.specs.Log.{Active, Rises, cids_of, log_pairs}
+use Rattle.palm_base.specs.Order.{Rises}
+use Rattle.palm_model.specs.Log.{Active, cids_of, log_pairs}
 use Rattle.palm_model.specs.State.{EngineState, HasEmpty, AllFilled, IsValid, present, woken, without_cid}
 use Rattle.palm_events.proofs.cited.Reasons.{reasons_right}
 use Rattle.palm_events.proofs.cited.Runs.{run_valid}
 use Rattle.palm_events.proofs.cited.Scoped.{run_scoped}
 use Rattle.palm_events.proofs.cited.States.{without_cid_rises, without_cid_member}
 use Rattle.palm_explain.specs.Explanations.{Explanations, LacksExactly}
-use Rattle.palm_agenda.specs.Agenda.{IsConnected, IsFormed, HasMarks, Waiting, index_within, names_of}
+use Rattle.palm_agenda.specs.Agenda.{IsConnected, IsFormed, HasMarks, Waiting, index_within, connected_cids}
 use Rattle.palm_engine.specs.declared.filtering.Filtering.{Filtering}
 use Rattle.palm_engine.specs.declared.settle.Settle.{Settle}
 use Rattle.palm_engine.specs.declared.settle.Settle.TheVariants.{Settled, Empty, Stopped}
-use Rattle.palm_engine.specs.Engine.{View, EndsAs, HasAsked, HasSettled, IsInterrupted}
+use Rattle.palm_engine.specs.Engine.{View, EndsAs, HasAsked}
+use Rattle.palm_engine.specs.Following.{Hearing, HasSettledBy, IsInterruptedBy, LeadsAlong, hearings}
 use Rattle.palm_engine.specs.Settling.{Revision, Revises, Revisions, FitsOrder, IsEnded, IsInLimit, HasReached}
 use Rattle.palm_engine.specs.Settling.IsEnded.{ended_empty, ended_quiet, ended_limit}
-use Rattle.palm_engine.specs.Kept.{IsKept, IsEmptyKept, IsEngine, AreConnected, AreMarked, state_of, state_in_revision}
+use Rattle.palm_engine.specs.Kept.{IsInStep, IsEmptyKept, IsEngine, AreConnected, AreMarked, state_of, state_in_revision}
 use Rattle.palm_engine.specs.Revising.{HasCounted, IsTaken, HasRevised, HasPartlyRevised, TakesNext, TakesNone, TellsEnd}
 use Rattle.palm_engine.specs.Revising.TakesNone.{none_filled, none_allowed, none_pending}
-use Rattle.palm_engine.specs.Work.{effort, named_sizes, most_asked}
+use Rattle.palm_engine.specs.Work.{effort, named_sizes, most_asked_in}
 use Rattle.palm_engine.proofs.Ending.{revision_falls}
 use Rattle.palm_engine.proofs.Joined.{walk_scoped, walk_valid}
 use Rattle.palm_engine.proofs.Places.{kept_empty}
 use Rattle.palm_engine.proofs.Progress.{counted_none, counted_then}
 use Rattle.palm_engine.proofs.Settles.{pending_is_active, pending_waits}
-use Rattle.palm_engine.proofs.Spending.{revisions_more, asked_more, settling_asked, interrupted_asked}
+use Rattle.palm_engine.proofs.Spending.{asked_more, settling_asked, interrupted_asked}
 use Rattle.palm_engine.proofs.Waking.{taken_woken}
 use Rattle.palm_engine.proofs.cited.Walking.{not_empty, revision_filters, revisions_filter}
 use Rattle.palm_engine.proofs.Working.{same_named}
@@ -41,7 +43,12 @@ pub record HasRun (limit : Option ℕ) (ordered : Bool) (active : List Active) (
   pub fits : FitsOrder ordered revisions
   pub within : IsInLimit limit (length revisions)
   pub counted : count ≡ min (length revisions) LAST_COUNT
-  pub asked : HasCounted (most_asked (state_of before active) revisions) before now old new
+  pub asked : HasCounted (most_asked_in (state_of before active) revisions) before now old new
+
+-- and the order that they led from the one state to the other
+pub record HasRunBy {O : Type 0} (follows : Hearing → Option O → Option O → Type 0) (limit : Option ℕ) (active : List Active) (before now : Filtering) (count old new : ℕ) (first last : Option O) : Type 0 where
+  pub run : HasRun limit (is_some first) active before now count old new
+  pub followed : LeadsAlong follows (hearings (state_of before active) run.revisions (state_of now active) run.ran) first last
 
 none_within : (limit : Option ℕ) → IsInLimit limit 0
 none_within None = tt
@@ -55,18 +62,21 @@ none_fit true = tt
 pub record HasTried (limit : Option ℕ) (ordered : Bool) (active : List Active) (before f g h : Filtering) (count old mid new : ℕ) (cid : Cid) : Type 0 where
   pub run : HasRun limit ordered active before f count old mid
   pub takes : TakesNext limit ordered count f g cid
-  pub kept : IsKept h active
+  pub kept : IsInStep h active
   pub counted : HasCounted (named_sizes (state_in_revision g active cid) (cid ∷ [])) g h mid new
 
-pub run_start : (limit : Option ℕ) (ordered : Bool) (active : List Active) (f : Filtering) (s : ℕ) → IsEngine f active → HasRun limit ordered active f f 0 s s
-run_start limit ordered active f s engine = record {
-  engine = engine;
-  revisions = [];
-  ran = refl;
-  fits = none_fit ordered;
-  within = none_within limit;
-  counted = omega arith;
-  asked = counted_none f s;
+pub run_start : {O : Type 0} (follows : Hearing → Option O → Option O → Type 0) (limit : Option ℕ) (active : List Active) (f : Filtering) (s : ℕ) (order : Option O) → IsEngine f active → HasRunBy follows limit active f f 0 s s order order
+run_start follows limit active f s order engine = record {
+  run = record {
+    engine = engine;
+    revisions = [];
+    ran = refl;
+    fits = none_fit (is_some order);
+    within = none_within limit;
+    counted = omega arith;
+    asked = counted_none f s;
+  };
+  followed = refl;
 }
 
 -- ---- the constraint that is taken
@@ -76,7 +86,7 @@ chosen_pending limit ordered ran f g cid takes = member_get f.agenda.pending (in
 
 taken_formed : (before after : Waiting) (cid : Cid) → after.connected ≡ before.connected → after.pending ≡ without_cid cid before.pending → IsFormed before → IsFormed after
 taken_formed before after cid connected pending formed = record {
-  rising = subst (λ cs. Rises (names_of cs)) (sym connected) formed.rising;
+  rising = subst (λ cs. Rises (connected_cids cs)) (sym connected) formed.rising;
   pending_rising = subst Rises (sym pending) (without_cid_rises cid before.pending formed.pending_rising);
   pending_connected = λ c m.
       let was = without_cid_member cid before.pending c (subst (λ cs. Contains cs c) pending m) in
@@ -84,7 +94,7 @@ taken_formed before after cid connected pending formed = record {
   marks = subst (λ cs. All HasMarks cs) (sym connected) formed.marks;
 }
 
-taken_kept : (limit : Option ℕ) (ordered : Bool) (ran : ℕ) (active : List Active) (f g : Filtering) (cid : Cid) → TakesNext limit ordered ran f g cid → IsKept f active → IsKept g active
+taken_kept : (limit : Option ℕ) (ordered : Bool) (ran : ℕ) (active : List Active) (f g : Filtering) (cid : Cid) → TakesNext limit ordered ran f g cid → IsInStep f active → IsInStep g active
 taken_kept limit ordered ran active f g cid takes kept = record {
   removed = subst (λ s. LacksExactly s (log_pairs g.log.log)) (sym takes.store) (subst (λ (l : Explanations). LacksExactly f.store (log_pairs l.log)) (sym takes.log) kept.removed);
   formed = taken_formed f.agenda g.agenda cid takes.connected takes.takes.pending kept.formed;
@@ -116,7 +126,7 @@ taken_is limit ordered ran active f g cid takes engine =
 
 -- ---- one revision more
 
-filled_state : (f : Filtering) (active : List Active) → IsKept f active → f.empty ≡ None → AllFilled (present (state_of f active))
+filled_state : (f : Filtering) (active : List Active) → IsInStep f active → f.empty ≡ None → AllFilled (present (state_of f active))
 filled_state f active kept none = subst AllFilled kept.removed.present (subst (λ o. IsEmptyKept (present_of f.store) o) none kept.empty)
 
 revises_next : (limit : Option ℕ) (ordered : Bool) (ran : ℕ) (active : List Active) (f g h : Filtering) (cid : Cid) (removed : ℕ) (takes : TakesNext limit ordered ran f g cid) → IsEngine f active
@@ -157,7 +167,7 @@ counted_from n f g h s t same c = record {
 
 -- the revision's questions, as the settling counts them
 spent_more : (limit : Option ℕ) (ordered : Bool) (active : List Active) (before f g h : Filtering) (count old mid new : ℕ) (cid : Cid) → (tried : HasTried limit ordered active before f g h count old mid new cid)
-    → HasCounted (most_asked (state_of before active) tried.run.revisions + named_sizes (state_of before active) (cid ∷ [])) before h old new
+    → HasCounted (most_asked_in (state_of before active) tried.run.revisions + named_sizes (state_of before active) (cid ∷ [])) before h old new
 spent_more limit ordered active before f g h count old mid new cid tried =
     let s = state_of before active in
     let m = state_of f active in
@@ -165,16 +175,27 @@ spent_more limit ordered active before f g h count old mid new cid tried =
     let e = taken_state limit ordered count active f g cid tried.takes run.engine in
     let same = revisions_filter s run.revisions m run.ran in
     let size : named_sizes (state_in_revision g active cid) (cid ∷ []) ≡ named_sizes s (cid ∷ []) = ap (λ (z : EngineState). named_sizes z (cid ∷ [])) e ∙ same_named s m (cid ∷ []) same.active same.initial in
-    counted_then (most_asked s run.revisions) (named_sizes s (cid ∷ [])) before f h old mid new run.asked (counted_from (named_sizes s (cid ∷ [])) f g h mid new tried.takes.checks (subst (λ n. HasCounted n g h mid new) size tried.counted))
+    counted_then (most_asked_in s run.revisions) (named_sizes s (cid ∷ [])) before f h old mid new run.asked (counted_from (named_sizes s (cid ∷ [])) f g h mid new tried.takes.checks (subst (λ n. HasCounted n g h mid new) size tried.counted))
 
 pub tried_checks : {limit : Option ℕ} {ordered : Bool} {active : List Active} {before f g h : Filtering} {count old mid new : ℕ} {cid : Cid} → HasTried limit ordered active before f g h count old mid new cid
     → before.checks ≤ LAST_COUNT → h.checks ≡ min (before.checks + (new - old)) LAST_COUNT
 tried_checks {limit = limit} {ordered = ordered} {active = active} {before = before} {f = f} {g = g} {h = h} {count = count} {old = old} {mid = mid} {new = new} {cid = cid} tried le =
     (spent_more limit ordered active before f g h count old mid new cid tried).checks le
 
-pub run_more : {limit : Option ℕ} {ordered : Bool} {active : List Active} {before f g h : Filtering} {count old mid new : ℕ} {cid : Cid} → HasTried limit ordered active before f g h count old mid new cid → (removed : ℕ)
-    → HasRevised active cid (state_in_revision g active cid) (state_of h active) removed → HasRun limit ordered active before h (min (count + 1) LAST_COUNT) old new
-run_more {limit = limit} {ordered = ordered} {active = active} {before = before} {f = f} {g = g} {h = h} {count = count} {old = old} {mid = mid} {new = new} {cid = cid} tried removed revised =
+-- one revision more, of which the order hears
+heard_more : {X : Type 0} (follows : Hearing → X → X → Type 0) (s : EngineState) (rs : List Revision) (m : EngineState) (r : Revision) (t : EngineState) (a b c : X) (run : Revisions s rs m) → Revises m r t → LeadsAlong follows (hearings s rs m run) a b
+    → follows (record { pending = m.pending; revision = r }) b c → (more : Revisions s (rs ++ r ∷ []) t) × LeadsAlong follows (hearings s (rs ++ r ∷ []) t more) a c
+heard_more follows s [] m r t a b c run one led step =
+    ((t, subst (λ z. Revises z r t) run one, refl), (c, subst (λ x. follows (record { pending = s.pending; revision = r }) x c) led (subst (λ (z : EngineState). follows (record { pending = z.pending; revision = r }) b c) run step), refl))
+heard_more follows s (q ∷ rs) m r t a b c run one led step =
+    let more = heard_more follows run.0 rs m r t led.0 b c run.2 one led.2 step in
+    ((run.0, run.1, more.0), (led.0, led.1, more.1))
+
+pub run_more : {O : Type 0} {follows : Hearing → Option O → Option O → Type 0} {limit : Option ℕ} {active : List Active} {before f g h : Filtering} {count old mid new : ℕ} {cid : Cid} {first last : Option O} → (now : Option O) → (tried : HasTried limit (is_some first) active before f g h count old mid new cid) → (removed : ℕ)
+    → HasRevised active cid (state_in_revision g active cid) (state_of h active) removed → LeadsAlong follows (hearings (state_of before active) tried.run.revisions (state_of f active) tried.run.ran) first now
+    → follows (record { pending = f.agenda.pending; revision = record { answer = tried.takes.answer; cid = cid; removed = removed } }) now last → HasRunBy follows limit active before h (min (count + 1) LAST_COUNT) old new first last
+run_more {follows = follows} {limit = limit} {active = active} {before = before} {f = f} {g = g} {h = h} {count = count} {old = old} {mid = mid} {new = new} {cid = cid} {first = first} {last = last} now tried removed revised led step =
+    let ordered = is_some first in
     let s = state_of before active in
     let m = state_of f active in
     let t = state_of h active in
@@ -184,19 +205,23 @@ run_more {limit = limit} {ordered = ordered} {active = active} {before = before}
     let r : Revision = record { answer = takes.answer; cid = cid; removed = removed } in
     let one : Revises m r t = revises_next limit ordered count active f g h cid removed takes run.engine revised in
     let filters = revision_filters m r t one in
-    let more : length (rs ++ r ∷ []) ≡ length rs + 1 = length-append rs (r ∷ []) in
+    let longer : length (rs ++ r ∷ []) ≡ length rs + 1 = length-append rs (r ∷ []) in
+    let more = heard_more follows s rs m r t first now last run.ran one led step in
     record {
-      engine = record {
-        kept = tried.kept;
-        valid = run_valid reasons_right m filters.steps t filters.run run.engine.valid;
-        scoped = run_scoped m filters.steps t filters.run run.engine.valid run.engine.scoped;
+      run = record {
+        engine = record {
+          kept = tried.kept;
+          valid = run_valid reasons_right m filters.steps t filters.run run.engine.valid;
+          scoped = run_scoped m filters.steps t filters.run run.engine.valid run.engine.scoped;
+        };
+        revisions = rs ++ r ∷ [];
+        ran = more.0;
+        fits = fits_more ordered rs r run.fits takes.fits;
+        within = subst (λ n. IsInLimit limit n) (sym longer) (within_more limit count (length rs) run.counted run.within takes.below takes.bounded);
+        counted = count_more count (length rs) LAST_COUNT run.counted ∙ ap (λ n. min n LAST_COUNT) (sym longer);
+        asked = subst (λ n. HasCounted n before h old new) (sym (asked_more s rs r)) (spent_more limit ordered active before f g h count old mid new cid tried);
       };
-      revisions = rs ++ r ∷ [];
-      ran = revisions_more s rs m r t run.ran one;
-      fits = fits_more ordered rs r run.fits takes.fits;
-      within = subst (λ n. IsInLimit limit n) (sym more) (within_more limit count (length rs) run.counted run.within takes.below takes.bounded);
-      counted = count_more count (length rs) LAST_COUNT run.counted ∙ ap (λ n. min n LAST_COUNT) (sym more);
-      asked = subst (λ n. HasCounted n before h old new) (sym (asked_more s rs r)) (spent_more limit ordered active before f g h count old mid new cid tried);
+      followed = more.1;
     }
 
 pub run_falls : {limit : Option ℕ} {ordered : Bool} {active : List Active} {before f g h : Filtering} {count old mid new : ℕ} {cid : Cid} → HasTried limit ordered active before f g h count old mid new cid → (removed : ℕ)
@@ -225,17 +250,22 @@ ends_as Stopped limit n s (ended_empty empty) tells = absurd (not_empty (present
 ends_as Stopped limit n s (ended_quiet quiet) tells = absurd (tells.1 quiet)
 ends_as Stopped limit n s (ended_limit reached) tells = (reached, tells.0, tells.1)
 
-pub run_settled : (limit : Option ℕ) (ordered : Bool) (active : List Active) (before now : Filtering) (count old new : ℕ) (answer : Settle) (view : View) → view.state ≡ state_of before active → (run : HasRun limit ordered active before now count old new)
-    → TakesNone limit count now → TellsEnd answer (state_of now active) → HasSettled limit ordered answer view (record { state = state_of now active; revisions = count; checks = now.checks })
-run_settled limit ordered active before now count old new answer view is run none tells =
-    let ended = ended_here limit ordered active before now count old new run none in
-    record {
-      revisions = run.revisions;
-      settles = record { revisions = subst (λ s. Revisions s run.revisions (state_of now active)) (sym is) run.ran; within = run.within; ended = ended };
-      fits = run.fits;
-      ends = ends_as answer limit (length run.revisions) (state_of now active) ended tells;
-      counted = run.counted;
-    }
+pub run_settled : {O : Type 0} (follows : Hearing → Option O → Option O → Type 0) (limit : Option ℕ) (active : List Active) (before now : Filtering) (count old new : ℕ) (first last : Option O) (answer : Settle) (view : View) → view.state ≡ state_of before active
+    → HasRunBy follows limit active before now count old new first last → TakesNone limit count now → TellsEnd answer (state_of now active) → HasSettledBy follows limit first last answer view (record { state = state_of now active; revisions = count; checks = now.checks })
+run_settled follows limit active before now count old new first last answer view is by none tells =
+    let run = by.run in
+    let after : View = record { state = state_of now active; revisions = count; checks = now.checks } in
+    let ended = ended_here limit (is_some first) active before now count old new run none in
+    subst (λ (s : EngineState). HasSettledBy follows limit first last answer (record view { state = s }) after) (sym is) (record {
+      settled = record {
+        revisions = run.revisions;
+        settles = record { revisions = run.ran; within = run.within; ended = ended };
+        fits = run.fits;
+        ends = ends_as answer limit (length run.revisions) (state_of now active) ended tells;
+        counted = run.counted;
+      };
+      followed = by.followed;
+    })
 
 pub run_asked : (limit : Option ℕ) (ordered : Bool) (active : List Active) (before now : Filtering) (count old new : ℕ) → Rises (cids_of active) → HasRun limit ordered active before now count old new → HasAsked (state_of before active) (state_of now active) old new
 run_asked limit ordered active before now count old new rises run = settling_asked (state_of before active) run.revisions (state_of now active) old new rises run.ran run.asked.later run.asked.few
@@ -259,35 +289,43 @@ stopped_engine {active = active} {f = f} {h = h} tried part =
       scoped = walk_scoped one.owner one.walked (state_of f active) one.removed (state_of h active) one.walk engine.valid engine.scoped;
     }
 
-pub run_stopped : {limit : Option ℕ} {ordered : Bool} {active : List Active} {before f g h : Filtering} {count old mid new : ℕ} {cid : Cid} → HasTried limit ordered active before f g h count old mid new cid → (view : View) → view.state ≡ state_of before active
-    → HasPartlyRevised active cid (state_in_revision g active cid) (state_of h active) → IsInterrupted limit ordered view (record { state = state_of h active; revisions = min (count + 1) LAST_COUNT; checks = h.checks })
-run_stopped {limit = limit} {active = active} {f = f} {h = h} {count = count} {cid = cid} tried view is part =
+pub run_stopped : {O : Type 0} {answers : List Cid → ℕ → Option O → Option O → Type 0} {follows : Hearing → Option O → Option O → Type 0} {limit : Option ℕ} {active : List Active} {before f g h : Filtering} {count old mid new : ℕ} {cid : Cid} {first last : Option O}
+    → (now : Option O) → (tried : HasTried limit (is_some first) active before f g h count old mid new cid) → (view : View) → view.state ≡ state_of before active → HasPartlyRevised active cid (state_in_revision g active cid) (state_of h active)
+    → LeadsAlong follows (hearings (state_of before active) tried.run.revisions (state_of f active) tried.run.ran) first now → answers f.agenda.pending tried.takes.answer now last
+    → IsInterruptedBy answers follows limit first last view (record { state = state_of h active; revisions = min (count + 1) LAST_COUNT; checks = h.checks })
+run_stopped {answers = answers} {follows = follows} {limit = limit} {active = active} {f = f} {h = h} {count = count} {cid = cid} {first = first} {last = last} now tried view is part led asked =
     let m = state_of f active in
     let run = tried.run in
     let takes = tried.takes in
     let one = stopped_from tried part in
-    record {
-      revisions = run.revisions;
-      middle = m;
-      ended = subst (λ s. Revisions s run.revisions m) (sym is) run.ran;
-      fits = run.fits;
-      filled = filled_state f active run.engine.kept takes.filled;
-      within = within_more limit count (length run.revisions) run.counted run.within takes.below takes.bounded;
-      answer = takes.answer;
-      least = takes.fits;
-      owner = one.owner;
-      posted = one.posted;
-      chosen = takes.takes.chosen ∙ ap (λ (c : Cid). Some c) (sym one.named);
-      walked = one.walked;
-      next = one.next;
-      left = one.left;
-      order = one.order;
-      removed = one.removed;
-      walk = one.walk;
-      due = one.due;
-      pending = member_same h.agenda.pending cid one.owner.cid (sym one.named) one.pending;
-      counted = count_more count (length run.revisions) LAST_COUNT run.counted;
-    }
+    let after : View = record { state = state_of h active; revisions = min (count + 1) LAST_COUNT; checks = h.checks } in
+    subst (λ (s : EngineState). IsInterruptedBy answers follows limit first last (record view { state = s }) after) (sym is) (record {
+      interrupted = record {
+        revisions = run.revisions;
+        middle = m;
+        ended = run.ran;
+        fits = run.fits;
+        filled = filled_state f active run.engine.kept takes.filled;
+        within = within_more limit count (length run.revisions) run.counted run.within takes.below takes.bounded;
+        answer = takes.answer;
+        least = takes.fits;
+        owner = one.owner;
+        posted = one.posted;
+        chosen = takes.takes.chosen ∙ ap (λ (c : Cid). Some c) (sym one.named);
+        walked = one.walked;
+        next = one.next;
+        left = one.left;
+        order = one.order;
+        removed = one.removed;
+        walk = one.walk;
+        due = one.due;
+        pending = member_same h.agenda.pending cid one.owner.cid (sym one.named) one.pending;
+        counted = count_more count (length run.revisions) LAST_COUNT run.counted;
+      };
+      between = now;
+      followed = led;
+      asked = asked;
+    })
 
 pub stopped_asked : {limit : Option ℕ} {ordered : Bool} {active : List Active} {before f g h : Filtering} {count old mid new : ℕ} {cid : Cid} → HasTried limit ordered active before f g h count old mid new cid
     → HasPartlyRevised active cid (state_in_revision g active cid) (state_of h active) → HasAsked (state_of before active) (state_of h active) old new
@@ -300,4 +338,4 @@ stopped_asked {limit = limit} {ordered = ordered} {active = active} {before = be
     let all = spent_more limit ordered active before f g h count old mid new cid tried in
     interrupted_asked s run.revisions m one.owner one.walked one.removed (state_of h active) old new run.engine.valid.rising run.ran (member_same f.agenda.pending cid one.owner.cid (sym one.named) has)
     (filled_state f active run.engine.kept tried.takes.filled) one.walk all.later
-    (subst (λ (c : Cid). new ≤ old + (most_asked s run.revisions + named_sizes s (c ∷ []))) (sym one.named) all.few)
+    (subst (λ (c : Cid). new ≤ old + (most_asked_in s run.revisions + named_sizes s (c ∷ []))) (sym one.named) all.few)

@@ -5,7 +5,8 @@ use Rattle.palm_base.proofs.cited.Members.{member_nil}
 use Rattle.std.proofs.lemmas.List.Elements.{All-nil, All-cons, All-head, All-tail}
 use Rattle.palm_model.specs.Domains.{Has}
 use Rattle.palm_model.specs.Support.{IsSupported}
-use Rattle.palm_model.specs.Log.{Active, Rises, cids_of}
+use Rattle.palm_base.specs.Order.{Rises}
+use Rattle.palm_model.specs.Log.{Active, cids_of}
 use Rattle.palm_model.specs.State.{EngineState, HasEmpty, present}
 use Rattle.palm_model.specs.Event.{Removes}
 use Rattle.palm_events.proofs.cited.Names.{single}

@@ -1,11 +1,12 @@
--- The agenda knows each active constraint by its name and its scope.
+-- The agenda knows each active constraint by its id and its scope.
 use Rattle.std.proofs.Common.{◌≡◌, ℕ, Bool, true, false, not, if◌then◌else◌, nat_eq, List, [], ◌∷◌, ◌++◌, map, filter, cond, Contains, refl, sym, ap, ◌∙◌, subst}
 use Rattle.std.proofs.lemmas.List.{map-append}
 use Rattle.palm_base.specs.declared.terms.Cid.{Cid}
 use Rattle.palm_base.proofs.cited.Members.{member_map, member_unmap}
 use Rattle.palm_model.specs.Constraint.{scope}
-use Rattle.palm_model.specs.Log.{Active, IsActive, Rises, cid_before, cids_of, is_named}
-use Rattle.palm_model.specs.Event.{with_posted, without_names}
+use Rattle.palm_base.specs.Order.{Rises, cid_before}
+use Rattle.palm_model.specs.Log.{Active, IsActive, cids_of, is_named}
+use Rattle.palm_model.specs.Event.{with_posted, without_cids}
 use Rattle.palm_events.proofs.cited.Names.{single}
 use Rattle.palm_agenda.specs.Agenda.{Connected, IsConnected, IsOver, is_over, marked_whole, marked_where, mark_others, with_connected, without_connected}
 use Rattle.palm_engine.specs.Kept.{Scoped, AreConnected}
@@ -18,7 +19,7 @@ scoped_by a = record { cid = a.cid; scope = scope a.con }
 
 -- ---- one by one
 
--- a connected constraint is active, under its name and over its scope
+-- a connected constraint is active, under its id and over its scope
 pub record IsKnown (active : List Active) (d : Connected) : Type 0 where
   pub owner : Active
   pub posted : Contains active owner
@@ -30,7 +31,7 @@ connected_known active connected are d m =
     let r = member_unmap scoped_by active (scoped d) (subst (λ ss. Contains ss (scoped d)) are (member_map scoped connected d m)) in
     record { owner = r.0; posted = r.1; named = ap (λ (s : Scoped). s.cid) r.2; scope = ap (λ (s : Scoped). s.scope) r.2 }
 
--- an active constraint is connected, under its name and over its scope
+-- an active constraint is connected, under its id and over its scope
 pub record HasConnection (connected : List Connected) (a : Active) : Type 0 where
   pub owner : Connected
   pub listed : Contains connected owner
@@ -50,7 +51,7 @@ pub connected_is_active : (active : List Active) (connected : List Connected) �
 connected_is_active active connected are c is =
     let r = connected_known active connected are is.owner is.listed in record { owner = r.owner; posted = r.posted; named = r.named ∙ is.named }
 
--- the scope of the connection under a constraint's name is the constraint's
+-- the scope of the connection under a constraint's id is the constraint's
 pub scope_of_owner : (active : List Active) (connected : List Connected) → Rises (cids_of active) → AreConnected active connected
     → (a : Active) (d : Connected) → Contains active a → Contains connected d → d.cid ≡ a.cid → d.scope ≡ scope a.con
 scope_of_owner active connected rises are a d m k named =
@@ -68,7 +69,7 @@ active_over active connected are x a m over =
     let r = active_connection active connected are a m in
     record { owner = r.owner; listed = r.listed; named = r.named; over = subst (λ s. Contains s x) (sym r.scope) over }
 
--- ---- marks change no name and no scope
+-- ---- marks change no id and no scope
 
 if_scoped : (b : Bool) (p q d : Connected) → scoped p ≡ scoped d → scoped q ≡ scoped d → scoped (if b then p else q) ≡ scoped d
 if_scoped true p q d e f = e
@@ -101,7 +102,7 @@ filtered_connected : (active : List Active) (connected : List Connected) (test :
     → AreConnected (filter (λ a. test (scoped_by a)) active) (filter (λ d. test (scoped d)) connected)
 filtered_connected active connected test are = map_filter scoped test connected ∙ ap (filter test) are ∙ sym (map_filter scoped_by test active)
 
-pub without_is_connected : (active : List Active) (connected : List Connected) (cid : Cid) → AreConnected active connected → AreConnected (without_names (cid ∷ []) active) (without_connected cid connected)
+pub without_is_connected : (active : List Active) (connected : List Connected) (cid : Cid) → AreConnected active connected → AreConnected (without_cids (cid ∷ []) active) (without_connected cid connected)
 without_is_connected active connected cid are = filtered_connected active connected (λ s. not (is_named (cid ∷ []) s.cid)) are
 
 pub with_is_connected : (active : List Active) (connected : List Connected) (a : Active) → AreConnected active connected

@@ -9,14 +9,16 @@ use Rattle.palm_base.specs.declared.terms.Pair.{Pair}
 use Rattle.palm_base.specs.declared.terms.Cid.{Cid}
 use Rattle.palm_base.proofs.cited.Members.{member_here, member_there, member_cases, member_same}
 use Rattle.palm_domain.specs.Rows.{initial_of, present_of}
-use Rattle.palm_model.specs.Log.{Active, IsActive, Rises, cids_of, is_named}
+use Rattle.palm_base.specs.Order.{Rises}
+use Rattle.palm_model.specs.Log.{Active, IsActive, cids_of, is_named}
 use Rattle.palm_model.specs.State.{is_awake, woken, without_cid}
-use Rattle.palm_events.proofs.cited.Names.{rising_same, named_member}
+use Rattle.palm_base.proofs.cited.CidOrder.{rising_same}
+use Rattle.palm_events.proofs.cited.Names.{named_member}
 use Rattle.palm_events.proofs.cited.States.{waits, woken_rises, woken_active, member_woken, awake_named, without_cid_rises, without_cid_member, member_without_cid}
 use Rattle.palm_agenda.specs.Agenda.{IsConnected, IsFormed, Waiting}
 use Rattle.palm_engine.specs.declared.filtering.Filtering.{Filtering}
 use Rattle.palm_engine.specs.Settling.{Walks, IsDue, walk_order, rested}
-use Rattle.palm_engine.specs.Kept.{IsKept, AreConnected, AreMarked, state_of, state_in_revision}
+use Rattle.palm_engine.specs.Kept.{IsInStep, AreConnected, AreMarked, state_of, state_in_revision}
 use Rattle.palm_engine.specs.Revising.{IsRevising, IsAgain, Walked, WalkedPart, HasCounted, IsTaken, HasRevised, HasPartlyRevised}
 use Rattle.palm_engine.specs.Work.{size_of, named_sizes}
 use Rattle.palm_engine.proofs.Joined.{walk_logged}
@@ -25,35 +27,35 @@ use Rattle.palm_engine.proofs.Spending.{owner_size}
 use Rattle.palm_engine.proofs.Unmarking.{active_connected, connected_active}
 use Rattle.palm_engine.proofs.Waking.{woken_same, pending_woken}
 
--- ---- the pending names
+-- ---- the pending ids
 
 -- what is pending is active
-pub pending_is_active : (f : Filtering) (active : List Active) → IsKept f active → (c : Cid) → Contains f.agenda.pending c → IsActive active c
+pub pending_is_active : (f : Filtering) (active : List Active) → IsInStep f active → (c : Cid) → Contains f.agenda.pending c → IsActive active c
 pending_is_active f active kept c m =
     let d = kept.formed.pending_connected c m in
     let r = connected_active active f.agenda.connected kept.connected d.owner d.listed in
     record { owner = r.0; posted = r.1; named = r.2 ∙ d.named }
 
-pub pending_waits : (f : Filtering) (active : List Active) → Rises (cids_of active) → IsKept f active → f.agenda.pending ≡ woken active f.agenda.pending []
+pub pending_waits : (f : Filtering) (active : List Active) → Rises (cids_of active) → IsInStep f active → f.agenda.pending ≡ woken active f.agenda.pending []
 pending_waits f active rises kept = waits active f.agenda.pending rises kept.formed.pending_rising (pending_is_active f active kept)
 
-awake_among : (names : List Cid) (a : Active) → is_awake names [] a ≡ true → Contains names a.cid
-awake_among names a t = elim (or_cases (is_named names a.cid) false t) [
-  | inl k ↦ named_member names a.cid k
+awake_among : (cids : List Cid) (a : Active) → is_awake cids [] a ≡ true → Contains cids a.cid
+awake_among cids a t = elim (or_cases (is_named cids a.cid) false t) [
+  | inl k ↦ named_member cids a.cid k
   | inr f ↦ absurd (false≢true f)
 ]
 
--- a name that is not pending is added and taken away
-added_taken : (active : List Active) (names : List Cid) (cid : Cid) → Rises (cids_of active) → Rises names → ((c : Cid) → Contains names c → IsActive active c) → (Contains names cid → ⊥) → names ≡ without_cid cid (woken active (cid ∷ names) [])
-added_taken active names cid rises rise are absent = rising_same names (without_cid cid (woken active (cid ∷ names) [])) rise (without_cid_rises cid (woken active (cid ∷ names) []) (woken_rises active (cid ∷ names) [] rises))
+-- an id that is not pending is added and taken away
+added_taken : (active : List Active) (cids : List Cid) (cid : Cid) → Rises (cids_of active) → Rises cids → ((c : Cid) → Contains cids c → IsActive active c) → (Contains cids cid → ⊥) → cids ≡ without_cid cid (woken active (cid ∷ cids) [])
+added_taken active cids cid rises rise are absent = rising_same cids (without_cid cid (woken active (cid ∷ cids) [])) rise (without_cid_rises cid (woken active (cid ∷ cids) []) (woken_rises active (cid ∷ cids) [] rises))
     (λ c m.
     let a = are c m in
-    let here = member_woken active (cid ∷ names) [] a.owner a.posted (awake_named (cid ∷ names) [] a.owner (member_there cid names a.owner.cid (member_same names c a.owner.cid (sym a.named) m))) in
-    member_without_cid cid (woken active (cid ∷ names) []) c (member_same (woken active (cid ∷ names) []) a.owner.cid c a.named here) (λ e. absent (member_same names c cid e m)))
+    let here = member_woken active (cid ∷ cids) [] a.owner a.posted (awake_named (cid ∷ cids) [] a.owner (member_there cid cids a.owner.cid (member_same cids c a.owner.cid (sym a.named) m))) in
+    member_without_cid cid (woken active (cid ∷ cids) []) c (member_same (woken active (cid ∷ cids) []) a.owner.cid c a.named here) (λ e. absent (member_same cids c cid e m)))
     (λ c m.
-    let r = without_cid_member cid (woken active (cid ∷ names) []) c m in
-    let w = woken_active active (cid ∷ names) [] c r.0 in
-    elim (member_cases cid names c (member_same (cid ∷ names) w.0.cid c w.2 (awake_among (cid ∷ names) w.0 w.3))) [
+    let r = without_cid_member cid (woken active (cid ∷ cids) []) c m in
+    let w = woken_active active (cid ∷ cids) [] c r.0 in
+    elim (member_cases cid cids c (member_same (cid ∷ cids) w.0.cid c w.2 (awake_among (cid ∷ cids) w.0 w.3))) [
       | inl e ↦ absurd (r.1 (sym e))
       | inr n ↦ n
     ])
@@ -87,7 +89,7 @@ walked_revised f g active cid taken count r w is =
     (subst (λ (c : Cid). HasRevised active c (state_in_revision f active c) (state_of g active) w.removed) taken.named one)
 
 -- the constraint is pending again
-woken_state : (m : Filtering) (a : Waiting) (active : List Active) (owner : Active) → IsRevising m active owner → IsKept (record m { agenda = a }) active → ((c : Cid) → Contains a.pending c ↔ (Contains m.agenda.pending c ⊎ (c ≡ owner.cid)))
+woken_state : (m : Filtering) (a : Waiting) (active : List Active) (owner : Active) → IsRevising m active owner → IsInStep (record m { agenda = a }) active → ((c : Cid) → Contains a.pending c ↔ (Contains m.agenda.pending c ⊎ (c ≡ owner.cid)))
     → state_of (record m { agenda = a }) active ≡ state_in_revision m active owner.cid
 woken_state m a active owner r kept pending =
     let e = pending_waits (record m { agenda = a }) active r.valid.rising kept ∙ woken_same active a.pending (owner.cid ∷ m.agenda.pending) [] []
@@ -107,7 +109,7 @@ woken_state m a active owner r kept pending =
     ]) in
     λ i. record (state_of (record m { agenda = a }) active) { pending = e i }
 
-pub woken_kept : (m : Filtering) (a : Waiting) (active : List Active) → IsKept m active → a.connected ≡ m.agenda.connected → IsFormed a → IsKept (record m { agenda = a }) active
+pub woken_kept : (m : Filtering) (a : Waiting) (active : List Active) → IsInStep m active → a.connected ≡ m.agenda.connected → IsFormed a → IsInStep (record m { agenda = a }) active
 woken_kept m a active kept connected formed = record {
   removed = kept.removed;
   formed = formed;
@@ -117,7 +119,7 @@ woken_kept m a active kept connected formed = record {
 }
 
 pub part_revised : (f m : Filtering) (a : Waiting) (active : List Active) (cid : Cid) (taken : IsTaken f active cid) → IsRevising m active taken.owner → WalkedPart active taken.owner (walk_order (initial_of f.store) taken.owner.con) f m
-    → IsKept (record m { agenda = a }) active → ((c : Cid) → Contains a.pending c ↔ (Contains m.agenda.pending c ⊎ (c ≡ cid))) → HasPartlyRevised active cid (state_in_revision f active cid) (state_of (record m { agenda = a }) active)
+    → IsInStep (record m { agenda = a }) active → ((c : Cid) → Contains a.pending c ↔ (Contains m.agenda.pending c ⊎ (c ≡ cid))) → HasPartlyRevised active cid (state_in_revision f active cid) (state_of (record m { agenda = a }) active)
 part_revised f m a active cid taken r part kept pending =
     let owner = taken.owner in
     let pending' = subst (λ (n : Cid). (c : Cid) → Contains a.pending c ↔ (Contains m.agenda.pending c ⊎ (c ≡ n))) (sym taken.named) pending in

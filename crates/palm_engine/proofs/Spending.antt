@@ -3,25 +3,22 @@ use Rattle.std.proofs.Common.{◌≡◌, ℕ, zero, suc, ◌+◌, ◌≤◌, Lis
 use Rattle.std.proofs.lemmas.List.Sums.{sum_by-cons, sum_by-append}
 use Rattle.palm_base.specs.declared.terms.Pair.{Pair}
 use Rattle.palm_base.proofs.cited.Members.{member_nil, member_here, member_cases, member_filter}
-use Rattle.palm_model.specs.Log.{Active, Rises, cids_of, is_named}
+use Rattle.palm_base.specs.Order.{Rises}
+use Rattle.palm_model.specs.Log.{Active, cids_of, is_named}
 use Rattle.palm_model.specs.State.{EngineState, AllFilled, present}
 use Rattle.palm_events.proofs.cited.Names.{member_named}
 use Rattle.palm_engine.specs.Settling.{Walks, Revision, Revises, Revisions}
-use Rattle.palm_engine.specs.Work.{size_of, named_sizes, most_asked}
+use Rattle.palm_engine.specs.Work.{size_of, named_sizes, most_asked_in}
 use Rattle.palm_engine.specs.Engine.{HasAsked}
 use Rattle.palm_engine.proofs.cited.Walking.{took_none}
 use Rattle.palm_engine.proofs.Working.{calm_sizes, some_pays, pays_then, same_named, revisions_pay}
 
 -- ---- one more revision
 
-pub revisions_more : (s : EngineState) (rs : List Revision) (m : EngineState) (r : Revision) (t : EngineState) → Revisions s rs m → Revises m r t → Revisions s (rs ++ r ∷ []) t
-revisions_more s [] m r t run one = (t, subst (λ z. Revises z r t) run one, refl)
-revisions_more s (q ∷ rs) m r t run one = (run.0, run.1, revisions_more run.0 rs m r t run.2 one)
-
-pub asked_more : (s : EngineState) (rs : List Revision) (r : Revision) → most_asked s (rs ++ r ∷ []) ≡ most_asked s rs + named_sizes s (r.cid ∷ [])
+pub asked_more : (s : EngineState) (rs : List Revision) (r : Revision) → most_asked_in s (rs ++ r ∷ []) ≡ most_asked_in s rs + named_sizes s (r.cid ∷ [])
 asked_more s rs r =
     let f = λ (q : Revision). named_sizes s (q.cid ∷ []) in
-    sum_by-append f rs (r ∷ []) ∙ ap (λ n. most_asked s rs + n) (sum_by-cons f r [] ∙ plus_none (f r))
+    sum_by-append f rs (r ∷ []) ∙ ap (λ n. most_asked_in s rs + n) (sum_by-cons f r [] ∙ plus_none (f r))
   where
     plus_none : (n : ℕ) → n + 0 ≡ n
     plus_none n = omega arith
@@ -41,14 +38,14 @@ owner_size s a m = member_sum (λ (b : Active). size_of s.initial b.con) (filter
 
 -- ---- whole and interrupted settlings
 
-pub settling_asked : (s : EngineState) (rs : List Revision) (t : EngineState) (old new : ℕ) → Rises (cids_of s.active) → Revisions s rs t → old ≤ new → new ≤ old + most_asked s rs → HasAsked s t old new
+pub settling_asked : (s : EngineState) (rs : List Revision) (t : EngineState) (old new : ℕ) → Rises (cids_of s.active) → Revisions s rs t → old ≤ new → new ≤ old + most_asked_in s rs → HasAsked s t old new
 settling_asked s rs t old new rises run later few =
     let pays = revisions_pay s rs t rises run in
     let k = pays.paid in
     record { gained = pays.gained; log = pays.log; later = later; paid = omega (arith, few, k) }
 
 pub interrupted_asked : (s : EngineState) (rs : List Revision) (m : EngineState) (a : Active) (walked : List Pair) (n : ℕ) (t : EngineState) (old new : ℕ) → Rises (cids_of s.active) → Revisions s rs m → Contains m.pending a.cid → AllFilled (present m)
-    → Walks a walked m n t → old ≤ new → new ≤ old + (most_asked s rs + named_sizes s (a.cid ∷ [])) → HasAsked s t old new
+    → Walks a walked m n t → old ≤ new → new ≤ old + (most_asked_in s rs + named_sizes s (a.cid ∷ [])) → HasAsked s t old new
 interrupted_asked s rs m a walked zero t old new rises run pending filled walk later few =
     let pays = revisions_pay s rs m rises run in
     let none = took_none a walked m zero t walk refl filled in
@@ -66,6 +63,6 @@ interrupted_asked s rs m a walked (suc n) t old new rises run pending filled wal
     let rises' : Rises (cids_of m.active) = subst (λ (l : List Active). Rises (cids_of l)) (sym pays.active) rises in
     let last = some_pays a walked m (suc n) t rises' pending (omega arith) walk in
     let same = same_named s m (a.cid ∷ []) pays.active pays.initial in
-    let all = pays_then s m t (most_asked s rs) (named_sizes m (a.cid ∷ [])) pays last in
+    let all = pays_then s m t (most_asked_in s rs) (named_sizes m (a.cid ∷ [])) pays last in
     let k = all.paid in
     record { gained = all.gained; log = all.log; later = later; paid = omega (arith, few, k, same) }

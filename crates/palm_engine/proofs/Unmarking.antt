@@ -7,9 +7,11 @@ use Rattle.palm_base.proofs.cited.Members.{member_map, member_unmap, member_same
 use Rattle.palm_model.specs.Domains.{Domains, Has, IsInside}
 use Rattle.palm_model.specs.Constraint.{scope}
 use Rattle.palm_model.specs.Support.{IsSupported}
-use Rattle.palm_model.specs.Log.{Active, Rises, cids_of, same_cid}
+use Rattle.palm_base.specs.Order.{Rises, same_cid}
+use Rattle.palm_model.specs.Log.{Active, cids_of}
 use Rattle.palm_model.proofs.cited.Supports.{member_any}
-use Rattle.palm_events.proofs.cited.Names.{single, cid_same}
+use Rattle.palm_base.proofs.cited.CidOrder.{cid_same}
+use Rattle.palm_events.proofs.cited.Names.{single}
 use Rattle.palm_agenda.specs.Agenda.{Connected, marks_where, is_over, mark_others, changed_at, unmarked}
 use Rattle.palm_engine.specs.Kept.{AreConnected, AreMarked, Scoped}
 use Rattle.palm_engine.proofs.Staying.{KeepsOthers, support_stays}
@@ -42,7 +44,7 @@ connected_scope active connected rises same a c m n named =
     let e : r.0 ≡ a = single active rises r.0 a r.1 m (r.2 ∙ named) in
     ap (λ (b : Active). scope b.con) (sym e) ∙ r.3
 
--- names and scopes stay where each constraint keeps them
+-- ids and scopes stay where each constraint keeps them
 pub connected_stays : (active : List Active) (connected : List Connected) (f : Connected → Connected) → ((c : Connected) → (f c).cid ≡ c.cid) → ((c : Connected) → (f c).scope ≡ c.scope) → AreConnected active connected → AreConnected active (map f connected)
 connected_stays active connected f cid vars same = kept f cid vars connected ∙ same
   where
@@ -113,7 +115,7 @@ connected_removed active connected x same = connected_stays active connected (ma
 
 -- ---- a place was walked over
 
--- the constraint under the name without the mark at the place
+-- the constraint under the id without the mark at the place
 abbrev pub unmark : Cid → ℕ → Connected → Connected
 unmark cid place d = changed_at cid (unmarked place) d
 

@@ -8,7 +8,8 @@ use Rattle.palm_model.specs.Constraint.{scope}
 use Rattle.palm_model.specs.Log.{Active, cids_of, is_named}
 use Rattle.palm_model.specs.State.{is_over, is_awake, woken, without_cid}
 use Rattle.palm_model.proofs.cited.Supports.{any_member}
-use Rattle.palm_events.proofs.cited.Names.{named_member, cid_known}
+use Rattle.palm_base.proofs.cited.CidOrder.{cid_known}
+use Rattle.palm_events.proofs.cited.Names.{named_member}
 use Rattle.palm_events.proofs.cited.States.{over_member, awake_named, awake_over, woken_active, member_woken, without_cid_member, member_without_cid}
 
 -- the constraint was pending, or is over one of the variables
@@ -32,7 +33,7 @@ same_tests true c to back = sym (to refl)
 same_tests false true to back = back refl
 same_tests false false to back = refl
 
--- what is woken are the same names where the same constraints are awake
+-- what is woken are the same ids where the same constraints are awake
 pub woken_same : (active : List Active) (ps qs : List Cid) (xs ys : List ℕ) → ((a : Active) → Contains active a → IsAwake ps xs a → IsAwake qs ys a) → ((a : Active) → Contains active a → IsAwake qs ys a → IsAwake ps xs a)
     → woken active ps xs ≡ woken active qs ys
 woken_same active ps qs xs ys to back =
@@ -41,7 +42,7 @@ woken_same active ps qs xs ys to back =
     (λ t. is_awake_so qs ys a (to a m (awake_is ps xs a t)))
     (λ t. is_awake_so ps xs a (back a m (awake_is qs ys a t)))))
 
--- a name that was taken is pending again as soon as it is counted
+-- an id that was taken is pending again as soon as it is counted
 pub taken_woken : (active : List Active) (pending : List Cid) (cid : Cid) → Contains pending cid → pending ≡ woken active pending [] → woken active (cid ∷ without_cid cid pending) [] ≡ pending
 taken_woken active pending cid has waiting = woken_same active (cid ∷ without_cid cid pending) pending [] []
     (λ a m h. elim h [
@@ -60,7 +61,7 @@ taken_woken active pending cid has waiting = woken_same active (cid ∷ without_
     ])
     ∙ sym waiting
 
--- a name that is pending need not be counted
+-- an id that is pending need not be counted
 pub pending_woken : (active : List Active) (pending : List Cid) (cid : Cid) → Contains pending cid → pending ≡ woken active pending [] → woken active (cid ∷ pending) [] ≡ pending
 pending_woken active pending cid has waiting = woken_same active (cid ∷ pending) pending [] []
     (λ a m h. elim h [
@@ -73,7 +74,7 @@ pending_woken active pending cid has waiting = woken_same active (cid ∷ pendin
     ])
     ∙ sym waiting
 
--- some active constraint of this name is over the variable
+-- some active constraint of this id is over the variable
 abbrev pub IsOver : List Active → ℕ → Cid → Type 0
 IsOver active x c = (a : Active) × Contains active a × (a.cid ≡ c) × Contains (scope a.con) x
 

@@ -1,9 +1,8 @@
 -- How much a settling may ask: a constraint that is revised was pending, and each removal makes those over its variable so.
-use Rattle.std.proofs.Common.{◌≡◌, ℕ, zero, suc, ◌+◌, ◌<◌, ◌≤◌, ◌||◌, Option, Bool, true, false, cond, List, [], ◌∷◌, ◌++◌, length, filter, flat_map, sum_by, Contains, ◌⊎◌, inl, inr, refl, sym, ap, ◌∙◌, subst, arith}
+use Rattle.std.proofs.Common.{◌≡◌, ℕ, zero, suc, ◌+◌, ◌<◌, ◌≤◌, ◌||◌, Option, Bool, true, false, cond, List, [], ◌∷◌, ◌++◌, length, filter, flat_map, sum_by, Contains, ◌⊎◌, inl, inr, refl, sym, ap, ◌∙◌, subst, arith, length-append, zero-add}
 use Rattle.std.specs.List.{list_any}
 use Rattle.std.proofs.lemmas.Bool.{cases_Bool, or_cases}
 use Rattle.std.proofs.lemmas.List.{length-map, map-append, append_assoc}
-use Rattle.std.proofs.Common.{length-append, zero-add}
 use Rattle.std.proofs.lemmas.List.Sums.{sum_by-cons, sum_by-append}
 use Rattle.palm_base.specs.declared.terms.Pair.{Pair}
 use Rattle.palm_base.specs.declared.terms.Cid.{Cid}
@@ -11,7 +10,8 @@ use Rattle.palm_base.proofs.cited.Members.{member_here, member_there, member_sin
 use Rattle.palm_model.specs.Domains.{Domains, values_of}
 use Rattle.palm_model.specs.Constraint.{scope}
 use Rattle.palm_model.specs.Removed.{pairs_of}
-use Rattle.palm_model.specs.Log.{Active, Removal, Rises, cids_of, is_named, log_pairs}
+use Rattle.palm_base.specs.Order.{Rises}
+use Rattle.palm_model.specs.Log.{Active, Removal, cids_of, is_named, log_pairs}
 use Rattle.palm_model.specs.State.{EngineState, AllFilled, present, is_over, woken, without_cid}
 use Rattle.palm_model.specs.Event.{removal_of, removed, calmed}
 use Rattle.palm_model.specs.declared.constraint.Con.{Con}
@@ -21,7 +21,7 @@ use Rattle.palm_events.proofs.cited.Names.{named_member, member_named, single}
 use Rattle.palm_events.proofs.cited.States.{member_over, woken_active, without_cid_member}
 use Rattle.palm_engine.specs.Settling.{Walks, Revision, Revises, Revisions, Settles, walk_order, rested}
 use Rattle.palm_engine.specs.Settling.Walks.{walked_all, walked_empty, walked_past, walked_out}
-use Rattle.palm_engine.specs.Work.{size_of, sizes_of, named_sizes, sizes_over, most_asked, IsPaid}
+use Rattle.palm_engine.specs.Work.{size_of, sizes_of, named_sizes, sizes_over, most_asked_in, IsPaid}
 use Rattle.palm_engine.proofs.cited.Walking.{took_none, chosen_pending}
 
 -- ---- a walk looks at each pair once
@@ -244,10 +244,10 @@ revision_pays s r t rises revises = rest_pays s revises.state t revises.owner r.
 same_over : (s m : EngineState) (x : ℕ) → m.active ≡ s.active → m.initial ≡ s.initial → sizes_over m x ≡ sizes_over s x
 same_over s m x a i = λ j. sizes_of (i j) (filter (λ b. is_over b.con x) (a j))
 
-pub same_named : (s m : EngineState) (names : List Cid) → m.active ≡ s.active → m.initial ≡ s.initial → named_sizes m names ≡ named_sizes s names
-same_named s m names a i = λ j. sizes_of (i j) (filter (λ b. is_named names b.cid) (a j))
+pub same_named : (s m : EngineState) (cids : List Cid) → m.active ≡ s.active → m.initial ≡ s.initial → named_sizes m cids ≡ named_sizes s cids
+same_named s m cids a i = λ j. sizes_of (i j) (filter (λ b. is_named cids b.cid) (a j))
 
-pub same_asked : (s m : EngineState) (rs : List Revision) → m.active ≡ s.active → m.initial ≡ s.initial → most_asked m rs ≡ most_asked s rs
+pub same_asked : (s m : EngineState) (rs : List Revision) → m.active ≡ s.active → m.initial ≡ s.initial → most_asked_in m rs ≡ most_asked_in s rs
 same_asked s m rs a i = ap (λ (f : Cid → ℕ). sum_by (λ (r : Revision). f r.cid) rs) (λ j c. same_named s m (c ∷ []) a i j)
 
 same_gained : (s m : EngineState) (pairs : List Pair) → m.active ≡ s.active → m.initial ≡ s.initial → sum_by (λ (p : Pair). sizes_over m p.var) pairs ≡ sum_by (λ (p : Pair). sizes_over s p.var) pairs
@@ -272,7 +272,7 @@ pays_then s m t spent more first rest =
     joined : (t m s spent more one other there all : ℕ) → m + spent ≤ s + one → t + more ≤ m + other → other ≡ there → all ≡ one + there → t + (spent + more) ≤ s + all
     joined t m s spent more one other there all a b e f = omega arith
 
-pub revisions_pay : (s : EngineState) (rs : List Revision) (t : EngineState) → Rises (cids_of s.active) → Revisions s rs t → Pays s (most_asked s rs) t
+pub revisions_pay : (s : EngineState) (rs : List Revision) (t : EngineState) → Rises (cids_of s.active) → Revisions s rs t → Pays s (most_asked_in s rs) t
 revisions_pay s [] t rises run = subst (λ z. Pays s 0 z) (sym run) (pays_none s)
 revisions_pay s (r ∷ rs) t rises run =
     let first = revision_pays s r run.0 rises run.1 in
@@ -280,7 +280,7 @@ revisions_pay s (r ∷ rs) t rises run =
     let rest = revisions_pay run.0 rs t rises' run.2 in
     let e = same_asked s run.0 rs first.active first.initial in
     subst (λ k. Pays s k t) (sym (sum_by-cons (λ (q : Revision). named_sizes s (q.cid ∷ [])) r rs))
-    (pays_then s run.0 t (named_sizes s (r.cid ∷ [])) (most_asked s rs) first (subst (λ k. Pays run.0 k t) e rest))
+    (pays_then s run.0 t (named_sizes s (r.cid ∷ [])) (most_asked_in s rs) first (subst (λ k. Pays run.0 k t) e rest))
 
 pub settling_paid : (limit : Option ℕ) (s : EngineState) (rs : List Revision) (t : EngineState) → Rises (cids_of s.active) → Settles limit s rs t → IsPaid s rs t
 settling_paid limit s rs t rises settles =

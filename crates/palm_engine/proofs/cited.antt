@@ -1,4 +1,5 @@
 -- Lemmas that other crates cite.
+pub mod Leading
 pub mod Results
 pub mod Settled
 pub mod Walking

@@ -22,7 +22,7 @@ abbrev pub NotesGain : Option ℕ → Option ℕ → Domains → Type 0
 NotesGain None after d = after ≡ None
 NotesGain (Some x) after d = (values_of d x ≡ [] → after ≡ Some x) × (0 < length (values_of d x) → after ≡ None)
 
--- the pair is taken out under the name and for the reasons, and the constraints over its variable wait
+-- the pair is taken out under the id and for the reasons, and the constraints over its variable wait
 pub record TakesOut (f : Filtering) (p : Pair) (by : Cid) (reasons : List Pair) (g : Filtering) : Type 0 where
   pub initial : initial_of g.store ≡ initial_of f.store
   pub loses : LosesPair f.store g.store p.var p.value
@@ -38,7 +38,7 @@ pub record TakesOut (f : Filtering) (p : Pair) (by : Cid) (reasons : List Pair) 
 abbrev pub is_one_of : List ℕ → ℕ → Bool
 is_one_of vars y = list_any (λ x. nat_eq y x) vars
 
--- the constraint under the name is gone with all that rests on it, and the constraints over restored variables wait
+-- the constraint under the id is gone with all that rests on it, and the constraints over restored variables wait
 pub record PutsBack (f : Filtering) (cid : Cid) (g : Filtering) : Type 0 where
   pub initial : initial_of g.store ≡ initial_of f.store
   pub loses : Loses f.log.log (cid ∷ []) f.log.log g.log.log

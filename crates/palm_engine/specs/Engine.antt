@@ -6,7 +6,7 @@ use Rattle.palm_model.specs.Log.{Active, Removal, log_pairs}
 use Rattle.palm_model.specs.State.{EngineState, IsEmptyAt, IsSettled, AllFilled, present}
 use Rattle.palm_engine.specs.Settling.{Revision, Revisions, Settles, Walks, IsDue, FitsOrder, IsInLimit, HasReached, index_within, walk_order}
 use Rattle.palm_engine.specs.Kept.{state_of}
-use Rattle.palm_engine.specs.Work.{most_questions}
+use Rattle.palm_engine.specs.Work.{most_asked}
 use Rattle.palm_engine.specs.declared.filtering.Filtering.{Filtering}
 use Rattle.palm_engine.specs.declared.settle.Settle.{Settle}
 use Rattle.palm_engine.specs.declared.settle.Settle.TheVariants.{Settled, Empty, Stopped}
@@ -42,7 +42,7 @@ pub record HasSettled (limit : Option ℕ) (ordered : Bool) (answer : Settle) (b
   pub counted : after.revisions ≡ min (length revisions) LAST_COUNT
 
 -- a settling whose last revision was interrupted by want of memory. The revisions before it ended, no domain is empty, and
--- the limit allows one more: the constraint at the answered index, the least name where there is no order object. It walked
+-- the limit allows one more: the constraint at the answered index, the least id where there is no order object. It walked
 -- over its pairs up to one that it has to take out, and is pending again
 pub record IsInterrupted (limit : Option ℕ) (ordered : Bool) (before after : View) : Type 0 where
   pub revisions : List Revision
@@ -72,4 +72,4 @@ pub record HasAsked (s t : EngineState) (before after : ℕ) : Type 0 where
   pub gained : List Removal
   pub log : t.log ≡ s.log ++ gained
   pub later : before ≤ after
-  pub paid : after ≤ before + most_questions s (log_pairs gained)
+  pub paid : after ≤ before + most_asked s (log_pairs gained)

@@ -16,16 +16,16 @@ use Rattle.palm_engine.specs.declared.filtering.Filtering.{Filtering}
 abbrev pub state_of : Filtering → List Active → EngineState
 state_of f active = record { initial = initial_of f.store; active = active; log = f.log.log; pending = f.agenda.pending }
 
--- the same while the constraint under the name is being revised: it is still pending
+-- the same while the constraint under the id is being revised: it is still pending
 abbrev pub state_in_revision : Filtering → List Active → Cid → EngineState
 state_in_revision f active cid = record (state_of f active) { pending = woken active (cid ∷ f.agenda.pending) [] }
 
--- a name with the variables of its constraint
+-- an id with the variables of its constraint
 pub record Scoped : Type 0 where
   pub cid : Cid
   pub scope : List ℕ
 
--- the agenda knows each active constraint by its name and its scope
+-- the agenda knows each active constraint by its id and its scope
 abbrev pub AreConnected : List Active → List Connected → Type 0
 AreConnected active connected =
     map (λ (d : Connected). let s : Scoped = record { cid = d.cid; scope = d.scope } in s) connected
@@ -43,7 +43,7 @@ IsEmptyKept d None = AllFilled d
 IsEmptyKept d (Some x) = IsEmptyAt d x × ((y : ℕ) → IsEmptyAt d y → y ≡ x)
 
 -- what holds at every moment, in the middle of a revision too
-pub record IsKept (f : Filtering) (active : List Active) : Type 0 where
+pub record IsInStep (f : Filtering) (active : List Active) : Type 0 where
   pub removed : LacksExactly f.store (log_pairs f.log.log)
   pub formed : IsFormed f.agenda
   pub connected : AreConnected active f.agenda.connected
@@ -52,6 +52,6 @@ pub record IsKept (f : Filtering) (active : List Active) : Type 0 where
 
 -- what holds between two calls
 pub record IsEngine (f : Filtering) (active : List Active) : Type 0 where
-  pub kept : IsKept f active
+  pub kept : IsInStep f active
   pub valid : IsValid (state_of f active)
   pub scoped : HasScopedReasons (state_of f active)

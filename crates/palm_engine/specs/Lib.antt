@@ -1,5 +1,6 @@
 pub mod Changed
 pub mod Engine
+pub mod Following
 pub mod Gathered
 pub mod Kept
 pub mod Posted

@@ -12,12 +12,12 @@ use Rattle.palm_agenda.specs.Agenda.{Takes}
 use Rattle.palm_engine.specs.Settling.{Walks, IsDue, HasReached, walk_order, rested}
 use Rattle.palm_engine.specs.declared.settle.Settle.{Settle}
 use Rattle.palm_engine.specs.declared.settle.Settle.TheVariants.{Settled, Empty, Stopped}
-use Rattle.palm_engine.specs.Kept.{IsKept, state_in_revision}
+use Rattle.palm_engine.specs.Kept.{IsInStep, state_in_revision}
 use Rattle.palm_engine.specs.declared.filtering.Filtering.{Filtering}
 
 -- what holds at every moment of the constraint's revision
 pub record IsRevising (f : Filtering) (active : List Active) (owner : Active) : Type 0 where
-  pub kept : IsKept f active
+  pub kept : IsInStep f active
   pub valid : IsValid (state_in_revision f active owner.cid)
   pub posted : Contains active owner
 
@@ -53,14 +53,14 @@ pub record HasCounted (most : ℕ) (before after : Filtering) (old new : ℕ) : 
 
 -- ---- in a settling
 
--- the constraint under the name was taken from the agenda, to be revised
+-- the constraint under the id was taken from the agenda, to be revised
 pub record IsTaken (f : Filtering) (active : List Active) (cid : Cid) : Type 0 where
   pub owner : Active
   pub named : owner.cid ≡ cid
   pub revising : IsRevising f active owner
   pub absent : Contains f.agenda.pending cid → ⊥
 
--- the revision of the constraint under the name, which took out so many values
+-- the revision of the constraint under the id, which took out so many values
 pub record HasRevised (active : List Active) (cid : Cid) (s t : EngineState) (removed : ℕ) : Type 0 where
   pub owner : Active
   pub posted : Contains active owner

@@ -18,9 +18,9 @@ size_of initial c = sum_by (λ x. length (values_of initial x)) (scope c)
 abbrev pub sizes_of : Domains → List Active → ℕ
 sizes_of initial active = sum_by (λ a. size_of initial a.con) active
 
--- the sizes of the active constraints under these names
+-- the sizes of the active constraints under these ids
 abbrev pub named_sizes : EngineState → List Cid → ℕ
-named_sizes s names = sizes_of s.initial (filter (λ a. is_named names a.cid) s.active)
+named_sizes s cids = sizes_of s.initial (filter (λ a. is_named cids a.cid) s.active)
 
 -- the sizes of the active constraints over the variable
 abbrev pub sizes_over : EngineState → ℕ → ℕ
@@ -28,12 +28,12 @@ sizes_over s x = sizes_of s.initial (filter (λ a. is_over a.con x) s.active)
 
 -- what a settling from s that takes out these pairs may ask at most: all pairs of each pending constraint, and for each
 -- pair that it takes out all pairs of each active constraint over the pair's variable
-abbrev pub most_questions : EngineState → List Pair → ℕ
-most_questions s pairs = named_sizes s s.pending + sum_by (λ p. sizes_over s p.var) pairs
+abbrev pub most_asked : EngineState → List Pair → ℕ
+most_asked s pairs = named_sizes s s.pending + sum_by (λ p. sizes_over s p.var) pairs
 
 -- what these revisions may ask: all pairs of the revised constraint each time
-abbrev pub most_asked : EngineState → List Revision → ℕ
-most_asked s rs = sum_by (λ r. named_sizes s (r.cid ∷ [])) rs
+abbrev pub most_asked_in : EngineState → List Revision → ℕ
+most_asked_in s rs = sum_by (λ r. named_sizes s (r.cid ∷ [])) rs
 
 -- how far a settling can still go: values times constraints, and pending ones. It falls in each revision
 abbrev pub effort : EngineState → ℕ
@@ -48,4 +48,4 @@ pub record Falls (s t : EngineState) : Type 0 where
 pub record IsPaid (s : EngineState) (rs : List Revision) (t : EngineState) : Type 0 where
   pub gained : List Removal
   pub log : t.log ≡ s.log ++ gained
-  pub paid : most_asked s rs ≤ most_questions s (log_pairs gained)
+  pub paid : most_asked_in s rs ≤ most_asked s (log_pairs gained)

@@ -3,7 +3,8 @@ ghost use Rattle.std.specs.Prelude.{◌≡◌, [], List, Contains, IfOk, OnErr, 
 ghost use Rattle.palm_base.specs.declared.terms.Cid.{Cid as CidTerm};
 ghost use Rattle.palm_domain.specs.Rows.{present_of};
 ghost use Rattle.palm_model.specs.Conflict.{InFlat, IsKeptConflict};
-ghost use Rattle.palm_model.specs.Log.{Active, IsActive, IsListOf, Rises, cids_of, log_pairs};
+ghost use Rattle.palm_base.specs.Order.{Rises};
+ghost use Rattle.palm_model.specs.Log.{Active, IsActive, IsListOf, cids_of, log_pairs};
 ghost use Rattle.palm_model.specs.State.{IsEmptyAt};
 ghost use Rattle.palm_explain.specs.Explanations.{LacksExactly};
 ghost use Rattle.palm_engine.specs.Gathered.{Gathers};
@@ -13,11 +14,11 @@ ghost use Rattle.palm_engine.specs.Posted.{actives_of};
 use crate::filtering::Filtering;
 use crate::posted::{Posted, place_of};
 use palm_base::{Cid, CidList, NoMemory, Var};
-use palm_explain::add_names;
+use palm_explain::add_cids;
 use palm_filter::Filter;
 use std::alloc::Global;
 
-/// Makes `out` the constraints of the explanations of all declared values of an empty variable, by rising name. Without
+/// Makes `out` the constraints of the explanations of all declared values of an empty variable, by rising id. Without
 /// memory `out` is empty.
 pub(crate) fn conflict_of(
     filtering: &Filtering,
@@ -33,24 +34,20 @@ pub(crate) fn conflict_of(
     filtering.log.explanations(var, values, out)
 }
 
-/// Adds the grounds of a negation, or the name itself of another constraint.
-fn add_flat<F: Filter>(
-    posted: &[Posted<F>],
-    cid: &Cid,
-    names: &mut Vec<Cid>,
-) -> Result<(), NoMemory>
+/// Adds the justifiers of a negation, or the id itself of another constraint.
+fn add_flat<F: Filter>(posted: &[Posted<F>], cid: &Cid, cids: &mut Vec<Cid>) -> Result<(), NoMemory>
     requires rising { Rises (cids_of (actives_of F.meaning posted.now)) }
     requires active { IsActive (actives_of F.meaning posted.now) cid.now }
-    requires names { Rises names.old.items }
-    ensures { OnOk result (Gathers (InFlat (actives_of F.meaning posted.now) (λ c. c ≡ cid.now)) names.old.items names.new.items) }
+    requires cids { Rises cids.old.items }
+    ensures { OnOk result (Gathers (InFlat (actives_of F.meaning posted.now) (λ c. c ≡ cid.now)) cids.old.items cids.new.items) }
 {
     match cid {
-        Cid::Not(_) => add_names(names, posted[place_of(posted, cid)].because()),
-        Cid::Decide(_) | Cid::User(_) => add_names(names, &[*cid]),
+        Cid::Not(_) => add_cids(cids, posted[place_of(posted, cid)].justification()),
+        Cid::Decide(_) | Cid::User(_) => add_cids(cids, &[*cid]),
     }
 }
 
-/// The names with each negation replaced by its justification, by rising name.
+/// The ids with each negation replaced by its justification, by rising id.
 pub(crate) fn flat_of<F: Filter>(
     alloc: Global,
     posted: &[Posted<F>],
@@ -60,9 +57,9 @@ pub(crate) fn flat_of<F: Filter>(
     requires active { (c : CidTerm) → Contains from.now c → IsActive (actives_of F.meaning posted.now) c }
     ensures { IfOk result (IsListOf (InFlat (actives_of F.meaning posted.now) (Contains from.now))) }
 {
-    let mut names = Vec::new(alloc);
+    let mut cids = Vec::new(alloc);
     for cid in from {
-        add_flat(posted, cid, &mut names)?;
+        add_flat(posted, cid, &mut cids)?;
     }
-    Ok(CidList::from_vec(names))
+    Ok(CidList::from_vec(cids))
 }

@@ -1,4 +1,4 @@
-//! The engine: constraints that are active under their names, the values that they leave, and why.
+//! The engine: constraints that are active under their ids, the values that they leave, and why.
 ghost use Rattle.std.specs.Prelude.{◌≡◌, ℕ, ◌+◌, ◌-◌, ◌^◌, ◌<◌, ◌≤◌, [], length, min, true, All, Contains, IfOk, IfSome, MatchOption, OnErr, OnOk, is_some};
 ghost use Rattle.palm_base.specs.Tells.{Tells};
 ghost use Rattle.palm_base.specs.declared.limits.TheConstants.{LAST_COUNT};
@@ -10,19 +10,21 @@ ghost use Rattle.palm_model.specs.Conflict.{InFlat, IsKeptConflict};
 ghost use Rattle.palm_model.specs.Constraint.{scope};
 ghost use Rattle.palm_model.specs.Domains.{Has};
 ghost use Rattle.palm_model.specs.Event.{Declares, Posts, Withdraws};
-ghost use Rattle.palm_model.specs.Log.{IsActive, IsListOf, pair_before};
-ghost use Rattle.palm_model.specs.State.{AreGrounds, HasEmpty, IsEmptyAt, IsValid, blank, present, decision_of, negation_of, user_of};
+ghost use Rattle.palm_base.specs.Order.{pair_before};
+ghost use Rattle.palm_model.specs.Log.{IsActive, IsListOf};
+ghost use Rattle.palm_model.specs.State.{AreJustifiers, HasEmpty, IsEmptyAt, IsValid, blank, present, decision_of, negation_of, user_of};
 ghost use Rattle.palm_events.specs.Scoped.{HasScopedReasons};
-ghost use Rattle.palm_engine.specs.Engine.{HasAsked, HasSettled, IsInterrupted, KeepsCounts};
+ghost use Rattle.palm_engine.specs.Engine.{HasAsked, KeepsCounts};
+ghost use Rattle.palm_engine.specs.Following.{HasSettledBy, IsInterruptedBy, OrderAnswers, OrderFollows};
 ghost use Rattle.palm_engine.specs.Posted.{active_of};
 
 use crate::conflicts::{conflict_of, flat_of};
 use crate::filtering::Filtering;
-use crate::posted::{Posted, decisions_of, is_same, place_of};
+use crate::posted::{Posted, decisions_of, place_of};
 use crate::posting::{insert, take_out, take_out_resting};
 use crate::settle::{Settle, outcome, run_revision, take_next, tell};
 use palm_agenda::Order;
-use palm_base::{Cid, CidList, NoMemory, Pair, Steps, Value, Var};
+use palm_base::{Cid, CidList, HasCid, NoMemory, Pair, Steps, Value, Var};
 use palm_domain::DomainStore;
 use palm_explain::ExplainStore;
 use palm_filter::{Filter, Reasons};
@@ -106,14 +108,17 @@ impl<F: Filter> Engine<F> {
     pub fn forbid(&mut self, pair: Pair, because: &[Cid]) -> Result<(), NoMemory>
         requires inactive { IsActive self.old.state.active (Cid.Not pair) → ⊥ }
         requires declared { Has self.old.state.initial pair.var pair.value }
-        requires grounds { AreGrounds self.old.state.active because.now }
+        requires justifiers { AreJustifiers self.old.state.active because.now }
         ensures ok { OnOk result (Posts self.old.state (negation_of pair because.now) self.new.state) }
         ensures counts { KeepsCounts self.old self.new }
         ensures err { OnErr result (self.new ≡ self.old) }
         ensures valid { IsValid self.new.state }
     {
-        let because = CidList::from_slice(*self.posted.allocator(), because)?;
-        self.activate(Posted::Negation { pair, because })
+        let justification = CidList::from_slice(*self.posted.allocator(), because)?;
+        self.activate(Posted::Negation {
+            pair,
+            justification,
+        })
     }
 
     /// Makes the constraint inactive together with each negation whose justification holds it, takes the removals out
@@ -129,16 +134,18 @@ impl<F: Filter> Engine<F> {
         take_out_resting(&mut self.filtering, &mut self.posted, &cid);
     }
 
-    /// Runs revisions until a domain is empty, nothing is pending, or as many ran as the limit says. After want of memory
-    /// the interrupted constraint is pending, and the call may be made again.
+    /// Runs revisions until a domain is empty, nothing is pending, or as many ran as the limit says. The order, where there
+    /// is one, is asked once before each revision with the pending constraints, and told it once after it. After want of
+    /// memory the interrupted constraint is pending, the order was asked for it and told nothing of it, and the call may be
+    /// made again.
     pub fn settle<O: Order, L: Ledger>(
         &mut self,
         order: &mut Option<O>,
         limit: Option<u64>,
         steps: &mut Steps<L>,
     ) -> Result<Settle, NoMemory>
-        ensures ok { IfOk result (λ answer. HasSettled limit (is_some order.old) answer self.old self.new) }
-        ensures err { OnErr result (IsInterrupted limit (is_some order.old) self.old self.new) }
+        ensures ok { IfOk result (λ answer. HasSettledBy (OrderFollows O.answers O.hears O.state) limit order.old order.new answer self.old self.new) }
+        ensures err { OnErr result (IsInterruptedBy (OrderAnswers O.answers O.state) (OrderFollows O.answers O.hears O.state) limit order.old order.new self.old self.new) }
         ensures asked { HasAsked self.old.state self.new.state steps.old steps.new }
         ensures checks { self.new.checks ≡ min (self.old.checks + (steps.new - steps.old)) LAST_COUNT }
         ensures stays { is_some order.new ≡ is_some order.old }
@@ -185,7 +192,7 @@ impl<F: Filter> Engine<F> {
         self.filtering.empty
     }
 
-    /// Makes `out` the constraints of the explanations of all declared values of the empty variable, by rising name.
+    /// Makes `out` the constraints of the explanations of all declared values of the empty variable, by rising id.
     /// Without memory `out` is empty.
     pub fn conflict(&self, out: &mut CidList) -> Result<(), NoMemory>
         requires { HasEmpty (present self.now.state) }
@@ -199,7 +206,7 @@ impl<F: Filter> Engine<F> {
         Ok(())
     }
 
-    /// Makes `out` the names with each negation replaced by its justification, by rising name. Without memory `out` is
+    /// Makes `out` the ids with each negation replaced by its justification, by rising id. Without memory `out` is
     /// empty.
     pub fn flat(&self, from: &CidList, out: &mut CidList) -> Result<(), NoMemory>
         requires { (c : CidTerm) → Contains from.now c → IsActive self.now.state.active c }
@@ -228,12 +235,12 @@ impl<F: Filter> Engine<F> {
         &self.filtering.log
     }
 
-    /// Whether a constraint is active under the name.
+    /// Whether a constraint is active under the id.
     pub fn is_active(&self, cid: Cid) -> bool
         ensures { Tells result (IsActive self.now.state.active cid) }
     {
         match self.posted.get(place_of(&self.posted, &cid)) {
-            Some(constraint) => is_same(&constraint.cid(), &cid),
+            Some(constraint) => constraint.cid().is_same(&cid),
             None => false,
         }
     }
@@ -252,7 +259,7 @@ impl<F: Filter> Engine<F> {
     fn activate(&mut self, constraint: Posted<F>) -> Result<(), NoMemory>
         requires inactive { IsActive self.old.state.active (active_of F.meaning constraint).cid → ⊥ }
         requires declared { All (λ x. x < length self.old.state.initial) (scope (active_of F.meaning constraint).con) }
-        requires grounds { AreGrounds self.old.state.active (active_of F.meaning constraint).because }
+        requires justifiers { AreJustifiers self.old.state.active (active_of F.meaning constraint).justification }
         ensures ok { OnOk result (Posts self.old.state (active_of F.meaning constraint) self.new.state) }
         ensures counts { KeepsCounts self.old self.new }
         ensures err { OnErr result (self.new ≡ self.old) }

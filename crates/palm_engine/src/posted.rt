@@ -1,17 +1,16 @@
 //! The active constraints of an engine.
-ghost use Rattle.std.specs.Prelude.{◌≡◌, ℕ, ◌+◌, ◌-◌, ◌≤◌, [], true, false, min, length, Contains, Some, IfSome, OnErr, OnOk, slice_get};
+ghost use Rattle.std.specs.Prelude.{◌≡◌, ℕ, ◌+◌, ◌-◌, ◌≤◌, [], true, false, min, length, Contains, Some, OnErr, OnOk, slice_get};
 ghost use Rattle.palm_base.specs.declared.limits.TheConstants.{LAST_COUNT};
 ghost use Rattle.palm_domain.specs.Rows.{initial_of, present_of};
 ghost use Rattle.palm_model.specs.Constraint.{scope, IsWellFormed};
 ghost use Rattle.palm_model.specs.Domains.{Has};
-ghost use Rattle.palm_model.specs.Log.{Active, Rises, cid_before, cids_of, is_named, same_cid};
+ghost use Rattle.palm_base.specs.Order.{Rises, cid_before, IsPartedAt};
+ghost use Rattle.palm_model.specs.Log.{Active, cids_of, is_named};
 ghost use Rattle.palm_model.specs.Reason.{AreFilled, reason};
 ghost use Rattle.palm_model.specs.Support.{IsSupported, LacksSupport};
-ghost use Rattle.palm_agenda.specs.Names.{IsPartedAt};
 ghost use Rattle.palm_engine.specs.Posted.{IsInForm, active_of, actives_of, is_decision, is_negation, negated};
 
-use palm_agenda::likely_place;
-use palm_base::{Cid, CidList, NoMemory, Pair, Steps, Var};
+use palm_base::{Cid, CidList, HasCid, NoMemory, Pair, Steps, Var};
 use palm_domain::DomainStore;
 use palm_filter::{Filter, Reasons, ask};
 use std::array;
@@ -23,28 +22,18 @@ pub(crate) enum Posted<F> {
     /// The variable has the value.
     Decision(Pair),
     /// The variable does not have the value, for these constraints.
-    Negation { pair: Pair, because: CidList },
+    Negation { pair: Pair, justification: CidList },
     /// The constraint of a user.
     User { number: u32, filter: F },
 }
 
-/// Whether the first name comes before the second.
-fn is_before(first: &Cid, second: &Cid) -> bool
-    ensures { result ≡ cid_before first.now second.now }
-{
-    first < second
-}
+impl<F: Filter> HasCid for Posted<F> {
+    ghost use Rattle.palm_engine.specs.Posted.{active_of};
 
-/// Whether the two names are one.
-pub(crate) fn is_same(first: &Cid, second: &Cid) -> bool
-    ensures { result ≡ same_cid first.now second.now }
-{
-    first == second
-}
+    ghost id = { λ p. (active_of F.meaning p).cid };
 
-impl<F: Filter> Posted<F> {
-    /// The name of the constraint.
-    pub(crate) fn cid(&self) -> Cid
+    #[inline(always)]
+    fn cid(&self) -> Cid
         ensures { result ≡ (active_of F.meaning self.now).cid }
     {
         match self {
@@ -53,7 +42,9 @@ impl<F: Filter> Posted<F> {
             Posted::User { number, .. } => Cid::User(*number),
         }
     }
+}
 
+impl<F: Filter> Posted<F> {
     /// The variables of the constraint, in the order of its text. What it ensures besides holds of every filter.
     pub(crate) fn scope(&self) -> &[Var]
         ensures scope { result.now ≡ scope (active_of F.meaning self.now).con }
@@ -66,12 +57,12 @@ impl<F: Filter> Posted<F> {
         }
     }
 
-    /// The names for which a negation holds, and none of other constraints.
-    pub(crate) fn because(&self) -> &[Cid]
-        ensures { result.now ≡ (active_of F.meaning self.now).because }
+    /// The ids for which a negation holds, and none of other constraints.
+    pub(crate) fn justification(&self) -> &[Cid]
+        ensures { result.now ≡ (active_of F.meaning self.now).justification }
     {
         match self {
-            Posted::Negation { because, .. } => because.as_slice(),
+            Posted::Negation { justification, .. } => justification.as_slice(),
             Posted::Decision(_) | Posted::User { .. } => &[],
         }
     }
@@ -100,11 +91,11 @@ impl<F: Filter> Posted<F> {
         }
     }
 
-    /// Whether it is a negation whose justification holds the name.
+    /// Whether it is a negation whose justification holds the id.
     pub(crate) fn rests_on(&self, cid: &Cid) -> bool
-        ensures { result ≡ is_named (active_of F.meaning self.now).because cid.now }
+        ensures { result ≡ is_named (active_of F.meaning self.now).justification cid.now }
     {
-        self.because().iter().any(|name| is_same(name, cid))
+        self.justification().iter().any(|name| name.is_same(cid))
     }
 
     /// Whether the value has support in every part over its variable. A user's filter is asked, which counts one
@@ -160,31 +151,14 @@ impl<F: Filter> Posted<F> {
     }
 }
 
-/// The place of the constraint under the name, where the numbers of users leave none out from it to the last one.
-fn counted_place<F: Filter>(posted: &[Posted<F>], cid: &Cid) -> Option<usize>
-    requires { Rises (cids_of (actives_of F.meaning posted.now)) }
-    ensures { IfSome result (IsPartedAt (λ p. cid_before (active_of F.meaning p).cid cid.now) posted.now) }
-{
-    let last = posted.last()?;
-    let place = likely_place(posted.len(), &last.cid(), cid)?;
-    if is_same(&posted[place].cid(), cid) {
-        Some(place)
-    } else {
-        None
-    }
-}
-
-/// How many of the constraints have names that come before this one. The one under the name stands behind these.
+/// How many of the constraints have ids that come before this one. The one under the id stands behind these.
 pub(crate) fn place_of<F: Filter>(posted: &[Posted<F>], cid: &Cid) -> usize
     requires { Rises (cids_of (actives_of F.meaning posted.now)) }
     ensures parted { IsPartedAt (λ p. cid_before (active_of F.meaning p).cid cid.now) posted.now result }
     ensures owner { (a : Active) → Contains (actives_of F.meaning posted.now) a → a.cid ≡ cid.now
         → slice_get (actives_of F.meaning posted.now) result ≡ Some a }
 {
-    match counted_place(posted, cid) {
-        Some(place) => place,
-        None => posted.partition_point(|constraint| is_before(&constraint.cid(), cid)),
-    }
+    palm_base::place_of(posted, cid)
 }
 
 /// How many of the constraints are decisions. The others stand behind these.

@@ -3,15 +3,16 @@ ghost use Rattle.std.specs.Prelude.{◌≡◌, ◌↔◌, ◌⊎◌, ℕ, ◌<�
 ghost use Rattle.palm_base.specs.declared.terms.Cid.{Cid as CidTerm};
 ghost use Rattle.palm_model.specs.Constraint.{scope, IsWellFormed};
 ghost use Rattle.palm_model.specs.Event.{WithdrawsAll, with_posted};
-ghost use Rattle.palm_model.specs.Log.{Active, IsActive, Rises, cids_of};
+ghost use Rattle.palm_base.specs.Order.{Rises};
+ghost use Rattle.palm_model.specs.Log.{Active, IsActive, cids_of};
 ghost use Rattle.palm_agenda.specs.Agenda.{IsFormed, marked_whole, with_connected};
-ghost use Rattle.palm_engine.specs.Kept.{AreConnected, IsKept, state_of};
+ghost use Rattle.palm_engine.specs.Kept.{AreConnected, IsInStep, state_of};
 ghost use Rattle.palm_engine.specs.Posted.{active_of, actives_of, is_negation, resting_on};
 
 use crate::filtering::Filtering;
 use crate::posted::{Posted, decisions_of, place_of};
 use palm_agenda::Agenda;
-use palm_base::{Cid, NoMemory};
+use palm_base::{Cid, HasCid, NoMemory};
 use palm_filter::Filter;
 
 /// Puts a constraint at its place, pending. Without memory nothing changes.
@@ -45,11 +46,11 @@ pub(crate) fn take_out<F: Filter>(
     posted: &mut Vec<Posted<F>>,
     place: usize,
 )
-    requires kept { IsKept filtering.old (actives_of F.meaning posted.old.items) }
+    requires kept { IsInStep filtering.old (actives_of F.meaning posted.old.items) }
     requires rising { Rises (cids_of (actives_of F.meaning posted.old.items)) }
     requires within { place < length posted.old.items }
     ensures posted { posted.new.items ≡ remove posted.old.items place }
-    ensures kept { IsKept filtering.new (actives_of F.meaning posted.new.items) }
+    ensures kept { IsInStep filtering.new (actives_of F.meaning posted.new.items) }
     ensures withdraws { (a : Active) → slice_get (actives_of F.meaning posted.old.items) place ≡ Some a
         → WithdrawsAll (state_of filtering.old (actives_of F.meaning posted.old.items)) (a.cid ∷ []) (state_of filtering.new (actives_of F.meaning posted.new.items)) }
     ensures checks { filtering.new.checks ≡ filtering.old.checks }
@@ -69,15 +70,15 @@ fn stands_negation<F: Filter>(posted: &[Posted<F>], place: usize) -> bool
     }
 }
 
-/// Takes each negation out whose justification holds the name, with all removals that rest on it.
+/// Takes each negation out whose justification holds the id, with all removals that rest on it.
 pub(crate) fn take_out_resting<F: Filter>(
     filtering: &mut Filtering,
     posted: &mut Vec<Posted<F>>,
     cid: &Cid,
 )
-    requires kept { IsKept filtering.old (actives_of F.meaning posted.old.items) }
+    requires kept { IsInStep filtering.old (actives_of F.meaning posted.old.items) }
     requires rising { Rises (cids_of (actives_of F.meaning posted.old.items)) }
-    ensures kept { IsKept filtering.new (actives_of F.meaning posted.new.items) }
+    ensures kept { IsInStep filtering.new (actives_of F.meaning posted.new.items) }
     ensures withdraws { WithdrawsAll (state_of filtering.old (actives_of F.meaning posted.old.items)) (resting_on (actives_of F.meaning posted.old.items) cid.now) (state_of filtering.new (actives_of F.meaning posted.new.items)) }
     ensures checks { filtering.new.checks ≡ filtering.old.checks }
 {

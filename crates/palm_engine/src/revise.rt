@@ -1,5 +1,5 @@
 //! A revision: a constraint asks for the values of its variables, and takes out those that lack support.
-ghost use Rattle.std.specs.Prelude.{◌≡◌, ℕ, [], ◌∷◌, List, length, Contains, Some, slice_get, OnErr, OnOk};
+ghost use Rattle.std.specs.Prelude.{◌≡◌, [], ◌∷◌, List, length, Contains, Some, slice_get, OnErr, OnOk};
 ghost use Rattle.palm_domain.specs.Rows.{initial_of, present_of};
 ghost use Rattle.palm_model.specs.Constraint.{scope};
 ghost use Rattle.palm_model.specs.Domains.{Has, values_of};
@@ -14,7 +14,7 @@ ghost use Rattle.palm_engine.specs.Work.{size_of};
 
 use crate::filtering::Filtering;
 use crate::posted::Posted;
-use palm_base::{NoMemory, Pair, Steps, Var};
+use palm_base::{HasCid, NoMemory, Pair, Steps, Var};
 use palm_filter::{Filter, Reasons};
 use std::sync::ledger::Ledger;
 

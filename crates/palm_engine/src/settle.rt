@@ -4,7 +4,8 @@ ghost use Rattle.palm_base.specs.Tells.{Tells};
 ghost use Rattle.palm_base.specs.declared.limits.TheConstants.{LAST_COUNT};
 ghost use Rattle.palm_model.specs.Log.{Active};
 ghost use Rattle.palm_agenda.specs.Agenda.{Takes};
-ghost use Rattle.palm_engine.specs.Kept.{IsKept, state_in_revision, state_of};
+ghost use Rattle.palm_engine.specs.Following.{OrderAnswers, OrderHears, told_count};
+ghost use Rattle.palm_engine.specs.Kept.{IsInStep, state_in_revision, state_of};
 ghost use Rattle.palm_engine.specs.Posted.{actives_of};
 ghost use Rattle.palm_engine.specs.Revising.{HasCounted, HasPartlyRevised, HasRevised, IsTaken, TakesNext, TakesNone, TellsEnd};
 ghost use Rattle.palm_engine.specs.Settling.{HasReached};
@@ -47,8 +48,9 @@ pub(crate) fn take_next<O: Order>(
     limit: Option<u64>,
     ran: u64,
 ) -> Option<Cid>
-    ensures none { IfNone result ((filtering.new ≡ filtering.old) × TakesNone limit ran filtering.old) }
-    ensures some { IfSome result (TakesNext limit (is_some order.old) ran filtering.old filtering.new) }
+    ensures none { IfNone result ((filtering.new ≡ filtering.old) × TakesNone limit ran filtering.old × (order.new ≡ order.old)) }
+    ensures some { IfSome result (λ c. (takes : TakesNext limit (is_some order.old) ran filtering.old filtering.new c)
+        × OrderAnswers O.answers O.state filtering.old.agenda.pending takes.answer order.old order.new) }
     ensures stays { is_some order.new ≡ is_some order.old }
 {
     if filtering.empty.is_some() || is_reached(limit, ran) {
@@ -57,12 +59,20 @@ pub(crate) fn take_next<O: Order>(
     filtering.agenda.take(order)
 }
 
+/// How many values a revision took out, as an order is told it: the last number of its type where there were more.
+fn told_count(removed: usize) -> u32
+    ensures { result ≡ told_count removed }
+{
+    u32::try_from(removed).unwrap_or(u32::MAX)
+}
+
 /// Tells the order, where there is one, what the revision took out.
 pub(crate) fn tell<O: Order>(order: &mut Option<O>, cid: &Cid, removed: usize)
-    ensures { is_some order.new ≡ is_some order.old }
+    ensures told { OrderHears O.hears O.state cid.now removed order.old order.new }
+    ensures stays { is_some order.new ≡ is_some order.old }
 {
     if let Some(order) = order {
-        order.ran(*cid, u32::try_from(removed).unwrap_or(u32::MAX));
+        order.ran(*cid, told_count(removed));
     }
 }
 
@@ -78,7 +88,7 @@ pub(crate) fn run_revision<F: Filter, L: Ledger>(
     requires { IsTaken filtering.old (actives_of F.meaning posted.now) cid.now }
     ensures ok { IfOk result (HasRevised (actives_of F.meaning posted.now) cid.now (state_in_revision filtering.old (actives_of F.meaning posted.now) cid.now) (state_of filtering.new (actives_of F.meaning posted.now))) }
     ensures err { OnErr result (HasPartlyRevised (actives_of F.meaning posted.now) cid.now (state_in_revision filtering.old (actives_of F.meaning posted.now) cid.now) (state_of filtering.new (actives_of F.meaning posted.now))) }
-    ensures kept { IsKept filtering.new (actives_of F.meaning posted.now) }
+    ensures kept { IsInStep filtering.new (actives_of F.meaning posted.now) }
     ensures counted { HasCounted (named_sizes (state_in_revision filtering.old (actives_of F.meaning posted.now) cid.now) (cid.now ∷ [])) filtering.old filtering.new steps.old steps.new }
 {
     let constraint = &posted[place_of(posted, cid)];
@@ -92,7 +102,7 @@ pub(crate) fn run_revision<F: Filter, L: Ledger>(
 
 /// What a settling answers that ends here.
 pub(crate) fn outcome(filtering: &Filtering) -> Settle
-    ensures { (active : List Active) → IsKept filtering.now active → TellsEnd result (state_of filtering.now active) }
+    ensures { (active : List Active) → IsInStep filtering.now active → TellsEnd result (state_of filtering.now active) }
 {
     match filtering.empty {
         Some(var) => Settle::Empty(var),

@@ -4,25 +4,25 @@ use Rattle.palm_base.specs.declared.terms.Pair.{Pair}
 use Rattle.palm_base.specs.declared.terms.Cid.{Cid}
 use Rattle.palm_base.specs.declared.terms.Cid.TheVariants.{Not}
 use Rattle.palm_model.specs.Log.{Active, IsActive}
-use Rattle.palm_model.specs.State.{EngineState, HasEmpty, IsGround, present}
+use Rattle.palm_model.specs.State.{EngineState, HasEmpty, IsJustifier, present}
 use Rattle.palm_model.specs.Event.{Step}
 use Rattle.palm_model.specs.Event.Event.{Post, Withdraw, Remove}
 use Rattle.palm_model.specs.Event.Step.{Happens, Calm, Declare}
 use Rattle.palm_model.specs.Conflict.{IsJustified}
 
--- the grounds of the negations that stay are none of those that go
-abbrev pub KeepsGrounds : List Active → List Cid → Type 0
-KeepsGrounds active gone = (a : Active) → Contains active a → (Contains gone a.cid → ⊥) → (c : Cid) → Contains a.because c → IsGround c → Contains gone c → ⊥
+-- the justifiers of the negations that stay are none of those that go
+abbrev pub KeepsJustifiers : List Active → List Cid → Type 0
+KeepsJustifiers active gone = (a : Active) → Contains active a → (Contains gone a.cid → ⊥) → (c : Cid) → Contains a.justification c → IsJustifier c → Contains gone c → ⊥
 
 -- nothing is pending, or a domain is empty
 abbrev pub IsStill : EngineState → Type 0
 IsStill s = (s.pending ≡ []) ⊎ HasEmpty (present s)
 
--- no constraint of s has the name
+-- no constraint of s has the id
 abbrev pub IsNew : EngineState → Cid → Type 0
 IsNew s cid = IsActive s.active cid → ⊥
 
--- all of these names are none of those of s
+-- all of these ids are none of those of s
 abbrev pub AreNew : EngineState → List Cid → Type 0
 AreNew s gone = (c : Cid) → Contains gone c → IsNew s c
 

@@ -6,7 +6,7 @@ pub mod laws;
 
 pub use laws::conflict::{
     conflicts_are_lists, conflicts_name_active_constraints, flat_conflicts_have_no_solution,
-    flat_conflicts_hold_active_grounds, kept_conflicts_are_conflicts,
+    flat_conflicts_hold_active_justifiers, kept_conflicts_are_conflicts,
     steps_keep_negations_justified,
 };
 pub use laws::greatest::{
@@ -14,7 +14,7 @@ pub use laws::greatest::{
     runs_reach_the_greatest_domains,
 };
 pub use laws::logged::{
-    explanations_are_active, explanations_are_lists, lists_of_names_are_unique,
+    explanations_are_active, explanations_are_lists, lists_of_ids_are_unique,
     pairs_are_logged_once, removals_are_explained, withdrawals_have_an_outcome,
     withdrawals_have_one_outcome, withdrawals_keep_logs_well_founded,
 };

@@ -12,7 +12,7 @@ use Rattle.palm_explain.specs.declared.node.Node.{Node}
 use Rattle.palm_explain.specs.Chain.{HasGrown, IsChain, IsLine, nexts_of}
 use Rattle.palm_explain.specs.Graph.{Graph, HasMarked, IsDependent, IsGraph, IsKey, NamesAt, graph_of, has_mark, link_of, marks_of, said}
 use Rattle.palm_explain.proofs.Entered.{place_cases, place_last}
-use Rattle.palm_explain.proofs.Graphs.{key_member, names_cause, some_same}
+use Rattle.palm_explain.proofs.Graphs.{key_member, names_antecedent, some_same}
 
 -- ---- places
 
@@ -237,7 +237,7 @@ pub sound_next : (g : Graph) (keys : List ℕ) (c : Cid) (marks later : ℕ → 
     → (k : ℕ) → later k ≡ true → NamesAt g keys c k
 sound_next g keys c marks later key graph sound mark marked k m = elim (marked.only k m) [
   | inl old ↦ sound k old
-  | inr d ↦ let cause = graph.caused k key d in names_cause g keys k key cause.0 c graph cause.1 cause.2 (sound key mark)
+  | inr d ↦ let antecedent = graph.caused k key d in names_antecedent g keys k key antecedent.0 c graph antecedent.1 antecedent.2 (sound key mark)
 ]
 
 -- ---- going along a chain

@@ -5,14 +5,14 @@ use Rattle.std.proofs.lemmas.List.{take_more, take_all}
 use Rattle.std.proofs.lemmas.List.Elements.{Contains-append_left, Contains-push}
 use Rattle.palm_base.proofs.cited.Members.{member_nil, member_cases, member_here, member_there, member_same, member_single, member_take, member_take_more}
 use Rattle.palm_model.specs.Constraint.{Distinct}
-use Rattle.palm_explain.specs.Graph.{AreOnce, Graph, HasForgotten, HasLinked, HasMarked, IsAmongFirst, IsCause, IsKey, IsSameNode, IsTailed, Link}
+use Rattle.palm_explain.specs.Graph.{AreOnce, Graph, HasForgotten, HasLinked, HasMarked, IsAmongFirst, IsAntecedent, IsKey, IsSameNode, IsTailed, Link}
 use Rattle.palm_explain.proofs.Graphs.{link_same}
 
 pub same_then : (l m n : Link) → IsSameNode l m → IsSameNode m n → IsSameNode l n
-same_then l m n a b = record { pair = b.pair ∙ a.pair; by = b.by ∙ a.by; causes = b.causes ∙ a.causes; place = b.place ∙ a.place }
+same_then l m n a b = record { pair = b.pair ∙ a.pair; by = b.by ∙ a.by; antecedents = b.antecedents ∙ a.antecedents; place = b.place ∙ a.place }
 
 same_itself : (l : Link) → IsSameNode l l
-same_itself l = record { pair = refl; by = refl; causes = refl; place = refl }
+same_itself l = record { pair = refl; by = refl; antecedents = refl; place = refl }
 
 -- ---- one more of a list
 
@@ -31,8 +31,8 @@ linked_none g key = record {
   once = λ k l m at has tailed. subst (λ (z : Link). IsTailed key z.dependents) (link_same g k l m at has) tailed;
 }
 
-pub linked_next : (g h f : Graph) (causes : List ℕ) (i c key : ℕ) → i < length causes → c ≡ get_or causes i c → HasLinked g h (take i causes) key → HasLinked h f (c ∷ []) key → HasLinked g f (take (i + 1) causes) key
-linked_next g h f causes i c key lt at one two = record {
+pub linked_next : (g h f : Graph) (antecedents : List ℕ) (i c key : ℕ) → i < length antecedents → c ≡ get_or antecedents i c → HasLinked g h (take i antecedents) key → HasLinked h f (c ∷ []) key → HasLinked g f (take (i + 1) antecedents) key
+linked_next g h f antecedents i c key lt at one two = record {
   none = λ k e. two.none k (one.none k e);
   some = λ k l is.
       let m = one.some k l is in
@@ -41,12 +41,12 @@ linked_next g h f causes i c key lt at one two = record {
         n.1,
         same_then l m.0 n.0 m.2 n.2,
         λ d q. elim (n.3 d q) [
-          | inl o ↦ elim (m.3 d o) [ inl p ↦ inl p | inr e ↦ inr (e.0, more_left causes i c k lt at e.1) ]
-          | inr e ↦ inr (e.0, more_last causes i c k lt at (member_single c k e.1))
+          | inl o ↦ elim (m.3 d o) [ inl p ↦ inl p | inr e ↦ inr (e.0, more_left antecedents i c k lt at e.1) ]
+          | inr e ↦ inr (e.0, more_last antecedents i c k lt at (member_single c k e.1))
         ],
         λ d q. elim q [
           | inl o ↦ n.4 d (inl (m.4 d (inl o)))
-          | inr e ↦ elim (member_take_more causes i c k lt at e.1) [
+          | inr e ↦ elim (member_take_more antecedents i c k lt at e.1) [
             | inl p ↦ n.4 d (inl (m.4 d (inr (e.0, p))))
             | inr s ↦ n.4 d (inr (e.0, member_same (c ∷ []) c k s (0, omega arith, refl)))
           ]
@@ -55,12 +55,12 @@ linked_next g h f causes i c key lt at one two = record {
   once = λ k l n is has tailed. let m = one.some k l is in two.once k m.0 n m.1 has (one.once k l m.0 is m.1 tailed);
 }
 
-pub linked_all : (g h : Graph) (causes : List ℕ) (i key : ℕ) → length causes ≤ i → HasLinked g h (take i causes) key → HasLinked g h causes key
-linked_all g h causes i key le linked = subst (λ cs. HasLinked g h cs key) (take_all i causes le) linked
+pub linked_all : (g h : Graph) (antecedents : List ℕ) (i key : ℕ) → length antecedents ≤ i → HasLinked g h (take i antecedents) key → HasLinked g h antecedents key
+linked_all g h antecedents i key le linked = subst (λ cs. HasLinked g h cs key) (take_all i antecedents le) linked
 
 -- a key stays one
-pub linked_key : (g h : Graph) (causes : List ℕ) (key k : ℕ) → HasLinked g h causes key → IsKey g k → IsKey h k
-linked_key g h causes key k linked at = let m = linked.some k at.0 at.1 in (m.0, m.1)
+pub linked_key : (g h : Graph) (antecedents : List ℕ) (key k : ℕ) → HasLinked g h antecedents key → IsKey g k → IsKey h k
+linked_key g h antecedents key k linked at = let m = linked.some k at.0 at.1 in (m.0, m.1)
 
 pub forgotten_key : (g h : Graph) (Gone : ℕ → ℕ → Type 0) (k : ℕ) → HasForgotten g h Gone → IsKey g k → IsKey h k
 forgotten_key g h Gone k forgotten at = let m = forgotten.some k at.0 at.1 in (m.0, m.1)
@@ -217,26 +217,26 @@ handed_on g old middle new key More cleared others marked never = (
     cleared_still false e = refl
     cleared_still true e = elim (marked.only key e) [ inl o ↦ absurd (false≢true (sym cleared ∙ o)) | inr p ↦ absurd (never p) ]
 
--- causes are the same where dependents were forgotten
-pub cause_on : (g h : Graph) (Gone : ℕ → ℕ → Type 0) (c k : ℕ) → HasForgotten g h Gone → IsCause g c k → IsCause h c k
-cause_on g h Gone c k forgotten cause = let m = forgotten.some k cause.0 cause.1 in (m.0, m.1, subst (λ cs. Contains cs c) (sym m.2.causes) cause.2)
+-- antecedents are the same where dependents were forgotten
+pub antecedent_on : (g h : Graph) (Gone : ℕ → ℕ → Type 0) (c k : ℕ) → HasForgotten g h Gone → IsAntecedent g c k → IsAntecedent h c k
+antecedent_on g h Gone c k forgotten antecedent = let m = forgotten.some k antecedent.0 antecedent.1 in (m.0, m.1, subst (λ cs. Contains cs c) (sym m.2.antecedents) antecedent.2)
 
-pub cause_back : (g h : Graph) (Gone : ℕ → ℕ → Type 0) (c k : ℕ) → HasForgotten g h Gone → IsCause h c k → IsCause g c k
-cause_back g h Gone c k forgotten cause = was (g k) refl
+pub antecedent_back : (g h : Graph) (Gone : ℕ → ℕ → Type 0) (c k : ℕ) → HasForgotten g h Gone → IsAntecedent h c k → IsAntecedent g c k
+antecedent_back g h Gone c k forgotten antecedent = was (g k) refl
   where
     none_some : {X : Type 0} {x : X} → None ≡ Some x → ⊥
     none_some e = cc
 
-    was : (o : Option Link) → g k ≡ o → IsCause g c k
-    was None e = absurd (none_some (sym (forgotten.none k e) ∙ cause.1))
+    was : (o : Option Link) → g k ≡ o → IsAntecedent g c k
+    was None e = absurd (none_some (sym (forgotten.none k e) ∙ antecedent.1))
     was (Some l) e =
         let m = forgotten.some k l e in
-        let same = link_same h k m.0 cause.0 m.1 cause.1 in
-        (l, e, subst (λ cs. Contains cs c) (ap (λ (z : Link). z.causes) (sym same) ∙ m.2.causes) cause.2)
+        let same = link_same h k m.0 antecedent.0 m.1 antecedent.1 in
+        (l, e, subst (λ cs. Contains cs c) (ap (λ (z : Link). z.antecedents) (sym same) ∙ m.2.antecedents) antecedent.2)
 
 -- what is forgotten from a place on
 abbrev pub IsGoneFrom : Graph → (ℕ → Bool) → List ℕ → ℕ → ℕ → ℕ → Type 0
-IsGoneFrom g marks log i k d = Contains (drop i log) d × (marks d ≡ true) × (marks k ≡ false) × IsCause g k d
+IsGoneFrom g marks log i k d = Contains (drop i log) d × (marks d ≡ true) × (marks k ≡ false) × IsAntecedent g k d
 
 module _ (g h f : Graph) (marks now : ℕ → Bool) (log : List ℕ) (place next key : ℕ) (rest_is : drop place log ≡ key ∷ drop next log) (same : now ≡ marks)
     (forgotten : HasForgotten g h (IsGoneFrom g marks log next)) where
@@ -250,18 +250,18 @@ module _ (g h f : Graph) (marks now : ℕ → Bool) (log : List ℕ) (place next
   ]
 
   -- the marked one at the place is forgotten too
-  pub gone_next : now key ≡ true → HasForgotten h f (λ k d. (key ≡ d) × (now k ≡ false) × IsCause h k key) → HasForgotten g f (IsGoneFrom g marks log place)
+  pub gone_next : now key ≡ true → HasForgotten h f (λ k d. (key ≡ d) × (now k ≡ false) × IsAntecedent h k key) → HasForgotten g f (IsGoneFrom g marks log place)
   gone_next is more =
-      let Next : ℕ → ℕ → Type 0 = λ k d. (key ≡ d) × (now k ≡ false) × IsCause h k key in
+      let Next : ℕ → ℕ → Type 0 = λ k d. (key ≡ d) × (now k ≡ false) × IsAntecedent h k key in
       forgotten_then g h f (IsGoneFrom g marks log next) Next (IsGoneFrom g marks log place) from_later
       (λ k d n. (
         member_same (drop place log) key d n.0 (subst (λ l. Contains l key) (sym rest_is) (member_here key (drop next log))),
         subst (λ z. marks z ≡ true) n.0 (sym (ap (λ m. m key) same) ∙ is),
         sym (ap (λ m. m k) same) ∙ n.1,
-        subst (λ z. IsCause g k z) n.0 (cause_back g h (IsGoneFrom g marks log next) k key forgotten n.2),
+        subst (λ z. IsAntecedent g k z) n.0 (antecedent_back g h (IsGoneFrom g marks log next) k key forgotten n.2),
       ))
       (λ k d m. elim (from_cases k d m) [
-        | inl e ↦ inr (e, ap (λ q. q k) same ∙ m.2, cause_on g h (IsGoneFrom g marks log next) k key forgotten (subst (λ z. IsCause g k z) (sym e) m.3))
+        | inl e ↦ inr (e, ap (λ q. q k) same ∙ m.2, antecedent_on g h (IsGoneFrom g marks log next) k key forgotten (subst (λ z. IsAntecedent g k z) (sym e) m.3))
         | inr n ↦ inl n
       ])
       forgotten more

@@ -6,16 +6,16 @@ use Rattle.palm_base.proofs.cited.Members.{map_agree, member_filter, member_plac
 use Rattle.palm_model.specs.Constraint.{Distinct}
 use Rattle.palm_explain.specs.declared.rows.Row.{Row}
 use Rattle.palm_explain.specs.declared.threads.Threads.{Threads}
-use Rattle.palm_explain.specs.Graph.{AreFound, Graph, HasClosedUp, HasForgotten, IsBy, IsCause, IsDependent, IsGraph, IsKey, IsPlaced, IsSameNode, Link, NamesAt, log_of, pair_at, removal_at}
+use Rattle.palm_explain.specs.Graph.{AreFound, Graph, HasClosedUp, HasForgotten, IsBy, IsAntecedent, IsDependent, IsGraph, IsKey, IsPlaced, IsSameNode, Link, NamesAt, log_of, pair_at, removal_at}
 use Rattle.palm_explain.specs.Lost.{AreTold, kept_of}
 use Rattle.palm_explain.specs.Rows.{key_at}
 use Rattle.palm_explain.specs.Threads.{AreThreaded}
-use Rattle.palm_explain.proofs.Graphs.{key_member, link_same, member_key, names_cause, names_own, pair_is, removal_is}
+use Rattle.palm_explain.proofs.Graphs.{key_member, link_same, member_key, names_antecedent, names_own, pair_is, removal_is}
 use Rattle.palm_explain.proofs.Keeping.{told_false, told_true}
 
 -- a forgotten dependent: lost, of a removal that is not
 abbrev pub IsGone : Graph → (ℕ → Bool) → ℕ → ℕ → Type 0
-IsGone g lost k d = (lost d ≡ true) × (lost k ≡ false) × IsCause g k d
+IsGone g lost k d = (lost d ≡ true) × (lost k ≡ false) × IsAntecedent g k d
 
 -- places stay where dependents are forgotten
 pub forgotten_placed : (g h : Graph) (keys : List ℕ) (Gone : ℕ → ℕ → Type 0) → IsPlaced g keys → HasForgotten g h Gone → IsPlaced h keys
@@ -51,7 +51,7 @@ module _ (g h f : Graph) (keys left : List ℕ) (cid : Cid) (lost : ℕ → Bool
     stands : slice_get left m.place ≡ Some k
     pair : m.pair ≡ was.pair
     by : m.by ≡ was.by
-    causes : m.causes ≡ was.causes
+    antecedents : m.antecedents ≡ was.antecedents
     fewer : (d : ℕ) → Contains m.dependents d → Contains was.dependents d
     none : (d : ℕ) → Contains m.dependents d → lost d ≡ true → ⊥
     keep : (d : ℕ) → Contains was.dependents d → lost d ≡ false → Contains m.dependents d
@@ -85,7 +85,7 @@ module _ (g h f : Graph) (keys left : List ℕ) (cid : Cid) (lost : ℕ → Bool
         stands = subst (λ (z : Link). slice_get left z.place ≡ Some k) moved j.1;
         pair = ap (λ (z : Link). z.pair) (sym moved) ∙ same.pair;
         by = ap (λ (z : Link). z.by) (sym moved) ∙ same.by;
-        causes = ap (λ (z : Link). z.causes) (sym moved) ∙ same.causes;
+        antecedents = ap (λ (z : Link). z.antecedents) (sym moved) ∙ same.antecedents;
         fewer = λ d c. (fewer d c).0;
         none = λ d c gone. (fewer d c).1 (gone, stays, graph.caused d k (l, at, (fewer d c).0));
         keep = λ d c free. subst (λ (z : Link). Contains z.dependents d) moved (subst (λ (z : Link). Contains z.dependents d) one (o.4 d c (λ is. false≢true (sym free ∙ is.0))));
@@ -105,34 +105,34 @@ module _ (g h f : Graph) (keys left : List ℕ) (cid : Cid) (lost : ℕ → Bool
   key_left : (k : ℕ) → IsKey g k → lost k ≡ false → IsKey f k
   key_left k key stays = let j = key_stands k key stays in let n = closed.kept j.0 k j.1 in (record n.0 { place = j.0 }, n.2)
 
-  -- what has a lost cause is lost
-  cause_stays : (k c : ℕ) (l : Link) → g k ≡ Some l → Contains l.causes c → lost k ≡ false → lost c ≡ false
-  cause_stays k c l at m stays = elim (cases_Bool (lost c)) [
+  -- what has a lost antecedent is lost
+  antecedent_stays : (k c : ℕ) (l : Link) → g k ≡ Some l → Contains l.antecedents c → lost k ≡ false → lost c ≡ false
+  antecedent_stays k c l at m stays = elim (cases_Bool (lost c)) [
     | inr e ↦ e
     | inl t ↦
         let d = graph.depends k c (l, at, m) in
-        let names = told_true (lost c) (NamesAt g keys cid c) (told c (key_member g keys c graph.places (d.0, d.1))) t in
-        absurd (told_false (lost k) (NamesAt g keys cid k) (told k (key_member g keys k graph.places (l, at))) stays (names_cause g keys k c l cid graph at m names))
+        let cids = told_true (lost c) (NamesAt g keys cid c) (told c (key_member g keys c graph.places (d.0, d.1))) t in
+        absurd (told_false (lost k) (NamesAt g keys cid k) (told k (key_member g keys k graph.places (l, at))) stays (names_antecedent g keys k c l cid graph at m cids))
   ]
 
-  left_depends : (k c : ℕ) → IsCause f c k → IsDependent f k c
-  left_depends k c cause =
-      let mine = is_left k cause.0 cause.1 in
-      let m : Contains mine.was.causes c = subst (λ cs. Contains cs c) mine.causes cause.2 in
-      let stays = cause_stays k c mine.was mine.had m mine.stays in
+  left_depends : (k c : ℕ) → IsAntecedent f c k → IsDependent f k c
+  left_depends k c antecedent =
+      let mine = is_left k antecedent.0 antecedent.1 in
+      let m : Contains mine.was.antecedents c = subst (λ cs. Contains cs c) mine.antecedents antecedent.2 in
+      let stays = antecedent_stays k c mine.was mine.had m mine.stays in
       let d = graph.depends k c (mine.was, mine.had, m) in
       let n = key_left c (d.0, d.1) stays in
       let its = is_left c n.0 n.1 in
       (n.0, n.1, its.keep k (subst (λ (z : Link). Contains z.dependents k) (link_same g c d.0 its.was d.1 its.had) d.2) mine.stays)
 
-  left_caused : (k c : ℕ) → IsDependent f k c → IsCause f c k
+  left_caused : (k c : ℕ) → IsDependent f k c → IsAntecedent f c k
   left_caused k c dependent =
       let its = is_left c dependent.0 dependent.1 in
       let a = graph.caused k c (its.was, its.had, its.fewer k dependent.2) in
       let stays : lost k ≡ false = elim (cases_Bool (lost k)) [ inl t ↦ absurd (its.none k dependent.2 t) | inr e ↦ e ] in
       let n = key_left k (a.0, a.1) stays in
       let mine = is_left k n.0 n.1 in
-      (n.0, n.1, subst (λ cs. Contains cs c) (ap (λ (z : Link). z.causes) (link_same g k a.0 mine.was a.1 mine.had) ∙ sym mine.causes) a.2)
+      (n.0, n.1, subst (λ cs. Contains cs c) (ap (λ (z : Link). z.antecedents) (link_same g k a.0 mine.was a.1 mine.had) ∙ sym mine.antecedents) a.2)
 
   pair_left : (k : ℕ) → IsKey f k → pair_at f k ≡ pair_at g k
   pair_left k key = let mine = is_left k key.0 key.1 in pair_is f k key.0 key.1 ∙ mine.pair ∙ sym (pair_is g k mine.was mine.had)
@@ -158,9 +158,9 @@ module _ (g h f : Graph) (keys left : List ℕ) (cid : Cid) (lost : ℕ → Bool
   removal_left : (k : ℕ) → IsKey f k → removal_at f k ≡ removal_at g k
   removal_left k key =
       let mine = is_left k key.0 key.1 in
-      let each : (c : ℕ) → Contains mine.was.causes c → pair_at f c ≡ pair_at g c =
-      λ c m. let d = graph.depends k c (mine.was, mine.had, m) in pair_left c (key_left c (d.0, d.1) (cause_stays k c mine.was mine.had m mine.stays)) in
-      let reasons : map (pair_at f) key.0.causes ≡ map (pair_at g) mine.was.causes = ap (λ cs. map (pair_at f) cs) mine.causes ∙ map_agree (pair_at f) (pair_at g) mine.was.causes each in
+      let each : (c : ℕ) → Contains mine.was.antecedents c → pair_at f c ≡ pair_at g c =
+      λ c m. let d = graph.depends k c (mine.was, mine.had, m) in pair_left c (key_left c (d.0, d.1) (antecedent_stays k c mine.was mine.had m mine.stays)) in
+      let reasons : map (pair_at f) key.0.antecedents ≡ map (pair_at g) mine.was.antecedents = ap (λ cs. map (pair_at f) cs) mine.antecedents ∙ map_agree (pair_at f) (pair_at g) mine.was.antecedents each in
       removal_is f k key.0 key.1 ∙ (λ i. record { pair = mine.pair i; by = mine.by i; reasons = reasons i }) ∙ sym (removal_is g k mine.was mine.had)
 
   -- its log is what is kept of the log before

@@ -7,9 +7,9 @@ use Rattle.palm_base.proofs.cited.Members.{member_nil, member_same, map_agree}
 use Rattle.palm_model.specs.Log.{Removal, log_pairs}
 use Rattle.palm_explain.specs.declared.rows.Row.{Row}
 use Rattle.palm_model.specs.Constraint.{Distinct}
-use Rattle.palm_explain.specs.Graph.{AreFound, AreOnce, Graph, HasLinked, IsBy, IsCause, IsDependent, IsGraph, IsKey, IsPlaced, IsSameNode, IsTailed, Link, log_of, pair_at, removal_at}
+use Rattle.palm_explain.specs.Graph.{AreFound, AreOnce, Graph, HasLinked, IsBy, IsAntecedent, IsDependent, IsGraph, IsKey, IsPlaced, IsSameNode, IsTailed, Link, log_of, pair_at, removal_at}
 use Rattle.palm_explain.specs.Rows.{key_at}
-use Rattle.palm_explain.proofs.Graphs.{cause_key, key_pair, member_key, pair_is, removal_is, some_same}
+use Rattle.palm_explain.proofs.Graphs.{antecedent_key, key_pair, member_key, pair_is, removal_is, some_same}
 
 -- ---- places of a list with one more
 
@@ -30,19 +30,19 @@ place_cases (z ∷ xs) y (suc i) x at = elim (place_cases xs y i x at) [ inl o �
 
 -- ---- the graph with one more node
 
--- the node under the key is new, and the removals that it has as causes have it as a dependent
+-- the node under the key is new, and the removals that it has as antecedents have it as a dependent
 pub record IsEntered (g f : Graph) (key : ℕ) (new : Link) : Type 0 where
   pub vacant : g key ≡ None
   pub there : f key ≡ Some new
   pub alone : new.dependents ≡ []
   pub none : (k : ℕ) → k ≢ key → g k ≡ None → f k ≡ None
   pub some : (k : ℕ) (l : Link) → g k ≡ Some l → (m : Link) × (f k ≡ Some m) × IsSameNode l m
-      × ((d : ℕ) → Contains m.dependents d → Contains l.dependents d ⊎ ((key ≡ d) × Contains new.causes k))
-      × ((d : ℕ) → Contains l.dependents d ⊎ ((key ≡ d) × Contains new.causes k) → Contains m.dependents d)
+      × ((d : ℕ) → Contains m.dependents d → Contains l.dependents d ⊎ ((key ≡ d) × Contains new.antecedents k))
+      × ((d : ℕ) → Contains l.dependents d ⊎ ((key ≡ d) × Contains new.antecedents k) → Contains m.dependents d)
   pub once : (k : ℕ) (l m : Link) → g k ≡ Some l → f k ≡ Some m → IsTailed key l.dependents → IsTailed key m.dependents
 
 -- linked, and then stored under a vacant key
-pub entered : (g h f : Graph) (key : ℕ) (new : Link) → HasLinked g h new.causes key → g key ≡ None → f key ≡ Some new → new.dependents ≡ [] → ((k : ℕ) → k ≢ key → f k ≡ h k) → IsEntered g f key new
+pub entered : (g h f : Graph) (key : ℕ) (new : Link) → HasLinked g h new.antecedents key → g key ≡ None → f key ≡ Some new → new.dependents ≡ [] → ((k : ℕ) → k ≢ key → f k ≡ h k) → IsEntered g f key new
 entered g h f key new linked vacant there alone others = record {
   vacant = vacant;
   there = there;
@@ -69,11 +69,11 @@ module _ (g f : Graph) (keys : List ℕ) (key : ℕ) (new : Link) (graph : IsGra
 
   -- a node is an old one or the new one
   cases_from : (k : ℕ) (m : Link) (o : Option Link) → g k ≡ o → f k ≡ Some m → ((key ≡ k) × (new ≡ m)) ⊎ ((l : Link) × (g k ≡ Some l) × IsSameNode l m
-      × ((d : ℕ) → Contains m.dependents d → Contains l.dependents d ⊎ ((key ≡ d) × Contains new.causes k)))
+      × ((d : ℕ) → Contains m.dependents d → Contains l.dependents d ⊎ ((key ≡ d) × Contains new.antecedents k)))
   cases_from k m (Some l) at has =
       let n = is.some k l at in
       let same : n.0 ≡ m = some_same n.0 m (sym n.1 ∙ has) in
-      inr (l, at, subst (IsSameNode l) same n.2, subst (λ (z : Link). (d : ℕ) → Contains z.dependents d → Contains l.dependents d ⊎ ((key ≡ d) × Contains new.causes k)) same n.3)
+      inr (l, at, subst (IsSameNode l) same n.2, subst (λ (z : Link). (d : ℕ) → Contains z.dependents d → Contains l.dependents d ⊎ ((key ≡ d) × Contains new.antecedents k)) same n.3)
   cases_from k m None at has = elim (cases_eq k key) [
     | inl e ↦ inl (sym e, some_same new m (sym is.there ∙ subst (λ j. f j ≡ Some m) e has))
     | inr n ↦ absurd (some_none (sym has ∙ is.none k n at))
@@ -83,7 +83,7 @@ module _ (g f : Graph) (keys : List ℕ) (key : ℕ) (new : Link) (graph : IsGra
       some_none e = cc
 
   node_cases : (k : ℕ) (m : Link) → f k ≡ Some m → ((key ≡ k) × (new ≡ m)) ⊎ ((l : Link) × (g k ≡ Some l) × IsSameNode l m
-      × ((d : ℕ) → Contains m.dependents d → Contains l.dependents d ⊎ ((key ≡ d) × Contains new.causes k)))
+      × ((d : ℕ) → Contains m.dependents d → Contains l.dependents d ⊎ ((key ≡ d) × Contains new.antecedents k)))
   node_cases k m has = cases_from k m (g k) refl has
 
   pair_stays : (k : ℕ) → IsKey g k → pair_at f k ≡ pair_at g k
@@ -92,8 +92,8 @@ module _ (g f : Graph) (keys : List ℕ) (key : ℕ) (new : Link) (graph : IsGra
   removal_stays : (k : ℕ) → IsKey g k → removal_at f k ≡ removal_at g k
   removal_stays k at =
       let m = is.some k at.0 at.1 in
-      let reasons : map (pair_at f) m.0.causes ≡ map (pair_at g) at.0.causes =
-      ap (λ cs. map (pair_at f) cs) m.2.causes ∙ map_agree (pair_at f) (pair_at g) at.0.causes (λ c n. pair_stays c (cause_key g keys c k graph (at.0, at.1, n))) in
+      let reasons : map (pair_at f) m.0.antecedents ≡ map (pair_at g) at.0.antecedents =
+      ap (λ cs. map (pair_at f) cs) m.2.antecedents ∙ map_agree (pair_at f) (pair_at g) at.0.antecedents (λ c n. pair_stays c (antecedent_key g keys c k graph (at.0, at.1, n))) in
       removal_is f k m.0 m.1 ∙ (λ i. record { pair = m.2.pair i; by = m.2.by i; reasons = reasons i }) ∙ sym (removal_is g k at.0 at.1)
 
   -- who made the removals
@@ -106,7 +106,7 @@ module _ (g f : Graph) (keys : List ℕ) (key : ℕ) (new : Link) (graph : IsGra
   pub by_entered : (c : Cid) (k : ℕ) → IsBy g c k → IsBy f c k
   by_entered c k b = let m = is.some k b.0 b.1 in (m.0, m.1, m.2.by ∙ b.2)
 
-  module _ (place : new.place ≡ length keys) (causes : (c : ℕ) → Contains new.causes c → IsKey g c) (fresh : Contains (log_pairs (log_of g keys)) new.pair → ⊥) where
+  module _ (place : new.place ≡ length keys) (antecedents : (c : ℕ) → Contains new.antecedents c → IsKey g c) (fresh : Contains (log_pairs (log_of g keys)) new.pair → ⊥) where
     entered_placed : IsPlaced f (keys ++ key ∷ [])
     entered_placed = record {
       placed = λ i k at. elim (place_cases keys key i k at) [
@@ -119,24 +119,24 @@ module _ (g f : Graph) (keys : List ℕ) (key : ℕ) (new : Link) (graph : IsGra
       ];
     }
 
-    entered_depends : (k c : ℕ) → IsCause f c k → IsDependent f k c
-    entered_depends k c cause = elim (node_cases k cause.0 cause.1) [
+    entered_depends : (k c : ℕ) → IsAntecedent f c k → IsDependent f k c
+    entered_depends k c antecedent = elim (node_cases k antecedent.0 antecedent.1) [
       | inl e ↦
-          let m : Contains new.causes c = subst (λ (z : Link). Contains z.causes c) (sym e.1) cause.2 in
-          let l = causes c m in
+          let m : Contains new.antecedents c = subst (λ (z : Link). Contains z.antecedents c) (sym e.1) antecedent.2 in
+          let l = antecedents c m in
           let n = is.some c l.0 l.1 in (n.0, n.1, n.4 k (inr (e.0, m)))
       | inr o ↦
-          let d = graph.depends k c (o.0, o.1, subst (λ cs. Contains cs c) o.2.causes cause.2) in
+          let d = graph.depends k c (o.0, o.1, subst (λ cs. Contains cs c) o.2.antecedents antecedent.2) in
           let n = is.some c d.0 d.1 in (n.0, n.1, n.4 k (inl d.2))
     ]
 
-    entered_caused : (k c : ℕ) → IsDependent f k c → IsCause f c k
+    entered_caused : (k c : ℕ) → IsDependent f k c → IsAntecedent f c k
     entered_caused k c dependent = elim (node_cases c dependent.0 dependent.1) [
       | inl e ↦ absurd (member_nil k (subst (λ ds. Contains ds k) (ap (λ (z : Link). z.dependents) (sym e.1) ∙ is.alone) dependent.2))
       | inr o ↦ elim (o.3 k dependent.2) [
         | inl m ↦
             let a = graph.caused k c (o.0, o.1, m) in
-            let n = is.some k a.0 a.1 in (n.0, n.1, subst (λ cs. Contains cs c) (sym n.2.causes) a.2)
+            let n = is.some k a.0 a.1 in (n.0, n.1, subst (λ cs. Contains cs c) (sym n.2.antecedents) a.2)
         | inr e ↦ (new, subst (λ j. f j ≡ Some new) e.0 is.there, e.1)
       ]
     ]
@@ -169,11 +169,11 @@ module _ (g f : Graph) (keys : List ℕ) (key : ℕ) (new : Link) (graph : IsGra
     entered_graph = record { places = entered_placed; depends = entered_depends; caused = entered_caused; once = entered_once; apart = entered_apart }
 
     -- the log has the removal behind the others
-    pub entered_log : (r : Removal) → r.pair ≡ new.pair → r.by ≡ new.by → map (pair_at g) new.causes ≡ r.reasons → log_of f (keys ++ key ∷ []) ≡ log_of g keys ++ r ∷ []
+    pub entered_log : (r : Removal) → r.pair ≡ new.pair → r.by ≡ new.by → map (pair_at g) new.antecedents ≡ r.reasons → log_of f (keys ++ key ∷ []) ≡ log_of g keys ++ r ∷ []
     entered_log r pair by reasons =
         let last : removal_at f key ≡ r =
         removal_is f key new is.there
-        ∙ (λ i. record { pair = (sym pair) i; by = (sym by) i; reasons = (map_agree (pair_at f) (pair_at g) new.causes (λ c n. pair_stays c (causes c n)) ∙ reasons) i }) in
+        ∙ (λ i. record { pair = (sym pair) i; by = (sym by) i; reasons = (map_agree (pair_at f) (pair_at g) new.antecedents (λ c n. pair_stays c (antecedents c n)) ∙ reasons) i }) in
         map-append (removal_at f) keys (key ∷ []) ∙ ap₂ (λ a b. a ++ b ∷ []) (map_agree (removal_at f) (removal_at g) keys (λ k m. removal_stays k (member_key g keys k graph.places m))) last
 
     -- and the rows find it

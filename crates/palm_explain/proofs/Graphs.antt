@@ -1,4 +1,4 @@
--- What holds of every graph of removals: keys and places, pairs, what a removal names, and that causes come first.
+-- What holds of every graph of removals: keys and places, pairs, what a removal names, and that antecedents come first.
 use Rattle.std.proofs.Common.{◌≡◌, ℕ, zero, suc, ◌<◌, List, [], ◌∷◌, ◌++◌, map, Option, Some, None, Contains, slice_get, ◌⊎◌, inl, inr, refl, sym, ap, ◌∙◌, subst, arith}
 use Rattle.std.proofs.lemmas.List.Elements.{Contains-push_cases}
 use Rattle.palm_base.specs.declared.terms.Pair.{Pair}
@@ -8,7 +8,7 @@ use Rattle.palm_model.specs.Log.{Removal, Names, NamesOfPair, log_pairs}
 use Rattle.palm_model.specs.Log.Names.{by_itself, by_reason}
 use Rattle.palm_events.proofs.cited.Logs.{logged, pair_logged}
 use Rattle.palm_explain.specs.Explanations.{AreLinked, IsLinked}
-use Rattle.palm_explain.specs.Graph.{Graph, IsCause, IsDependent, IsGraph, IsKey, IsPlaced, Link, NamesAt, log_of, pair_at, pair_or, removal_at, removal_or}
+use Rattle.palm_explain.specs.Graph.{Graph, IsAntecedent, IsDependent, IsGraph, IsKey, IsPlaced, Link, NamesAt, log_of, pair_at, pair_or, removal_at, removal_or}
 
 pub some_same : {X : Type 0} (x y : X) → Some x ≡ Some y → x ≡ y
 some_same x y e = cc
@@ -21,7 +21,7 @@ link_same g k l m e f = some_same l m (sym e ∙ f)
 pub pair_is : (g : Graph) (k : ℕ) (l : Link) → g k ≡ Some l → pair_at g k ≡ l.pair
 pair_is g k l e = ap pair_or e
 
-pub removal_is : (g : Graph) (k : ℕ) (l : Link) → g k ≡ Some l → removal_at g k ≡ record { pair = l.pair; by = l.by; reasons = map (pair_at g) l.causes }
+pub removal_is : (g : Graph) (k : ℕ) (l : Link) → g k ≡ Some l → removal_at g k ≡ record { pair = l.pair; by = l.by; reasons = map (pair_at g) l.antecedents }
 removal_is g k l e = ap (removal_or g) e
 
 removal_pair_or : (g : Graph) (o : Option Link) → (removal_or g o).pair ≡ pair_or o
@@ -61,8 +61,8 @@ pub key_pair : (g : Graph) (keys : List ℕ) (k : ℕ) → IsPlaced g keys → I
 key_pair g keys k placed key =
     member_same (log_pairs (log_of g keys)) (removal_at g k).pair (pair_at g k) (removal_pair g k) (pair_logged (log_of g keys) (removal_at g k) (removal_logged g keys k placed key))
 
-pub cause_key : (g : Graph) (keys : List ℕ) (c k : ℕ) → IsGraph g keys → IsCause g c k → IsKey g c
-cause_key g keys c k graph cause = let d = graph.depends k c cause in (d.0, d.1)
+pub antecedent_key : (g : Graph) (keys : List ℕ) (c k : ℕ) → IsGraph g keys → IsAntecedent g c k → IsKey g c
+antecedent_key g keys c k graph antecedent = let d = graph.depends k c antecedent in (d.0, d.1)
 
 pub dependent_key : (g : Graph) (keys : List ℕ) (k c : ℕ) → IsGraph g keys → IsDependent g k c → IsKey g k
 dependent_key g keys k c graph dependent = let d = graph.caused k c dependent in (d.0, d.1)
@@ -70,40 +70,40 @@ dependent_key g keys k c graph dependent = let d = graph.caused k c dependent in
 -- ---- what a removal names
 
 named_from : (g : Graph) (keys : List ℕ) (k : ℕ) (l : Link) (c : Cid) → IsGraph g keys → g k ≡ Some l → (r : Removal) → r ≡ removal_at g k → Names (log_of g keys) c r
-    → (l.by ≡ c) ⊎ ((q : ℕ) × Contains l.causes q × NamesAt g keys c q)
+    → (l.by ≡ c) ⊎ ((q : ℕ) × Contains l.antecedents q × NamesAt g keys c q)
 named_from g keys k l c graph at _ same (by_itself r e) = inl (sym (ap (λ (z : Removal). z.by) (same ∙ removal_is g k l at)) ∙ e)
-named_from g keys k l c graph at _ same (by_reason r s m reason names) =
-    let reasons : Contains (map (pair_at g) l.causes) s.pair = subst (λ (z : Removal). Contains z.reasons s.pair) (same ∙ removal_is g k l at) reason in
-    let u = member_unmap (pair_at g) l.causes s.pair reasons in
+named_from g keys k l c graph at _ same (by_reason r s m reason cids) =
+    let reasons : Contains (map (pair_at g) l.antecedents) s.pair = subst (λ (z : Removal). Contains z.reasons s.pair) (same ∙ removal_is g k l at) reason in
+    let u = member_unmap (pair_at g) l.antecedents s.pair reasons in
     let j = logged_key g keys s graph.places m in
     let pair : pair_at g j.0 ≡ s.pair = sym (removal_pair g j.0) ∙ ap (λ (z : Removal). z.pair) j.2 in
-    let one : j.0 ≡ u.0 = graph.apart j.0 u.0 j.1 (cause_key g keys u.0 k graph (l, at, u.1)) (pair ∙ sym u.2) in
-    inr (u.0, u.1, subst (λ i. NamesAt g keys c i) one (subst (λ z. Names (log_of g keys) c z) (sym j.2) names))
+    let one : j.0 ≡ u.0 = graph.apart j.0 u.0 j.1 (antecedent_key g keys u.0 k graph (l, at, u.1)) (pair ∙ sym u.2) in
+    inr (u.0, u.1, subst (λ i. NamesAt g keys c i) one (subst (λ z. Names (log_of g keys) c z) (sym j.2) cids))
 
--- its own constraint, or what one of its causes names
-pub named_by : (g : Graph) (keys : List ℕ) (k : ℕ) (l : Link) (c : Cid) → IsGraph g keys → g k ≡ Some l → NamesAt g keys c k → (l.by ≡ c) ⊎ ((q : ℕ) × Contains l.causes q × NamesAt g keys c q)
-named_by g keys k l c graph at names = named_from g keys k l c graph at (removal_at g k) refl names
+-- its own constraint, or what one of its antecedents names
+pub named_by : (g : Graph) (keys : List ℕ) (k : ℕ) (l : Link) (c : Cid) → IsGraph g keys → g k ≡ Some l → NamesAt g keys c k → (l.by ≡ c) ⊎ ((q : ℕ) × Contains l.antecedents q × NamesAt g keys c q)
+named_by g keys k l c graph at cids = named_from g keys k l c graph at (removal_at g k) refl cids
 
 pub names_own : (g : Graph) (keys : List ℕ) (k : ℕ) (l : Link) (c : Cid) → g k ≡ Some l → l.by ≡ c → NamesAt g keys c k
 names_own g keys k l c at e = by_itself (removal_at g k) (ap (λ (z : Removal). z.by) (removal_is g k l at) ∙ e)
 
-pub names_cause : (g : Graph) (keys : List ℕ) (k q : ℕ) (l : Link) (c : Cid) → IsGraph g keys → g k ≡ Some l → Contains l.causes q → NamesAt g keys c q → NamesAt g keys c k
-names_cause g keys k q l c graph at m names =
-    let reason : Contains (map (pair_at g) l.causes) (removal_at g q).pair = member_same (map (pair_at g) l.causes) (pair_at g q) (removal_at g q).pair (sym (removal_pair g q)) (member_map (pair_at g) l.causes q m) in
-    by_reason (removal_at g k) (removal_at g q) (removal_logged g keys q graph.places (cause_key g keys q k graph (l, at, m)))
-    (subst (λ (z : Removal). Contains z.reasons (removal_at g q).pair) (sym (removal_is g k l at)) reason) names
+pub names_antecedent : (g : Graph) (keys : List ℕ) (k q : ℕ) (l : Link) (c : Cid) → IsGraph g keys → g k ≡ Some l → Contains l.antecedents q → NamesAt g keys c q → NamesAt g keys c k
+names_antecedent g keys k q l c graph at m cids =
+    let reason : Contains (map (pair_at g) l.antecedents) (removal_at g q).pair = member_same (map (pair_at g) l.antecedents) (pair_at g q) (removal_at g q).pair (sym (removal_pair g q)) (member_map (pair_at g) l.antecedents q m) in
+    by_reason (removal_at g k) (removal_at g q) (removal_logged g keys q graph.places (antecedent_key g keys q k graph (l, at, m)))
+    (subst (λ (z : Removal). Contains z.reasons (removal_at g q).pair) (sym (removal_is g k l at)) reason) cids
 
 -- what a pair names is what its removal names
 pub pair_named : (g : Graph) (keys : List ℕ) (k : ℕ) (p : Pair) (c : Cid) → IsGraph g keys → IsKey g k → pair_at g k ≡ p → NamesOfPair (log_of g keys) p c → NamesAt g keys c k
-pair_named g keys k p c graph key at names =
-    let j = logged_key g keys names.removal graph.places names.logged in
-    let pair : pair_at g j.0 ≡ p = sym (removal_pair g j.0) ∙ ap (λ (z : Removal). z.pair) j.2 ∙ names.is in
+pair_named g keys k p c graph key at cids =
+    let j = logged_key g keys cids.removal graph.places cids.logged in
+    let pair : pair_at g j.0 ≡ p = sym (removal_pair g j.0) ∙ ap (λ (z : Removal). z.pair) j.2 ∙ cids.is in
     let one : j.0 ≡ k = graph.apart j.0 k j.1 key (pair ∙ sym at) in
-    subst (λ i. NamesAt g keys c i) one (subst (λ z. Names (log_of g keys) c z) (sym j.2) names.names)
+    subst (λ i. NamesAt g keys c i) one (subst (λ z. Names (log_of g keys) c z) (sym j.2) cids.names)
 
 pub names_pair_at : (g : Graph) (keys : List ℕ) (k : ℕ) (p : Pair) (c : Cid) → IsGraph g keys → IsKey g k → pair_at g k ≡ p → NamesAt g keys c k → NamesOfPair (log_of g keys) p c
-names_pair_at g keys k p c graph key at names =
-    record { removal = removal_at g k; logged = removal_logged g keys k graph.places key; is = removal_pair g k ∙ at; names = names }
+names_pair_at g keys k p c graph key at cids =
+    record { removal = removal_at g k; logged = removal_logged g keys k graph.places key; is = removal_pair g k ∙ at; names = cids }
 
 -- ---- places
 
@@ -132,11 +132,11 @@ reason_place earlier (s ∷ rest) linked (suc i) r p at m = elim (reason_place (
   | inr k ↦ inr (suc k.0, omega (arith, k.1), k.2)
 ]
 
--- a cause stands at an earlier place
-pub cause_first : (g : Graph) (keys : List ℕ) (c k : ℕ) (l m : Link) → IsLinked (log_of g keys) → IsGraph g keys → g k ≡ Some l → g c ≡ Some m → Contains l.causes c → m.place < l.place
-cause_first g keys c k l m linked graph at there cause =
+-- an antecedent stands at an earlier place
+pub antecedent_first : (g : Graph) (keys : List ℕ) (c k : ℕ) (l m : Link) → IsLinked (log_of g keys) → IsGraph g keys → g k ≡ Some l → g c ≡ Some m → Contains l.antecedents c → m.place < l.place
+antecedent_first g keys c k l m linked graph at there antecedent =
     let here : slice_get (log_of g keys) l.place ≡ Some (removal_at g k) = map_place (removal_at g) keys l.place k (graph.places.logged k l at) in
-    let reason : Contains (removal_at g k).reasons (pair_at g c) = subst (λ (z : Removal). Contains z.reasons (pair_at g c)) (sym (removal_is g k l at)) (member_map (pair_at g) l.causes c cause) in
+    let reason : Contains (removal_at g k).reasons (pair_at g c) = subst (λ (z : Removal). Contains z.reasons (pair_at g c)) (sym (removal_is g k l at)) (member_map (pair_at g) l.antecedents c antecedent) in
     elim (reason_place [] (log_of g keys) linked l.place (removal_at g k) (pair_at g c) here reason) [
       | inl n ↦ absurd (member_nil (pair_at g c) n)
       | inr j ↦

@@ -1,4 +1,4 @@
--- What stays when a name goes: of the log, of the lost pairs, and of the pairs that a store lacks.
+-- What stays when an id goes: of the log, of the lost pairs, and of the pairs that a store lacks.
 use Rattle.std.proofs.Common.{◌≡◌, ℕ, ℤ, ◌<◌, Bool, true, false, not, cond, List, [], ◌∷◌, length, get_or, Contains, All, inl, inr, refl, sym, ap, ◌∙◌, subst, arith}
 use Rattle.std.proofs.lemmas.Bool.{cases_Bool}
 use Rattle.std.proofs.lemmas.List.{same_lists, get_or_default, length-map}
@@ -19,7 +19,7 @@ use Rattle.palm_explain.specs.Explanations.{IsLinked, LacksExactly}
 use Rattle.palm_explain.specs.Graph.{Graph, log_of, removal_at}
 use Rattle.palm_explain.specs.Lost.{AreTold, HasBack, kept_of, lost_of}
 use Rattle.palm_explain.proofs.Linked.{left_linked, pairs_more}
-use Rattle.palm_explain.proofs.cited.Withdrawn.{lost_logged, lost_or_left, lost_names, names_lost}
+use Rattle.palm_explain.proofs.cited.Withdrawn.{lost_logged, lost_or_left, lost_cids, cids_lost}
 use Rattle.palm_explain.proofs.PuttingBack.{lost_entry, entry_lost, entry_logged}
 
 -- ---- the log
@@ -68,7 +68,7 @@ kept_linked g cid lost es linked told = left_linked (log_of g es) (cid ∷ []) (
 pub lost_of_log : (g : Graph) (cid : Cid) (lost : ℕ → Bool) (es : List ℕ) → IsLinked (log_of g es) → AreTold g es cid lost → (p : Pair) → Contains (lost_of g lost es) p → Contains (lost_pairs (log_of g es) (log_of g (kept_of lost es))) p
 lost_of_log g cid lost es linked told p m =
     let e = lost_entry g lost es p m in
-    let gone = names_lost (log_of g es) (cid ∷ []) (log_of g (kept_of lost es)) linked (loses_kept g cid lost es told) (removal_at g e.0) (entry_logged g es e.0 e.1)
+    let gone = cids_lost (log_of g es) (cid ∷ []) (log_of g (kept_of lost es)) linked (loses_kept g cid lost es told) (removal_at g e.0) (entry_logged g es e.0 e.1)
     (record { cid = cid; among = member_here cid []; names = told_true (lost e.0) _ (told e.0 e.1) e.3 }) in
     member_same (lost_pairs (log_of g es) (log_of g (kept_of lost es))) (removal_at g e.0).pair p e.2 gone
 
@@ -76,13 +76,13 @@ lost_of_log g cid lost es linked told p m =
 named_lost : (g : Graph) (cid : Cid) (lost : ℕ → Bool) (es : List ℕ) → AreTold g es cid lost → (r : Removal) → Contains (log_of g es) r → NamesSome (log_of g es) (cid ∷ []) r → Contains (lost_of g lost es) r.pair
 named_lost g cid lost es told r m some =
     let e = member_unmap (removal_at g) es r m in
-    let names = subst (λ c. Names (log_of g es) c r) (sym (member_single cid some.cid some.among)) some.names in
-    let is = true_told (lost e.0) _ (told e.0 e.1) (subst (λ z. Names (log_of g es) cid z) (sym e.2) names) in
+    let cids = subst (λ c. Names (log_of g es) c r) (sym (member_single cid some.cid some.among)) some.names in
+    let is = true_told (lost e.0) _ (told e.0 e.1) (subst (λ z. Names (log_of g es) cid z) (sym e.2) cids) in
     member_same (lost_of g lost es) (removal_at g e.0).pair r.pair (ap (λ (z : Removal). z.pair) e.2) (entry_lost g lost es e.0 e.1 is)
 
 pub log_lost_of : (g : Graph) (cid : Cid) (lost : ℕ → Bool) (es : List ℕ) → AreTold g es cid lost → (p : Pair) → Contains (lost_pairs (log_of g es) (log_of g (kept_of lost es))) p → Contains (lost_of g lost es) p
 log_lost_of g cid lost es told p m =
-    let r = lost_names (log_of g es) (cid ∷ []) (log_of g (kept_of lost es)) (loses_kept g cid lost es told) p m in
+    let r = lost_cids (log_of g es) (cid ∷ []) (log_of g (kept_of lost es)) (loses_kept g cid lost es told) p m in
     member_same (lost_of g lost es) r.0.pair p r.2 (named_lost g cid lost es told r.0 r.1 r.3)
 
 pub vars_more : (ps qs : List Pair) → ((p : Pair) → Contains ps p → Contains qs p) → (x : ℕ) → Contains (vars_of ps) x → Contains (vars_of qs) x

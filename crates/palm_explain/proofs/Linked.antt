@@ -96,10 +96,10 @@ record AreLeft (log : List Removal) (gone : List Cid) (earlier kept : List Remov
   stay : (r : Removal) → Contains earlier r → (NamesSome log gone r → ⊥) → Contains kept r
 
 left_lost : (log : List Removal) (gone : List Cid) (earlier kept : List Removal) (r : Removal) → Contains log r → NamesSome log gone r → AreLeft log gone earlier kept → AreLeft log gone (earlier ++ r ∷ []) kept
-left_lost log gone earlier kept r m names are = record {
+left_lost log gone earlier kept r m cids are = record {
   logged = λ s n. elim (Contains-push_cases earlier r s n) [ inl o ↦ are.logged s o | inr e ↦ member_same log r s e m ];
   were = λ s n. Contains-append_left earlier (r ∷ []) s (are.were s n);
-  stay = λ s n keeps. elim (Contains-push_cases earlier r s n) [ inl o ↦ are.stay s o keeps | inr e ↦ absurd (keeps (subst (λ q. NamesSome log gone q) e names)) ];
+  stay = λ s n keeps. elim (Contains-push_cases earlier r s n) [ inl o ↦ are.stay s o keeps | inr e ↦ absurd (keeps (subst (λ q. NamesSome log gone q) e cids)) ];
 }
 
 left_kept : (log : List Removal) (gone : List Cid) (earlier kept : List Removal) (r : Removal) → Contains log r → AreLeft log gone earlier kept → AreLeft log gone (earlier ++ r ∷ []) (kept ++ r ∷ [])
@@ -128,8 +128,8 @@ left_links : (log : List Removal) (gone : List Cid) (earlier kept rest left : Li
     → AreLeft log gone earlier kept → ((r : Removal) → Contains rest r → Contains log r)
     → AreLinked earlier rest → Loses log gone rest left → AreLinked kept left
 left_links log gone earlier kept _ _ are sub linked none_left = tt
-left_links log gone earlier kept _ _ are sub linked (is_lost r rest left names loses) =
-    left_links log gone (earlier ++ r ∷ []) kept rest left (left_lost log gone earlier kept r (sub r (member_here r rest)) names are)
+left_links log gone earlier kept _ _ are sub linked (is_lost r rest left cids loses) =
+    left_links log gone (earlier ++ r ∷ []) kept rest left (left_lost log gone earlier kept r (sub r (member_here r rest)) cids are)
     (λ s m. sub s (member_there r rest s m)) linked.1 loses
 left_links log gone earlier kept _ _ are sub linked (is_kept r rest left keeps loses) = (
   kept_link log gone earlier kept r are keeps linked.0,

@@ -13,7 +13,7 @@ use Rattle.palm_explain.specs.declared.rows.Row.{Row}
 use Rattle.palm_explain.specs.Explanations.{Explanations, NamesOfSome, log_bys, reasons_of}
 use Rattle.palm_explain.specs.Graph.{AreFound, Graph, IsGraph, IsKey, IsPlaced, graph_of, link_of, log_of, pair_at, removal_at, said}
 use Rattle.palm_explain.specs.Rows.{key_at}
-use Rattle.palm_explain.proofs.Graphs.{cause_key, map_place, pair_is, pair_key, removal_is, some_same}
+use Rattle.palm_explain.proofs.Graphs.{antecedent_key, map_place, pair_is, pair_key, removal_is, some_same}
 use Rattle.palm_explain.proofs.Naming.{listed_like}
 use Rattle.palm_explain.proofs.Writes.{key_there}
 
@@ -25,7 +25,7 @@ module _ (s : Slab Node) (keys : List ℕ) (place : ℕ) (n : Node) (lt : place 
   there : slice_get (log_of (graph_of s) keys) place ≡ Some (removal_at (graph_of s) (get_or keys place 0))
   there = map_place (removal_at (graph_of s)) keys place (get_or keys place 0) (slice_get-get_or keys place 0 lt)
 
-  is : removal_at (graph_of s) (get_or keys place 0) ≡ record { pair = n.pair; by = n.by; reasons = map (pair_at (graph_of s)) n.causes.items }
+  is : removal_at (graph_of s) (get_or keys place 0) ≡ record { pair = n.pair; by = n.by; reasons = map (pair_at (graph_of s)) n.antecedents.items }
   is = removal_is (graph_of s) (get_or keys place 0) (said n) (ap link_of at)
 
   pub read_pair : slice_get (log_pairs (log_of (graph_of s) keys)) place ≡ Some n.pair
@@ -34,25 +34,25 @@ module _ (s : Slab Node) (keys : List ℕ) (place : ℕ) (n : Node) (lt : place 
   pub read_by : slice_get (log_bys (log_of (graph_of s) keys)) place ≡ Some n.by
   read_by = map_place (λ (r : Removal). r.by) (log_of (graph_of s) keys) place (removal_at (graph_of s) (get_or keys place 0)) there ∙ ap (λ (r : Removal). Some r.by) is
 
-  pub read_reasons : reasons_of (log_of (graph_of s) keys) place ≡ map (pair_at (graph_of s)) n.causes.items
+  pub read_reasons : reasons_of (log_of (graph_of s) keys) place ≡ map (pair_at (graph_of s)) n.antecedents.items
   read_reasons =
       get_or_from_slice_get (map (λ (r : Removal). r.reasons) (log_of (graph_of s) keys)) place (removal_at (graph_of s) (get_or keys place 0)).reasons []
       (map_place (λ (r : Removal). r.reasons) (log_of (graph_of s) keys) place (removal_at (graph_of s) (get_or keys place 0)) there) ∙ ap (λ (r : Removal). r.reasons) is
 
-  pub read_count : length (reasons_of (log_of (graph_of s) keys) place) ≡ length n.causes.items
-  read_count = ap length read_reasons ∙ length-map n.causes.items (pair_at (graph_of s))
+  pub read_count : length (reasons_of (log_of (graph_of s) keys) place) ≡ length n.antecedents.items
+  read_count = ap length read_reasons ∙ length-map n.antecedents.items (pair_at (graph_of s))
 
-  -- a cause, and the pair of its node
-  pub read_cause : (index : ℕ) → IsGraph (graph_of s) keys → index < length n.causes.items → IsKey (graph_of s) (get_or n.causes.items index 0)
-  read_cause index graph within = cause_key (graph_of s) keys (get_or n.causes.items index 0) (get_or keys place 0) graph (said n, ap link_of at, (index, within, same_default n.causes.items index within))
+  -- an antecedent, and the pair of its node
+  pub read_antecedent : (index : ℕ) → IsGraph (graph_of s) keys → index < length n.antecedents.items → IsKey (graph_of s) (get_or n.antecedents.items index 0)
+  read_antecedent index graph within = antecedent_key (graph_of s) keys (get_or n.antecedents.items index 0) (get_or keys place 0) graph (said n, ap link_of at, (index, within, same_default n.antecedents.items index within))
     where
       same_default : (xs : List ℕ) (i : ℕ) → i < length xs → get_or xs i (get_or xs i 0) ≡ get_or xs i 0
       same_default xs i lt = get_or_from_slice_get xs i (get_or xs i 0) (get_or xs i 0) (slice_get-get_or xs i 0 lt)
 
-  pub read_reason : (index : ℕ) (m : Node) → index < length n.causes.items → get s (get_or n.causes.items index 0) ≡ Some m → slice_get (reasons_of (log_of (graph_of s) keys) place) index ≡ Some m.pair
+  pub read_reason : (index : ℕ) (m : Node) → index < length n.antecedents.items → get s (get_or n.antecedents.items index 0) ≡ Some m → slice_get (reasons_of (log_of (graph_of s) keys) place) index ≡ Some m.pair
   read_reason index m within found =
-      ap (λ l. slice_get l index) read_reasons ∙ map_place (pair_at (graph_of s)) n.causes.items index (get_or n.causes.items index 0) (slice_get-get_or n.causes.items index 0 within)
-      ∙ ap Some (pair_is (graph_of s) (get_or n.causes.items index 0) (said m) (ap link_of found))
+      ap (λ l. slice_get l index) read_reasons ∙ map_place (pair_at (graph_of s)) n.antecedents.items index (get_or n.antecedents.items index 0) (slice_get-get_or n.antecedents.items index 0 within)
+      ∙ ap Some (pair_is (graph_of s) (get_or n.antecedents.items index 0) (said m) (ap link_of found))
 
 -- ---- pairs
 
@@ -99,9 +99,9 @@ tells_like true P Q to back t = to t
 tells_like false P Q to back t = λ q. t (back q)
 
 -- one value of a variable is a pair
-pub one_value : (log : List Removal) (p : Pair) (names : List Cid) → IsListOf (NamesOfSome log p.var (p.value ∷ [])) names → IsListOf (NamesOfPair log p) names
-one_value log p names list =
-    listed_like (NamesOfSome log p.var (p.value ∷ [])) (NamesOfPair log p) names
+pub one_value : (log : List Removal) (p : Pair) (cids : List Cid) → IsListOf (NamesOfSome log p.var (p.value ∷ [])) cids → IsListOf (NamesOfPair log p) cids
+one_value log p cids list =
+    listed_like (NamesOfSome log p.var (p.value ∷ [])) (NamesOfPair log p) cids
     (λ c some. subst (λ v. NamesOfPair log (record { var = p.var; value = v }) c) (sym (member_single p.value some.value some.among)) some.names)
     (λ c one. record { value = p.value; among = member_here p.value []; names = one }) list
 

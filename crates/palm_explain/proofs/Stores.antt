@@ -7,7 +7,7 @@ use Rattle.slab.specs.Slab.{Slab, Updates, get}
 use Rattle.palm_base.specs.declared.terms.Pair.{Pair}
 use Rattle.palm_base.specs.declared.terms.Cid.{Cid}
 use Rattle.palm_base.proofs.cited.Members.{member_same}
-use Rattle.palm_events.proofs.cited.Names.{cid_known}
+use Rattle.palm_base.proofs.cited.CidOrder.{cid_known}
 use Rattle.palm_domain.specs.Rows.{Row as StoreRow, Ascends, initial_of, present_of}
 use Rattle.palm_model.specs.Constraint.{Distinct}
 use Rattle.palm_model.specs.Event.{lost_pairs, vars_of}
@@ -16,7 +16,7 @@ use Rattle.palm_explain.specs.declared.node.Node.{Node}
 use Rattle.palm_explain.specs.declared.rows.Row.{Row}
 use Rattle.palm_explain.specs.declared.threads.Threads.{Threads}
 use Rattle.palm_explain.specs.Explanations.{IsLink, IsLinked, LacksExactly}
-use Rattle.palm_explain.specs.Graph.{AreFound, HasClosedUp, HasForgotten, HasLinked, HasNoMark, IsBy, IsCause, IsGraph, IsKept, IsKey, Link, graph_of, has_mark, link_of, log_of, marks_of, pair_at}
+use Rattle.palm_explain.specs.Graph.{AreFound, HasClosedUp, HasForgotten, HasLinked, HasNoMark, IsBy, IsAntecedent, IsGraph, IsStored, IsKey, Link, graph_of, has_mark, link_of, log_of, marks_of, pair_at}
 use Rattle.palm_explain.specs.Lost.{AreTold, HasBack, kept_of, lost_of}
 use Rattle.palm_explain.specs.Rows.{AreFormedRows, key_at}
 use Rattle.palm_explain.specs.Threads.{AreFormedThreads, AreThreaded, thread_of}
@@ -36,8 +36,8 @@ on_ok (Err e) P Q f p = tt
 -- ---- what does not touch the log
 
 -- other rows in which all pairs but a fresh one are found as before
-pub kept_with_rows : (nodes : Slab Node) (keys : List ℕ) (rows later : List Row) (spare : ℕ) (p : Pair) → IsKept nodes keys rows spare → (Contains (log_pairs (log_of (graph_of nodes) keys)) p → ⊥)
-    → AreFormedRows later → ((q : Pair) → (q ≡ p → ⊥) → key_at later q ≡ key_at rows q) → IsKept nodes keys later spare
+pub kept_with_rows : (nodes : Slab Node) (keys : List ℕ) (rows later : List Row) (spare : ℕ) (p : Pair) → IsStored nodes keys rows spare → (Contains (log_pairs (log_of (graph_of nodes) keys)) p → ⊥)
+    → AreFormedRows later → ((q : Pair) → (q ≡ p → ⊥) → key_at later q ≡ key_at rows q) → IsStored nodes keys later spare
 kept_with_rows nodes keys rows later spare p kept fresh formed others = record {
   linked = kept.linked;
   graph = kept.graph;
@@ -50,8 +50,8 @@ kept_with_rows nodes keys rows later spare p kept fresh formed others = record {
 }
 
 -- nodes that say the same, and as much room
-pub kept_like : (nodes later : Slab Node) (keys : List ℕ) (rows : List Row) (spare more : ℕ) → IsKept nodes keys rows spare → graph_of later ≡ graph_of nodes → marks_of later ≡ marks_of nodes → length keys ≤ more
-    → IsKept later keys rows more
+pub kept_like : (nodes later : Slab Node) (keys : List ℕ) (rows : List Row) (spare more : ℕ) → IsStored nodes keys rows spare → graph_of later ≡ graph_of nodes → marks_of later ≡ marks_of nodes → length keys ≤ more
+    → IsStored later keys rows more
 kept_like nodes later keys rows spare more kept graph marks room = record {
   linked = subst (λ g. IsLinked (log_of g keys)) (sym graph) kept.linked;
   graph = subst (λ g. IsGraph g keys) (sym graph) kept.graph;
@@ -62,7 +62,7 @@ kept_like nodes later keys rows spare more kept graph marks room = record {
 }
 
 -- nodes that say the same, without a mark
-pub kept_same : (nodes later : Slab Node) (keys : List ℕ) (rows : List Row) (spare : ℕ) → IsKept nodes keys rows spare → graph_of later ≡ graph_of nodes → HasNoMark later → IsKept later keys rows spare
+pub kept_same : (nodes later : Slab Node) (keys : List ℕ) (rows : List Row) (spare : ℕ) → IsStored nodes keys rows spare → graph_of later ≡ graph_of nodes → HasNoMark later → IsStored later keys rows spare
 kept_same nodes later keys rows spare kept graph unmarked = record {
   linked = subst (λ g. IsLinked (log_of g keys)) (sym graph) kept.linked;
   graph = subst (λ g. IsGraph g keys) (sym graph) kept.graph;
@@ -75,16 +75,16 @@ kept_same nodes later keys rows spare kept graph unmarked = record {
 -- ---- entering
 
 module _ (s t u : Slab Node) (keys : List ℕ) (rows : List Row) (spare key : ℕ) (n : Node) (reasons : List Pair)
-    (kept : IsKept s keys rows spare) (fresh : Contains (log_pairs (log_of (graph_of s) keys)) n.pair → ⊥)
+    (kept : IsStored s keys rows spare) (fresh : Contains (log_pairs (log_of (graph_of s) keys)) n.pair → ⊥)
     (earlier : (p : Pair) → Contains reasons p → Contains (log_pairs (log_of (graph_of s) keys)) p)
-    (are_reasons : map (pair_at (graph_of s)) n.causes.items ≡ reasons) (are_keys : (c : ℕ) → Contains n.causes.items c → IsKey (graph_of s) c) (found : key_at rows n.pair ≡ Some key)
-    (linked : HasLinked (graph_of s) (graph_of t) n.causes.items key) (marks : marks_of t ≡ marks_of s) (free : get t key ≡ None) (updates : Updates t u key (Some n))
+    (are_reasons : map (pair_at (graph_of s)) n.antecedents.items ≡ reasons) (are_keys : (c : ℕ) → Contains n.antecedents.items c → IsKey (graph_of s) c) (found : key_at rows n.pair ≡ Some key)
+    (linked : HasLinked (graph_of s) (graph_of t) n.antecedents.items key) (marks : marks_of t ≡ marks_of s) (free : get t key ≡ None) (updates : Updates t u key (Some n))
     (alone : n.dependents.items ≡ []) (place : n.place ≡ length keys) (unmarked : n.mark ≡ false) (room : length keys + 1 ≤ spare) where
   none_some : {x : Link} → None ≡ Some x → ⊥
   none_some e = cc
 
   abbrev new : Link
-  new = record { pair = n.pair; by = n.by; causes = n.causes.items; dependents = n.dependents.items; place = n.place }
+  new = record { pair = n.pair; by = n.by; antecedents = n.antecedents.items; dependents = n.dependents.items; place = n.place }
 
   vacant_from : (o : Option Link) → graph_of s key ≡ o → graph_of s key ≡ None
   vacant_from None e = e
@@ -101,7 +101,7 @@ module _ (s t u : Slab Node) (keys : List ℕ) (rows : List Row) (spare key : �
   link_entered : IsLink (log_of (graph_of s) keys) (record { pair = n.pair; by = n.by; reasons = reasons })
   link_entered = record { fresh = fresh; reasons = earlier }
 
-  pub kept_entered : IsKept u (keys ++ key ∷ []) rows spare
+  pub kept_entered : IsStored u (keys ++ key ∷ []) rows spare
   kept_entered = record {
     linked = subst IsLinked (sym log_entered) (linked_push (log_of (graph_of s) keys) (record { pair = n.pair; by = n.by; reasons = reasons }) kept.linked link_entered);
     graph = entered_graph (graph_of s) (graph_of u) keys key new kept.graph is_entered place are_keys fresh;
@@ -143,9 +143,9 @@ module _ (s t u : Slab Node) (keys : List ℕ) (rows : List Row) (spare key : �
 
 -- ---- withdrawing
 
-module _ (s m t u : Slab Node) (keys left : List ℕ) (rows : List Row) (spare later : ℕ) (cid : Cid) (kept : IsKept s keys rows spare)
+module _ (s m t u : Slab Node) (keys left : List ℕ) (rows : List Row) (spare later : ℕ) (cid : Cid) (kept : IsStored s keys rows spare)
     (graph : graph_of m ≡ graph_of s) (told : AreTold (graph_of s) keys cid (marks_of m))
-    (forgotten : HasForgotten (graph_of m) (graph_of t) (λ k d. (marks_of m d ≡ true) × (marks_of m k ≡ false) × IsCause (graph_of m) k d)) (marks : marks_of t ≡ marks_of m)
+    (forgotten : HasForgotten (graph_of m) (graph_of t) (λ k d. (marks_of m d ≡ true) × (marks_of m k ≡ false) × IsAntecedent (graph_of m) k d)) (marks : marks_of t ≡ marks_of m)
     (closed : HasClosedUp (graph_of t) (marks_of t) keys (graph_of u) left) (unmarked : HasNoMark u)
     (room : length keys ≤ later + length (lost_of (graph_of m) (marks_of m) keys)) where
   gone : HasForgotten (graph_of s) (graph_of t) (IsGone (graph_of s) (marks_of m))
@@ -157,7 +157,7 @@ module _ (s m t u : Slab Node) (keys left : List ℕ) (rows : List Row) (spare l
   pub log_left : log_of (graph_of u) left ≡ log_of (graph_of s) (kept_of (marks_of m) keys)
   log_left = left_log (graph_of s) (graph_of t) (graph_of u) keys left cid (marks_of m) kept.graph told gone shut
 
-  pub kept_withdrawn : IsKept u left rows later
+  pub kept_withdrawn : IsStored u left rows later
   kept_withdrawn = record {
     linked = subst IsLinked (sym log_left) (kept_linked (graph_of s) cid (marks_of m) keys kept.linked told);
     graph = left_graph (graph_of s) (graph_of t) (graph_of u) keys left cid (marks_of m) kept.graph told gone shut;

@@ -1,4 +1,4 @@
--- The threads of constraints: one is found by its name, changed at its place, and put in where there is none.
+-- The threads of constraints: one is found by its id, changed at its place, and put in where there is none.
 use Rattle.std.proofs.Common.{◌≡◌, ℕ, zero, suc, ◌≤◌, ◌<◌, Bool, true, false, cond, List, [], ◌∷◌, length, drop, set, get_or, slice_get, Contains, Some, ◌⊎◌, inl, inr, refl, sym, ap, ◌∙◌, subst, arith}
 use Rattle.std.specs.List.{insert}
 use Rattle.std.proofs.lemmas.Bool.{cases_Bool}
@@ -7,8 +7,8 @@ use Rattle.std.proofs.lemmas.List.Elements.{All-contains}
 use Rattle.palm_base.specs.declared.terms.Cid.{Cid}
 use Rattle.palm_base.proofs.cited.Members.{member_cases, member_get, member_here, member_nil, member_same, member_there}
 use Rattle.palm_model.specs.Constraint.{Distinct}
-use Rattle.palm_model.specs.Log.{Rises, cid_before, same_cid}
-use Rattle.palm_events.proofs.cited.Names.{cid_known, cid_same, not_before_itself, same_cid_itself}
+use Rattle.palm_base.specs.Order.{Rises, cid_before, same_cid}
+use Rattle.palm_base.proofs.cited.CidOrder.{cid_known, cid_same, not_before_itself, same_cid_itself}
 use Rattle.palm_explain.specs.declared.threads.Thread.{Thread}
 use Rattle.palm_explain.specs.declared.threads.Threads.{Threads}
 use Rattle.palm_explain.specs.Graph.{Graph, IsBy, Link}
@@ -18,32 +18,32 @@ use Rattle.palm_explain.proofs.Graphs.{link_same, some_same}
 not_same : (a b : Cid) → (a ≡ b → ⊥) → same_cid a b ≡ false
 not_same a b n = elim (cases_Bool (same_cid a b)) [ inl t ↦ absurd (n (cid_same a b t)) | inr f ↦ f ]
 
-skip : (n c : Cid) (t : Thread) (names : List Cid) (threads : List Thread) → (n ≡ c → ⊥) → thread_in (n ∷ names) (t ∷ threads) c ≡ thread_in names threads c
-skip n c t names threads differs = ap (λ b. cond b t.keys.items (thread_in names threads c)) (not_same n c differs)
+skip : (n c : Cid) (t : Thread) (cids : List Cid) (threads : List Thread) → (n ≡ c → ⊥) → thread_in (n ∷ cids) (t ∷ threads) c ≡ thread_in cids threads c
+skip n c t cids threads differs = ap (λ b. cond b t.keys.items (thread_in cids threads c)) (not_same n c differs)
 
-here : (c : Cid) (t : Thread) (names : List Cid) (threads : List Thread) → thread_in (c ∷ names) (t ∷ threads) c ≡ t.keys.items
-here c t names threads = ap (λ b. cond b t.keys.items (thread_in names threads c)) (same_cid_itself c)
+here : (c : Cid) (t : Thread) (cids : List Cid) (threads : List Thread) → thread_in (c ∷ cids) (t ∷ threads) c ≡ t.keys.items
+here c t cids threads = ap (λ b. cond b t.keys.items (thread_in cids threads c)) (same_cid_itself c)
 
-after_first : (n : Cid) (names : List Cid) → Rises (n ∷ names) → (c : Cid) → Contains names c → n ≡ c → ⊥
-after_first n names rises c m e = not_before_itself c (subst (λ z. cid_before z c ≡ true) e (All-contains (λ d. cid_before n d ≡ true) names c rises.0 m))
+after_first : (n : Cid) (cids : List Cid) → Rises (n ∷ cids) → (c : Cid) → Contains cids c → n ≡ c → ⊥
+after_first n cids rises c m e = not_before_itself c (subst (λ z. cid_before z c ≡ true) e (All-contains (λ d. cid_before n d ≡ true) cids c rises.0 m))
 
 -- ---- by place
 
-pub found_thread : (names : List Cid) (threads : List Thread) (i : ℕ) (c : Cid) (t : Thread) → Rises names → slice_get names i ≡ Some c → slice_get threads i ≡ Some t → thread_in names threads c ≡ t.keys.items
+pub found_thread : (cids : List Cid) (threads : List Thread) (i : ℕ) (c : Cid) (t : Thread) → Rises cids → slice_get cids i ≡ Some c → slice_get threads i ≡ Some t → thread_in cids threads c ≡ t.keys.items
 found_thread [] threads i c t rises at is = cc
-found_thread (n ∷ names) [] i c t rises at is = cc
-found_thread (n ∷ names) (s ∷ threads) zero c t rises at is =
+found_thread (n ∷ cids) [] i c t rises at is = cc
+found_thread (n ∷ cids) (s ∷ threads) zero c t rises at is =
     let e : n ≡ c = some_same n c at in
     let f : s ≡ t = some_same s t is in
-    subst (λ z. thread_in (z ∷ names) (s ∷ threads) c ≡ t.keys.items) (sym e) (here c s names threads ∙ ap (λ (z : Thread). z.keys.items) f)
-found_thread (n ∷ names) (s ∷ threads) (suc i) c t rises at is =
-    skip n c s names threads (after_first n names rises c (member_get names i c at)) ∙ found_thread names threads i c t rises.1 at is
+    subst (λ z. thread_in (z ∷ cids) (s ∷ threads) c ≡ t.keys.items) (sym e) (here c s cids threads ∙ ap (λ (z : Thread). z.keys.items) f)
+found_thread (n ∷ cids) (s ∷ threads) (suc i) c t rises at is =
+    skip n c s cids threads (after_first n cids rises c (member_get cids i c at)) ∙ found_thread cids threads i c t rises.1 at is
 
-pub none_there : (names : List Cid) (threads : List Thread) (c : Cid) → (Contains names c → ⊥) → thread_in names threads c ≡ []
+pub none_there : (cids : List Cid) (threads : List Thread) (c : Cid) → (Contains cids c → ⊥) → thread_in cids threads c ≡ []
 none_there [] threads c n = refl
-none_there (m ∷ names) [] c n = refl
-none_there (m ∷ names) (t ∷ threads) c n =
-    skip m c t names threads (λ e. n (member_same (m ∷ names) m c e (member_here m names))) ∙ none_there names threads c (λ k. n (member_there m names c k))
+none_there (m ∷ cids) [] c n = refl
+none_there (m ∷ cids) (t ∷ threads) c n =
+    skip m c t cids threads (λ e. n (member_same (m ∷ cids) m c e (member_here m cids))) ∙ none_there cids threads c (λ k. n (member_there m cids c k))
 
 set_at : (threads : List Thread) (i : ℕ) (t : Thread) → i < length threads → slice_get (set threads i t) i ≡ Some t
 set_at [] i t lt = absurd (omega (arith, lt))
@@ -51,36 +51,36 @@ set_at (s ∷ threads) zero t lt = refl
 set_at (s ∷ threads) (suc i) t lt = set_at threads i t (omega (arith, lt))
 
 -- another thread at the place
-pub set_thread : (names : List Cid) (threads : List Thread) (i : ℕ) (c : Cid) (t : Thread) → Rises names → slice_get names i ≡ Some c → i < length threads → thread_in names (set threads i t) c ≡ t.keys.items
-set_thread names threads i c t rises at lt = found_thread names (set threads i t) i c t rises at (set_at threads i t lt)
+pub set_thread : (cids : List Cid) (threads : List Thread) (i : ℕ) (c : Cid) (t : Thread) → Rises cids → slice_get cids i ≡ Some c → i < length threads → thread_in cids (set threads i t) c ≡ t.keys.items
+set_thread cids threads i c t rises at lt = found_thread cids (set threads i t) i c t rises at (set_at threads i t lt)
 
-pub set_others : (names : List Cid) (threads : List Thread) (i : ℕ) (c : Cid) (t : Thread) (d : Cid) → slice_get names i ≡ Some c → (c ≡ d → ⊥) → thread_in names (set threads i t) d ≡ thread_in names threads d
+pub set_others : (cids : List Cid) (threads : List Thread) (i : ℕ) (c : Cid) (t : Thread) (d : Cid) → slice_get cids i ≡ Some c → (c ≡ d → ⊥) → thread_in cids (set threads i t) d ≡ thread_in cids threads d
 set_others [] threads i c t d at n = refl
-set_others (m ∷ names) [] i c t d at n = refl
-set_others (m ∷ names) (s ∷ threads) zero c t d at n =
+set_others (m ∷ cids) [] i c t d at n = refl
+set_others (m ∷ cids) (s ∷ threads) zero c t d at n =
     let differs : m ≡ d → ⊥ = λ e. n (sym (some_same m c at) ∙ e) in
-    skip m d t names threads differs ∙ sym (skip m d s names threads differs)
-set_others (m ∷ names) (s ∷ threads) (suc i) c t d at n = ap (λ r. cond (same_cid m d) s.keys.items r) (set_others names threads i c t d at n)
+    skip m d t cids threads differs ∙ sym (skip m d s cids threads differs)
+set_others (m ∷ cids) (s ∷ threads) (suc i) c t d at n = ap (λ r. cond (same_cid m d) s.keys.items r) (set_others cids threads i c t d at n)
 
 -- a thread with the same keys
-pub set_like : (names : List Cid) (threads : List Thread) (i : ℕ) (s t : Thread) (d : Cid) → slice_get threads i ≡ Some s → t.keys.items ≡ s.keys.items → thread_in names (set threads i t) d ≡ thread_in names threads d
+pub set_like : (cids : List Cid) (threads : List Thread) (i : ℕ) (s t : Thread) (d : Cid) → slice_get threads i ≡ Some s → t.keys.items ≡ s.keys.items → thread_in cids (set threads i t) d ≡ thread_in cids threads d
 set_like [] threads i s t d at same = refl
-set_like (m ∷ names) [] i s t d at same = refl
-set_like (m ∷ names) (q ∷ threads) zero s t d at same =
-    ap (λ ks. cond (same_cid m d) ks (thread_in names threads d)) (same ∙ ap (λ (z : Thread). z.keys.items) (sym (some_same q s at)))
-set_like (m ∷ names) (q ∷ threads) (suc i) s t d at same = ap (λ r. cond (same_cid m d) q.keys.items r) (set_like names threads i s t d at same)
+set_like (m ∷ cids) [] i s t d at same = refl
+set_like (m ∷ cids) (q ∷ threads) zero s t d at same =
+    ap (λ ks. cond (same_cid m d) ks (thread_in cids threads d)) (same ∙ ap (λ (z : Thread). z.keys.items) (sym (some_same q s at)))
+set_like (m ∷ cids) (q ∷ threads) (suc i) s t d at same = ap (λ r. cond (same_cid m d) q.keys.items r) (set_like cids threads i s t d at same)
 
--- one more name with an empty thread
-pub insert_same : (names : List Cid) (threads : List Thread) (i : ℕ) (c : Cid) (t : Thread) (d : Cid) → i ≤ length names → length threads ≡ length names → (Contains names c → ⊥) → t.keys.items ≡ []
-    → thread_in (insert names i c) (insert threads i t) d ≡ thread_in names threads d
-insert_same names threads zero c t d le long absent empty = elim (cid_known c d) [
-  | inl e ↦ subst (λ z. thread_in (c ∷ names) (t ∷ threads) z ≡ thread_in names threads z) e (here c t names threads ∙ empty ∙ sym (none_there names threads c absent))
-  | inr n ↦ skip c d t names threads n
+-- one more id with an empty thread
+pub insert_same : (cids : List Cid) (threads : List Thread) (i : ℕ) (c : Cid) (t : Thread) (d : Cid) → i ≤ length cids → length threads ≡ length cids → (Contains cids c → ⊥) → t.keys.items ≡ []
+    → thread_in (insert cids i c) (insert threads i t) d ≡ thread_in cids threads d
+insert_same cids threads zero c t d le long absent empty = elim (cid_known c d) [
+  | inl e ↦ subst (λ z. thread_in (c ∷ cids) (t ∷ threads) z ≡ thread_in cids threads z) e (here c t cids threads ∙ empty ∙ sym (none_there cids threads c absent))
+  | inr n ↦ skip c d t cids threads n
 ]
 insert_same [] threads (suc i) c t d le long absent empty = absurd (omega (arith, le))
-insert_same (m ∷ names) [] (suc i) c t d le long absent empty = absurd (omega (arith, long))
-insert_same (m ∷ names) (s ∷ threads) (suc i) c t d le long absent empty =
-    ap (λ r. cond (same_cid m d) s.keys.items r) (insert_same names threads i c t d (omega (arith, le)) (omega (arith, long)) (λ k. absent (member_there m names c k)) empty)
+insert_same (m ∷ cids) [] (suc i) c t d le long absent empty = absurd (omega (arith, long))
+insert_same (m ∷ cids) (s ∷ threads) (suc i) c t d le long absent empty =
+    ap (λ r. cond (same_cid m d) s.keys.items r) (insert_same cids threads i c t d (omega (arith, le)) (omega (arith, long)) (λ k. absent (member_there m cids c k)) empty)
 
 -- ---- what the threads hold
 
@@ -186,24 +186,24 @@ taken_sound t g cid own threaded is k m = (threaded.sound cid k (subst (λ l. Co
 pub taken_whole : (t : Threads) (g : Graph) (cid : Cid) (own : List ℕ) → AreThreaded t g (λ k. ⊥) → own ≡ thread_of t cid → (k : ℕ) → IsBy g cid k → Contains own k
 taken_whole t g cid own threaded is k by = subst (λ l. Contains l k) (sym is) (threaded.whole cid k by (λ never. never))
 
--- ---- names and places
+-- ---- ids and places
 
-pub name_at : (names : List Cid) (place : ℕ) (c d : Cid) → place < length names → d ≡ get_or names place d → same_cid d c ≡ true → slice_get names place ≡ Some c
-name_at names place c d lt at same = slice_get-get_or names place d lt ∙ ap Some (sym at ∙ cid_same d c same)
+pub cid_at : (cids : List Cid) (place : ℕ) (c d : Cid) → place < length cids → d ≡ get_or cids place d → same_cid d c ≡ true → slice_get cids place ≡ Some c
+cid_at cids place c d lt at same = slice_get-get_or cids place d lt ∙ ap Some (sym at ∙ cid_same d c same)
 
-pub insert_at : (names : List Cid) (i : ℕ) (c : Cid) → i ≤ length names → slice_get (insert names i c) i ≡ Some c
-insert_at names zero c le = refl
+pub insert_at : (cids : List Cid) (i : ℕ) (c : Cid) → i ≤ length cids → slice_get (insert cids i c) i ≡ Some c
+insert_at cids zero c le = refl
 insert_at [] (suc i) c le = absurd (omega (arith, le))
-insert_at (m ∷ names) (suc i) c le = insert_at names i c (omega (arith, le))
+insert_at (m ∷ cids) (suc i) c le = insert_at cids i c (omega (arith, le))
 
 pub set_long : (threads : List Thread) (i : ℕ) (t : Thread) → length (set threads i t) ≡ length threads
 set_long [] i t = refl
 set_long (s ∷ threads) zero t = refl
 set_long (s ∷ threads) (suc i) t = ap suc (set_long threads i t)
 
--- the thread at the place of a name
-pub thread_there : (names : List Cid) (threads : List Thread) (i : ℕ) (c : Cid) → length threads ≡ length names → slice_get names i ≡ Some c → i < length threads
-thread_there names threads i c long at = let lt = slice_get_within names i c at in omega (arith, lt, long)
+-- the thread at the place of an id
+pub thread_there : (cids : List Cid) (threads : List Thread) (i : ℕ) (c : Cid) → length threads ≡ length cids → slice_get cids i ≡ Some c → i < length threads
+thread_there cids threads i c long at = let lt = slice_get_within cids i c at in omega (arith, lt, long)
 
 pub thread_at : (threads : List Thread) (i : ℕ) (t : Thread) → i < length threads → t ≡ get_or threads i t → slice_get threads i ≡ Some t
 thread_at threads i t lt at = slice_get-get_or threads i t lt ∙ ap Some (sym at)

@@ -6,7 +6,8 @@ use Rattle.palm_base.specs.Tells.{Tells}
 use Rattle.palm_base.specs.declared.terms.Cid.{Cid}
 use Rattle.palm_base.specs.declared.terms.Pair.{Pair}
 use Rattle.palm_base.proofs.cited.Members.{member_here, member_same, member_single}
-use Rattle.palm_model.specs.Log.{IsListOf, Rises, log_pairs}
+use Rattle.palm_base.specs.Order.{Rises}
+use Rattle.palm_model.specs.Log.{IsListOf, log_pairs}
 use Rattle.palm_explain.specs.Explanations.{NamesOfSome}
 use Rattle.palm_explain.specs.Graph.{AreBefore, Graph, HasMarked, IsBy, IsGraph, IsUnderWay, IsValueKey, Link, NamesAt, is_due, log_of}
 use Rattle.palm_explain.specs.Merging.{IsMerged}
@@ -26,8 +27,8 @@ module _ (g : Graph) (keys : List ℕ) (old new : ℕ → Bool) (key : ℕ) (non
   pub one_way : (c : Cid) (Done : Type 0) → (Done → ⊥) → IsUnderWay g keys new c (NamesAt g keys c key) Done
   one_way c Done never = record {
     done = λ d. absurd (never d);
-    ahead = λ k m names. subst (λ i. NamesAt g keys c i) (only_one k m) names;
-    whole = λ names. inr (key, is, names);
+    ahead = λ k m cids. subst (λ i. NamesAt g keys c i) (only_one k m) cids;
+    whole = λ cids. inr (key, is, cids);
   }
 
   pub one_before : (l : Link) (place : ℕ) → g key ≡ Some l → l.place < place → AreBefore g new place
@@ -46,9 +47,9 @@ module _ (g : Graph) (keys : List ℕ) (graph : IsGraph g keys) (x : ℕ) (value
       → IsUnderWay g keys due c (NamesOfSome (log_of g keys) x values c) Done
   values_way removed c Done never = record {
     done = λ d. absurd (never d);
-    ahead = λ k m names.
+    ahead = λ k m cids.
         let p = value_key k m in
-        record { value = p.0; among = p.1; names = names_pair_at g keys k (record { var = x; value = p.0 }) c graph p.2 p.3 names };
+        record { value = p.0; among = p.1; names = names_pair_at g keys k (record { var = x; value = p.0 }) c graph p.2 p.3 cids };
     whole = λ some.
         let q : Pair = record { var = x; value = some.value } in
         let k = pair_key g keys q graph.places (removed some.value some.among) in
@@ -68,16 +69,16 @@ none_due (suc n) (suc k) = none_due n k
 
 -- ---- at the end
 
-pub listed_names : (g : Graph) (keys : List ℕ) (x : ℕ) (values : List ℤ) (due : ℕ → Bool) (names : List Cid) → Rises names → AreBefore g due 0
-    → ((c : Cid) → IsUnderWay g keys due c (NamesOfSome (log_of g keys) x values c) (Contains names c)) → IsListOf (NamesOfSome (log_of g keys) x values) names
-listed_names g keys x values due names rises before way = record {
+pub listed_cids : (g : Graph) (keys : List ℕ) (x : ℕ) (values : List ℤ) (due : ℕ → Bool) (cids : List Cid) → Rises cids → AreBefore g due 0
+    → ((c : Cid) → IsUnderWay g keys due c (NamesOfSome (log_of g keys) x values c) (Contains cids c)) → IsListOf (NamesOfSome (log_of g keys) x values) cids
+listed_cids g keys x values due cids rises before way = record {
   rising = rises;
   sound = λ c m. (way c).done m;
-  whole = λ c some. way_ended g keys due c (NamesOfSome (log_of g keys) x values c) (Contains names c) (way c) before some;
+  whole = λ c some. way_ended g keys due c (NamesOfSome (log_of g keys) x values c) (Contains cids c) (way c) before some;
 }
 
-pub told_names : (g : Graph) (keys : List ℕ) (due : ℕ → Bool) (c : Cid) (key : ℕ) (rests : Bool) → AreBefore g due 0 → IsUnderWay g keys due c (NamesAt g keys c key) (rests ≡ true) → Tells rests (NamesAt g keys c key)
-told_names g keys due c key rests before way = tells_from rests (NamesAt g keys c key) way.done (way_ended g keys due c (NamesAt g keys c key) (rests ≡ true) way before)
+pub told_cids : (g : Graph) (keys : List ℕ) (due : ℕ → Bool) (c : Cid) (key : ℕ) (rests : Bool) → AreBefore g due 0 → IsUnderWay g keys due c (NamesAt g keys c key) (rests ≡ true) → Tells rests (NamesAt g keys c key)
+told_cids g keys due c key rests before way = tells_from rests (NamesAt g keys c key) way.done (way_ended g keys due c (NamesAt g keys c key) (rests ≡ true) way before)
 
 -- no removal is still to be visited, so no mark stands
 pub none_before : (g : Graph) (due : ℕ → Bool) → AreBefore g due 0 → (k : ℕ) → due k ≡ false
@@ -88,8 +89,8 @@ none_before g due before k = elim (cases_Bool (due k)) [
 
 -- ---- on the way
 
-pub told_merged : (g : Graph) (k : ℕ) (l : Link) (at : g k ≡ Some l) (c : Cid) (names more : List Cid) → IsMerged names (l.by ∷ []) more → Tell g c k (Contains names c) (Contains more c)
-told_merged g k l at c names more merged = (
+pub told_merged : (g : Graph) (k : ℕ) (l : Link) (at : g k ≡ Some l) (c : Cid) (cids more : List Cid) → IsMerged cids (l.by ∷ []) more → Tell g c k (Contains cids c) (Contains more c)
+told_merged g k l at c cids more merged = (
   merged.first c,
   λ b. merged.second c (member_same (l.by ∷ []) l.by c (sym (ap (λ (z : Link). z.by) (link_same g k b.0 l b.1 at)) ∙ b.2) (member_here l.by [])),
   λ m. elim (merged.sound c m) [

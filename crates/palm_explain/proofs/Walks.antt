@@ -3,8 +3,8 @@ use Rattle.std.proofs.Common.{◌≡◌, ◌≢◌, ℕ, ◌+◌, ◌<◌, Bool,
 use Rattle.std.proofs.lemmas.Bool.{cases_Bool, cases_eq, cases_lt, false≢true}
 use Rattle.palm_base.specs.declared.terms.Cid.{Cid}
 use Rattle.palm_explain.specs.Explanations.{IsLinked}
-use Rattle.palm_explain.specs.Graph.{AreBefore, Graph, HasPassed, IsBy, IsCause, IsGraph, IsUnderWay, Link, NamesAt, log_of}
-use Rattle.palm_explain.proofs.Graphs.{cause_key, cause_first, named_by, names_own, names_cause, some_same}
+use Rattle.palm_explain.specs.Graph.{AreBefore, Graph, HasPassed, IsBy, IsAntecedent, IsGraph, IsUnderWay, Link, NamesAt, log_of}
+use Rattle.palm_explain.proofs.Graphs.{antecedent_key, antecedent_first, named_by, names_own, names_antecedent, some_same}
 
 module _ (g : Graph) (keys : List ℕ) (graph : IsGraph g keys) (k : ℕ) (l : Link) (at : g k ≡ Some l) where
   -- the one at a place is the one at the place
@@ -18,9 +18,9 @@ module _ (g : Graph) (keys : List ℕ) (graph : IsGraph g keys) (k : ℕ) (l : L
   pub passed_before : (due new : ℕ → Bool) → IsLinked (log_of g keys) → HasPassed g due new k → AreBefore g due (l.place + 1) → AreBefore g new l.place
   passed_before due new linked passed before j is = elim (passed.only j is) [
     | inl old ↦ let m = before j old.1 in (m.0, m.1, lower j m.0 m.1 m.2 old.0)
-    | inr cause ↦
-        let key = cause_key g keys j k graph cause in
-        (key.0, key.1, cause_first g keys j k l key.0 linked graph at key.1 (subst (λ (z : Link). Contains z.causes j) (some_same cause.0 l (sym cause.1 ∙ at)) cause.2))
+    | inr antecedent ↦
+        let key = antecedent_key g keys j k graph antecedent in
+        (key.0, key.1, antecedent_first g keys j k l key.0 linked graph at key.1 (subst (λ (z : Link). Contains z.antecedents j) (some_same antecedent.0 l (sym antecedent.1 ∙ at)) antecedent.2))
   ]
 
   -- it was not to be visited
@@ -36,9 +36,9 @@ module _ (g : Graph) (keys : List ℕ) (graph : IsGraph g keys) (k : ℕ) (l : L
       | inl d ↦ way.done d
       | inr e ↦ way.ahead k is (names_own g keys k l c at e)
     ];
-    ahead = λ j d names. elim (passed.only j d) [
-      | inl old ↦ way.ahead j old.1 names
-      | inr cause ↦ way.ahead k is (names_cause g keys k j cause.0 c graph cause.1 cause.2 names)
+    ahead = λ j d cids. elim (passed.only j d) [
+      | inl old ↦ way.ahead j old.1 cids
+      | inr antecedent ↦ way.ahead k is (names_antecedent g keys k j antecedent.0 c graph antecedent.1 antecedent.2 cids)
     ];
     whole = λ s. elim (way.whole s) [
       | inl d ↦ inl (to (inl d))
@@ -52,15 +52,15 @@ module _ (g : Graph) (keys : List ℕ) (graph : IsGraph g keys) (k : ℕ) (l : L
     ];
   }
 
--- what is done after a removal that is visited: what was, or that its constraint has the name
+-- what is done after a removal that is visited: what was, or that its constraint has the id
 abbrev pub Tell : Graph → Cid → ℕ → Type 0 → Type 0 → Type 0
 Tell g c k Done Then = (Done → Then) × (IsBy g c k → Then) × (Then → Done ⊎ IsBy g c k)
 
--- no removal is its own cause
-pub cause_differs : (g : Graph) (keys : List ℕ) (c k : ℕ) → IsLinked (log_of g keys) → IsGraph g keys → IsCause g c k → c ≢ k
-cause_differs g keys c k linked graph cause e =
-    let at : g c ≡ Some cause.0 = ap g e ∙ cause.1 in
-    let lt = cause_first g keys c k cause.0 cause.0 linked graph cause.1 at cause.2 in
+-- no removal is its own antecedent
+pub antecedent_differs : (g : Graph) (keys : List ℕ) (c k : ℕ) → IsLinked (log_of g keys) → IsGraph g keys → IsAntecedent g c k → c ≢ k
+antecedent_differs g keys c k linked graph antecedent e =
+    let at : g c ≡ Some antecedent.0 = ap g e ∙ antecedent.1 in
+    let lt = antecedent_first g keys c k antecedent.0 antecedent.0 linked graph antecedent.1 at antecedent.2 in
     absurd (omega (arith, lt))
 
 -- past one more place, going down

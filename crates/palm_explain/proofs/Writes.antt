@@ -30,13 +30,13 @@ pub key_there : (s : Slab Node) (k : ℕ) → IsKey (graph_of s) k → ContainsK
 key_there s k key = let n = key_node s k key in subst IsSome (sym n.1) refl
 
 pub node_key : (s : Slab Node) (k : ℕ) (n : Node) → get s k ≡ Some n → IsKey (graph_of s) k
-node_key s k n e = (record { pair = n.pair; by = n.by; causes = n.causes.items; dependents = n.dependents.items; place = n.place }, ap link_of e)
+node_key s k n e = (record { pair = n.pair; by = n.by; antecedents = n.antecedents.items; dependents = n.dependents.items; place = n.place }, ap link_of e)
 
 pub node_there : (s : Slab Node) (k : ℕ) (n : Node) → get s k ≡ Some n → ContainsKey s k
 node_there s k n e = subst IsSome (sym e) refl
 
 -- the node under the key says what the link says
-pub node_link : (s : Slab Node) (k : ℕ) (n : Node) (l : Link) → get s k ≡ Some n → graph_of s k ≡ Some l → record { pair = n.pair; by = n.by; causes = n.causes.items; dependents = n.dependents.items; place = n.place } ≡ l
+pub node_link : (s : Slab Node) (k : ℕ) (n : Node) (l : Link) → get s k ≡ Some n → graph_of s k ≡ Some l → record { pair = n.pair; by = n.by; antecedents = n.antecedents.items; dependents = n.dependents.items; place = n.place } ≡ l
 node_link s k n l e at = some_same _ l (sym (ap link_of e) ∙ at)
 
 pub node_mark : (s : Slab Node) (k : ℕ) (n : Node) → get s k ≡ Some n → marks_of s k ≡ n.mark
@@ -85,19 +85,19 @@ module _ (s : Slab Node) (k : ℕ) (n v : Node) (at : get s k ≡ Some n) where
 
 -- one node has other dependents, the rest is the same
 module _ (s t : Slab Node) (k : ℕ) (n v : Node) (at : get s k ≡ Some n) (there : get t k ≡ Some v) (others : (j : ℕ) → j ≢ k → get t j ≡ get s j)
-    (pair : v.pair ≡ n.pair) (by : v.by ≡ n.by) (causes : v.causes.items ≡ n.causes.items) (place : v.place ≡ n.place) where
+    (pair : v.pair ≡ n.pair) (by : v.by ≡ n.by) (antecedents : v.antecedents.items ≡ n.antecedents.items) (place : v.place ≡ n.place) where
   same_node : (l : Link) → graph_of s k ≡ Some l → (m : Link) × (graph_of t k ≡ Some m) × IsSameNode l m × (m.dependents ≡ v.dependents.items) × (l.dependents ≡ n.dependents.items)
   same_node l is =
       let e = node_link s k n l at is in (
-        record { pair = v.pair; by = v.by; causes = v.causes.items; dependents = v.dependents.items; place = v.place },
+        record { pair = v.pair; by = v.by; antecedents = v.antecedents.items; dependents = v.dependents.items; place = v.place },
         ap link_of there,
-        subst (λ (z : Link). IsSameNode z (record { pair = v.pair; by = v.by; causes = v.causes.items; dependents = v.dependents.items; place = v.place })) e (record { pair = pair; by = by; causes = causes; place = place }),
+        subst (λ (z : Link). IsSameNode z (record { pair = v.pair; by = v.by; antecedents = v.antecedents.items; dependents = v.dependents.items; place = v.place })) e (record { pair = pair; by = by; antecedents = antecedents; place = place }),
         refl,
         ap (λ (z : Link). z.dependents) (sym e),
       )
 
   itself : (l : Link) → IsSameNode l l
-  itself l = record { pair = refl; by = refl; causes = refl; place = refl }
+  itself l = record { pair = refl; by = refl; antecedents = refl; place = refl }
 
   vacant : (j : ℕ) → graph_of s j ≡ None → graph_of t j ≡ None
   vacant j e = elim (cases_eq j k) [
@@ -174,18 +174,18 @@ there_more ds key d i last m = elim m [ inl o ↦ o | inr e ↦ member_same ds k
 
 -- two nodes under one key of the same graph
 pub same_said : (s t : Slab Node) (k : ℕ) (n m : Node) → graph_of t ≡ graph_of s → get s k ≡ Some n → get t k ≡ Some m
-    → (m.causes.items ≡ n.causes.items) × (m.dependents.items ≡ n.dependents.items) × (m.place ≡ n.place) × (m.by ≡ n.by) × (m.pair ≡ n.pair)
+    → (m.antecedents.items ≡ n.antecedents.items) × (m.dependents.items ≡ n.dependents.items) × (m.place ≡ n.place) × (m.by ≡ n.by) × (m.pair ≡ n.pair)
 same_said s t k n m graph at there =
     let e : link_of (Some m) ≡ link_of (Some n) = sym (ap link_of there) ∙ ap (λ g. g k) graph ∙ ap link_of at in
     let f = some_same (said m) (said n) e in
-    (ap (λ (z : Link). z.causes) f, ap (λ (z : Link). z.dependents) f, ap (λ (z : Link). z.place) f, ap (λ (z : Link). z.by) f, ap (λ (z : Link). z.pair) f)
+    (ap (λ (z : Link). z.antecedents) f, ap (λ (z : Link). z.dependents) f, ap (λ (z : Link). z.place) f, ap (λ (z : Link). z.by) f, ap (λ (z : Link). z.pair) f)
 
--- the causes of a node whose dependents were forgotten
-pub forgotten_causes : (s t : Slab Node) (Gone : ℕ → ℕ → Type 0) (k : ℕ) (n m : Node) → HasForgotten (graph_of s) (graph_of t) Gone → get s k ≡ Some n → get t k ≡ Some m → m.causes.items ≡ n.causes.items
-forgotten_causes s t Gone k n m forgotten at there =
+-- the antecedents of a node whose dependents were forgotten
+pub forgotten_antecedents : (s t : Slab Node) (Gone : ℕ → ℕ → Type 0) (k : ℕ) (n m : Node) → HasForgotten (graph_of s) (graph_of t) Gone → get s k ≡ Some n → get t k ≡ Some m → m.antecedents.items ≡ n.antecedents.items
+forgotten_antecedents s t Gone k n m forgotten at there =
     let r = forgotten.some k (said n) (ap link_of at) in
     let f = link_same (graph_of t) k r.0 (said m) r.1 (ap link_of there) in
-    ap (λ (z : Link). z.causes) (sym f) ∙ r.2.causes
+    ap (λ (z : Link). z.antecedents) (sym f) ∙ r.2.antecedents
 
 -- one node is gone
 pub taken_out : (s t : Slab Node) (k : ℕ) → Updates s t k None → IsTakenOut (graph_of s) (graph_of t) (marks_of s) (marks_of t) k

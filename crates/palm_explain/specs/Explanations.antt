@@ -13,7 +13,7 @@ pub record Explanations : Type 0 where
 
 -- ---- logs
 
--- the names of the constraints that removed, and the reasons of the removal at a place
+-- the ids of the constraints that removed, and the reasons of the removal at a place
 abbrev pub log_bys : List Removal → List Cid
 log_bys log = map (λ r. r.by) log
 
@@ -34,7 +34,7 @@ AreLinked earlier (r ∷ rest) = IsLink earlier r × AreLinked (earlier ++ r ∷
 abbrev pub IsLinked : List Removal → Type 0
 IsLinked log = AreLinked [] log
 
--- the names in the explanations of these values of the variable
+-- the ids in the explanations of these values of the variable
 pub record NamesOfSome (log : List Removal) (x : ℕ) (values : List ℤ) (cid : Cid) : Type 0 where
   pub value : ℤ
   pub among : Contains values value

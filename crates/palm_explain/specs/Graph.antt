@@ -15,12 +15,12 @@ use Rattle.palm_explain.specs.Rows.{AreFormedRows, key_at}
 pub record Link : Type 0 where
   pub pair : Pair
   pub by : Cid
-  pub causes : List ℕ
+  pub antecedents : List ℕ
   pub dependents : List ℕ
   pub place : ℕ
 
 abbrev pub said : Node → Link
-said n = record { pair = n.pair; by = n.by; causes = n.causes.items; dependents = n.dependents.items; place = n.place }
+said n = record { pair = n.pair; by = n.by; antecedents = n.antecedents.items; dependents = n.dependents.items; place = n.place }
 
 -- the link under a key, if there is one
 abbrev pub link_of : Option Node → Option Link
@@ -55,7 +55,7 @@ pair_at g k = pair_or (g k)
 -- the removal under a key
 abbrev pub removal_or : Graph → Option Link → Removal
 removal_or g None = record { pair = pair_or None; by = User 0; reasons = [] }
-removal_or g (Some l) = record { pair = l.pair; by = l.by; reasons = map (pair_at g) l.causes }
+removal_or g (Some l) = record { pair = l.pair; by = l.by; reasons = map (pair_at g) l.antecedents }
 
 abbrev pub removal_at : Graph → ℕ → Removal
 removal_at g k = removal_or g (g k)
@@ -74,9 +74,9 @@ NamesAt g keys c k = Names (log_of g keys) c (removal_at g k)
 abbrev pub IsKey : Graph → ℕ → Type 0
 IsKey g k = (l : Link) × (g k ≡ Some l)
 
--- the removal under c is a cause of the one under k
-abbrev pub IsCause : Graph → ℕ → ℕ → Type 0
-IsCause g c k = (l : Link) × (g k ≡ Some l) × Contains l.causes c
+-- the removal under c is an antecedent of the one under k
+abbrev pub IsAntecedent : Graph → ℕ → ℕ → Type 0
+IsAntecedent g c k = (l : Link) × (g k ≡ Some l) × Contains l.antecedents c
 
 -- the removal under k is a dependent of the one under c
 abbrev pub IsDependent : Graph → ℕ → ℕ → Type 0
@@ -106,8 +106,8 @@ pub record IsPlaced (g : Graph) (keys : List ℕ) : Type 0 where
 -- besides, the links in both directions agree, none stands twice, and no pair stands under two keys
 pub record IsGraph (g : Graph) (keys : List ℕ) : Type 0 where
   pub places : IsPlaced g keys
-  pub depends : (k c : ℕ) → IsCause g c k → IsDependent g k c
-  pub caused : (k c : ℕ) → IsDependent g k c → IsCause g c k
+  pub depends : (k c : ℕ) → IsAntecedent g c k → IsDependent g k c
+  pub caused : (k c : ℕ) → IsDependent g k c → IsAntecedent g c k
   pub once : AreOnce g
   pub apart : (j k : ℕ) → IsKey g j → IsKey g k → pair_at g j ≡ pair_at g k → j ≡ k
 
@@ -119,18 +119,18 @@ pub record HasMarked (old new : ℕ → Bool) (More : ℕ → Type 0) : Type 0 w
   pub more : (k : ℕ) → More k → new k ≡ true
   pub only : (k : ℕ) → new k ≡ true → (old k ≡ true) ⊎ More k
 
--- the mark of the removal under the key has passed to its causes
+-- the mark of the removal under the key has passed to its antecedents
 pub record HasPassed (g : Graph) (old new : ℕ → Bool) (key : ℕ) : Type 0 where
   pub cleared : new key ≡ false
   pub stay : (k : ℕ) → k ≢ key → old k ≡ true → new k ≡ true
-  pub more : (k : ℕ) → IsCause g k key → new k ≡ true
-  pub only : (k : ℕ) → new k ≡ true → ((k ≢ key) × (old k ≡ true)) ⊎ IsCause g k key
+  pub more : (k : ℕ) → IsAntecedent g k key → new k ≡ true
+  pub only : (k : ℕ) → new k ≡ true → ((k ≢ key) × (old k ≡ true)) ⊎ IsAntecedent g k key
 
 -- everything but the dependents is the same
 pub record IsSameNode (l m : Link) : Type 0 where
   pub pair : m.pair ≡ l.pair
   pub by : m.by ≡ l.by
-  pub causes : m.causes ≡ l.causes
+  pub antecedents : m.antecedents ≡ l.antecedents
   pub place : m.place ≡ l.place
 
 -- no key stands twice, and this one at the end or not at all
@@ -138,11 +138,11 @@ abbrev pub IsTailed : ℕ → List ℕ → Type 0
 IsTailed key ds = Distinct ds × (Contains ds key → slice_get ds (length ds - 1) ≡ Some key)
 
 -- the removal under the key is now a dependent of each of these, and nothing else has changed
-pub record HasLinked (g h : Graph) (causes : List ℕ) (key : ℕ) : Type 0 where
+pub record HasLinked (g h : Graph) (antecedents : List ℕ) (key : ℕ) : Type 0 where
   pub none : (k : ℕ) → g k ≡ None → h k ≡ None
   pub some : (k : ℕ) (l : Link) → g k ≡ Some l → (m : Link) × (h k ≡ Some m) × IsSameNode l m
-      × ((d : ℕ) → Contains m.dependents d → Contains l.dependents d ⊎ ((key ≡ d) × Contains causes k))
-      × ((d : ℕ) → Contains l.dependents d ⊎ ((key ≡ d) × Contains causes k) → Contains m.dependents d)
+      × ((d : ℕ) → Contains m.dependents d → Contains l.dependents d ⊎ ((key ≡ d) × Contains antecedents k))
+      × ((d : ℕ) → Contains l.dependents d ⊎ ((key ≡ d) × Contains antecedents k) → Contains m.dependents d)
   pub once : (k : ℕ) (l m : Link) → g k ≡ Some l → h k ≡ Some m → IsTailed key l.dependents → IsTailed key m.dependents
 
 -- the removals under k have lost exactly the dependents d that are gone for them, and nothing else has changed
@@ -183,7 +183,7 @@ abbrev pub AreFound : List Row → Graph → Type 0
 AreFound rows g = (k : ℕ) (l : Link) → g k ≡ Some l → key_at rows l.pair ≡ Some k
 
 -- what holds between calls of the nodes, the keys in the order of the log, the rows, and the room for variables
-pub record IsKept (nodes : Slab Node) (keys : List ℕ) (rows : List Row) (spare : ℕ) : Type 0 where
+pub record IsStored (nodes : Slab Node) (keys : List ℕ) (rows : List Row) (spare : ℕ) : Type 0 where
   pub linked : IsLinked (log_of (graph_of nodes) keys)
   pub graph : IsGraph (graph_of nodes) keys
   pub unmarked : HasNoMark nodes
@@ -208,7 +208,7 @@ pub record KeepsRoom (old new : Slab Node) : Type 0 where
 
 -- ---- walks
 
--- what `Start` says of a name is what `Done` says, or that a removal that is still to be visited names it
+-- what `Start` says of an id is what `Done` says, or that a removal that is still to be visited names it
 pub record IsUnderWay (g : Graph) (keys : List ℕ) (due : ℕ → Bool) (c : Cid) (Start Done : Type 0) : Type 0 where
   pub done : Done → Start
   pub ahead : (k : ℕ) → due k ≡ true → NamesAt g keys c k → Start

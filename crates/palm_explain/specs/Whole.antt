@@ -4,10 +4,10 @@ use Rattle.slab.specs.Slab.{Slab}
 use Rattle.palm_explain.specs.declared.node.Node.{Node}
 use Rattle.palm_explain.specs.declared.rows.Row.{Row}
 use Rattle.palm_explain.specs.declared.threads.Threads.{Threads}
-use Rattle.palm_explain.specs.Graph.{IsKept, graph_of}
+use Rattle.palm_explain.specs.Graph.{IsStored, graph_of}
 use Rattle.palm_explain.specs.Threads.{AreThreaded}
 
 -- what the nodes, the log and the rows keep, and that the threads lead to exactly the removals
 pub record IsWhole (nodes : Slab Node) (keys : List ℕ) (rows : List Row) (spare : ℕ) (threads : Threads) : Type 0 where
-  pub kept : IsKept nodes keys rows spare
+  pub kept : IsStored nodes keys rows spare
   pub threaded : AreThreaded threads (graph_of nodes) (λ k. ⊥)

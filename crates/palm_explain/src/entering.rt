@@ -14,7 +14,7 @@ use palm_base::{NoMemory, Pair, Var};
 use std::alloc::{AllocError, AllocFailed, Global};
 
 /// The keys of the reasons' removals.
-pub(crate) fn causes_of(
+pub(crate) fn antecedents_of(
     alloc: Global,
     nodes: &Nodes,
     rows: &[Row],
@@ -23,32 +23,32 @@ pub(crate) fn causes_of(
     requires formed { AreFormedRows rows.now }
     requires found { AreFound rows.now (graph_of nodes.now) }
     requires removed { (p : PairTerm) → Contains reasons.now p → (k : ℕ) × IsKey (graph_of nodes.now) k × (pair_at (graph_of nodes.now) k ≡ p) }
-    ensures reasons { IfOk result (λ causes. map (pair_at (graph_of nodes.now)) causes.items ≡ reasons.now) }
-    ensures keys { IfOk result (λ causes. (k : ℕ) → Contains causes.items k → IsKey (graph_of nodes.now) k) }
+    ensures reasons { IfOk result (λ antecedents. map (pair_at (graph_of nodes.now)) antecedents.items ≡ reasons.now) }
+    ensures keys { IfOk result (λ antecedents. (k : ℕ) → Contains antecedents.items k → IsKey (graph_of nodes.now) k) }
 {
-    let mut causes = Vec::with_capacity(alloc, reasons.len())?;
+    let mut antecedents = Vec::with_capacity(alloc, reasons.len())?;
     let mut near = 0;
     for reason in reasons {
-        causes.push(key_near(rows, reason, &mut near).unwrap())?;
+        antecedents.push(key_near(rows, reason, &mut near).unwrap())?;
     }
-    Ok(causes)
+    Ok(antecedents)
 }
 
-/// Makes room for one more dependent of each of the causes.
-fn reserve_links(nodes: &mut Nodes, causes: &[usize], key: usize) -> Result<(), NoMemory>
-    requires { (k : ℕ) → Contains causes.now k → IsKey (graph_of nodes.old) k }
+/// Makes room for one more dependent of each of the antecedents.
+fn reserve_links(nodes: &mut Nodes, antecedents: &[usize], key: usize) -> Result<(), NoMemory>
+    requires { (k : ℕ) → Contains antecedents.now k → IsKey (graph_of nodes.old) k }
     ensures graph { graph_of nodes.new ≡ graph_of nodes.old }
     ensures marks { marks_of nodes.new ≡ marks_of nodes.old }
-    ensures ready { OnOk result ((k : ℕ) → Contains causes.now k → IsReadyAt nodes.new key k) }
+    ensures ready { OnOk result ((k : ℕ) → Contains antecedents.now k → IsReadyAt nodes.new key k) }
     ensures room { KeepsRoom nodes.old nodes.new }
 {
-    for cause in causes {
-        reserve_dependent(nodes, *cause, key)?;
+    for antecedent in antecedents {
+        reserve_dependent(nodes, *antecedent, key)?;
     }
     Ok(())
 }
 
-/// Makes room for one more removal: in the log, among the nodes, and among the dependents of each of its causes. There is then
+/// Makes room for one more removal: in the log, among the nodes, and among the dependents of each of its antecedents. There is then
 /// also room for as many restored variables, and as many lists of dependents, as there are removals with it.
 #[inline(always)]
 pub(crate) fn make_room(
@@ -56,10 +56,10 @@ pub(crate) fn make_room(
     log: &mut Vec<usize>,
     restored: &mut IndexSet<Var>,
     emptied: &mut Emptied,
-    causes: &[usize],
+    antecedents: &[usize],
     key: usize,
 ) -> Result<(), NoMemory>
-    requires { (k : ℕ) → Contains causes.now k → IsKey (graph_of nodes.old) k }
+    requires { (k : ℕ) → Contains antecedents.now k → IsKey (graph_of nodes.old) k }
     ensures graph { graph_of nodes.new ≡ graph_of nodes.old }
     ensures marks { marks_of nodes.new ≡ marks_of nodes.old }
     ensures vacant_key { nodes.new.vacant_key ≡ nodes.old.vacant_key }
@@ -69,25 +69,25 @@ pub(crate) fn make_room(
     ensures node { OnOk result (HasRoomFor nodes.new 1) }
     ensures place { OnOk result (vec_len log.new < vec_capacity log.new) }
     ensures variables { OnOk result (length log.new.items + 1 ≤ spare restored.new) }
-    ensures ready { OnOk result ((k : ℕ) → Contains causes.now k → IsReadyAt nodes.new key k) }
+    ensures ready { OnOk result ((k : ℕ) → Contains antecedents.now k → IsReadyAt nodes.new key k) }
 {
     let count = log.len() + 1;
     emptied.make_room(count)?;
     restored.reserve(count)?;
     log.reserve(1)?;
     nodes.reserve(1)?;
-    reserve_links(nodes, causes, key)
+    reserve_links(nodes, antecedents, key)
 }
 
-/// Makes the removal under the key a dependent of each of the causes.
-pub(crate) fn link(nodes: &mut Nodes, causes: &[usize], key: usize)
-    requires keys { (k : ℕ) → Contains causes.now k → IsKey (graph_of nodes.old) k }
-    requires ready { (k : ℕ) → Contains causes.now k → IsReadyAt nodes.old key k }
-    ensures linked { HasLinked (graph_of nodes.old) (graph_of nodes.new) causes.now key }
+/// Makes the removal under the key a dependent of each of the antecedents.
+pub(crate) fn link(nodes: &mut Nodes, antecedents: &[usize], key: usize)
+    requires keys { (k : ℕ) → Contains antecedents.now k → IsKey (graph_of nodes.old) k }
+    requires ready { (k : ℕ) → Contains antecedents.now k → IsReadyAt nodes.old key k }
+    ensures linked { HasLinked (graph_of nodes.old) (graph_of nodes.new) antecedents.now key }
     ensures marks { marks_of nodes.new ≡ marks_of nodes.old }
     ensures room { KeepsRoom nodes.old nodes.new }
 {
-    for cause in causes {
-        add_dependent(nodes, *cause, key);
+    for antecedent in antecedents {
+        add_dependent(nodes, *antecedent, key);
     }
 }

@@ -14,7 +14,7 @@ pub fn well_founded_logs_are_linked()
         → IsWellFounded initial active log → IsLinked log }
 {}
 
-/// What is left when some names go and then more is what is left when all of them go at once, and the pairs that
+/// What is left when some ids go and then more is what is left when all of them go at once, and the pairs that
 /// the two steps lose are the pairs that are lost at once.
 pub fn withdrawals_add_up()
     ensures left { (log middle left : List Removal) (first then : List Cid)

@@ -1,7 +1,7 @@
 //! The nodes of the graph: what is kept of each removal.
 ghost use Rattle.std.specs.Prelude.{◌≡◌, ◌≢◌, ℕ, false, [], ◌∷◌, OnOk};
 ghost use Rattle.slab.specs.Slab.{get};
-ghost use Rattle.palm_model.specs.Log.{same_cid};
+ghost use Rattle.palm_base.specs.Order.{same_cid};
 ghost use Rattle.palm_explain.specs.Chain.{nexts_of};
 ghost use Rattle.palm_explain.specs.Graph.{AreOnce, HasForgotten, HasLinked, IsKey, IsMoved, IsReadyAt, KeepsRoom, graph_of, marks_of};
 
@@ -16,8 +16,8 @@ pub(crate) struct Node {
     pub(crate) pair: Pair,
     pub(crate) by: Cid,
     /// The keys of the reasons' removals, in the order of the reasons.
-    pub(crate) causes: Vec<usize>,
-    /// The keys of the removals that have this one among their causes.
+    pub(crate) antecedents: Vec<usize>,
+    /// The keys of the removals that have this one among their antecedents.
     pub(crate) dependents: Vec<usize>,
     /// The place in the log.
     pub(crate) place: usize,
@@ -69,28 +69,32 @@ pub(crate) fn set_place(nodes: &mut Nodes, key: usize, place: usize)
 }
 
 /// Makes room for one more dependent of a removal.
-pub(crate) fn reserve_dependent(nodes: &mut Nodes, cause: usize, key: usize) -> Result<(), NoMemory>
-    requires { IsKey (graph_of nodes.old) cause }
+pub(crate) fn reserve_dependent(
+    nodes: &mut Nodes,
+    antecedent: usize,
+    key: usize,
+) -> Result<(), NoMemory>
+    requires { IsKey (graph_of nodes.old) antecedent }
     ensures graph { graph_of nodes.new ≡ graph_of nodes.old }
     ensures marks { marks_of nodes.new ≡ marks_of nodes.old }
-    ensures ready { OnOk result (IsReadyAt nodes.new key cause) }
-    ensures others { (k : ℕ) → k ≢ cause → get nodes.new k ≡ get nodes.old k }
+    ensures ready { OnOk result (IsReadyAt nodes.new key antecedent) }
+    ensures others { (k : ℕ) → k ≢ antecedent → get nodes.new k ≡ get nodes.old k }
     ensures room { KeepsRoom nodes.old nodes.new }
 {
-    nodes[cause].dependents.reserve(1)?;
+    nodes[antecedent].dependents.reserve(1)?;
     Ok(())
 }
 
 /// Adds a dependent of a removal behind the others, unless it is the last.
-pub(crate) fn add_dependent(nodes: &mut Nodes, cause: usize, key: usize)
-    requires key { IsKey (graph_of nodes.old) cause }
-    requires ready { IsReadyAt nodes.old key cause }
-    ensures linked { HasLinked (graph_of nodes.old) (graph_of nodes.new) (cause ∷ []) key }
+pub(crate) fn add_dependent(nodes: &mut Nodes, antecedent: usize, key: usize)
+    requires key { IsKey (graph_of nodes.old) antecedent }
+    requires ready { IsReadyAt nodes.old key antecedent }
+    ensures linked { HasLinked (graph_of nodes.old) (graph_of nodes.new) (antecedent ∷ []) key }
     ensures marks { marks_of nodes.new ≡ marks_of nodes.old }
     ensures ready { (k : ℕ) → IsReadyAt nodes.old key k → IsReadyAt nodes.new key k }
     ensures room { KeepsRoom nodes.old nodes.new }
 {
-    let dependents = &mut nodes[cause].dependents;
+    let dependents = &mut nodes[antecedent].dependents;
     match dependents.last() {
         Some(last) if *last == key => {}
         _ => dependents.push_reserved(key),
@@ -98,14 +102,14 @@ pub(crate) fn add_dependent(nodes: &mut Nodes, cause: usize, key: usize)
 }
 
 /// Takes a dependent of a removal out, unless the removal is marked.
-pub(crate) fn forget_dependent(nodes: &mut Nodes, cause: usize, key: usize)
-    requires key { IsKey (graph_of nodes.old) cause }
+pub(crate) fn forget_dependent(nodes: &mut Nodes, antecedent: usize, key: usize)
+    requires key { IsKey (graph_of nodes.old) antecedent }
     requires once { AreOnce (graph_of nodes.old) }
     ensures forgotten { HasForgotten (graph_of nodes.old) (graph_of nodes.new)
-        (λ k d. (cause ≡ k) × (key ≡ d) × (marks_of nodes.old k ≡ false)) }
+        (λ k d. (antecedent ≡ k) × (key ≡ d) × (marks_of nodes.old k ≡ false)) }
     ensures marks { marks_of nodes.new ≡ marks_of nodes.old }
 {
-    let node = &mut nodes[cause];
+    let node = &mut nodes[antecedent];
     if !node.mark {
         take_out(&mut node.dependents, key);
     }

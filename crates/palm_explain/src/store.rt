@@ -9,12 +9,12 @@ ghost use Rattle.palm_model.specs.Log.{IsListOf, Loses, NamesOfPair, log_pairs};
 ghost use Rattle.palm_explain.specs.Explanations.{IsLinked, LacksExactly, NamesOfSome, log_bys, reasons_of};
 
 use crate::emptied::Emptied;
-use crate::entering::{causes_of, link, make_room};
+use crate::entering::{antecedents_of, link, make_room};
 use crate::marking::mark_lost;
 use crate::node::{Node, Nodes};
 use crate::rows::{Row, key_of, put_key};
 use crate::threads::Threads;
-use crate::walking::{names_of, rests_on};
+use crate::walking::{cids_of, rests_on};
 use crate::withdrawing::{close_up, forget_marked, forget_threads, put_back};
 use indexmap::IndexSet;
 use palm_base::{Cid, CidList, NoMemory, Pair, Value, Var};
@@ -87,21 +87,21 @@ impl ExplainStore {
         let place = self.log.len();
         put_key(&mut self.rows, &pair, key)?;
         let alloc = *self.log.allocator();
-        let causes = causes_of(alloc, &self.nodes, &self.rows, reasons)?;
+        let antecedents = antecedents_of(alloc, &self.nodes, &self.rows, reasons)?;
         make_room(
             &mut self.nodes,
             &mut self.log,
             &mut self.restored,
             &mut self.emptied,
-            &causes,
+            &antecedents,
             key,
         )?;
         self.threads.push(&by, key)?;
-        link(&mut self.nodes, &causes, key);
+        link(&mut self.nodes, &antecedents, key);
         self.nodes.insert_reserved(Node {
             pair,
             by,
-            causes,
+            antecedents,
             dependents: self.emptied.take(),
             place,
             mark: false,
@@ -140,7 +140,7 @@ impl ExplainStore {
         requires { place < length self.now.log }
         ensures { result ≡ length (reasons_of self.now.log place) }
     {
-        self.nodes[self.log[place]].causes.len()
+        self.nodes[self.log[place]].antecedents.len()
     }
 
     /// A reason of the removal at a place.
@@ -149,8 +149,8 @@ impl ExplainStore {
         requires index { index < length (reasons_of self.now.log place) }
         ensures { slice_get (reasons_of self.now.log place) index ≡ Some result }
     {
-        let cause = self.nodes[self.log[place]].causes[index];
-        self.nodes[cause].pair
+        let antecedent = self.nodes[self.log[place]].antecedents[index];
+        self.nodes[antecedent].pair
     }
 
     /// The place of a pair's removal.
@@ -177,7 +177,7 @@ impl ExplainStore {
         rests_on(&mut self.nodes, &self.log, key, &cid)
     }
 
-    /// Makes `out` the explanation of a removed pair, by rising name; without memory `out` is empty.
+    /// Makes `out` the explanation of a removed pair, by rising id; without memory `out` is empty.
     pub fn explanation(&self, pair: Pair, out: &mut CidList) -> Result<(), NoMemory>
         requires { Contains (log_pairs self.now.log) pair }
         ensures ok { OnOk result (IsListOf (NamesOfPair self.now.log pair) out.new) }
@@ -186,7 +186,7 @@ impl ExplainStore {
         self.explanations(pair.var, &[pair.value], out)
     }
 
-    /// Makes `out` the constraints of the explanations of these removed values of a variable, by rising name; without
+    /// Makes `out` the constraints of the explanations of these removed values of a variable, by rising id; without
     /// memory `out` is empty.
     pub fn explanations(
         &self,
@@ -200,8 +200,8 @@ impl ExplainStore {
     {
         out.clear();
         let alloc = *self.log.allocator();
-        let names = names_of(alloc, &self.nodes, &self.log, &self.rows, var, values)?;
-        *out = CidList::from_vec(names);
+        let cids = cids_of(alloc, &self.nodes, &self.log, &self.rows, var, values)?;
+        *out = CidList::from_vec(cids);
         Ok(())
     }
 

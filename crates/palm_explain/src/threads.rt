@@ -5,8 +5,7 @@ ghost use Rattle.palm_model.specs.Constraint.{Distinct};
 ghost use Rattle.palm_explain.specs.Threads.{AreFormedThreads, thread_of};
 
 use crate::keys::take_out;
-use crate::names::stands_at;
-use palm_base::{Cid, NoMemory};
+use palm_base::{Cid, NoMemory, place_for, stands_at};
 use std::alloc::{AllocError, AllocFailed, Global};
 use std::mem;
 
@@ -16,10 +15,10 @@ pub(crate) struct Thread {
     keys: Vec<usize>,
 }
 
-/// The constraints that removed something at some time, by rising name, and beside each its thread.
+/// The constraints that removed something at some time, by rising id, and beside each its thread.
 #[derive(Debug, Drop)]
 pub(crate) struct Threads {
-    names: Vec<Cid>,
+    cids: Vec<Cid>,
     threads: Vec<Thread>,
     /// The place that was looked for last: a constraint mostly removes several values in a row, and then often the next one does.
     near: usize,
@@ -31,17 +30,17 @@ impl Threads {
         ensures none { (c : CidTerm) → thread_of result c ≡ [] }
     {
         Threads {
-            names: Vec::new(alloc),
+            cids: Vec::new(alloc),
             threads: Vec::new(alloc),
             near: 0,
         }
     }
 
-    /// Whether the name stands at the place.
+    /// Whether the id stands at the place.
     fn has_at(&self, place: usize, cid: &Cid) -> bool
-        ensures { result ≡ true → slice_get self.now.names.items place ≡ Some cid.now }
+        ensures { result ≡ true → slice_get self.now.cids.items place ≡ Some cid.now }
     {
-        stands_at(&self.names, place, cid)
+        stands_at(&self.cids, place, cid)
     }
 
     /// The place of a constraint's thread, which is made where there is none.
@@ -49,7 +48,7 @@ impl Threads {
         requires { AreFormedThreads self.old }
         ensures formed { AreFormedThreads self.new }
         ensures same { (c : CidTerm) → thread_of self.new c ≡ thread_of self.old c }
-        ensures named { IfOk result (λ place. slice_get self.new.names.items place ≡ Some cid.now) }
+        ensures named { IfOk result (λ place. slice_get self.new.cids.items place ≡ Some cid.now) }
     {
         if self.has_at(self.near, cid) {
             return Ok(self.near);
@@ -58,12 +57,12 @@ impl Threads {
         if self.has_at(behind, cid) {
             return Ok(behind);
         }
-        match self.names.binary_search(cid) {
+        match place_for(&self.cids, self.near, cid) {
             Ok(place) => Ok(place),
             Err(place) => {
                 self.threads.reserve(1)?;
-                self.names.insert(place, *cid)?;
-                let keys = Vec::new(*self.names.allocator());
+                self.cids.insert(place, *cid)?;
+                let keys = Vec::new(*self.cids.allocator());
                 self.threads.insert(place, Thread { keys }).unwrap();
                 Ok(place)
             }
@@ -92,8 +91,8 @@ impl Threads {
         ensures none { thread_of self.new cid.now ≡ [] }
         ensures others { (c : CidTerm) → (cid.now ≡ c → ⊥) → thread_of self.new c ≡ thread_of self.old c }
     {
-        let none = Vec::new(*self.names.allocator());
-        match self.names.binary_search(cid) {
+        let none = Vec::new(*self.cids.allocator());
+        match place_for(&self.cids, self.near, cid) {
             Ok(place) => mem::replace(&mut self.threads[place].keys, none),
             Err(_) => none,
         }
@@ -102,7 +101,7 @@ impl Threads {
     /// The place of a constraint's thread, if it has one.
     fn find(&self, cid: &Cid) -> Option<usize>
         requires { AreFormedThreads self.now }
-        ensures { MatchOption result (Contains self.now.names.items cid.now → ⊥) (λ place. slice_get self.now.names.items place ≡ Some cid.now) }
+        ensures { MatchOption result (Contains self.now.cids.items cid.now → ⊥) (λ place. slice_get self.now.cids.items place ≡ Some cid.now) }
     {
         if self.has_at(self.near, cid) {
             return Some(self.near);
@@ -111,7 +110,7 @@ impl Threads {
         if self.has_at(before, cid) {
             return Some(before);
         }
-        match self.names.binary_search(cid) {
+        match place_for(&self.cids, self.near, cid) {
             Ok(place) => Some(place),
             Err(_) => None,
         }

@@ -3,36 +3,37 @@
 ghost use Rattle.std.specs.Prelude.{◌≡◌, ◌≢◌, ℕ, ℤ, ◌<◌, true, false, [], ◌∷◌, length, Contains, IfOk, OnOk};
 ghost use Rattle.palm_base.specs.Tells.{Tells};
 ghost use Rattle.palm_base.specs.declared.terms.Cid.{Cid as CidTerm};
-ghost use Rattle.palm_model.specs.Log.{IsListOf, Rises, log_pairs};
+ghost use Rattle.palm_base.specs.Order.{Rises};
+ghost use Rattle.palm_model.specs.Log.{IsListOf, log_pairs};
 ghost use Rattle.palm_explain.specs.Explanations.{IsLinked, NamesOfSome};
-ghost use Rattle.palm_explain.specs.Graph.{AreFound, HasMarked, HasNoMark, HasPassed, IsBy, IsCause, IsGraph, IsKey, IsValueKey, NamesAt, graph_of, is_due, log_of, marks_of, pair_at};
+ghost use Rattle.palm_explain.specs.Graph.{AreFound, HasMarked, HasNoMark, HasPassed, IsBy, IsAntecedent, IsGraph, IsKey, IsValueKey, NamesAt, graph_of, is_due, log_of, marks_of, pair_at};
 ghost use Rattle.palm_explain.specs.Merging.{IsMerged};
 ghost use Rattle.palm_explain.specs.Rows.{AreFormedRows};
 
-use crate::names::add_name;
+use crate::cids::add_cid;
 use crate::node::{Nodes, is_by, set_mark};
 use crate::rows::{Row, key_near};
 use palm_base::{Cid, NoMemory, Pair, Value, Var};
 use std::alloc::{AllocError, Global};
 
-/// Marks the causes of a removal.
-fn mark_causes(nodes: &mut Nodes, key: usize)
-    requires keys { (c : ℕ) → IsCause (graph_of nodes.old) c key → IsKey (graph_of nodes.old) c }
+/// Marks the antecedents of a removal.
+fn mark_antecedents(nodes: &mut Nodes, key: usize)
+    requires keys { (c : ℕ) → IsAntecedent (graph_of nodes.old) c key → IsKey (graph_of nodes.old) c }
     requires key { IsKey (graph_of nodes.old) key }
     ensures graph { graph_of nodes.new ≡ graph_of nodes.old }
-    ensures marked { HasMarked (marks_of nodes.old) (marks_of nodes.new) (λ c. IsCause (graph_of nodes.old) c key) }
+    ensures marked { HasMarked (marks_of nodes.old) (marks_of nodes.new) (λ c. IsAntecedent (graph_of nodes.old) c key) }
 {
-    for index in 0..nodes[key].causes.len() {
-        let cause = nodes[key].causes[index];
-        set_mark(nodes, cause, true);
+    for index in 0..nodes[key].antecedents.len() {
+        let antecedent = nodes[key].antecedents[index];
+        set_mark(nodes, antecedent, true);
     }
 }
 
-/// Where the removal has a mark, hands it on to its causes, and answers whether the constraint made the removal.
+/// Where the removal has a mark, hands it on to its antecedents, and answers whether the constraint made the removal.
 fn pass_mark(nodes: &mut Nodes, key: usize, cid: &Cid) -> bool
     requires key { IsKey (graph_of nodes.old) key }
-    requires keys { (c : ℕ) → IsCause (graph_of nodes.old) c key → IsKey (graph_of nodes.old) c }
-    requires before { (c : ℕ) → IsCause (graph_of nodes.old) c key → c ≢ key }
+    requires keys { (c : ℕ) → IsAntecedent (graph_of nodes.old) c key → IsKey (graph_of nodes.old) c }
+    requires before { (c : ℕ) → IsAntecedent (graph_of nodes.old) c key → c ≢ key }
     ensures graph { graph_of nodes.new ≡ graph_of nodes.old }
     ensures passed { marks_of nodes.old key ≡ true → HasPassed (graph_of nodes.old) (marks_of nodes.old) (marks_of nodes.new) key }
     ensures tells { marks_of nodes.old key ≡ true → Tells result (IsBy (graph_of nodes.old) cid.now key) }
@@ -42,7 +43,7 @@ fn pass_mark(nodes: &mut Nodes, key: usize, cid: &Cid) -> bool
         return false;
     }
     set_mark(nodes, key, false);
-    mark_causes(nodes, key);
+    mark_antecedents(nodes, key);
     is_by(&nodes[key], cid)
 }
 
@@ -95,47 +96,47 @@ fn note_values(nodes: &Nodes, rows: &[Row], var: Var, values: &[Value], due: &mu
     }
 }
 
-/// Notes the causes of a removal.
-fn note_causes(nodes: &Nodes, key: usize, due: &mut Vec<bool>)
+/// Notes the antecedents of a removal.
+fn note_antecedents(nodes: &Nodes, key: usize, due: &mut Vec<bool>)
     requires key { IsKey (graph_of nodes.now) key }
-    requires long { (c : ℕ) → IsCause (graph_of nodes.now) c key → c < length due.old.items }
+    requires long { (c : ℕ) → IsAntecedent (graph_of nodes.now) c key → c < length due.old.items }
     ensures long { length due.new.items ≡ length due.old.items }
-    ensures noted { HasMarked (is_due due.old.items) (is_due due.new.items) (λ c. IsCause (graph_of nodes.now) c key) }
+    ensures noted { HasMarked (is_due due.old.items) (is_due due.new.items) (λ c. IsAntecedent (graph_of nodes.now) c key) }
 {
-    let causes = nodes[key].causes.as_slice();
-    for cause in causes {
-        set_due(due, *cause, true);
+    let antecedents = nodes[key].antecedents.as_slice();
+    for antecedent in antecedents {
+        set_due(due, *antecedent, true);
     }
 }
 
-/// Where the removal is noted, notes its causes in its place, and adds the name of its constraint.
+/// Where the removal is noted, notes its antecedents in its place, and adds the id of its constraint.
 fn visit(
     nodes: &Nodes,
     key: usize,
     due: &mut Vec<bool>,
-    names: &mut Vec<Cid>,
+    cids: &mut Vec<Cid>,
     near: &mut usize,
 ) -> Result<(), NoMemory>
     requires key { IsKey (graph_of nodes.now) key }
     requires long { (k : ℕ) → IsKey (graph_of nodes.now) k → k < length due.old.items }
-    requires keys { (c : ℕ) → IsCause (graph_of nodes.now) c key → IsKey (graph_of nodes.now) c }
-    requires before { (c : ℕ) → IsCause (graph_of nodes.now) c key → c ≢ key }
-    requires names { Rises names.old.items }
+    requires keys { (c : ℕ) → IsAntecedent (graph_of nodes.now) c key → IsKey (graph_of nodes.now) c }
+    requires before { (c : ℕ) → IsAntecedent (graph_of nodes.now) c key → c ≢ key }
+    requires cids { Rises cids.old.items }
     ensures long { length due.new.items ≡ length due.old.items }
     ensures passed { is_due due.old.items key ≡ true → HasPassed (graph_of nodes.now) (is_due due.old.items) (is_due due.new.items) key }
-    ensures named { is_due due.old.items key ≡ true → OnOk result ((by : CidTerm) → IsBy (graph_of nodes.now) by key → IsMerged names.old.items (by ∷ []) names.new.items) }
-    ensures stays { is_due due.old.items key ≡ false → (due.new.items ≡ due.old.items) × (names.new.items ≡ names.old.items) }
+    ensures named { is_due due.old.items key ≡ true → OnOk result ((by : CidTerm) → IsBy (graph_of nodes.now) by key → IsMerged cids.old.items (by ∷ []) cids.new.items) }
+    ensures stays { is_due due.old.items key ≡ false → (due.new.items ≡ due.old.items) × (cids.new.items ≡ cids.old.items) }
 {
     if !due[key] {
         return Ok(());
     }
     set_due(due, key, false);
-    note_causes(nodes, key, due);
-    add_name(names, near, &nodes[key].by)
+    note_antecedents(nodes, key, due);
+    add_cid(cids, near, &nodes[key].by)
 }
 
-/// The names of all constraints on which the removals of these values rest, by rising name.
-pub(crate) fn names_of(
+/// The ids of all constraints on which the removals of these values rest, by rising id.
+pub(crate) fn cids_of(
     alloc: Global,
     nodes: &Nodes,
     log: &[usize],
@@ -148,16 +149,16 @@ pub(crate) fn names_of(
     requires formed { AreFormedRows rows.now }
     requires found { AreFound rows.now (graph_of nodes.now) }
     requires removed { (v : ℤ) → Contains values.now v → Contains (log_pairs (log_of (graph_of nodes.now) log.now)) (record { var = var; value = v }) }
-    ensures { IfOk result (λ names. IsListOf (NamesOfSome (log_of (graph_of nodes.now) log.now) var values.now) names.items) }
+    ensures { IfOk result (λ cids. IsListOf (NamesOfSome (log_of (graph_of nodes.now) log.now) var values.now) cids.items) }
 {
     let mut due = vec![in alloc; false; nodes.capacity()]?;
-    let mut names = Vec::new(alloc);
+    let mut cids = Vec::new(alloc);
     let mut near = 0;
     note_values(nodes, rows, var, values, &mut due);
     let mut place = log.len();
     while place > 0 {
         place -= 1;
-        visit(nodes, log[place], &mut due, &mut names, &mut near)?;
+        visit(nodes, log[place], &mut due, &mut cids, &mut near)?;
     }
-    Ok(names)
+    Ok(cids)
 }

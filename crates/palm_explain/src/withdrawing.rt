@@ -8,7 +8,7 @@ ghost use Rattle.palm_model.specs.Event.{vars_of};
 ghost use Rattle.palm_model.specs.Log.{log_pairs};
 ghost use Rattle.palm_explain.specs.Chain.{IsLine};
 ghost use Rattle.palm_explain.specs.Explanations.{LacksExactly};
-ghost use Rattle.palm_explain.specs.Graph.{AreOnce, HasClosedUp, HasForgotten, HasNoMark, IsBy, IsCause, IsGraph, IsKey, IsMoved, IsPlaced, IsTakenOut, Link, graph_of, log_of, marks_of};
+ghost use Rattle.palm_explain.specs.Graph.{AreOnce, HasClosedUp, HasForgotten, HasNoMark, IsBy, IsAntecedent, IsGraph, IsKey, IsMoved, IsPlaced, IsTakenOut, Link, graph_of, log_of, marks_of};
 ghost use Rattle.palm_explain.specs.Lost.{HasBack, lost_of};
 ghost use Rattle.palm_explain.specs.Threads.{AreFormedThreads, AreThreaded, thread_of};
 
@@ -108,18 +108,18 @@ pub(crate) fn forget_threads(
     }
 }
 
-/// Takes a marked removal out of the dependents of its causes that are not marked.
+/// Takes a marked removal out of the dependents of its antecedents that are not marked.
 fn forget(nodes: &mut Nodes, key: usize)
     requires key { IsKey (graph_of nodes.old) key }
-    requires keys { (c : ℕ) → IsCause (graph_of nodes.old) c key → IsKey (graph_of nodes.old) c }
+    requires keys { (c : ℕ) → IsAntecedent (graph_of nodes.old) c key → IsKey (graph_of nodes.old) c }
     requires once { AreOnce (graph_of nodes.old) }
     ensures forgotten { HasForgotten (graph_of nodes.old) (graph_of nodes.new)
-        (λ k d. (key ≡ d) × (marks_of nodes.old k ≡ false) × IsCause (graph_of nodes.old) k key) }
+        (λ k d. (key ≡ d) × (marks_of nodes.old k ≡ false) × IsAntecedent (graph_of nodes.old) k key) }
     ensures marks { marks_of nodes.new ≡ marks_of nodes.old }
 {
-    for index in 0..nodes[key].causes.len() {
-        let cause = nodes[key].causes[index];
-        forget_dependent(nodes, cause, key);
+    for index in 0..nodes[key].antecedents.len() {
+        let antecedent = nodes[key].antecedents[index];
+        forget_dependent(nodes, antecedent, key);
     }
 }
 
@@ -129,7 +129,7 @@ pub(crate) fn forget_marked(nodes: &mut Nodes, log: &[usize], start: usize)
     requires graph { IsGraph (graph_of nodes.old) log.now }
     requires earliest { (k : ℕ) (l : Link) → marks_of nodes.old k ≡ true → graph_of nodes.old k ≡ Some l → start ≤ l.place }
     ensures forgotten { HasForgotten (graph_of nodes.old) (graph_of nodes.new)
-        (λ k d. (marks_of nodes.old d ≡ true) × (marks_of nodes.old k ≡ false) × IsCause (graph_of nodes.old) k d) }
+        (λ k d. (marks_of nodes.old d ≡ true) × (marks_of nodes.old k ≡ false) × IsAntecedent (graph_of nodes.old) k d) }
     ensures marks { marks_of nodes.new ≡ marks_of nodes.old }
 {
     let mut place = log.len();

@@ -7,7 +7,7 @@ use Rattle.std.proofs.lemmas.List.Concat.{flat_map-append}
 use Rattle.palm_lang.specs.Print.{Keeps, Puts}
 use Rattle.palm_read.specs.Linear.{linear_terms_words, linear_first_text, linear_later_words}
 use Rattle.palm_read.specs.Words.{after_spaces}
-use Rattle.palm_book.specs.Book.{Entry, name_of}
+use Rattle.palm_book.specs.Book.{BookVar, name_of}
 use Rattle.palm_book.specs.Named.{named_term}
 use Rattle.palm_lang.specs.Reply.{assigned_text, pair_text, reasons_text}
 use Rattle.palm_base.specs.declared.terms.Pair.{Pair}
@@ -38,7 +38,7 @@ linear_text (t ∷ ts) first some is =
     rw (is, after_spaces-flat_map, rest) refl
 
 -- the same for the terms of a constraint with variables in place of names
-pub linear_con_text : (variables : List Entry) (terms : List Term) (first : Term) → 0 < length terms → first ≡ get_or terms 0 first → after_spaces (linear_terms_words (map (named_term variables) terms)) ≡ codes " " ++ linear_first_text first.factor (name_of variables first.var) ++ flat_map (λ t. after_spaces (linear_later_words t.factor (name_of variables t.var))) (take (length terms - 1) (drop 1 terms))
+pub linear_con_text : (variables : List BookVar) (terms : List Term) (first : Term) → 0 < length terms → first ≡ get_or terms 0 first → after_spaces (linear_terms_words (map (named_term variables) terms)) ≡ codes " " ++ linear_first_text first.factor (name_of variables first.var) ++ flat_map (λ t. after_spaces (linear_later_words t.factor (name_of variables t.var))) (take (length terms - 1) (drop 1 terms))
 linear_con_text variables [] first some is = absurd (omega arith)
 linear_con_text variables (t ∷ ts) first some is =
     let rest : take (length (t ∷ ts) - 1) ts ≡ ts = take_all (length (t ∷ ts) - 1) ts (omega arith) in
@@ -77,7 +77,7 @@ mapped_more text made old before after xs i x lt is so put =
     texts_more (λ y. text (made y)) old before after xs i x lt is so_each put ∙ ap (λ (bytes : List ℕ). old ++ bytes) (sym (flat_map-map text made (take (i + 1) xs)))
 
 -- the reasons of a removal, the first of them and the rest
-pub reasons_more : (variables : List Entry) (pairs : List Pair) (first : Pair) → 0 < length pairs → first ≡ get_or pairs 0 first → reasons_text variables pairs ≡ codes " from " ++ (pair_text variables first ++ flat_map (λ p. codes ", " ++ pair_text variables p) (take (length pairs - 1) (drop 1 pairs)))
+pub reasons_more : (variables : List BookVar) (pairs : List Pair) (first : Pair) → 0 < length pairs → first ≡ get_or pairs 0 first → reasons_text variables pairs ≡ codes " from " ++ (pair_text variables first ++ flat_map (λ p. codes ", " ++ pair_text variables p) (take (length pairs - 1) (drop 1 pairs)))
 reasons_more variables [] first some is = absurd (omega arith)
 reasons_more variables (p ∷ ps) first some is =
     let further : List Pair → List ℕ = flat_map (λ q. codes ", " ++ pair_text variables q) in
@@ -95,10 +95,10 @@ terms_declared variables terms h = λ k d lt.
     omega (arith, at, get_or-map (λ (t : Term). t.var) terms k d d.var lt)
 
 -- one more variable of an assignment
-pub assigned_more : (variables : List Entry) (values : List ℤ) (i : ℕ) (value : ℤ) → i < length values → length values ≡ length variables → value ≡ get_or values i value → after_spaces (map assigned_text (take (i + 1) (zip variables values))) ≡ after_spaces (map assigned_text (take i (zip variables values))) ++ (codes " " ++ (name_of variables i ++ codes "=" ++ signed_decimal value))
+pub assigned_more : (variables : List BookVar) (values : List ℤ) (i : ℕ) (value : ℤ) → i < length values → length values ≡ length variables → value ≡ get_or values i value → after_spaces (map assigned_text (take (i + 1) (zip variables values))) ≡ after_spaces (map assigned_text (take i (zip variables values))) ++ (codes " " ++ (name_of variables i ++ codes "=" ++ signed_decimal value))
 assigned_more variables values i value within same is =
-    let nothing : Entry = record { name = []; values = [] } in
-    let pairs : List (Entry × ℤ) = zip variables values in
+    let nothing : BookVar = record { name = []; values = [] } in
+    let pairs : List (BookVar × ℤ) = zip variables values in
     let len : length pairs ≡ min (length variables) (length values) = length-zip variables values in
     let more = map_more assigned_text pairs i (nothing, value) (omega arith) in
     let pair : get_or pairs i (nothing, value) ≡ (get_or variables i nothing, get_or values i value) = get_or-zip variables values i (nothing, value) (omega arith) within in

@@ -6,7 +6,7 @@ use Rattle.std.specs.Fmt.{signed_decimal}
 use Rattle.palm_base.specs.declared.terms.Pair.{Pair}
 use Rattle.palm_model.specs.declared.constraint.Con.{Con}
 use Rattle.palm_book.specs.Named.{named}
-use Rattle.palm_book.specs.Book.{Entry, Contents, name_of}
+use Rattle.palm_book.specs.Book.{BookVar, Contents, name_of}
 use Rattle.palm_read.specs.Domain.{range_text, set_text}
 pub use Rattle.palm_read.specs.Lines.{ended}
 use Rattle.palm_read.specs.Text.{shape_words}
@@ -82,7 +82,7 @@ abbrev pub var_line : List ℕ → List ℤ → List ℕ
 var_line name values = ended (spaced (codes "var" ∷ name ∷ values_text values ∷ []))
 
 -- the text of a constraint
-abbrev pub con_text : List Entry → Con → List ℕ
+abbrev pub con_text : List BookVar → Con → List ℕ
 con_text variables con = spaced (shape_words (named variables con))
 
 abbrev pub state_word : Bool → List ℕ
@@ -90,7 +90,7 @@ state_word true = codes "active"
 state_word false = codes "relaxed"
 
 -- a constraint as `list` shows it
-abbrev pub entry_line : List Entry → BookCon → List ℕ
+abbrev pub entry_line : List BookVar → BookCon → List ℕ
 entry_line variables entry =
     ended (spaced (decimal entry.number ∷ state_word entry.active ∷ entry.name ∷ codes ":" ∷ con_text variables entry.con ∷ []))
 
@@ -99,16 +99,16 @@ abbrev pub entry_at : Contents → ℕ → List ℕ
 entry_at book place = flat_map (entry_line book.variables) (option_to_list (slice_get book.constraints place))
 
 -- NAME VALUE
-abbrev pub pair_text : List Entry → Pair → List ℕ
+abbrev pub pair_text : List BookVar → Pair → List ℕ
 pair_text variables pair = name_of variables pair.var ++ codes " " ++ signed_decimal pair.value
 
 -- the reasons of a removal, if it has any
-abbrev pub reasons_text : List Entry → List Pair → List ℕ
+abbrev pub reasons_text : List BookVar → List Pair → List ℕ
 reasons_text variables [] = []
 reasons_text variables (p ∷ ps) = codes " from " ++ join_by (pair_text variables) (codes ", ") (p ∷ ps)
 
 -- a removal as `log` shows it
-abbrev pub removal_line : List Entry → List ℕ → Pair → List Pair → List ℕ
+abbrev pub removal_line : List BookVar → List ℕ → Pair → List Pair → List ℕ
 removal_line variables by pair reasons =
     ended (pair_text variables pair ++ codes " by " ++ by ++ reasons_text variables reasons)
 
@@ -122,11 +122,11 @@ abbrev pub names_line : Lead → List (List ℕ) → List ℕ
 names_line lead names = ended (spaced (lead_word lead ∷ names))
 
 -- NAME=VALUE
-abbrev pub assigned_text : Entry × ℤ → List ℕ
+abbrev pub assigned_text : BookVar × ℤ → List ℕ
 assigned_text assigned = assigned.0.name ++ codes "=" ++ signed_decimal assigned.1
 
 -- an assignment to all variables
-abbrev pub found_line : List Entry → List ℤ → List ℕ
+abbrev pub found_line : List BookVar → List ℤ → List ℕ
 found_line variables values = ended (spaced (codes "found" ∷ map assigned_text (zip variables values)))
 
 -- the turns of a search that ended without an answer, and what was dropped on the way, if that is told

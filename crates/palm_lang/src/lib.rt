@@ -16,7 +16,8 @@ pub use palm_read::{
 };
 pub use print::{
     print_con, print_domain, print_entry, print_fixed, print_found, print_line, print_names,
-    print_ran, print_refusal, print_removal, print_spent, print_var,
+    print_ran, print_refusal, print_removal, print_spent, print_var, put_spaced_int,
+    put_spaced_name, put_spaced_value, put_text,
 };
 pub use reply::{Fixed, Lead, Refusal};
 pub use stop::WriteStop;

@@ -28,6 +28,7 @@ use crate::print::replies::{
     fixed_word, put_domain, put_entry, put_found, put_names, put_ran, put_removal, put_reply,
     put_spent, put_var, refusal_words,
 };
+pub use crate::print::words::{put_spaced_int, put_spaced_name, put_spaced_value, put_text};
 use crate::reply::{Fixed, Lead, Refusal};
 use palm_base::{CidList, NoMemory, Pair, Value, ValueList};
 use palm_book::Book;

@@ -3,7 +3,7 @@ use palm_base::NoMemory;
 use std::alloc::{AllocError, AllocFailed};
 use thiserror::Error;
 
-/// A front of the text was written.
+/// A front of the text was written; where a write failed, a proper one.
 #[derive(Clone, Copy, Debug, PartialEq, Eq, Error)]
 pub enum WriteStop {
     /// A write failed. It comes only where the sink's count of faults rose.

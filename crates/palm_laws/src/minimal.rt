@@ -1,11 +1,12 @@
 //! Laws on minimal sets. Each is stated of conflicts and of explanations.
-ghost use Rattle.std.specs.Prelude.{◌≡◌, ◌↔◌, ◌<◌, ◌++◌, ℕ, List, [], length, remove, Contains};
+ghost use Rattle.std.specs.Prelude.{◌≡◌, ◌↔◌, ◌<◌, ◌++◌, ℕ, List, length, remove, Contains};
 ghost use Rattle.palm_base.specs.declared.terms.Cid.{Cid};
 ghost use Rattle.palm_base.specs.declared.terms.Pair.{Pair};
 ghost use Rattle.palm_model.specs.Closure.{Explains, IsConflict};
 ghost use Rattle.palm_model.specs.Domains.{AllAscend, Domains};
-ghost use Rattle.palm_model.specs.Log.{Active, Named, Rises, cids_of};
-ghost use Rattle.palm_model.specs.Minimal.{AreConflict, DoExplain, IsMinimalConflict, IsMinimalExplanation, Leaves};
+ghost use Rattle.palm_base.specs.Order.{Rises};
+ghost use Rattle.palm_model.specs.Log.{Active, Named, cids_of};
+ghost use Rattle.palm_model.specs.Minimal.{AreConflict, DoExplain, IsMinimalConflict, IsMinimalExplanation, WalkLeaves};
 ghost use Rattle.palm_model.specs.declared.constraint.Con.{Con};
 
 /// More constraints are a conflict where fewer are.
@@ -17,57 +18,57 @@ pub fn conflicts_grow()
 
 /// The constraints of a minimal set have the property.
 pub fn minimal_sets_have_the_property()
-    ensures conflict { (initial : Domains) (active : List Active) (names : List Cid)
-        → IsMinimalConflict initial active names → IsConflict initial (Named active (Contains names)) }
-    ensures explanation { (initial : Domains) (active : List Active) (pair : Pair) (names : List Cid)
-        → IsMinimalExplanation initial active pair names → Explains initial (Named active (Contains names)) pair.var pair.value }
+    ensures conflict { (initial : Domains) (active : List Active) (cids : List Cid)
+        → IsMinimalConflict initial active cids → IsConflict initial (Named active (Contains cids)) }
+    ensures explanation { (initial : Domains) (active : List Active) (pair : Pair) (cids : List Cid)
+        → IsMinimalExplanation initial active pair cids → Explains initial (Named active (Contains cids)) pair.var pair.value }
 {}
 
 /// No member of a minimal set can be left out.
 pub fn no_member_can_be_left_out()
-    ensures conflict { (initial : Domains) (active : List Active) (names : List Cid) (minimal : IsMinimalConflict initial active names) (place : ℕ)
-        → place < length names → AreConflict initial (remove minimal.left place) → ⊥ }
-    ensures explanation { (initial : Domains) (active : List Active) (pair : Pair) (names : List Cid) (minimal : IsMinimalExplanation initial active pair names) (place : ℕ)
-        → place < length names → DoExplain initial pair (remove minimal.left place) → ⊥ }
+    ensures conflict { (initial : Domains) (active : List Active) (cids : List Cid) (minimal : IsMinimalConflict initial active cids) (place : ℕ)
+        → place < length cids → AreConflict initial (remove minimal.left place) → ⊥ }
+    ensures explanation { (initial : Domains) (active : List Active) (pair : Pair) (cids : List Cid) (minimal : IsMinimalExplanation initial active pair cids) (place : ℕ)
+        → place < length cids → DoExplain initial pair (remove minimal.left place) → ⊥ }
 {}
 
 /// The members of a minimal set are among the constraints, in their order.
 pub fn minimal_sets_are_within()
-    ensures conflict { (initial : Domains) (active : List Active) (names : List Cid) (minimal : IsMinimalConflict initial active names) (a : Active)
+    ensures conflict { (initial : Domains) (active : List Active) (cids : List Cid) (minimal : IsMinimalConflict initial active cids) (a : Active)
         → Contains minimal.left a → Contains active a }
-    ensures explanation { (initial : Domains) (active : List Active) (pair : Pair) (names : List Cid) (minimal : IsMinimalExplanation initial active pair names) (a : Active)
+    ensures explanation { (initial : Domains) (active : List Active) (pair : Pair) (cids : List Cid) (minimal : IsMinimalExplanation initial active pair cids) (a : Active)
         → Contains minimal.left a → Contains active a }
-    ensures conflict_rises { (initial : Domains) (active : List Active) (names : List Cid)
-        → IsMinimalConflict initial active names → Rises (cids_of active) → Rises names }
-    ensures explanation_rises { (initial : Domains) (active : List Active) (pair : Pair) (names : List Cid)
-        → IsMinimalExplanation initial active pair names → Rises (cids_of active) → Rises names }
+    ensures conflict_rises { (initial : Domains) (active : List Active) (cids : List Cid)
+        → IsMinimalConflict initial active cids → Rises (cids_of active) → Rises cids }
+    ensures explanation_rises { (initial : Domains) (active : List Active) (pair : Pair) (cids : List Cid)
+        → IsMinimalExplanation initial active pair cids → Rises (cids_of active) → Rises cids }
 {}
 
 /// There is a minimal set exactly where all of the constraints together have the property.
 pub fn minimal_sets_exist()
     ensures conflict { (initial : Domains) (active : List Active) → AllAscend initial
-        → (AreConflict initial active ↔ ((names : List Cid) × IsMinimalConflict initial active names)) }
+        → (AreConflict initial active ↔ ((cids : List Cid) × IsMinimalConflict initial active cids)) }
     ensures explanation { (initial : Domains) (active : List Active) (pair : Pair) → AllAscend initial
-        → (DoExplain initial pair active ↔ ((names : List Cid) × IsMinimalExplanation initial active pair names)) }
+        → (DoExplain initial pair active ↔ ((cids : List Cid) × IsMinimalExplanation initial active pair cids)) }
 {}
 
 /// There are no two different ones of the same constraints.
 pub fn minimal_sets_are_unique()
-    ensures conflict { (initial : Domains) (active : List Active) (names others : List Cid)
-        → IsMinimalConflict initial active names → IsMinimalConflict initial active others → names ≡ others }
-    ensures explanation { (initial : Domains) (active : List Active) (pair : Pair) (names others : List Cid)
-        → IsMinimalExplanation initial active pair names → IsMinimalExplanation initial active pair others → names ≡ others }
+    ensures conflict { (initial : Domains) (active : List Active) (cids others : List Cid)
+        → IsMinimalConflict initial active cids → IsMinimalConflict initial active others → cids ≡ others }
+    ensures explanation { (initial : Domains) (active : List Active) (pair : Pair) (cids others : List Cid)
+        → IsMinimalExplanation initial active pair cids → IsMinimalExplanation initial active pair others → cids ≡ others }
 {}
 
 /// Where some of the constraints before a block and of those left behind it have the property, the walk leaves out each
 /// constraint of the block.
 pub fn blocks_outside_a_cause_are_left_out()
     ensures conflict { (initial : Domains) (earlier block later left cause : List Active)
-        → Leaves (AreConflict initial) (earlier ++ block) later left
+        → WalkLeaves (AreConflict initial) (earlier ++ block) later left
         → ((a : Active) → Contains cause a → Contains (earlier ++ left) a) → AreConflict initial cause
-        → Leaves (AreConflict initial) earlier (block ++ later) left }
+        → WalkLeaves (AreConflict initial) earlier (block ++ later) left }
     ensures explanation { (initial : Domains) (pair : Pair) (earlier block later left cause : List Active)
-        → Leaves (DoExplain initial pair) (earlier ++ block) later left
+        → WalkLeaves (DoExplain initial pair) (earlier ++ block) later left
         → ((a : Active) → Contains cause a → Contains (earlier ++ left) a) → DoExplain initial pair cause
-        → Leaves (DoExplain initial pair) earlier (block ++ later) left }
+        → WalkLeaves (DoExplain initial pair) earlier (block ++ later) left }
 {}

@@ -4,9 +4,9 @@ use Rattle.std.proofs.lemmas.List.{get_or_default, length-map, map_push}
 use Rattle.std.proofs.lemmas.List.Elements.{All-contains, All-push, All-weaker}
 use Rattle.std.proofs.lemmas.Option.{same_Some, slice_get-map, slice_get_read}
 use Rattle.palm_base.proofs.cited.Members.{member_get}
-use Rattle.palm_book.specs.Book.{Contents, Entry, IsBook, initial_of, listed}
+use Rattle.palm_book.specs.Book.{Contents, BookVar, IsBook, initial_of, listed}
 use Rattle.palm_book.specs.declared.book.BookCon.{BookCon}
-use Rattle.palm_domain.specs.Rows.{IsDeclared, IsPresent, Row, values_of}
+use Rattle.palm_domain.specs.Rows.{Row}
 use Rattle.palm_domain.specs.Rows as rows
 use Rattle.palm_kind.specs.Kind.{con_of}
 use Rattle.palm_kind.specs.declared.kind.Kind.{Kind}
@@ -29,9 +29,9 @@ pub keeps_variable : (book : Contents) (store : List Row) (kinds : List Kind) (n
     → (after : List Row) → after ≡ store ++ row vs ∷ [] → AreListed now after kinds
 keeps_variable book store kinds name vs kept now formed is after grown =
     let bigger : Contents = record book { variables = book.variables ++ record { name = name; values = vs } ∷ [] } in
-    let entry : Entry = record { name = name; values = vs } in
+    let entry : BookVar = record { name = name; values = vs } in
     let same : rows.initial_of (store ++ row vs ∷ []) ≡ initial_of bigger =
-    map_push (λ (r : Row). r.initial) store (row vs) ∙ ap (λ ls. ls ++ vs ∷ []) kept.initial ∙ sym (map_push (λ (e : Entry). e.values) book.variables entry) in
+    map_push (λ (r : Row). r.initial) store (row vs) ∙ ap (λ ls. ls ++ vs ∷ []) kept.initial ∙ sym (map_push (λ (e : BookVar). e.values) book.variables entry) in
     let made : IsBook bigger → AreListed bigger (store ++ row vs ∷ []) kinds = λ formed. record {
       formed = formed;
       initial = same;
@@ -78,7 +78,7 @@ keeps_store book store after kinds kept same full = record {
 
 pub rows_long : (book : Contents) (store : List Row) (kinds : List Kind) → AreListed book store kinds → length store ≡ length book.variables
 rows_long book store kinds kept =
-    sym (length-map store (λ (r : Row). r.initial)) ∙ ap length kept.initial ∙ length-map book.variables (λ (e : Entry). e.values)
+    sym (length-map store (λ (r : Row). r.initial)) ∙ ap length kept.initial ∙ length-map book.variables (λ (e : BookVar). e.values)
 
 -- the filter at a place is that of the constraint there
 pub filter_at : (book : Contents) (store : List Row) (kinds : List Kind) (place : ℕ) (kind : Kind) (c : BookCon)

@@ -3,7 +3,7 @@ ghost use Rattle.std.specs.Prelude.{◌≡◌, ℤ, ◌<◌, ◌≤◌, [], Some
 ghost use Rattle.palm_base.specs.Tells.{Tells};
 ghost use Rattle.palm_book.specs.Book.{AreValues, HasConstraint, HasVariable, initial_of, with_listed, with_variable};
 ghost use Rattle.palm_book.specs.Named.{IsDeclared, IsPair};
-ghost use Rattle.palm_book.specs.declared.book.BookCon.{BookCon as Entry};
+ghost use Rattle.palm_book.specs.declared.book.BookCon.{BookCon as BookConTerm};
 ghost use Rattle.palm_listed.specs.Lists.{IsListed};
 ghost use Rattle.palm_model.specs.Constraint.{IsWellFormed};
 ghost use Rattle.palm_model.specs.Domains.{Has, without};
@@ -102,7 +102,7 @@ impl Listed {
         requires place { place < length self.old.book.constraints }
         requires declared { Has (initial_of self.old.book) pair.now.var pair.now.value }
         requires removed { All (λ p. Has (initial_of self.old.book) p.var p.value) removed.now }
-        ensures tells { (c : Entry) → slice_get self.old.book.constraints place ≡ Some c
+        ensures tells { (c : BookConTerm) → slice_get self.old.book.constraints place ≡ Some c
             → Tells result (LacksSupport (without (initial_of self.old.book) removed.now) c.con pair.now.var pair.now.value) }
         ensures same { self.new.book ≡ self.old.book }
         ensures listed { IsListed self.new }

@@ -7,18 +7,18 @@ use Rattle.palm_model.specs.Domains.{Domains, Assignment, Has}
 use Rattle.palm_model.specs.Part.{Satisfies}
 use Rattle.palm_model.specs.Closure.{IsSolution}
 use Rattle.palm_model.specs.Log.{Active, Named, NamesOfPair, IsListOf}
-use Rattle.palm_model.specs.State.{EngineState, IsGround}
+use Rattle.palm_model.specs.State.{EngineState, IsJustifier}
 
--- the kept conflict of the empty variable x: the names in the explanations of all its declared values
+-- the kept conflict of the empty variable x: the ids in the explanations of all its declared values
 pub record InConflict (s : EngineState) (x : ℕ) (cid : Cid) : Type 0 where
   pub value : ℤ
   pub declared : Has s.initial x value
   pub names : NamesOfPair s.log (record { var = x; value = value }) cid
 
--- the names with each negation replaced by its justification
+-- the ids with each negation replaced by its justification
 pub data InFlat (active : List Active) (K : Cid → Type 0) (cid : Cid) : Type 0 where
-  as_it_is : K cid → IsGround cid → InFlat active K cid
-  in_place : (p : Pair) (a : Active) → K (Not p) → Contains active a → a.cid ≡ Not p → Contains a.because cid → InFlat active K cid
+  as_it_is : K cid → IsJustifier cid → InFlat active K cid
+  in_place : (p : Pair) (a : Active) → K (Not p) → Contains active a → a.cid ≡ Not p → Contains a.justification cid → InFlat active K cid
 
 -- the flat conflict of the empty variable x
 abbrev pub InFlatConflict : EngineState → ℕ → Cid → Type 0
@@ -26,14 +26,14 @@ InFlatConflict s x cid = InFlat s.active (InConflict s x) cid
 
 -- the kept and the flat conflict as lists
 abbrev pub IsKeptConflict : EngineState → ℕ → List Cid → Type 0
-IsKeptConflict s x names = IsListOf (InConflict s x) names
+IsKeptConflict s x cids = IsListOf (InConflict s x) cids
 
 abbrev pub IsFlatConflict : EngineState → ℕ → List Cid → Type 0
-IsFlatConflict s x names = IsListOf (InFlatConflict s x) names
+IsFlatConflict s x cids = IsListOf (InFlatConflict s x) cids
 
 -- every assignment inside the declared domains that satisfies the justification satisfies the constraint
 abbrev pub IsJustified : Domains → List Active → Active → Type 0
-IsJustified initial active a = (b : Assignment) → IsSolution initial (Named active (Contains a.because)) b → Satisfies b a.con
+IsJustified initial active a = (b : Assignment) → IsSolution initial (Named active (Contains a.justification)) b → Satisfies b a.con
 
 -- all active negations are justified
 abbrev pub AreJustified : EngineState → Type 0

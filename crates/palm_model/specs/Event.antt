@@ -5,13 +5,14 @@ use Rattle.palm_base.specs.declared.terms.Cid.{Cid}
 use Rattle.palm_model.specs.Domains.{Ascends, Has, is_among}
 use Rattle.palm_model.specs.Support.{LacksSupport}
 use Rattle.palm_model.specs.Reason.{reason}
-use Rattle.palm_model.specs.Log.{Active, IsActive, Removal, Loses, cids_of, log_pairs, is_named, cid_before}
+use Rattle.palm_base.specs.Order.{cid_before}
+use Rattle.palm_model.specs.Log.{Active, IsActive, Removal, Loses, cids_of, log_pairs, is_named}
 use Rattle.palm_model.specs.Closure.{IsClosedBy}
-use Rattle.palm_model.specs.State.{EngineState, FitsName, AllFilled, present, woken, without_cid}
+use Rattle.palm_model.specs.State.{EngineState, FitsCid, AllFilled, present, woken, without_cid}
 
 -- ---- posting
 
--- the active constraints with one more, by rising name
+-- the active constraints with one more, by rising id
 abbrev pub with_posted : Active → List Active → List Active
 with_posted a active = filter (λ b. cid_before b.cid a.cid) active ++ a ∷ filter (λ b. cid_before a.cid b.cid) active
 
@@ -20,21 +21,21 @@ abbrev pub posted : EngineState → Active → EngineState
 posted s a = let active = with_posted a s.active in
     record s { active = active; pending = woken active (a.cid ∷ s.pending) [] }
 
--- a constraint that is not active and is what its name says becomes active and pending
+-- a constraint that is not active and is what its id says becomes active and pending
 pub record Posts (s : EngineState) (a : Active) (t : EngineState) : Type 0 where
   pub inactive : IsActive s.active a.cid → ⊥
-  pub formed : FitsName (length s.initial) s.active a
+  pub formed : FitsCid (length s.initial) s.active a
   pub after : t ≡ posted s a
 
 -- ---- withdrawing
 
--- the active constraints but those under these names
-abbrev pub without_names : List Cid → List Active → List Active
-without_names gone active = filter (λ a. not (is_named gone a.cid)) active
+-- the active constraints but those under these ids
+abbrev pub without_cids : List Cid → List Active → List Active
+without_cids gone active = filter (λ a. not (is_named gone a.cid)) active
 
--- the name, and the negations whose justification holds it
+-- the id, and the negations whose justification holds it
 abbrev pub gone_with : List Active → Cid → List Cid
-gone_with active cid = cid ∷ cids_of (filter (λ a. is_named a.because cid) active)
+gone_with active cid = cid ∷ cids_of (filter (λ a. is_named a.justification cid) active)
 
 -- the pairs that the one log has and the other has not
 abbrev pub lost_pairs : List Removal → List Removal → List Pair
@@ -47,7 +48,7 @@ vars_of pairs = map (λ p. p.var) pairs
 -- these constraints are active and pending no longer, the log is what is left of it, and every active constraint over
 -- a restored variable is pending
 abbrev pub withdrawn : EngineState → List Cid → List Removal → EngineState
-withdrawn s gone left = let active = without_names gone s.active in
+withdrawn s gone left = let active = without_cids gone s.active in
     record s { active = active; log = left; pending = woken active s.pending (vars_of (lost_pairs s.log left)) }
 
 -- all of these constraints go, and with them exactly the removals that name one of them

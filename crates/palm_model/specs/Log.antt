@@ -1,72 +1,34 @@
--- Names of active constraints in their order, removals, logs of them, and what a removal names.
-use Rattle.std.specs.Prelude.{◌≡◌, ⊤, Bool, true, false, ◌&&◌, ◌||◌, List, [], ◌∷◌, ◌++◌, map, Contains, All, nat_eq, nat_lt, int_lt}
+-- Lists of ids, active constraints, removals, logs of them, and what a removal names.
+use Rattle.std.specs.Prelude.{◌≡◌, ⊤, Bool, List, [], ◌∷◌, ◌++◌, map, Contains}
 use Rattle.std.specs.List.{list_any}
-use Rattle.std.specs.Ordering.{int_eq}
+use Rattle.palm_base.specs.Order.{Rises, same_cid}
 use Rattle.palm_base.specs.declared.terms.Pair.{Pair}
 use Rattle.palm_base.specs.declared.terms.Cid.{Cid}
-use Rattle.palm_base.specs.declared.terms.Cid.TheVariants.{Decide, Not, User}
 use Rattle.palm_model.specs.Domains.{Domains, Has, without}
 use Rattle.palm_model.specs.Support.{LacksSupport}
 use Rattle.palm_model.specs.declared.constraint.Con.{Con}
 
--- ---- names
+-- ---- ids
 
--- whether the two pairs are one
-abbrev pub same_pair : Pair → Pair → Bool
-same_pair p q = nat_eq p.var q.var && int_eq p.value q.value
-
--- whether the first pair comes before the second: by variable, then by value
-abbrev pub pair_before : Pair → Pair → Bool
-pair_before p q = nat_lt p.var q.var || (nat_eq p.var q.var && int_lt p.value q.value)
-
--- whether the two names are one
-abbrev pub same_cid : Cid → Cid → Bool
-same_cid (Decide x) (Decide y) = nat_eq x y
-same_cid (Decide x) (Not q) = false
-same_cid (Decide x) (User n) = false
-same_cid (Not p) (Decide y) = false
-same_cid (Not p) (Not q) = same_pair p q
-same_cid (Not p) (User n) = false
-same_cid (User m) (Decide y) = false
-same_cid (User m) (Not q) = false
-same_cid (User m) (User n) = nat_eq m n
-
--- whether the first name comes before the second: decisions by variable, then negations by pair, then users by number
-abbrev pub cid_before : Cid → Cid → Bool
-cid_before (Decide x) (Decide y) = nat_lt x y
-cid_before (Decide x) (Not q) = true
-cid_before (Decide x) (User n) = true
-cid_before (Not p) (Decide y) = false
-cid_before (Not p) (Not q) = pair_before p q
-cid_before (Not p) (User n) = true
-cid_before (User m) (Decide y) = false
-cid_before (User m) (Not q) = false
-cid_before (User m) (User n) = nat_lt m n
-
--- whether the name is among the names
+-- whether the id is among the ids
 abbrev pub is_named : List Cid → Cid → Bool
-is_named names cid = list_any (λ c. same_cid c cid) names
+is_named cids cid = list_any (λ c. same_cid c cid) cids
 
--- each name comes before those after it
-abbrev pub Rises : List Cid → Type 0
-Rises [] = ⊤
-Rises (c ∷ cs) = All (λ d. cid_before c d ≡ true) cs × Rises cs
-
--- the list holds exactly the names with the property, by rising name and each once
-pub record IsListOf (P : Cid → Type 0) (names : List Cid) : Type 0 where
-  pub rising : Rises names
-  pub sound : (c : Cid) → Contains names c → P c
-  pub whole : (c : Cid) → P c → Contains names c
+-- the list holds exactly the ids with the property, by rising id and each once
+pub record IsListOf (P : Cid → Type 0) (cids : List Cid) : Type 0 where
+  pub rising : Rises cids
+  pub sound : (c : Cid) → Contains cids c → P c
+  pub whole : (c : Cid) → P c → Contains cids c
 
 -- ---- active constraints
 
--- a constraint under its name; a negation has its justification, and the others have none
+-- a constraint under its id; a negation has its justification, and the others have none
 pub record Active : Type 0 where
   pub cid : Cid
   pub con : Con
-  pub because : List Cid
+  pub justification : List Cid
 
--- the names of active constraints
+-- the ids of active constraints
 abbrev pub cids_of : List Active → List Cid
 cids_of active = map (λ a. a.cid) active
 
@@ -74,13 +36,13 @@ cids_of active = map (λ a. a.cid) active
 abbrev pub cons_of : List Active → List Con
 cons_of active = map (λ a. a.con) active
 
--- an active constraint has the name
+-- an active constraint has the id
 pub record IsActive (active : List Active) (cid : Cid) : Type 0 where
   pub owner : Active
   pub posted : Contains active owner
   pub named : owner.cid ≡ cid
 
--- the constraints of those active ones whose names have the property
+-- the constraints of those active ones whose ids have the property
 pub record Named (active : List Active) (P : Cid → Type 0) (c : Con) : Type 0 where
   pub owner : Active
   pub posted : Contains active owner
@@ -89,7 +51,7 @@ pub record Named (active : List Active) (P : Cid → Type 0) (c : Con) : Type 0 
 
 -- ---- logs
 
--- a pair that was taken out, the name of the constraint that did it, and the pairs for which it did
+-- a pair that was taken out, the id of the constraint that did it, and the pairs for which it did
 pub record Removal : Type 0 where
   pub pair : Pair
   pub by : Cid
@@ -119,12 +81,12 @@ AreRight initial active earlier (r ∷ rest) = IsRight initial active earlier r 
 abbrev pub IsWellFounded : Domains → List Active → List Removal → Type 0
 IsWellFounded initial active log = AreRight initial active [] log
 
--- the explanation of the removal holds the name: its own constraint's, or one in the explanation of a reason
+-- the explanation of the removal holds the id: its own constraint's, or one in the explanation of a reason
 pub data Names (log : List Removal) (cid : Cid) : Removal → Type 0 where
   by_itself : (r : Removal) → r.by ≡ cid → Names log cid r
   by_reason : (r s : Removal) → Contains log s → Contains r.reasons s.pair → Names log cid s → Names log cid r
 
--- the names in the explanation of a pair of the log
+-- the ids in the explanation of a pair of the log
 pub record NamesOfPair (log : List Removal) (pair : Pair) (cid : Cid) : Type 0 where
   pub removal : Removal
   pub logged : Contains log removal
@@ -137,7 +99,7 @@ pub record NamesSome (log : List Removal) (gone : List Cid) (r : Removal) : Type
   pub among : Contains gone cid
   pub names : Names log cid r
 
--- what the log loses when these names go: exactly the removals that name one of them; the others stay, in order
+-- what the log loses when these ids go: exactly the removals that name one of them; the others stay, in order
 pub data Loses (log : List Removal) (gone : List Cid) : List Removal → List Removal → Type 0 where
   none_left : Loses log gone [] []
   is_lost : (r : Removal) (rest left : List Removal) → NamesSome log gone r → Loses log gone rest left → Loses log gone (r ∷ rest) left

@@ -16,24 +16,24 @@ DoExplain initial pair active = Explains initial (Contains (cons_of active)) pai
 
 -- the walk over the later constraints from the last one down leaves these of them, while all earlier ones are still there.
 -- A constraint is left out where the rest has the property without it, and stays where the rest has not
-pub data Leaves (P : List Active → Type 0) : List Active → List Active → List Active → Type 0 where
-  walked_none : (earlier : List Active) → Leaves P earlier [] []
+pub data WalkLeaves (P : List Active → Type 0) : List Active → List Active → List Active → Type 0 where
+  walked_none : (earlier : List Active) → WalkLeaves P earlier [] []
   walked_out : (earlier : List Active) (a : Active) (later left : List Active)
-      → Leaves P (earlier ++ a ∷ []) later left → P (earlier ++ left) → Leaves P earlier (a ∷ later) left
+      → WalkLeaves P (earlier ++ a ∷ []) later left → P (earlier ++ left) → WalkLeaves P earlier (a ∷ later) left
   walked_in : (earlier : List Active) (a : Active) (later left : List Active)
-      → Leaves P (earlier ++ a ∷ []) later left → (P (earlier ++ left) → ⊥) → Leaves P earlier (a ∷ later) (a ∷ left)
+      → WalkLeaves P (earlier ++ a ∷ []) later left → (P (earlier ++ left) → ⊥) → WalkLeaves P earlier (a ∷ later) (a ∷ left)
 
--- the constraints have the property, and these are the names of what the walk over all of them leaves
-pub record IsMinimal (P : List Active → Type 0) (active : List Active) (names : List Cid) : Type 0 where
+-- the constraints have the property, and these are the ids of what the walk over all of them leaves
+pub record IsMinimal (P : List Active → Type 0) (active : List Active) (cids : List Cid) : Type 0 where
   pub holds : P active
   pub left : List Active
-  pub walk : Leaves P [] active left
-  pub named : names ≡ cids_of left
+  pub walk : WalkLeaves P [] active left
+  pub named : cids ≡ cids_of left
 
 -- the minimal conflict of the constraints
 abbrev pub IsMinimalConflict : Domains → List Active → List Cid → Type 0
-IsMinimalConflict initial active names = IsMinimal (AreConflict initial) active names
+IsMinimalConflict initial active cids = IsMinimal (AreConflict initial) active cids
 
 -- the minimal explanation of the pair by the constraints
 abbrev pub IsMinimalExplanation : Domains → List Active → Pair → List Cid → Type 0
-IsMinimalExplanation initial active pair names = IsMinimal (DoExplain initial pair) active names
+IsMinimalExplanation initial active pair cids = IsMinimal (DoExplain initial pair) active cids

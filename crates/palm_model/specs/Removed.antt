@@ -1,5 +1,5 @@
 -- Removed pairs, and the words that the reasons of all kinds share. A removed pair is a declared one that is not present.
-use Rattle.std.specs.Prelude.{ℕ, ℤ, Bool, true, false, not, List, [], ◌∷◌, map, filter, flat_map, nat_eq}
+use Rattle.std.specs.Prelude.{ℕ, ℤ, Bool, false, not, List, [], ◌∷◌, map, filter, flat_map, nat_eq}
 use Rattle.std.specs.List.{list_any}
 use Rattle.std.specs.Ordering.{int_eq}
 use Rattle.palm_base.specs.declared.terms.Pair.{Pair}

@@ -7,13 +7,14 @@ use Rattle.palm_base.specs.declared.terms.Cid.TheVariants.{Decide, Not, User}
 use Rattle.palm_model.specs.Domains.{Domains, AllAscend, values_of, without}
 use Rattle.palm_model.specs.Constraint.{scope, IsWellFormed}
 use Rattle.palm_model.specs.Closure.{IsClosedBy}
-use Rattle.palm_model.specs.Log.{Active, IsActive, Removal, IsWellFounded, Rises, cids_of, log_pairs, is_named}
+use Rattle.palm_base.specs.Order.{Rises}
+use Rattle.palm_model.specs.Log.{Active, IsActive, Removal, IsWellFounded, cids_of, log_pairs, is_named}
 use Rattle.palm_model.specs.declared.constraint.Con.{Con}
 use Rattle.palm_model.specs.declared.constraint.Con.TheVariants.{CompareConst}
 use Rattle.palm_model.specs.declared.constraint.Op.TheVariants.{Eq, Ne}
 
--- the declared values, the active constraints by rising name, the removals so far with the oldest first, and the
--- names of those active constraints that may not be closed
+-- the declared values, the active constraints by rising id, the removals so far with the oldest first, and the
+-- ids of those active constraints that may not be closed
 pub record EngineState : Type 0 where
   pub initial : Domains
   pub active : List Active
@@ -49,7 +50,7 @@ AllFilled d = (x : ℕ) → x < length d → 0 < length (values_of d x)
 abbrev pub is_over : Con → ℕ → Bool
 is_over c x = list_any (λ y. nat_eq y x) (scope c)
 
--- the names of the active constraints that pass the test
+-- the ids of the active constraints that pass the test
 abbrev pub cids_where : (Active → Bool) → List Active → List Cid
 cids_where test active = cids_of (filter test active)
 
@@ -61,49 +62,49 @@ is_awake pending vars a = is_named pending a.cid || list_any (λ x. is_over a.co
 abbrev pub woken : List Active → List Cid → List ℕ → List Cid
 woken active pending vars = cids_where (is_awake pending vars) active
 
--- the names but one
+-- the ids but one
 abbrev pub without_cid : Cid → List Cid → List Cid
-without_cid cid names = filter (λ c. not (is_named (cid ∷ []) c)) names
+without_cid cid cids = filter (λ c. not (is_named (cid ∷ []) c)) cids
 
 -- ---- forms
 
 -- a decision or a user's constraint
-abbrev pub IsGround : Cid → Type 0
-IsGround (Decide x) = ⊤
-IsGround (Not p) = ⊥
-IsGround (User n) = ⊤
+abbrev pub IsJustifier : Cid → Type 0
+IsJustifier (Decide x) = ⊤
+IsJustifier (Not p) = ⊥
+IsJustifier (User n) = ⊤
 
--- whether the name is a user's
+-- whether the id is a user's
 abbrev pub is_user : Cid → Bool
 is_user (Decide x) = false
 is_user (Not p) = false
 is_user (User n) = true
 
 -- active users' constraints and decisions
-abbrev pub AreGrounds : List Active → List Cid → Type 0
-AreGrounds active because = (c : Cid) → Contains because c → IsGround c × IsActive active c
+abbrev pub AreJustifiers : List Active → List Cid → Type 0
+AreJustifiers active justification = (c : Cid) → Contains justification c → IsJustifier c × IsActive active c
 
--- the decision that the variable of a pair has its value, and the negation that the pair does not hold, for these grounds
+-- the decision that the variable of a pair has its value, and the negation that the pair does not hold, for these justifiers
 abbrev pub decision_of : Pair → Active
-decision_of p = record { cid = Decide p.var; con = CompareConst p.var Eq p.value; because = [] }
+decision_of p = record { cid = Decide p.var; con = CompareConst p.var Eq p.value; justification = [] }
 
 abbrev pub negation_of : Pair → List Cid → Active
-negation_of p because = record { cid = Not p; con = CompareConst p.var Ne p.value; because = because }
+negation_of p justification = record { cid = Not p; con = CompareConst p.var Ne p.value; justification = justification }
 
 -- the constraint of a user under its number
 abbrev pub user_of : ℕ → Con → Active
-user_of number con = record { cid = User number; con = con; because = [] }
+user_of number con = record { cid = User number; con = con; justification = [] }
 
--- what a constraint under this name is: a decision says that its variable has a value, a negation that its pair does
--- not hold, for grounds that are active; the constraint of a user is well formed. All are over declared variables
+-- what a constraint under this id is: a decision says that its variable has a value, a negation that its pair does
+-- not hold, for justifiers that are active; the constraint of a user is well formed. All are over declared variables
 abbrev pub IsOfForm : ℕ → List Active → Cid → Con → List Cid → Type 0
-IsOfForm variables active (Decide x) con because = (v : ℤ) × (con ≡ CompareConst x Eq v) × (x < variables) × (because ≡ [])
-IsOfForm variables active (Not p) con because = (con ≡ CompareConst p.var Ne p.value) × (p.var < variables) × AreGrounds active because
-IsOfForm variables active (User n) con because = IsWellFormed variables con × (because ≡ [])
+IsOfForm variables active (Decide x) con justification = (v : ℤ) × (con ≡ CompareConst x Eq v) × (x < variables) × (justification ≡ [])
+IsOfForm variables active (Not p) con justification = (con ≡ CompareConst p.var Ne p.value) × (p.var < variables) × AreJustifiers active justification
+IsOfForm variables active (User n) con justification = IsWellFormed variables con × (justification ≡ [])
 
--- the active constraint is what its name says
-pub record FitsName (variables : ℕ) (active : List Active) (a : Active) : Type 0 where
-  pub form : IsOfForm variables active a.cid a.con a.because
+-- the active constraint is what its id says
+pub record FitsCid (variables : ℕ) (active : List Active) (a : Active) : Type 0 where
+  pub form : IsOfForm variables active a.cid a.con a.justification
 
 -- ---- validity
 
@@ -112,7 +113,7 @@ pub record FitsName (variables : ℕ) (active : List Active) (a : Active) : Type
 pub record IsValid (s : EngineState) : Type 0 where
   pub ascend : AllAscend s.initial
   pub rising : Rises (cids_of s.active)
-  pub formed : (a : Active) → Contains s.active a → FitsName (length s.initial) s.active a
+  pub formed : (a : Active) → Contains s.active a → FitsCid (length s.initial) s.active a
   pub founded : IsWellFounded s.initial s.active s.log
   pub waiting : s.pending ≡ woken s.active s.pending []
   pub closed : (a : Active) → Contains s.active a → (Contains s.pending a.cid → ⊥) → IsClosedBy a.con (present s)

@@ -68,16 +68,16 @@ abbrev pub EachSupported : Part → List ℕ → Domains → Type 0
 EachSupported p xs d = (x : ℕ) (v : ℤ) → Contains xs x → Has d x v → HasSupport d p x v
 
 -- the value has support in the constraint, where it is present
-abbrev pub IsKept : Con → ℕ → ℤ → Domains → Type 0
-IsKept c x v d = Has d x v → IsSupported d c x v
+abbrev pub IsSupportedIfPresent : Con → ℕ → ℤ → Domains → Type 0
+IsSupportedIfPresent c x v d = Has d x v → IsSupported d c x v
 
 -- each of these values has support in the constraint, where it is present
 abbrev pub AreKept : Con → ℕ → List ℤ → Domains → Type 0
-AreKept c x values d = (v : ℤ) → Contains values v → IsKept c x v d
+AreKept c x values d = (v : ℤ) → Contains values v → IsSupportedIfPresent c x v d
 
 -- each present value of these variables has support in the constraint
 abbrev pub AreSupported : Con → List ℕ → Domains → Type 0
-AreSupported c xs d = (x : ℕ) (v : ℤ) → Contains xs x → IsKept c x v d
+AreSupported c xs d = (x : ℕ) (v : ℤ) → Contains xs x → IsSupportedIfPresent c x v d
 
 -- values were taken out, and it is known whether any was; where none was, the rest holds
 pub record Narrowed (Closed Rest : Domains → Type 0) (old new : Domains) (lost : Bool) : Type 0 where

@@ -5,6 +5,7 @@
 mod constraint;
 mod copy;
 mod greatest;
+mod laws;
 mod limits;
 mod part;
 mod parts;
@@ -14,6 +15,7 @@ mod support;
 pub use constraint::{Con, ConList, DomainList, Op, RowList, Target, Term, TermList};
 pub use copy::copy_of;
 pub use greatest::scratch;
+pub use laws::limits_are_these_numbers;
 pub use limits::{
     GREATEST_BOUND, GREATEST_FACTOR, GREATEST_OFFSET, GREATEST_PRODUCT, GREATEST_VALUE, MOST_ROWS,
     MOST_SCOPE,

@@ -16,6 +16,17 @@ ghost use Rattle.palm_read.specs.Linear.{TermForm, term_of};
 ghost use Rattle.palm_read.specs.Reading.{IsRead, IsRefusedBy};
 ghost use Rattle.palm_read.specs.Text.{text_of};
 ghost use Rattle.palm_read.specs.Token.{Lexeme, IsFirstToken, IsLongest, IsNoToken, lexeme_of};
+ghost use Rattle.palm_read.specs.declared.limits.TheConstants.{GREATEST_NUMBER, GREATEST_TABU, MOST_LINE_BYTES, MOST_NAME_BYTES, MOST_VALUES, NO_BUDGET};
+
+/// The numbers of the limits on lines, names, domains and numbers.
+pub fn limits_are_these_numbers()
+    ensures line { MOST_LINE_BYTES ≡ 65536 }
+    ensures name { MOST_NAME_BYTES ≡ 32 }
+    ensures values { MOST_VALUES ≡ 256 }
+    ensures number { GREATEST_NUMBER ≡ 1000000 }
+    ensures tabu { GREATEST_TABU ≡ 1024 }
+    ensures budget { NO_BUDGET ≡ 18446744073709551615 }
+{}
 
 /// A text has lines, and it has them in one way.
 pub fn a_text_has_its_lines()

@@ -3,7 +3,7 @@ ghost use Rattle.std.specs.Prelude.{◌≡◌, ◌⊎◌, Ok, Err, IfOk, IfErr, 
 ghost use Rattle.palm_base.specs.Tells.{Tells};
 ghost use Rattle.palm_read.specs.declared.parse.LineError.TheVariants as LineError;
 ghost use Rattle.palm_read.specs.Bytes.{after_blanks, is_note, is_plain};
-ghost use Rattle.palm_read.specs.Reader.Checks.{IsKept};
+ghost use Rattle.palm_read.specs.Reader.Checks.{PassesChecks};
 ghost use Rattle.palm_read.specs.Reader.Held.{GivesAll, held_line};
 ghost use Rattle.palm_read.specs.Reader.Lines.{form_at};
 ghost use Rattle.palm_read.specs.Reading.{IsReadAs};
@@ -130,7 +130,7 @@ fn read_form(alloc: Global, cursor: &mut Cursor<'_>) -> Result<Line, LineError>
 
 /// The line, where it breaks none of the limits that refuse it.
 fn within_limits(alloc: Global, line: Line) -> Result<Line, LineError>
-    ensures { IsKept line result }
+    ensures { PassesChecks line result }
 {
     check_limits(alloc, &line)?;
     Ok(line)
@@ -138,8 +138,8 @@ fn within_limits(alloc: Global, line: Line) -> Result<Line, LineError>
 
 /// Refuses the line for the first limit that it breaks.
 fn check_limits(alloc: Global, line: &Line) -> Result<(), LineError>
-    ensures kept { OnOk result (IsKept line.now (Ok line.now)) }
-    ensures refused { IfErr result (λ error. IsKept line.now (Err error)) }
+    ensures kept { OnOk result (PassesChecks line.now (Ok line.now)) }
+    ensures refused { IfErr result (λ error. PassesChecks line.now (Err error)) }
 {
     if !is_in_range(line) {
         return Err(LineError::Range);

@@ -3,7 +3,7 @@ use Rattle.std.proofs.Common.{◌≡◌, ℕ, zero, suc, ◌+◌, ◌<◌, ◌�
 use Rattle.std.proofs.lemmas.Option.{get_or_from_slice_get}
 use Rattle.std.proofs.lemmas.List.{length-map, length-take, take_all, take_more}
 use Rattle.palm_base.proofs.cited.Members.{member_same}
-use Rattle.palm_book.specs.Book.{AreValues, Contents, Entry, IsBook, active_of, initial_of, user_at, values_at}
+use Rattle.palm_book.specs.Book.{AreValues, Contents, BookVar, IsBook, active_of, initial_of, user_at, values_at}
 use Rattle.palm_book.specs.declared.book.BookCon.{BookCon}
 use Rattle.palm_model.specs.Constraint.{IsWellFormed, scope}
 use Rattle.palm_model.specs.Domains.{Domains}
@@ -11,7 +11,6 @@ use Rattle.palm_model.specs.Event.{Declares, Posts, with_posted}
 use Rattle.palm_model.specs.Log.{Active, IsActive}
 use Rattle.palm_model.specs.State.{EngineState, blank, user_of}
 use Rattle.palm_model.specs.declared.constraint.Con.{Con}
-use Rattle.palm_base.specs.declared.terms.Cid.TheVariants.{User}
 use Rattle.palm_events.proofs.cited.States.{member_with_posted, with_posted_cases, with_posted_here}
 use Rattle.std.proofs.lemmas.List.Elements.{Contains-append_left, Contains-push, Contains-push_cases}
 use Rattle.palm_reduce.specs.Walked.{AreSame, actives}
@@ -23,14 +22,14 @@ use Rattle.palm_reduce.proofs.Splitting.{apart, earlier_active, earlier_relaxed}
 pub row_values : (book : Contents) → IsBook book → (x : ℕ) → x < length book.variables → AreValues (values_at book.variables x)
 row_values book is x lt = is.values x (record { name = []; values = [] }) lt
 
-read_values : (variables : List Entry) (x : ℕ) → x < length variables → get_or (map (λ e. e.values) variables) x [] ≡ values_at variables x
+read_values : (variables : List BookVar) (x : ℕ) → x < length variables → get_or (map (λ e. e.values) variables) x [] ≡ values_at variables x
 read_values [] x lt = absurd (omega (arith, lt))
 read_values (e ∷ variables) zero lt = refl
 read_values (e ∷ variables) (suc x) lt = read_values variables x (omega (arith, lt))
 
 next_values : (book : Contents) (x : ℕ) → x < length book.variables → take (x + 1) (initial_of book) ≡ take x (initial_of book) ++ values_at book.variables x ∷ []
 next_values book x lt =
-    let within : x < length (initial_of book) = subst (λ n. x < n) (sym (length-map book.variables (λ (e : Entry). e.values))) lt in
+    let within : x < length (initial_of book) = subst (λ n. x < n) (sym (length-map book.variables (λ (e : BookVar). e.values))) lt in
     take_more (initial_of book) x [] within ∙ ap (λ (vs : List ℤ). take x (initial_of book) ++ vs ∷ []) (read_values book.variables x lt)
 
 pub declares_next : (book : Contents) (x : ℕ) → x < length book.variables → (s t : EngineState) → s ≡ blank (take x (initial_of book)) → Declares s (values_at book.variables x) t
@@ -42,7 +41,7 @@ declares_next book x lt s t is declares =
 
 pub declared_all : (book : Contents) (x : ℕ) → length book.variables ≤ x → (s : EngineState) → s ≡ blank (take x (initial_of book)) → s ≡ blank (initial_of book)
 declared_all book x le s is =
-    is ∙ ap (λ (d : Domains). blank d) (take_all x (initial_of book) (omega (arith, length-map book.variables (λ (e : Entry). e.values), le)))
+    is ∙ ap (λ (d : Domains). blank d) (take_all x (initial_of book) (omega (arith, length-map book.variables (λ (e : BookVar). e.values), le)))
 
 -- there is room for one more
 pub few_declared : (book : Contents) (x : ℕ) (s : EngineState) → s ≡ blank (take x (initial_of book)) → length s.initial ≤ x
@@ -54,7 +53,7 @@ few_declared book x s is =
 pub scope_declared : (book : Contents) (c : BookCon) → IsWellFormed (length book.variables) c.con → (initial : Domains) → initial ≡ initial_of book → (con : Con) → con ≡ c.con → All (λ x. x < length initial) (scope con)
 scope_declared book c formed initial is con e =
     subst (λ (d : Con). All (λ x. x < length initial) (scope d)) (sym e)
-    (subst (λ n. All (λ x. x < n) (scope c.con)) (sym (ap length is ∙ length-map book.variables (λ (v : Entry). v.values))) formed.declared)
+    (subst (λ n. All (λ x. x < n) (scope c.con)) (sym (ap length is ∙ length-map book.variables (λ (v : BookVar). v.values))) formed.declared)
 
 pub posts_same : (s t : EngineState) (c : BookCon) (con : Con) → con ≡ c.con → Posts s (user_of c.number con) t → Posts s (user_at c) t
 posts_same s t c con e posts = subst (λ (d : Con). Posts s (user_of c.number d) t) e posts

@@ -1,5 +1,5 @@
 pub mod Asking
-pub mod Causes
+pub mod Cores
 pub mod Filling
 pub mod Passing
 pub mod Splitting

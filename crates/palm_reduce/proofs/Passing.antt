@@ -9,19 +9,19 @@ use Rattle.palm_base.specs.declared.terms.Cid.TheVariants.{User}
 use Rattle.palm_base.proofs.cited.Members.{member_here, member_there, member_cases, member_same, member_unmap, filter_member}
 use Rattle.palm_book.specs.Book.{Contents, IsBook, active_of, initial_of, user_at}
 use Rattle.palm_book.specs.declared.book.BookCon.{BookCon}
-use Rattle.palm_model.specs.Event.{Posts, Withdraws, gone_with, with_posted, without_names}
+use Rattle.palm_model.specs.Event.{Posts, Withdraws, gone_with, with_posted, without_cids}
 use Rattle.palm_model.specs.Log.{Active, IsActive, cids_of, is_named}
-use Rattle.palm_model.specs.Minimal.{IsMinimal, Leaves}
-use Rattle.palm_model.specs.Minimal.Leaves.{walked_none, walked_out, walked_in}
+use Rattle.palm_model.specs.Minimal.{IsMinimal, WalkLeaves}
+use Rattle.palm_model.specs.Minimal.WalkLeaves.{walked_none, walked_out, walked_in}
 use Rattle.palm_model.specs.State.{EngineState}
 use Rattle.palm_laws.proofs.cited.Reducing.{left_within}
-use Rattle.palm_events.proofs.cited.States.{member_with_posted, member_without_names, with_posted_cases, with_posted_here, without_names_member}
-use Rattle.palm_reduce.specs.Properties.{HasProperty, IsCause, MayBeAsked}
+use Rattle.palm_events.proofs.cited.States.{member_with_posted, member_without_cids, with_posted_cases, with_posted_here, without_cids_member}
+use Rattle.palm_reduce.specs.Properties.{HasProperty, IsCore, MayBeAsked}
 use Rattle.palm_reduce.specs.Walked.{AreSame, HasWalked, actives}
 use Rattle.palm_reduce.specs.declared.property.Property.{Property}
 use Rattle.palm_reduce.specs.declared.reduce.Found.{Found}
 use Rattle.palm_reduce.proofs.Asking.{allowed_at, property_same, tells_at}
-use Rattle.palm_reduce.proofs.Causes.{cause_holds, cause_more}
+use Rattle.palm_reduce.proofs.Cores.{core_holds, core_more}
 use Rattle.palm_reduce.proofs.Splitting.{apart, earlier_active, earlier_relaxed, later_active, later_relaxed, split_active, unjustified}
 
 -- ---- the lists
@@ -34,28 +34,28 @@ same_then xs ys zs same e a = (λ m. member_in ys zs a e ((same a).0 m), λ m. (
 
 -- ---- the first step and the last
 
-pub walk_starts : (property : Property) (book : Contents) (found : Found) (s : EngineState) → found.names.items ≡ [] → s.initial ≡ initial_of book → AreSame s.active (active_of book) → IsCause property (initial_of book) (active_of book) found.cause
+pub walk_starts : (property : Property) (book : Contents) (found : Found) (s : EngineState) → found.cids.items ≡ [] → s.initial ≡ initial_of book → AreSame s.active (active_of book) → IsCore property (initial_of book) (active_of book) found.core
     → HasWalked property book (length book.constraints) found s
-walk_starts property book found s new initial same cause =
+walk_starts property book found s new initial same core =
     let all : take (length book.constraints) book.constraints ≡ book.constraints = take_all (length book.constraints) book.constraints (omega arith) in
     let none : drop (length book.constraints) book.constraints ≡ [] = drop_all (length book.constraints) book.constraints (omega arith) in
     record {
       left = [];
-      walk = subst (λ (z : List BookCon). Leaves (HasProperty property (initial_of book)) (actives (take (length book.constraints) book.constraints)) (actives z) []) (sym none)
+      walk = subst (λ (z : List BookCon). WalkLeaves (HasProperty property (initial_of book)) (actives (take (length book.constraints) book.constraints)) (actives z) []) (sym none)
           (walked_none (actives (take (length book.constraints) book.constraints)));
       named = ap reverse new;
       initial = initial;
-      cause = cause_more property (initial_of book) (active_of book) s.active found.cause (λ a named m. (same a).1 m) cause;
+      core = core_more property (initial_of book) (active_of book) s.active found.core (λ a named m. (same a).1 m) core;
       active = same_then s.active (active_of book) (actives (take (length book.constraints) book.constraints) ++ []) same
           (ap actives (sym all) ∙ sym (append-nil (actives (take (length book.constraints) book.constraints))));
     }
 
-pub walk_ends : (property : Property) (book : Contents) (place : ℕ) (cause : List Cid) (found : Found) (s : EngineState) → place ≡ 0 → IsCause property (initial_of book) (active_of book) cause → HasWalked property book place found s
-    → IsMinimal (HasProperty property (initial_of book)) (active_of book) (reverse found.names.items)
-walk_ends property book place cause found s done is walked = record {
-  holds = cause_holds property (initial_of book) (active_of book) cause is;
+pub walk_ends : (property : Property) (book : Contents) (place : ℕ) (core : List Cid) (found : Found) (s : EngineState) → place ≡ 0 → IsCore property (initial_of book) (active_of book) core → HasWalked property book place found s
+    → IsMinimal (HasProperty property (initial_of book)) (active_of book) (reverse found.cids.items)
+walk_ends property book place core found s done is walked = record {
+  holds = core_holds property (initial_of book) (active_of book) core is;
   left = walked.left;
-  walk = subst (λ (n : ℕ). Leaves (HasProperty property (initial_of book)) (actives (take n book.constraints)) (actives (drop n book.constraints)) walked.left) done walked.walk;
+  walk = subst (λ (n : ℕ). WalkLeaves (HasProperty property (initial_of book)) (actives (take n book.constraints)) (actives (drop n book.constraints)) walked.left) done walked.walk;
   named = walked.named;
 }
 
@@ -75,12 +75,12 @@ module _ (property : Property) (book : Contents) (is : IsBook book) (place : ℕ
       let e = earlier_relaxed book.constraints place c at off in
       record {
         left = walked.left;
-        walk = subst (λ (z : List Active). Leaves (HasProperty property (initial_of book)) before z walked.left) (sym (later_relaxed book.constraints place c at off))
-            (subst (λ (z : List Active). Leaves (HasProperty property (initial_of book)) z after walked.left) e walked.walk);
+        walk = subst (λ (z : List Active). WalkLeaves (HasProperty property (initial_of book)) before z walked.left) (sym (later_relaxed book.constraints place c at off))
+            (subst (λ (z : List Active). WalkLeaves (HasProperty property (initial_of book)) z after walked.left) e walked.walk);
         named = walked.named;
         initial = walked.initial;
         active = same_then s.active (actives (take (place + 1) book.constraints) ++ walked.left) (before ++ walked.left) walked.active (ap (λ (z : List Active). z ++ walked.left) e);
-        cause = walked.cause;
+        core = walked.core;
       }
 
   -- ---- an active one
@@ -97,8 +97,8 @@ module _ (property : Property) (book : Contents) (is : IsBook book) (place : ℕ
       named = refl;
     }
 
-    walk_now : Leaves (HasProperty property (initial_of book)) (before ++ user_at c ∷ []) after walked.left
-    walk_now = subst (λ (z : List Active). Leaves (HasProperty property (initial_of book)) z after walked.left) (earlier_active book.constraints place c at on) walked.walk
+    walk_now : WalkLeaves (HasProperty property (initial_of book)) (before ++ user_at c ∷ []) after walked.left
+    walk_now = subst (λ (z : List Active). WalkLeaves (HasProperty property (initial_of book)) z after walked.left) (earlier_active book.constraints place c at on) walked.walk
 
     rest_cases : (b : Active) → Contains (before ++ walked.left) b → Contains before b ⊎ Contains after b
     rest_cases b m = elim (Contains-append_cases before walked.left b m) [
@@ -106,7 +106,7 @@ module _ (property : Property) (book : Contents) (is : IsBook book) (place : ℕ
       | inr k ↦ inr (left_within (HasProperty property (initial_of book)) (before ++ user_at c ∷ []) after walked.left walk_now b k)
     ]
 
-    -- the rest has not the name
+    -- the rest has not the id
     rest_apart : (b : Active) → Contains (before ++ walked.left) b → b.cid ≡ (user_at c).cid → ⊥
     rest_apart b m e = apart book is place c at on b (rest_cases b m) e
 
@@ -131,9 +131,9 @@ module _ (property : Property) (book : Contents) (is : IsBook book) (place : ℕ
       | inr k ↦ Contains-append_right before (user_at c ∷ after) b (member_there (user_at c) after b k)
     ])
 
-    now_unjustified : (b : Active) → Contains s.active b → b.because ≡ []
+    now_unjustified : (b : Active) → Contains s.active b → b.justification ≡ []
     now_unjustified b m = elim (now_cases b m) [
-      | inl e ↦ ap (λ (z : Active). z.because) (sym e)
+      | inl e ↦ ap (λ (z : Active). z.justification) (sym e)
       | inr k ↦ elim (rest_cases b k) [
         | inl n ↦ unjustified (take place book.constraints) b n
         | inr n ↦ unjustified (drop (place + 1) book.constraints) b n
@@ -142,38 +142,38 @@ module _ (property : Property) (book : Contents) (is : IsBook book) (place : ℕ
 
     -- nothing else goes with it
     gone_alone : (d : Cid) → Contains (gone_with s.active (user_at c).cid) d → (user_at c).cid ≡ d
-    gone_alone d m = elim (member_cases (user_at c).cid (cids_of (filter (λ (b : Active). is_named b.because (user_at c).cid) s.active)) d m) [
+    gone_alone d m = elim (member_cases (user_at c).cid (cids_of (filter (λ (b : Active). is_named b.justification (user_at c).cid) s.active)) d m) [
       | inl e ↦ e
       | inr k ↦
-          let r = member_unmap (λ (b : Active). b.cid) (filter (λ (b : Active). is_named b.because (user_at c).cid) s.active) d k in
-          let f = filter_member (λ (b : Active). is_named b.because (user_at c).cid) s.active r.0 r.1 in
+          let r = member_unmap (λ (b : Active). b.cid) (filter (λ (b : Active). is_named b.justification (user_at c).cid) s.active) d k in
+          let f = filter_member (λ (b : Active). is_named b.justification (user_at c).cid) s.active r.0 r.1 in
           absurd (false≢true (subst (λ (z : List Cid). is_named z (user_at c).cid ≡ true) (now_unjustified r.0 f.0) f.1))
     ]
 
     module _ (t : EngineState) (withdraws : Withdraws s (user_at c).cid t) where
-      t_active : t.active ≡ without_names (gone_with s.active (user_at c).cid) s.active
+      t_active : t.active ≡ without_cids (gone_with s.active (user_at c).cid) s.active
       t_active = ap (λ (z : EngineState). z.active) withdraws.after
 
       -- the rest is still there
       pub rest_active : AreSame t.active (before ++ walked.left)
       rest_active b = (
         λ m.
-            let k = without_names_member (gone_with s.active (user_at c).cid) s.active b (subst (λ (z : List Active). Contains z b) t_active m) in
+            let k = without_cids_member (gone_with s.active (user_at c).cid) s.active b (subst (λ (z : List Active). Contains z b) t_active m) in
             elim (now_cases b k.0) [
               | inl e ↦ absurd (k.1 (member_same (gone_with s.active (user_at c).cid) (user_at c).cid b.cid (ap (λ (z : Active). z.cid) e)
-                  (member_here (user_at c).cid (cids_of (filter (λ (d : Active). is_named d.because (user_at c).cid) s.active)))))
+                  (member_here (user_at c).cid (cids_of (filter (λ (d : Active). is_named d.justification (user_at c).cid) s.active)))))
               | inr n ↦ n
             ],
         λ m. subst (λ (z : List Active). Contains z b) (sym t_active)
-            (member_without_names (gone_with s.active (user_at c).cid) s.active b (rest_now b m) (λ g. rest_apart b m (sym (gone_alone b.cid g)))),
+            (member_without_cids (gone_with s.active (user_at c).cid) s.active b (rest_now b m) (λ g. rest_apart b m (sym (gone_alone b.cid g)))),
       )
 
-      -- the known cause stands without a constraint that is not of it
-      pub rest_cause : (Contains found.cause (user_at c).cid → ⊥) → IsCause property (initial_of book) t.active found.cause
-      rest_cause other = cause_more property (initial_of book) s.active t.active found.cause (λ b named m. elim (now_cases b m) [
-        | inl e ↦ absurd (other (subst (Contains found.cause) (ap (λ (z : Active). z.cid) (sym e)) named))
+      -- the known core stands without a constraint that is not of it
+      pub rest_core : (Contains found.core (user_at c).cid → ⊥) → IsCore property (initial_of book) t.active found.core
+      rest_core other = core_more property (initial_of book) s.active t.active found.core (λ b named m. elim (now_cases b m) [
+        | inl e ↦ absurd (other (subst (Contains found.core) (ap (λ (z : Active). z.cid) (sym e)) named))
         | inr k ↦ (rest_active b).1 k
-      ]) walked.cause
+      ]) walked.core
 
       pub rest_initial : t.initial ≡ initial_of book
       rest_initial = ap (λ (z : EngineState). z.initial) withdraws.after ∙ walked.initial
@@ -191,16 +191,16 @@ module _ (property : Property) (book : Contents) (is : IsBook book) (place : ℕ
         )
 
         -- it is left out
-        pub passes_out : (cause : List Cid) → IsCause property (initial_of book) u.active cause → HasWalked property book place (record { names = found.names; cause = cause }) u
-        passes_out cause is_cause = record {
+        pub passes_out : (core : List Cid) → IsCore property (initial_of book) u.active core → HasWalked property book place (record { cids = found.cids; core = core }) u
+        passes_out core is_core = record {
           left = walked.left;
-          walk = subst (λ (z : List Active). Leaves (HasProperty property (initial_of book)) before z walked.left) (sym (later_active book.constraints place c at on))
+          walk = subst (λ (z : List Active). WalkLeaves (HasProperty property (initial_of book)) before z walked.left) (sym (later_active book.constraints place c at on))
               (walked_out before (user_at c) after walked.left walk_now
-              (property_same property (initial_of book) u.active (before ++ walked.left) settled_active true (cause_holds property (initial_of book) u.active cause is_cause)));
+              (property_same property (initial_of book) u.active (before ++ walked.left) settled_active true (core_holds property (initial_of book) u.active core is_core)));
           named = walked.named;
           initial = u_initial ∙ rest_initial;
           active = settled_active;
-          cause = is_cause;
+          core = is_core;
         }
 
         pub is_gone : IsActive u.active (user_at c).cid → ⊥
@@ -232,15 +232,15 @@ module _ (property : Property) (book : Contents) (is : IsBook book) (place : ℕ
             ]),
           )
 
-          pub passes_in : (after_push : Found) → after_push.names.items ≡ found.names.items ++ User c.number ∷ [] → after_push.cause ≡ found.cause
+          pub passes_in : (after_push : Found) → after_push.cids.items ≡ found.cids.items ++ User c.number ∷ [] → after_push.core ≡ found.core
               → (HasProperty property (initial_of book) (before ++ walked.left) → ⊥) → HasWalked property book place after_push v
           passes_in after_push pushed same lacks = record {
             left = user_at c ∷ walked.left;
-            walk = subst (λ (z : List Active). Leaves (HasProperty property (initial_of book)) before z (user_at c ∷ walked.left)) (sym (later_active book.constraints place c at on))
+            walk = subst (λ (z : List Active). WalkLeaves (HasProperty property (initial_of book)) before z (user_at c ∷ walked.left)) (sym (later_active book.constraints place c at on))
                 (walked_in before (user_at c) after walked.left walk_now lacks);
-            named = ap reverse pushed ∙ reverse-append found.names.items (User c.number ∷ []) ∙ ap (λ (z : List Cid). User c.number ∷ z) walked.named;
+            named = ap reverse pushed ∙ reverse-append found.cids.items (User c.number ∷ []) ∙ ap (λ (z : List Cid). User c.number ∷ z) walked.named;
             initial = v_initial ∙ u_initial ∙ rest_initial;
             active = posted_active;
-            cause = subst (IsCause property (initial_of book) v.active) (sym same)
-                (cause_more property (initial_of book) s.active v.active found.cause (λ b named m. (posted_active b).1 ((now_active b).0 m)) walked.cause);
+            core = subst (IsCore property (initial_of book) v.active) (sym same)
+                (core_more property (initial_of book) s.active v.active found.core (λ b named m. (posted_active b).1 ((now_active b).0 m)) walked.core);
           }

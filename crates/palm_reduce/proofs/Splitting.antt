@@ -8,8 +8,9 @@ use Rattle.palm_base.proofs.cited.Members.{member_nil, member_here, member_cases
 use Rattle.palm_book.specs.Book.{Contents, IsBook, user_at}
 use Rattle.palm_book.specs.declared.book.BookCon.{BookCon}
 use Rattle.palm_book.proofs.cited.Actives.{actives_rise}
-use Rattle.palm_model.specs.Log.{Active, Rises, cid_before, cids_of}
-use Rattle.palm_events.proofs.cited.Names.{not_before_itself}
+use Rattle.palm_base.specs.Order.{Rises, cid_before}
+use Rattle.palm_model.specs.Log.{Active, cids_of}
+use Rattle.palm_base.proofs.cited.CidOrder.{not_before_itself}
 use Rattle.palm_reduce.specs.Walked.{actives}
 
 -- ---- lists of constraints
@@ -53,7 +54,7 @@ module _ (cs : List BookCon) (i : ℕ) (c : BookCon) (at : slice_get cs i ≡ So
   split_active on =
       ap actives (sym (take-append-drop i cs)) ∙ actives_joined (take i cs) (drop i cs) ∙ ap (λ (z : List Active). actives (take i cs) ++ z) (later_active on)
 
--- ---- names differ
+-- ---- ids differ
 
 rises_apart_before : (xs : List Active) (a : Active) (ys : List Active) → Rises (cids_of (xs ++ a ∷ ys)) → (b : Active) → Contains xs b → cid_before b.cid a.cid ≡ true
 rises_apart_before [] a ys rises b m = absurd (member_nil b m)
@@ -68,7 +69,7 @@ rises_apart_after : (xs : List Active) (a : Active) (ys : List Active) → Rises
 rises_apart_after [] a ys rises b m = All-contains (λ c. cid_before a.cid c ≡ true) (cids_of ys) b.cid rises.0 (member_map (λ (z : Active). z.cid) ys b m)
 rises_apart_after (x ∷ xs) a ys rises b m = rises_apart_after xs a ys rises.1 b m
 
--- the constraint at a place has another name than those before it and those after it
+-- the constraint at a place has another id than those before it and those after it
 pub apart : (book : Contents) → IsBook book → (i : ℕ) (c : BookCon) → slice_get book.constraints i ≡ Some c → c.active ≡ true
     → (b : Active) → Contains (actives (take i book.constraints)) b ⊎ Contains (actives (drop (i + 1) book.constraints)) b → b.cid ≡ (user_at c).cid → ⊥
 apart book is i c at on b m_in e =
@@ -81,7 +82,7 @@ apart book is i c at on b m_in e =
     ]
 
 -- constraints of users need no justification
-pub unjustified : (cs : List BookCon) (b : Active) → Contains (actives cs) b → b.because ≡ []
+pub unjustified : (cs : List BookCon) (b : Active) → Contains (actives cs) b → b.justification ≡ []
 unjustified cs b m =
     let r = member_unmap user_at (filter (λ (c : BookCon). c.active) cs) b m in
-    ap (λ (z : Active). z.because) (sym r.2)
+    ap (λ (z : Active). z.justification) (sym r.2)

@@ -3,7 +3,8 @@ use Rattle.std.specs.Prelude.{⊤, List, Contains}
 use Rattle.palm_base.specs.declared.terms.Cid.{Cid}
 use Rattle.palm_model.specs.Domains.{Domains, Has}
 use Rattle.palm_model.specs.Closure.{Explains, IsConflict}
-use Rattle.palm_model.specs.Log.{Active, Named, Rises}
+use Rattle.palm_base.specs.Order.{Rises}
+use Rattle.palm_model.specs.Log.{Active, Named}
 use Rattle.palm_model.specs.Minimal.{AreConflict, DoExplain}
 use Rattle.palm_reduce.specs.declared.property.Property.{Property}
 use Rattle.palm_reduce.specs.declared.property.Property.TheVariants.{Conflict, Absence}
@@ -18,12 +19,12 @@ abbrev pub MayBeAsked : Property → Domains → List Active → Type 0
 MayBeAsked Conflict initial active = ⊤
 MayBeAsked (Absence pair) initial active = Has initial pair.var pair.value × (AreConflict initial active → ⊥)
 
--- those under the names have the property by themselves
+-- those under the ids have the property by themselves
 abbrev pub HaveAlone : Property → Domains → List Active → List Cid → Type 0
-HaveAlone Conflict initial active names = IsConflict initial (Named active (Contains names))
-HaveAlone (Absence pair) initial active names = Explains initial (Named active (Contains names)) pair.var pair.value
+HaveAlone Conflict initial active cids = IsConflict initial (Named active (Contains cids))
+HaveAlone (Absence pair) initial active cids = Explains initial (Named active (Contains cids)) pair.var pair.value
 
--- the names rise, and those under them have the property by themselves
-pub record IsCause (property : Property) (initial : Domains) (active : List Active) (names : List Cid) : Type 0 where
-  pub rising : Rises names
-  pub alone : HaveAlone property initial active names
+-- the ids rise, and those under them have the property by themselves
+pub record IsCore (property : Property) (initial : Domains) (active : List Active) (cids : List Cid) : Type 0 where
+  pub rising : Rises cids
+  pub alone : HaveAlone property initial active cids

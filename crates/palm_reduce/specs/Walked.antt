@@ -3,9 +3,9 @@ use Rattle.std.specs.Prelude.{◌≡◌, ◌↔◌, ℕ, List, ◌++◌, Contain
 use Rattle.palm_book.specs.Book.{Contents, initial_of, user_at}
 use Rattle.palm_book.specs.declared.book.BookCon.{BookCon}
 use Rattle.palm_model.specs.Log.{Active, cids_of}
-use Rattle.palm_model.specs.Minimal.{Leaves}
+use Rattle.palm_model.specs.Minimal.{WalkLeaves}
 use Rattle.palm_model.specs.State.{EngineState}
-use Rattle.palm_reduce.specs.Properties.{HasProperty, IsCause}
+use Rattle.palm_reduce.specs.Properties.{HasProperty, IsCore}
 use Rattle.palm_reduce.specs.declared.property.Property.{Property}
 use Rattle.palm_reduce.specs.declared.reduce.Found.{Found}
 
@@ -17,12 +17,12 @@ AreSame xs ys = (a : Active) → Contains xs a ↔ Contains ys a
 abbrev pub actives : List BookCon → List Active
 actives constraints = map user_at (filter (λ c. c.active) constraints)
 
--- the walk has come down to this place of the book: it found the names of what it left there, the highest first, and a
--- cause among all that the engine has, which are these constraints and the active ones of all earlier places
+-- the walk has come down to this place of the book: it found the ids of what it left there, the highest first, and a
+-- core among all that the engine has, which are these constraints and the active ones of all earlier places
 pub record HasWalked (property : Property) (book : Contents) (place : ℕ) (found : Found) (s : EngineState) : Type 0 where
   pub left : List Active
-  pub walk : Leaves (HasProperty property (initial_of book)) (actives (take place book.constraints)) (actives (drop place book.constraints)) left
-  pub named : reverse found.names.items ≡ cids_of left
+  pub walk : WalkLeaves (HasProperty property (initial_of book)) (actives (take place book.constraints)) (actives (drop place book.constraints)) left
+  pub named : reverse found.cids.items ≡ cids_of left
   pub initial : s.initial ≡ initial_of book
   pub active : AreSame s.active (actives (take place book.constraints) ++ left)
-  pub cause : IsCause property (initial_of book) s.active found.cause
+  pub core : IsCore property (initial_of book) s.active found.core

@@ -1,7 +1,7 @@
 //! An engine over the variables and the active constraints of a book.
 ghost use Rattle.std.specs.Prelude.{◌≡◌, ◌<◌, [], length, slice_get, Some, IfOk, OnOk};
 ghost use Rattle.palm_book.specs.Book.{active_of, initial_of, user_at};
-ghost use Rattle.palm_book.specs.declared.book.BookCon.{BookCon as Entry};
+ghost use Rattle.palm_book.specs.declared.book.BookCon.{BookCon as BookConTerm};
 ghost use Rattle.palm_model.specs.Event.{Posts};
 ghost use Rattle.palm_model.specs.Log.{IsActive};
 ghost use Rattle.palm_model.specs.State.{blank};
@@ -33,8 +33,8 @@ pub fn post(
 ) -> Result<(), NoMemory>
     requires within { place < length book.now.constraints }
     requires initial { engine.old.state.initial ≡ initial_of book.now }
-    requires inactive { (c : Entry) → slice_get book.now.constraints place ≡ Some c → IsActive engine.old.state.active (user_at c).cid → ⊥ }
-    ensures { OnOk result ((c : Entry) → slice_get book.now.constraints place ≡ Some c → Posts engine.old.state (user_at c) engine.new.state) }
+    requires inactive { (c : BookConTerm) → slice_get book.now.constraints place ≡ Some c → IsActive engine.old.state.active (user_at c).cid → ⊥ }
+    ensures { OnOk result ((c : BookConTerm) → slice_get book.now.constraints place ≡ Some c → Posts engine.old.state (user_at c) engine.new.state) }
 {
     let entry = book.constraint(place);
     engine.post(entry.number, Kind::from_con(alloc, &entry.con)?)?;

@@ -4,7 +4,7 @@ ghost use Rattle.palm_base.specs.Tells.{Tells};
 ghost use Rattle.palm_events.specs.Along.{IsStill};
 ghost use Rattle.palm_model.specs.Domains.{Has};
 ghost use Rattle.palm_model.specs.State.{IsValid, present};
-ghost use Rattle.palm_reduce.specs.Properties.{HasProperty, IsCause, MayBeAsked};
+ghost use Rattle.palm_reduce.specs.Properties.{HasProperty, IsCore, MayBeAsked};
 
 use palm_agenda::LastOrder;
 use palm_base::{CidList, NoMemory, Pair, Steps};
@@ -43,36 +43,32 @@ fn is_met(property: &Property, engine: &Engine<Kind>) -> bool
     }
 }
 
-/// Makes `cause` the names of constraints that have the property by themselves, as a settled engine keeps them.
-fn tell_cause(
-    property: &Property,
-    engine: &Engine<Kind>,
-    cause: &mut CidList,
-) -> Result<(), NoMemory>
+/// Makes `core` the ids of constraints that have the property by themselves, as a settled engine keeps them.
+fn tell_core(property: &Property, engine: &Engine<Kind>, core: &mut CidList) -> Result<(), NoMemory>
     requires valid { IsValid engine.now.state }
     requires still { IsStill engine.now.state }
     requires allowed { MayBeAsked property.now engine.now.state.initial engine.now.state.active }
     requires holds { HasProperty property.now engine.now.state.initial engine.now.state.active }
-    ensures { OnOk result (IsCause property.now engine.now.state.initial engine.now.state.active cause.new) }
+    ensures { OnOk result (IsCore property.now engine.now.state.initial engine.now.state.active core.new) }
 {
     match property {
-        Property::Conflict => engine.conflict(cause),
-        Property::Absence(pair) => engine.log().explanation(*pair, cause),
+        Property::Conflict => engine.conflict(core),
+        Property::Absence(pair) => engine.log().explanation(*pair, core),
     }
 }
 
-/// Settles an engine, and answers whether its constraints have the property. Where they have it, `cause` becomes the
-/// names of some that have it by themselves.
+/// Settles an engine, and answers whether its constraints have the property. Where they have it, `core` becomes the
+/// ids of some that have it by themselves.
 pub fn has_property<L: Ledger>(
     property: &Property,
     engine: &mut Engine<Kind>,
-    cause: &mut CidList,
+    core: &mut CidList,
     steps: &mut Steps<L>,
 ) -> Result<bool, NoMemory>
     requires { MayBeAsked property.now engine.old.state.initial engine.old.state.active }
     ensures tells { IfOk result (λ has. Tells has (HasProperty property.now engine.old.state.initial engine.old.state.active)) }
-    ensures cause { IfOk result (λ has. has ≡ true → IsCause property.now engine.old.state.initial engine.old.state.active cause.new) }
-    ensures kept { IfOk result (λ has. has ≡ false → cause.new ≡ cause.old) }
+    ensures core { IfOk result (λ has. has ≡ true → IsCore property.now engine.old.state.initial engine.old.state.active core.new) }
+    ensures kept { IfOk result (λ has. has ≡ false → core.new ≡ core.old) }
     ensures initial { OnOk result (engine.new.state.initial ≡ engine.old.state.initial) }
     ensures active { OnOk result (engine.new.state.active ≡ engine.old.state.active) }
     ensures valid { IsValid engine.new.state }
@@ -82,6 +78,6 @@ pub fn has_property<L: Ledger>(
     if !is_met(property, engine) {
         return Ok(false);
     }
-    tell_cause(property, engine, cause)?;
+    tell_core(property, engine, core)?;
     Ok(true)
 }

@@ -3,9 +3,9 @@ ghost use Rattle.std.specs.Prelude.{◌≡◌, ◌+◌, ◌<◌, Contains, lengt
 ghost use Rattle.palm_base.specs.Tells.{Tells};
 ghost use Rattle.palm_book.specs.Book.{IsBook, active_of, initial_of};
 ghost use Rattle.palm_model.specs.Domains.{Has};
-ghost use Rattle.palm_model.specs.Log.{Rises};
+ghost use Rattle.palm_base.specs.Order.{Rises};
 ghost use Rattle.palm_model.specs.Minimal.{AreConflict, DoExplain, IsMinimal, IsMinimalConflict, IsMinimalExplanation};
-ghost use Rattle.palm_reduce.specs.Properties.{HasProperty, IsCause, MayBeAsked};
+ghost use Rattle.palm_reduce.specs.Properties.{HasProperty, IsCore, MayBeAsked};
 ghost use Rattle.palm_reduce.specs.Walked.{AreSame, HasWalked};
 
 use crate::posting::{engine_of, post};
@@ -21,22 +21,22 @@ use std::sync::ledger::{Blank, Ledger};
 /// What a walk has found.
 #[derive(Debug, Drop)]
 pub(crate) struct Found {
-    /// The names of those that stay, the highest first.
-    names: Vec<Cid>,
-    /// The names, by rising name, of some among all that are still there that have the property by themselves.
-    cause: CidList,
+    /// The ids of those that stay, the highest first.
+    cids: Vec<Cid>,
+    /// The ids, by rising id, of some among all that are still there that have the property by themselves.
+    core: CidList,
 }
 
-/// Whether the name is among the names, which rise.
-fn is_among(name: &Cid, names: &CidList) -> bool
-    requires { Rises names.now }
-    ensures { Tells result (Contains names.now name.now) }
+/// Whether the id is among the ids, which rise.
+fn is_among(cid: &Cid, cids: &CidList) -> bool
+    requires { Rises cids.now }
+    ensures { Tells result (Contains cids.now cid.now) }
 {
-    names.as_slice().contains(name)
+    cids.as_slice().contains(cid)
 }
 
 /// Takes the walk past the constraint at a place: it is left out where the rest has the property without it. Nothing is
-/// filtered for a constraint without which the known cause stands.
+/// filtered for a constraint without which the known core stands.
 fn pass<L: Ledger>(
     alloc: Global,
     book: &Book,
@@ -56,47 +56,47 @@ fn pass<L: Ledger>(
     if !entry.active {
         return Ok(());
     }
-    let name = Cid::User(entry.number);
+    let cid = Cid::User(entry.number);
     engine.withdraw(Cid::User(entry.number));
-    if !is_among(&name, &found.cause) {
+    if !is_among(&cid, &found.core) {
         return Ok(());
     }
-    if has_property(property, engine, &mut found.cause, steps)? {
+    if has_property(property, engine, &mut found.core, steps)? {
         return Ok(());
     }
     post(alloc, engine, book, place)?;
-    found.names.push(name)?;
+    found.cids.push(cid)?;
     Ok(())
 }
 
-/// Walks over all of the constraints, some of which are known to have the property by themselves, and answers the names
-/// of those that stay, by rising name.
+/// Walks over all of the constraints, some of which are known to have the property by themselves, and answers the ids
+/// of those that stay, by rising id.
 fn walk<L: Ledger>(
     alloc: Global,
     book: &Book,
     property: &Property,
     engine: &mut Engine<Kind>,
-    cause: CidList,
+    core: CidList,
     steps: &mut Steps<L>,
 ) -> Result<CidList, NoMemory>
     requires allowed { MayBeAsked property.now (initial_of book.now) (active_of book.now) }
     requires initial { engine.old.state.initial ≡ initial_of book.now }
     requires active { AreSame engine.old.state.active (active_of book.now) }
-    requires cause { IsCause property.now (initial_of book.now) (active_of book.now) cause }
-    ensures { IfOk result (λ names. IsMinimal (HasProperty property.now (initial_of book.now)) (active_of book.now) names) }
+    requires core { IsCore property.now (initial_of book.now) (active_of book.now) core }
+    ensures { IfOk result (λ cids. IsMinimal (HasProperty property.now (initial_of book.now)) (active_of book.now) cids) }
 {
     let mut found = Found {
-        names: Vec::new(alloc),
-        cause,
+        cids: Vec::new(alloc),
+        core,
     };
     let mut place = book.constraints();
     while place > 0 {
         place -= 1;
         pass(alloc, book, property, place, engine, &mut found, steps)?;
     }
-    let Found { mut names, .. } = found;
-    names.reverse();
-    Ok(CidList::from_vec(names))
+    let Found { mut cids, .. } = found;
+    cids.reverse();
+    Ok(CidList::from_vec(cids))
 }
 
 /// The minimal set for a property, with a counter of its own.
@@ -116,15 +116,15 @@ fn reduce<L: Ledger>(
 {
     let mut steps = Steps::<L>::start(blank);
     let mut engine = engine_of(alloc, book)?;
-    let mut cause = CidList::new(alloc);
-    if !has_property(property, &mut engine, &mut cause, &mut steps)? {
+    let mut core = CidList::new(alloc);
+    if !has_property(property, &mut engine, &mut core, &mut steps)? {
         return Ok(None);
     }
-    let names = walk(alloc, book, property, &mut engine, cause, &mut steps)?;
-    Ok(Some(names))
+    let cids = walk(alloc, book, property, &mut engine, core, &mut steps)?;
+    Ok(Some(cids))
 }
 
-/// The minimal conflict of the active constraints of a book, by rising name: a walk from the highest number down leaves
+/// The minimal conflict of the active constraints of a book, by rising id: a walk from the highest number down leaves
 /// each constraint out without which the rest is still a conflict. There is none exactly where they are no conflict. It
 /// filters with an engine of its own and without an order.
 pub fn minimal_conflict(alloc: Global, book: &Book) -> Result<Option<CidList>, NoMemory>
@@ -135,7 +135,7 @@ pub fn minimal_conflict(alloc: Global, book: &Book) -> Result<Option<CidList>, N
     reduce::<Brand>(alloc, book, &Property::Conflict, Blank::new(1))
 }
 
-/// The minimal explanation of the absence of a pair by the active constraints of a book, by rising name: a walk from the
+/// The minimal explanation of the absence of a pair by the active constraints of a book, by rising id: a walk from the
 /// highest number down leaves each constraint out without which the rest still explains it. There is none exactly where
 /// they do not explain it: the pair is in their greatest closed domains. It filters with an engine of its own and
 /// without an order.

@@ -8,12 +8,13 @@ use Rattle.palm_base.specs.declared.terms.Cid.{Cid}
 use Rattle.palm_base.specs.declared.terms.Cid.TheVariants.{Not}
 use Rattle.palm_base.proofs.cited.Members.{nat_known, member_nil, member_here, member_there, member_single, member_same, member_map, member_unmap, filter_member}
 use Rattle.palm_model.specs.Constraint.{Distinct}
-use Rattle.palm_model.specs.Log.{IsActive, same_pair}
+use Rattle.palm_base.specs.Order.{same_pair}
+use Rattle.palm_model.specs.Log.{IsActive}
 use Rattle.palm_model.specs.State.{EngineState, IsValid, present}
 use Rattle.palm_model.specs.Event.{vars_of}
 use Rattle.palm_events.specs.Along.{IsStill}
 use Rattle.palm_events.specs.Reasons.{ReasonsAreRight}
-use Rattle.palm_events.proofs.cited.Names.{pair_same, same_pair_itself}
+use Rattle.palm_base.proofs.cited.CidOrder.{pair_same, same_pair_itself}
 use Rattle.palm_engine.proofs.cited.Settled.{settling_filters}
 use Rattle.palm_engine.proofs.cited.Walking.{not_empty}
 use Rattle.palm_search.specs.declared.turn.Pick.{Pick}

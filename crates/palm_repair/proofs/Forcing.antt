@@ -7,8 +7,9 @@ use Rattle.palm_base.specs.declared.terms.Cid.{Cid}
 use Rattle.palm_base.specs.declared.terms.Cid.TheVariants.{Decide, Not}
 use Rattle.palm_base.proofs.cited.Members.{member_here, member_there, member_cases, member_same, member_single, member_map, member_unmap, member_filter, filter_member}
 use Rattle.palm_model.specs.Domains.{Has}
-use Rattle.palm_model.specs.Log.{Active, IsActive, same_pair}
-use Rattle.palm_model.specs.State.{EngineState, IsGround, decision_of, negation_of}
+use Rattle.palm_base.specs.Order.{same_pair}
+use Rattle.palm_model.specs.Log.{Active, IsActive}
+use Rattle.palm_model.specs.State.{EngineState, IsJustifier, decision_of, negation_of}
 use Rattle.palm_model.specs.Event.{Posts, with_posted}
 use Rattle.palm_model.specs.Event.Event.{Post}
 use Rattle.palm_model.specs.Event.Step.{Happens}
@@ -17,7 +18,7 @@ use Rattle.palm_model.specs.declared.constraint.Con.TheVariants.{CompareConst}
 use Rattle.palm_model.specs.declared.constraint.Op.TheVariants.{Eq}
 use Rattle.palm_model.specs.declared.part.Part.TheVariants.{CompareConst as CompareConstPart}
 use Rattle.palm_model.proofs.cited.Supports.{any_member, member_any, not_true}
-use Rattle.palm_events.proofs.cited.Names.{pair_same, same_pair_itself}
+use Rattle.palm_base.proofs.cited.CidOrder.{pair_same, same_pair_itself}
 use Rattle.palm_events.proofs.cited.States.{with_posted_cases, with_posted_here, member_with_posted}
 use Rattle.palm_events.proofs.cited.Valid.{posts_valid}
 use Rattle.palm_events.proofs.cited.Conflicts.{step_justified}
@@ -25,7 +26,7 @@ use Rattle.palm_search.specs.Turns.{SearchState}
 use Rattle.palm_search.specs.Kept.{IsSearching}
 use Rattle.palm_search.proofs.cited.Deciding.{posted_has}
 use Rattle.palm_search.proofs.cited.Keeping.{satisfies_negation}
-use Rattle.palm_search.proofs.cited.Leaving.{user_ground}
+use Rattle.palm_search.proofs.cited.Leaving.{user_justifier}
 use Rattle.palm_repair.specs.Posting.{Nogood, Origin, RepairState, PostsNegation, PostsFor, PostsFrom, PostsAll, is_decided, undecided, justification, with_origin}
 use Rattle.palm_repair.specs.Kept.{IsNogood, IsNumbered, ComesFrom, HasOrigins, IsRepairing}
 use Rattle.palm_repair.proofs.Refuting.{users_posted, nogood_kept}
@@ -69,14 +70,14 @@ user_held : (nogood : Nogood) (p : Pair) (c : Cid) → Contains nogood.users c �
 user_held nogood p c m = Contains-append_right (map (λ r. Decide r.var) (filter (λ r. not (same_pair r p)) nogood.pairs)) nogood.users c m
 
 -- the justification holds active users and decisions alone
-pub justification_grounds : (s : SearchState) (nogood : Nogood) (p : Pair) → IsSearching s → IsNogood s.engine nogood → undecided s.decisions nogood ≡ p ∷ [] → (c : Cid) → Contains (justification nogood p) c → IsGround c × IsActive s.engine.active c
-justification_grounds s nogood p searching is one c m =
+pub justification_justifies : (s : SearchState) (nogood : Nogood) (p : Pair) → IsSearching s → IsNogood s.engine nogood → undecided s.decisions nogood ≡ p ∷ [] → (c : Cid) → Contains (justification nogood p) c → IsJustifier c × IsActive s.engine.active c
+justification_justifies s nogood p searching is one c m =
     elim (Contains-append_cases (map (λ r. Decide r.var) (filter (λ r. not (same_pair r p)) nogood.pairs)) nogood.users c m) [
-      | inr k ↦ let u = is.users c k in (user_ground c u.0, u.1)
+      | inr k ↦ let u = is.users c k in (user_justifier c u.0, u.1)
       | inl k ↦
           let r = member_unmap (λ (q : Pair). Decide q.var) (filter (λ q. not (same_pair q p)) nogood.pairs) c k in
           let f = filter_member (λ q. not (same_pair q p)) nogood.pairs r.0 r.1 in
-          subst (λ d. IsGround d × IsActive s.engine.active d) r.2 (
+          subst (λ d. IsJustifier d × IsActive s.engine.active d) r.2 (
             tt,
             decided_active s searching r.0 (elim (all_but_one s.decisions nogood p r.0 one f.0) [
               | inl e ↦ absurd (false≢true (sym (not-true (same_pair r.0 p) f.1) ∙ subst (λ q. same_pair q p ≡ true) e (same_pair_itself p)))
@@ -178,17 +179,17 @@ negated_origins s number nogood p engine posts holds numbered origins =
     let ea : engine.active ≡ with_posted a s.search.engine.active = ap (λ (z : EngineState). z.active) posts.after in
     record {
       comes = λ b q m named. elim (with_posted_cases a s.search.engine.active b (subst (λ l. Contains l b) ea m)) [
-        | inl e ↦ subst (λ r. ComesFrom t r b.because) (negation_same p q (ap (λ (c : Active). c.cid) e ∙ named)) (record {
+        | inl e ↦ subst (λ r. ComesFrom t r b.justification) (negation_same p q (ap (λ (c : Active). c.cid) e ∙ named)) (record {
           number = number;
           nogood = nogood;
           origin = member_here new old;
           numbered = numbered_same s t number nogood refl refl numbered;
           holds = holds;
-          justified = sym (ap (λ (c : Active). c.because) e);
+          justified = sym (ap (λ (c : Active). c.justification) e);
         })
         | inr k ↦
             let comes = origins.comes b q k named in
-            comes_same s t q b.because refl refl comes (kept_origin p number s.origins (record { pair = q; nogood = comes.number }) (not_same p q b k named posts.inactive) comes.origin)
+            comes_same s t q b.justification refl refl comes (kept_origin p number s.origins (record { pair = q; nogood = comes.number }) (not_same p q b k named posts.inactive) comes.origin)
       ];
       active = λ o m. subst (λ l. IsActive l (Not o.pair)) (sym ea) (elim (member_cases new old o m) [
         | inl e ↦ subst (λ (r : Origin). IsActive (with_posted a s.search.engine.active) (Not r.pair)) e (record { owner = a; posted = with_posted_here a s.search.engine.active; named = refl })
@@ -240,7 +241,7 @@ posts_for_keeps s number nogood (p ∷ []) t e posts numbered repairing = elim p
 posts_for_keeps s number nogood (p ∷ q ∷ left) t e posts numbered repairing = subst IsRepairing (sym posts) repairing
 
 -- posting adds negations, and leaves all else
-pub record Leaves (s t : RepairState) : Type 0 where
+pub record OnlyPosts (s t : RepairState) : Type 0 where
   pub decisions : t.search.decisions ≡ s.search.decisions
   pub nogoods : t.nogoods ≡ s.nogoods
   pub weights : t.weights ≡ s.weights
@@ -248,10 +249,10 @@ pub record Leaves (s t : RepairState) : Type 0 where
   pub initial : t.search.engine.initial ≡ s.search.engine.initial
   pub active : (a : Active) → Contains s.search.engine.active a → Contains t.search.engine.active a
 
-pub leaves_none : (s : RepairState) → Leaves s s
+pub leaves_none : (s : RepairState) → OnlyPosts s s
 leaves_none s = record { decisions = refl; nogoods = refl; weights = refl; dropped = refl; initial = refl; active = λ a m. m }
 
-pub leaves_then : (s m t : RepairState) → Leaves s m → Leaves m t → Leaves s t
+pub leaves_then : (s m t : RepairState) → OnlyPosts s m → OnlyPosts m t → OnlyPosts s t
 leaves_then s m t one two = record {
   decisions = two.decisions ∙ one.decisions;
   nogoods = two.nogoods ∙ one.nogoods;
@@ -261,7 +262,7 @@ leaves_then s m t one two = record {
   active = λ a k. two.active a (one.active a k);
 }
 
-negation_leaves : (s : RepairState) (number : ℕ) (nogood : Nogood) (p : Pair) (t : RepairState) → PostsNegation s number nogood p t → Leaves s t
+negation_leaves : (s : RepairState) (number : ℕ) (nogood : Nogood) (p : Pair) (t : RepairState) → PostsNegation s number nogood p t → OnlyPosts s t
 negation_leaves s number nogood p t posts =
     let after = posts.posts.after in
     record {
@@ -274,16 +275,16 @@ negation_leaves s number nogood p t posts =
           (member_with_posted (negation_of p (justification nogood p)) s.search.engine.active a posts.posts.inactive m);
     }
 
-pub posts_for_leaves : (s : RepairState) (number : ℕ) (nogood : Nogood) (left : List Pair) (t : RepairState) → PostsFor s number nogood left t → Leaves s t
-posts_for_leaves s number nogood [] t posts = subst (λ z. Leaves s z) (sym posts) (leaves_none s)
+pub posts_for_leaves : (s : RepairState) (number : ℕ) (nogood : Nogood) (left : List Pair) (t : RepairState) → PostsFor s number nogood left t → OnlyPosts s t
+posts_for_leaves s number nogood [] t posts = subst (λ z. OnlyPosts s z) (sym posts) (leaves_none s)
 posts_for_leaves s number nogood (p ∷ []) t posts = elim posts [
-  | inl r ↦ subst (λ z. Leaves s z) (sym r.1) (leaves_none s)
+  | inl r ↦ subst (λ z. OnlyPosts s z) (sym r.1) (leaves_none s)
   | inr r ↦ negation_leaves s number nogood p t r
 ]
-posts_for_leaves s number nogood (p ∷ q ∷ left) t posts = subst (λ z. Leaves s z) (sym posts) (leaves_none s)
+posts_for_leaves s number nogood (p ∷ q ∷ left) t posts = subst (λ z. OnlyPosts s z) (sym posts) (leaves_none s)
 
-pub posts_from_leaves : (s : RepairState) (number : ℕ) (left : List Nogood) (t : RepairState) → PostsFrom s number left t → Leaves s t
-posts_from_leaves s number [] t posts = subst (λ z. Leaves s z) (sym posts) (leaves_none s)
+pub posts_from_leaves : (s : RepairState) (number : ℕ) (left : List Nogood) (t : RepairState) → PostsFrom s number left t → OnlyPosts s t
+posts_from_leaves s number [] t posts = subst (λ z. OnlyPosts s z) (sym posts) (leaves_none s)
 posts_from_leaves s number (nogood ∷ left) t posts =
     leaves_then s posts.0 t (posts_for_leaves s number nogood (undecided s.search.decisions nogood) posts.0 posts.1) (posts_from_leaves posts.0 (number + 1) left t posts.2)
 
@@ -293,7 +294,7 @@ pub record IsWalked (s : RepairState) (number : ℕ) (left : List Nogood) : Type
   pub are : s.nogoods ≡ earlier ++ left
   pub counts : number ≡ s.dropped + length earlier
 
-pub walked_more : (s t : RepairState) (number : ℕ) (nogood : Nogood) (left : List Nogood) → Leaves s t → IsWalked s number (nogood ∷ left) → IsWalked t (number + 1) left
+pub walked_more : (s t : RepairState) (number : ℕ) (nogood : Nogood) (left : List Nogood) → OnlyPosts s t → IsWalked s number (nogood ∷ left) → IsWalked t (number + 1) left
 walked_more s t number nogood left leaves walked = record {
   earlier = walked.earlier ++ nogood ∷ [];
   are = leaves.nogoods ∙ walked.are ∙ sym (append_assoc walked.earlier (nogood ∷ []) left);
@@ -335,7 +336,7 @@ posts_for_forces s number nogood left t p e posts = elim (subst (λ l. PostsFor 
   }
 ]
 
-pub still_active : (s t : RepairState) (c : Cid) → Leaves s t → IsActive s.search.engine.active c → IsActive t.search.engine.active c
+pub still_active : (s t : RepairState) (c : Cid) → OnlyPosts s t → IsActive s.search.engine.active c → IsActive t.search.engine.active c
 still_active s t c leaves is = record { owner = is.owner; posted = leaves.active is.owner is.posted; named = is.named }
 
 pub posts_from_forces : (s : RepairState) (number : ℕ) (left : List Nogood) (t : RepairState) → PostsFrom s number left t

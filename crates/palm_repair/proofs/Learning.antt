@@ -8,10 +8,11 @@ use Rattle.palm_base.specs.declared.terms.Cid.TheVariants.{Decide, Not}
 use Rattle.palm_base.proofs.cited.Members.{member_nil, member_here, member_there, member_cases, member_same}
 use Rattle.palm_model.specs.Constraint.{Distinct}
 use Rattle.palm_model.specs.Domains.{Domains}
-use Rattle.palm_model.specs.Log.{IsActive, same_pair}
+use Rattle.palm_base.specs.Order.{same_pair}
+use Rattle.palm_model.specs.Log.{IsActive}
 use Rattle.palm_model.specs.State.{EngineState, negation_of}
 use Rattle.palm_model.proofs.cited.Supports.{not_true}
-use Rattle.palm_events.proofs.cited.Names.{pair_same}
+use Rattle.palm_base.proofs.cited.CidOrder.{pair_same}
 use Rattle.palm_engine.specs.Engine.{View, KeepsCounts}
 use Rattle.palm_domain.specs.Rows.{Row, initial_of}
 use Rattle.palm_search.specs.Calls.{SearchView, search_state}
@@ -21,7 +22,7 @@ use Rattle.palm_repair.specs.Posting.{Nogood, Origin, RepairState, PostsFor, Pos
 use Rattle.palm_repair.specs.Repair.{raised, raised_from, weight_of}
 use Rattle.palm_repair.specs.Kept.{HasOrigins, IsNumbered, IsRepairing}
 use Rattle.palm_repair.specs.Learned.{Forces, IsForced, LearnedView, ShowsDecisions, left_open, repair_state}
-use Rattle.palm_repair.proofs.Forcing.{Leaves, leaves_none, leaves_then, justification_grounds, one_left, posts_for_keeps, posts_for_leaves}
+use Rattle.palm_repair.proofs.Forcing.{OnlyPosts, leaves_none, leaves_then, justification_justifies, one_left, posts_for_keeps, posts_for_leaves}
 use Rattle.palm_repair.proofs.Reading.{at_member, open_is, split_at}
 use Rattle.palm_repair.proofs.Repairing.{raised_length}
 
@@ -125,7 +126,7 @@ raise_next weights vars now then i v lt is distinct within e f =
 pub record IsPosting (decisions : List Pair) (start : View) (first : LearnedView) (index : ℕ) (engine : View) (learned : LearnedView) : Type 0 where
   pub posts : PostsFrom (repair_state start.state decisions first) first.dropped (take index first.nogoods) (repair_state engine.state decisions learned)
   pub repairing : IsRepairing (repair_state engine.state decisions learned)
-  pub leaves : Leaves (repair_state start.state decisions first) (repair_state engine.state decisions learned)
+  pub leaves : OnlyPosts (repair_state start.state decisions first) (repair_state engine.state decisions learned)
   pub counts : KeepsCounts start engine
 
 pub counts_same : (a b c : View) → KeepsCounts a b → KeepsCounts b c → KeepsCounts a c
@@ -172,7 +173,7 @@ listed_forced decisions engine learned values nogood p repairing shows m one =
     let e = sym (open_is decisions values nogood shows) ∙ one in
     record {
       declared = is.declared p (one_left decisions nogood p e);
-      grounds = justification_grounds (record { engine = engine; decisions = decisions }) nogood p repairing.searching is e;
+      justifiers = justification_justifies (record { engine = engine; decisions = decisions }) nogood p repairing.searching is e;
     }
 
 -- one more nogood was walked

@@ -2,6 +2,7 @@ pub mod Blocking
 pub mod Breaking
 pub mod Choosing
 pub mod cited
+pub mod Following
 pub mod Forcing
 pub mod Learning
 pub mod Reading

@@ -11,7 +11,7 @@ use Rattle.palm_base.specs.declared.terms.Cid.TheVariants.{Decide}
 use Rattle.palm_base.proofs.cited.Members.{member_nil, member_here, member_cases, member_same, member_map, member_take_more, filter_agree_members}
 use Rattle.palm_model.specs.Constraint.{Distinct}
 use Rattle.palm_model.specs.Event.{vars_of}
-use Rattle.palm_model.specs.Log.{same_pair}
+use Rattle.palm_base.specs.Order.{same_pair}
 use Rattle.palm_repair.specs.Posting.{Nogood, is_decided, undecided}
 use Rattle.palm_repair.specs.Learned.{ShowsDecisions, is_shown, is_value, left_open, listed_pair}
 use Rattle.palm_repair.proofs.Forcing.{decided_member, member_decided}
@@ -132,16 +132,16 @@ others_here : (pairs : List Pair) (i : ℕ) (x p : Pair) (rest : List Pair) → 
     → map (λ (q : Pair). Decide q.var) (filter (λ q. not (same_pair q p)) (take (i + 1) pairs)) ≡ map (λ (q : Pair). Decide q.var) (filter (λ q. not (same_pair q p)) (take i pairs)) ++ map (λ (q : Pair). Decide q.var) rest
 others_here pairs i x p rest lt is e =
     let test = λ (q : Pair). not (same_pair q p) in
-    let name = λ (q : Pair). Decide q.var in
+    let cid = λ (q : Pair). Decide q.var in
     let taken = take_more pairs i x lt ∙ ap (λ z. take i pairs ++ z ∷ []) (sym is) in
-    ap (λ l. map name (filter test l)) taken ∙ ap (map name) (filter-append test (take i pairs) (x ∷ []) ∙ ap (λ l. filter test (take i pairs) ++ l) e) ∙ map-append name (filter test (take i pairs)) rest
+    ap (λ l. map cid (filter test l)) taken ∙ ap (map cid) (filter-append test (take i pairs) (x ∷ []) ∙ ap (λ l. filter test (take i pairs) ++ l) e) ∙ map-append cid (filter test (take i pairs)) rest
 
-pub others_more : (pairs : List Pair) (i : ℕ) (x p : Pair) (names now : List Cid) → i < length pairs → x ≡ get_or pairs i x → same_pair x p ≡ false
-    → names ≡ map (λ (q : Pair). Decide q.var) (filter (λ q. not (same_pair q p)) (take i pairs)) → now ≡ names ++ Decide x.var ∷ [] → now ≡ map (λ (q : Pair). Decide q.var) (filter (λ q. not (same_pair q p)) (take (i + 1) pairs))
-others_more pairs i x p names now lt is other inv e =
+pub others_more : (pairs : List Pair) (i : ℕ) (x p : Pair) (cids now : List Cid) → i < length pairs → x ≡ get_or pairs i x → same_pair x p ≡ false
+    → cids ≡ map (λ (q : Pair). Decide q.var) (filter (λ q. not (same_pair q p)) (take i pairs)) → now ≡ cids ++ Decide x.var ∷ [] → now ≡ map (λ (q : Pair). Decide q.var) (filter (λ q. not (same_pair q p)) (take (i + 1) pairs))
+others_more pairs i x p cids now lt is other inv e =
     e ∙ ap (λ l. l ++ Decide x.var ∷ []) inv ∙ sym (others_here pairs i x p (x ∷ []) lt is (ap (λ b. cond (not b) (x ∷ []) []) other))
 
-pub others_same : (pairs : List Pair) (i : ℕ) (x p : Pair) (names now : List Cid) → i < length pairs → x ≡ get_or pairs i x → same_pair x p ≡ true
-    → names ≡ map (λ (q : Pair). Decide q.var) (filter (λ q. not (same_pair q p)) (take i pairs)) → now ≡ names → now ≡ map (λ (q : Pair). Decide q.var) (filter (λ q. not (same_pair q p)) (take (i + 1) pairs))
-others_same pairs i x p names now lt is other inv e =
+pub others_same : (pairs : List Pair) (i : ℕ) (x p : Pair) (cids now : List Cid) → i < length pairs → x ≡ get_or pairs i x → same_pair x p ≡ true
+    → cids ≡ map (λ (q : Pair). Decide q.var) (filter (λ q. not (same_pair q p)) (take i pairs)) → now ≡ cids → now ≡ map (λ (q : Pair). Decide q.var) (filter (λ q. not (same_pair q p)) (take (i + 1) pairs))
+others_same pairs i x p cids now lt is other inv e =
     e ∙ inv ∙ sym (append-nil (map (λ (q : Pair). Decide q.var) (filter (λ q. not (same_pair q p)) (take i pairs)))) ∙ sym (others_here pairs i x p [] lt is (ap (λ b. cond (not b) (x ∷ []) []) other))

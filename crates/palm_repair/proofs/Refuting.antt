@@ -10,12 +10,13 @@ use Rattle.palm_model.specs.Domains.{Assignment, Has}
 use Rattle.palm_model.specs.Part.{Satisfies}
 use Rattle.palm_model.specs.Constraint.{Distinct}
 use Rattle.palm_model.specs.Closure.{IsSolution}
-use Rattle.palm_model.specs.Log.{Active, Named, Rises, cid_before}
-use Rattle.palm_model.specs.State.{EngineState, IsGround, is_user}
+use Rattle.palm_base.specs.Order.{Rises, cid_before}
+use Rattle.palm_model.specs.Log.{Active, Named}
+use Rattle.palm_model.specs.State.{EngineState, IsJustifier, is_user}
 use Rattle.palm_model.specs.Event.{Posts, WithdrawsAll, vars_of}
-use Rattle.palm_events.proofs.cited.Names.{not_before_itself}
-use Rattle.palm_events.proofs.cited.States.{member_with_posted, member_without_names}
-use Rattle.palm_events.proofs.cited.Conflicts.{flat_unsolved, flat_grounds}
+use Rattle.palm_base.proofs.cited.CidOrder.{not_before_itself}
+use Rattle.palm_events.proofs.cited.States.{member_with_posted, member_without_cids}
+use Rattle.palm_events.proofs.cited.Conflicts.{flat_unsolved, flat_justifiers}
 use Rattle.palm_search.specs.Turns.{SearchState, HasFlatConflict}
 use Rattle.palm_search.specs.Kept.{IsSearching}
 use Rattle.palm_search.proofs.cited.Keeping.{satisfies_decision}
@@ -38,7 +39,7 @@ users_posted s a t posts = record {
 pub users_withdrawn : (s : EngineState) (gone : List Cid) (t : EngineState) → ((c : Cid) → Contains gone c → is_user c ≡ true → ⊥) → WithdrawsAll s gone t → KeepsUsers s t
 users_withdrawn s gone t none withdraws = record {
   initial = ap (λ (z : EngineState). z.initial) withdraws.after;
-  users = λ b m user. subst (λ (z : EngineState). Contains z.active b) (sym withdraws.after) (member_without_names gone s.active b m (λ k. none b.cid k user));
+  users = λ b m user. subst (λ (z : EngineState). Contains z.active b) (sym withdraws.after) (member_without_cids gone s.active b m (λ k. none b.cid k user));
 }
 
 pub users_filtered : (s t : EngineState) → t.active ≡ s.active → t.initial ≡ s.initial → KeepsUsers s t
@@ -131,16 +132,16 @@ nogood_distinct decisions (c ∷ conflict) distinct rises =
 -- ---- the nogood of a flat conflict
 
 -- what satisfies the users and has the pairs satisfies all that the flat conflict holds
-ground_solved : (s : SearchState) → IsSearching s → (conflict : List Cid) (b : Assignment) → IsSolution s.engine.initial (Named s.engine.active (Contains (nogood_of s.decisions conflict).users)) b
-    → ((p : Pair) → Contains (nogood_of s.decisions conflict).pairs p → b p.var ≡ p.value) → (a : Active) (cid : Cid) → a.cid ≡ cid → Contains s.engine.active a → IsGround cid → Contains conflict cid → Satisfies b a.con
-ground_solved s searching conflict b solution at a (Decide x) named posted ground held =
+justifier_solved : (s : SearchState) → IsSearching s → (conflict : List Cid) (b : Assignment) → IsSolution s.engine.initial (Named s.engine.active (Contains (nogood_of s.decisions conflict).users)) b
+    → ((p : Pair) → Contains (nogood_of s.decisions conflict).pairs p → b p.var ≡ p.value) → (a : Active) (cid : Cid) → a.cid ≡ cid → Contains s.engine.active a → IsJustifier cid → Contains conflict cid → Satisfies b a.con
+justifier_solved s searching conflict b solution at a (Decide x) named posted justifier held =
     let taken = searching.decisions.taken a x posted named in
     let p = taken.0 in
     let same : Decide x ≡ Decide p.var = sym named ∙ ap (λ (c : Active). c.cid) taken.2 in
     let m = pair_nogood s.decisions conflict p taken.1 (member_same conflict (Decide x) (Decide p.var) same held) in
     subst (λ (c : Active). Satisfies b c.con) (sym taken.2) (satisfies_decision b p (at p m))
-ground_solved s searching conflict b solution at a (Not p) named posted ground held = absurd ground
-ground_solved s searching conflict b solution at a (User n) named posted ground held =
+justifier_solved s searching conflict b solution at a (Not p) named posted justifier held = absurd justifier
+justifier_solved s searching conflict b solution at a (User n) named posted justifier held =
     solution.satisfies a.con (record {
       owner = a;
       posted = posted;
@@ -152,14 +153,14 @@ pub flat_nogood : (s : SearchState) (conflict : List Cid) → IsSearching s → 
 flat_nogood s conflict searching flat = record {
   users = λ c m.
       let r = filter_member is_user conflict c m in
-      (r.1, (flat_grounds s.engine searching.valid flat.var c (flat.is.sound c r.0)).1);
+      (r.1, (flat_justifiers s.engine searching.valid flat.var c (flat.is.sound c r.0)).1);
   declared = λ p m. searching.declared.decided p (nogood_pair s.decisions conflict p m).0;
   distinct = nogood_distinct s.decisions conflict searching.decisions.distinct flat.is.rising;
   refuted = λ b solution at. flat_unsolved s.engine searching.valid searching.justified flat.var flat.empty b (record {
     within = solution.within;
     satisfies = λ c named.
         let cid = named.owner.cid in
-        let ground = (flat_grounds s.engine searching.valid flat.var cid named.named).0 in
-        subst (λ d. Satisfies b d) named.is (ground_solved s searching conflict b solution at named.owner cid refl named.posted ground (flat.is.whole cid named.named));
+        let justifier = (flat_justifiers s.engine searching.valid flat.var cid named.named).0 in
+        subst (λ d. Satisfies b d) named.is (justifier_solved s searching conflict b solution at named.owner cid refl named.posted justifier (flat.is.whole cid named.named));
   });
 }

@@ -9,14 +9,14 @@ use Rattle.palm_base.specs.declared.terms.Cid.TheVariants.{Decide, Not}
 use Rattle.palm_base.proofs.cited.Members.{member_nil, member_there, member_same, member_map, member_unmap, member_filter, filter_member}
 use Rattle.palm_model.specs.Domains.{Has}
 use Rattle.palm_model.specs.Log.{Active, IsActive, cids_of, is_named}
-use Rattle.palm_model.specs.State.{EngineState, IsValid, IsGround, is_user, decision_of}
-use Rattle.palm_model.specs.Event.{Withdraws, WithdrawsAll, with_posted, without_names, gone_with}
+use Rattle.palm_model.specs.State.{EngineState, IsValid, IsJustifier, is_user, decision_of}
+use Rattle.palm_model.specs.Event.{Withdraws, WithdrawsAll, with_posted, without_cids, gone_with}
 use Rattle.palm_model.specs.Event.Event.{Withdraw}
 use Rattle.palm_model.specs.Event.Step.{Happens}
-use Rattle.palm_events.specs.Along.{KeepsGrounds}
+use Rattle.palm_events.specs.Along.{KeepsJustifiers}
 use Rattle.palm_events.specs.Reasons.{ReasonsAreRight}
 use Rattle.palm_events.proofs.cited.Names.{named_member, member_named}
-use Rattle.palm_events.proofs.cited.States.{active_cid, cid_active, with_posted_cases, member_with_posted, without_names_member, member_without_names}
+use Rattle.palm_events.proofs.cited.States.{active_cid, cid_active, with_posted_cases, member_with_posted, without_cids_member, member_without_cids}
 use Rattle.palm_events.proofs.cited.Valid.{withdraws_valid, withdraws_all_valid}
 use Rattle.palm_events.proofs.cited.Conflicts.{step_justified, withdraws_justified}
 use Rattle.palm_engine.proofs.cited.Settled.{settling_filters}
@@ -42,7 +42,7 @@ pub origins_moved : (s : RepairState) (search : SearchState) → ((a : Active) (
 origins_moved s search old more origins = record {
   comes = λ a p m named.
       let comes = origins.comes a p (old a p m named) named in
-      comes_same s (record s { search = search }) p a.because refl refl comes comes.origin;
+      comes_same s (record s { search = search }) p a.justification refl refl comes comes.origin;
   active = λ o m. let is = origins.active o m in record { owner = is.owner; posted = more is.owner is.posted; named = is.named };
   single = origins.single;
 }
@@ -56,7 +56,7 @@ origins_fewer s search weights old origins =
     record {
       comes = λ a p m named.
           let comes = origins.comes a p (old a m) named in
-          comes_same s t p a.because refl refl comes
+          comes_same s t p a.justification refl refl comes
           (member_filter test s.origins (record { pair = p; nogood = comes.number }) comes.origin
           (member_named (cids_of search.engine.active) (Not p) (member_same (cids_of search.engine.active) a.cid (Not p) named (cid_active search.engine.active a m))));
       active = λ o m. active_cid search.engine.active (Not o.pair) (named_member (cids_of search.engine.active) (Not o.pair) (filter_member test s.origins o m).1);
@@ -94,7 +94,7 @@ undone_searching : (s : SearchState) (gone : Pair) (earlier later : List Pair) (
     → IsSearching s → IsSearching (record { engine = engine; decisions = earlier ++ later })
 undone_searching s gone earlier later engine e withdraws searching =
     let ei : engine.initial ≡ s.engine.initial = ap (λ (z : EngineState). z.initial) withdraws.after in
-    let ea : engine.active ≡ without_names (gone_with s.engine.active (Decide gone.var)) s.engine.active = ap (λ (z : EngineState). z.active) withdraws.after in
+    let ea : engine.active ≡ without_cids (gone_with s.engine.active (Decide gone.var)) s.engine.active = ap (λ (z : EngineState). z.active) withdraws.after in
     record {
       valid = withdraws_valid s.engine engine (Decide gone.var) withdraws searching.valid;
       justified = step_justified s.engine (Happens (Withdraw (Decide gone.var))) engine withdraws searching.valid tt searching.justified;
@@ -102,7 +102,7 @@ undone_searching s gone earlier later engine e withdraws searching =
       declared = record {
         decided = λ q m. subst (λ d. Has d q.var q.value) (sym ei) (searching.declared.decided q (subst (λ l. Contains l q) (sym e) (others_taken earlier later gone q m)));
         negated = λ a q m named. subst (λ d. Has d q.var q.value) (sym ei)
-            (searching.declared.negated a q (without_names_member (gone_with s.engine.active (Decide gone.var)) s.engine.active a (subst (λ l. Contains l a) ea m)).0 named);
+            (searching.declared.negated a q (without_cids_member (gone_with s.engine.active (Decide gone.var)) s.engine.active a (subst (λ l. Contains l a) ea m)).0 named);
       };
     }
 
@@ -125,14 +125,14 @@ decision_no_user s valid x c m user = gone_no_user (length s.initial) s.active x
 undone_repairing : (s : RepairState) (gone : Pair) (earlier later : List Pair) (engine : EngineState) (vars : List ℕ) → s.search.decisions ≡ earlier ++ gone ∷ later
     → Withdraws s.search.engine (Decide gone.var) engine → IsRepairing s → IsRepairing (undone s engine (earlier ++ later) vars)
 undone_repairing s gone earlier later engine vars e withdraws repairing =
-    let names = gone_with s.search.engine.active (Decide gone.var) in
-    let keeps = users_withdrawn s.search.engine names engine (decision_no_user s.search.engine repairing.searching.valid gone.var) withdraws in
-    let ea : engine.active ≡ without_names names s.search.engine.active = ap (λ (z : EngineState). z.active) withdraws.after in
+    let cids = gone_with s.search.engine.active (Decide gone.var) in
+    let keeps = users_withdrawn s.search.engine cids engine (decision_no_user s.search.engine repairing.searching.valid gone.var) withdraws in
+    let ea : engine.active ≡ without_cids cids s.search.engine.active = ap (λ (z : EngineState). z.active) withdraws.after in
     record {
       searching = undone_searching s.search gone earlier later engine e withdraws repairing.searching;
       nogoods = λ n m. nogood_kept s.search.engine engine n keeps (repairing.nogoods n m);
       origins = origins_fewer s (record { engine = engine; decisions = earlier ++ later }) (raised s.weights vars)
-          (λ a m. (without_names_member names s.search.engine.active a (subst (λ l. Contains l a) ea m)).0) repairing.origins;
+          (λ a m. (without_cids_member cids s.search.engine.active a (subst (λ l. Contains l a) ea m)).0) repairing.origins;
       weighed = raised_length 0 s.weights vars ∙ repairing.weighed ∙ ap length (sym keeps.initial);
     }
 
@@ -151,23 +151,23 @@ forced_no_user s number origins c m user =
     let r = forced_negation s number origins c m in
     false≢true (subst (λ d. is_user d ≡ true) (sym r.3) user)
 
-pub forced_keeps : (s : EngineState) (number : ℕ) (origins : List Origin) → KeepsGrounds s.active (forced_by s number origins)
-forced_keeps s number origins a m stays c held ground gone = let r = forced_negation s number origins c gone in subst IsGround (sym r.3) ground
+pub forced_keeps : (s : EngineState) (number : ℕ) (origins : List Origin) → KeepsJustifiers s.active (forced_by s number origins)
+forced_keeps s number origins a m stays c held justifier gone = let r = forced_negation s number origins c gone in subst IsJustifier (sym r.3) justifier
 
 roomy_searching : (s : SearchState) (number : ℕ) (origins : List Origin) (engine : EngineState) → WithdrawsAll s.engine (forced_by s.engine number origins) engine → IsSearching s
     → IsSearching (record { engine = engine; decisions = s.decisions })
 roomy_searching s number origins engine withdraws searching =
     let gone = forced_by s.engine number origins in
     let ei : engine.initial ≡ s.engine.initial = ap (λ (z : EngineState). z.initial) withdraws.after in
-    let ea : engine.active ≡ without_names gone s.engine.active = ap (λ (z : EngineState). z.active) withdraws.after in
+    let ea : engine.active ≡ without_cids gone s.engine.active = ap (λ (z : EngineState). z.active) withdraws.after in
     let keeps = forced_keeps s.engine number origins in
     let has = searching.decisions in
-    let old : (a : Active) → Contains engine.active a → Contains s.engine.active a = λ a m. (without_names_member gone s.engine.active a (subst (λ l. Contains l a) ea m)).0 in
+    let old : (a : Active) → Contains engine.active a → Contains s.engine.active a = λ a m. (without_cids_member gone s.engine.active a (subst (λ l. Contains l a) ea m)).0 in
     record {
       valid = withdraws_all_valid s.engine engine gone keeps withdraws searching.valid;
       justified = withdraws_justified s.engine engine gone searching.valid keeps withdraws searching.justified;
       decisions = record {
-        active = λ p m. subst (λ l. Contains l (decision_of p)) (sym ea) (member_without_names gone s.engine.active (decision_of p) (has.active p m) (λ k.
+        active = λ p m. subst (λ l. Contains l (decision_of p)) (sym ea) (member_without_cids gone s.engine.active (decision_of p) (has.active p m) (λ k.
             let r = forced_negation s.engine number origins (Decide p.var) k in not_negation p.var r.0.pair (sym r.3)));
         taken = λ a x m named. has.taken a x (old a m) named;
         distinct = has.distinct;
@@ -218,7 +218,7 @@ none_left s number origins engine withdraws are o m e =
     let f = filter_member (λ (q : Origin). is_named (cids_of engine.active) (Not q.pair)) origins o m in
     let is = active_cid engine.active (Not o.pair) (named_member (cids_of engine.active) (Not o.pair) f.1) in
     let was = are o f.0 in
-    let left = without_names_member gone s.active is.owner (subst (λ (z : EngineState). Contains z.active is.owner) withdraws.after is.posted) in
+    let left = without_cids_member gone s.active is.owner (subst (λ (z : EngineState). Contains z.active is.owner) withdraws.after is.posted) in
     left.1 (member_same gone (Not o.pair) is.owner.cid (sym is.named) (member_filter (λ c. is_named (cids_of s.active) c) (negations_from number origins) (Not o.pair)
     (member_map (λ (q : Origin). Not q.pair) (filter (λ q. nat_eq q.nogood number) origins) o (member_filter (λ (q : Origin). nat_eq q.nogood number) origins o f.0 (eq-eqb o.nogood number e)))
     (member_named (cids_of s.active) (Not o.pair) (member_same (cids_of s.active) was.owner.cid (Not o.pair) was.named (cid_active s.active was.owner was.posted)))))
@@ -229,8 +229,8 @@ drops_keep s t drops repairing =
     let search : SearchState = record { engine = engine; decisions = s.search.decisions } in
     let gone = forced_by s.search.engine s.dropped s.origins in
     let keeps = users_withdrawn s.search.engine gone engine (forced_no_user s.search.engine s.dropped s.origins) drops.withdraws in
-    let ea : engine.active ≡ without_names gone s.search.engine.active = ap (λ (z : EngineState). z.active) drops.withdraws.after in
-    let fewer = origins_fewer s search s.weights (λ a m. (without_names_member gone s.search.engine.active a (subst (λ l. Contains l a) ea m)).0) repairing.origins in
+    let ea : engine.active ≡ without_cids gone s.search.engine.active = ap (λ (z : EngineState). z.active) drops.withdraws.after in
+    let fewer = origins_fewer s search s.weights (λ a m. (without_cids_member gone s.search.engine.active a (subst (λ l. Contains l a) ea m)).0) repairing.origins in
     subst IsRepairing (sym drops.after) (record {
       searching = roomy_searching s.search s.dropped s.origins engine drops.withdraws repairing.searching;
       nogoods = λ n m. nogood_kept s.search.engine engine n keeps (repairing.nogoods n (subst (λ l. Contains l n) (sym drops.are) (member_there drops.oldest drops.rest n m)));

@@ -1,10 +1,9 @@
 -- A run of a repair, turn after turn, and what is left after it.
-use Rattle.std.proofs.Common.{◌≡◌, ℕ, ◌<◌, ◌≤◌, Bool, None, Some, List, [], ◌∷◌, ◌++◌, length, map, Contains, ◌⊎◌, refl, sym, ap, ◌∙◌, subst, arith, length-append}
+use Rattle.std.proofs.Common.{◌≡◌, ℕ, ◌<◌, ◌≤◌, Bool, None, List, [], ◌∷◌, ◌++◌, length, map, Contains, ◌⊎◌, refl, sym, ap, ◌∙◌, subst, arith, length-append}
 use Rattle.palm_base.specs.declared.terms.Pair.{Pair}
 use Rattle.palm_base.proofs.cited.Members.{member_unmap}
 use Rattle.palm_model.specs.Domains.{Domains}
 use Rattle.palm_model.specs.State.{EngineState, IsValid}
-use Rattle.palm_model.specs.Event.{WithdrawsAll}
 use Rattle.palm_events.specs.Reasons.{ReasonsAreRight}
 use Rattle.palm_engine.specs.Engine.{View, HasSettled, IsInterrupted, KeepsCounts}
 use Rattle.palm_engine.specs.Settling.{Filters}
@@ -13,18 +12,17 @@ use Rattle.palm_search.specs.declared.turn.Turn.{Turn}
 use Rattle.palm_search.specs.Calls.{SearchView, search_state}
 use Rattle.palm_search.specs.Kept.{HasDecisions, HasOnlyUsers}
 use Rattle.palm_search.specs.Leaves.{Counts}
-use Rattle.palm_search.specs.Search.{search_cids}
 use Rattle.palm_search.proofs.cited.Deciding.{settles_has}
 use Rattle.palm_search.proofs.cited.Leaving.{run_found, run_unsolved, run_users}
 use Rattle.palm_search.proofs.cited.Running.{interrupted_filters}
 use Rattle.palm_repair.specs.declared.answer.RepairAnswer.{RepairAnswer}
 use Rattle.palm_repair.specs.declared.answer.RepairAnswer.TheVariants.{Found, NoSolution, Spent}
-use Rattle.palm_repair.specs.Answers.{HasRepaired, IsTrueOf, end_of}
+use Rattle.palm_repair.specs.Answers.{HasRepaired, IsTrueOf}
 use Rattle.palm_repair.specs.Learned.{LearnedView, repair_state}
 use Rattle.palm_repair.specs.Posting.{RepairState}
-use Rattle.palm_repair.specs.Repair.{RepairFollows, RepairSettles, RepairTurns, RepairRun}
-use Rattle.palm_repair.specs.Sets.{most_turns}
-use Rattle.palm_repair.specs.Turning.{Advances, HasRun, HasTurned, IsCutOff, IsCutTurn, IsReady, TakesRepairTurn}
+use Rattle.palm_repair.specs.Repair.{RepairFollows, RepairSettles, RepairTurns}
+use Rattle.palm_repair.specs.Sets.{most_repair_turns}
+use Rattle.palm_repair.specs.Turning.{HasTurned, IsCutOff, IsCutTurn, IsReady, TakesRepairTurn}
 use Rattle.palm_repair.specs.Turning.IsCutOff.{before_turn, in_first_settling, in_settling, within_turn}
 use Rattle.palm_repair.specs.Turning.IsCutTurn.{cut_before, cut_within}
 use Rattle.palm_repair.proofs.Blocking.{starts_at_turn}
@@ -110,26 +108,6 @@ run_goes_on right guided ordered tabu budget s m before learned now turn answer 
       ready = subst (λ n. IsReady tabu n t) (sym longer) (follows_ready right guided ordered tabu (length before.journal) (repair_state m before.decisions learned) turn t follows running.ready);
     }
 
-pub run_ends : (guided ordered : Bool) (tabu budget : ℕ) (s m t : EngineState) (before after : SearchView) (learned now : LearnedView) (answer : RepairAnswer) → IsRunning guided ordered tabu budget s m before learned
-    → Advances guided tabu budget (repair_state m before.decisions learned) before (repair_state t after.decisions now) after (Some answer) → HasRun guided ordered tabu budget s after.journal t answer
-run_ends guided ordered tabu budget s m t before after learned now answer running ends =
-    let turned = running.turned in
-    let last = repair_state m before.decisions learned in
-    let here : RepairRun guided ordered tabu budget s before.journal (end_of answer) learned.dropped last = record {
-      start = turned.start;
-      settles = turned.settles;
-      taken = turned.taken;
-      within = turned.within;
-      ends = ends.0;
-      drops = refl;
-    } in
-    record {
-      last = last;
-      run = subst (λ (v : SearchView). RepairRun guided ordered tabu budget s v.journal (end_of answer) learned.dropped last) (sym ends.3) here;
-      at = ap (λ (z : RepairState). z.search.engine) ends.2;
-      told = ends.1;
-    }
-
 -- ---- where it is cut off
 
 pub cut_first : (guided ordered : Bool) (tabu budget : ℕ) (before after : View) (search : SearchView) → search ≡ record { decisions = []; journal = [] } → IsInterrupted None ordered before after
@@ -159,37 +137,19 @@ cut_settling guided ordered tabu budget s m before learned now turn taken after 
 
 -- ---- the whole
 
-pub repaired : (guided ordered : Bool) (tabu budget : ℕ) (s : EngineState) (turns : List Turn) (m : EngineState) (answer : RepairAnswer) (settle : Settle) (closed after : View) → HasRun guided ordered tabu budget s turns m answer
-    → WithdrawsAll m (search_cids m.active) closed.state → HasSettled None ordered settle closed after → HasRepaired guided ordered tabu budget s turns after.state answer
-repaired guided ordered tabu budget s turns m answer settle closed after run withdraws settled = record {
-  dropped = run.last.dropped;
-  repairs = record {
-    last = run.last;
-    run = run.run;
-    closes = record {
-      middle = closed.state;
-      withdraws = subst (λ (z : EngineState). WithdrawsAll z (search_cids z.active) closed.state) run.at withdraws;
-      revisions = settled.revisions;
-      fits = settled.fits;
-      settles = settled.settles;
-    };
-  };
-  told = run.told;
-}
-
 pub answer_true : ReasonsAreRight → (guided ordered : Bool) (tabu budget : ℕ) (s : EngineState) (turns : List Turn) (t : EngineState) (answer : RepairAnswer) → HasOnlyUsers s → IsValid s → HasRepaired guided ordered tabu budget s turns t answer
     → IsTrueOf s budget answer
 answer_true right guided ordered tabu budget s turns t (Found values) users valid whole =
     let run = whole.repairs.run in
     run_found s whole.repairs.last.search values (repair_ended right guided ordered tabu budget s turns _ whole.dropped whole.repairs.last users valid run) run.ends
-answer_true right guided ordered tabu budget s turns t (NoSolution names) users valid whole =
+answer_true right guided ordered tabu budget s turns t (NoSolution cids) users valid whole =
     let run = whole.repairs.run in
     let last = whole.repairs.last.search in
     let ended = repair_ended right guided ordered tabu budget s turns _ whole.dropped whole.repairs.last users valid run in
-    record { active = run_users s last names ended run.ends; none = run_unsolved s last names ended run.ends }
+    record { active = run_users s last cids ended run.ends; none = run_unsolved s last cids ended run.ends }
 answer_true right guided ordered tabu budget s turns t (Spent spent dropped) users valid whole =
     let r = repair_run_spent right guided ordered tabu budget spent s turns whole.dropped whole.repairs.last valid users whole.repairs.run in
-    (r.0, subst (λ k. (0 < k) ⊎ (spent < most_turns s.initial)) (sym whole.told) r.1)
+    (r.0, subst (λ k. (0 < k) ⊎ (spent < most_repair_turns s.initial)) (sym whole.told) r.1)
 
 -- ---- how often support was asked for
 

@@ -9,12 +9,13 @@ use Rattle.palm_base.specs.declared.terms.Cid.TheVariants.{Decide, Not, User}
 use Rattle.palm_base.proofs.cited.Members.{member_nil, member_here, member_there, member_cases, member_same, member_place}
 use Rattle.palm_model.specs.Constraint.{Distinct}
 use Rattle.palm_model.specs.Event.{gone_with}
-use Rattle.palm_model.specs.Log.{Active, Rises, cid_before}
+use Rattle.palm_base.specs.Order.{Rises, cid_before}
+use Rattle.palm_model.specs.Log.{Active}
 use Rattle.palm_model.specs.State.{EngineState}
 use Rattle.palm_model.proofs.cited.Narrowing.{has_declared}
 use Rattle.palm_events.specs.Reasons.{ReasonsAreRight}
-use Rattle.palm_events.proofs.cited.Conflicts.{flat_grounds}
-use Rattle.palm_events.proofs.cited.Names.{not_before_itself}
+use Rattle.palm_events.proofs.cited.Conflicts.{flat_justifiers}
+use Rattle.palm_base.proofs.cited.CidOrder.{not_before_itself}
 use Rattle.palm_search.specs.declared.turn.Pick.{Pick}
 use Rattle.palm_search.specs.declared.turn.Turn.{Turn}
 use Rattle.palm_search.specs.declared.turn.Turn.TheVariants.{Decide as TurnDecide, Undo as TurnUndo}
@@ -143,11 +144,11 @@ decided_cut guided tabu e m t before after learned p pick taken repairing some =
 
 -- ---- undoing
 
-rising_vars : (names : List Cid) → Rises names → Distinct (decided_vars names)
+rising_vars : (cids : List Cid) → Rises cids → Distinct (decided_vars cids)
 rising_vars [] rises = tt
-rising_vars (Decide x ∷ names) rises = (λ m. not_before_itself (Decide x) (All-contains (λ d. cid_before (Decide x) d ≡ true) names (Decide x) rises.0 (vars_member names x m)), rising_vars names rises.1)
-rising_vars (Not p ∷ names) rises = rising_vars names rises.1
-rising_vars (User n ∷ names) rises = rising_vars names rises.1
+rising_vars (Decide x ∷ cids) rises = (λ m. not_before_itself (Decide x) (All-contains (λ d. cid_before (Decide x) d ≡ true) cids (Decide x) rises.0 (vars_member cids x m)), rising_vars cids rises.1)
+rising_vars (Not p ∷ cids) rises = rising_vars cids rises.1
+rising_vars (User n ∷ cids) rises = rising_vars cids rises.1
 
 pub conflict_distinct : (s : EngineState) (conflict : List Cid) → HasFlatConflict s conflict → Distinct (decided_vars conflict)
 conflict_distinct s conflict flat = rising_vars conflict flat.is.rising
@@ -156,7 +157,7 @@ conflict_distinct s conflict flat = rising_vars conflict flat.is.rising
 pub conflict_decision : (s : RepairState) (conflict : List Cid) (x : ℕ) → IsRepairing s → HasFlatConflict s.search.engine conflict → Contains conflict (Decide x) → (p : Pair) × Contains s.search.decisions p × (p.var ≡ x)
 conflict_decision s conflict x repairing flat held =
     let searching = repairing.searching in
-    let is = (flat_grounds s.search.engine searching.valid flat.var (Decide x) (flat.is.sound (Decide x) held)).1 in
+    let is = (flat_justifiers s.search.engine searching.valid flat.var (Decide x) (flat.is.sound (Decide x) held)).1 in
     let taken = searching.decisions.taken is.owner x is.posted is.named in
     (taken.0, taken.1, same_var taken.0.var x (sym (ap (λ (a : Active). a.cid) taken.2) ∙ is.named))
   where
@@ -179,13 +180,13 @@ pub raised_weighed : (s : RepairState) (vars : List ℕ) (p : Pair) → IsRepair
 raised_weighed s vars p repairing m = let lt = decision_weighed s p repairing m in let e = raised_length 0 s.weights vars in omega (arith, lt, e)
 
 -- so the heaviest decision is found
-pub heaviest_found : (s : RepairState) (weights : List ℕ) (conflict : List Cid) (x : ℕ) (place : Option ℕ) (decisions : List Pair) (names : List Cid) → IsRepairing s → HasFlatConflict s.search.engine conflict → Contains conflict (Decide x)
-    → decisions ≡ s.search.decisions → names ≡ conflict
-    → MatchOption place ((p : Pair) → Contains decisions p → Contains names (Decide p.var) → ⊥) (IsHeaviestAt weights decisions names) → is_some place ≡ true
-heaviest_found s weights conflict x None decisions names repairing flat held ed en found =
+pub heaviest_found : (s : RepairState) (weights : List ℕ) (conflict : List Cid) (x : ℕ) (place : Option ℕ) (decisions : List Pair) (cids : List Cid) → IsRepairing s → HasFlatConflict s.search.engine conflict → Contains conflict (Decide x)
+    → decisions ≡ s.search.decisions → cids ≡ conflict
+    → MatchOption place ((p : Pair) → Contains decisions p → Contains cids (Decide p.var) → ⊥) (IsHeaviestAt weights decisions cids) → is_some place ≡ true
+heaviest_found s weights conflict x None decisions cids repairing flat held ed en found =
     let d = conflict_decision s conflict x repairing flat held in
     absurd (found d.0 (subst (λ l. Contains l d.0) (sym ed) d.1) (subst (λ l. Contains l (Decide d.0.var)) (sym en) (member_same conflict (Decide x) (Decide d.0.var) (ap Decide (sym d.2)) held)))
-heaviest_found s weights conflict x (Some place) decisions names repairing flat held ed en found = refl
+heaviest_found s weights conflict x (Some place) decisions cids repairing flat held ed en found = refl
 
 at_take : {X : Type 0} (n : ℕ) (xs : List X) (j : ℕ) (x : X) → slice_get (take n xs) j ≡ Some x → (j < n) × (slice_get xs j ≡ Some x)
 at_take zero xs j x e = absurd (none_some x e)
@@ -193,14 +194,14 @@ at_take (suc n) [] j x e = absurd (none_some x e)
 at_take (suc n) (y ∷ xs) zero x e = (omega arith, e)
 at_take (suc n) (y ∷ xs) (suc j) x e = let r = at_take n xs j x e in let lt = r.0 in (omega (arith, lt), r.1)
 
-is_heaviest : (weights : List ℕ) (decisions : List Pair) (names : List Cid) (k : ℕ) (gone : Pair) → slice_get decisions k ≡ Some gone → IsHeaviestAt weights decisions names k → IsHeaviest weights decisions names gone (remove decisions k)
-is_heaviest weights decisions names k gone stood at =
+is_heaviest : (weights : List ℕ) (decisions : List Pair) (cids : List Cid) (k : ℕ) (gone : Pair) → slice_get decisions k ≡ Some gone → IsHeaviestAt weights decisions cids k → IsHeaviest weights decisions cids gone (remove decisions k)
+is_heaviest weights decisions cids k gone stood at =
     let same : at.pair ≡ gone = some_same at.pair gone (sym at.stands ∙ stood) in
     record {
       earlier = take k decisions;
       later = drop (suc k) decisions;
       are = split_place decisions k gone stood;
-      held = member_same names (Decide at.pair.var) (Decide gone.var) (ap (λ (p : Pair). Decide p.var) same) at.held;
+      held = member_same cids (Decide at.pair.var) (Decide gone.var) (ap (λ (p : Pair). Decide p.var) same) at.held;
       heaviest = λ p m held.
           let j = member_place (take k decisions) p m in
           let r = at_take k decisions j.0 p j.1 in
@@ -266,13 +267,13 @@ undone_here tabu count e m before after learned conflict k back ready flat at =
     }
 
 -- the same, from what the calls told
-pub undone_by : (tabu : ℕ) (e m : EngineState) (before after : SearchView) (learned : LearnedView) (conflict : List Cid) (found : Option ℕ) (k : ℕ) (weights : List ℕ) (decisions : List Pair) (names : List Cid)
-    → weights ≡ raised learned.weights (decided_vars conflict) → decisions ≡ before.decisions → names ≡ conflict
-    → MatchOption found ((p : Pair) → Contains decisions p → Contains names (Decide p.var) → ⊥) (IsHeaviestAt weights decisions names) → found ≡ Some k → (back : TakesBack conflict k e before m after)
+pub undone_by : (tabu : ℕ) (e m : EngineState) (before after : SearchView) (learned : LearnedView) (conflict : List Cid) (found : Option ℕ) (k : ℕ) (weights : List ℕ) (decisions : List Pair) (cids : List Cid)
+    → weights ≡ raised learned.weights (decided_vars conflict) → decisions ≡ before.decisions → cids ≡ conflict
+    → MatchOption found ((p : Pair) → Contains decisions p → Contains cids (Decide p.var) → ⊥) (IsHeaviestAt weights decisions cids) → found ≡ Some k → (back : TakesBack conflict k e before m after)
     → IsReady tabu (length before.journal) (repair_state e before.decisions learned) → HasFlatConflict e conflict → IsUndone tabu e m before after learned conflict back.gone
-undone_by tabu e m before after learned conflict found k weights decisions names ew ed en told is back ready flat =
-    let here : IsHeaviestAt weights decisions names k =
-    subst (λ o. MatchOption o ((p : Pair) → Contains decisions p → Contains names (Decide p.var) → ⊥) (IsHeaviestAt weights decisions names)) is told in
+undone_by tabu e m before after learned conflict found k weights decisions cids ew ed en told is back ready flat =
+    let here : IsHeaviestAt weights decisions cids k =
+    subst (λ o. MatchOption o ((p : Pair) → Contains decisions p → Contains cids (Decide p.var) → ⊥) (IsHeaviestAt weights decisions cids)) is told in
     undone_here tabu (length before.journal) e m before after learned conflict k back ready flat
     (subst (λ l. IsHeaviestAt (raised learned.weights (decided_vars conflict)) before.decisions l k) en
-    (subst (λ l. IsHeaviestAt (raised learned.weights (decided_vars conflict)) l names k) ed (subst (λ l. IsHeaviestAt l decisions names k) ew here)))
+    (subst (λ l. IsHeaviestAt (raised learned.weights (decided_vars conflict)) l cids k) ed (subst (λ l. IsHeaviestAt l decisions cids k) ew here)))

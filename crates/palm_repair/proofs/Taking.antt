@@ -8,19 +8,19 @@ use Rattle.palm_base.specs.declared.terms.Cid.{Cid}
 use Rattle.palm_base.specs.declared.terms.Cid.TheVariants.{Not}
 use Rattle.palm_base.proofs.cited.Members.{member_nil, member_here, member_there, member_same, member_single, member_map, member_unmap, member_filter, filter_member, filter_agree_members}
 use Rattle.palm_base.specs.Tells.{Tells}
-use Rattle.palm_model.specs.Event.{Withdraws, WithdrawsAll, gone_with, lost_pairs, vars_of, without_names}
+use Rattle.palm_model.specs.Event.{Withdraws, WithdrawsAll, gone_with, lost_pairs, vars_of, without_cids}
 use Rattle.palm_model.specs.Log.{Active, IsActive, Removal, Loses, cids_of, is_named}
 use Rattle.palm_model.specs.Log.Loses.{none_left, is_lost, is_kept}
 use Rattle.palm_model.specs.State.{EngineState, IsValid, woken}
 use Rattle.palm_events.proofs.cited.Names.{named_member, member_named}
-use Rattle.palm_events.proofs.cited.States.{active_cid, cid_active, form_grounds, member_without_names, without_names_member}
+use Rattle.palm_events.proofs.cited.States.{active_cid, cid_active, form_justifiers, member_without_cids, without_cids_member}
 use Rattle.palm_engine.proofs.cited.Withdrawing.{loses_none, none_lost, withdraws_then, without_none}
 use Rattle.palm_repair.specs.Posting.{Nogood, Origin, active_origins}
 use Rattle.palm_repair.specs.Repair.{Drops, MakesRoom, negations_from, forced_by}
 use Rattle.palm_repair.specs.Learned.{LearnedView, repair_state}
 use Rattle.palm_repair.proofs.Reading.{at_member}
 
--- ---- withdrawals of the same names
+-- ---- withdrawals of the same ids
 
 agree : (b c : Bool) → (b ≡ true → c ≡ true) → (c ≡ true → b ≡ true) → b ≡ c
 agree true c to from = sym (to refl)
@@ -30,15 +30,15 @@ agree false false to from = refl
 loses_alike : (log : List Removal) (gone more : List Cid) → ((c : Cid) → Contains gone c → Contains more c) → ((c : Cid) → Contains more c → Contains gone c)
     → (rest left : List Removal) → Loses log gone rest left → Loses log more rest left
 loses_alike log gone more to from _ _ none_left = none_left
-loses_alike log gone more to from _ _ (is_lost r rest left names loses) =
-    is_lost r rest left (record { cid = names.cid; among = to names.cid names.among; names = names.names }) (loses_alike log gone more to from rest left loses)
+loses_alike log gone more to from _ _ (is_lost r rest left cids loses) =
+    is_lost r rest left (record { cid = cids.cid; among = to cids.cid cids.among; names = cids.names }) (loses_alike log gone more to from rest left loses)
 loses_alike log gone more to from _ _ (is_kept r rest left keeps loses) =
     is_kept r rest left (λ some. keeps (record { cid = some.cid; among = from some.cid some.among; names = some.names })) (loses_alike log gone more to from rest left loses)
 
 withdraws_alike : (s t : EngineState) (gone more : List Cid) → ((c : Cid) → Contains gone c → Contains more c) → ((c : Cid) → Contains more c → Contains gone c) → WithdrawsAll s gone t → WithdrawsAll s more t
 withdraws_alike s t gone more to from withdraws =
     let left = withdraws.left in
-    let active : without_names gone s.active ≡ without_names more s.active =
+    let active : without_cids gone s.active ≡ without_cids more s.active =
     filter_agree_members (λ (a : Active). not (is_named gone a.cid)) (λ (a : Active). not (is_named more a.cid)) s.active
     (λ a m. ap not (agree (is_named gone a.cid) (is_named more a.cid)
     (λ h. member_named more a.cid (to a.cid (named_member gone a.cid h)))
@@ -53,11 +53,11 @@ withdraws_alike s t gone more to from withdraws =
 alone : (s : EngineState) (p : Pair) → IsValid s → gone_with s.active (Not p) ≡ Not p ∷ []
 alone s p valid = ap (λ l. Not p ∷ cids_of l) (none s.active (λ a m. m))
   where
-    none : (active : List Active) → ((a : Active) → Contains active a → Contains s.active a) → filter (λ a. is_named a.because (Not p)) active ≡ []
+    none : (active : List Active) → ((a : Active) → Contains active a → Contains s.active a) → filter (λ a. is_named a.justification (Not p)) active ≡ []
     none [] sub = refl
-    none (a ∷ active) sub = elim (cases_Bool (is_named a.because (Not p))) [
-      | inl t ↦ absurd ((form_grounds (length s.initial) s.active a.cid a.con a.because (valid.formed a (sub a (member_here a active))).form (Not p) (named_member a.because (Not p) t)).0)
-      | inr f ↦ ap (λ b. cond b (a ∷ filter (λ c. is_named c.because (Not p)) active) (filter (λ c. is_named c.because (Not p)) active)) f ∙ none active (λ b m. sub b (member_there a active b m))
+    none (a ∷ active) sub = elim (cases_Bool (is_named a.justification (Not p))) [
+      | inl t ↦ absurd ((form_justifiers (length s.initial) s.active a.cid a.con a.justification (valid.formed a (sub a (member_here a active))).form (Not p) (named_member a.justification (Not p) t)).0)
+      | inr f ↦ ap (λ b. cond b (a ∷ filter (λ c. is_named c.justification (Not p)) active) (filter (λ c. is_named c.justification (Not p)) active)) f ∙ none active (λ b m. sub b (member_there a active b m))
     ]
 
 -- ---- one origin after another
@@ -74,7 +74,7 @@ withdraws_none : (s : EngineState) → IsValid s → WithdrawsAll s [] s
 withdraws_none s valid =
     let active = without_none s.active in
     let vars : vars_of (lost_pairs s.log s.log) ≡ [] = no_members (vars_of (lost_pairs s.log s.log)) (none_lost s.log) in
-    let pending : s.pending ≡ woken (without_names [] s.active) s.pending (vars_of (lost_pairs s.log s.log)) = valid.waiting ∙ (λ i. woken (sym active i) s.pending (sym vars i)) in
+    let pending : s.pending ≡ woken (without_cids [] s.active) s.pending (vars_of (lost_pairs s.log s.log)) = valid.waiting ∙ (λ i. woken (sym active i) s.pending (sym vars i)) in
     record { left = s.log; loses = loses_none s.log s.log; after = λ i. record s { active = sym active i; pending = pending i } }
   where
     no_members : {X : Type 0} (xs : List X) → ((x : X) → Contains xs x → ⊥) → xs ≡ []
@@ -132,7 +132,7 @@ taking_next : (number : ℕ) (walked : List Origin) (o : Origin) (s t u : Engine
     → IsTaking number walked s t → IsTaking number (walked ++ o ∷ []) s u
 taking_next number walked o s t u valid now e was withdraws taking =
     let one : WithdrawsAll t (Not o.pair ∷ []) u = subst (λ l. WithdrawsAll t l u) (alone t o.pair now) withdraws in
-    let left = λ (a : Active) (m : Contains u.active a). without_names_member (Not o.pair ∷ []) t.active a (subst (λ (z : EngineState). Contains z.active a) one.after m) in
+    let left = λ (a : Active) (m : Contains u.active a). without_cids_member (Not o.pair ∷ []) t.active a (subst (λ (z : EngineState). Contains z.active a) one.after m) in
     record {
       gone = taking.gone ++ Not o.pair ∷ [];
       withdraws = withdraws_then s t u taking.gone (Not o.pair ∷ []) valid.rising taking.withdraws one;
@@ -180,7 +180,7 @@ taken_all number origins i s t le walked =
       | inr n ↦ absurd (taking.done c f.0 (record {
         owner = is.owner;
         posted = subst (λ (z : EngineState). Contains z.active is.owner) (sym taking.withdraws.after)
-            (member_without_names taking.gone s.active is.owner is.posted (λ k. false≢true (sym n ∙ member_named taking.gone c (member_same taking.gone is.owner.cid c is.named k))));
+            (member_without_cids taking.gone s.active is.owner is.posted (λ k. false≢true (sym n ∙ member_named taking.gone c (member_same taking.gone is.owner.cid c is.named k))));
         named = is.named;
       }))
     ]) taking.withdraws
@@ -214,7 +214,7 @@ room_made tabu s t decisions before after some full withdraws e = inl (full, by_
 pub room_left : (tabu : ℕ) (s : EngineState) (decisions : List Pair) (before : LearnedView) → length before.nogoods ≤ tabu → (length before.nogoods ≡ tabu → ⊥) → MakesRoom tabu (repair_state s decisions before) (repair_state s decisions before)
 room_left tabu s decisions before few other = inr (omega (arith, few, other), refl)
 
--- a test for an active name is the one for a name among those of the active constraints
+-- a test for an active id is the one for an id among those of the active constraints
 pub named_tells : (active : List Active) (cid : Cid) (b : Bool) → Tells b (IsActive active cid) → b ≡ is_named (cids_of active) cid
 named_tells active cid true is = sym (member_named (cids_of active) cid (member_same (cids_of active) is.owner.cid cid is.named (cid_active active is.owner is.posted)))
 named_tells active cid false none = elim (cases_Bool (is_named (cids_of active) cid)) [

@@ -11,7 +11,7 @@ use Rattle.palm_search.specs.Search.{AreUnsolved}
 use Rattle.palm_repair.specs.declared.answer.RepairAnswer.{RepairAnswer}
 use Rattle.palm_repair.specs.declared.answer.RepairAnswer.TheVariants.{Found, NoSolution, Spent}
 use Rattle.palm_repair.specs.Repair.{Repairs}
-use Rattle.palm_repair.specs.Sets.{most_turns}
+use Rattle.palm_repair.specs.Sets.{most_repair_turns}
 
 -- the end of the run that the answer tells
 abbrev pub end_of : RepairAnswer → SearchEnd
@@ -36,4 +36,4 @@ pub record HasRepaired (guided ordered : Bool) (tabu budget : ℕ) (s : EngineSt
 abbrev pub IsTrueOf : EngineState → ℕ → RepairAnswer → Type 0
 IsTrueOf s budget (Found values) = IsSolution s.initial (Contains (cons_of s.active)) (listed values)
 IsTrueOf s budget (NoSolution users) = AreUnsolved s users
-IsTrueOf s budget (Spent turns dropped) = (turns ≡ budget) × ((0 < dropped) ⊎ (turns < most_turns s.initial))
+IsTrueOf s budget (Spent turns dropped) = (turns ≡ budget) × ((0 < dropped) ⊎ (turns < most_repair_turns s.initial))

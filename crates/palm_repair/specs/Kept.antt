@@ -34,17 +34,17 @@ pub record IsNumbered (s : RepairState) (number : ℕ) (nogood : Nogood) : Type 
 -- ---- negations
 
 -- the negation of the pair came from a listed nogood that holds the pair, and has the justification of this nogood
-pub record ComesFrom (s : RepairState) (p : Pair) (because : List Cid) : Type 0 where
+pub record ComesFrom (s : RepairState) (p : Pair) (held : List Cid) : Type 0 where
   pub number : ℕ
   pub nogood : Nogood
   pub origin : Contains s.origins (record { pair = p; nogood = number })
   pub numbered : IsNumbered s number nogood
   pub holds : Contains nogood.pairs p
-  pub justified : because ≡ justification nogood p
+  pub justified : held ≡ justification nogood p
 
 -- each active negation comes from a listed nogood, and the origins are those of active negations, one for each
 pub record HasOrigins (s : RepairState) : Type 0 where
-  pub comes : (a : Active) (p : Pair) → Contains s.search.engine.active a → a.cid ≡ Not p → ComesFrom s p a.because
+  pub comes : (a : Active) (p : Pair) → Contains s.search.engine.active a → a.cid ≡ Not p → ComesFrom s p a.justification
   pub active : (o : Origin) → Contains s.origins o → IsActive s.search.engine.active (Not o.pair)
   pub single : (o q : Origin) → Contains s.origins o → Contains s.origins q → o.pair ≡ q.pair → o ≡ q
 

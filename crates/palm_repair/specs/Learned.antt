@@ -6,7 +6,7 @@ use Rattle.palm_base.specs.declared.terms.Cid.{Cid}
 use Rattle.palm_base.specs.declared.terms.Cid.TheVariants.{Decide, Not}
 use Rattle.palm_model.specs.Domains.{Has}
 use Rattle.palm_model.specs.Log.{IsActive}
-use Rattle.palm_model.specs.State.{EngineState, AreGrounds, negation_of}
+use Rattle.palm_model.specs.State.{EngineState, AreJustifiers, negation_of}
 use Rattle.palm_model.specs.Event.{Posts}
 use Rattle.palm_repair.specs.Posting.{Nogood, Origin, RepairState, justification}
 use Rattle.palm_repair.specs.Repair.{weight_of}
@@ -60,7 +60,7 @@ listed_pair (Some p) = p ∷ []
 -- the negation of the pair may be posted for the nogood where it is not active
 pub record IsForced (s : EngineState) (nogood : Nogood) (p : Pair) : Type 0 where
   pub declared : Has s.initial p.var p.value
-  pub grounds : AreGrounds s.active (justification nogood p)
+  pub justifiers : AreJustifiers s.active (justification nogood p)
 
 -- the negation of the only undecided pair is posted, or nothing happens: there is no such pair, or its negation is active
 abbrev pub Forces : Nogood → List Pair → EngineState → EngineState → Option Pair → Type 0
@@ -69,10 +69,10 @@ Forces nogood left s t (Some p) = (left ≡ p ∷ []) × Posts s (negation_of p 
 
 -- ---- the heaviest decision
 
--- the decision at the place is the heaviest among the names, the latest one of several
-pub record IsHeaviestAt (weights : List ℕ) (decisions : List Pair) (names : List Cid) (place : ℕ) : Type 0 where
+-- the decision at the place is the heaviest among the ids, the latest one of several
+pub record IsHeaviestAt (weights : List ℕ) (decisions : List Pair) (cids : List Cid) (place : ℕ) : Type 0 where
   pub pair : Pair
   pub stands : slice_get decisions place ≡ Some pair
-  pub held : Contains names (Decide pair.var)
-  pub heaviest : (k : ℕ) (p : Pair) → k < place → slice_get decisions k ≡ Some p → Contains names (Decide p.var) → weight_of weights p.var ≤ weight_of weights pair.var
-  pub latest : (k : ℕ) (p : Pair) → place < k → slice_get decisions k ≡ Some p → Contains names (Decide p.var) → weight_of weights p.var < weight_of weights pair.var
+  pub held : Contains cids (Decide pair.var)
+  pub heaviest : (k : ℕ) (p : Pair) → k < place → slice_get decisions k ≡ Some p → Contains cids (Decide p.var) → weight_of weights p.var ≤ weight_of weights pair.var
+  pub latest : (k : ℕ) (p : Pair) → place < k → slice_get decisions k ≡ Some p → Contains cids (Decide p.var) → weight_of weights p.var < weight_of weights pair.var

@@ -1,4 +1,5 @@
 pub mod Answers
+pub mod Following
 pub mod Kept
 pub mod Learned
 pub mod Posting

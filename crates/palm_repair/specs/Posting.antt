@@ -5,7 +5,8 @@ use Rattle.palm_model.specs.State.{EngineState, is_user, negation_of}
 use Rattle.palm_base.specs.declared.terms.Pair.{Pair}
 use Rattle.palm_base.specs.declared.terms.Cid.{Cid}
 use Rattle.palm_base.specs.declared.terms.Cid.TheVariants.{Decide, Not, User}
-use Rattle.palm_model.specs.Log.{Active, IsActive, same_pair, is_named, cids_of}
+use Rattle.palm_base.specs.Order.{same_pair}
+use Rattle.palm_model.specs.Log.{Active, IsActive, is_named, cids_of}
 use Rattle.palm_model.specs.Event.{Posts}
 use Rattle.palm_search.specs.Turns.{SearchState}
 
@@ -16,7 +17,7 @@ pub record Nogood : Type 0 where
   pub pairs : List Pair
   pub users : List Cid
 
--- the decision under the name, as a pair
+-- the decision under the id, as a pair
 abbrev pub pairs_under : List Pair → Cid → List Pair
 pairs_under decisions (Decide x) = filter (λ p. nat_eq p.var x) decisions
 pairs_under decisions (Not p) = []

@@ -38,15 +38,15 @@ raised weights vars = raised_from 0 weights vars
 abbrev pub weight_of : List ℕ → ℕ → ℕ
 weight_of weights x = slice_index_or weights x 0
 
--- the pair is the one of the greatest weight among the decisions that the names hold, the latest one of several, and
+-- the pair is the one of the greatest weight among the decisions that the ids hold, the latest one of several, and
 -- these decisions are left without it, in order
-pub record IsHeaviest (weights : List ℕ) (decisions : List Pair) (names : List Cid) (gone : Pair) (left : List Pair) : Type 0 where
+pub record IsHeaviest (weights : List ℕ) (decisions : List Pair) (cids : List Cid) (gone : Pair) (left : List Pair) : Type 0 where
   pub earlier : List Pair
   pub later : List Pair
   pub are : decisions ≡ earlier ++ gone ∷ later
-  pub held : Contains names (Decide gone.var)
-  pub heaviest : (p : Pair) → Contains earlier p → Contains names (Decide p.var) → weight_of weights p.var ≤ weight_of weights gone.var
-  pub latest : (p : Pair) → Contains later p → Contains names (Decide p.var) → weight_of weights p.var < weight_of weights gone.var
+  pub held : Contains cids (Decide gone.var)
+  pub heaviest : (p : Pair) → Contains earlier p → Contains cids (Decide p.var) → weight_of weights p.var ≤ weight_of weights gone.var
+  pub latest : (p : Pair) → Contains later p → Contains cids (Decide p.var) → weight_of weights p.var < weight_of weights gone.var
   pub others : left ≡ earlier ++ later
 
 -- the origins that are the nogood of this number

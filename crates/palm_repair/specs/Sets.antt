@@ -8,5 +8,5 @@ decision_sets [] = 1
 decision_sets (vs ∷ d) = (length vs + 1) * decision_sets d
 
 -- a repair in which no nogood was dropped has fewer turns
-abbrev pub most_turns : Domains → ℕ
-most_turns d = (length d + 1) * decision_sets d
+abbrev pub most_repair_turns : Domains → ℕ
+most_repair_turns d = (length d + 1) * decision_sets d

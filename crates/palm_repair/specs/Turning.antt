@@ -1,11 +1,12 @@
 -- One turn of a repair after another, and where want of memory may break them off.
 use Rattle.std.specs.Prelude.{◌≡◌, ℕ, ◌+◌, ◌<◌, ◌≤◌, Bool, Option, None, Some, List, [], ◌∷◌, ◌++◌, length, Contains}
-use Rattle.palm_model.specs.State.{EngineState}
+use Rattle.palm_model.specs.State.{EngineState, present}
 use Rattle.palm_model.specs.Event.{WithdrawsAll}
 use Rattle.palm_engine.specs.Settling.{Filters}
 use Rattle.palm_search.specs.declared.turn.Turn.{Turn}
 use Rattle.palm_search.specs.declared.turn.Turn.TheVariants.{Decide as TurnDecide, Undo as TurnUndo}
 use Rattle.palm_search.specs.Calls.{SearchView}
+use Rattle.palm_search.specs.Following.{Moment}
 use Rattle.palm_search.specs.Search.{EndsWith, search_cids}
 use Rattle.palm_repair.specs.declared.answer.RepairAnswer.{RepairAnswer}
 use Rattle.palm_repair.specs.Posting.{Nogood, RepairState, PostsAll, PostsSome, active_origins, nogood_of}
@@ -49,10 +50,12 @@ pub record TakesRepairTurn (guided : Bool) (tabu : ℕ) (turn : Turn) (s : Repai
   pub takes : RepairTakes guided tabu s turn t
   pub journal : after.journal ≡ before.journal ++ turn ∷ []
 
--- the run ends here with the answer, and nothing has changed; without an answer, the next turn was taken
-abbrev pub Advances : Bool → ℕ → ℕ → RepairState → SearchView → RepairState → SearchView → Option RepairAnswer → Type 0
-Advances guided tabu budget s before t after None = (turn : Turn) × (length before.journal < budget) × TakesRepairTurn guided tabu turn s before t after
-Advances guided tabu budget s before t after (Some answer) = EndsWith budget (length before.journal) s.search.engine (end_of answer) × TellsDropped answer s.dropped × (t ≡ s) × (after ≡ before)
+-- the run ends here with the answer, and nothing has changed; without an answer, the next turn was taken, and it led the
+-- guide from the one state to the other
+abbrev pub Advances : {G : Type 0} → (Moment → Option G → Option G → Type 0) → Option G → Option G → Bool → ℕ → ℕ → RepairState → SearchView → RepairState → SearchView → Option RepairAnswer → Type 0
+Advances guiding old new guided tabu budget s before t after None =
+    (turn : Turn) × (length before.journal < budget) × TakesRepairTurn guided tabu turn s before t after × guiding (record { domains = present s.search.engine; turn = turn }) old new
+Advances guiding old new guided tabu budget s before t after (Some answer) = EndsWith budget (length before.journal) s.search.engine (end_of answer) × TellsDropped answer s.dropped × (t ≡ s) × (after ≡ before) × (new ≡ old)
 
 -- memory ran out before a turn, or within one that is the last of the journal: of the negations that follow its decision or
 -- its withdrawal some are posted

@@ -16,20 +16,20 @@ fn weight_of(weights: &[u64], var: &Var) -> u64
     weights[var.0 as usize]
 }
 
-/// The place of the heaviest decision among the names, the latest one of several, and none exactly where they hold no
+/// The place of the heaviest decision among the ids, the latest one of several, and none exactly where they hold no
 /// decision of these.
-pub(crate) fn heaviest(weights: &[u64], decisions: &[Pair], names: &[Cid]) -> Option<usize>
+pub(crate) fn heaviest(weights: &[u64], decisions: &[Pair], cids: &[Cid]) -> Option<usize>
     requires { (p : PairTerm) → Contains decisions.now p → p.var < length weights.now }
     ensures { MatchOption result
-        ((p : PairTerm) → Contains decisions.now p → Contains names.now (CidTerm.Decide p.var) → ⊥)
-        (IsHeaviestAt weights.now decisions.now names.now) }
+        ((p : PairTerm) → Contains decisions.now p → Contains cids.now (CidTerm.Decide p.var) → ⊥)
+        (IsHeaviestAt weights.now decisions.now cids.now) }
 {
     let mut best = None;
     let mut greatest = 0;
     for place in 0..decisions.len() {
         let var = &decisions[place].var;
         let weight = weight_of(weights, var);
-        if weight >= greatest && holds(names, var) {
+        if weight >= greatest && holds(cids, var) {
             best = Some(place);
             greatest = weight;
         }

@@ -59,7 +59,7 @@ pub fn turns_with_settlings_keep_repairing()
 /// the decisions of the other pairs and the users. Whatever satisfies these satisfies the negation.
 pub fn posted_negations_are_justified()
     ensures by_nogood { (s : RepairState) (a : Active) (p : Pair)
-        → IsRepairing s → Contains s.search.engine.active a → a.cid ≡ Not p → ComesFrom s p a.because }
+        → IsRepairing s → Contains s.search.engine.active a → a.cid ≡ Not p → ComesFrom s p a.justification }
     ensures justified { (s : RepairState) (a : Active) (p : Pair)
         → IsRepairing s → Contains s.search.engine.active a → a.cid ≡ Not p
         → IsJustified s.search.engine.initial s.search.engine.active a }

@@ -5,7 +5,7 @@ ghost use Rattle.palm_base.specs.declared.terms.Pair.{Pair as PairTerm};
 ghost use Rattle.palm_engine.specs.Engine.{KeepsCounts};
 ghost use Rattle.palm_model.specs.Constraint.{Distinct};
 ghost use Rattle.palm_model.specs.Event.{vars_of};
-ghost use Rattle.palm_model.specs.Log.{same_pair};
+ghost use Rattle.palm_base.specs.Order.{same_pair};
 ghost use Rattle.palm_repair.specs.Posting.{justification, nogood_of, pairs_under};
 ghost use Rattle.palm_repair.specs.Learned.{Forces, IsForced, ShowsDecisions, is_shown, left_open};
 
@@ -47,35 +47,25 @@ impl Nogood {
     }
 }
 
-/// The same pair once more.
-fn copy_of(pair: &Pair) -> Pair
-    ensures { result ≡ pair.now }
-{
-    Pair {
-        var: pair.var,
-        value: pair.value,
-    }
-}
-
 /// Appends the decision on the variable, if there is one.
 fn push_decision(pairs: &mut Vec<Pair>, decisions: &[Pair], var: &Var) -> Result<(), NoMemory>
     ensures { OnOk result (pairs.new.items ≡ pairs.old.items ++ pairs_under decisions.now (CidTerm.Decide var.now)) }
 {
     for pair in decisions {
         if pair.var == *var {
-            pairs.push(copy_of(pair))?;
+            pairs.push(pair.copy())?;
         }
     }
     Ok(())
 }
 
-/// The decisions under the names.
-fn pairs_of(alloc: Global, decisions: &[Pair], names: &[Cid]) -> Result<Vec<Pair>, NoMemory>
-    ensures { IfOk result (λ pairs. pairs.items ≡ flat_map (pairs_under decisions.now) names.now) }
+/// The decisions under the ids.
+fn pairs_of(alloc: Global, decisions: &[Pair], cids: &[Cid]) -> Result<Vec<Pair>, NoMemory>
+    ensures { IfOk result (λ pairs. pairs.items ≡ flat_map (pairs_under decisions.now) cids.now) }
 {
     let mut pairs = Vec::new(alloc);
-    for name in names {
-        if let Cid::Decide(var) = name {
+    for cid in cids {
+        if let Cid::Decide(var) = cid {
             push_decision(&mut pairs, decisions, var)?;
         }
     }
@@ -143,41 +133,34 @@ fn only_open(nogood: &Nogood, values: &[Option<Value>]) -> Option<Pair>
             if left.is_some() {
                 return None;
             }
-            left = Some(copy_of(pair));
+            left = Some(pair.copy());
         }
     }
     left
 }
 
-/// Whether the two pairs are one.
-fn is_same(first: &Pair, second: &Pair) -> bool
-    ensures { result ≡ same_pair first.now second.now }
-{
-    first.var == second.var && first.value == second.value
-}
-
 /// Appends the users.
-fn push_users(names: &mut CidList, users: &[Cid]) -> Result<(), NoMemory>
-    ensures { OnOk result (names.new ≡ names.old ++ users.now) }
+fn push_users(cids: &mut CidList, users: &[Cid]) -> Result<(), NoMemory>
+    ensures { OnOk result (cids.new ≡ cids.old ++ users.now) }
 {
     for user in users {
-        names.push(*user)?;
+        cids.push(*user)?;
     }
     Ok(())
 }
 
 /// Why the pair cannot hold: the decisions of the nogood's other pairs, and its users.
 fn justification(alloc: Global, nogood: &Nogood, pair: &Pair) -> Result<CidList, NoMemory>
-    ensures { IfOk result (λ names. names ≡ justification nogood.now pair.now) }
+    ensures { IfOk result (λ cids. cids ≡ justification nogood.now pair.now) }
 {
-    let mut names = CidList::new(alloc);
+    let mut cids = CidList::new(alloc);
     for other in nogood.pairs() {
-        if !is_same(other, pair) {
-            names.push(Cid::Decide(other.var))?;
+        if !other.is_same(pair) {
+            cids.push(Cid::Decide(other.var))?;
         }
     }
-    push_users(&mut names, nogood.users())?;
-    Ok(names)
+    push_users(&mut cids, nogood.users())?;
+    Ok(cids)
 }
 
 /// Posts the negation of the only undecided pair of the nogood, where there is one and its negation is not active. It
@@ -196,10 +179,10 @@ pub(crate) fn force<F: Filter>(
     let Some(pair) = only_open(nogood, values) else {
         return Ok(None);
     };
-    if engine.is_active(Cid::Not(copy_of(&pair))) {
+    if engine.is_active(Cid::Not(pair.copy())) {
         return Ok(None);
     }
     let because = justification(alloc, nogood, &pair)?;
-    engine.forbid(copy_of(&pair), because.as_slice())?;
+    engine.forbid(pair.copy(), because.as_slice())?;
     Ok(Some(pair))
 }

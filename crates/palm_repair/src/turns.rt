@@ -5,9 +5,10 @@ ghost use Rattle.palm_base.specs.declared.terms.Cid.{Cid as CidTerm};
 ghost use Rattle.palm_base.specs.declared.terms.Pair.{Pair as PairTerm};
 ghost use Rattle.palm_engine.specs.Engine.{KeepsCounts};
 ghost use Rattle.palm_search.specs.Calls.{search_state};
+ghost use Rattle.palm_search.specs.Following.{GuideFollows};
 ghost use Rattle.palm_search.specs.Kept.{HasDecisions};
-ghost use Rattle.palm_search.specs.Turning.{IsTold};
-ghost use Rattle.palm_search.specs.Turns.{HasFlatConflict};
+ghost use Rattle.palm_search.specs.Turning.{Hears};
+ghost use Rattle.palm_search.specs.Turns.{HasFlatConflict, decided_vars};
 ghost use Rattle.palm_search.specs.declared.turn.Turn.TheVariants.{Undo as TurnUndo};
 ghost use Rattle.palm_repair.specs.Learned.{repair_state};
 ghost use Rattle.palm_repair.specs.Turning.{Advances, IsCutTurn, IsReady, TakesRepairTurn};
@@ -42,7 +43,7 @@ fn take_back<F: Filter, G: Guide>(
     ensures ok { OnOk result ((gone : PairTerm) × TakesRepairTurn (is_some guide.old) tabu (TurnUndo gone conflict.now)
         (repair_state engine.old.state search.old.decisions learned.old) search.old
         (repair_state engine.new.state search.new.decisions learned.new) search.new) }
-    ensures told { OnOk result (IsTold G.hears G.state search.old search.new guide.old guide.new) }
+    ensures told { OnOk result (Hears G.hears G.state (decided_vars conflict.now) guide.old guide.new) }
     ensures err { OnErr result (IsCutTurn (is_some guide.old) tabu
         (repair_state engine.old.state search.old.decisions learned.old) search.old engine.new.state search.new) }
     ensures within { length search.new.journal ≤ length search.old.journal + 1 }
@@ -72,7 +73,7 @@ pub(crate) fn advance<F: Filter, G: Guide>(
     requires ready { IsReady tabu (length search.old.journal) (repair_state engine.old.state search.old.decisions learned.old) }
     requires within { length search.old.journal ≤ budget }
     requires some { 0 < tabu }
-    ensures ok { IfOk result (Advances (is_some guide.old) tabu budget
+    ensures ok { IfOk result (Advances (GuideFollows G.answers G.hears G.state) guide.old guide.new (is_some guide.old) tabu budget
         (repair_state engine.old.state search.old.decisions learned.old) search.old
         (repair_state engine.new.state search.new.decisions learned.new) search.new) }
     ensures err { OnErr result (IsCutTurn (is_some guide.old) tabu

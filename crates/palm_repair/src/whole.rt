@@ -1,11 +1,14 @@
 //! The whole repair.
 ghost use Rattle.std.specs.Prelude.{◌≡◌, ◌<◌, [], IfOk, OnErr, is_some};
 ghost use Rattle.palm_model.specs.State.{IsValid};
+ghost use Rattle.palm_engine.specs.Following.{OrderFollows};
 ghost use Rattle.palm_search.specs.Calls.{search_state};
+ghost use Rattle.palm_search.specs.Following.{GuideFollows};
 ghost use Rattle.palm_search.specs.Kept.{HasDecisions, HasOnlyUsers};
 ghost use Rattle.palm_search.specs.Leaves.{Counts, Leaves, Lent};
-ghost use Rattle.palm_repair.specs.Answers.{HasRepaired, IsTrueOf};
-ghost use Rattle.palm_repair.specs.Turning.{BreaksOff, HasRun, IsCutOff};
+ghost use Rattle.palm_repair.specs.Answers.{IsTrueOf};
+ghost use Rattle.palm_repair.specs.Following.{HasRepairedBy, HasRunBy};
+ghost use Rattle.palm_repair.specs.Turning.{BreaksOff, IsCutOff};
 
 use crate::answer::RepairAnswer;
 use crate::learned::Learned;
@@ -33,7 +36,8 @@ fn run<F: Filter, G: Guide, O: Order, L: Ledger>(
     requires fresh { search.old ≡ record { decisions = []; journal = [] } }
     requires users { HasOnlyUsers engine.old.state }
     requires some { 0 < tabu }
-    ensures ok { IfOk result (HasRun (is_some guide.old) (is_some order.old) tabu budget engine.old.state search.new.journal engine.new.state) }
+    ensures ok { IfOk result (HasRunBy (GuideFollows G.answers G.hears G.state) (OrderFollows O.answers O.hears O.state) guide.old guide.new order.old order.new
+        tabu budget engine.old.state search.new.journal engine.new.state) }
     ensures err { OnErr result (IsCutOff (is_some guide.old) (is_some order.old) tabu budget engine.old.state search.new.journal engine.new.state) }
     ensures decisions { HasDecisions (search_state engine.new.state search.new) }
     ensures counts { Counts engine.old engine.new steps.old steps.new }
@@ -57,9 +61,10 @@ fn run<F: Filter, G: Guide, O: Order, L: Ledger>(
 /// of its variables by one. The conflicts are listed as nogoods, no more than `tabu` of them, the oldest of which makes
 /// room for a new one; where a nogood leaves one pair undecided, the negation of that pair is posted. The repair ends when
 /// each variable has one value, a conflict holds no decision, or the budget is spent. Then all decisions and negations are
-/// withdrawn, and the engine settles once more. The journal holds the turns. After want of memory the decisions and
-/// negations are withdrawn too, the journal holds the turns so far, and constraints may be pending. (Jussien and Lhomme
-/// 2002)
+/// withdrawn, and the engine settles once more. The journal holds the turns. The guide is asked once at each decision and
+/// told once of each undoing, and the order is asked and told in all settlings, and neither at any other moment. After want
+/// of memory the decisions and negations are withdrawn too, the journal holds the turns so far, and constraints may be
+/// pending. (Jussien and Lhomme 2002)
 pub fn repair<F: Filter, G: Guide, O: Order, L: Ledger>(
     alloc: Global,
     engine: &mut Engine<F>,
@@ -73,7 +78,8 @@ pub fn repair<F: Filter, G: Guide, O: Order, L: Ledger>(
     requires fresh { search.old ≡ record { decisions = []; journal = [] } }
     requires users { HasOnlyUsers engine.old.state }
     requires some { 0 < tabu }
-    ensures ok { IfOk result (HasRepaired (is_some guide.old) (is_some order.old) tabu budget engine.old.state search.new.journal engine.new.state) }
+    ensures ok { IfOk result (HasRepairedBy (GuideFollows G.answers G.hears G.state) (OrderFollows O.answers O.hears O.state) guide.old guide.new order.old order.new
+        tabu budget engine.old.state search.new.journal engine.new.state) }
     ensures holds { IfOk result (IsTrueOf engine.old.state budget) }
     ensures err { OnErr result (BreaksOff (is_some guide.old) (is_some order.old) tabu budget engine.old.state search.new.journal engine.new.state) }
     ensures leaves { Leaves engine.old.state engine.new.state search.new result }

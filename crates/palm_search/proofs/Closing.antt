@@ -9,14 +9,14 @@ use Rattle.palm_base.proofs.cited.Members.{member_nil, member_here, member_cases
 use Rattle.palm_model.specs.Log.{Active, IsActive, Removal, Loses, cids_of, is_named}
 use Rattle.palm_model.specs.Log.Loses.{none_left, is_lost, is_kept}
 use Rattle.palm_model.specs.State.{EngineState, IsValid, is_user, woken}
-use Rattle.palm_model.specs.Event.{Withdraws, WithdrawsAll, gone_with, lost_pairs, vars_of, without_names}
+use Rattle.palm_model.specs.Event.{Withdraws, WithdrawsAll, gone_with, lost_pairs, vars_of, without_cids}
 use Rattle.palm_events.proofs.cited.Names.{named_member, member_named}
-use Rattle.palm_events.proofs.cited.States.{without_names_member, member_without_names, held_not_ground}
+use Rattle.palm_events.proofs.cited.States.{without_cids_member, member_without_cids, held_not_justifier}
 use Rattle.palm_engine.proofs.cited.Withdrawing.{loses_none, without_none, none_lost, withdraws_then}
 use Rattle.palm_search.specs.Calls.{LetsGo}
 use Rattle.palm_search.specs.Search.{search_cids}
 use Rattle.palm_search.proofs.cited.Deciding.{gone_itself}
-use Rattle.palm_search.proofs.cited.Leaving.{user_ground}
+use Rattle.palm_search.proofs.cited.Leaving.{user_justifier}
 
 pub no_members : {X : Type 0} (xs : List X) → ((x : X) → Contains xs x → ⊥) → xs ≡ []
 no_members [] none = refl
@@ -38,7 +38,7 @@ pub goes_none : (s : EngineState) → IsValid s → LetsGo s s
 goes_none s valid =
     let active = without_none s.active in
     let vars : vars_of (lost_pairs s.log s.log) ≡ [] = no_members (vars_of (lost_pairs s.log s.log)) (none_lost s.log) in
-    let pending : s.pending ≡ woken (without_names [] s.active) s.pending (vars_of (lost_pairs s.log s.log)) = valid.waiting ∙ (λ i. woken (sym active i) s.pending (sym vars i)) in
+    let pending : s.pending ≡ woken (without_cids [] s.active) s.pending (vars_of (lost_pairs s.log s.log)) = valid.waiting ∙ (λ i. woken (sym active i) s.pending (sym vars i)) in
     record {
       gone = [];
       among = λ c m. absurd (member_nil c m);
@@ -49,13 +49,13 @@ goes_none s valid =
 pub goes_one : (s t : EngineState) (cid : Cid) → IsValid s → IsActive s.active cid → is_user cid ≡ false → Withdraws s cid t → LetsGo s t
 goes_one s t cid valid is other withdraws = record {
   gone = gone_with s.active cid;
-  among = λ c m. elim (member_cases cid (cids_of (filter (λ b. is_named b.because cid) s.active)) c m) [
+  among = λ c m. elim (member_cases cid (cids_of (filter (λ b. is_named b.justification cid) s.active)) c m) [
     | inl e ↦ member_same (search_cids s.active) is.owner.cid c (is.named ∙ e) (member_search s.active is.owner is.posted (subst (λ d. is_user d ≡ false) (sym is.named) other))
     | inr k ↦
-        let r = member_unmap (λ (b : Active). b.cid) (filter (λ b. is_named b.because cid) s.active) c k in
-        let f = filter_member (λ (b : Active). is_named b.because cid) s.active r.0 r.1 in
+        let r = member_unmap (λ (b : Active). b.cid) (filter (λ b. is_named b.justification cid) s.active) c k in
+        let f = filter_member (λ (b : Active). is_named b.justification cid) s.active r.0 r.1 in
         elim (cases_Bool (is_user r.0.cid)) [
-          | inl t ↦ absurd (held_not_ground (length s.initial) s.active r.0 cid (valid.formed r.0 f.0) (named_member r.0.because cid f.1) (user_ground r.0.cid t))
+          | inl t ↦ absurd (held_not_justifier (length s.initial) s.active r.0 cid (valid.formed r.0 f.0) (named_member r.0.justification cid f.1) (user_justifier r.0.cid t))
           | inr n ↦ member_same (search_cids s.active) r.0.cid c r.2 (member_search s.active r.0 f.0 n)
         ]
   ];
@@ -64,7 +64,7 @@ goes_one s t cid valid is other withdraws = record {
 
 -- what is active after a withdrawal was so before it
 pub left_active : (s t : EngineState) (goes : LetsGo s t) (a : Active) → Contains t.active a → Contains s.active a × (Contains goes.gone a.cid → ⊥)
-left_active s t goes a m = without_names_member goes.gone s.active a (subst (λ (z : EngineState). Contains z.active a) goes.withdraws.after m)
+left_active s t goes a m = without_cids_member goes.gone s.active a (subst (λ (z : EngineState). Contains z.active a) goes.withdraws.after m)
 
 pub goes_then : (s m t : EngineState) → IsValid s → LetsGo s m → LetsGo m t → LetsGo s t
 goes_then s m t valid one two = record {
@@ -84,8 +84,8 @@ goes_then s m t valid one two = record {
 loses_alike : (log : List Removal) (gone more : List Cid) → ((c : Cid) → Contains gone c → Contains more c) → ((c : Cid) → Contains more c → Contains gone c)
     → (rest left : List Removal) → Loses log gone rest left → Loses log more rest left
 loses_alike log gone more to from _ _ none_left = none_left
-loses_alike log gone more to from _ _ (is_lost r rest left names loses) =
-    is_lost r rest left (record { cid = names.cid; among = to names.cid names.among; names = names.names }) (loses_alike log gone more to from rest left loses)
+loses_alike log gone more to from _ _ (is_lost r rest left cids loses) =
+    is_lost r rest left (record { cid = cids.cid; among = to cids.cid cids.among; names = cids.names }) (loses_alike log gone more to from rest left loses)
 loses_alike log gone more to from _ _ (is_kept r rest left keeps loses) =
     is_kept r rest left (λ some. keeps (record { cid = some.cid; among = from some.cid some.among; names = some.names })) (loses_alike log gone more to from rest left loses)
 
@@ -98,7 +98,7 @@ gone_all s t goes users =
     let f = filter_member (λ (b : Active). not (is_user b.cid)) s.active r.0 r.1 in
     member_same goes.gone r.0.cid c r.2 (went r.0 f.0 (not-true (is_user r.0.cid) f.1)) in
     let left = goes.withdraws.left in
-    let active : without_names goes.gone s.active ≡ without_names (search_cids s.active) s.active =
+    let active : without_cids goes.gone s.active ≡ without_cids (search_cids s.active) s.active =
     filter_agree_members (λ (a : Active). not (is_named goes.gone a.cid)) (λ (a : Active). not (is_named (search_cids s.active) a.cid)) s.active
     (λ a m. ap not (agree (is_named goes.gone a.cid) (is_named (search_cids s.active) a.cid)
     (λ h. member_named (search_cids s.active) a.cid (goes.among a.cid (named_member goes.gone a.cid h)))
@@ -113,17 +113,17 @@ gone_all s t goes users =
     member_gone s t goes users a m f = elim (cases_Bool (is_named goes.gone a.cid)) [
       | inl t' ↦ named_member goes.gone a.cid t'
       | inr n ↦ absurd (false≢true (sym f ∙ users a (subst (λ (z : EngineState). Contains z.active a) (sym goes.withdraws.after)
-          (member_without_names goes.gone s.active a m (λ k. false≢true (sym n ∙ member_named goes.gone a.cid k))))))
+          (member_without_cids goes.gone s.active a m (λ k. false≢true (sym n ∙ member_named goes.gone a.cid k))))))
     ]
 
 -- where no decision and no negation is active, only users are
 pub users_left : (m t : EngineState) → LetsGo m t → ((x : ℕ) → IsActive m.active (Decide x) → ⊥) → ((p : Pair) → IsActive t.active (Not p) → ⊥) → (a : Active) → Contains t.active a → is_user a.cid ≡ true
-users_left m t goes decided negated a k = by_name a.cid refl
+users_left m t goes decided negated a k = by_cid a.cid refl
   where
-    by_name : (c : Cid) → a.cid ≡ c → is_user a.cid ≡ true
-    by_name (Decide x) e = absurd (decided x (record { owner = a; posted = (left_active m t goes a k).0; named = e }))
-    by_name (Not p) e = absurd (negated p (record { owner = a; posted = k; named = e }))
-    by_name (User n) e = ap is_user e
+    by_cid : (c : Cid) → a.cid ≡ c → is_user a.cid ≡ true
+    by_cid (Decide x) e = absurd (decided x (record { owner = a; posted = (left_active m t goes a k).0; named = e }))
+    by_cid (Not p) e = absurd (negated p (record { owner = a; posted = k; named = e }))
+    by_cid (User n) e = ap is_user e
 
 -- ---- there are fewer each time
 

@@ -9,7 +9,7 @@ use Rattle.palm_model.specs.Conflict.{InConflict, InFlat, IsKeptConflict}
 use Rattle.palm_model.specs.Conflict.InFlat.{as_it_is, in_place}
 use Rattle.palm_model.specs.Log.{Active, IsActive, IsListOf}
 use Rattle.palm_model.specs.State.{EngineState, IsValid, present}
-use Rattle.palm_events.proofs.cited.Conflicts.{conflict_active, flat_grounds}
+use Rattle.palm_events.proofs.cited.Conflicts.{conflict_active, flat_justifiers}
 use Rattle.palm_search.specs.Kept.{HasDecisions}
 use Rattle.palm_search.specs.Turning.{HasOnlyEmpty}
 use Rattle.palm_search.specs.Turns.{SearchState, HasFlatConflict, decided_vars}
@@ -20,7 +20,7 @@ pub kept_active : (s : EngineState) (x : ℕ) (kept : List Cid) → IsValid s �
 kept_active s x kept valid is c m = conflict_active s valid x c (is.sound c m)
 
 in_flat_alike : (active : List Active) (K L : Cid → Type 0) → ((c : Cid) → K c → L c) → (c : Cid) → InFlat active K c → InFlat active L c
-in_flat_alike active K L to c (as_it_is k ground) = as_it_is (to c k) ground
+in_flat_alike active K L to c (as_it_is k justifier) = as_it_is (to c k) justifier
 in_flat_alike active K L to c (in_place p a k m named held) = in_place p a (to (Not p) k) m named held
 
 pub flat_is : (s : EngineState) (kept flat : List Cid) (empty : HasOnlyEmpty (present s)) → IsKeptConflict s empty.var kept → IsListOf (InFlat s.active (Contains kept)) flat → HasFlatConflict s flat
@@ -41,7 +41,7 @@ flat_is s kept flat empty is list = record {
 -- a decision that it holds is one of the search's
 pub conflict_decided : (s : SearchState) (conflict : List Cid) (x : ℕ) → IsValid s.engine → HasDecisions s → HasFlatConflict s.engine conflict → Contains conflict (Decide x) → (p : Pair) × Contains s.decisions p × Contains conflict (Decide p.var)
 conflict_decided s conflict x valid has flat held =
-    let is = (flat_grounds s.engine valid flat.var (Decide x) (flat.is.sound (Decide x) held)).1 in
+    let is = (flat_justifiers s.engine valid flat.var (Decide x) (flat.is.sound (Decide x) held)).1 in
     let r = has.taken is.owner x is.posted is.named in
     (r.0, r.1, member_same conflict (Decide x) (Decide r.0.var) (sym is.named ∙ ap (λ (a : Active). a.cid) r.2) held)
 
@@ -53,11 +53,11 @@ decided_both (Decide x ∷ xs) ys = ap (λ l. x ∷ l) (decided_both xs ys)
 decided_both (Not p ∷ xs) ys = decided_both xs ys
 decided_both (User n ∷ xs) ys = decided_both xs ys
 
-pub no_variable : (name : Cid) → ((x : ℕ) → name ≡ Decide x → ⊥) → decided_vars (name ∷ []) ≡ []
+pub no_variable : (cid : Cid) → ((x : ℕ) → cid ≡ Decide x → ⊥) → decided_vars (cid ∷ []) ≡ []
 no_variable (Decide x) none = absurd (none x refl)
 no_variable (Not p) none = refl
 no_variable (User n) none = refl
 
-pub decided_more : (names : List Cid) (i : ℕ) (name : Cid) (vars now : List ℕ) → i < length names → name ≡ get_or names i name → vars ≡ decided_vars (take i names) → now ≡ vars ++ decided_vars (name ∷ []) → now ≡ decided_vars (take (i + 1) names)
-decided_more names i name vars now lt is e f =
-    f ∙ (λ j. e j ++ decided_vars (is j ∷ [])) ∙ sym (decided_both (take i names) (get_or names i name ∷ [])) ∙ ap decided_vars (sym (take_more names i name lt))
+pub decided_more : (cids : List Cid) (i : ℕ) (cid : Cid) (vars now : List ℕ) → i < length cids → cid ≡ get_or cids i cid → vars ≡ decided_vars (take i cids) → now ≡ vars ++ decided_vars (cid ∷ []) → now ≡ decided_vars (take (i + 1) cids)
+decided_more cids i cid vars now lt is e f =
+    f ∙ (λ j. e j ++ decided_vars (is j ∷ [])) ∙ sym (decided_both (take i cids) (get_or cids i cid ∷ [])) ∙ ap decided_vars (sym (take_more cids i cid lt))

@@ -1,5 +1,5 @@
 -- What the ends of a search say of the active constraints.
-use Rattle.std.proofs.Common.{◌≡◌, ℕ, zero, suc, ◌<◌, true, List, [], ◌∷◌, ◌++◌, length, map, Contains, ℤ, inl, inr, refl, sym, ap, ◌∙◌, subst, arith}
+use Rattle.std.proofs.Common.{◌≡◌, ℕ, zero, suc, ◌<◌, true, List, [], ◌∷◌, length, map, Contains, ℤ, inl, inr, refl, sym, ap, ◌∙◌, subst, arith}
 use Rattle.std.proofs.lemmas.List.{length-map}
 use Rattle.palm_base.specs.declared.terms.Pair.{Pair}
 use Rattle.palm_base.specs.declared.terms.Cid.{Cid}
@@ -7,58 +7,55 @@ use Rattle.palm_base.specs.declared.terms.Cid.TheVariants.{Decide, Not, User}
 use Rattle.palm_base.proofs.cited.Members.{member_nil, member_here, member_there, member_cases, member_single, member_same, member_map, member_unmap, member_filter, filter_member}
 use Rattle.palm_model.specs.Domains.{Assignment, Has}
 use Rattle.palm_model.specs.Constraint.{scope}
-use Rattle.palm_model.specs.Linear.{term_vars}
-use Rattle.palm_model.specs.Count.{target_scope}
-use Rattle.palm_model.specs.Part.{scope_of, parts, Holds}
+use Rattle.palm_model.specs.Part.{parts, Holds}
 use Rattle.palm_model.specs.Closure.{IsSolution}
 use Rattle.palm_model.specs.Trial.{listed}
 use Rattle.palm_model.specs.Log.{Active, IsActive, Named, cons_of, log_pairs}
-use Rattle.palm_model.specs.State.{EngineState, IsValid, HasEmpty, IsGround, IsOfForm, present, is_user}
+use Rattle.palm_model.specs.State.{EngineState, IsValid, HasEmpty, IsJustifier, IsOfForm, present, is_user}
 use Rattle.palm_model.specs.declared.constraint.Con.{Con}
-use Rattle.palm_model.specs.declared.constraint.Con.TheVariants.{CompareVar, CompareConst, Linear, Table, Element, Count, Differ}
 use Rattle.palm_model.specs.declared.part.Part.{Part}
 use Rattle.palm_model.proofs.cited.Assignments.{holds_agree}
-use Rattle.palm_model.proofs.cited.Formed.{sum_part, differ_part, part_scope}
+use Rattle.palm_model.proofs.cited.Formed.{part_scope, part_variable}
 use Rattle.palm_model.proofs.cited.Without.{length_without, without_inside}
 use Rattle.palm_events.specs.Along.{IsStill}
 use Rattle.palm_events.proofs.cited.Valid.{active_declared}
 use Rattle.palm_events.proofs.cited.Runs.{quiet_closed}
-use Rattle.palm_events.proofs.cited.Conflicts.{flat_unsolved, flat_grounds}
+use Rattle.palm_events.proofs.cited.Conflicts.{flat_unsolved, flat_justifiers}
 use Rattle.palm_search.specs.Turns.{SearchState, decided_vars}
 use Rattle.palm_search.specs.Search.{HasNoSolution, IsFound}
 use Rattle.palm_search.specs.Kept.{IsSearching}
 
 -- ---- no solution
 
-pub decided_member : (names : List Cid) (x : ℕ) → Contains names (Decide x) → Contains (decided_vars names) x
+pub decided_member : (cids : List Cid) (x : ℕ) → Contains cids (Decide x) → Contains (decided_vars cids) x
 decided_member [] x m = absurd (member_nil (Decide x) m)
-decided_member (Decide y ∷ names) x m = elim (member_cases (Decide y) names (Decide x) m) [
-  | inl e ↦ member_same (y ∷ decided_vars names) y x (same y x e) (member_here y (decided_vars names))
-  | inr k ↦ member_there y (decided_vars names) x (decided_member names x k)
+decided_member (Decide y ∷ cids) x m = elim (member_cases (Decide y) cids (Decide x) m) [
+  | inl e ↦ member_same (y ∷ decided_vars cids) y x (same y x e) (member_here y (decided_vars cids))
+  | inr k ↦ member_there y (decided_vars cids) x (decided_member cids x k)
 ]
   where
     same : (y x : ℕ) → Decide y ≡ Decide x → y ≡ x
     same y x e = cc
-decided_member (Not p ∷ names) x m = elim (member_cases (Not p) names (Decide x) m) [
+decided_member (Not p ∷ cids) x m = elim (member_cases (Not p) cids (Decide x) m) [
   | inl e ↦ absurd (apart p x e)
-  | inr k ↦ decided_member names x k
+  | inr k ↦ decided_member cids x k
 ]
   where
     apart : (p : Pair) (x : ℕ) → Not p ≡ Decide x → ⊥
     apart p x e = cc
-decided_member (User n ∷ names) x m = elim (member_cases (User n) names (Decide x) m) [
+decided_member (User n ∷ cids) x m = elim (member_cases (User n) cids (Decide x) m) [
   | inl e ↦ absurd (apart n x e)
-  | inr k ↦ decided_member names x k
+  | inr k ↦ decided_member cids x k
 ]
   where
     apart : (n x : ℕ) → User n ≡ Decide x → ⊥
     apart n x e = cc
 
--- a ground that is no decision is a user
-ground_user : (names : List Cid) → decided_vars names ≡ [] → (c : Cid) → Contains names c → IsGround c → is_user c ≡ true
-ground_user names none (Decide x) m ground = absurd (member_nil x (subst (λ l. Contains l x) none (decided_member names x m)))
-ground_user names none (Not p) m ground = absurd ground
-ground_user names none (User n) m ground = refl
+-- a justifier that is no decision is a user
+justifier_user : (cids : List Cid) → decided_vars cids ≡ [] → (c : Cid) → Contains cids c → IsJustifier c → is_user c ≡ true
+justifier_user cids none (Decide x) m justifier = absurd (member_nil x (subst (λ l. Contains l x) none (decided_member cids x m)))
+justifier_user cids none (Not p) m justifier = absurd justifier
+justifier_user cids none (User n) m justifier = refl
 
 pub users_unsolved : (s : SearchState) → IsSearching s → (users : List Cid) → HasNoSolution s.engine users → (b : Assignment) → IsSolution s.engine.initial (Named s.engine.active (Contains users)) b → ⊥
 users_unsolved s searching users none b solution =
@@ -68,7 +65,7 @@ users_unsolved s searching users none b solution =
       satisfies = λ c named.
           let cid = named.owner.cid in
           let listed = flat.is.whole cid named.named in
-          let user = ground_user none.conflict none.undecided cid listed (flat_grounds s.engine searching.valid flat.var cid named.named).0 in
+          let user = justifier_user none.conflict none.undecided cid listed (flat_justifiers s.engine searching.valid flat.var cid named.named).0 in
           solution.satisfies c (record {
             owner = named.owner;
             posted = named.posted;
@@ -80,7 +77,7 @@ users_unsolved s searching users none b solution =
 pub users_active : (s : SearchState) → IsSearching s → (users : List Cid) → HasNoSolution s.engine users → (c : Cid) → Contains users c → IsActive s.engine.active c × (is_user c ≡ true)
 users_active s searching users none c m =
     let r = filter_member is_user none.conflict c (subst (λ l. Contains l c) none.are m) in
-    ((flat_grounds s.engine searching.valid none.flat.var c (none.flat.is.sound c r.0)).1, r.1)
+    ((flat_justifiers s.engine searching.valid none.flat.var c (none.flat.is.sound c r.0)).1, r.1)
 
 -- ---- found
 
@@ -100,28 +97,14 @@ found_filled values empty =
     let lt = subst (λ n. empty.0 < n) (length-map values (λ w. w ∷ [])) empty.1.exists in
     member_nil (listed values empty.0) (subst (λ vs. Contains vs (listed values empty.0)) empty.1.empty (has_found values empty.0 lt))
 
-first_member : (xs : List ℕ) → 0 < length xs → (x : ℕ) × Contains xs x
-first_member [] lt = absurd (omega arith)
-first_member (x ∷ xs) lt = (x, member_here x xs)
-
--- a part of a constraint over some variable is over some variable
-pub part_some : (c : Con) (p : Part) → 0 < length (scope c) → Contains (parts c) p → (x : ℕ) × Contains (scope_of p) x
-part_some (CompareVar left op right offset) p lt m = (left, subst (λ q. Contains (scope_of q) left) (member_single _ p m) (member_here left (right ∷ [])))
-part_some (CompareConst left op value) p lt m = (left, subst (λ q. Contains (scope_of q) left) (member_single _ p m) (member_here left []))
-part_some (Linear terms op bound) p lt m = let r = sum_part terms op bound p m in let f = first_member (term_vars terms) lt in (f.0, subst (λ q. Contains (scope_of q) f.0) r.1 f.1)
-part_some (Table vars rows) p lt m = let f = first_member vars lt in (f.0, subst (λ q. Contains (scope_of q) f.0) (member_single _ p m) f.1)
-part_some (Element outcome index entries) p lt m = (outcome, subst (λ q. Contains (scope_of q) outcome) (member_single _ p m) (member_here outcome (index ∷ [])))
-part_some (Count value vars op target) p lt m = let f = first_member (vars ++ target_scope target) lt in (f.0, subst (λ q. Contains (scope_of q) f.0) (member_single _ p m) f.1)
-part_some (Differ vars) p lt m = let r = differ_part vars p m in (r.0, subst (λ q. Contains (scope_of q) r.0) r.4 (member_here r.0 (r.1 ∷ [])))
-
-form_some : (n : ℕ) (active : List Active) (cid : Cid) (con : Con) (because : List Cid) → IsOfForm n active cid con because → 0 < length (scope con)
-form_some n active (Decide x) con because form = subst (λ c. 0 < length (scope c)) (sym form.1) (omega arith)
-form_some n active (Not p) con because form = subst (λ c. 0 < length (scope c)) (sym form.0) (omega arith)
-form_some n active (User k) con because form = form.0.some
+form_some : (n : ℕ) (active : List Active) (cid : Cid) (con : Con) (justification : List Cid) → IsOfForm n active cid con justification → 0 < length (scope con)
+form_some n active (Decide x) con justification form = subst (λ c. 0 < length (scope c)) (sym form.1) (omega arith)
+form_some n active (Not p) con justification form = subst (λ c. 0 < length (scope c)) (sym form.0) (omega arith)
+form_some n active (User k) con justification form = form.0.some
 
 found_holds : (s : EngineState) (values : List ℤ) → IsValid s → s.pending ≡ [] → IsFound (present s) values → (a : Active) → Contains s.active a → (p : Part) → Contains (parts a.con) p → Holds p (listed values)
 found_holds s values valid quiet found a m p k =
-    let some = part_some a.con p (form_some (length s.initial) s.active a.cid a.con a.because (valid.formed a m).form) k in
+    let some = part_variable a.con p (form_some (length s.initial) s.active a.cid a.con a.justification (valid.formed a m).form) k in
     let lt = active_declared s valid a m some.0 (part_scope a.con p some.0 k some.1) in
     let len : length values ≡ length s.initial = sym (length-map values (λ w. w ∷ [])) ∙ sym (ap length found) ∙ length_without s.initial (log_pairs s.log) in
     let here = subst (λ d. Has d some.0 (listed values some.0)) (sym found) (has_found values some.0 (subst (λ n. some.0 < n) (sym len) lt)) in

@@ -8,8 +8,8 @@ use Rattle.palm_base.specs.declared.terms.Cid.TheVariants.{Decide, Not}
 use Rattle.palm_base.proofs.cited.Members.{member_same, member_get, member_place}
 use Rattle.palm_model.specs.Domains.{Has}
 use Rattle.palm_model.specs.Log.{IsActive}
-use Rattle.palm_model.specs.State.{AreGrounds, EngineState, IsValid, without_cid, negation_of}
-use Rattle.palm_model.specs.Event.{Posts, gone_with, posted, without_names}
+use Rattle.palm_model.specs.State.{AreJustifiers, EngineState, IsValid, without_cid, negation_of}
+use Rattle.palm_model.specs.Event.{Posts, gone_with, posted, without_cids}
 use Rattle.palm_model.proofs.cited.Narrowing.{has_declared}
 use Rattle.palm_search.specs.Calls.{SearchView, TakesBack, search_state}
 use Rattle.palm_search.specs.Kept.{HasDecisions, HasDeclared, HasNoneNegated}
@@ -17,24 +17,24 @@ use Rattle.palm_search.specs.Turning.{IsLatestAt}
 use Rattle.palm_search.specs.Turns.{SearchState, HasFlatConflict, Undoes}
 use Rattle.palm_search.proofs.FlatConflict.{conflict_decided}
 use Rattle.palm_search.proofs.cited.Deciding.{apart_not, posted_has}
-use Rattle.palm_search.proofs.cited.Going.{negation_before, rest_grounds}
+use Rattle.palm_search.proofs.cited.Going.{negation_before, rest_justifiers}
 use Rattle.palm_search.proofs.cited.Showing.{at_drop, some_same, split_place}
 
 -- ---- the latest decision
 
 -- where the flat conflict holds a decision, there is a latest one
-pub latest_found : (s : SearchState) (conflict : List Cid) (x : ℕ) (place : Option ℕ) (decisions : List Pair) (names : List Cid) → IsValid s.engine → HasDecisions s → HasFlatConflict s.engine conflict → Contains conflict (Decide x)
-    → decisions ≡ s.decisions → names ≡ conflict → MatchOption place ((p : Pair) → Contains decisions p → Contains names (Decide p.var) → ⊥) (IsLatestAt decisions names) → is_some place ≡ true
-latest_found s conflict x None decisions names valid has flat held ed en none =
+pub latest_found : (s : SearchState) (conflict : List Cid) (x : ℕ) (place : Option ℕ) (decisions : List Pair) (cids : List Cid) → IsValid s.engine → HasDecisions s → HasFlatConflict s.engine conflict → Contains conflict (Decide x)
+    → decisions ≡ s.decisions → cids ≡ conflict → MatchOption place ((p : Pair) → Contains decisions p → Contains cids (Decide p.var) → ⊥) (IsLatestAt decisions cids) → is_some place ≡ true
+latest_found s conflict x None decisions cids valid has flat held ed en none =
     let r = conflict_decided s conflict x valid has flat held in
     absurd (none r.0 (subst (λ l. Contains l r.0) (sym ed) r.1) (subst (λ l. Contains l (Decide r.0.var)) (sym en) r.2))
-latest_found s conflict x (Some place) decisions names valid has flat held ed en found = refl
+latest_found s conflict x (Some place) decisions cids valid has flat held ed en found = refl
 
-pub latest_at : (found : Option ℕ) (place : ℕ) (decisions wanted : List Pair) (names conflict : List Cid) → decisions ≡ wanted → names ≡ conflict → found ≡ Some place
-    → MatchOption found ((p : Pair) → Contains decisions p → Contains names (Decide p.var) → ⊥) (IsLatestAt decisions names) → IsLatestAt wanted conflict place
-latest_at found place decisions wanted names conflict ed en ef latest =
-    subst (λ l. IsLatestAt wanted l place) en (subst (λ l. IsLatestAt l names place) ed (
-    subst (λ o. MatchOption o ((p : Pair) → Contains decisions p → Contains names (Decide p.var) → ⊥) (IsLatestAt decisions names)) ef latest))
+pub latest_at : (found : Option ℕ) (place : ℕ) (decisions wanted : List Pair) (cids conflict : List Cid) → decisions ≡ wanted → cids ≡ conflict → found ≡ Some place
+    → MatchOption found ((p : Pair) → Contains decisions p → Contains cids (Decide p.var) → ⊥) (IsLatestAt decisions cids) → IsLatestAt wanted conflict place
+latest_at found place decisions wanted cids conflict ed en ef latest =
+    subst (λ l. IsLatestAt wanted l place) en (subst (λ l. IsLatestAt l cids place) ed (
+    subst (λ o. MatchOption o ((p : Pair) → Contains decisions p → Contains cids (Decide p.var) → ⊥) (IsLatestAt decisions cids)) ef latest))
 
 pub removed_is : (decisions : List Pair) (k : ℕ) (gone p : Pair) → slice_get decisions k ≡ Some gone → p ≡ get_or decisions k p → gone ≡ p
 removed_is decisions k gone p e g = sym (g ∙ get_or_from_slice_get decisions k gone p e)
@@ -42,7 +42,7 @@ removed_is decisions k gone p e g = sym (g ∙ get_or_from_slice_get decisions k
 -- ---- the negation
 
 undone_active : (conflict : List Cid) (k : ℕ) (s m : EngineState) (before after : SearchView) (back : TakesBack conflict k s before m after)
-    → m.active ≡ without_names (gone_with s.active (Decide back.gone.var)) s.active
+    → m.active ≡ without_cids (gone_with s.active (Decide back.gone.var)) s.active
 undone_active conflict k s m before after back = ap (λ (z : EngineState). z.active) back.withdraws.after
 
 pub undone_inactive : (conflict : List Cid) (k : ℕ) (s m : EngineState) (before after : SearchView) (back : TakesBack conflict k s before m after) → HasNoneNegated (search_state s before) → IsActive m.active (Not back.gone) → ⊥
@@ -53,10 +53,10 @@ pub undone_declared : (conflict : List Cid) (k : ℕ) (s m : EngineState) (befor
 undone_declared conflict k s m before after back declared =
     subst (λ (z : EngineState). Has z.initial back.gone.var back.gone.value) (sym back.withdraws.after) (declared.decided back.gone (member_get before.decisions k back.gone back.stood))
 
-pub undone_grounds : (conflict : List Cid) (k : ℕ) (s m : EngineState) (before after : SearchView) (back : TakesBack conflict k s before m after) → IsValid s → HasFlatConflict s conflict
-    → AreGrounds m.active (without_cid (Decide back.gone.var) conflict)
-undone_grounds conflict k s m before after back valid flat =
-    rest_grounds (search_state s before) valid back.gone conflict flat m (undone_active conflict k s m before after back)
+pub undone_justifiers : (conflict : List Cid) (k : ℕ) (s m : EngineState) (before after : SearchView) (back : TakesBack conflict k s before m after) → IsValid s → HasFlatConflict s conflict
+    → AreJustifiers m.active (without_cid (Decide back.gone.var) conflict)
+undone_justifiers conflict k s m before after back valid flat =
+    rest_justifiers (search_state s before) valid back.gone conflict flat m (undone_active conflict k s m before after back)
 
 -- an undoing whose withdrawal leads to m
 pub record UndoneAt (m : EngineState) (s : SearchState) (gone : Pair) (conflict : List Cid) (t : SearchState) : Type 0 where
@@ -100,12 +100,12 @@ undone_posts conflict k s m before after back valid none declared flat = record 
     form = (
       refl,
       has_declared m.initial back.gone.var back.gone.value (undone_declared conflict k s m before after back declared),
-      undone_grounds conflict k s m before after back valid flat,
+      undone_justifiers conflict k s m before after back valid flat,
     );
   };
   after = refl;
 }
 
 -- and the decisions stay those that are active
-pub negated_has : (m t : EngineState) (after : SearchView) (p : Pair) (because : List Cid) → Posts m (negation_of p because) t → HasDecisions (search_state m after) → HasDecisions (search_state t after)
-negated_has m t after p because posts has = posted_has (search_state m after) (negation_of p because) t (ap (λ (z : EngineState). z.active) posts.after) posts.inactive (λ x. apart_not p x) has
+pub negated_has : (m t : EngineState) (after : SearchView) (p : Pair) (justification : List Cid) → Posts m (negation_of p justification) t → HasDecisions (search_state m after) → HasDecisions (search_state t after)
+negated_has m t after p justification posts has = posted_has (search_state m after) (negation_of p justification) t (ap (λ (z : EngineState). z.active) posts.after) posts.inactive (λ x. apart_not p x) has

@@ -2,6 +2,7 @@
 pub mod Alone
 pub mod Breaking
 pub mod Deciding
+pub mod Following
 pub mod Going
 pub mod Keeping
 pub mod Leaving

@@ -24,11 +24,11 @@ pub record TakesTurn (guided : Bool) (turn : Turn) (s : EngineState) (before : S
   pub takes : Takes guided (search_state s before) turn (search_state t after)
   pub journal : after.journal ≡ before.journal ++ turn ∷ []
 
--- the decision at the place is among the names
-pub record HoldsDecision (decisions : List Pair) (names : List Cid) (place : ℕ) : Type 0 where
+-- the decision at the place is among the ids
+pub record HoldsDecision (decisions : List Pair) (cids : List Cid) (place : ℕ) : Type 0 where
   pub pair : Pair
   pub stands : slice_get decisions place ≡ Some pair
-  pub held : Contains names (Decide pair.var)
+  pub held : Contains cids (Decide pair.var)
 
 -- the decision at the place is withdrawn, and those after it move forward; the turn is the last one of the journal
 pub record TakesBack (conflict : List Cid) (place : ℕ) (s : EngineState) (before : SearchView) (t : EngineState) (after : SearchView) : Type 0 where

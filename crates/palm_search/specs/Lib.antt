@@ -1,6 +1,7 @@
 pub mod Asked
 pub mod Breaking
 pub mod Calls
+pub mod Following
 pub mod Kept
 pub mod Leaves
 pub mod Measure

@@ -9,19 +9,19 @@ use Rattle.palm_model.specs.Trial.{value_count}
 use Rattle.palm_model.specs.Log.{is_named}
 use Rattle.palm_search.specs.Turns.{SearchState}
 
--- whether the name is a negation's
-abbrev pub is_negation : Cid → Bool
-is_negation (Decide x) = false
-is_negation (Not p) = true
-is_negation (User n) = false
+-- whether the id is a negation's
+abbrev pub is_of_negation : Cid → Bool
+is_of_negation (Decide x) = false
+is_of_negation (Not p) = true
+is_of_negation (User n) = false
 
--- whether all these names are users or among these decisions
+-- whether all these ids are users or among these decisions
 abbrev pub is_within : List Pair → List Cid → Bool
-is_within decisions names = list_all (λ c. is_user c || is_named (map (λ p. Decide p.var) decisions) c) names
+is_within decisions cids = list_all (λ c. is_user c || is_named (map (λ p. Decide p.var) decisions) c) cids
 
 -- how many active negations have their justification within the first i decisions and the users
 abbrev pub negations_within : SearchState → ℕ → ℕ
-negations_within s i = length (filter (λ a. is_negation a.cid && is_within (take i s.decisions) a.because) s.engine.active)
+negations_within s i = length (filter (λ a. is_of_negation a.cid && is_within (take i s.decisions) a.justification) s.engine.active)
 
 -- the sum of N_i * base ^ (n - i) over all i up to k
 abbrev pub weighed : SearchState → ℕ → ℕ → ℕ → ℕ

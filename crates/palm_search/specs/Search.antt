@@ -58,7 +58,7 @@ pub record SearchRun (guided ordered : Bool) (budget : ℕ) (s : EngineState) (t
   pub within : length turns ≤ budget
   pub ends : EndsWith budget (length turns) t.engine end
 
--- the names of all active decisions and negations
+-- the ids of all active decisions and negations
 abbrev pub search_cids : List Active → List Cid
 search_cids active = cids_of (filter (λ a. not (is_user a.cid)) active)
 

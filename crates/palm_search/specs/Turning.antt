@@ -36,10 +36,10 @@ IsNext budget s search (NextUndo conflict) = (length search.journal < budget) ×
 
 -- ---- an undoing
 
--- the decision at the place is the latest one among the names
-pub record IsLatestAt (decisions : List Pair) (names : List Cid) (place : ℕ) : Type 0 where
-  pub holds : HoldsDecision decisions names place
-  pub latest : (k : ℕ) (p : Pair) → place < k → slice_get decisions k ≡ Some p → Contains names (Decide p.var) → ⊥
+-- the decision at the place is the latest one among the ids
+pub record IsLatestAt (decisions : List Pair) (cids : List Cid) (place : ℕ) : Type 0 where
+  pub holds : HoldsDecision decisions cids place
+  pub latest : (k : ℕ) (p : Pair) → place < k → slice_get decisions k ≡ Some p → Contains cids (Decide p.var) → ⊥
 
 -- the guide is told these variables, where there is one
 abbrev pub Hears : {G : Type 0} → (G → List ℕ → List ℕ → Type 0) → (G → List ℕ) → List ℕ → Option G → Option G → Type 0
@@ -47,13 +47,6 @@ Hears hears state vars None None = ⊤
 Hears hears state vars None (Some after) = ⊥
 Hears hears state vars (Some before) None = ⊥
 Hears hears state vars (Some before) (Some after) = hears before vars (state after)
-
--- an undoing was the turn, and the guide was told the variables of the conflict's decisions
-pub record IsTold {G : Type 0} (hears : G → List ℕ → List ℕ → Type 0) (state : G → List ℕ) (before after : SearchView) (old new : Option G) : Type 0 where
-  pub gone : Pair
-  pub conflict : List Cid
-  pub journal : after.journal ≡ before.journal ++ TurnUndo gone conflict ∷ []
-  pub told : Hears hears state (decided_vars conflict) old new
 
 -- memory ran out before the undoing for the conflict, or within it: the decision is withdrawn, and its negation is not
 -- posted

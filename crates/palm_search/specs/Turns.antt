@@ -68,20 +68,20 @@ pub record Decides (guided : Bool) (s : SearchState) (p : Pair) (pick : Pick) (t
 
 -- ---- undoing
 
--- a domain is empty, the lowest one where there are several, and these are the names of its flat conflict
+-- a domain is empty, the lowest one where there are several, and these are the ids of its flat conflict
 pub record HasFlatConflict (s : EngineState) (conflict : List Cid) : Type 0 where
   pub var : ℕ
   pub empty : IsEmptyAt (present s) var
   pub lowest : (y : ℕ) → IsEmptyAt (present s) y → var ≤ y
   pub is : IsFlatConflict s var conflict
 
--- the pair is the latest of the decisions that the names hold, and these decisions are left without it, in order
-pub record IsLatest (decisions : List Pair) (names : List Cid) (gone : Pair) (left : List Pair) : Type 0 where
+-- the pair is the latest of the decisions that the ids hold, and these decisions are left without it, in order
+pub record IsLatest (decisions : List Pair) (cids : List Cid) (gone : Pair) (left : List Pair) : Type 0 where
   pub earlier : List Pair
   pub later : List Pair
   pub are : decisions ≡ earlier ++ gone ∷ later
-  pub held : Contains names (Decide gone.var)
-  pub latest : (p : Pair) → Contains later p → Contains names (Decide p.var) → ⊥
+  pub held : Contains cids (Decide gone.var)
+  pub latest : (p : Pair) → Contains later p → Contains cids (Decide p.var) → ⊥
   pub others : left ≡ earlier ++ later
 
 -- the latest decision of the flat conflict is withdrawn, and its negation posted with the rest as justification
@@ -92,12 +92,12 @@ pub record Undoes (s : SearchState) (gone : Pair) (conflict : List Cid) (t : Sea
   pub withdraws : Withdraws s.engine (Decide gone.var) middle
   pub posts : Posts middle (negation_of gone (without_cid (Decide gone.var) conflict)) t.engine
 
--- the variables of the decisions among the names, which the guide is told
+-- the variables of the decisions among the ids, which the guide is told
 abbrev pub decided_vars : List Cid → List ℕ
 decided_vars [] = []
-decided_vars (Decide x ∷ names) = x ∷ decided_vars names
-decided_vars (Not p ∷ names) = decided_vars names
-decided_vars (User n ∷ names) = decided_vars names
+decided_vars (Decide x ∷ cids) = x ∷ decided_vars cids
+decided_vars (Not p ∷ cids) = decided_vars cids
+decided_vars (User n ∷ cids) = decided_vars cids
 
 -- ---- turns
 

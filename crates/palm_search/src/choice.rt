@@ -9,16 +9,6 @@ use crate::turn::Pick;
 use palm_base::{Pair, Var};
 use palm_domain::DomainStore;
 
-/// The same pair once more.
-pub(crate) fn copy_of(pair: &Pair) -> Pair
-    ensures { result ≡ pair.now }
-{
-    Pair {
-        var: pair.var,
-        value: pair.value,
-    }
-}
-
 /// Whether the variable has at least two values.
 fn is_open(store: &DomainStore, var: Var) -> bool
     requires { var < length store.now }
@@ -58,7 +48,7 @@ fn is_lawful(store: &DomainStore, pair: &Pair) -> bool
     ensures lawful { result ≡ true → IsLawful (present_of store.now) pair.now }
     ensures unlawful { result ≡ false → IsUnlawful (present_of store.now) pair.now }
 {
-    pair.var.0 < store.variables() && is_open(store, pair.var) && store.contains(copy_of(pair))
+    pair.var.0 < store.variables() && is_open(store, pair.var) && store.contains(pair.copy())
 }
 
 /// The pair that is decided after the pick: the pick where it is lawful, and the default otherwise.
@@ -67,7 +57,7 @@ pub(crate) fn decided_pair(store: &DomainStore, pick: &Pick) -> Pair
     ensures { IsDecided (present_of store.now) pick.now result }
 {
     match pick {
-        Pick::Asked(pair) if is_lawful(store, pair) => copy_of(pair),
+        Pick::Asked(pair) if is_lawful(store, pair) => pair.copy(),
         _ => default_pair(store),
     }
 }

@@ -1,9 +1,9 @@
 //! The flat conflict of an empty domain, and what is read from it.
-ghost use Rattle.std.specs.Prelude.{◌≡◌, ℕ, true, false, [], filter, Contains, MatchOption, IfOk};
+ghost use Rattle.std.specs.Prelude.{◌≡◌, ℕ, true, false, [], filter, Contains, MatchOption, IfOk, OnErr, OnOk, is_some};
 ghost use Rattle.palm_base.specs.Tells.{Tells};
 ghost use Rattle.palm_base.specs.declared.terms.Cid.{Cid as CidTerm};
 ghost use Rattle.palm_base.specs.declared.terms.Pair.{Pair as PairTerm};
-ghost use Rattle.palm_model.specs.Log.{same_cid};
+ghost use Rattle.palm_base.specs.Order.{same_cid};
 ghost use Rattle.palm_model.specs.State.{is_user, present, without_cid};
 ghost use Rattle.palm_search.specs.Turns.{HasFlatConflict, decided_vars};
 ghost use Rattle.palm_search.specs.Turning.{HasOnlyEmpty, Hears, IsLatestAt};
@@ -31,100 +31,100 @@ pub(crate) fn flat_conflict<F: Filter>(
     Ok(flat)
 }
 
-/// Whether the name is that of the decision on the variable.
-fn is_decision_on(name: &Cid, var: &Var) -> bool
-    ensures { result ≡ same_cid (CidTerm.Decide var.now) name.now }
+/// Whether the id is that of the decision on the variable.
+fn is_decision_on(cid: &Cid, var: &Var) -> bool
+    ensures { result ≡ same_cid (CidTerm.Decide var.now) cid.now }
 {
-    match name {
+    match cid {
         Cid::Decide(decided) => decided.0 == var.0,
         _ => false,
     }
 }
 
-/// Whether the decision on the variable is among the names.
-pub fn holds(names: &[Cid], var: &Var) -> bool
-    ensures { Tells result (Contains names.now (CidTerm.Decide var.now)) }
+/// Whether the decision on the variable is among the ids.
+pub fn holds(cids: &[Cid], var: &Var) -> bool
+    ensures { Tells result (Contains cids.now (CidTerm.Decide var.now)) }
 {
-    for name in names {
-        if is_decision_on(name, var) {
+    for cid in cids {
+        if is_decision_on(cid, var) {
             return true;
         }
     }
     false
 }
 
-/// The place of the latest decision among the names, and none exactly where they hold no decision of these.
-pub(crate) fn latest(decisions: &[Pair], names: &[Cid]) -> Option<usize>
+/// The place of the latest decision among the ids, and none exactly where they hold no decision of these.
+pub(crate) fn latest(decisions: &[Pair], cids: &[Cid]) -> Option<usize>
     ensures { MatchOption result
-        ((p : PairTerm) → Contains decisions.now p → Contains names.now (CidTerm.Decide p.var) → ⊥)
-        (IsLatestAt decisions.now names.now) }
+        ((p : PairTerm) → Contains decisions.now p → Contains cids.now (CidTerm.Decide p.var) → ⊥)
+        (IsLatestAt decisions.now cids.now) }
 {
     let mut place = decisions.len();
     while place > 0 {
         place -= 1;
-        if holds(names, &decisions[place].var) {
+        if holds(cids, &decisions[place].var) {
             return Some(place);
         }
     }
     None
 }
 
-/// Whether the name is a user's.
-fn is_user(name: &Cid) -> bool
-    ensures { result ≡ is_user name.now }
+/// Whether the id is a user's.
+fn is_user(cid: &Cid) -> bool
+    ensures { result ≡ is_user cid.now }
 {
-    match name {
+    match cid {
         Cid::User(_) => true,
         Cid::Decide(_) | Cid::Not(_) => false,
     }
 }
 
-/// The users among the names.
-pub fn users_of(alloc: Global, names: &[Cid]) -> Result<CidList, NoMemory>
-    ensures { IfOk result (λ users. users ≡ filter is_user names.now) }
+/// The users among the ids.
+pub fn users_of(alloc: Global, cids: &[Cid]) -> Result<CidList, NoMemory>
+    ensures { IfOk result (λ users. users ≡ filter is_user cids.now) }
 {
     let mut users = CidList::new(alloc);
-    for name in names {
-        if is_user(name) {
-            users.push(*name)?;
+    for cid in cids {
+        if is_user(cid) {
+            users.push(*cid)?;
         }
     }
     Ok(users)
 }
 
-/// The names but that of the decision on the variable.
-pub(crate) fn rest_of(alloc: Global, names: &[Cid], var: &Var) -> Result<CidList, NoMemory>
-    ensures { IfOk result (λ rest. rest ≡ without_cid (CidTerm.Decide var.now) names.now) }
+/// The ids but that of the decision on the variable.
+pub(crate) fn rest_of(alloc: Global, cids: &[Cid], var: &Var) -> Result<CidList, NoMemory>
+    ensures { IfOk result (λ rest. rest ≡ without_cid (CidTerm.Decide var.now) cids.now) }
 {
     let mut rest = CidList::new(alloc);
-    for name in names {
-        if !is_decision_on(name, var) {
-            rest.push(*name)?;
+    for cid in cids {
+        if !is_decision_on(cid, var) {
+            rest.push(*cid)?;
         }
     }
     Ok(rest)
 }
 
-/// Whether a decision is among the names.
-pub(crate) fn has_decision(names: &[Cid]) -> bool
-    ensures some { result ≡ true → (x : ℕ) × Contains names.now (CidTerm.Decide x) }
-    ensures none { result ≡ false → decided_vars names.now ≡ [] }
+/// Whether a decision is among the ids.
+pub(crate) fn has_decision(cids: &[Cid]) -> bool
+    ensures some { result ≡ true → (x : ℕ) × Contains cids.now (CidTerm.Decide x) }
+    ensures none { result ≡ false → decided_vars cids.now ≡ [] }
 {
-    for name in names {
-        if let Cid::Decide(_) = name {
+    for cid in cids {
+        if let Cid::Decide(_) = cid {
             return true;
         }
     }
     false
 }
 
-/// The variables of the decisions among the names.
-pub fn decided_vars(alloc: Global, names: &[Cid]) -> Result<VarList, NoMemory>
-    ensures { IfOk result (λ vars. vars ≡ decided_vars names.now) }
+/// The variables of the decisions among the ids.
+pub fn decided_vars(alloc: Global, cids: &[Cid]) -> Result<VarList, NoMemory>
+    ensures { IfOk result (λ vars. vars ≡ decided_vars cids.now) }
 {
     let mut vars = VarList::new(alloc);
-    for name in names {
-        if let Cid::Decide(var) = name {
+    for cid in cids {
+        if let Cid::Decide(var) = cid {
             vars.push(*var)?;
         }
     }
@@ -138,4 +138,21 @@ pub fn tell<G: Guide>(guide: &mut Option<G>, vars: &[Var])
     if let Some(guide) = guide {
         guide.learned(vars);
     }
+}
+
+/// Tells the guide, where there is one, the variables of the decisions among the ids. Without memory it is told nothing.
+pub(crate) fn tell_decided<G: Guide>(
+    alloc: Global,
+    guide: &mut Option<G>,
+    cids: &[Cid],
+) -> Result<(), NoMemory>
+    ensures ok { OnOk result (Hears G.hears G.state (decided_vars cids.now) guide.old guide.new) }
+    ensures err { OnErr result (guide.new ≡ guide.old) }
+    ensures stays { is_some guide.new ≡ is_some guide.old }
+{
+    if guide.is_some() {
+        let vars = decided_vars(alloc, cids)?;
+        tell(guide, vars.as_slice());
+    }
+    Ok(())
 }

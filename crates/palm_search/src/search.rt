@@ -14,7 +14,7 @@ ghost use Rattle.palm_search.specs.Kept.{HasDecisions};
 ghost use Rattle.palm_search.specs.Search.{search_cids};
 ghost use Rattle.palm_search.specs.Turns.{HasFlatConflict, IsOpen};
 
-use crate::choice::{copy_of, decided_pair};
+use crate::choice::decided_pair;
 use crate::turn::{Pick, Turn};
 use crate::view::show;
 use palm_base::{Cid, CidList, NoMemory, Pair};
@@ -79,12 +79,12 @@ impl Search {
         self.journal.reserve(1)?;
         let pick = ask(&mut self.view, engine.store(), guide)?;
         let pair = decided_pair(engine.store(), &pick);
-        engine.assume(copy_of(&pair))?;
-        append(&mut self.decisions, copy_of(&pair));
+        engine.assume(pair.copy())?;
+        append(&mut self.decisions, pair.copy());
         append(
             &mut self.journal,
             Turn::Decide {
-                pair: copy_of(&pair),
+                pair: pair.copy(),
                 pick,
             },
         );

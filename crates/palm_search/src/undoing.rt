@@ -6,10 +6,10 @@ ghost use Rattle.palm_engine.specs.Engine.{KeepsCounts};
 ghost use Rattle.palm_search.specs.declared.turn.Turn.TheVariants.{Undo as TurnUndo};
 ghost use Rattle.palm_search.specs.Calls.{TakesTurn, search_state};
 ghost use Rattle.palm_search.specs.Kept.{HasDecisions};
-ghost use Rattle.palm_search.specs.Turning.{IsBetween, IsCutUndoing, IsTold};
-ghost use Rattle.palm_search.specs.Turns.{HasFlatConflict};
+ghost use Rattle.palm_search.specs.Turning.{Hears, IsBetween, IsCutUndoing};
+ghost use Rattle.palm_search.specs.Turns.{HasFlatConflict, decided_vars};
 
-use crate::conflict::{decided_vars, latest, rest_of, tell};
+use crate::conflict::{latest, rest_of, tell_decided};
 use crate::search::Search;
 use palm_base::{CidList, NoMemory};
 use palm_engine::Engine;
@@ -31,7 +31,7 @@ pub fn undo_latest<F: Filter, G: Guide>(
     requires flat { HasFlatConflict engine.old.state conflict.now }
     requires held { (x : ℕ) × Contains conflict.now (CidTerm.Decide x) }
     ensures ok { OnOk result ((gone : PairTerm) × TakesTurn (is_some guide.old) (TurnUndo gone conflict.now) engine.old.state search.old engine.new.state search.new) }
-    ensures told { OnOk result (IsTold G.hears G.state search.old search.new guide.old guide.new) }
+    ensures told { OnOk result (Hears G.hears G.state (decided_vars conflict.now) guide.old guide.new) }
     ensures err { OnErr result (IsCutUndoing conflict.now engine.old.state search.old engine.new.state search.new) }
     ensures decisions { HasDecisions (search_state engine.new.state search.new) }
     ensures counts { KeepsCounts engine.old engine.new }
@@ -40,8 +40,7 @@ pub fn undo_latest<F: Filter, G: Guide>(
     let place = latest(search.decisions(), conflict.as_slice()).unwrap();
     let gone = search.decisions()[place];
     let rest = rest_of(alloc, conflict.as_slice(), &gone.var)?;
-    let vars = decided_vars(alloc, conflict.as_slice())?;
-    tell(guide, vars.as_slice());
+    tell_decided(alloc, guide, conflict.as_slice())?;
     search.undo(engine, place, conflict)?;
     engine.forbid(gone, rest.as_slice())
 }

@@ -7,11 +7,11 @@ use Rattle.palm_base.specs.declared.terms.Cid.{Cid}
 use Rattle.palm_base.specs.declared.terms.Cid.TheVariants.{User}
 use Rattle.palm_base.proofs.cited.Members.{member_nil, member_here, member_there, member_cases, member_same, member_map, member_unmap, member_filter, filter_member, member_get, remove_member}
 use Rattle.palm_model.specs.Log.{Active, IsActive, cids_of, is_named}
-use Rattle.palm_model.specs.Event.{with_posted, without_names, gone_with}
+use Rattle.palm_model.specs.Event.{with_posted, without_cids, gone_with}
 use Rattle.palm_book.specs.Book.{Contents, IsBook, user_at, active_of, with_active}
 use Rattle.palm_book.specs.declared.book.BookCon.{BookCon}
 use Rattle.palm_book.proofs.cited.Actives.{actives_rise}
-use Rattle.palm_events.proofs.cited.States.{active_cid, with_posted_cases, with_posted_here, member_with_posted, with_posted_rises, without_names_member, member_without_names, without_names_rises}
+use Rattle.palm_events.proofs.cited.States.{active_cid, with_posted_cases, with_posted_here, member_with_posted, with_posted_rises, without_cids_member, member_without_cids, without_cids_rises}
 use Rattle.palm_events.proofs.cited.Undone.{active_same}
 
 -- ---- the constraint at a place, and the others
@@ -102,13 +102,13 @@ user_same m n e = cc
 
 -- with a constraint of a book nothing else goes
 pub gone_alone : (book : Contents) (cid x : Cid) → Contains (gone_with (active_of book) cid) x → cid ≡ x
-gone_alone book cid x m = elim (member_cases cid (cids_of (filter (λ (a : Active). is_named a.because cid) (active_of book))) x m) [
+gone_alone book cid x m = elim (member_cases cid (cids_of (filter (λ (a : Active). is_named a.justification cid) (active_of book))) x m) [
   | inl e ↦ e
   | inr k ↦
-      let is = active_cid (filter (λ (a : Active). is_named a.because cid) (active_of book)) x k in
-      let held = filter_member (λ (a : Active). is_named a.because cid) (active_of book) is.owner is.posted in
+      let is = active_cid (filter (λ (a : Active). is_named a.justification cid) (active_of book)) x k in
+      let held = filter_member (λ (a : Active). is_named a.justification cid) (active_of book) is.owner is.posted in
       let c = active_member book is.owner held.0 in
-      let f : false ≡ true = subst (λ (a : Active). is_named a.because cid ≡ true) (sym c.3) held.1 in
+      let f : false ≡ true = subst (λ (a : Active). is_named a.justification cid ≡ true) (sym c.3) held.1 in
       absurd (false≢true f)
 ]
 
@@ -166,29 +166,29 @@ module _ (book : Contents) (is : IsBook book) where
     -- the active ones are those at the other places
     active_less : (next : Contents) → IsBook next → ((d : BookCon) → Contains (remove book.constraints place) d → Contains next.constraints d)
         → ((d : BookCon) → Contains next.constraints d → d.active ≡ true → Contains (remove book.constraints place) d)
-        → without_names (gone_with (active_of book) (User c.number)) (active_of book) ≡ active_of next
+        → without_cids (gone_with (active_of book) (User c.number)) (active_of book) ≡ active_of next
     active_less next fewer to from =
         let gone = gone_with (active_of book) (User c.number) in
-        active_same (without_names gone (active_of book)) (active_of next)
-        (without_names_rises gone (active_of book) (actives_rise book is)) (actives_rise next fewer)
+        active_same (without_cids gone (active_of book)) (active_of next)
+        (without_cids_rises gone (active_of book) (actives_rise book is)) (actives_rise next fewer)
         (λ a m.
-        let w = without_names_member gone (active_of book) a m in
+        let w = without_cids_member gone (active_of book) a m in
         let r = active_member book a w.0 in
         elim (split_place book.constraints place c r.0 at r.1) [
           | inl e ↦ absurd (w.1 (member_same gone (User c.number) a.cid (ap (λ (x : Active). x.cid) (ap user_at e ∙ r.3))
-              (member_here (User c.number) (cids_of (filter (λ (x : Active). is_named x.because (User c.number)) (active_of book))))))
+              (member_here (User c.number) (cids_of (filter (λ (x : Active). is_named x.justification (User c.number)) (active_of book))))))
           | inr k ↦ active_as next r.0 a r.3 (to r.0 k) r.2
         ])
         (λ a m.
         let r = active_member next a m in
         let k = from r.0 r.1 r.2 in
-        member_without_names gone (active_of book) a (active_as book r.0 a r.3 (remove_member book.constraints place r.0 k) r.2) (λ g.
+        member_without_cids gone (active_of book) a (active_as book r.0 a r.3 (remove_member book.constraints place r.0 k) r.2) (λ g.
         let e : User c.number ≡ User r.0.number = gone_alone book (User c.number) a.cid g ∙ sym (ap (λ (x : Active). x.cid) r.3) in
         apart book.constraints place c r.0 is.rising at k (sym (user_same c.number r.0.number e))))
 
     -- an active constraint that is turned off
     pub active_relaxed : IsBook (record book { constraints = with_active book.constraints place false })
-        → without_names (gone_with (active_of book) (User c.number)) (active_of book) ≡ active_of (record book { constraints = with_active book.constraints place false })
+        → without_cids (gone_with (active_of book) (User c.number)) (active_of book) ≡ active_of (record book { constraints = with_active book.constraints place false })
     active_relaxed more =
         active_less (record book { constraints = with_active book.constraints place false }) more
         (λ d k. turned_there book.constraints place false d k)
@@ -199,7 +199,7 @@ module _ (book : Contents) (is : IsBook book) where
 
     -- an active constraint that is taken out
     pub active_retracted : IsBook (record book { constraints = remove book.constraints place })
-        → without_names (gone_with (active_of book) (User c.number)) (active_of book) ≡ active_of (record book { constraints = remove book.constraints place })
+        → without_cids (gone_with (active_of book) (User c.number)) (active_of book) ≡ active_of (record book { constraints = remove book.constraints place })
     active_retracted more = active_less (record book { constraints = remove book.constraints place }) more (λ d k. k) (λ d k on. k)
 
     -- a relaxed constraint that is taken out

@@ -1,25 +1,68 @@
 -- What is decided of a line.
-use Rattle.std.proofs.Common.{◌≡◌, ℕ, List, subst, sym, refl}
+use Rattle.std.proofs.Common.{◌≡◌, ℕ, List, Result, Ok, Err, IfOk, OnOk, refl, subst, sym}
+use Rattle.palm_base.specs.First.{IsFirst}
+use Rattle.palm_base.proofs.cited.FirstCauses.{first_not_none}
+use Rattle.palm_lang.specs.declared.reply.Refusal.{Refusal}
 use Rattle.palm_read.specs.Reading.{IsRead, IsRefusedBy}
 use Rattle.palm_read.specs.declared.line.Line.{Line}
-use Rattle.palm_read.specs.declared.line.Line.TheVariants.{Quit as QuitLine}
+use Rattle.palm_read.specs.declared.line.Line.TheVariants.{Add, Relax, Enforce, Retract, Domain, Why, Minimal, Cert, Quit as QuitLine}
 use Rattle.palm_read.specs.declared.parse.LineError.{LineError}
-use Rattle.palm_session.specs.Answers.{Answers, misread, refused, accepted}
+use Rattle.palm_session.specs.Answers.{Answers, misread, accepted}
 use Rattle.palm_session.specs.Feeding.{Decides}
 use Rattle.palm_session.specs.ReplyText.{reply_text, IsRefusal}
 use Rattle.palm_session.specs.Asking.{Asks, asks_none, asks_search, asks_settling}
 use Rattle.palm_session.specs.Effects.{Changes, Next, Rests, Filters, Searches, next}
-use Rattle.palm_session.specs.Refusals.{IsNone, Meets, in_order}
-use Rattle.palm_session.specs.Serving.{AsksFor, asks_nothing, asks_after, AsksWithin, Serves, refuses, accepts}
+use Rattle.palm_session.specs.Refusals.{Meets, in_order}
+use Rattle.palm_session.specs.Requests.{IsAdmitted, Requests}
+use Rattle.palm_session.specs.Serving.{AsksFor, asks_nothing, asks_after, AsksWithin, GoesAs, Takes}
 use Rattle.palm_session.specs.State.{SessionState}
 use Rattle.palm_session.specs.declared.going.Going.{Going}
 use Rattle.palm_session.specs.declared.going.Going.TheVariants.{More, Quit}
 use Rattle.palm_session.specs.declared.reply.Reply.{Reply}
+use Rattle.palm_session.specs.declared.request.Request.{Request}
+use Rattle.palm_session.specs.declared.request.Request.TheVariants.{Solve, Quit as QuitAsked}
+use Rattle.palm_session.specs.Answers.{WaitsFor}
+use Rattle.palm_session.proofs.Admitting.{free_of_refusals}
 use Rattle.palm_session.proofs.ReadOnce.{goes_on_read, goes_on_refused}
+use Rattle.palm_session.proofs.cited.LawsOfAnswers.{awake_for}
+use Rattle.palm_session.proofs.cited.LawsOfChanges.{searches_by}
 
-pub decides_read : (going : Going) (bytes : List ℕ) (line : Line) → IsRead bytes line → (going ≡ Quit → line ≡ QuitLine) → (going ≡ More → line ≡ QuitLine → ⊥) → Decides going bytes
-decides_read More bytes line r quit more = goes_on_read bytes line r (more refl)
-decides_read Quit bytes line r quit more = subst (λ (x : Line). IsRead bytes x) (quit refl) r
+-- ---- whether the session goes on
+
+abbrev EndsAll : Request → Type 0
+EndsAll QuitAsked = Unit {0}
+EndsAll _ = ⊥
+
+-- a line that asks for the end is `quit`
+quit_line : (s : SessionState) (line : Line) → Requests s line QuitAsked → line ≡ QuitLine
+quit_line s QuitLine r = refl
+quit_line s (Add name shape) r = absurd (subst EndsAll r.2 tt)
+quit_line s (Relax name) r = absurd (subst EndsAll r.2 tt)
+quit_line s (Enforce name) r = absurd (subst EndsAll r.2 tt)
+quit_line s (Retract name) r = absurd (subst EndsAll r.2 tt)
+quit_line s (Domain name) r = absurd (subst EndsAll r.2 tt)
+quit_line s (Why name value) r = absurd (subst EndsAll r.2 tt)
+quit_line s (Minimal name value) r = absurd (subst EndsAll r.2 tt)
+quit_line s (Cert name value) r = absurd (subst EndsAll r.2 tt)
+quit_line s _ r = absurd (subst EndsAll r tt)
+
+-- `quit` asks for the end
+quit_asked : (s : SessionState) (line : Line) (request : Request) → Requests s line request → line ≡ QuitLine → request ≡ QuitAsked
+quit_asked s line request r e = subst (λ (l : Line). Requests s l request) e r
+
+pub decides_taken : (s : SessionState) (going : Going) (bytes : List ℕ) (line : Line) (request : Request) → IsRead bytes line → Requests s line request → GoesAs going request → Decides going bytes
+decides_taken s More bytes line request read r goes = goes_on_read bytes line read (λ e. goes (quit_asked s line request r e))
+decides_taken s Quit bytes line request read r goes =
+    subst (λ (x : Line). IsRead bytes x) (quit_line s line (subst (λ (q : Request). Requests s line q) goes r)) read
+
+-- a line that is refused is not `quit`, which meets no refusal
+not_quit : (s : SessionState) (line : Line) (refusal : Refusal) → IsFirst (Meets s line) in_order refusal → line ≡ QuitLine → ⊥
+not_quit s line refusal first e =
+    first_not_none (Meets s QuitLine) in_order refusal (subst (λ (l : Line). IsFirst (Meets s l) in_order refusal) e first)
+    (free_of_refusals s QuitLine (λ h. h) (λ h. h) (λ h. h) (λ h. h) (λ h. h) (λ h. h) (λ h. h) (λ h. h))
+
+pub decides_refused : (s : SessionState) (bytes : List ℕ) (line : Line) (refusal : Refusal) → IsRead bytes line → IsFirst (Meets s line) in_order refusal → Decides More bytes
+decides_refused s bytes line refusal read first = goes_on_read bytes line read (not_quit s line refusal first)
 
 pub answers_refusal : (s : SessionState) (bytes : List ℕ) (error : LineError) → IsRefusedBy bytes error → (r : Reply × Going) → IsRefusal error r → Answers s bytes (reply_text s r.0) s
 answers_refusal s bytes error q r is = subst (λ (x : Reply). Answers s bytes (reply_text s x) s) (sym is.reply) (misread error is.refusal q is.of_error)
@@ -27,20 +70,32 @@ answers_refusal s bytes error q r is = subst (λ (x : Reply). Answers s bytes (r
 pub decides_refusal : (bytes : List ℕ) (error : LineError) → IsRefusedBy bytes error → (r : Reply × Going) → IsRefusal error r → Decides r.1 bytes
 decides_refusal bytes error q r is = subst (λ (g : Going). Decides g bytes) (sym is.going) (goes_on_refused bytes error is.refusal q is.of_error)
 
--- a line that was read and served was answered
-pub serves_answers : (s t : SessionState) (bytes : List ℕ) (line : Line) (reply : List ℕ) → IsRead bytes line → Serves s line reply t → Answers s bytes reply t
-serves_answers s t bytes line reply r (refuses refusal first) = refused line refusal r first
-serves_answers s t bytes line reply r (accepts none took) = accepted line r none took
+-- ---- what is answered, and how often support was asked for
 
-settling_asks : (s m t : SessionState) (bytes : List ℕ) (line : Line) (asked : ℕ) (n : Next) → IsRead bytes line → IsNone (Meets s line) in_order → Changes s line m → next m line ≡ n
-    → AsksWithin m.engine n t.engine asked → Asks s bytes t asked
-settling_asks s m t bytes line asked Rests r none changes e asks = asks_none asks
-settling_asks s m t bytes line asked (Searches by) r none changes e asks =
-    asks_search (record { line = line; changed = m; by = by; read = r; accepted = none; changes = changes; searches = e })
-settling_asks s m t bytes line asked (Filters limit) r none changes e asks =
-    asks_settling (record { line = line; changed = m; limit = limit; gained = asks.0; read = r; accepted = none; changes = changes; filters = e; log = asks.1 }) asks.2
+pub takes_answers : (s t : SessionState) (bytes : List ℕ) (line : Line) (request : Request) (asked : ℕ) (answer : Reply × Going) → IsRead bytes line → IsAdmitted s line request
+    → Takes s request t asked answer → Answers s bytes (reply_text t answer.0) t
+takes_answers s t bytes line request asked answer read a taken = accepted line request read a taken.accepts
 
--- and it asked as often as the line's serving did
-pub serves_asks : (s t : SessionState) (bytes : List ℕ) (line : Line) (asked : ℕ) → IsRead bytes line → AsksFor s line t asked → Asks s bytes t asked
-serves_asks s t bytes line asked r (asks_nothing none) = asks_none none
-serves_asks s t bytes line asked r (asks_after m none changes asks) = settling_asks s m t bytes line asked (next m line) r none changes refl asks
+settling_asks : (s m t : SessionState) (bytes : List ℕ) (line : Line) (request : Request) (asked : ℕ) (n : Next) → IsRead bytes line → IsAdmitted s line request → (WaitsFor s request → ⊥) → Changes s request m
+    → next m request ≡ n → AsksWithin m.engine n t.engine asked → Asks s bytes t asked
+settling_asks s m t bytes line request asked Rests r a goes changes e asks = asks_none asks
+settling_asks s m t bytes line request asked (Searches by) r a goes changes e asks =
+    let is_search = searches_by m request by e in
+    asks_search (record {
+      line = line;
+      by = by;
+      read = r;
+      admitted = subst (λ (q : Request). IsAdmitted s line q) is_search a;
+      awake = awake_for s (Solve by) tt (subst (λ (q : Request). WaitsFor s q → ⊥) is_search goes);
+    })
+settling_asks s m t bytes line request asked (Filters limit) r a goes changes e asks =
+    asks_settling (record { line = line; request = request; changed = m; limit = limit; gained = asks.0; read = r; admitted = a; changes = changes; filters = e; log = asks.1 }) asks.2
+
+pub takes_asks : (s t : SessionState) (bytes : List ℕ) (line : Line) (request : Request) (asked : ℕ) → IsRead bytes line → IsAdmitted s line request → AsksFor s request t asked → Asks s bytes t asked
+takes_asks s t bytes line request asked r a (asks_nothing none) = asks_none none
+takes_asks s t bytes line request asked r a (asks_after m goes changes asks) = settling_asks s m t bytes line request asked (next m request) r a goes changes refl asks
+
+-- what follows from each good answer follows where there is one
+pub on_ok : {T E : Type 0} (r : Result T E) (P : T → Type 0) (A : Type 0) → ((x : T) → P x → A) → IfOk r P → OnOk r A
+on_ok (Ok x) P A f h = f x h
+on_ok (Err e) P A f h = tt

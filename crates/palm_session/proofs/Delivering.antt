@@ -4,7 +4,7 @@ use Rattle.std.proofs.Common.{ℤ, zip, option_to_list, append-nil, slice_get, S
 use Rattle.std.proofs.lemmas.Option.{get_or_from_slice_get}
 use Rattle.std.proofs.lemmas.Slice.Zip.{get_or-zip, length-zip}
 use Rattle.palm_model.specs.Domains.{Domains, values_of}
-use Rattle.palm_book.specs.Book.{Entry, Contents, name_of}
+use Rattle.palm_book.specs.Book.{BookVar, Contents, name_of}
 use Rattle.palm_lang.specs.Reply.{domain_line, entry_line, entry_at, var_line, fixed_text}
 use Rattle.palm_lang.specs.declared.reply.Fixed.TheVariants.{End}
 use Rattle.palm_session.specs.Answers.{domains_text, list_text}
@@ -41,34 +41,34 @@ entry_read book i lt =
     (r.0, ap (λ o. flat_map (entry_line book.variables) (option_to_list o)) r.1 ∙ append-nil _ ∙ ap (λ e. entry_line book.variables e) (sym (get_or_from_slice_get book.constraints i r.0 r.0 r.1)))
 
 -- a variable with its values
-pub pair_read : (variables : List Entry) (d : Domains) (i : ℕ) → length d ≡ length variables → i < length variables
+pub pair_read : (variables : List BookVar) (d : Domains) (i : ℕ) → length d ≡ length variables → i < length variables
     → (i < length (zip variables d)) × (domain_line (name_of variables i) (values_of d i) ≡ domain_line ((get_or (zip variables d) i (record { name = []; values = [] }, [])).0.name) ((get_or (zip variables d) i (record { name = []; values = [] }, [])).1))
 pair_read variables d i e lt =
     let both : i < length d = omega (arith, e) in (
       omega (arith, length-zip variables d, e),
-      ap (λ (p : Entry × List ℤ). domain_line p.0.name p.1) (sym (get_or-zip variables d i (record { name = []; values = [] }, []) lt both)),
+      ap (λ (p : BookVar × List ℤ). domain_line p.0.name p.1) (sym (get_or-zip variables d i (record { name = []; values = [] }, []) lt both)),
     )
 
 -- the text of all domains, around one of them
-pub domains_split : (variables : List Entry) (d : Domains) (i : ℕ) → i < length (zip variables d)
+pub domains_split : (variables : List BookVar) (d : Domains) (i : ℕ) → i < length (zip variables d)
     → domains_text variables d
-    ≡ (flat_map (λ (p : Entry × List ℤ). domain_line p.0.name p.1) (take i (zip variables d))
+    ≡ (flat_map (λ (p : BookVar × List ℤ). domain_line p.0.name p.1) (take i (zip variables d))
     ++ domain_line ((get_or (zip variables d) i (record { name = []; values = [] }, [])).0.name) ((get_or (zip variables d) i (record { name = []; values = [] }, [])).1))
-    ++ (flat_map (λ (p : Entry × List ℤ). domain_line p.0.name p.1) (drop (i + 1) (zip variables d)) ++ fixed_text End)
+    ++ (flat_map (λ (p : BookVar × List ℤ). domain_line p.0.name p.1) (drop (i + 1) (zip variables d)) ++ fixed_text End)
 domains_split variables d i lt =
-    ap (λ (t : List ℕ). t ++ fixed_text End) (flat_split (λ (p : Entry × List ℤ). domain_line p.0.name p.1) (zip variables d) i (record { name = []; values = [] }, []) lt)
-    ∙ append_assoc _ (flat_map (λ (p : Entry × List ℤ). domain_line p.0.name p.1) (drop (i + 1) (zip variables d))) (fixed_text End)
+    ap (λ (t : List ℕ). t ++ fixed_text End) (flat_split (λ (p : BookVar × List ℤ). domain_line p.0.name p.1) (zip variables d) i (record { name = []; values = [] }, []) lt)
+    ∙ append_assoc _ (flat_map (λ (p : BookVar × List ℤ). domain_line p.0.name p.1) (drop (i + 1) (zip variables d))) (fixed_text End)
 
 -- the text of a list begins with the variables
 pub list_parts : (book : Contents)
-    → flat_map (λ (e : Entry). var_line e.name e.values) book.variables ++ (flat_map (entry_line book.variables) book.constraints ++ fixed_text End) ≡ list_text book
+    → flat_map (λ (e : BookVar). var_line e.name e.values) book.variables ++ (flat_map (entry_line book.variables) book.constraints ++ fixed_text End) ≡ list_text book
 list_parts book =
-    sym (append_assoc (flat_map (λ (e : Entry). var_line e.name e.values) book.variables) (flat_map (entry_line book.variables) book.constraints) (fixed_text End))
+    sym (append_assoc (flat_map (λ (e : BookVar). var_line e.name e.values) book.variables) (flat_map (entry_line book.variables) book.constraints) (fixed_text End))
 
 -- the values of all variables
-pub pairs_end : (variables : List Entry) (d : Domains) (i : ℕ) → length d ≡ length variables → length variables ≤ i
-    → flat_map (λ (p : Entry × List ℤ). domain_line p.0.name p.1) (take i (zip variables d)) ≡ flat_map (λ (p : Entry × List ℤ). domain_line p.0.name p.1) (zip variables d)
-pairs_end variables d i e le = ap (λ (ps : List (Entry × List ℤ)). flat_map (λ (p : Entry × List ℤ). domain_line p.0.name p.1) ps) (take_all i (zip variables d) (omega (arith, length-zip variables d, e)))
+pub pairs_end : (variables : List BookVar) (d : Domains) (i : ℕ) → length d ≡ length variables → length variables ≤ i
+    → flat_map (λ (p : BookVar × List ℤ). domain_line p.0.name p.1) (take i (zip variables d)) ≡ flat_map (λ (p : BookVar × List ℤ). domain_line p.0.name p.1) (zip variables d)
+pairs_end variables d i e le = ap (λ (ps : List (BookVar × List ℤ)). flat_map (λ (p : BookVar × List ℤ). domain_line p.0.name p.1) ps) (take_all i (zip variables d) (omega (arith, length-zip variables d, e)))
 
 -- the texts of all members and `end`, around one of them
 pub flat_split_end : {X : Type 0} (f : X → List ℕ) (xs : List X) (i : ℕ) (d : X) → i < length xs

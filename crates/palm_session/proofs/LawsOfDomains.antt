@@ -13,7 +13,7 @@ use Rattle.palm_model.proofs.cited.Without.{pair_of, length_without}
 use Rattle.palm_laws.proofs.cited.Solutions.{explains_more}
 use Rattle.palm_book.specs.Book.{initial_of, active_of}
 use Rattle.palm_events.proofs.cited.Agreeing.{pair_known, gone_member}
-use Rattle.palm_events.proofs.cited.Conflicts.{names_active, conflict_active, kept_conflict}
+use Rattle.palm_events.proofs.cited.Conflicts.{cids_active, conflict_active, kept_conflict}
 use Rattle.palm_events.proofs.cited.Logs.{logged, pair_logged, removal_explained}
 use Rattle.palm_events.proofs.cited.Outcomes.{explanation_listed, conflict_listed}
 use Rattle.palm_events.proofs.cited.Runs.{present_includes, quiet_greatest}
@@ -162,7 +162,7 @@ explanation_names s is p =
 pub explanation_active : (s : SessionState) → IsHeld s → (p : Pair) (names : List Cid) → IsListOf (NamesOfPair s.engine.log p) names → (c : Cid) → Contains names c → IsActive (active_of s.book) c
 explanation_active s is p names list c m =
     let n = list.sound c m in
-    subst (λ (l : List Active). IsActive l c) is.active (names_active s.engine.initial s.engine.active s.engine.log c is.valid.founded n.removal n.logged n.names)
+    subst (λ (l : List Active). IsActive l c) is.active (cids_active s.engine.initial s.engine.active s.engine.log c is.valid.founded n.removal n.logged n.names)
 
 -- and explain a declared pair that is not present
 pub explanation_explains : (s : SessionState) → IsHeld s → (x : ℕ) (v : ℤ) (names : List Cid) → Has (initial_of s.book) x v → (Has (present s.engine) x v → ⊥)

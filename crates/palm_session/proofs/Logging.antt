@@ -9,7 +9,7 @@ use Rattle.palm_base.specs.declared.terms.Cid.{Cid}
 use Rattle.palm_base.specs.declared.terms.Cid.TheVariants.{User}
 use Rattle.palm_explain.specs.Explanations.{log_bys, reasons_of}
 use Rattle.palm_model.specs.Log.{Removal, log_pairs}
-use Rattle.palm_book.specs.Book.{Contents, Entry, IsUser, HasNumber, number_name, user_name}
+use Rattle.palm_book.specs.Book.{Contents, BookVar, IsUser, HasNumber, number_name, user_name}
 use Rattle.palm_book.specs.declared.book.BookCon.{BookCon}
 use Rattle.palm_lang.specs.Reply.{removal_line}
 use Rattle.palm_session.specs.Answers.{log_line}
@@ -41,7 +41,7 @@ module _ (book : Contents) where
 pub numbered_user : (book : Contents) (by : Cid) (n : ℕ) → by ≡ User n → IsUser book by → HasNumber book n
 numbered_user book by n e user = subst (λ (c : Cid). IsUser book c) e user
 
-line_same : (variables : List Entry) (constraints : List BookCon) (p q : Pair) (by : Cid) (n : ℕ) (rs qs : List Pair) → q ≡ p → by ≡ User n → qs ≡ rs
+line_same : (variables : List BookVar) (constraints : List BookCon) (p q : Pair) (by : Cid) (n : ℕ) (rs qs : List Pair) → q ≡ p → by ≡ User n → qs ≡ rs
     → removal_line variables (number_name constraints n) p rs ≡ removal_line variables (user_name constraints by) q qs
 line_same variables constraints p q by n rs qs a b d =
     ap (λ (z : Pair). removal_line variables (number_name constraints n) z rs) (sym a) ∙ ap (λ (zs : List Pair). removal_line variables (number_name constraints n) q zs) (sym d)

@@ -15,23 +15,23 @@ use Rattle.palm_model.proofs.cited.Narrowing.{has_declared}
 use Rattle.palm_model.proofs.cited.Without.{pair_of, has_without, length_without, values_of_without}
 use Rattle.palm_book.specs.declared.book.BookCon.{BookCon}
 use Rattle.palm_read.specs.Domain.{values_in}
-use Rattle.palm_read.specs.Sound.{IsSound}
-use Rattle.palm_read.specs.declared.line.Line.{Line}
-use Rattle.palm_read.specs.declared.line.Line.TheVariants.{Comment, Var, Add, Relax, Enforce, Retract, Domains as DomainsLine, Domain, List as ListLine, Log, Why, Conflict, MinimalConflict, Minimal, Cert, CertConflict, Pause, Resume, Step as StepLine, SolveDbt, SolveRepair, Guide, GuideNone, Order, OrderNone, DropGuide, DropOrder, Quit}
-use Rattle.palm_read.proofs.cited.SoundLines.{read_sound}
+use Rattle.palm_session.specs.declared.request.Procedure.{Procedure}
+use Rattle.palm_session.specs.declared.request.Request.{Request}
+use Rattle.palm_session.specs.declared.request.Request.TheVariants.{Nothing as NothingAsked, Declare as DeclareAsked, Add, Relax, Enforce, Retract, Ask, Pause, Resume, Step as StepAsked, Solve, ChooseGuide, DropGuide, ChooseOrder, DropOrder, Quit}
+use Rattle.palm_session.specs.Requests.{Admits}
 use Rattle.palm_events.specs.Along.{IsFiltering, IsStill}
 use Rattle.palm_events.proofs.cited.Agreeing.{values_of_more}
 use Rattle.palm_events.proofs.cited.Logs.{logged}
 use Rattle.palm_events.proofs.cited.Valid.{has_removed, left_grows}
 use Rattle.palm_engine.proofs.cited.Settled.{settling_filters}
 use Rattle.palm_session.specs.State.{SessionState, IsHeld, IsState, fresh}
+use Rattle.palm_search.specs.declared.ending.SearchEnd.{SearchEnd}
 use Rattle.palm_search.specs.declared.turn.Turn.{Turn}
-use Rattle.palm_session.specs.Refusals.{Meets, in_order, IsNone}
-use Rattle.palm_session.specs.Effects.{SearchEnd, Effect, Nothing, Settled, Searched, Next, Rests, Filters, Procedure, Searches, next, SettlesIn, SearchesIn, Follows, Does, Changes, WithdrawsActive}
+use Rattle.palm_session.specs.Effects.{Effect, Nothing, Settled, Searched, Next, Rests, Filters, Searches, next, SettlesIn, SearchesIn, Follows, Does, Changes, WithdrawsActive}
 use Rattle.palm_session.specs.Answers.{WaitsFor, Accepts, waits, contradicts, says, Answers, misread, refused, accepted}
 use Rattle.palm_session.specs.Replies.{Run}
-use Rattle.palm_session.proofs.cited.LawsOfAnswers.{answers_keep}
-use Rattle.palm_session.proofs.cited.LawsOfChanges.{changes_keep, line_values, withdraws_cases}
+use Rattle.palm_session.proofs.cited.LawsOfAnswers.{answers_keep, read_admits}
+use Rattle.palm_session.proofs.cited.LawsOfChanges.{changes_keep, declared_values, withdraws_cases}
 use Rattle.palm_session.proofs.Searching.{search_leaves_still, search_log}
 use Rattle.palm_session.proofs.Searched.{still_before}
 use Rattle.palm_session.proofs.LawsOfDomains.{inside_empty}
@@ -136,72 +136,60 @@ active_one e c t w one = elim (withdraws_cases e c t w) [
 abbrev HasOne : SessionState → Type 0
 HasOne s = HasOneEmpty s.engine
 
-changes_one : (s m : SessionState) (line : Line) → IsState s → IsSound line → IsNone (Meets s line) in_order → Changes s line m → HasOne s → HasOne m
-changes_one s m Comment is sound none h one = subst HasOne (sym h) one
-changes_one s m (Var name domain) is sound none h one =
-    subst HasOne (sym h.2) (declares_one s.engine h.0 (values_in domain) is.held.valid (line_values s name domain sound none).some h.1 one)
-changes_one s m (Add name shape) is sound none h one = subst HasOne (sym h.4) (posts_one s.engine h.1 _ h.3 one)
-changes_one s m (Relax name) is sound none h one = subst HasOne (sym h.5) (withdraws_one s.engine _ h.2 h.4 one)
-changes_one s m (Enforce name) is sound none h one = subst HasOne (sym h.5) (posts_one s.engine h.2 _ h.4 one)
-changes_one s m (Retract name) is sound none h one = subst HasOne (sym h.5) (active_one s.engine h.1 h.2 h.4 one)
-changes_one s m DomainsLine is sound none h one = subst HasOne (sym h) one
-changes_one s m (Domain name) is sound none h one = subst HasOne (sym h) one
-changes_one s m ListLine is sound none h one = subst HasOne (sym h) one
-changes_one s m Log is sound none h one = subst HasOne (sym h) one
-changes_one s m (Why name value) is sound none h one = subst HasOne (sym h) one
-changes_one s m Conflict is sound none h one = subst HasOne (sym h) one
-changes_one s m MinimalConflict is sound none h one = subst HasOne (sym h) one
-changes_one s m (Minimal name value) is sound none h one = subst HasOne (sym h) one
-changes_one s m (Cert name value) is sound none h one = subst HasOne (sym h) one
-changes_one s m CertConflict is sound none h one = subst HasOne (sym h) one
-changes_one s m Pause is sound none h one = subst HasOne (sym h) one
-changes_one s m Resume is sound none h one = subst HasOne (sym h) one
-changes_one s m (StepLine count) is sound none h one = subst HasOne (sym h) one
-changes_one s m (SolveDbt budget) is sound none h one = subst HasOne (sym h) one
-changes_one s m (SolveRepair tabu budget) is sound none h one = subst HasOne (sym h) one
-changes_one s m (Guide number) is sound none h one = subst HasOne (sym h) one
-changes_one s m GuideNone is sound none h one = subst HasOne (sym h) one
-changes_one s m (Order number) is sound none h one = subst HasOne (sym h) one
-changes_one s m OrderNone is sound none h one = subst HasOne (sym h) one
-changes_one s m (DropGuide number) is sound none h one = subst HasOne (sym h) one
-changes_one s m (DropOrder number) is sound none h one = subst HasOne (sym h) one
-changes_one s m Quit is sound none h one = subst HasOne (sym h) one
+changes_one : (s m : SessionState) (request : Request) → IsState s → Admits s request → Changes s request m → HasOne s → HasOne m
+changes_one s m NothingAsked is can h one = subst HasOne (sym h) one
+changes_one s m (DeclareAsked name domain) is can h one =
+    subst HasOne (sym h.2) (declares_one s.engine h.0 (values_in domain) is.held.valid (declared_values s name domain can).some h.1 one)
+changes_one s m (Add name con) is can h one = subst HasOne (sym h.2) (posts_one s.engine h.0 _ h.1 one)
+changes_one s m (Relax place) is can h one = subst HasOne (sym h.4) (withdraws_one s.engine _ h.1 h.3 one)
+changes_one s m (Enforce place) is can h one = subst HasOne (sym h.4) (posts_one s.engine h.1 _ h.3 one)
+changes_one s m (Retract place) is can h one = subst HasOne (sym h.4) (active_one s.engine h.0 h.1 h.3 one)
+changes_one s m (Ask question) is can h one = subst HasOne (sym h) one
+changes_one s m Pause is can h one = subst HasOne (sym h) one
+changes_one s m Resume is can h one = subst HasOne (sym h) one
+changes_one s m (StepAsked count) is can h one = subst HasOne (sym h) one
+changes_one s m (Solve by) is can h one = subst HasOne (sym h) one
+changes_one s m (ChooseGuide chosen) is can h one = subst HasOne (sym h) one
+changes_one s m (DropGuide number) is can h one = subst HasOne (sym h) one
+changes_one s m (ChooseOrder chosen) is can h one = subst HasOne (sym h) one
+changes_one s m (DropOrder number) is can h one = subst HasOne (sym h) one
+changes_one s m Quit is can h one = subst HasOne (sym h) one
 
 settles_one : (m : SessionState) (limit : Option ℕ) (count : ℕ) (e : EngineState) → SettlesIn m limit count e → HasOne m → HasOneEmpty e
 settles_one m limit count e h one =
     let filters = settling_filters limit m.engine h.revisions e h.settles in run_one m.engine filters.steps e filters.filtering filters.run one
 
 -- a search leaves the domains
-searches_one : (m : SessionState) (by : Procedure) (turns : List Turn) (end : SearchEnd) (e : EngineState) → IsHeld m → IsStill m.engine → SearchesIn m by turns end e → HasOne m → HasOneEmpty e
-searches_one m by turns end e is still h one x y ex ey =
-    let rests = search_leaves_still m by turns end e is h in
-    let same : present e ≡ present m.engine = ap (λ (d : Domains). without d (log_pairs e.log)) rests.initial ∙ ap (λ (l : List Removal). without m.engine.initial (log_pairs l)) (search_log m by turns end e is h still) in
+searches_one : (m : SessionState) (by : Procedure) (turns : List Turn) (end : SearchEnd) (dropped : Option ℕ) (e : EngineState) → IsHeld m → IsStill m.engine → SearchesIn m by turns end dropped e → HasOne m → HasOneEmpty e
+searches_one m by turns end dropped e is still h one x y ex ey =
+    let rests = search_leaves_still m by turns end dropped e is h in
+    let same : present e ≡ present m.engine = ap (λ (d : Domains). without d (log_pairs e.log)) rests.initial ∙ ap (λ (l : List Removal). without m.engine.initial (log_pairs l)) (search_log m by turns end dropped e is h still) in
     one x y (subst (λ (d : Domains). IsEmptyAt d x) same ex) (subst (λ (d : Domains). IsEmptyAt d y) same ey)
 
 follows_one : (m : SessionState) (n : Next) (effect : Effect) (t : SessionState) → IsHeld m → ((by : Procedure) → n ≡ Searches by → IsStill m.engine) → Follows m n effect t → HasOne m → HasOne t
 follows_one m Rests Nothing t is still f one = subst HasOne (sym f) one
 follows_one m Rests (Settled k) t is still f one = absurd f
-follows_one m Rests (Searched k) t is still f one = absurd f
+follows_one m Rests (Searched k j) t is still f one = absurd f
 follows_one m (Filters limit) Nothing t is still f one = absurd f
 follows_one m (Filters limit) (Settled k) t is still f one = subst HasOne (sym f.2) (settles_one m limit k f.0 f.1 one)
-follows_one m (Filters limit) (Searched k) t is still f one = absurd f
+follows_one m (Filters limit) (Searched k j) t is still f one = absurd f
 follows_one m (Searches by) Nothing t is still f one = absurd f
 follows_one m (Searches by) (Settled k) t is still f one = absurd f
-follows_one m (Searches by) (Searched k) t is still f one = subst HasOne (sym f.3) (searches_one m by f.0 k f.1 is (still by refl) f.2 one)
+follows_one m (Searches by) (Searched k j) t is still f one = subst HasOne (sym f.3) (searches_one m by f.0 k j f.1 is (still by refl) f.2 one)
 
-does_one : (s : SessionState) (line : Line) (effect : Effect) (t : SessionState) → IsState s → IsSound line → IsNone (Meets s line) in_order → (WaitsFor s line → ⊥) → Does s line effect t → HasOne s → HasOne t
-does_one s line effect t is sound none goes d one =
-    follows_one d.0 (next d.0 line) effect t (changes_keep s d.0 line is.held sound none d.1) (still_before s d.0 line is goes d.1) d.2 (changes_one s d.0 line is sound none d.1 one)
+does_one : (s : SessionState) (request : Request) (effect : Effect) (t : SessionState) → IsState s → Admits s request → (WaitsFor s request → ⊥) → Does s request effect t → HasOne s → HasOne t
+does_one s request effect t is can goes d one =
+    follows_one d.0 (next d.0 request) effect t (changes_keep s d.0 request is.held can d.1) (still_before s d.0 request is goes d.1) d.2 (changes_one s d.0 request is can d.1 one)
 
-accepts_one : (s : SessionState) (line : Line) (reply : List ℕ) (t : SessionState) → IsState s → IsSound line → IsNone (Meets s line) in_order → Accepts s line reply t → HasOne s → HasOne t
-accepts_one s line reply t is sound none (waits w) one = one
-accepts_one s line reply t is sound none (contradicts effect goes does c) one = does_one s line effect t is sound none goes does one
-accepts_one s line reply t is sound none (says effect goes does n r) one = does_one s line effect t is sound none goes does one
+accepts_one : (s : SessionState) (request : Request) (reply : List ℕ) (t : SessionState) → IsState s → Admits s request → Accepts s request reply t → HasOne s → HasOne t
+accepts_one s request reply t is can (waits w) one = one
+accepts_one s request reply t is can (contradicts effect goes does c) one = does_one s request effect t is can goes does one
+accepts_one s request reply t is can (says effect goes does n r) one = does_one s request effect t is can goes does one
 
 answers_one : (s : SessionState) (bytes reply : List ℕ) (t : SessionState) → IsState s → Answers s bytes reply t → HasOne s → HasOne t
 answers_one s bytes reply t is (misread error refusal q some) one = one
 answers_one s bytes reply t is (refused line refusal read first) one = one
-answers_one s bytes reply t is (accepted line read none a) one = accepts_one s line reply t is (read_sound bytes line read) none a one
+answers_one s bytes reply t is (accepted line request read a h) one = accepts_one s request reply t is (read_admits s is.held bytes line request read a) h one
 
 lines_one : (s : SessionState) (lines : List (List ℕ)) (replies : List ℕ) (t : SessionState) → IsState s → Run s lines replies t → HasOne s → HasOne t
 lines_one s [] replies t is run one = subst HasOne (sym run.1) one

@@ -8,13 +8,15 @@ use Rattle.palm_model.specs.Log.{cons_of}
 use Rattle.palm_book.specs.Book.{Contents, initial_of, active_of}
 use Rattle.palm_book.specs.declared.book.BookCon.{BookCon}
 use Rattle.palm_book.proofs.cited.Any.{any_member}
-use Rattle.palm_read.specs.declared.line.Line.{Line}
-use Rattle.palm_read.specs.declared.line.Line.TheVariants.{Add, Retract, Domains as DomainsLine}
+use Rattle.palm_read.specs.declared.line.Line.TheVariants.{Add as AddLine, Retract as RetractLine}
 use Rattle.palm_read.specs.declared.line.Shape.{Shape}
 use Rattle.palm_session.specs.State.{SessionState, AreDomains, IsContradiction}
-use Rattle.palm_session.specs.Refusals.{Meets, in_order, IsNone}
-use Rattle.palm_session.specs.Effects.{Effect, Nothing, Settled, Searched, Next, Rests, Filters, Searches, Follows, Does, next, next_constraint, IsNamed}
-use Rattle.palm_session.specs.Answers.{IsPausable, domains_text, Says, Accepts, waits, contradicts, says}
+use Rattle.palm_session.specs.declared.request.Question.TheVariants.{Domains as DomainsAsked}
+use Rattle.palm_session.specs.declared.request.Request.{Request}
+use Rattle.palm_session.specs.declared.request.Request.TheVariants.{Add, Retract, Ask}
+use Rattle.palm_session.specs.Requests.{IsAdmitted, Requests}
+use Rattle.palm_session.specs.Effects.{Effect, Nothing, Settled, Searched, Next, Rests, Filters, Searches, Follows, Does, next, next_constraint}
+use Rattle.palm_session.specs.Answers.{IsAnswer, IsPausable, domains_text, Accepts, waits, contradicts, says}
 use Rattle.palm_session.proofs.cited.LawsOfStates.{follows_book, rests_same}
 
 -- the last of a list goes where no other one has its name
@@ -25,11 +27,11 @@ last_removed (b ∷ cs) c d zero at other = absurd (other b (member_here b cs) (
 last_removed (b ∷ cs) c d (suc place) at other =
     ap (λ (l : List BookCon). b ∷ l) (last_removed cs c d place at (λ x m e. other x (member_there b cs x m) e))
 
--- what an accepted line that never waits does
-accepts_does : (s : SessionState) (line : Line) (reply : List ℕ) (t : SessionState) → (IsPausable line → ⊥) → Accepts s line reply t → (effect : Effect) × Does s line effect t
-accepts_does s line reply t never (waits w) = absurd (never w.pausable)
-accepts_does s line reply t never (contradicts effect awake does c) = (effect, does)
-accepts_does s line reply t never (says effect awake does n r) = (effect, does)
+-- what a request that never waits does
+accepts_does : (s : SessionState) (request : Request) (reply : List ℕ) (t : SessionState) → (IsPausable request → ⊥) → Accepts s request reply t → (effect : Effect) × Does s request effect t
+accepts_does s request reply t never (waits w) = absurd (never w.pausable)
+accepts_does s request reply t never (contradicts effect awake does c) = (effect, does)
+accepts_does s request reply t never (says effect awake does n r) = (effect, does)
 
 abbrev grown : Contents → BookCon → Contents
 grown book c = record book { constraints = book.constraints ++ c ∷ [] }
@@ -47,34 +49,41 @@ back book next c d place e at other =
 follows_paused : (m : SessionState) (n : Next) (effect : Effect) (t : SessionState) → Follows m n effect t → t.paused ≡ m.paused
 follows_paused m Rests Nothing t f = ap (λ (z : SessionState). z.paused) f
 follows_paused m Rests (Settled k) t f = absurd f
-follows_paused m Rests (Searched k) t f = absurd f
+follows_paused m Rests (Searched k j) t f = absurd f
 follows_paused m (Filters limit) Nothing t f = absurd f
 follows_paused m (Filters limit) (Settled k) t f = ap (λ (z : SessionState). z.paused) f.2
-follows_paused m (Filters limit) (Searched k) t f = absurd f
+follows_paused m (Filters limit) (Searched k j) t f = absurd f
 follows_paused m (Searches by) Nothing t f = absurd f
 follows_paused m (Searches by) (Settled k) t f = absurd f
-follows_paused m (Searches by) (Searched k) t f = ap (λ (z : SessionState). z.paused) f.3
+follows_paused m (Searches by) (Searched k j) t f = ap (λ (z : SessionState). z.paused) f.3
 
-pub paused_as_before : (s m t : SessionState) (name : List ℕ) (shape : Shape) (a b : List ℕ) → Accepts s (Add name shape) a m → Accepts m (Retract name) b t → t.paused ≡ s.paused
-paused_as_before s m t name shape a b adds retracts =
-    let d = accepts_does s (Add name shape) a m (λ h. h) adds in
-    let r = accepts_does m (Retract name) b t (λ h. h) retracts in
-    follows_paused r.1.0 (next r.1.0 (Retract name)) r.0 t r.1.2 ∙ ap (λ (z : SessionState). z.paused) r.1.1.5
-    ∙ follows_paused d.1.0 (next d.1.0 (Add name shape)) d.0 m d.1.2 ∙ ap (λ (z : SessionState). z.paused) d.1.1.4
+module _ (s m t : SessionState) (name : List ℕ) (shape : Shape) (add retract : Request) (a b : List ℕ) (admitted : IsAdmitted s (AddLine name shape) add) (adds : Accepts s add a m)
+    (asks : Requests m (RetractLine name) retract) (retracts : Accepts m retract b t) where
+  added : (effect : Effect) × Does s (Add name admitted.requests.0) effect m
+  added = accepts_does s (Add name admitted.requests.0) a m (λ h. h) (subst (λ (r : Request). Accepts s r a m) admitted.requests.2 adds)
 
-pub added_and_retracted : (s m t : SessionState) (name : List ℕ) (shape : Shape) (a b : List ℕ) → IsNone (Meets s (Add name shape)) in_order → Accepts s (Add name shape) a m → Accepts m (Retract name) b t → t.book ≡ s.book
-added_and_retracted s m t name shape a b none adds retracts =
-    let d = accepts_does s (Add name shape) a m (λ h. h) adds in
-    let r = accepts_does m (Retract name) b t (λ h. h) retracts in
-    let added = d.1.1 in
-    let taken = r.1.1 in
-    let next_book : m.book ≡ grown s.book (next_constraint s name added.0) =
-    follows_book d.1.0 (next d.1.0 (Add name shape)) d.0 m d.1.2 ∙ ap (λ (z : SessionState). z.book) added.4 in
-    let last_book : t.book ≡ shrunk m.book taken.0 =
-    follows_book r.1.0 (next r.1.0 (Retract name)) r.0 t r.1.2 ∙ ap (λ (z : SessionState). z.book) taken.5 in
-    let named : IsNamed m name taken.0 taken.1 = taken.3 in
-    last_book ∙ back s.book m.book (next_constraint s name added.0) taken.1 taken.0 next_book named.at
-    (λ x k e. none.0 (any_member (λ (c : BookCon). c.name ≡ name) s.book.constraints x k (ap (λ (c : BookCon). c.name) e ∙ named.named)))
+  taken : (effect : Effect) × Does m (Retract asks.0) effect t
+  taken = accepts_does m (Retract asks.0) b t (λ h. h) (subst (λ (r : Request). Accepts m r b t) asks.2 retracts)
+
+  pub paused_as_before : t.paused ≡ s.paused
+  paused_as_before =
+      let d = added.1 in
+      let r = taken.1 in
+      follows_paused r.0 (next r.0 (Retract asks.0)) taken.0 t r.2 ∙ ap (λ (z : SessionState). z.paused) r.1.4
+      ∙ follows_paused d.0 (next d.0 (Add name admitted.requests.0)) added.0 m d.2 ∙ ap (λ (z : SessionState). z.paused) d.1.2
+
+  pub added_and_retracted : t.book ≡ s.book
+  added_and_retracted =
+      let d = added.1 in
+      let r = taken.1 in
+      let con = admitted.requests.0 in
+      let next_book : m.book ≡ grown s.book (next_constraint s name con) =
+      follows_book d.0 (next d.0 (Add name con)) added.0 m d.2 ∙ ap (λ (z : SessionState). z.book) d.1.2 in
+      let last_book : t.book ≡ shrunk m.book asks.0 =
+      follows_book r.0 (next r.0 (Retract asks.0)) taken.0 t r.2 ∙ ap (λ (z : SessionState). z.book) r.1.4 in
+      let p = asks.1 in
+      last_book ∙ back s.book m.book (next_constraint s name con) p.constraint asks.0 next_book p.at
+      (λ x k e. admitted.none.0 (any_member (λ (c : BookCon). c.name ≡ name) s.book.constraints x k (ap (λ (c : BookCon). c.name) e ∙ p.named)))
 
 pub same_domains : (s t : SessionState) (d : Domains) → t.book ≡ s.book → AreDomains s d ↔ AreDomains t d
 same_domains s t d e = (
@@ -92,13 +101,13 @@ same_contradiction s t book paused c = record {
   empty = c.empty;
 }
 
-printed_quietly : (s t u : SessionState) (effect : Effect) (reply : List ℕ) → t.book ≡ s.book → Follows s Rests effect u → Says u DomainsLine effect reply → Says t DomainsLine Nothing reply
+printed_quietly : (s t u : SessionState) (effect : Effect) (reply : List ℕ) → t.book ≡ s.book → Follows s Rests effect u → IsAnswer u DomainsAsked reply → IsAnswer t DomainsAsked reply
 printed_quietly s t u effect reply book f said =
     let same : u.book ≡ s.book = ap (λ (z : SessionState). z.book) (rests_same s effect u f) in
     let back_there : u.book ≡ t.book = same ∙ sym book in
     (said.0, (same_domains u t said.0 (sym back_there)).0 said.1, said.2 ∙ ap (λ (b : Contents). domains_text b.variables said.0) back_there)
 
-pub printed_as_before : (s t u : SessionState) (reply : List ℕ) → t.book ≡ s.book → t.paused ≡ s.paused → Accepts s DomainsLine reply u → Accepts t DomainsLine reply t
+pub printed_as_before : (s t u : SessionState) (reply : List ℕ) → t.book ≡ s.book → t.paused ≡ s.paused → Accepts s (Ask DomainsAsked) reply u → Accepts t (Ask DomainsAsked) reply t
 printed_as_before s t u reply book paused (waits w) = waits (record { paused = paused ∙ w.paused; pausable = tt })
 printed_as_before s t u reply book paused (contradicts effect awake does c) =
     let same : u ≡ s = rests_same does.0 effect u does.2 ∙ does.1 in

@@ -9,27 +9,27 @@ use Rattle.palm_model.specs.Event.Step.{Happens, Declare}
 use Rattle.palm_book.specs.Book.{user_at}
 use Rattle.palm_book.specs.declared.book.BookCon.{BookCon}
 use Rattle.palm_read.specs.Domain.{values_in}
-use Rattle.palm_read.specs.Sound.{IsSound}
-use Rattle.palm_read.specs.declared.line.Line.{Line}
-use Rattle.palm_read.specs.declared.line.Line.TheVariants.{Comment, Var, Add, Relax, Enforce, Retract, Domains as DomainsLine, Domain, List as ListLine, Log, Why, Conflict, MinimalConflict, Minimal, Cert, CertConflict, Pause, Resume, Step as StepLine, SolveDbt, SolveRepair, Guide, GuideNone, Order, OrderNone, DropGuide, DropOrder, Quit}
-use Rattle.palm_read.proofs.cited.SoundLines.{read_sound}
+use Rattle.palm_session.specs.declared.request.Procedure.{Procedure}
+use Rattle.palm_session.specs.declared.request.Request.{Request}
+use Rattle.palm_session.specs.declared.request.Request.TheVariants.{Nothing as NothingAsked, Declare as DeclareAsked, Add, Relax, Enforce, Retract, Ask, Pause, Resume, Step as StepAsked, Solve, ChooseGuide, DropGuide, ChooseOrder, DropOrder, Quit}
+use Rattle.palm_session.specs.Requests.{Admits}
 use Rattle.palm_events.specs.Along.{IsStill}
+use Rattle.palm_search.specs.declared.ending.SearchEnd.{SearchEnd}
 use Rattle.palm_search.specs.declared.turn.Turn.{Turn}
 use Rattle.palm_engine.proofs.cited.Settled.{settling_filters}
 use Rattle.palm_session.specs.State.{SessionState, IsHeld, IsState, fresh}
-use Rattle.palm_session.specs.Refusals.{Meets, in_order, IsNone}
-use Rattle.palm_session.specs.Effects.{SearchEnd, Effect, Nothing, Settled, Searched, Next, Rests, Filters, Procedure, Searches, next, next_constraint, SettlesIn, SearchesIn, Follows, Does, Changes, WithdrawsActive}
+use Rattle.palm_session.specs.Effects.{Effect, Nothing, Settled, Searched, Next, Rests, Filters, Searches, next, next_constraint, SettlesIn, SearchesIn, Follows, Does, Changes, WithdrawsActive}
 use Rattle.palm_session.specs.Answers.{WaitsFor, Accepts, waits, contradicts, says, Answers, misread, refused, accepted}
 use Rattle.palm_session.specs.Replies.{Run}
 use Rattle.palm_events.specs.Scoped.{IsScoped, HasScopedReasons}
-use Rattle.palm_session.proofs.cited.LawsOfAnswers.{answers_keep}
+use Rattle.palm_session.proofs.cited.LawsOfAnswers.{answers_keep, read_admits}
 use Rattle.palm_session.proofs.cited.LawsOfChanges.{changes_keep, withdraws_cases}
 use Rattle.palm_session.proofs.cited.LawsOfStates.{fresh_is}
 use Rattle.palm_events.proofs.cited.Scoped.{blank_scoped, step_scoped, run_scoped}
 use Rattle.palm_session.proofs.Searched.{still_before}
 use Rattle.palm_session.proofs.Searching.{search_leaves_still, search_log}
 
--- ---- what a line changes in the engine is one step at most
+-- ---- what a request changes in the engine is one step at most
 
 abbrev IsOneStep : EngineState → EngineState → Type 0
 IsOneStep e t = (t ≡ e) ⊎ ((step : Step) × StepLeads e step t)
@@ -47,43 +47,31 @@ by_active s m z c h w = elim (withdraws_cases s.engine c z.engine w) [
   | inr g ↦ inl (engine_same z m h ∙ g.1)
 ]
 
-changes_step : (s m : SessionState) (line : Line) → Changes s line m → IsOneStep s.engine m.engine
-changes_step s m Comment h = inl (engine_same s m h)
-changes_step s m (Var name domain) h = by_step s m _ (Declare (values_in domain)) h.2 h.1
-changes_step s m (Add name shape) h = by_step s m _ (Happens (Post (user_at (next_constraint s name h.0)))) h.4 h.3
-changes_step s m (Relax name) h = by_step s m _ (Happens (Withdraw (User h.1.number))) h.5 h.4
-changes_step s m (Enforce name) h = by_step s m _ (Happens (Post (user_at h.1))) h.5 h.4
-changes_step s m (Retract name) h = by_active s m _ h.1 h.5 h.4
-changes_step s m DomainsLine h = inl (engine_same s m h)
-changes_step s m (Domain name) h = inl (engine_same s m h)
-changes_step s m ListLine h = inl (engine_same s m h)
-changes_step s m Log h = inl (engine_same s m h)
-changes_step s m (Why name value) h = inl (engine_same s m h)
-changes_step s m Conflict h = inl (engine_same s m h)
-changes_step s m MinimalConflict h = inl (engine_same s m h)
-changes_step s m (Minimal name value) h = inl (engine_same s m h)
-changes_step s m (Cert name value) h = inl (engine_same s m h)
-changes_step s m CertConflict h = inl (engine_same s m h)
+changes_step : (s m : SessionState) (request : Request) → Changes s request m → IsOneStep s.engine m.engine
+changes_step s m NothingAsked h = inl (engine_same s m h)
+changes_step s m (DeclareAsked name domain) h = by_step s m _ (Declare (values_in domain)) h.2 h.1
+changes_step s m (Add name con) h = by_step s m _ (Happens (Post (user_at (next_constraint s name con)))) h.2 h.1
+changes_step s m (Relax place) h = by_step s m _ (Happens (Withdraw (User h.0.number))) h.4 h.3
+changes_step s m (Enforce place) h = by_step s m _ (Happens (Post (user_at h.0))) h.4 h.3
+changes_step s m (Retract place) h = by_active s m _ h.0 h.4 h.3
+changes_step s m (Ask question) h = inl (engine_same s m h)
 changes_step s m Pause h = inl (ap (λ (z : SessionState). z.engine) h)
 changes_step s m Resume h = inl (ap (λ (z : SessionState). z.engine) h)
-changes_step s m (StepLine count) h = inl (engine_same s m h)
-changes_step s m (SolveDbt budget) h = inl (engine_same s m h)
-changes_step s m (SolveRepair tabu budget) h = inl (engine_same s m h)
-changes_step s m (Guide number) h = inl (ap (λ (z : SessionState). z.engine) h)
-changes_step s m GuideNone h = inl (ap (λ (z : SessionState). z.engine) h)
-changes_step s m (Order number) h = inl (ap (λ (z : SessionState). z.engine) h)
-changes_step s m OrderNone h = inl (ap (λ (z : SessionState). z.engine) h)
+changes_step s m (StepAsked count) h = inl (engine_same s m h)
+changes_step s m (Solve by) h = inl (engine_same s m h)
+changes_step s m (ChooseGuide chosen) h = inl (ap (λ (z : SessionState). z.engine) h)
 changes_step s m (DropGuide number) h = inl (ap (λ (z : SessionState). z.engine) h)
+changes_step s m (ChooseOrder chosen) h = inl (ap (λ (z : SessionState). z.engine) h)
 changes_step s m (DropOrder number) h = inl (ap (λ (z : SessionState). z.engine) h)
 changes_step s m Quit h = inl (engine_same s m h)
 
--- ---- lines
+-- ---- requests
 
 abbrev IsInScopes : SessionState → Type 0
 IsInScopes s = HasScopedReasons s.engine
 
-changes_scoped : (s m : SessionState) (line : Line) → IsHeld s → Changes s line m → IsInScopes s → IsInScopes m
-changes_scoped s m line is h scoped = elim (changes_step s m line h) [
+changes_scoped : (s m : SessionState) (request : Request) → IsHeld s → Changes s request m → IsInScopes s → IsInScopes m
+changes_scoped s m request is h scoped = elim (changes_step s m request h) [
   | inl same ↦ subst HasScopedReasons (sym same) scoped
   | inr d ↦ step_scoped s.engine d.0 m.engine d.1 is.valid scoped
 ]
@@ -93,35 +81,35 @@ settles_scoped m limit count e is h scoped =
     let filters = settling_filters limit m.engine h.revisions e h.settles in run_scoped m.engine filters.steps e filters.run is.valid scoped
 
 -- a search leaves the log and the active constraints
-searches_scoped : (m : SessionState) (by : Procedure) (turns : List Turn) (end : SearchEnd) (e : EngineState) → IsHeld m → IsStill m.engine → SearchesIn m by turns end e → IsInScopes m → HasScopedReasons e
-searches_scoped m by turns end e is still h scoped r logged =
-    let was : Contains m.engine.log r = subst (λ (l : List Removal). Contains l r) (search_log m by turns end e is h still) logged in
-    subst (λ (l : List Active). IsScoped l r) (sym (search_leaves_still m by turns end e is h).active) (scoped r was)
+searches_scoped : (m : SessionState) (by : Procedure) (turns : List Turn) (end : SearchEnd) (dropped : Option ℕ) (e : EngineState) → IsHeld m → IsStill m.engine → SearchesIn m by turns end dropped e → IsInScopes m → HasScopedReasons e
+searches_scoped m by turns end dropped e is still h scoped r logged =
+    let was : Contains m.engine.log r = subst (λ (l : List Removal). Contains l r) (search_log m by turns end dropped e is h still) logged in
+    subst (λ (l : List Active). IsScoped l r) (sym (search_leaves_still m by turns end dropped e is h).active) (scoped r was)
 
 follows_scoped : (m : SessionState) (n : Next) (effect : Effect) (t : SessionState) → IsHeld m → ((by : Procedure) → n ≡ Searches by → IsStill m.engine) → Follows m n effect t → IsInScopes m → IsInScopes t
 follows_scoped m Rests Nothing t is still f scoped = subst IsInScopes (sym f) scoped
 follows_scoped m Rests (Settled k) t is still f scoped = absurd f
-follows_scoped m Rests (Searched k) t is still f scoped = absurd f
+follows_scoped m Rests (Searched k j) t is still f scoped = absurd f
 follows_scoped m (Filters limit) Nothing t is still f scoped = absurd f
 follows_scoped m (Filters limit) (Settled k) t is still f scoped = subst IsInScopes (sym f.2) (settles_scoped m limit k f.0 is f.1 scoped)
-follows_scoped m (Filters limit) (Searched k) t is still f scoped = absurd f
+follows_scoped m (Filters limit) (Searched k j) t is still f scoped = absurd f
 follows_scoped m (Searches by) Nothing t is still f scoped = absurd f
 follows_scoped m (Searches by) (Settled k) t is still f scoped = absurd f
-follows_scoped m (Searches by) (Searched k) t is still f scoped = subst IsInScopes (sym f.3) (searches_scoped m by f.0 k f.1 is (still by refl) f.2 scoped)
+follows_scoped m (Searches by) (Searched k j) t is still f scoped = subst IsInScopes (sym f.3) (searches_scoped m by f.0 k j f.1 is (still by refl) f.2 scoped)
 
-does_scoped : (s : SessionState) (line : Line) (effect : Effect) (t : SessionState) → IsState s → IsSound line → IsNone (Meets s line) in_order → (WaitsFor s line → ⊥) → Does s line effect t → IsInScopes s → IsInScopes t
-does_scoped s line effect t is sound none goes d scoped =
-    follows_scoped d.0 (next d.0 line) effect t (changes_keep s d.0 line is.held sound none d.1) (still_before s d.0 line is goes d.1) d.2 (changes_scoped s d.0 line is.held d.1 scoped)
+does_scoped : (s : SessionState) (request : Request) (effect : Effect) (t : SessionState) → IsState s → Admits s request → (WaitsFor s request → ⊥) → Does s request effect t → IsInScopes s → IsInScopes t
+does_scoped s request effect t is can goes d scoped =
+    follows_scoped d.0 (next d.0 request) effect t (changes_keep s d.0 request is.held can d.1) (still_before s d.0 request is goes d.1) d.2 (changes_scoped s d.0 request is.held d.1 scoped)
 
-accepts_scoped : (s : SessionState) (line : Line) (reply : List ℕ) (t : SessionState) → IsState s → IsSound line → IsNone (Meets s line) in_order → Accepts s line reply t → IsInScopes s → IsInScopes t
-accepts_scoped s line reply t is sound none (waits w) scoped = scoped
-accepts_scoped s line reply t is sound none (contradicts effect goes does c) scoped = does_scoped s line effect t is sound none goes does scoped
-accepts_scoped s line reply t is sound none (says effect goes does n r) scoped = does_scoped s line effect t is sound none goes does scoped
+accepts_scoped : (s : SessionState) (request : Request) (reply : List ℕ) (t : SessionState) → IsState s → Admits s request → Accepts s request reply t → IsInScopes s → IsInScopes t
+accepts_scoped s request reply t is can (waits w) scoped = scoped
+accepts_scoped s request reply t is can (contradicts effect goes does c) scoped = does_scoped s request effect t is can goes does scoped
+accepts_scoped s request reply t is can (says effect goes does n r) scoped = does_scoped s request effect t is can goes does scoped
 
 pub answers_scoped : (s : SessionState) (bytes reply : List ℕ) (t : SessionState) → IsState s → Answers s bytes reply t → IsInScopes s → IsInScopes t
 answers_scoped s bytes reply t is (misread error refusal q some) scoped = scoped
 answers_scoped s bytes reply t is (refused line refusal read first) scoped = scoped
-answers_scoped s bytes reply t is (accepted line read none a) scoped = accepts_scoped s line reply t is (read_sound bytes line read) none a scoped
+answers_scoped s bytes reply t is (accepted line request read a h) scoped = accepts_scoped s request reply t is (read_admits s is.held bytes line request read a) h scoped
 
 -- ---- sessions
 

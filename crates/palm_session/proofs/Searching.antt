@@ -8,14 +8,14 @@ use Rattle.palm_model.specs.Log.{Active, IsActive, Named, cons_of, log_pairs}
 use Rattle.palm_model.specs.State.{EngineState, is_user, present}
 use Rattle.palm_model.specs.Trial.{listed, value_count}
 use Rattle.palm_model.proofs.cited.Without.{length_without}
-use Rattle.palm_book.specs.Book.{Entry, initial_of, active_of}
+use Rattle.palm_book.specs.Book.{BookVar, initial_of, active_of}
 use Rattle.palm_events.specs.Along.{IsStill}
 use Rattle.palm_events.proofs.cited.Reasons.{reasons_right}
 use Rattle.palm_search.specs.Measure.{most_turns}
 use Rattle.palm_search.specs.Kept.{HasOnlyUsers, Rests as RestsAfter}
-use Rattle.palm_search.specs.declared.ending.SearchEnd.{SearchEnd as RunEnd}
+use Rattle.palm_search.specs.declared.ending.SearchEnd.{SearchEnd}
 use Rattle.palm_search.specs.Search.{Searches as SearchesWhole, EndsWith, IsFound, HasNoSolution}
-use Rattle.palm_search.specs.declared.ending.SearchEnd.TheVariants.{Found as RunFound, NoSolution as RunNoSolution, Spent as RunSpent}
+use Rattle.palm_search.specs.declared.ending.SearchEnd.TheVariants.{Found, NoSolution, Spent}
 use Rattle.palm_search.specs.Turns.{FitsGuide, SearchState}
 use Rattle.palm_search.specs.declared.turn.Pick.{Pick}
 use Rattle.palm_search.specs.declared.turn.Pick.TheVariants.{NoGuide, Nothing as NothingPicked}
@@ -24,12 +24,15 @@ use Rattle.palm_search.proofs.cited.Leaving.{Ended, run_ended, run_found, run_un
 use Rattle.palm_search.proofs.cited.Measuring.{run_spent}
 use Rattle.palm_search.proofs.cited.Whole.{search_exists, search_same}
 use Rattle.palm_repair.specs.Repair.{Repairs}
-use Rattle.palm_repair.specs.Sets.{most_turns as most_repair_turns}
+use Rattle.palm_repair.specs.Sets.{most_repair_turns}
 use Rattle.palm_repair.proofs.cited.Alone.{repair_same}
 use Rattle.palm_repair.proofs.cited.Counting.{repair_run_spent}
 use Rattle.palm_repair.proofs.cited.Ending.{repair_ended, repair_leaves, repair_rests}
 use Rattle.palm_repair.proofs.cited.Existing.{repair_exists}
-use Rattle.palm_session.specs.Effects.{SearchEnd, Found, NoSolution, Spent, told_end, Procedure, ByDbt, ByRepair, search_line, budget_of, HasTabu, SearchesByDbt, SearchesByRepair, SearchesIn, with_search}
+use Rattle.palm_session.specs.declared.request.Procedure.{Procedure}
+use Rattle.palm_session.specs.declared.request.Procedure.TheVariants.{Dbt, Repair}
+use Rattle.palm_session.specs.Requests.{HasTabu, budget_of}
+use Rattle.palm_session.specs.Effects.{SearchesByDbt, SearchesByRepair, SearchesIn, with_search}
 use Rattle.palm_session.specs.Told.{MaySpend}
 use Rattle.palm_session.specs.State.{SessionState, IsHeld, IsState}
 use Rattle.palm_session.proofs.ActiveLists.{active_member}
@@ -55,68 +58,65 @@ pick_fits false = tt
 pub record HasSearchIn (s : SessionState) (by : Procedure) : Type 0 where
   pub turns : List Turn
   pub end : SearchEnd
+  pub dropped : Option ℕ
   pub engine : EngineState
-  pub searches : SearchesIn s by turns end engine
+  pub searches : SearchesIn s by turns end dropped engine
 
-pub search_in : (s : SessionState) → IsHeld s → (by : Procedure) → HasTabu (search_line by) → HasSearchIn s by
-search_in s is (ByDbt budget) some =
+pub search_in : (s : SessionState) → IsHeld s → (by : Procedure) → HasTabu by → HasSearchIn s by
+search_in s is (Dbt budget) some =
     let guided = is_some s.guide in
     let p = search_exists reasons_right guided (is_some s.order) (λ k. pick_of guided) (λ k. pick_fits guided) budget s.engine is.valid (held_users s is) in
-    let searches : SearchesByDbt s budget p.turns (told_end None p.end) p.state = record { ended = p.end; searches = p.searches; told = refl } in
-    record { turns = p.turns; end = told_end None p.end; engine = p.state; searches = searches }
-search_in s is (ByRepair tabu budget) some =
+    let searches : SearchesByDbt s budget p.turns p.end None p.state = record { searches = p.searches; told = refl } in
+    record { turns = p.turns; end = p.end; dropped = None; engine = p.state; searches = searches }
+search_in s is (Repair tabu budget) some =
     let guided = is_some s.guide in
     let p = repair_exists reasons_right guided (is_some s.order) tabu (λ k. pick_of guided) (λ k. pick_fits guided) budget s.engine some is.valid (held_users s is) in
-    let searches : SearchesByRepair s tabu budget p.turns (told_end (Some p.dropped) p.end) p.state =
-    record { ended = p.end; dropped = p.dropped; repairs = p.repairs; told = refl } in
-    record { turns = p.turns; end = told_end (Some p.dropped) p.end; engine = p.state; searches = searches }
+    let searches : SearchesByRepair s tabu budget p.turns p.end (Some p.dropped) p.state = record { count = p.dropped; repairs = p.repairs; told = refl } in
+    record { turns = p.turns; end = p.end; dropped = Some p.dropped; engine = p.state; searches = searches }
 
 -- ---- without a guide and an order there is no other one
 
 -- two searches of the session are one
-pub record IsSameIn (turns others : List Turn) (end other : SearchEnd) (e f : EngineState) : Type 0 where
+pub record IsSameIn (turns others : List Turn) (end other : SearchEnd) (dropped lost : Option ℕ) (e f : EngineState) : Type 0 where
   pub turns_same : turns ≡ others
   pub end_same : end ≡ other
+  pub dropped_same : dropped ≡ lost
   pub engine_same : e ≡ f
 
 plain : (s : SessionState) (Runs : Bool → Bool → Type 0) → s.guide ≡ None → s.order ≡ None → Runs (is_some s.guide) (is_some s.order) → Runs false false
 plain s Runs unguided free runs =
     subst (λ (o : Option ℕ). Runs false (is_some o)) free (subst (λ (o : Option ℕ). Runs (is_some o) (is_some s.order)) unguided runs)
 
-pub search_once : (s : SessionState) (by : Procedure) (turns others : List Turn) (end other : SearchEnd) (e f : EngineState) → IsHeld s → s.guide ≡ None → s.order ≡ None
-    → SearchesIn s by turns end e → SearchesIn s by others other f → IsSameIn turns others end other e f
-search_once s (ByDbt budget) turns others end other e f is unguided free x y =
-    let same = search_same reasons_right budget s.engine turns x.ended e others y.ended f is.valid (held_users s is)
-    (plain s (λ g o. SearchesWhole g o budget s.engine turns x.ended e) unguided free x.searches)
-    (plain s (λ g o. SearchesWhole g o budget s.engine others y.ended f) unguided free y.searches) in
-    record { turns_same = same.turns_same; end_same = x.told ∙ ap (told_end None) same.end_same ∙ sym y.told; engine_same = same.state_same }
-search_once s (ByRepair tabu budget) turns others end other e f is unguided free x y =
-    let same = repair_same reasons_right tabu budget s.engine turns x.ended x.dropped e others y.ended y.dropped f is.valid (held_users s is)
-    (plain s (λ g o. Repairs g o tabu budget s.engine turns x.ended x.dropped e) unguided free x.repairs)
-    (plain s (λ g o. Repairs g o tabu budget s.engine others y.ended y.dropped f) unguided free y.repairs) in
-    record {
-      turns_same = same.turns_same;
-      end_same = x.told ∙ ap (λ (n : ℕ). told_end (Some n) x.ended) same.dropped_same ∙ ap (told_end (Some y.dropped)) same.end_same ∙ sym y.told;
-      engine_same = same.state_same;
-    }
+pub search_once : (s : SessionState) (by : Procedure) (turns others : List Turn) (end other : SearchEnd) (dropped lost : Option ℕ) (e f : EngineState) → IsHeld s → s.guide ≡ None → s.order ≡ None
+    → SearchesIn s by turns end dropped e → SearchesIn s by others other lost f → IsSameIn turns others end other dropped lost e f
+search_once s (Dbt budget) turns others end other dropped lost e f is unguided free x y =
+    let same = search_same reasons_right budget s.engine turns end e others other f is.valid (held_users s is)
+    (plain s (λ g o. SearchesWhole g o budget s.engine turns end e) unguided free x.searches)
+    (plain s (λ g o. SearchesWhole g o budget s.engine others other f) unguided free y.searches) in
+    record { turns_same = same.turns_same; end_same = same.end_same; dropped_same = x.told ∙ sym y.told; engine_same = same.state_same }
+search_once s (Repair tabu budget) turns others end other dropped lost e f is unguided free x y =
+    let same = repair_same reasons_right tabu budget s.engine turns end x.count e others other y.count f is.valid (held_users s is)
+    (plain s (λ g o. Repairs g o tabu budget s.engine turns end x.count e) unguided free x.repairs)
+    (plain s (λ g o. Repairs g o tabu budget s.engine others other y.count f) unguided free y.repairs) in
+    record { turns_same = same.turns_same; end_same = same.end_same; dropped_same = x.told ∙ ap Some same.dropped_same ∙ sym y.told; engine_same = same.state_same }
 
 -- ---- what it leaves
 
-pub search_leaves_still : (s : SessionState) (by : Procedure) (turns : List Turn) (end : SearchEnd) (e : EngineState) → IsHeld s → SearchesIn s by turns end e → RestsAfter s.engine e
-search_leaves_still s (ByDbt budget) turns end e is search =
-    search_rests reasons_right (is_some s.guide) (is_some s.order) budget s.engine turns search.ended e (held_users s is) is.valid search.searches
-search_leaves_still s (ByRepair tabu budget) turns end e is search =
-    repair_rests reasons_right (is_some s.guide) (is_some s.order) tabu budget s.engine turns search.ended search.dropped e (held_users s is) is.valid search.repairs
+pub search_leaves_still : (s : SessionState) (by : Procedure) (turns : List Turn) (end : SearchEnd) (dropped : Option ℕ) (e : EngineState) → IsHeld s → SearchesIn s by turns end dropped e → RestsAfter s.engine e
+search_leaves_still s (Dbt budget) turns end dropped e is search =
+    search_rests reasons_right (is_some s.guide) (is_some s.order) budget s.engine turns end e (held_users s is) is.valid search.searches
+search_leaves_still s (Repair tabu budget) turns end dropped e is search =
+    repair_rests reasons_right (is_some s.guide) (is_some s.order) tabu budget s.engine turns end search.count e (held_users s is) is.valid search.repairs
 
-pub search_log : (s : SessionState) (by : Procedure) (turns : List Turn) (end : SearchEnd) (e : EngineState) → IsHeld s → SearchesIn s by turns end e → IsStill s.engine → e.log ≡ s.engine.log
-search_log s (ByDbt budget) turns end e is search still =
-    search_leaves reasons_right (is_some s.guide) (is_some s.order) budget s.engine turns search.ended e (held_users s is) is.valid still search.searches
-search_log s (ByRepair tabu budget) turns end e is search still =
-    repair_leaves reasons_right (is_some s.guide) (is_some s.order) tabu budget s.engine turns search.ended search.dropped e (held_users s is) is.valid still search.repairs
+pub search_log : (s : SessionState) (by : Procedure) (turns : List Turn) (end : SearchEnd) (dropped : Option ℕ) (e : EngineState) → IsHeld s → SearchesIn s by turns end dropped e → IsStill s.engine → e.log ≡ s.engine.log
+search_log s (Dbt budget) turns end dropped e is search still =
+    search_leaves reasons_right (is_some s.guide) (is_some s.order) budget s.engine turns end e (held_users s is) is.valid still search.searches
+search_log s (Repair tabu budget) turns end dropped e is search still =
+    repair_leaves reasons_right (is_some s.guide) (is_some s.order) tabu budget s.engine turns end search.count e (held_users s is) is.valid still search.repairs
 
-pub searched_state : (s : SessionState) (by : Procedure) (turns : List Turn) (end : SearchEnd) (e : EngineState) → IsHeld s → SearchesIn s by turns end e → IsState (with_search s turns e)
-searched_state s by turns end e is search =
-    let rests = search_leaves_still s by turns end e is search in
+pub searched_state : (s : SessionState) (by : Procedure) (turns : List Turn) (end : SearchEnd) (dropped : Option ℕ) (e : EngineState) → IsHeld s → SearchesIn s by turns end dropped e → IsState (with_search s turns e)
+searched_state s by turns end dropped e is search =
+    let rests = search_leaves_still s by turns end dropped e is search in
     record {
       held = record {
         book = is.book;
@@ -133,68 +133,40 @@ searched_state s by turns end e is search =
 
 -- ---- what its end says
 
--- a run from what the session holds, whose end is told so
+-- a run from what the session holds, which ended so
 pub record HasEnd (s : SessionState) (end : SearchEnd) : Type 0 where
   pub budget : ℕ
   pub count : ℕ
-  pub ended : RunEnd
-  pub dropped : Option ℕ
   pub last : SearchState
   pub reached : Ended s.engine last
-  pub ends : EndsWith budget count last.engine ended
-  pub told : end ≡ told_end dropped ended
+  pub ends : EndsWith budget count last.engine end
 
-pub has_end : (s : SessionState) (by : Procedure) (turns : List Turn) (end : SearchEnd) (e : EngineState) → IsHeld s → SearchesIn s by turns end e → HasEnd s end
-has_end s (ByDbt budget) turns end e is search =
+pub has_end : (s : SessionState) (by : Procedure) (turns : List Turn) (end : SearchEnd) (dropped : Option ℕ) (e : EngineState) → IsHeld s → SearchesIn s by turns end dropped e → HasEnd s end
+has_end s (Dbt budget) turns end dropped e is search =
     let run = search.searches.run in
     record {
       budget = budget;
       count = length turns;
-      ended = search.ended;
-      dropped = None;
       last = search.searches.last;
-      reached = run_ended reasons_right (is_some s.guide) (is_some s.order) budget s.engine turns search.ended search.searches.last (held_users s is) is.valid run;
+      reached = run_ended reasons_right (is_some s.guide) (is_some s.order) budget s.engine turns end search.searches.last (held_users s is) is.valid run;
       ends = run.ends;
-      told = search.told;
     }
-has_end s (ByRepair tabu budget) turns end e is search =
+has_end s (Repair tabu budget) turns end dropped e is search =
     let run = search.repairs.run in
     record {
       budget = budget;
       count = length turns;
-      ended = search.ended;
-      dropped = Some search.dropped;
       last = search.repairs.last.search;
-      reached = repair_ended reasons_right (is_some s.guide) (is_some s.order) tabu budget s.engine turns search.ended search.dropped search.repairs.last (held_users s is) is.valid run;
+      reached = repair_ended reasons_right (is_some s.guide) (is_some s.order) tabu budget s.engine turns end search.count search.repairs.last (held_users s is) is.valid run;
       ends = run.ends;
-      told = search.told;
     }
-
-told_found : (dropped : Option ℕ) (ended : RunEnd) (values : List ℤ) → Found values ≡ told_end dropped ended → ended ≡ RunFound values
-told_found dropped (RunFound others) values e = let f : Found values ≡ Found others = e in let same : others ≡ values = cc in ap RunFound same
-told_found dropped (RunNoSolution users) values e = let f : Found values ≡ NoSolution users = e in cc
-told_found dropped (RunSpent turns) values e = let f : Found values ≡ Spent turns dropped = e in cc
-
-told_none : (dropped : Option ℕ) (ended : RunEnd) (names : List Cid) → NoSolution names ≡ told_end dropped ended → ended ≡ RunNoSolution names
-told_none dropped (RunFound values) names e = let f : NoSolution names ≡ Found values = e in cc
-told_none dropped (RunNoSolution users) names e = let f : NoSolution names ≡ NoSolution users = e in let same : users ≡ names = cc in ap RunNoSolution same
-told_none dropped (RunSpent turns) names e = let f : NoSolution names ≡ Spent turns dropped = e in cc
-
-told_spent : (lost : Option ℕ) (ended : RunEnd) (count : ℕ) (dropped : Option ℕ) → Spent count dropped ≡ told_end lost ended → (ended ≡ RunSpent count) × (lost ≡ dropped)
-told_spent lost (RunFound values) count dropped e = let f : Spent count dropped ≡ Found values = e in cc
-told_spent lost (RunNoSolution users) count dropped e = let f : Spent count dropped ≡ NoSolution users = e in cc
-told_spent lost (RunSpent turns) count dropped e =
-    let f : Spent count dropped ≡ Spent turns lost = e in
-    let same : turns ≡ count = cc in
-    let also : lost ≡ dropped = cc in
-    (ap RunSpent same, also)
 
 module _ (s : SessionState) (is : IsHeld s) where
   found_at : (values : List ℤ) (h : HasEnd s (Found values)) → IsFound (present h.last.engine) values
-  found_at values h = subst (λ (r : RunEnd). EndsWith h.budget h.count h.last.engine r) (told_found h.dropped h.ended values h.told) h.ends
+  found_at values h = h.ends
 
-  none_at : (names : List Cid) (h : HasEnd s (NoSolution names)) → HasNoSolution h.last.engine names
-  none_at names h = subst (λ (r : RunEnd). EndsWith h.budget h.count h.last.engine r) (told_none h.dropped h.ended names h.told) h.ends
+  none_at : (users : List Cid) (h : HasEnd s (NoSolution users)) → HasNoSolution h.last.engine users
+  none_at users h = h.ends
 
   pub found_solves : (values : List ℤ) → HasEnd s (Found values) → IsSolution (initial_of s.book) (Contains (cons_of (active_of s.book))) (listed values)
   found_solves values h =
@@ -207,29 +179,29 @@ module _ (s : SessionState) (is : IsHeld s) where
   found_length values h =
       let last = h.last.engine in
       sym (length-map values (λ (v : ℤ). v ∷ [])) ∙ ap (λ (d : Domains). length d) (sym (found_at values h)) ∙ length_without last.initial (log_pairs last.log)
-      ∙ ap (λ (d : Domains). length d) (h.reached.remembers.initial ∙ is.initial) ∙ length-map s.book.variables (λ (f : Entry). f.values)
+      ∙ ap (λ (d : Domains). length d) (h.reached.remembers.initial ∙ is.initial) ∙ length-map s.book.variables (λ (f : BookVar). f.values)
 
-  pub none_active : (names : List Cid) → HasEnd s (NoSolution names) → (c : Cid) → Contains names c → IsActive (active_of s.book) c
-  none_active names h c m = subst (λ (l : List Active). IsActive l c) is.active (run_users s.engine h.last names h.reached (none_at names h) c m)
+  pub none_active : (users : List Cid) → HasEnd s (NoSolution users) → (c : Cid) → Contains users c → IsActive (active_of s.book) c
+  none_active users h c m = subst (λ (l : List Active). IsActive l c) is.active (run_users s.engine h.last users h.reached (none_at users h) c m)
 
-  pub none_unsolved : (names : List Cid) → HasEnd s (NoSolution names) → (a : Assignment) → IsSolution (initial_of s.book) (Named (active_of s.book) (Contains names)) a → ⊥
-  none_unsolved names h a solution =
-      run_unsolved s.engine h.last names h.reached (none_at names h) a
-      (subst (λ (d : Domains). IsSolution d (Named s.engine.active (Contains names)) a) (sym is.initial)
-      (subst (λ (l : List Active). IsSolution (initial_of s.book) (Named l (Contains names)) a) (sym is.active) solution))
+  pub none_unsolved : (users : List Cid) → HasEnd s (NoSolution users) → (a : Assignment) → IsSolution (initial_of s.book) (Named (active_of s.book) (Contains users)) a → ⊥
+  none_unsolved users h a solution =
+      run_unsolved s.engine h.last users h.reached (none_at users h) a
+      (subst (λ (d : Domains). IsSolution d (Named s.engine.active (Contains users)) a) (sym is.initial)
+      (subst (λ (l : List Active). IsSolution (initial_of s.book) (Named l (Contains users)) a) (sym is.active) solution))
 
-  dbt_spent : (budget : ℕ) (turns : List Turn) (e : EngineState) (count : ℕ) → SearchesWhole (is_some s.guide) (is_some s.order) budget s.engine turns (RunSpent count) e
+  dbt_spent : (budget : ℕ) (turns : List Turn) (e : EngineState) (count : ℕ) → SearchesWhole (is_some s.guide) (is_some s.order) budget s.engine turns (Spent count) e
       → (count ≡ budget) × (budget < most_turns (length s.book.variables) (value_count (initial_of s.book)))
   dbt_spent budget turns e count searches =
       let small = run_spent reasons_right (is_some s.guide) (is_some s.order) budget count s.engine turns searches.last is.valid (held_users s is) searches.run in
-      let long : length s.engine.initial ≡ length s.book.variables = ap (λ (d : Domains). length d) is.initial ∙ length-map s.book.variables (λ (f : Entry). f.values) in
+      let long : length s.engine.initial ≡ length s.book.variables = ap (λ (d : Domains). length d) is.initial ∙ length-map s.book.variables (λ (f : BookVar). f.values) in
       let few : budget < most_turns (length s.engine.initial) (value_count s.engine.initial) = subst (λ (n : ℕ). n < most_turns (length s.engine.initial) (value_count s.engine.initial)) small.0 small.1 in (
         small.0,
         subst (λ (n : ℕ). budget < most_turns n (value_count (initial_of s.book))) long
             (subst (λ (d : Domains). budget < most_turns (length s.engine.initial) (value_count d)) is.initial few),
       )
 
-  repair_spent : (tabu budget : ℕ) (turns : List Turn) (dropped : ℕ) (e : EngineState) (count : ℕ) → Repairs (is_some s.guide) (is_some s.order) tabu budget s.engine turns (RunSpent count) dropped e
+  repair_spent : (tabu budget : ℕ) (turns : List Turn) (dropped : ℕ) (e : EngineState) (count : ℕ) → Repairs (is_some s.guide) (is_some s.order) tabu budget s.engine turns (Spent count) dropped e
       → (count ≡ budget) × ((0 < dropped) ⊎ (budget < most_repair_turns (initial_of s.book)))
   repair_spent tabu budget turns dropped e count repairs =
       let small = repair_run_spent reasons_right (is_some s.guide) (is_some s.order) tabu budget count s.engine turns dropped repairs.last is.valid (held_users s is) repairs.run in (
@@ -238,14 +210,11 @@ module _ (s : SessionState) (is : IsHeld s) where
             (subst (λ (n : ℕ). (0 < dropped) ⊎ (n < most_repair_turns s.engine.initial)) small.0 small.1),
       )
 
-  pub spent_small : (by : Procedure) (turns : List Turn) (e : EngineState) (count : ℕ) (dropped : Option ℕ) → SearchesIn s by turns (Spent count dropped) e
+  pub spent_small : (by : Procedure) (turns : List Turn) (e : EngineState) (count : ℕ) (dropped : Option ℕ) → SearchesIn s by turns (Spent count) dropped e
       → (count ≡ budget_of by) × MaySpend s.book by dropped
-  spent_small (ByDbt budget) turns e count dropped search =
-      let told = told_spent None search.ended count dropped search.told in
-      let small = dbt_spent budget turns e count (subst (λ (r : RunEnd). SearchesWhole (is_some s.guide) (is_some s.order) budget s.engine turns r e) told.0 search.searches) in
-      (small.0, subst (λ (d : Option ℕ). MaySpend s.book (ByDbt budget) d) told.1 small.1)
-  spent_small (ByRepair tabu budget) turns e count dropped search =
-      let told = told_spent (Some search.dropped) search.ended count dropped search.told in
-      let small = repair_spent tabu budget turns search.dropped e count
-      (subst (λ (r : RunEnd). Repairs (is_some s.guide) (is_some s.order) tabu budget s.engine turns r search.dropped e) told.0 search.repairs) in
-      (small.0, subst (λ (d : Option ℕ). MaySpend s.book (ByRepair tabu budget) d) told.1 small.1)
+  spent_small (Dbt budget) turns e count dropped search =
+      let small = dbt_spent budget turns e count search.searches in
+      (small.0, subst (λ (d : Option ℕ). MaySpend s.book (Dbt budget) d) (sym search.told) small.1)
+  spent_small (Repair tabu budget) turns e count dropped search =
+      let small = repair_spent tabu budget turns search.count e count search.repairs in
+      (small.0, subst (λ (d : Option ℕ). MaySpend s.book (Repair tabu budget) d) (sym search.told) small.1)

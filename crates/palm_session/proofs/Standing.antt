@@ -13,7 +13,7 @@ use Rattle.palm_book.specs.Book.{user_at}
 use Rattle.palm_book.specs.declared.book.BookCon.{BookCon}
 use Rattle.palm_book.proofs.cited.Any.{any_member, member_any}
 use Rattle.palm_session.specs.Refusals.{HasActive}
-use Rattle.palm_session.specs.Serving.{StandsAt}
+use Rattle.palm_session.specs.Requests.{StandsAt}
 use Rattle.palm_session.specs.State.{SessionState, HasConstraint, IsHeld}
 use Rattle.palm_session.proofs.ActiveLists.{active_member, member_active, user_same, relaxed_inactive}
 

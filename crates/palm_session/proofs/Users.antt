@@ -3,21 +3,21 @@ use Rattle.std.proofs.Common.{◌≡◌, ◌<◌, ℕ, List, [], ◌∷◌, ◌+
 use Rattle.std.proofs.lemmas.List.{length-map}
 use Rattle.palm_base.specs.declared.terms.Pair.{Pair}
 use Rattle.palm_base.specs.declared.terms.Cid.{Cid}
-use Rattle.palm_base.specs.declared.terms.Cid.TheVariants.{Decide, Not, User}
+use Rattle.palm_base.specs.declared.terms.Cid.TheVariants.{User}
 use Rattle.palm_base.proofs.cited.Members.{member_nil, member_cases, member_unmap, all_members}
 use Rattle.palm_model.specs.Domains.{Domains, Has}
 use Rattle.palm_model.specs.Log.{Active, IsActive, Removal, NamesOfPair, IsListOf, AreRight}
 use Rattle.palm_model.specs.Log.Names.{by_itself}
 use Rattle.palm_model.proofs.cited.Narrowing.{has_declared}
-use Rattle.palm_book.specs.Book.{Contents, Entry, IsUser, active_of}
+use Rattle.palm_book.specs.Book.{Contents, BookVar, IsUser, active_of}
 use Rattle.palm_book.specs.declared.book.BookCon.{BookCon}
 use Rattle.palm_book.proofs.cited.Any.{any_member}
-use Rattle.palm_events.proofs.cited.Conflicts.{names_active}
+use Rattle.palm_events.proofs.cited.Conflicts.{cids_active}
 use Rattle.palm_events.proofs.cited.Logs.{logged}
 use Rattle.palm_events.proofs.cited.Undone.{reasons_logged}
 use Rattle.palm_session.specs.State.{SessionState, IsHeld}
 use Rattle.palm_session.specs.Answers.{HasConflict}
-use Rattle.palm_session.specs.Logged.{IsLogged, AreLogged, IsNumbered}
+use Rattle.palm_session.specs.Logged.{IsLogged, AreLogged}
 use Rattle.palm_session.proofs.ActiveLists.{active_member}
 use Rattle.palm_session.proofs.LawsOfDomains.{explanation_active, conflict_names_active}
 use Rattle.palm_laws.proofs.cited.Reducing.{left_within}
@@ -35,11 +35,6 @@ explanation_users s is p names list = all_members (IsUser s.book) names (λ c m.
 pub conflict_users : (s : SessionState) → IsHeld s → (names : List Cid) → HasConflict s names → All (IsUser s.book) names
 conflict_users s is names conflict = all_members (IsUser s.book) names (λ c m. active_user s.book c (conflict_names_active s is names conflict c m))
 
-pub user_numbered : (book : Contents) (c : Cid) → IsUser book c → IsNumbered c
-user_numbered book (Decide x) user = user
-user_numbered book (Not p) user = user
-user_numbered book (User n) user = tt
-
 -- ---- what the log holds is in the book
 
 pub declared_from : (initial : Domains) (active : List Active) (earlier rest : List Removal) → AreRight initial active earlier rest → (r : Removal) → Contains rest r → Has initial r.pair.var r.pair.value
@@ -52,12 +47,12 @@ declared_from initial active earlier (s ∷ rest) right r m = elim (member_cases
 logged_declared : (s : SessionState) → IsHeld s → (r : Removal) → Contains s.engine.log r → r.pair.var < length s.book.variables
 logged_declared s is r m =
     let lt : r.pair.var < length s.engine.initial = has_declared s.engine.initial r.pair.var r.pair.value (declared_from s.engine.initial s.engine.active [] s.engine.log is.valid.founded r m) in
-    subst (λ (n : ℕ). r.pair.var < n) (ap (λ (d : Domains). length d) is.initial ∙ length-map s.book.variables (λ (e : Entry). e.values)) lt
+    subst (λ (n : ℕ). r.pair.var < n) (ap (λ (d : Domains). length d) is.initial ∙ length-map s.book.variables (λ (e : BookVar). e.values)) lt
 
 is_logged : (s : SessionState) → IsHeld s → (r : Removal) → Contains s.engine.log r → IsLogged s.book r
 is_logged s is r m = record {
   variable = logged_declared s is r m;
-  user = active_user s.book r.by (subst (λ (l : List Active). IsActive l r.by) is.active (names_active s.engine.initial s.engine.active s.engine.log r.by is.valid.founded r m (by_itself r refl)));
+  user = active_user s.book r.by (subst (λ (l : List Active). IsActive l r.by) is.active (cids_active s.engine.initial s.engine.active s.engine.log r.by is.valid.founded r m (by_itself r refl)));
   reasons = all_members (λ (p : Pair). p.var < length s.book.variables) r.reasons (λ p k.
       let q = logged s.engine.log p (reasons_logged s.engine.initial s.engine.active s.engine.log is.valid.founded r m p k) in
       subst (λ (z : Pair). z.var < length s.book.variables) q.2 (logged_declared s is q.0 q.1));

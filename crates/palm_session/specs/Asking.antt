@@ -1,42 +1,44 @@
 -- How often support may be asked for while lines are answered.
-use Rattle.std.specs.Prelude.{◌≡◌, ℕ, ◌≤◌, ◌+◌, List, [], ◌∷◌, ◌++◌, Option}
+use Rattle.std.specs.Prelude.{◌≡◌, ℕ, ◌≤◌, ◌+◌, false, List, [], ◌∷◌, ◌++◌, Option}
 use Rattle.palm_model.specs.Log.{Removal, log_pairs}
-use Rattle.palm_engine.specs.Work.{most_questions}
+use Rattle.palm_engine.specs.Work.{most_asked}
 use Rattle.palm_read.specs.Reading.{IsRead}
 use Rattle.palm_read.specs.declared.line.Line.{Line}
 use Rattle.palm_session.specs.State.{SessionState}
-use Rattle.palm_session.specs.Refusals.{Meets, IsNone, in_order}
-use Rattle.palm_session.specs.Effects.{Changes, Filters, Procedure, Searches, next}
+use Rattle.palm_session.specs.declared.request.Procedure.{Procedure}
+use Rattle.palm_session.specs.declared.request.Request.{Request}
+use Rattle.palm_session.specs.declared.request.Request.TheVariants.{Solve}
+use Rattle.palm_session.specs.Requests.{IsAdmitted}
+use Rattle.palm_session.specs.Effects.{Changes, Filters, next}
 use Rattle.palm_session.specs.Answers.{Answers}
 
--- the line was accepted and filtering followed it, which took out what the log gained
+-- the line was admitted and filtering followed what it asks for, which took out what the log gained
 pub record HasSettling (s : SessionState) (bytes : List ℕ) (t : SessionState) : Type 0 where
   pub line : Line
+  pub request : Request
   pub changed : SessionState
   pub limit : Option ℕ
   pub gained : List Removal
   pub read : IsRead bytes line
-  pub accepted : IsNone (Meets s line) in_order
-  pub changes : Changes s line changed
-  pub filters : next changed line ≡ Filters limit
+  pub admitted : IsAdmitted s line request
+  pub changes : Changes s request changed
+  pub filters : next changed request ≡ Filters limit
   pub log : t.engine.log ≡ changed.engine.log ++ gained
 
--- the line was accepted, and a search followed it
+-- the line was admitted, and asks for a search while filtering does not wait
 pub record HasSearch (s : SessionState) (bytes : List ℕ) : Type 0 where
   pub line : Line
-  pub changed : SessionState
   pub by : Procedure
   pub read : IsRead bytes line
-  pub accepted : IsNone (Meets s line) in_order
-  pub changes : Changes s line changed
-  pub searches : next changed line ≡ Searches by
+  pub admitted : IsAdmitted s line (Solve by)
+  pub awake : s.paused ≡ false
 
 -- answering the line asks for support so often: not at all, or where filtering follows the line, no more than this settling
 -- may ask; of a search nothing is said
 pub data Asks (s : SessionState) (bytes : List ℕ) (t : SessionState) (count : ℕ) : Type 0 where
   asks_none : count ≡ 0 → Asks s bytes t count
   asks_search : HasSearch s bytes → Asks s bytes t count
-  asks_settling : (settling : HasSettling s bytes t) → count ≤ most_questions settling.changed.engine (log_pairs settling.gained) → Asks s bytes t count
+  asks_settling : (settling : HasSettling s bytes t) → count ≤ most_asked settling.changed.engine (log_pairs settling.gained) → Asks s bytes t count
 
 -- from s the lines are answered one after another, with these replies in all, t is held in the end, and support was asked
 -- for so often

@@ -1,11 +1,12 @@
 -- What feeding bytes to a session does.
 use Rattle.std.specs.Prelude.{◌≡◌, ℕ, Bool, true, false, List, [], ◌∷◌, ◌++◌, ◌⊎◌, All, map, flat_map, ◌≤◌, ◌+◌, min, take, drop, length, Option, Result, Ok, Err}
-use Rattle.palm_base.specs.Streams.{Appended, AppendedFront}
+use Rattle.palm_base.specs.Streams.{Appended}
 use Rattle.palm_session.specs.Serving.{DeskView}
 use Rattle.palm_session.specs.State.{SessionState, IsState}
 use Rattle.palm_session.specs.Answers.{Answers}
 use Rattle.palm_base.specs.declared.limits.TheConstants.{LAST_COUNT}
 use Rattle.palm_lang.specs.Reply.{ended}
+use Rattle.palm_lang.specs.Writing.{AppendedUntil}
 use Rattle.palm_session.specs.Asking.{Asks, RunAsking}
 use Rattle.palm_read.specs.Lines.{HasNoFeed, without_return, last_line}
 use Rattle.palm_session.specs.Replies.{Run, Answered, GoesOn, Ends, KeepsOn}
@@ -50,16 +51,16 @@ pub record AnswersLine (before : SessionState) (line : List ℕ) (was now : Opti
   pub written : Appended was now reply
   pub decides : Decides going line
 
--- at a stop a front of the line's reply was written, and maybe nothing
-pub record AnswersFront (before : SessionState) (line : List ℕ) (was now : Option (List ℕ)) : Type 0 where
+-- the line's reply was written until the stop
+pub record AnswersFront (stop : Stop) (before : SessionState) (line : List ℕ) (was now : Option (List ℕ)) : Type 0 where
   pub reply : List ℕ
   pub after : SessionState
   pub answers : Answers before line reply after
-  pub written : AppendedFront was now reply
+  pub written : AppendedUntil stop was now reply
 
 abbrev pub AnswersTo : SessionState → List ℕ → Option (List ℕ) → Option (List ℕ) → SessionState → ℕ → Result Going Stop → Type 0
 AnswersTo before line was now after asked (Ok going) = AnswersLine before line was now going after asked
-AnswersTo before line was now after asked (Err stop) = AnswersFront before line was now
+AnswersTo before line was now after asked (Err stop) = AnswersFront stop before line was now
 
 -- the first lines of the text are these, a rest is left, and the lines are answered with these replies, while support is
 -- asked for so often
@@ -88,21 +89,21 @@ pub record FeedsEnd (before : SessionState) (text : List ℕ) (was now : Option 
   pub ends : Ends (without_return last)
   pub written : Appended was now replies
 
--- a front of the replies to the first lines was written
-pub record FeedsPart (before : SessionState) (text : List ℕ) (was now : Option (List ℕ)) : Type 0 where
+-- the replies to the first lines were written until the stop
+pub record FeedsPart (stop : Stop) (before : SessionState) (text : List ℕ) (was now : Option (List ℕ)) : Type 0 where
   pub lines : List (List ℕ)
   pub rest : List ℕ
   pub replies : List ℕ
   pub after : SessionState
   pub answered : Answered before text lines rest replies after
   pub keeps_on : KeepsOn (map without_return lines)
-  pub written : AppendedFront was now replies
+  pub written : AppendedUntil stop was now replies
 
 -- what answering the lines of a text answers: whether the session goes on, and where the rest of the text begins
 abbrev pub AnswersLines : SessionState → List ℕ → Option (List ℕ) → Option (List ℕ) → SessionState → ℕ → Result (Going × ℕ) Stop → Type 0
 AnswersLines before text was now after asked (Ok (More, used)) = (used ≤ length text) × FeedsOn before text was now (drop used text) after asked
 AnswersLines before text was now after asked (Ok (Quit, used)) = (used ≤ length text) × FeedsEnd before text was now after asked
-AnswersLines before text was now after asked (Err stop) = FeedsPart before text was now
+AnswersLines before text was now after asked (Err stop) = FeedsPart stop before text was now
 
 -- each line that the text completes was answered, and the first bytes of the rest are kept
 pub record KeepsRest (before : SessionState) (text : List ℕ) (was now : Option (List ℕ)) (unfinished : List ℕ) (after : SessionState) (asked : ℕ) : Type 0 where
@@ -114,14 +115,14 @@ pub record KeepsRest (before : SessionState) (text : List ℕ) (was now : Option
 abbrev pub FeedsText : SessionState → List ℕ → Option (List ℕ) → Option (List ℕ) → View → ℕ → Result Going Stop → Type 0
 FeedsText before text was now after asked (Ok More) = KeepsRest before text was now after.unfinished after.state asked
 FeedsText before text was now after asked (Ok Quit) = FeedsEnd before text was now after.state asked
-FeedsText before text was now after asked (Err stop) = FeedsPart before text was now
+FeedsText before text was now after asked (Err stop) = FeedsPart stop before text was now
 
 -- what feeding answers, while support is asked for so often
 abbrev pub Feeds : View → List ℕ → Option (List ℕ) → Option (List ℕ) → View → ℕ → Result Going Stop → Type 0
 Feeds before piece was now after asked (Ok More) =
     KeepsRest before.state (before.unfinished ++ piece) was now after.unfinished after.state asked × (after.over ≡ false)
 Feeds before piece was now after asked (Ok Quit) = FeedsEnd before.state (before.unfinished ++ piece) was now after.state asked × (after.over ≡ true)
-Feeds before piece was now after asked (Err stop) = FeedsPart before.state (before.unfinished ++ piece) was now × (after.over ≡ true)
+Feeds before piece was now after asked (Err stop) = FeedsPart stop before.state (before.unfinished ++ piece) was now × (after.over ≡ true)
 
 -- a last line without its line feed was answered, if it has a byte
 pub record FinishesAll (before : SessionState) (line : List ℕ) (was now : Option (List ℕ)) (after : SessionState) (asked : ℕ) : Type 0 where
@@ -130,17 +131,17 @@ pub record FinishesAll (before : SessionState) (line : List ℕ) (was now : Opti
   pub last : All GoesOn (last_line line) ⊎ All Ends (last_line line)
   pub written : Appended was now replies
 
--- a front of the reply to it was written
-pub record FinishesPart (before : SessionState) (line : List ℕ) (was now : Option (List ℕ)) : Type 0 where
+-- the reply to it was written until the stop
+pub record FinishesPart (stop : Stop) (before : SessionState) (line : List ℕ) (was now : Option (List ℕ)) : Type 0 where
   pub replies : List ℕ
   pub after : SessionState
   pub run : Run before (last_line line) replies after
-  pub written : AppendedFront was now replies
+  pub written : AppendedUntil stop was now replies
 
 -- what answering a last line answers
 abbrev pub FinishesTo : {T : Type 0} → SessionState → List ℕ → Option (List ℕ) → Option (List ℕ) → SessionState → ℕ → Result T Stop → Type 0
 FinishesTo before line was now after asked (Ok _) = FinishesAll before line was now after asked
-FinishesTo before line was now after asked (Err stop) = FinishesPart before line was now
+FinishesTo before line was now after asked (Err stop) = FinishesPart stop before line was now
 
 -- what finishing answers, while support is asked for so often
 abbrev pub Finishes : {T : Type 0} → View → Option (List ℕ) → Option (List ℕ) → View → ℕ → Result T Stop → Type 0

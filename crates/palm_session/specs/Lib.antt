@@ -7,6 +7,7 @@ pub mod Objects
 pub mod Refusals
 pub mod Replies
 pub mod ReplyText
+pub mod Requests
 pub mod Serving
 pub mod State
 pub mod Told

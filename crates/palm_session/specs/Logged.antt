@@ -1,7 +1,5 @@
 -- What a kept log says of a book.
 use Rattle.std.specs.Prelude.{ℕ, ◌<◌, List, All, flat_map, option_to_list, length, slice_get}
-use Rattle.palm_base.specs.declared.terms.Cid.{Cid}
-use Rattle.palm_base.specs.declared.terms.Cid.TheVariants.{Decide, Not, User}
 use Rattle.palm_model.specs.Log.{Removal}
 use Rattle.palm_book.specs.Book.{Contents, IsUser}
 use Rattle.palm_session.specs.Answers.{log_line}
@@ -14,12 +12,6 @@ pub record IsLogged (book : Contents) (r : Removal) : Type 0 where
 
 abbrev pub AreLogged : Contents → List Removal → Type 0
 AreLogged book log = All (IsLogged book) log
-
--- the name is that of a user's constraint
-abbrev pub IsNumbered : Cid → Type 0
-IsNumbered (Decide x) = ⊥
-IsNumbered (Not p) = ⊥
-IsNumbered (User n) = Unit {0}
 
 -- the line of the removal at a place
 abbrev pub log_line_at : Contents → List Removal → ℕ → List ℕ

@@ -89,16 +89,6 @@ Meets s line _ = ⊥
 abbrev pub in_order : List Refusal
 in_order = E3 ∷ E4 ∷ E5 ∷ E7 ∷ E11 ∷ E12 ∷ E10 ∷ []
 
--- the first of the list that holds
-abbrev pub IsFirst : (Refusal → Type 0) → List Refusal → Refusal → Type 0
-IsFirst holds [] r = ⊥
-IsFirst holds (q ∷ qs) r = (holds q × (r ≡ q)) ⊎ ((holds q → ⊥) × IsFirst holds qs r)
-
--- none of the list holds
-abbrev pub IsNone : (Refusal → Type 0) → List Refusal → Type 0
-IsNone holds [] = Unit {0}
-IsNone holds (q ∷ qs) = (holds q → ⊥) × IsNone holds qs
-
 -- the refusal of a line that could not be read
 abbrev pub refusal_of : LineError → Option Refusal
 refusal_of Bytes = Some E1

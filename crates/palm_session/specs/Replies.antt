@@ -1,5 +1,5 @@
 -- The replies to a whole text.
-use Rattle.std.specs.Prelude.{◌≡◌, ℕ, List, [], ◌∷◌, ◌++◌, All, Contains, map, flat_map}
+use Rattle.std.specs.Prelude.{◌≡◌, ℕ, List, [], ◌∷◌, ◌++◌, All, Contains, None, map, flat_map}
 use Rattle.palm_read.specs.Reading.{IsRead}
 use Rattle.palm_read.specs.declared.line.Line.TheVariants.{Guide, Order, Quit}
 use Rattle.palm_session.specs.State.{SessionState, fresh}
@@ -46,6 +46,16 @@ pub record Replies (guides orders : List ℕ) (text output : List ℕ) : Type 0 
   pub are_lines : AreLines text lines
   pub are_answered : AreAnswered lines answered
   pub run : Run (fresh guides orders) answered output state
+
+-- no guide and no order is chosen
+abbrev pub HasNoneChosen : SessionState → Type 0
+HasNoneChosen s = (s.guide ≡ None) × (s.order ≡ None)
+
+-- none is chosen where a line of the text is answered, however those before it were answered, of which none ends the session
+abbrev pub KeepsNoneChosen : List ℕ → List ℕ → List ℕ → Type 0
+KeepsNoneChosen guides orders text =
+    (before after : List (List ℕ)) (line replies : List ℕ) (s : SessionState)
+    → AreLines text (before ++ line ∷ after) → All GoesOn before → Run (fresh guides orders) before replies s → HasNoneChosen s
 
 -- the line chooses one of the guides or orders that were handed in
 pub data ChoosesObject (guides orders line : List ℕ) : Type 0 where

@@ -26,7 +26,7 @@ reply_text s Domains = domains_text s.book.variables (present s.engine)
 reply_text s (Domain x) = domain_line (name_of s.book.variables x) (values_of (present s.engine) x)
 reply_text s Listing = list_text s.book
 reply_text s Log = log_text s.book s.engine.log
-reply_text s (Users lead names) = users_text s.book lead names
+reply_text s (Users lead users) = users_text s.book lead users
 reply_text s (Certificate claim) = certificate_text s.book s.engine.log claim
 reply_text s (Found values) = found_line s.book.variables values
 reply_text s (Spent turns dropped) = spent_line turns dropped
@@ -34,7 +34,7 @@ reply_text s (Spent turns dropped) = spent_line turns dropped
 -- what a reply is about is in the book, and what a certificate claims holds
 abbrev pub ReplyFits : SessionState → Reply → Type 0
 ReplyFits s (Domain x) = x < length s.book.variables
-ReplyFits s (Users lead names) = All (IsUser s.book) names
+ReplyFits s (Users lead users) = All (IsUser s.book) users
 ReplyFits s (Certificate claim) = CanClaim s.engine claim
 ReplyFits s (Found values) = length values ≡ length s.book.variables
 ReplyFits s _ = Unit {0}

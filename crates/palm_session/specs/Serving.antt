@@ -1,29 +1,36 @@
--- What a desk is seen as, and what serving a line that was read does to it.
-use Rattle.std.specs.Prelude.{◌≡◌, ℕ, ℤ, ◌+◌, ◌-◌, ◌<◌, ◌≤◌, min, Bool, true, false, List, ◌++◌, length, ◌⊎◌, ⊤, Option, None, Some, Result, Ok, Err, slice_get}
+-- What a desk is seen as, and what taking an admitted request does to it.
+use Rattle.std.specs.Prelude.{◌≡◌, ℕ, ◌+◌, ◌-◌, ◌≤◌, min, Bool, List, ◌++◌, ◌⊎◌, ⊤, Option, Some}
 use Rattle.palm_base.specs.declared.limits.TheConstants.{LAST_COUNT}
-use Rattle.palm_base.specs.declared.terms.Pair.{Pair}
-use Rattle.palm_model.specs.Domains.{Has}
 use Rattle.palm_model.specs.Log.{Removal, log_pairs}
 use Rattle.palm_model.specs.State.{EngineState}
 use Rattle.palm_engine.specs.Engine.{View}
-use Rattle.palm_engine.specs.Work.{most_questions}
+use Rattle.palm_engine.specs.Work.{most_asked}
 use Rattle.palm_search.specs.Calls.{SearchView}
+use Rattle.palm_search.specs.declared.ending.SearchEnd.{SearchEnd}
 use Rattle.palm_search.specs.declared.turn.Turn.{Turn}
+use Rattle.palm_repair.specs.Answers.{TellsDropped, end_of}
 use Rattle.palm_repair.specs.declared.answer.RepairAnswer.{RepairAnswer}
-use Rattle.palm_repair.specs.declared.answer.RepairAnswer.TheVariants.{Found as RepairFound, NoSolution as RepairNoSolution, Spent as RepairSpent}
-use Rattle.palm_book.specs.Book.{Contents, name_of}
-use Rattle.palm_book.specs.declared.book.BookCon.{BookCon}
-use Rattle.palm_read.specs.declared.line.Line.{Line}
-use Rattle.palm_lang.specs.Reply.{fixed_text, refusal_text}
-use Rattle.palm_lang.specs.declared.reply.Fixed.{Fixed}
-use Rattle.palm_lang.specs.declared.reply.Fixed.TheVariants.{Contradiction, Paused}
-use Rattle.palm_lang.specs.declared.reply.Refusal.{Refusal}
-use Rattle.palm_lang.specs.declared.reply.Refusal.TheVariants.{E4, E12}
+use Rattle.palm_book.specs.Book.{Contents}
+use Rattle.palm_lang.specs.Reply.{fixed_text}
+use Rattle.palm_lang.specs.declared.reply.Fixed.TheVariants.{Done, Bye}
 use Rattle.palm_session.specs.Objects.{ObjectsView}
-use Rattle.palm_session.specs.State.{SessionState, HasVariable, IsContradiction, fresh}
-use Rattle.palm_session.specs.Refusals.{IsFirst, IsNone, IsUndeclared, IsUnknown, Meets, in_order}
-use Rattle.palm_session.specs.Effects.{SearchEnd, Found, NoSolution, Spent, Effect, Changes, Next, Rests, Filters, Procedure, Searches, SettlesIn, SearchesIn, Follows, next, with_engine, with_search}
-use Rattle.palm_session.specs.Answers.{Accepts}
+use Rattle.palm_session.specs.State.{SessionState, fresh}
+use Rattle.palm_session.specs.declared.going.Going.{Going}
+use Rattle.palm_session.specs.declared.going.Going.TheVariants.{More, Quit}
+use Rattle.palm_session.specs.declared.remainder.Own.{Own}
+use Rattle.palm_session.specs.declared.remainder.Own.TheVariants.{Said, Answer}
+use Rattle.palm_session.specs.declared.remainder.Remainder.{Remainder}
+use Rattle.palm_session.specs.declared.remainder.Remainder.TheVariants.{Say, Filter, Run, Search, End}
+use Rattle.palm_session.specs.declared.reply.Reply.{Reply}
+use Rattle.palm_session.specs.declared.reply.Reply.TheVariants.{Word, Ran as RanReply}
+use Rattle.palm_session.specs.declared.request.Procedure.{Procedure}
+use Rattle.palm_session.specs.declared.request.Procedure.TheVariants.{Repair}
+use Rattle.palm_session.specs.declared.request.Request.{Request}
+use Rattle.palm_session.specs.declared.request.Request.TheVariants.{Ask, Step, Solve, Quit as QuitAsked}
+use Rattle.palm_session.specs.Effects.{Effect, Nothing, Changes, Next, Rests, Filters, Searches, SettlesIn, SearchesIn, Follows, next, unless_paused, with_engine, with_search}
+use Rattle.palm_session.specs.Answers.{Accepts, Contradicts, IsAnswer, Says, WaitsFor, end_text}
+use Rattle.palm_session.specs.ReplyText.{reply_text, ReplyFits}
+use Rattle.palm_session.specs.Requests.{CanAsk, HasTabu}
 
 -- what a desk holds, and how often its engine has asked for support
 pub record DeskView : Type 0 where
@@ -57,15 +64,15 @@ pub record Spends (before after : DeskView) (was now : ℕ) : Type 0 where
 abbrev pub AsksWithin : EngineState → Next → EngineState → ℕ → Type 0
 AsksWithin s Rests t asked = asked ≡ 0
 AsksWithin s (Searches by) t asked = ⊤
-AsksWithin s (Filters limit) t asked = (gained : List Removal) × (t.log ≡ s.log ++ gained) × (asked ≤ most_questions s (log_pairs gained))
+AsksWithin s (Filters limit) t asked = (gained : List Removal) × (t.log ≡ s.log ++ gained) × (asked ≤ most_asked s (log_pairs gained))
 
--- serving the line asks for support so often: not at all, or no more than the filtering may that follows it, if it is no
--- search
-pub data AsksFor (s : SessionState) (line : Line) (t : SessionState) (asked : ℕ) : Type 0 where
-  asks_nothing : asked ≡ 0 → AsksFor s line t asked
-  asks_after : (m : SessionState) → IsNone (Meets s line) in_order → Changes s line m → AsksWithin m.engine (next m line) t.engine asked → AsksFor s line t asked
+-- taking the request asks for support so often: not at all, or, where it does not wait, no more than the filtering may that
+-- follows it, if it is no search
+pub data AsksFor (s : SessionState) (request : Request) (t : SessionState) (asked : ℕ) : Type 0 where
+  asks_nothing : asked ≡ 0 → AsksFor s request t asked
+  asks_after : (m : SessionState) → (WaitsFor s request → ⊥) → Changes s request m → AsksWithin m.engine (next m request) t.engine asked → AsksFor s request t asked
 
--- ---- filtering
+-- ---- what follows a change
 
 -- the engine has settled, in as many revisions as are told, and asked for support so often
 pub record Ran (s : SessionState) (limit : Option ℕ) (told : ℕ) (t : SessionState) (asked : ℕ) : Type 0 where
@@ -76,73 +83,100 @@ pub record Ran (s : SessionState) (limit : Option ℕ) (told : ℕ) (t : Session
   pub told_is : told ≡ min count LAST_COUNT
   pub asks : AsksWithin s.engine (Filters limit) t.engine asked
 
+-- the same within a limit, where all that ran are told
+pub record RanAll (s : SessionState) (limit told : ℕ) (t : SessionState) (asked : ℕ) : Type 0 where
+  pub ran : Ran s (Some limit) told t asked
+  pub all : told ≡ ran.count
+
 -- what was to follow has followed, and asked for support so often
 pub record Followed (s : SessionState) (what : Next) (t : SessionState) (asked : ℕ) : Type 0 where
   pub effect : Effect
   pub follows : Follows s what effect t
   pub asks : AsksWithin s.engine what t.engine asked
 
--- ---- searches
-
--- the end that the answer of decision-repair tells
-abbrev pub repair_end : RepairAnswer → SearchEnd
-repair_end (RepairFound values) = Found values
-repair_end (RepairNoSolution users) = NoSolution users
-repair_end (RepairSpent turns dropped) = Spent turns (Some dropped)
-
 -- the search has run by the chosen guide and order, or without them, and has ended so
-pub record HasSearched (s : SessionState) (by : Procedure) (end : SearchEnd) (t : SessionState) : Type 0 where
+pub record HasRun (s : SessionState) (by : Procedure) (end : SearchEnd) (dropped : Option ℕ) (t : SessionState) : Type 0 where
   pub turns : List Turn
   pub engine : EngineState
-  pub searches : SearchesIn s by turns end engine
+  pub searches : SearchesIn s by turns end dropped engine
   pub after : t ≡ with_search s turns engine
 
--- ---- replies
+-- the same by decision-repair, which answers so
+pub record HasRepairedIn (s : SessionState) (tabu budget : ℕ) (answer : RepairAnswer) (t : SessionState) : Type 0 where
+  pub dropped : ℕ
+  pub run : HasRun s (Repair tabu budget) (end_of answer) (Some dropped) t
+  pub told : TellsDropped answer dropped
 
--- `contradiction` where some variable has no value, and else a text as it is wanted
-abbrev pub TellsDomains : SessionState → (List ℕ → Type 0) → List ℕ → Type 0
-TellsDomains s IsOwn text =
-    (IsContradiction s × (text ≡ fixed_text Contradiction)) ⊎ ((IsContradiction s → ⊥) × IsOwn text)
+-- the search has run, and the reply tells how it ended
+pub record HasSearched (s : SessionState) (by : Procedure) (reply : Reply) (t : SessionState) : Type 0 where
+  pub end : SearchEnd
+  pub dropped : Option ℕ
+  pub run : HasRun s by end dropped t
+  pub told : reply_text t reply ≡ end_text t.book end dropped
+  pub fits : ReplyFits t reply
 
--- `paused` where filtering waits, and else a text as it is wanted
-abbrev pub TellsUnlessPaused : SessionState → (List ℕ → Type 0) → List ℕ → Type 0
-TellsUnlessPaused s IsOwn text = ((s.paused ≡ true) × (text ≡ fixed_text Paused)) ⊎ ((s.paused ≡ false) × IsOwn text)
+-- ---- requests, step by step
 
--- the word in place of what domains say
-abbrev pub Withholds : SessionState → Option Fixed → Type 0
-Withholds s None = (s.paused ≡ false) × (IsContradiction s → ⊥)
-Withholds s (Some Paused) = s.paused ≡ true
-Withholds s (Some Contradiction) = IsContradiction s
-Withholds s (Some _) = ⊥
+-- what is said by itself is the request's own, by what is held then and by what happened
+abbrev pub IsOwn : SessionState → Request → Effect → Own → Type 0
+IsOwn s request effect (Said reply) = Says s request effect (reply_text s reply) × ReplyFits s reply
+IsOwn s request effect (Answer question) = request ≡ Ask question
 
--- a text as it is wanted, or the word in its place
-pub data TellsOpenly (s : SessionState) (IsOwn : List ℕ → Type 0) (text : List ℕ) : Type 0 where
-  tells_word : (word : Fixed) → Withholds s (Some word) → text ≡ fixed_text word → TellsOpenly s IsOwn text
-  tells_own : Withholds s None → IsOwn text → TellsOpenly s IsOwn text
+-- `ok` is the request's own reply, whatever happens
+abbrev pub SaysDone : Request → Type 0
+SaysDone request = (t : SessionState) (effect : Effect) → Says t request effect (fixed_text Done)
 
--- the declared pair of the variable with the name
-pub record IsPairOf (s : SessionState) (name : List ℕ) (value : ℤ) (pair : Pair) : Type 0 where
-  pub variable : pair.var < length s.book.variables
-  pub named : name_of s.book.variables pair.var ≡ name
-  pub valued : pair.value ≡ value
-  pub declared : Has s.engine.initial pair.var pair.value
+-- this is left of the request, in what is held after its change
+abbrev pub IsLeft : SessionState → Request → Remainder → Type 0
+IsLeft s request (Say own) = (next s request ≡ Rests) × IsOwn s request Nothing own
+IsLeft s request Filter = (next s request ≡ unless_paused s) × SaysDone request
+IsLeft s request (Run count) = request ≡ Step count
+IsLeft s request (Search by) = request ≡ Solve by
+IsLeft s request End = request ≡ QuitAsked
 
--- the pair that a line asks for, or the refusal of a name or a value that is not declared
-abbrev pub FindsPair : SessionState → List ℕ → ℤ → Result Pair Refusal → Type 0
-FindsPair s name value (Ok pair) = IsPairOf s name value pair
-FindsPair s name value (Err E4) = IsUnknown s name
-FindsPair s name value (Err E12) = HasVariable s name × IsUndeclared s name value
-FindsPair s name value (Err _) = ⊥
+-- the change of the request is made, and this is left of it; it is the end after `quit` alone
+pub record Obeys (s : SessionState) (request : Request) (t : SessionState) (remainder : Remainder) : Type 0 where
+  pub changes : Changes s request t
+  pub left : IsLeft t request remainder
+  pub ends : request ≡ QuitAsked → remainder ≡ End
 
--- what serving a line that was read does: its first refusal changes nothing, and without one it is accepted
-pub data Serves : SessionState → Line → List ℕ → SessionState → Type 0 where
-  refuses : {s : SessionState} {line : Line} → (refusal : Refusal) → IsFirst (Meets s line) in_order refusal → Serves s line (refusal_text refusal) s
-  accepts : {s t : SessionState} {line : Line} {reply : List ℕ} → IsNone (Meets s line) in_order → Accepts s line reply t → Serves s line reply t
+-- what was left is done, and this is to be said; support was asked for so often
+abbrev pub IsDone : SessionState → Remainder → SessionState → ℕ → Own → Type 0
+IsDone s (Say own) t asked said = (t ≡ s) × (asked ≡ 0) × (said ≡ own)
+IsDone s Filter t asked said = Followed s (unless_paused s) t asked × (said ≡ Said (Word Done))
+IsDone s (Run count) t asked said = (told : ℕ) × RanAll s count told t asked × (said ≡ Said (RanReply told))
+IsDone s End t asked said = (t ≡ s) × (asked ≡ 0) × (said ≡ Said (Word Bye))
+IsDone s (Search by) t asked said = (reply : Reply) × HasSearched s by reply t × (said ≡ Said reply)
 
--- ---- constraints
+-- a search that is left has a tabu length above 0
+abbrev pub CanDo : Remainder → Type 0
+CanDo (Search by) = HasTabu by
+CanDo _ = ⊤
 
--- a constraint stands at the place, and is active or relaxed
-pub record StandsAt (s : SessionState) (place : ℕ) (active : Bool) : Type 0 where
-  pub constraint : BookCon
-  pub at : slice_get s.book.constraints place ≡ Some constraint
-  pub is : constraint.active ≡ active
+-- neither `paused` nor `contradiction` stands in place of the request's own reply
+pub record IsOpen (s : SessionState) (request : Request) : Type 0 where
+  pub goes : WaitsFor s request → ⊥
+  pub calm : Contradicts s request → ⊥
+
+-- a question that is left can be answered
+abbrev pub CanSay : SessionState → Own → Type 0
+CanSay s (Said reply) = ⊤
+CanSay s (Answer question) = CanAsk s question × IsOpen s (Ask question)
+
+-- the reply is what was to be said
+abbrev pub IsSaid : SessionState → Own → Reply → Type 0
+IsSaid s (Said own) reply = reply ≡ own
+IsSaid s (Answer question) reply = IsAnswer s question (reply_text s reply) × ReplyFits s reply
+
+-- the session goes on, unless it was asked to end
+abbrev pub GoesAs : Going → Request → Type 0
+GoesAs More request = request ≡ QuitAsked → ⊥
+GoesAs Quit request = request ≡ QuitAsked
+
+-- the request was taken: it is accepted with the reply, which fits what is held, support was asked for so often, and the
+-- session goes on or ends
+pub record Takes (s : SessionState) (request : Request) (t : SessionState) (asked : ℕ) (answer : Reply × Going) : Type 0 where
+  pub accepts : Accepts s request (reply_text t answer.0) t
+  pub asks : AsksFor s request t asked
+  pub fits : ReplyFits t answer.0
+  pub goes : GoesAs answer.1 request

@@ -13,39 +13,42 @@ use Rattle.palm_lang.specs.declared.reply.Fixed.TheVariants.{Contradiction, Paus
 use Rattle.palm_lang.specs.declared.reply.Lead.TheVariants.{Because, Conflict as ConflictLead, NoSolution as NoSolutionLead}
 use Rattle.palm_model.specs.Minimal.{IsMinimalConflict, IsMinimalExplanation}
 use Rattle.palm_search.specs.Measure.{most_turns}
-use Rattle.palm_repair.specs.Sets.{most_turns as most_repair_turns}
+use Rattle.palm_repair.specs.Sets.{most_repair_turns}
 use Rattle.palm_session.specs.Answers.{users_text}
-use Rattle.palm_session.specs.Effects.{Procedure, ByDbt, ByRepair, budget_of, with_search}
+use Rattle.palm_session.specs.declared.request.Procedure.{Procedure}
+use Rattle.palm_session.specs.declared.request.Procedure.TheVariants.{Dbt, Repair}
+use Rattle.palm_session.specs.Effects.{with_search}
+use Rattle.palm_session.specs.Requests.{budget_of}
 use Rattle.palm_session.specs.State.{SessionState}
 
 -- active constraints of the book, because of which the variable has the value in no closed domains
-pub record IsExplanation (book : Contents) (names : List Cid) (x : ℕ) (value : ℤ) : Type 0 where
-  pub active : (c : Cid) → Contains names c → IsActive (active_of book) c
-  pub explains : Explains (initial_of book) (Named (active_of book) (Contains names)) x value
+pub record IsExplanation (book : Contents) (users : List Cid) (x : ℕ) (value : ℤ) : Type 0 where
+  pub active : (c : Cid) → Contains users c → IsActive (active_of book) c
+  pub explains : Explains (initial_of book) (Named (active_of book) (Contains users)) x value
 
 -- active constraints of the book, because of which some variable has no value in any closed domains
-pub record IsConflictOf (book : Contents) (names : List Cid) : Type 0 where
-  pub active : (c : Cid) → Contains names c → IsActive (active_of book) c
-  pub conflicts : IsConflict (initial_of book) (Named (active_of book) (Contains names))
+pub record IsConflictOf (book : Contents) (users : List Cid) : Type 0 where
+  pub active : (c : Cid) → Contains users c → IsActive (active_of book) c
+  pub conflicts : IsConflict (initial_of book) (Named (active_of book) (Contains users))
 
 -- what is told of a value: a word, or an explanation
 pub data ToldWhy (book : Contents) (name : List ℕ) (value : ℤ) (reply : List ℕ) : Type 0 where
   why_paused : reply ≡ fixed_text Paused → ToldWhy book name value reply
   why_contradiction : reply ≡ fixed_text Contradiction → ToldWhy book name value reply
   why_present : reply ≡ fixed_text Present → ToldWhy book name value reply
-  why_because : (x : ℕ) (names : List Cid) → x < length book.variables → name_of book.variables x ≡ name → IsExplanation book names x value
-      → reply ≡ users_text book Because names → ToldWhy book name value reply
+  why_because : (x : ℕ) (users : List Cid) → x < length book.variables → name_of book.variables x ≡ name → IsExplanation book users x value
+      → reply ≡ users_text book Because users → ToldWhy book name value reply
 
 -- active constraints of the book that have no common solution
-pub record AreUnsolvedIn (book : Contents) (names : List Cid) : Type 0 where
-  pub active : (c : Cid) → Contains names c → IsActive (active_of book) c
-  pub none : (a : Assignment) → IsSolution (initial_of book) (Named (active_of book) (Contains names)) a → ⊥
+pub record AreUnsolvedIn (book : Contents) (users : List Cid) : Type 0 where
+  pub active : (c : Cid) → Contains users c → IsActive (active_of book) c
+  pub none : (a : Assignment) → IsSolution (initial_of book) (Named (active_of book) (Contains users)) a → ⊥
 
 -- a search may take its whole budget, where that is below what it needs at most; or, in a repair, where nogoods were
 -- dropped
 abbrev pub MaySpend : Contents → Procedure → Option ℕ → Type 0
-MaySpend book (ByDbt budget) None = budget < most_turns (length book.variables) (value_count (initial_of book))
-MaySpend book (ByRepair tabu budget) (Some dropped) = (0 < dropped) ⊎ (budget < most_repair_turns (initial_of book))
+MaySpend book (Dbt budget) None = budget < most_turns (length book.variables) (value_count (initial_of book))
+MaySpend book (Repair tabu budget) (Some dropped) = (0 < dropped) ⊎ (budget < most_repair_turns (initial_of book))
 MaySpend book _ _ = ⊥
 
 -- what is told of a search: a word, values that satisfy all active constraints, active constraints without a common
@@ -54,30 +57,30 @@ pub data ToldSearch (book : Contents) (by : Procedure) (reply : List ℕ) : Type
   search_paused : reply ≡ fixed_text Paused → ToldSearch book by reply
   search_found : (values : List ℤ) → IsSolution (initial_of book) (Contains (cons_of (active_of book))) (listed values)
       → reply ≡ found_line book.variables values → ToldSearch book by reply
-  search_none : (names : List Cid) → AreUnsolvedIn book names → reply ≡ users_text book NoSolutionLead names → ToldSearch book by reply
+  search_none : (users : List Cid) → AreUnsolvedIn book users → reply ≡ users_text book NoSolutionLead users → ToldSearch book by reply
   search_spent : (dropped : Option ℕ) → MaySpend book by dropped → reply ≡ spent_line (budget_of by) dropped → ToldSearch book by reply
 
 -- what is told of conflicts: a word, or a conflict
 pub data ToldConflict (book : Contents) (reply : List ℕ) : Type 0 where
   conflict_paused : reply ≡ fixed_text Paused → ToldConflict book reply
   conflict_none : reply ≡ fixed_text Consistent → ToldConflict book reply
-  conflict_named : (names : List Cid) → IsConflictOf book names → reply ≡ users_text book ConflictLead names → ToldConflict book reply
+  conflict_named : (users : List Cid) → IsConflictOf book users → reply ≡ users_text book ConflictLead users → ToldConflict book reply
 
 -- what is told of a value by a minimal set: a word, or the minimal explanation, which is an explanation
 pub data ToldMinimal (book : Contents) (name : List ℕ) (value : ℤ) (reply : List ℕ) : Type 0 where
   minimal_paused : reply ≡ fixed_text Paused → ToldMinimal book name value reply
   minimal_contradiction : reply ≡ fixed_text Contradiction → ToldMinimal book name value reply
   minimal_present : reply ≡ fixed_text Present → ToldMinimal book name value reply
-  minimal_because : (x : ℕ) (names : List Cid) → x < length book.variables → name_of book.variables x ≡ name → IsExplanation book names x value
-      → IsMinimalExplanation (initial_of book) (active_of book) (record { var = x; value = value }) names
-      → reply ≡ users_text book Because names → ToldMinimal book name value reply
+  minimal_because : (x : ℕ) (users : List Cid) → x < length book.variables → name_of book.variables x ≡ name → IsExplanation book users x value
+      → IsMinimalExplanation (initial_of book) (active_of book) (record { var = x; value = value }) users
+      → reply ≡ users_text book Because users → ToldMinimal book name value reply
 
 -- what is told of conflicts by a minimal set: a word, or the minimal conflict, which is a conflict
 pub data ToldMinimalConflict (book : Contents) (reply : List ℕ) : Type 0 where
   least_paused : reply ≡ fixed_text Paused → ToldMinimalConflict book reply
   least_none : reply ≡ fixed_text Consistent → ToldMinimalConflict book reply
-  least_named : (names : List Cid) → IsConflictOf book names → IsMinimalConflict (initial_of book) (active_of book) names
-      → reply ≡ users_text book ConflictLead names → ToldMinimalConflict book reply
+  least_named : (users : List Cid) → IsConflictOf book users → IsMinimalConflict (initial_of book) (active_of book) users
+      → reply ≡ users_text book ConflictLead users → ToldMinimalConflict book reply
 
 -- what is told of a value by a certificate: a word, or a text that is accepted with the claim that the value is gone
 pub data ToldCert (s : SessionState) (name : List ℕ) (value : ℤ) (reply : List ℕ) : Type 0 where

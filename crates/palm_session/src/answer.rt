@@ -8,10 +8,10 @@ ghost use Rattle.palm_session.specs.ReplyText.{reply_text, IsRefusal, ReplyFits}
 ghost use Rattle.palm_session.specs.Serving.{Spends};
 ghost use Rattle.palm_session.specs.State.{IsState};
 
+use crate::admit::refusal_of;
 use crate::deliver::deliver;
 use crate::desk::Desk;
 use crate::going::Going;
-use crate::refuse::refusal_of;
 use crate::reply::Reply;
 use crate::stop::Stop;
 use palm_agenda::Order;
@@ -22,7 +22,7 @@ use std::sync::ledger::Ledger;
 
 impl<G: Guide, O: Order> Desk<G, O> {
     /// Answers a line without its line end, and writes the reply.
-    pub fn answer<K: Sink, L: Ledger>(
+    pub(crate) fn answer<K: Sink, L: Ledger>(
         &mut self,
         line: &[u8],
         out: &mut K,
@@ -44,7 +44,7 @@ impl<G: Guide, O: Order> Desk<G, O> {
         }
     }
 
-    /// Reads a line and serves it.
+    /// Reads a line, admits it, and takes what it asks for.
     fn decide<L: Ledger>(
         &mut self,
         line: &[u8],
@@ -57,11 +57,11 @@ impl<G: Guide, O: Order> Desk<G, O> {
         ensures going { IfOk result (λ r. Decides r.1 line.now) }
         ensures fits { IfOk result (λ r. ReplyFits self.new.state r.0) }
     {
-        match parse_line(self.alloc, line) {
-            Ok(line) => {
-                let going = Going::after(&line);
-                Ok((self.serve(line, steps)?, going))
-            }
+        match parse_line(self.alloc(), line) {
+            Ok(line) => match self.admit(line)? {
+                Ok(request) => self.take(request, steps),
+                Err(refusal) => Ok((Reply::Refused(refusal), Going::More)),
+            },
             Err(error) => misread(error),
         }
     }

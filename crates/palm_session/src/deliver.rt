@@ -9,7 +9,7 @@ ghost use Rattle.palm_lang.specs.Reply.{refusal_text, ran_text, domain_line, var
 ghost use Rattle.palm_lang.specs.Writing.{Writes};
 ghost use Rattle.palm_model.specs.Domains.{AllAscend, values_of};
 ghost use Rattle.palm_session.specs.Answers.{domains_text, list_text, log_text, users_text};
-ghost use Rattle.palm_session.specs.Logged.{AreLogged, IsNumbered, log_line_at};
+ghost use Rattle.palm_session.specs.Logged.{AreLogged, log_line_at};
 ghost use Rattle.palm_session.specs.ReplyText.{reply_text, ReplyFits};
 ghost use Rattle.palm_session.specs.State.{IsHeld};
 
@@ -17,8 +17,8 @@ use crate::desk::Desk;
 use crate::reply::Reply;
 use crate::stop::Stop;
 use palm_agenda::Order;
-use palm_base::{Cid, CidList, NoMemory, Pair, Sink, Value, ValueList, Var};
-use palm_cert::write_cert;
+use palm_base::{CidList, NoMemory, Pair, Sink, Value, ValueList, Var};
+use palm_cert::{number_of, write_cert};
 use palm_domain::DomainStore;
 use palm_explain::ExplainStore;
 use palm_guide::Guide;
@@ -28,7 +28,7 @@ use palm_lang::{
 };
 
 /// Writes a reply.
-pub fn deliver<G: Guide, O: Order, K: Sink>(
+pub(crate) fn deliver<G: Guide, O: Order, K: Sink>(
     desk: &Desk<G, O>,
     reply: &Reply,
     out: &mut K,
@@ -47,7 +47,7 @@ pub fn deliver<G: Guide, O: Order, K: Sink>(
         Reply::Domain(var) => write_one_domain(desk, *var, out, buffer),
         Reply::Listing => write_list(desk.book(), out, buffer),
         Reply::Log => write_log(desk, out, buffer),
-        Reply::Users { lead, names } => write_names(desk.book(), *lead, names, out, buffer),
+        Reply::Users { lead, users } => write_users(desk.book(), *lead, users, out, buffer),
         Reply::Certificate(claim) => write_certificate(desk, claim, out),
         Reply::Found(values) => write_found(desk.book(), values, out, buffer),
         Reply::Spent { turns, dropped } => write_spent(*turns, *dropped, out, buffer),
@@ -69,17 +69,17 @@ fn write_ran<K: Sink>(revisions: u64, out: &mut K, buffer: &mut Vec<u8>) -> Resu
 }
 
 /// Writes the names of users' constraints behind a word.
-fn write_names<K: Sink>(
+fn write_users<K: Sink>(
     book: &Book,
     lead: Lead,
-    names: &CidList,
+    users: &CidList,
     out: &mut K,
     buffer: &mut Vec<u8>,
 ) -> Result<(), Stop>
-    requires { All (IsUser book.now) names.now }
-    ensures { Writes (K.state out.old) (K.state out.new) (users_text book.now lead names.now) result }
+    requires { All (IsUser book.now) users.now }
+    ensures { Writes (K.state out.old) (K.state out.new) (users_text book.now lead users.now) result }
 {
-    write_line!(out, buffer, print_names(book, lead, names))
+    write_line!(out, buffer, print_names(book, lead, users))
 }
 
 /// The same claim.
@@ -105,7 +105,13 @@ fn write_certificate<G: Guide, O: Order, K: Sink>(
     requires holds { CanClaim desk.now.state.engine claim.now }
     ensures { Writes (K.state out.old) (K.state out.new) (certificate_text desk.now.state.book desk.now.state.engine.log claim.now) result }
 {
-    write_cert(desk.alloc, desk.engine(), desk.book(), copy_of(claim), out)
+    write_cert(
+        desk.alloc(),
+        desk.engine(),
+        desk.book(),
+        copy_of(claim),
+        out,
+    )
 }
 
 /// Writes a value for each variable.
@@ -177,7 +183,7 @@ fn write_one_domain<G: Guide, O: Order, K: Sink>(
     requires variable { var < length desk.now.state.book.variables }
     ensures { Writes (K.state out.old) (K.state out.new) (reply_text desk.now.state (Reply.Domain var)) result }
 {
-    let mut values = Vec::new(desk.alloc);
+    let mut values = Vec::new(desk.alloc());
     write_domain(
         desk.book(),
         desk.engine().store(),
@@ -197,7 +203,7 @@ fn write_domains<G: Guide, O: Order, K: Sink>(
     requires { IsHeld desk.now.state }
     ensures { Writes (K.state out.old) (K.state out.new) (reply_text desk.now.state Reply.Domains) result }
 {
-    let mut values = Vec::new(desk.alloc);
+    let mut values = Vec::new(desk.alloc());
     write_each_domain(desk.book(), desk.engine().store(), &mut values, out, buffer)
 }
 
@@ -270,7 +276,7 @@ fn write_log<G: Guide, O: Order, K: Sink>(
     requires { IsHeld desk.now.state }
     ensures { Writes (K.state out.old) (K.state out.new) (log_text desk.now.state.book desk.now.state.engine.log) result }
 {
-    let mut reasons = Vec::new(desk.alloc);
+    let mut reasons = Vec::new(desk.alloc());
     write_removals(desk.book(), desk.engine().log(), &mut reasons, out, buffer)
 }
 
@@ -340,15 +346,4 @@ fn collect_reasons(
         reasons.push(log.reason_at(place, index))?;
     }
     Ok(())
-}
-
-/// The number of a user's constraint.
-fn number_of(cid: Cid) -> u32
-    requires { IsNumbered cid }
-    ensures { cid ≡ Cid.User result }
-{
-    match cid {
-        Cid::User(number) => number,
-        Cid::Decide(_) | Cid::Not(_) => unreachable!(),
-    }
 }

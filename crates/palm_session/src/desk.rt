@@ -1,27 +1,46 @@
-//! What a session keeps between two lines.
-use crate::objects::Objects;
+//! What a session keeps between two lines. What keeps the book and the engine in step is here, and nowhere else.
+ghost use Rattle.std.specs.Prelude.{◌≡◌, ◌-◌, ◌<◌, ◌≤◌, None, true, false, Contains, IfOk, IfSome, OnOk, Some, length, slice_get};
+ghost use Rattle.palm_base.specs.Tells.{Tells};
+ghost use Rattle.palm_book.specs.Book.{AreValues, user_at};
+ghost use Rattle.palm_book.specs.declared.book.BookCon.{BookCon as BookConTerm};
+ghost use Rattle.palm_engine.specs.Engine.{KeepsCounts};
+ghost use Rattle.palm_model.specs.Event.{Declares, Posts, Withdraws};
+ghost use Rattle.palm_model.specs.Log.{IsActive};
+ghost use Rattle.palm_model.specs.State.{EngineState, IsValid};
+ghost use Rattle.palm_read.specs.Name.{IsNameText};
+ghost use Rattle.palm_session.specs.Effects.{WithdrawsActive, next_constraint, with_active_at, with_constraint, with_engine, with_variable, without_constraint, without_guide, without_order};
+ghost use Rattle.palm_session.specs.Requests.{CanAdd, StandsAt};
+ghost use Rattle.palm_session.specs.Serving.{HasRepairedIn, HasRun, Ran, Spends};
+ghost use Rattle.palm_session.specs.State.{HasVariable, IsHeld};
+ghost use Rattle.palm_session.specs.declared.request.Procedure.TheVariants as Procedure;
+
+use crate::objects::{Objects, repair_by, settle_by, solve_by};
 use palm_agenda::Order;
-use palm_base::NoMemory;
+use palm_base::{Cid, NoMemory, Steps, ValueList};
+use palm_dbt::Answer;
 use palm_engine::Engine;
 use palm_guide::Guide;
 use palm_kind::Kind;
-use palm_lang::Book;
+use palm_lang::{Book, BookCon, MOST_VARIABLES, Name};
+use palm_model::Con;
+use palm_repair::RepairAnswer;
 use palm_search::{Search, Turn};
 use std::alloc::Global;
 use std::marker::Model;
+use std::sync::ledger::Ledger;
 
 /// The book, the engine that filters its active constraints, how many `add` lines were accepted, whether filtering
 /// waits, the guides and orders that were handed in, and the last search.
 #[derive(Drop)]
-pub struct Desk<G: Guide, O: Order> {
-    pub(crate) alloc: Global,
-    pub(crate) book: Book,
-    pub(crate) engine: Engine<Kind>,
-    pub(crate) accepted: u32,
-    pub(crate) paused: bool,
-    pub(crate) guides: Objects<G>,
-    pub(crate) orders: Objects<O>,
-    pub(crate) search: Search,
+pub(crate) struct Desk<G: Guide, O: Order> {
+    alloc: Global,
+    book: Book,
+    engine: Engine<Kind>,
+    accepted: u32,
+    paused: bool,
+    guides: Objects<G>,
+    orders: Objects<O>,
+    search: Search,
 }
 
 impl<G: Guide, O: Order> Model for Desk<G, O> {
@@ -36,13 +55,12 @@ impl<G: Guide, O: Order> Model for Desk<G, O> {
 }
 
 impl<G: Guide, O: Order> Desk<G, O> {
-    ghost use Rattle.std.specs.Prelude.{◌≡◌, IfOk, vec_len};
-    ghost use Rattle.palm_model.specs.State.{IsValid};
+    ghost use Rattle.std.specs.Prelude.{vec_len};
     ghost use Rattle.palm_session.specs.Objects.{numbered};
     ghost use Rattle.palm_session.specs.State.{fresh};
 
     /// Nothing declared, nothing added, and none of these guides and orders chosen.
-    pub fn new(alloc: Global, guides: Vec<G>, orders: Vec<O>) -> Result<Desk<G, O>, NoMemory>
+    pub(crate) fn new(alloc: Global, guides: Vec<G>, orders: Vec<O>) -> Result<Desk<G, O>, NoMemory>
         ensures { IfOk result (λ d. d ≡ record { state = fresh (numbered (vec_len guides)) (numbered (vec_len orders)); checks = 0 }) }
     {
         let guides = Objects::new(alloc, guides)?;
@@ -59,26 +77,259 @@ impl<G: Guide, O: Order> Desk<G, O> {
         })
     }
 
+    /// Where the session's memory comes from.
+    pub(crate) fn alloc(&self) -> Global {
+        self.alloc
+    }
+
     /// The book.
-    pub fn book(&self) -> &Book
+    pub(crate) fn book(&self) -> &Book
         ensures { result.now ≡ self.now.state.book }
     {
         &self.book
     }
 
     /// The turns of the last search, and none before one.
-    pub fn journal(&self) -> &[Turn]
+    pub(crate) fn journal(&self) -> &[Turn]
         ensures { result.now ≡ self.now.state.journal }
     {
         self.search.journal()
     }
 
     /// The engine.
-    pub fn engine(&self) -> &Engine<Kind>
+    pub(crate) fn engine(&self) -> &Engine<Kind>
         ensures state { result.now.state ≡ self.now.state.engine }
         ensures checks { result.now.checks ≡ self.now.checks }
         ensures valid { IsValid self.now.state.engine }
     {
         &self.engine
+    }
+
+    /// How many `add` lines were accepted.
+    pub(crate) fn accepted(&self) -> u32
+        ensures { result ≡ self.now.state.accepted }
+    {
+        self.accepted
+    }
+
+    /// Whether filtering waits.
+    pub(crate) fn is_paused(&self) -> bool
+        ensures { result ≡ self.now.state.paused }
+    {
+        self.paused
+    }
+
+    /// Whether there is a guide with the number.
+    pub(crate) fn has_guide(&self, number: u32) -> bool
+        ensures { Tells result (Contains self.now.state.guides number) }
+    {
+        self.guides.has(number)
+    }
+
+    /// Whether there is an order with the number.
+    pub(crate) fn has_order(&self, number: u32) -> bool
+        ensures { Tells result (Contains self.now.state.orders number) }
+    {
+        self.orders.has(number)
+    }
+
+    /// Puts a variable into the engine and into the book.
+    pub(crate) fn declare(&mut self, name: Name, values: ValueList) -> Result<(), NoMemory>
+        requires held { IsHeld self.old.state }
+        requires text { IsNameText name }
+        requires fresh { HasVariable self.old.state name → ⊥ }
+        requires values { AreValues values }
+        requires room { MOST_VARIABLES ≤ length self.old.state.book.variables → ⊥ }
+        ensures ok { OnOk result ((e : EngineState) × Declares self.old.state.engine values e × (self.new.state ≡ with_engine (with_variable self.old.state name values) e)) }
+        ensures checks { self.new.checks ≡ self.old.checks }
+    {
+        self.engine.add_variable(values.as_slice())?;
+        self.book.add_variable(name, values)?;
+        Ok(())
+    }
+
+    /// Adds a constraint under the next number, to the engine and to the book.
+    pub(crate) fn add(&mut self, name: Name, con: Con) -> Result<(), NoMemory>
+        requires held { IsHeld self.old.state }
+        requires can { CanAdd self.old.state name con }
+        ensures ok { OnOk result ((e : EngineState) × Posts self.old.state.engine (user_at (next_constraint self.old.state name con)) e
+            × (self.new.state ≡ with_engine (with_constraint self.old.state name con) e)) }
+        ensures checks { self.new.checks ≡ self.old.checks }
+    {
+        let number = self.accepted + 1;
+        self.engine.post(number, Kind::from_con(self.alloc, &con)?)?;
+        self.book.add_constraint(BookCon {
+            number,
+            name,
+            active: true,
+            con,
+        })?;
+        self.accepted = number;
+        Ok(())
+    }
+
+    /// Relaxes the active constraint at a place: the engine gives it up, and the book keeps it under its number.
+    pub(crate) fn relax(&mut self, place: usize)
+        requires held { IsHeld self.old.state }
+        requires active { StandsAt self.old.state place true }
+        ensures relaxes { (c : BookConTerm) → slice_get self.old.state.book.constraints place ≡ Some c → (e : EngineState)
+            × Withdraws self.old.state.engine (Cid.User c.number) e × (self.new.state ≡ with_engine (with_active_at self.old.state place false) e) }
+        ensures checks { self.new.checks ≡ self.old.checks }
+    {
+        let number = self.book.constraint(place).number;
+        self.engine.withdraw(Cid::User(number));
+        self.book.set_active(place, false);
+    }
+
+    /// Makes the relaxed constraint at a place active again, under its own number.
+    pub(crate) fn enforce(&mut self, place: usize) -> Result<(), NoMemory>
+        requires held { IsHeld self.old.state }
+        requires relaxed { StandsAt self.old.state place false }
+        ensures enforces { OnOk result ((c : BookConTerm) → slice_get self.old.state.book.constraints place ≡ Some c → (e : EngineState)
+            × Posts self.old.state.engine (user_at c) e × (self.new.state ≡ with_engine (with_active_at self.old.state place true) e)) }
+        ensures checks { self.new.checks ≡ self.old.checks }
+    {
+        let entry = self.book.constraint(place);
+        let kind = Kind::from_con(self.alloc, &entry.con)?;
+        self.engine.post(entry.number, kind)?;
+        self.book.set_active(place, true);
+        Ok(())
+    }
+
+    /// Takes the constraint at a place out of the book, and where it is active out of the engine.
+    pub(crate) fn retract(&mut self, place: usize)
+        requires held { IsHeld self.old.state }
+        requires within { place < length self.old.state.book.constraints }
+        ensures retracts { (c : BookConTerm) → slice_get self.old.state.book.constraints place ≡ Some c → (e : EngineState)
+            × WithdrawsActive self.old.state.engine c e × (self.new.state ≡ with_engine (without_constraint self.old.state place) e) }
+        ensures checks { self.new.checks ≡ self.old.checks }
+    {
+        withdraw_active(&mut self.engine, self.book.constraint(place));
+        self.book.remove(place);
+    }
+
+    /// Lets filtering wait, or wait no longer.
+    pub(crate) fn set_paused(&mut self, paused: bool)
+        ensures state { self.new.state ≡ record self.old.state { paused = paused } }
+        ensures checks { self.new.checks ≡ self.old.checks }
+    {
+        self.paused = paused;
+    }
+
+    /// Chooses the guide with the number, or none.
+    pub(crate) fn choose_guide(&mut self, chosen: Option<u32>)
+        requires { IfSome chosen (Contains self.old.state.guides) }
+        ensures state { self.new.state ≡ record self.old.state { guide = chosen } }
+        ensures checks { self.new.checks ≡ self.old.checks }
+    {
+        match chosen {
+            Some(number) => self.guides.choose(number),
+            None => self.guides.choose_none(),
+        }
+    }
+
+    /// Drops the guide with the number.
+    pub(crate) fn drop_guide(&mut self, number: u32)
+        requires { Contains self.old.state.guides number }
+        ensures state { self.new.state ≡ without_guide self.old.state number }
+        ensures checks { self.new.checks ≡ self.old.checks }
+    {
+        self.guides.remove(number);
+    }
+
+    /// Chooses the order with the number, or none.
+    pub(crate) fn choose_order(&mut self, chosen: Option<u32>)
+        requires { IfSome chosen (Contains self.old.state.orders) }
+        ensures state { self.new.state ≡ record self.old.state { order = chosen } }
+        ensures checks { self.new.checks ≡ self.old.checks }
+    {
+        match chosen {
+            Some(number) => self.orders.choose(number),
+            None => self.orders.choose_none(),
+        }
+    }
+
+    /// Drops the order with the number.
+    pub(crate) fn drop_order(&mut self, number: u32)
+        requires { Contains self.old.state.orders number }
+        ensures state { self.new.state ≡ without_order self.old.state number }
+        ensures checks { self.new.checks ≡ self.old.checks }
+    {
+        self.orders.remove(number);
+    }
+
+    /// Runs revisions until a domain is empty, nothing is pending, or as many ran as the limit says. It answers how many
+    /// ran, and the last number of a count where there were more.
+    pub(crate) fn settle<L: Ledger>(
+        &mut self,
+        limit: Option<u64>,
+        steps: &mut Steps<L>,
+    ) -> Result<u64, NoMemory>
+        ensures ran { IfOk result (λ told. Ran self.old.state limit told self.new.state (steps.new - steps.old)) }
+        ensures spends { Spends self.old self.new steps.old steps.new }
+    {
+        settle_by(&mut self.engine, &mut self.orders, limit, steps)?;
+        Ok(self.engine.revisions())
+    }
+
+    /// Searches by mac-dbt, by the guide and the order that are chosen, or without them, and leaves the constraints and the
+    /// log as they were. The journal is that of this search.
+    pub(crate) fn search_by_dbt<L: Ledger>(
+        &mut self,
+        budget: u64,
+        steps: &mut Steps<L>,
+    ) -> Result<Answer, NoMemory>
+        requires { IsHeld self.old.state }
+        ensures searched { IfOk result (λ answer. HasRun self.old.state (Procedure.Dbt budget) answer None self.new.state) }
+        ensures spends { Spends self.old self.new steps.old steps.new }
+    {
+        self.search = Search::begin(self.alloc);
+        solve_by(
+            self.alloc,
+            &mut self.engine,
+            &mut self.search,
+            &mut self.guides,
+            &mut self.orders,
+            budget,
+            steps,
+        )
+    }
+
+    /// Searches by decision-repair in the same way.
+    pub(crate) fn search_by_repair<L: Ledger>(
+        &mut self,
+        tabu: u32,
+        budget: u64,
+        steps: &mut Steps<L>,
+    ) -> Result<RepairAnswer, NoMemory>
+        requires held { IsHeld self.old.state }
+        requires some { 0 < tabu }
+        ensures searched { IfOk result (λ answer. HasRepairedIn self.old.state tabu budget answer self.new.state) }
+        ensures spends { Spends self.old self.new steps.old steps.new }
+    {
+        self.search = Search::begin(self.alloc);
+        repair_by(
+            self.alloc,
+            &mut self.engine,
+            &mut self.search,
+            &mut self.guides,
+            &mut self.orders,
+            tabu,
+            budget,
+            steps,
+        )
+    }
+}
+
+/// Withdraws a constraint of the book where it is active.
+fn withdraw_active(engine: &mut Engine<Kind>, entry: &BookCon)
+    requires active { entry.now.active ≡ true → IsActive engine.old.state.active (Cid.User entry.now.number) }
+    requires valid { IsValid engine.old.state }
+    ensures withdraws { WithdrawsActive engine.old.state entry.now engine.new.state }
+    ensures counts { KeepsCounts engine.old engine.new }
+    ensures valid { IsValid engine.new.state }
+{
+    if entry.active {
+        engine.withdraw(Cid::User(entry.number));
     }
 }

@@ -1,8 +1,8 @@
 //! Whether a session goes on.
 ghost use Rattle.std.specs.Prelude.{◌≡◌};
-ghost use Rattle.palm_read.specs.declared.line.Line.TheVariants.{Quit as QuitLine};
+ghost use Rattle.palm_session.specs.declared.remainder.Remainder.TheVariants.{End};
 
-use palm_lang::Line;
+use crate::remainder::Remainder;
 
 /// Whether a session goes on.
 #[derive(Clone, Copy, Debug, PartialEq, Eq)]
@@ -14,13 +14,13 @@ pub enum Going {
 }
 
 impl Going {
-    /// Only `quit` ends a session.
-    pub fn after(line: &Line) -> Going
-        ensures quit { result ≡ Going.Quit → line.now ≡ QuitLine }
-        ensures more { result ≡ Going.More → line.now ≡ QuitLine → ⊥ }
+    /// A session ends where nothing but that is left of a request.
+    pub(crate) fn after(remainder: &Remainder) -> Going
+        ensures quit { result ≡ Going.Quit → remainder.now ≡ End }
+        ensures more { result ≡ Going.More → remainder.now ≡ End → ⊥ }
     {
-        match line {
-            Line::Quit => Going::Quit,
+        match remainder {
+            Remainder::End => Going::Quit,
             _ => Going::More,
         }
     }

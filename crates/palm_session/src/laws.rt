@@ -3,12 +3,17 @@ ghost use Rattle.std.specs.Prelude.{◌≡◌, ◌↔◌, ℕ, None, List, take}
 ghost use Rattle.palm_session.specs.State.{SessionState, IsState, fresh};
 ghost use Rattle.palm_session.specs.Answers.{Answers};
 ghost use Rattle.palm_read.specs.Lines.{without_return};
-ghost use Rattle.palm_session.specs.Replies.{ChoosesNone, Ends, Replies, Run};
+ghost use Rattle.palm_session.specs.Replies.{ChoosesNone, Ends, KeepsNoneChosen, Replies, Run};
 ghost use Rattle.palm_events.specs.Scoped.{HasScopedReasons};
 
 pub mod printed;
 
 use crate::limits::MOST_KEPT_BYTES;
+
+/// How many bytes are kept of an unfinished line.
+pub fn limits_are_these_numbers()
+    ensures kept { MOST_KEPT_BYTES ≡ 65538 }
+{}
 
 /// A fresh session holds a state that a session can hold.
 pub fn fresh_states_are_states()
@@ -48,10 +53,12 @@ pub fn a_text_has_an_output()
     ensures { (guides orders text : List ℕ) → (output : List ℕ) × Replies guides orders text output }
 {}
 
-/// A text in which no line chooses a guide or an order that was handed in has no two outputs.
+/// A text has no two outputs where no guide and no order is chosen at any line that is answered. None is chosen where no
+/// line of the text chooses a guide or an order that was handed in.
 pub fn a_text_has_one_output()
-    ensures { (guides orders text a b : List ℕ) → ChoosesNone guides orders text
+    ensures once { (guides orders text a b : List ℕ) → KeepsNoneChosen guides orders text
         → Replies guides orders text a → Replies guides orders text b → a ≡ b }
+    ensures unchosen { (guides orders text : List ℕ) → ChoosesNone guides orders text → KeepsNoneChosen guides orders text }
 {}
 
 /// The answer to a line depends on its first bytes alone, a carriage return at their end counted.

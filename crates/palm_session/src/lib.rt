@@ -1,25 +1,24 @@
 //! A session: bytes in, lines cut out of them, each line answered, and its reply written.
 #![tactic(auto)]
 
+mod admit;
 mod answer;
-mod choosing;
-mod constraints;
 mod deliver;
 mod desk;
 mod going;
 mod laws;
 mod limits;
+mod obey;
 mod objects;
 mod questions;
-mod refuse;
+mod remainder;
 mod reply;
+mod request;
 mod serve;
 mod session;
 mod settling;
-mod solving;
 mod stop;
-mod variables;
-mod waiting;
+mod withhold;
 
 pub use going::Going;
 pub use laws::printed::{
@@ -30,8 +29,8 @@ pub use laws::printed::{
 };
 pub use laws::{
     a_text_has_an_output, a_text_has_one_output, each_line_has_an_answer, fresh_states_are_states,
-    no_line_has_two_answers, reasons_lie_in_scopes, states_stay, the_first_bytes_decide,
-    the_first_bytes_end,
+    limits_are_these_numbers, no_line_has_two_answers, reasons_lie_in_scopes, states_stay,
+    the_first_bytes_decide, the_first_bytes_end,
 };
 pub use limits::MOST_KEPT_BYTES;
 pub use session::Session;

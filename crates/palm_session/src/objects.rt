@@ -1,18 +1,32 @@
-//! Objects that the caller handed in.
-ghost use Rattle.std.specs.Prelude.{◌≡◌, true, false, Contains, IfOk, None, Some, vec_len};
+//! Objects that the caller handed in, and what is done by those that are chosen.
+ghost use Rattle.std.specs.Prelude.{◌≡◌, ◌+◌, ◌-◌, ◌<◌, ◌≤◌, [], Contains, IfOk, None, Some, is_some, min, vec_len};
 ghost use Rattle.palm_base.specs.Tells.{Tells};
+ghost use Rattle.palm_base.specs.declared.limits.TheConstants.{LAST_COUNT};
+ghost use Rattle.palm_engine.specs.Engine.{HasAsked, HasSettled};
+ghost use Rattle.palm_model.specs.State.{IsValid};
+ghost use Rattle.palm_repair.specs.Answers.{HasRepaired};
+ghost use Rattle.palm_search.specs.Kept.{HasOnlyUsers};
+ghost use Rattle.palm_search.specs.Search.{Searches};
 ghost use Rattle.palm_session.specs.Objects.{numbered, without_number, chosen_without};
 
-use palm_base::NoMemory;
+use palm_agenda::Order;
+use palm_base::{NoMemory, Steps};
+use palm_dbt::{Answer, solve};
+use palm_engine::{Engine, Settle};
+use palm_guide::Guide;
+use palm_kind::Kind;
+use palm_repair::{RepairAnswer, repair};
+use palm_search::Search;
 use std::alloc::Global;
 use std::marker::Model;
+use std::sync::ledger::Ledger;
 
 /// Objects that the caller handed in, by number from 1, and the one that is chosen. An object that was dropped leaves its
 /// place empty; the first place never holds one, and stands for the default.
 #[derive(Drop)]
-pub struct Objects<T: Drop> {
-    pub(crate) places: Vec<Option<T>>,
-    pub(crate) chosen: usize,
+pub(crate) struct Objects<T: Drop> {
+    places: Vec<Option<T>>,
+    chosen: usize,
 }
 
 impl<T: Drop> Model for Objects<T> {
@@ -27,7 +41,7 @@ impl<T: Drop> Model for Objects<T> {
 
 impl<T: Drop> Objects<T> {
     /// All of these objects, none chosen.
-    pub fn new(alloc: Global, objects: Vec<T>) -> Result<Objects<T>, NoMemory>
+    pub(crate) fn new(alloc: Global, objects: Vec<T>) -> Result<Objects<T>, NoMemory>
         ensures { IfOk result (λ o. o ≡ record { numbers = numbered (vec_len objects); chosen = None }) }
     {
         let mut places = Vec::new(alloc);
@@ -38,45 +52,120 @@ impl<T: Drop> Objects<T> {
         Ok(Objects { places, chosen: 0 })
     }
 
-    /// Whether a place holds an object.
-    fn has(&self, place: usize) -> bool
-        ensures { Tells result (Contains self.now.numbers place) }
+    /// Whether there is an object with a number.
+    pub(crate) fn has(&self, number: u32) -> bool
+        ensures { Tells result (Contains self.now.numbers number) }
     {
-        match self.places.get(place) {
+        match self.places.get(number as usize) {
             Some(object) => object.is_some(),
             None => false,
         }
     }
 
-    /// Chooses the object with a number, and answers whether there is one.
-    pub fn choose(&mut self, number: u32) -> bool
-        ensures there { result ≡ true → Contains self.old.numbers number × (self.new ≡ record self.old { chosen = Some number }) }
-        ensures none { result ≡ false → (Contains self.old.numbers number → ⊥) × (self.new ≡ self.old) }
+    /// Chooses the object with a number.
+    pub(crate) fn choose(&mut self, number: u32)
+        requires { Contains self.old.numbers number }
+        ensures { self.new ≡ record self.old { chosen = Some number } }
     {
-        if !self.has(number as usize) {
-            return false;
-        }
         self.chosen = number as usize;
-        true
     }
 
     /// Goes back to the default.
-    pub fn choose_none(&mut self)
+    pub(crate) fn choose_none(&mut self)
         ensures { self.new ≡ record self.old { chosen = None } }
     {
         self.chosen = 0;
     }
 
-    /// Drops the object with a number, and answers whether there was one. Where it was chosen, the default is back.
-    pub fn remove(&mut self, number: u32) -> bool
-        ensures there { result ≡ true → Contains self.old.numbers number
-            × (self.new ≡ record { numbers = without_number number self.old.numbers; chosen = chosen_without number self.old.chosen }) }
-        ensures none { result ≡ false → (Contains self.old.numbers number → ⊥) × (self.new ≡ self.old) }
+    /// Drops the object with a number. Where it was chosen, the default is back.
+    pub(crate) fn remove(&mut self, number: u32)
+        requires { Contains self.old.numbers number }
+        ensures { self.new ≡ record { numbers = without_number number self.old.numbers; chosen = chosen_without number self.old.chosen } }
     {
-        if !self.has(number as usize) {
-            return false;
-        }
         self.places[number as usize] = None;
-        true
     }
+}
+
+/// Settles by the order that is chosen, or without one.
+pub(crate) fn settle_by<O: Order, L: Ledger>(
+    engine: &mut Engine<Kind>,
+    orders: &mut Objects<O>,
+    limit: Option<u64>,
+    steps: &mut Steps<L>,
+) -> Result<Settle, NoMemory>
+    ensures ok { IfOk result (λ answer. HasSettled limit (is_some orders.old.chosen) answer engine.old engine.new) }
+    ensures asked { HasAsked engine.old.state engine.new.state steps.old steps.new }
+    ensures checks { engine.new.checks ≡ min (engine.old.checks + (steps.new - steps.old)) LAST_COUNT }
+    ensures orders { orders.new ≡ orders.old }
+    ensures valid { IsValid engine.new.state }
+{
+    let place = orders.chosen;
+    engine.settle(&mut orders.places[place], limit, steps)
+}
+
+/// Searches by mac-dbt, by the guide and the order that are chosen, or without them.
+pub(crate) fn solve_by<G: Guide, O: Order, L: Ledger>(
+    alloc: Global,
+    engine: &mut Engine<Kind>,
+    search: &mut Search,
+    guides: &mut Objects<G>,
+    orders: &mut Objects<O>,
+    budget: u64,
+    steps: &mut Steps<L>,
+) -> Result<Answer, NoMemory>
+    requires fresh { search.old ≡ record { decisions = []; journal = [] } }
+    requires users { HasOnlyUsers engine.old.state }
+    ensures ok { IfOk result (λ answer. Searches (is_some guides.old.chosen) (is_some orders.old.chosen) budget engine.old.state search.new.journal answer engine.new.state) }
+    ensures later { steps.old ≤ steps.new }
+    ensures checks { engine.new.checks ≡ min (engine.old.checks + (steps.new - steps.old)) LAST_COUNT }
+    ensures guides { guides.new ≡ guides.old }
+    ensures orders { orders.new ≡ orders.old }
+    ensures valid { IsValid engine.new.state }
+{
+    let guide = guides.chosen;
+    let order = orders.chosen;
+    solve(
+        alloc,
+        engine,
+        search,
+        &mut guides.places[guide],
+        &mut orders.places[order],
+        budget,
+        steps,
+    )
+}
+
+/// Searches by decision-repair, by the guide and the order that are chosen, or without them.
+pub(crate) fn repair_by<G: Guide, O: Order, L: Ledger>(
+    alloc: Global,
+    engine: &mut Engine<Kind>,
+    search: &mut Search,
+    guides: &mut Objects<G>,
+    orders: &mut Objects<O>,
+    tabu: u32,
+    budget: u64,
+    steps: &mut Steps<L>,
+) -> Result<RepairAnswer, NoMemory>
+    requires fresh { search.old ≡ record { decisions = []; journal = [] } }
+    requires users { HasOnlyUsers engine.old.state }
+    requires some { 0 < tabu }
+    ensures ok { IfOk result (HasRepaired (is_some guides.old.chosen) (is_some orders.old.chosen) tabu budget engine.old.state search.new.journal engine.new.state) }
+    ensures later { steps.old ≤ steps.new }
+    ensures checks { engine.new.checks ≡ min (engine.old.checks + (steps.new - steps.old)) LAST_COUNT }
+    ensures guides { guides.new ≡ guides.old }
+    ensures orders { orders.new ≡ orders.old }
+    ensures valid { IsValid engine.new.state }
+{
+    let chosen_guide = guides.chosen;
+    let chosen_order = orders.chosen;
+    repair(
+        alloc,
+        engine,
+        search,
+        &mut guides.places[chosen_guide],
+        &mut orders.places[chosen_order],
+        tabu,
+        budget,
+        steps,
+    )
 }

@@ -1,104 +1,46 @@
-//! Lines that ask: they change nothing.
-ghost use Rattle.std.specs.Prelude.{◌≡◌, IfOk};
-ghost use Rattle.palm_model.specs.Domains.{Has};
-ghost use Rattle.palm_model.specs.State.{present};
+//! Answers to questions.
+ghost use Rattle.std.specs.Prelude.{◌≡◌, IfOk, false};
 ghost use Rattle.palm_book.specs.Book.{active_of, initial_of};
+ghost use Rattle.palm_model.specs.Domains.{Has};
 ghost use Rattle.palm_model.specs.Minimal.{AreConflict};
-ghost use Rattle.palm_session.specs.Answers.{SaysCert, SaysMinimal, SaysWhy};
+ghost use Rattle.palm_model.specs.State.{present};
+ghost use Rattle.palm_session.specs.Answers.{IsAnswer, SaysCert, SaysMinimal, SaysMinimalConflict, SaysWhy};
 ghost use Rattle.palm_session.specs.ReplyText.{reply_text, ReplyFits};
-ghost use Rattle.palm_session.specs.Serving.{FindsPair, Serves, TellsOpenly, TellsUnlessPaused, Withholds};
+ghost use Rattle.palm_session.specs.Requests.{CanAsk};
+ghost use Rattle.palm_session.specs.Serving.{IsOpen};
 ghost use Rattle.palm_session.specs.State.{IsHeld, IsState};
+ghost use Rattle.palm_session.specs.declared.request.Question.TheVariants as Question;
+ghost use Rattle.palm_session.specs.declared.request.Request.TheVariants as Request;
 
 use crate::desk::Desk;
 use crate::reply::Reply;
+use crate::request::Question;
 use palm_agenda::Order;
-use palm_base::{CidList, NoMemory, Pair, Value};
-use palm_claim::Claim;
+use palm_base::{CidList, NoMemory, Pair};
 use palm_guide::Guide;
-use palm_lang::{Fixed, Lead, Line, Name, Refusal};
+use palm_lang::{Claim, Fixed, Lead};
 use palm_reduce::{minimal_conflict, minimal_why};
 
 impl<G: Guide, O: Order> Desk<G, O> {
-    /// The reply of a line's own, or `paused` where filtering waits.
-    pub fn unless_paused(&self, own: Reply) -> Reply
-        requires { ReplyFits self.now.state own }
-        ensures tells { TellsUnlessPaused self.now.state (λ text. text ≡ reply_text self.now.state own) (reply_text self.now.state result) }
-        ensures fits { ReplyFits self.now.state result }
-    {
-        if self.paused {
-            Reply::Word(Fixed::Paused)
-        } else {
-            own
-        }
-    }
-
-    /// The word in place of what domains say: `paused` where filtering waits, `contradiction` where some variable has no
-    /// value.
-    fn withheld(&self) -> Option<Fixed>
-        requires { IsState self.now.state }
-        ensures { Withholds self.now.state result }
-    {
-        if self.paused {
-            Some(Fixed::Paused)
-        } else if self.is_contradiction() {
-            Some(Fixed::Contradiction)
-        } else {
-            None
-        }
-    }
-
-    /// The reply of a line's own, unless domains are withheld.
-    pub fn unless_withheld(&self, own: Reply) -> Reply
+    /// The answer to a question that is not withheld.
+    pub(crate) fn answer_of(&self, question: Question) -> Result<Reply, NoMemory>
         requires state { IsState self.now.state }
-        requires fits { ReplyFits self.now.state own }
-        ensures tells { TellsOpenly self.now.state (λ text. text ≡ reply_text self.now.state own) (reply_text self.now.state result) }
-        ensures fits { ReplyFits self.now.state result }
-    {
-        match self.withheld() {
-            Some(word) => Reply::Word(word),
-            None => own,
-        }
-    }
-
-    /// Serves `domain NAME`: looks the name up, once.
-    pub fn serve_domain(&self, name: &Name) -> Reply
-        requires { IsState self.now.state }
-        ensures serves { Serves self.now.state (Line.Domain name.now) (reply_text self.now.state result) self.now.state }
-        ensures fits { ReplyFits self.now.state result }
-    {
-        match self.book.variable_named(name) {
-            Some(var) => self.unless_withheld(Reply::Domain(var)),
-            None => Reply::Refused(Refusal::E4),
-        }
-    }
-
-    /// The pair that a line asks for, by a name that is looked up once, or the refusal of what is not declared.
-    fn asked_pair(&self, name: &Name, value: Value) -> Result<Pair, Refusal>
-        requires { IsHeld self.now.state }
-        ensures { FindsPair self.now.state name.now value result }
-    {
-        let Some(var) = self.book.variable_named(name) else {
-            return Err(Refusal::E4);
-        };
-        if !self.engine.store().declared(Pair { var, value }) {
-            return Err(Refusal::E12);
-        }
-        Ok(Pair { var, value })
-    }
-
-    /// Serves `why NAME VALUE`.
-    pub fn serve_why(&self, name: &Name, value: Value) -> Result<Reply, NoMemory>
-        requires { IsState self.now.state }
-        ensures serves { IfOk result (λ reply. Serves self.now.state (Line.Why name.now value) (reply_text self.now.state reply) self.now.state) }
+        requires can { CanAsk self.now.state question }
+        requires open { IsOpen self.now.state (Request.Ask question) }
+        ensures answers { IfOk result (λ reply. IsAnswer self.now.state question (reply_text self.now.state reply)) }
         ensures fits { IfOk result (ReplyFits self.now.state) }
     {
-        let pair = match self.asked_pair(name, value) {
-            Ok(pair) => pair,
-            Err(refusal) => return Ok(Reply::Refused(refusal)),
-        };
-        match self.withheld() {
-            Some(word) => Ok(Reply::Word(word)),
-            None => self.why(pair),
+        match question {
+            Question::Domains => Ok(Reply::Domains),
+            Question::Domain(var) => Ok(Reply::Domain(var)),
+            Question::List => Ok(Reply::Listing),
+            Question::Log => Ok(Reply::Log),
+            Question::Why(pair) => self.why(pair),
+            Question::Conflict => self.conflict(),
+            Question::Minimal(pair) => self.minimal(pair),
+            Question::MinimalConflict => self.minimal_conflict(),
+            Question::Cert(pair) => Ok(self.cert(pair)),
+            Question::CertConflict => Ok(self.cert_conflict()),
         }
     }
 
@@ -110,32 +52,16 @@ impl<G: Guide, O: Order> Desk<G, O> {
         ensures fits { IfOk result (ReplyFits self.now.state) }
     {
         let Pair { var, value } = pair;
-        let log = self.engine.log();
+        let log = self.engine().log();
         if log.place_of(Pair { var, value }).is_none() {
             return Ok(Reply::Word(Fixed::Present));
         }
-        let mut names = CidList::new(self.alloc);
-        log.explanation(Pair { var, value }, &mut names)?;
+        let mut users = CidList::new(self.alloc());
+        log.explanation(Pair { var, value }, &mut users)?;
         Ok(Reply::Users {
             lead: Lead::Because,
-            names,
+            users,
         })
-    }
-
-    /// Serves `minimal NAME VALUE`.
-    pub fn serve_minimal(&self, name: &Name, value: Value) -> Result<Reply, NoMemory>
-        requires { IsState self.now.state }
-        ensures serves { IfOk result (λ reply. Serves self.now.state (Line.Minimal name.now value) (reply_text self.now.state reply) self.now.state) }
-        ensures fits { IfOk result (ReplyFits self.now.state) }
-    {
-        let pair = match self.asked_pair(name, value) {
-            Ok(pair) => pair,
-            Err(refusal) => return Ok(Reply::Refused(refusal)),
-        };
-        match self.withheld() {
-            Some(word) => Ok(Reply::Word(word)),
-            None => self.minimal(pair),
-        }
     }
 
     /// `present`, or the minimal explanation of the pair's absence.
@@ -146,67 +72,46 @@ impl<G: Guide, O: Order> Desk<G, O> {
         ensures tells { IfOk result (λ reply. SaysMinimal self.now.state.book pair (reply_text self.now.state reply)) }
         ensures fits { IfOk result (ReplyFits self.now.state) }
     {
-        match minimal_why(self.alloc, &self.book, pair)? {
-            Some(names) => Ok(Reply::Users {
+        match minimal_why(self.alloc(), self.book(), pair)? {
+            Some(users) => Ok(Reply::Users {
                 lead: Lead::Because,
-                names,
+                users,
             }),
             None => Ok(Reply::Word(Fixed::Present)),
         }
     }
 
-    /// Serves `minimal conflict`.
-    pub fn serve_minimal_conflict(&self) -> Result<Reply, NoMemory>
-        requires { IsState self.now.state }
-        ensures serves { IfOk result (λ reply. Serves self.now.state Line.MinimalConflict (reply_text self.now.state reply) self.now.state) }
+    /// `consistent`, or the minimal conflict.
+    fn minimal_conflict(&self) -> Result<Reply, NoMemory>
+        ensures tells { IfOk result (λ reply. SaysMinimalConflict self.now.state.book (reply_text self.now.state reply)) }
         ensures fits { IfOk result (ReplyFits self.now.state) }
     {
-        if self.paused {
-            return Ok(Reply::Word(Fixed::Paused));
-        }
-        match minimal_conflict(self.alloc, &self.book)? {
-            Some(names) => Ok(Reply::Users {
+        match minimal_conflict(self.alloc(), self.book())? {
+            Some(users) => Ok(Reply::Users {
                 lead: Lead::Conflict,
-                names,
+                users,
             }),
             None => Ok(Reply::Word(Fixed::Consistent)),
         }
     }
 
-    /// Serves `conflict`.
-    pub fn serve_conflict(&self) -> Result<Reply, NoMemory>
-        requires { IsState self.now.state }
-        ensures serves { IfOk result (λ reply. Serves self.now.state Line.Conflict (reply_text self.now.state reply) self.now.state) }
+    /// `consistent`, or the conflict that the engine keeps.
+    fn conflict(&self) -> Result<Reply, NoMemory>
+        requires state { IsState self.now.state }
+        requires awake { self.now.state.paused ≡ false }
+        ensures tells { IfOk result (λ reply. IsAnswer self.now.state Question.Conflict (reply_text self.now.state reply)) }
         ensures fits { IfOk result (ReplyFits self.now.state) }
     {
-        if self.paused {
-            return Ok(Reply::Word(Fixed::Paused));
-        }
-        if self.engine.empty_variable().is_none() {
+        let engine = self.engine();
+        if engine.empty_variable().is_none() {
             return Ok(Reply::Word(Fixed::Consistent));
         }
-        let mut names = CidList::new(self.alloc);
-        self.engine.conflict(&mut names)?;
+        let mut users = CidList::new(self.alloc());
+        engine.conflict(&mut users)?;
         Ok(Reply::Users {
             lead: Lead::Conflict,
-            names,
+            users,
         })
-    }
-
-    /// Serves `cert NAME VALUE`.
-    pub fn serve_cert(&self, name: &Name, value: Value) -> Reply
-        requires { IsState self.now.state }
-        ensures serves { Serves self.now.state (Line.Cert name.now value) (reply_text self.now.state result) self.now.state }
-        ensures fits { ReplyFits self.now.state result }
-    {
-        let pair = match self.asked_pair(name, value) {
-            Ok(pair) => pair,
-            Err(refusal) => return Reply::Refused(refusal),
-        };
-        match self.withheld() {
-            Some(word) => Reply::Word(word),
-            None => self.cert(pair),
-        }
     }
 
     /// `present`, or the certificate of a removed pair.
@@ -216,22 +121,20 @@ impl<G: Guide, O: Order> Desk<G, O> {
         ensures fits { ReplyFits self.now.state result }
     {
         let Pair { var, value } = pair;
-        if self.engine.log().place_of(Pair { var, value }).is_none() {
+        if self.engine().log().place_of(Pair { var, value }).is_none() {
             return Reply::Word(Fixed::Present);
         }
         Reply::Certificate(Claim::Gone(Pair { var, value }))
     }
 
-    /// Serves `cert conflict`.
-    pub fn serve_cert_conflict(&self) -> Reply
-        requires { IsState self.now.state }
-        ensures serves { Serves self.now.state Line.CertConflict (reply_text self.now.state result) self.now.state }
+    /// `consistent`, or the certificate of the lowest variable without a value.
+    fn cert_conflict(&self) -> Reply
+        requires state { IsState self.now.state }
+        requires awake { self.now.state.paused ≡ false }
+        ensures tells { IsAnswer self.now.state Question.CertConflict (reply_text self.now.state result) }
         ensures fits { ReplyFits self.now.state result }
     {
-        if self.paused {
-            return Reply::Word(Fixed::Paused);
-        }
-        match self.engine.empty_variable() {
+        match self.engine().empty_variable() {
             Some(var) => Reply::Certificate(Claim::Conflict(var)),
             None => Reply::Word(Fixed::Consistent),
         }

@@ -1,11 +1,10 @@
 //! What is replied to a line, before it is written.
 use palm_base::{CidList, ValueList, Var};
-use palm_claim::Claim;
-use palm_lang::{Fixed, Lead, Refusal};
+use palm_lang::{Claim, Fixed, Lead, Refusal};
 
 /// A reply. What it shows of the book, the domains and the log is read when it is written.
 #[derive(Debug, Drop)]
-pub enum Reply {
+pub(crate) enum Reply {
     /// Nothing, to a comment.
     Nothing,
     /// One word.
@@ -23,7 +22,7 @@ pub enum Reply {
     /// The removals.
     Log,
     /// The names of users' constraints behind a word.
-    Users { lead: Lead, names: CidList },
+    Users { lead: Lead, users: CidList },
     /// The certificate of a claim.
     Certificate(Claim),
     /// One value for each variable.

@@ -1,100 +1,125 @@
-//! Filtering, and what is told of the domains afterwards.
-ghost use Rattle.std.specs.Prelude.{◌≡◌, ◌+◌, ◌-◌, min, None, IfOk, OnOk, is_some};
-ghost use Rattle.palm_base.specs.Tells.{Tells};
-ghost use Rattle.palm_base.specs.declared.limits.TheConstants.{LAST_COUNT};
-ghost use Rattle.palm_engine.specs.Engine.{HasAsked, HasSettled};
-ghost use Rattle.palm_lang.specs.Reply.{fixed_text};
-ghost use Rattle.palm_model.specs.State.{IsValid};
+//! What follows a change: filtering, so many revisions, or a search.
+ghost use Rattle.std.specs.Prelude.{◌≡◌, ◌-◌, ◌<◌, IfOk, OnOk};
 ghost use Rattle.palm_session.specs.Effects.{unless_paused};
-ghost use Rattle.palm_session.specs.ReplyText.{reply_text, ReplyFits};
-ghost use Rattle.palm_session.specs.Serving.{Followed, Ran, Spends, TellsDomains};
-ghost use Rattle.palm_session.specs.State.{IsContradiction, IsHeld, IsState};
+ghost use Rattle.palm_session.specs.Serving.{CanDo, Followed, HasSearched, IsDone, RanAll, Spends};
+ghost use Rattle.palm_session.specs.State.{IsHeld};
+ghost use Rattle.palm_session.specs.Requests.{HasTabu};
+ghost use Rattle.palm_session.specs.declared.request.Procedure.TheVariants as Procedure;
 
 use crate::desk::Desk;
-use crate::objects::Objects;
+use crate::remainder::{Own, Remainder};
 use crate::reply::Reply;
+use crate::request::Procedure;
 use palm_agenda::Order;
 use palm_base::{NoMemory, Steps};
-use palm_engine::{Engine, Settle};
+use palm_dbt::Answer;
 use palm_guide::Guide;
-use palm_kind::Kind;
-use palm_lang::Fixed;
+use palm_lang::{Fixed, Lead};
+use palm_repair::RepairAnswer;
 use std::sync::ledger::Ledger;
 
 impl<G: Guide, O: Order> Desk<G, O> {
-    /// Runs revisions until a domain is empty, nothing is pending, or as many ran as the limit says. It answers how many
-    /// ran, and the last number of a count where there were more.
-    pub fn settle<L: Ledger>(
+    /// Does what is left of a request, and answers what is to be said.
+    pub(crate) fn follow<L: Ledger>(
         &mut self,
-        limit: Option<u64>,
+        remainder: Remainder,
         steps: &mut Steps<L>,
-    ) -> Result<u64, NoMemory>
-        ensures ran { IfOk result (λ told. Ran self.old.state limit told self.new.state (steps.new - steps.old)) }
+    ) -> Result<Own, NoMemory>
+        requires held { IsHeld self.old.state }
+        requires can { CanDo remainder }
+        ensures done { IfOk result (IsDone self.old.state remainder self.new.state (steps.new - steps.old)) }
         ensures spends { Spends self.old self.new steps.old steps.new }
     {
-        settle_by(&mut self.engine, &mut self.orders, limit, steps)?;
-        Ok(self.engine.revisions())
+        match remainder {
+            Remainder::Say(own) => Ok(own),
+            Remainder::Filter => {
+                self.filter(steps)?;
+                Ok(Own::Said(Reply::Word(Fixed::Done)))
+            }
+            Remainder::Run(count) => Ok(Own::Said(Reply::Ran(self.run(count, steps)?))),
+            Remainder::Search(by) => Ok(Own::Said(self.search(by, steps)?)),
+            Remainder::End => Ok(Own::Said(Reply::Word(Fixed::Bye))),
+        }
     }
 
     /// Filters, unless filtering waits.
-    fn follow<L: Ledger>(&mut self, steps: &mut Steps<L>) -> Result<(), NoMemory>
+    fn filter<L: Ledger>(&mut self, steps: &mut Steps<L>) -> Result<(), NoMemory>
         ensures followed { OnOk result (Followed self.old.state (unless_paused self.old.state) self.new.state (steps.new - steps.old)) }
         ensures spends { Spends self.old self.new steps.old steps.new }
     {
-        if self.paused {
+        if self.is_paused() {
             return Ok(());
         }
         self.settle(None, steps)?;
         Ok(())
     }
 
-    /// Filters, unless filtering waits, and answers `ok`, or `contradiction` where some variable has no value then.
-    pub fn filtered<L: Ledger>(&mut self, steps: &mut Steps<L>) -> Result<Reply, NoMemory>
-        requires held { IsHeld self.old.state }
-        ensures followed { OnOk result (Followed self.old.state (unless_paused self.old.state) self.new.state (steps.new - steps.old)) }
+    /// Runs so many revisions at most, and answers how many ran.
+    fn run<L: Ledger>(&mut self, count: u64, steps: &mut Steps<L>) -> Result<u64, NoMemory>
+        ensures ran { IfOk result (λ told. RanAll self.old.state count told self.new.state (steps.new - steps.old)) }
         ensures spends { Spends self.old self.new steps.old steps.new }
-        ensures tells { IfOk result (λ reply. TellsDomains self.new.state (λ text. text ≡ fixed_text Fixed.Done) (reply_text self.new.state reply)) }
-        ensures fits { IfOk result (ReplyFits self.new.state) }
     {
-        self.follow(steps)?;
-        Ok(self.told())
+        self.settle(Some(count), steps)
     }
 
-    /// `ok`, or `contradiction` where some variable has no value.
-    pub fn told(&self) -> Reply
-        requires { IsState self.now.state }
-        ensures tells { TellsDomains self.now.state (λ text. text ≡ fixed_text Fixed.Done) (reply_text self.now.state result) }
-        ensures fits { ReplyFits self.now.state result }
+    /// Searches, and answers how the search ended.
+    fn search<L: Ledger>(&mut self, by: Procedure, steps: &mut Steps<L>) -> Result<Reply, NoMemory>
+        requires held { IsHeld self.old.state }
+        requires some { HasTabu by }
+        ensures searched { IfOk result (λ reply. HasSearched self.old.state by reply self.new.state) }
+        ensures spends { Spends self.old self.new steps.old steps.new }
     {
-        if self.is_contradiction() {
-            Reply::Word(Fixed::Contradiction)
-        } else {
-            Reply::Word(Fixed::Done)
+        match by {
+            Procedure::Dbt { budget } => self.solve_by_dbt(budget, steps),
+            Procedure::Repair { tabu, budget } => self.solve_by_repair(tabu, budget, steps),
         }
     }
 
-    /// Whether filtering does not wait and some variable has no value.
-    pub fn is_contradiction(&self) -> bool
-        requires { IsState self.now.state }
-        ensures { Tells result (IsContradiction self.now.state) }
+    /// Searches by mac-dbt within so many turns.
+    fn solve_by_dbt<L: Ledger>(
+        &mut self,
+        budget: u64,
+        steps: &mut Steps<L>,
+    ) -> Result<Reply, NoMemory>
+        requires { IsHeld self.old.state }
+        ensures searched { IfOk result (λ reply. HasSearched self.old.state (Procedure.Dbt budget) reply self.new.state) }
+        ensures spends { Spends self.old self.new steps.old steps.new }
     {
-        !self.paused && self.engine.empty_variable().is_some()
+        match self.search_by_dbt(budget, steps)? {
+            Answer::Found(values) => Ok(Reply::Found(values)),
+            Answer::NoSolution(users) => Ok(Reply::Users {
+                lead: Lead::NoSolution,
+                users,
+            }),
+            Answer::Spent(turns) => Ok(Reply::Spent {
+                turns,
+                dropped: None,
+            }),
+        }
     }
-}
 
-/// Settles by the order that is chosen, or without one.
-fn settle_by<O: Order, L: Ledger>(
-    engine: &mut Engine<Kind>,
-    orders: &mut Objects<O>,
-    limit: Option<u64>,
-    steps: &mut Steps<L>,
-) -> Result<Settle, NoMemory>
-    ensures ok { IfOk result (λ answer. HasSettled limit (is_some orders.old.chosen) answer engine.old engine.new) }
-    ensures asked { HasAsked engine.old.state engine.new.state steps.old steps.new }
-    ensures checks { engine.new.checks ≡ min (engine.old.checks + (steps.new - steps.old)) LAST_COUNT }
-    ensures orders { orders.new ≡ orders.old }
-    ensures valid { IsValid engine.new.state }
-{
-    let place = orders.chosen;
-    engine.settle(&mut orders.places[place], limit, steps)
+    /// Searches by decision-repair within so many turns, by a list of at most so many nogoods.
+    fn solve_by_repair<L: Ledger>(
+        &mut self,
+        tabu: u32,
+        budget: u64,
+        steps: &mut Steps<L>,
+    ) -> Result<Reply, NoMemory>
+        requires held { IsHeld self.old.state }
+        requires some { 0 < tabu }
+        ensures searched { IfOk result (λ reply. HasSearched self.old.state (Procedure.Repair tabu budget) reply self.new.state) }
+        ensures spends { Spends self.old self.new steps.old steps.new }
+    {
+        match self.search_by_repair(tabu, budget, steps)? {
+            RepairAnswer::Found(values) => Ok(Reply::Found(values)),
+            RepairAnswer::NoSolution(users) => Ok(Reply::Users {
+                lead: Lead::NoSolution,
+                users,
+            }),
+            RepairAnswer::Spent { turns, dropped } => Ok(Reply::Spent {
+                turns,
+                dropped: Some(dropped),
+            }),
+        }
+    }
 }

@@ -1,5 +1,7 @@
 //! Forged certificates: one certificate with a line changed, left out or put in.
 use crate::told::are_told;
+use palm_base::NoMemory;
+use std::alloc::Global;
 use std::test::Fail;
 
 #[test]
@@ -97,6 +99,39 @@ fn lines_have_their_places_and_their_causes_an_order(rt: HostRuntime) -> Result<
             "refused 4 C3",
         ),
         (b"palm-cert 1\nclaim x 2\nend\n", "refused 2 C2"),
+    ];
+    assert!(rt; are_told(rt.alloc(), &rows)?);
+    Ok(())
+}
+
+/// The first line and some more, and then so many, each with its number between two texts.
+fn listed(
+    alloc: Global,
+    first: &str,
+    front: &str,
+    count: u32,
+    back: &str,
+) -> Result<String, NoMemory> {
+    let mut text = String::from_str(alloc, first)?;
+    for number in 0..count {
+        writeln!(text, "{front}{number}{back}")?;
+    }
+    Ok(text)
+}
+
+#[test]
+fn a_certificate_has_64_variables_and_256_constraints_at_most(rt: HostRuntime) -> Result<(), Fail> {
+    let header = "palm-cert 1\n";
+    let declared = "palm-cert 1\nvar x 1..2\n";
+    let variables = listed(rt.alloc(), header, "var x", 64, " 1..2")?;
+    let more_variables = listed(rt.alloc(), header, "var x", 65, " 1..2")?;
+    let constraints = listed(rt.alloc(), declared, "add a", 256, " : x = 1")?;
+    let more_constraints = listed(rt.alloc(), declared, "add a", 257, " : x = 1")?;
+    let rows: [(&[u8], &str); 4] = [
+        (variables.as_bytes(), "refused 66 C5"),
+        (more_variables.as_bytes(), "refused 66 C6"),
+        (constraints.as_bytes(), "refused 259 C5"),
+        (more_constraints.as_bytes(), "refused 259 C6"),
     ];
     assert!(rt; are_told(rt.alloc(), &rows)?);
     Ok(())

@@ -3,8 +3,8 @@ ghost use Rattle.palm_claim.specs.Claim.{IsOver, IsOverItsBook};
 
 use palm_base::{NoMemory, push_int};
 use palm_book::Book;
-use palm_check::check;
-use palm_claim::{Cause, Claim, Proved, Verdict};
+use palm_check::{Cause, Proved, Verdict, check};
+use palm_claim::Claim;
 use std::alloc::Global;
 
 /// Whether each text has the verdict beside it, as a line.

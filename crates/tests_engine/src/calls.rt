@@ -5,7 +5,7 @@ ghost use Rattle.palm_domain.specs.declared.limits.TheConstants.{MOST_VALUES};
 ghost use Rattle.palm_model.specs.Constraint.{IsWellFormed};
 ghost use Rattle.palm_model.specs.Domains.{Has};
 ghost use Rattle.palm_model.specs.Log.{IsActive};
-ghost use Rattle.palm_model.specs.State.{IsGround, present};
+ghost use Rattle.palm_model.specs.State.{IsJustifier, present};
 
 use crate::choice::{Choice, run_settling};
 use crate::samples::{Sample, con_of};
@@ -76,8 +76,8 @@ fn is_present<F: Filter>(engine: &Engine<F>, pair: &Pair) -> bool
 }
 
 /// Whether the name is that of an active constraint, and no negation.
-fn is_ground<F: Filter>(engine: &Engine<F>, cid: &Cid) -> bool
-    ensures ground { result ≡ true → IsGround cid.now }
+fn is_justifier<F: Filter>(engine: &Engine<F>, cid: &Cid) -> bool
+    ensures justifier { result ≡ true → IsJustifier cid.now }
     ensures active { result ≡ true → IsActive engine.now.state.active cid.now }
 {
     match cid {
@@ -198,20 +198,20 @@ pub fn assume<F: Filter>(engine: &mut Engine<F>, pair: &Pair) -> Result<bool, No
     Ok(true)
 }
 
-/// Forbids the pair for the ground, where it is declared and not forbidden.
+/// Forbids the pair for the justifier, where it is declared and not forbidden.
 pub fn forbid<F: Filter>(
     engine: &mut Engine<F>,
     pair: &Pair,
-    ground: &Cid,
+    justifier: &Cid,
 ) -> Result<bool, NoMemory> {
     let Pair { var, value } = *pair;
     if engine.is_active(Cid::Not(Pair { var, value }))
         || !is_declared(engine, pair)
-        || !is_ground(engine, ground)
+        || !is_justifier(engine, justifier)
     {
         return Ok(false);
     }
-    engine.forbid(Pair { var, value }, &[*ground])?;
+    engine.forbid(Pair { var, value }, &[*justifier])?;
     Ok(true)
 }
 

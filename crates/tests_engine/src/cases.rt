@@ -31,7 +31,7 @@ pub enum Step<'a> {
     PostAll(&'a [Sample]),
     /// Assumes the pair.
     Assume(Pair),
-    /// Forbids the pair for the ground.
+    /// Forbids the pair for the justifier.
     Forbid(Pair, Cid),
     /// Withdraws the constraint.
     Withdraw(Cid),
@@ -130,7 +130,7 @@ fn is_step(
         Step::Post(number, sample) => post_sample(alloc, engine, *number, sample),
         Step::PostAll(samples) => post_all(alloc, engine, samples),
         Step::Assume(pair) => assume(engine, pair),
-        Step::Forbid(pair, ground) => forbid(engine, pair, ground),
+        Step::Forbid(pair, justifier) => forbid(engine, pair, justifier),
         Step::Withdraw(cid) => Ok(withdraw(engine, cid)),
         Step::Settle => settles(alloc, engine, choice, None, &Settle::Settled),
         Step::Rest => rests(alloc, engine, choice),

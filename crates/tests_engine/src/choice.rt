@@ -20,6 +20,8 @@ pub enum Choice {
     Rotate,
     /// One that answers 1 until it is told of a revision, and 0 from then on.
     SecondOnce,
+    /// One that answers the number that it was told last, and 0 at first.
+    LastNumber,
 }
 
 /// Answers 1 until it is told of a revision, and 0 from then on.
@@ -54,6 +56,38 @@ impl Order for SecondOnce {
     }
 }
 
+/// Answers the number that it was told last, and 0 at first.
+#[derive(Drop)]
+struct LastNumber {
+    number: u32,
+}
+
+impl Model for LastNumber {
+    ghost use Rattle.std.specs.Prelude.{ℕ};
+
+    ghost Value = { ℕ };
+
+    ghost view = { λ order. order.number };
+}
+
+impl Order for LastNumber {
+    ghost use Rattle.std.specs.Prelude.{◌≡◌, [], ◌∷◌};
+
+    ghost state = { λ number. number ∷ [] };
+
+    ghost answers = { λ number pending answer after. (answer ≡ number) × (after ≡ number ∷ []) };
+
+    ghost hears = { λ number cid removed after. after ≡ removed ∷ [] };
+
+    fn next(&mut self, _pending: &[Cid]) -> usize {
+        self.number as usize
+    }
+
+    fn ran(&mut self, _cid: Cid, removed: u32) {
+        self.number = removed;
+    }
+}
+
 /// The object that chooses.
 fn order_of(alloc: Global, choice: &Choice) -> Result<Option<Box<dyn Order>>, NoMemory> {
     match choice {
@@ -61,6 +95,7 @@ fn order_of(alloc: Global, choice: &Choice) -> Result<Option<Box<dyn Order>>, No
         Choice::Last => Ok(Some(Box::new(alloc, LastOrder::new())?)),
         Choice::Rotate => Ok(Some(Box::new(alloc, RotateOrder::new())?)),
         Choice::SecondOnce => Ok(Some(Box::new(alloc, SecondOnce { index: 1 })?)),
+        Choice::LastNumber => Ok(Some(Box::new(alloc, LastNumber { number: 0 })?)),
     }
 }
 

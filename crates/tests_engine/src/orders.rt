@@ -90,3 +90,52 @@ fn an_order_is_told_of_each_revision(rt: HostRuntime) -> Result<(), Fail> {
     assert!(rt; has_logged(rt.alloc(), &Choice::SecondOnce, 6, &log)?);
     Ok(())
 }
+
+// Worked out by hand from the definitions of revisions and settlings: 1 takes x 1 and x 3 out, so that the answer 2 chooses 3,
+// which takes one value out; the answer 1 then chooses 2, which takes one value out and rests, and the others rest.
+#[test]
+fn an_order_is_told_how_many_values_went(rt: HostRuntime) -> Result<(), Fail> {
+    let log = [
+        removed(pair(X, 1), 1, Because::Nothing),
+        removed(pair(X, 3), 1, Because::Nothing),
+        removed(pair(Z, 1), 3, Because::Nothing),
+        removed(pair(Y, 1), 2, Because::Nothing),
+    ];
+    let steps = [
+        Step::Declare(3, Span::OneToThree),
+        Step::Post(1, Sample::Only(X, 2)),
+        Step::Post(2, Sample::Other(Y, 1)),
+        Step::Post(3, Sample::Other(Z, 1)),
+        Step::Settle,
+        Step::Revisions(6),
+        Step::Log(&log),
+    ];
+    assert!(rt; is_case(rt.alloc(), &Choice::LastNumber, &steps)?);
+    Ok(())
+}
+
+// Worked out by hand: turn by turn 1, 2, 3, 5, 1, 5, 2, 4 and 2 run, and then nothing is taken out any more. An order that is
+// told each revision twice takes y 2 out by 3.
+#[test]
+fn an_order_is_told_of_each_revision_once(rt: HostRuntime) -> Result<(), Fail> {
+    let log = [
+        removed(pair(X, 2), 1, Because::Nothing),
+        removed(pair(Y, 2), 2, Because::One(pair(X, 2))),
+        removed(pair(Z, 1), 5, Because::Nothing),
+        removed(pair(Z, 2), 4, Because::One(pair(Y, 2))),
+        removed(pair(Y, 1), 4, Because::One(pair(Z, 1))),
+        removed(pair(X, 1), 2, Because::One(pair(Y, 1))),
+    ];
+    let steps = [
+        Step::Declare(3, Span::OneToThree),
+        Step::Post(1, Sample::Other(X, 2)),
+        Step::Post(2, Sample::Same(X, Y)),
+        Step::Post(3, Sample::Other(Y, 2)),
+        Step::Post(4, Sample::Same(Z, Y)),
+        Step::Post(5, Sample::Other(Z, 1)),
+        Step::Settle,
+        Step::Log(&log),
+    ];
+    assert!(rt; is_case(rt.alloc(), &Choice::Rotate, &steps)?);
+    Ok(())
+}

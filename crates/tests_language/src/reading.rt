@@ -129,6 +129,33 @@ fn every_form_is_read(rt: HostRuntime) -> Result<(), Fail> {
     Ok(())
 }
 
+/// Lines with the longest name and the least and the greatest numbers, as they are printed.
+const AT_THE_LIMITS: &[&str] = &[
+    "relax name_of_32_bytes_is_the_longest_",
+    "var x {-1000000,1000000}",
+    "add a : x < y - 2000000",
+    "add a : x < y + 2000000",
+    "add s : sum -100000*x + 100000*y <= -1000000000000",
+    "add s : sum x <= 1000000000000",
+    "step 1",
+    "step 1000000",
+    "guide 1000000",
+    "order 1000000",
+    "drop guide 1000000",
+    "drop order 1000000",
+    "solve dbt budget 1",
+    "solve repair tabu 1 budget 1",
+    "solve repair tabu 1024 budget 18446744073709551615",
+];
+
+#[test]
+fn numbers_at_the_limits_are_read(rt: HostRuntime) -> Result<(), Fail> {
+    for line in AT_THE_LIMITS {
+        assert!(rt; reads_as(rt.alloc(), line, line)?);
+    }
+    Ok(())
+}
+
 /// Lines beside the texts that they are printed as.
 const WRITTEN_OTHERWISE: &[(&str, &str)] = &[
     ("", ""),
@@ -199,11 +226,32 @@ const ONE_FAULT: &[(&str, LineError)] = &[
     ("add in : x < y", LineError::Form),
     ("relax name_of_33_bytes_is_one_too_long_", LineError::Form),
     ("! list", LineError::Form),
+    ("var w {-1000001}", LineError::Range),
+    ("var w {1000001}", LineError::Range),
+    ("add s : sum -100001*x <= 1", LineError::Range),
+    ("add s : sum 100001*x <= 1", LineError::Range),
+    ("add s : sum x <= -1000000000001", LineError::Range),
+    ("add s : sum x <= 1000000000001", LineError::Range),
     ("step 0", LineError::Range),
+    ("step 1000001", LineError::Range),
+    ("guide 0", LineError::Range),
     ("guide 1000001", LineError::Range),
+    ("order 0", LineError::Range),
+    ("order 1000001", LineError::Range),
+    ("drop guide 0", LineError::Range),
+    ("drop guide 1000001", LineError::Range),
+    ("drop order 0", LineError::Range),
+    ("drop order 1000001", LineError::Range),
     ("solve dbt budget 0", LineError::Range),
     ("solve dbt budget 18446744073709551616", LineError::Range),
+    ("solve repair tabu 0 budget 1", LineError::Range),
     ("solve repair tabu 1025 budget 1", LineError::Range),
+    ("solve repair tabu 1 budget 0", LineError::Range),
+    (
+        "solve repair tabu 1 budget 18446744073709551616",
+        LineError::Range,
+    ),
+    ("add a : x < y - 2000001", LineError::Range),
     ("add a : x < y + 2000001", LineError::Range),
     (
         "why x 999999999999999999999999999999999999999999",
@@ -234,6 +282,43 @@ fn a_line_may_be_beyond_the_limits(rt: HostRuntime) -> Result<(), Fail> {
     assert!(rt; is_within(alloc, "var x 1..256")?);
     assert!(rt; is_beyond(alloc, "add d : differ a b c d e f g h i j k l m n o p q")?);
     assert!(rt; is_within(alloc, "add d : differ a b c d e f g h i j k l m n o p")?);
+    Ok(())
+}
+
+/// A front, a text so often, and an end.
+fn repeated(
+    alloc: Global,
+    front: &str,
+    text: &str,
+    count: u32,
+    end: &str,
+) -> Result<String, NoMemory> {
+    let mut line = String::from_str(alloc, front)?;
+    for _ in 0..count {
+        line.push_str(text)?;
+    }
+    line.push_str(end)?;
+    Ok(line)
+}
+
+/// Whether a line with the text so often is within the limits, and one with the text once more is beyond them.
+fn is_most(
+    alloc: Global,
+    front: &str,
+    text: &str,
+    count: u32,
+    end: &str,
+) -> Result<bool, NoMemory> {
+    let within = repeated(alloc, front, text, count, end)?;
+    let longer = repeated(alloc, front, text, 1, "")?;
+    let beyond = repeated(alloc, &longer, text, count, end)?;
+    Ok(is_within(alloc, &within)? && is_beyond(alloc, &beyond)?)
+}
+
+#[test]
+fn a_table_has_at_most_256_rows_and_a_list_256_entries(rt: HostRuntime) -> Result<(), Fail> {
+    assert!(rt; is_most(rt.alloc(), "add t : table x :", " (1)", 256, "")?);
+    assert!(rt; is_most(rt.alloc(), "add e : element z y (5", ",5", 255, ")")?);
     Ok(())
 }
 

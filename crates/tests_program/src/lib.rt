@@ -1,5 +1,5 @@
 //! Tests of the program's one call, `top`, over sources and sinks in memory: worked sessions with the expected replies,
-//! certificates, streams that fail, other words, and the order of reads and writes.
+//! certificates, streams that fail, other words, limits, and the order of reads and writes.
 #![tactic(auto)]
 
 #[cfg(test)]
@@ -8,6 +8,8 @@ mod certificates;
 mod certified;
 #[cfg(test)]
 mod changes;
+#[cfg(test)]
+mod limits;
 #[cfg(test)]
 mod objects;
 #[cfg(test)]

@@ -153,6 +153,51 @@ fn is_guided(alloc: Global, first: i32, lines: &str, replies: &str) -> Result<bo
     answers_with(alloc, &text, &wanted, 7, guides, no_orders(alloc))
 }
 
+/// Picks nothing.
+#[derive(Drop)]
+struct Silent;
+
+impl Guide for Silent {
+    ghost use Rattle.std.specs.Prelude.{◌≡◌, [], None};
+
+    ghost state = { λ guide. [] };
+
+    ghost answers = { λ guide view answer after. (answer ≡ None) × (after ≡ []) };
+
+    ghost hears = { λ guide conflict after. after ≡ [] };
+
+    fn pick(&mut self, _view: &[ViewRow]) -> Option<Pair> {
+        None
+    }
+
+    fn learned(&mut self, _conflict: &[Var]) {}
+}
+
+/// Whether x < y is solved by the default while this guide is chosen.
+fn is_not_followed<G: Guide>(alloc: Global, guide: G) -> Result<bool, NoMemory> {
+    let mut guides = Vec::new(alloc);
+    guides.push(guide)?;
+    let text = b"var x 1..3\nvar y 1..3\nadd a : x < y\nguide 1\nsolve dbt\n";
+    let replies = "ok\nok\nok\nok\nfound x=1 y=2\n";
+    answers_with(alloc, text, replies, 7, guides, no_orders(alloc))
+}
+
+#[test]
+fn what_a_guide_must_not_pick_is_not_followed(rt: HostRuntime) -> Result<(), Fail> {
+    let nowhere = Always {
+        var: Var(4_000_000_000),
+        value: Value(1),
+    };
+    let undeclared = Always {
+        var: Var(0),
+        value: Value(77),
+    };
+    assert!(rt; is_not_followed(rt.alloc(), Silent)?);
+    assert!(rt; is_not_followed(rt.alloc(), nowhere)?);
+    assert!(rt; is_not_followed(rt.alloc(), undeclared)?);
+    Ok(())
+}
+
 #[test]
 fn a_guide_picks_decisions(rt: HostRuntime) -> Result<(), Fail> {
     let one = "guide 1\nsolve dbt\ndrop guide 1\nguide 1\n";

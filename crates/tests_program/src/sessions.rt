@@ -154,6 +154,49 @@ fn lines_are_too_long(rt: HostRuntime) -> Result<(), Fail> {
     Ok(())
 }
 
+/// Whether so many bytes, these and then the same one again and again, are answered so behind a variable.
+fn is_answered(
+    alloc: Global,
+    front: &str,
+    byte: u8,
+    bytes: usize,
+    reply: &str,
+) -> Result<bool, NoMemory> {
+    let mut text = Vec::new(alloc);
+    text.extend_from_slice(b"var x 1..3\n")?;
+    text.extend_from_slice(front.as_bytes())?;
+    for _ in front.len()..bytes {
+        text.push(byte)?;
+    }
+    text.push(b'\n')?;
+    let mut replies = String::from_str(alloc, "ok\n")?;
+    replies.push_str(reply)?;
+    answers(alloc, &text, &replies, 4_096)
+}
+
+/// How a line begins, the byte that it goes on with, how many it has in all, and the reply.
+const HOSTILE: &[(&str, u8, usize, &str)] = &[
+    ("#", b'a', 65_536, ""),
+    ("#", b'a', 65_537, "error E1 bytes or length\n"),
+    ("domain x", b' ', 65_536, "x: 1 2 3\n"),
+    ("domain x", b' ', 65_537, "error E1 bytes or length\n"),
+    (
+        "step 99999999999999999999999999999999999999999",
+        b' ',
+        0,
+        "error E6 number out of range\n",
+    ),
+    ("add p : x <", b' ', 0, "error E2 no such form\n"),
+];
+
+#[test]
+fn hostile_lines_are_answered(rt: HostRuntime) -> Result<(), Fail> {
+    for (front, byte, bytes, reply) in HOSTILE {
+        assert!(rt; is_answered(rt.alloc(), front, *byte, *bytes, reply)?);
+    }
+    Ok(())
+}
+
 #[test]
 fn the_longest_line_is_read(rt: HostRuntime) -> Result<(), Fail> {
     let mut text = vec![in rt.alloc(); b'#'; 65_536]?;

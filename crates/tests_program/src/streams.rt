@@ -1,4 +1,5 @@
 //! Streams that fail, and when replies are written.
+ghost use Rattle.std.specs.Prelude.{◌<◌};
 ghost use Rattle.palm_base.specs.Memory.{source_state, sink_state};
 
 use crate::words::{no_guides, no_orders, words_of};
@@ -11,29 +12,80 @@ use std::alloc::Global;
 use std::cell::Cell;
 use std::test::Fail;
 
-/// How `run` ends on two lines where the listed calls of the source and of the sink fail.
-fn ends(alloc: Global, reads: &[u64], writes: &[u64]) -> Result<Status, NoMemory> {
+/// A session of 44 bytes.
+const TEXT: &str = "var x 1..3\nvar y 1..3\nadd a : x < y\ndomains\n";
+
+/// Its replies, of 27 bytes.
+const REPLIES: &str = "ok\nok\nok\nx: 1 2\ny: 2 3\nend\n";
+
+/// Whether `run` ends so on the session, read in pieces of 11 bytes and written in pieces of so many, where the listed calls
+/// of the source and of the sink fail, and writes this.
+fn ends(
+    alloc: Global,
+    reads: &[u64],
+    writes: &[u64],
+    piece: usize,
+    status: Status,
+    output: &[u8],
+) -> Result<bool, NoMemory>
+    requires { 0 < piece }
+{
     let reads = CallList::from_slice(alloc, reads)?;
     let writes = CallList::from_slice(alloc, writes)?;
-    let bytes = ByteList::from_slice(alloc, b"var x 1..3\ndomains\n")?;
+    let bytes = ByteList::from_slice(alloc, TEXT.as_bytes())?;
     let words = words_of(alloc, &["run"])?;
-    let mut source = MemorySource::new(bytes, 7, reads);
-    let mut sink = MemorySink::new(alloc, 7, writes);
-    Ok(top(
+    let mut source = MemorySource::new(bytes, 11, reads);
+    let mut sink = MemorySink::new(alloc, piece, writes);
+    sink.reserve(64)?;
+    let ended = top(
         alloc,
         &words,
         &mut source,
         &mut sink,
         no_guides(alloc),
         no_orders(alloc),
-    ))
+    );
+    Ok(ended == status && sink.bytes() == output)
+}
+
+/// The read that fails, what was written before it, and how `run` ends; the session takes four reads, and a fifth finds its
+/// end.
+const FAILING_READS: &[(u64, &str, Status)] = &[
+    (1, "", Status::ReadFault),
+    (2, "ok\n", Status::ReadFault),
+    (3, "ok\nok\n", Status::ReadFault),
+    (4, "ok\nok\n", Status::ReadFault),
+    (5, REPLIES, Status::ReadFault),
+    (6, REPLIES, Status::Done),
+];
+
+#[test]
+fn a_failing_read_ends_the_run(rt: HostRuntime) -> Result<(), Fail> {
+    for (call, output, status) in FAILING_READS {
+        assert!(rt; ends(rt.alloc(), &[*call], &[], 7, *status, output.as_bytes())?);
+    }
+    Ok(())
 }
 
 #[test]
-fn a_failing_stream_ends_the_run(rt: HostRuntime) -> Result<(), Fail> {
-    assert_eq!(rt; ends(rt.alloc(), &[], &[])?, Status::Done);
-    assert_eq!(rt; ends(rt.alloc(), &[2], &[])?, Status::ReadFault);
-    assert_eq!(rt; ends(rt.alloc(), &[], &[1])?, Status::WriteFault);
+fn a_failing_write_ends_the_run(rt: HostRuntime) -> Result<(), Fail> {
+    let mut call = 1;
+    for (written, _) in REPLIES.as_bytes().iter().enumerate() {
+        let front = &REPLIES.as_bytes()[..written];
+        assert!(rt; ends(rt.alloc(), &[], &[call], 1, Status::WriteFault, front)?);
+        call = call.saturating_add(1);
+    }
+    assert_eq!(rt; call, 28);
+    assert!(rt;
+        ends(
+            rt.alloc(),
+            &[],
+            &[call],
+            1,
+            Status::Done,
+            REPLIES.as_bytes()
+        )?
+    );
     Ok(())
 }
 

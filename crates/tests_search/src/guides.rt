@@ -79,3 +79,13 @@ pub fn is_weighed(alloc: Global, case: &Case<'_>) -> Result<bool, NoMemory> {
     let mut guide: Option<Box<dyn Guide>> = Some(Box::new(alloc, conflicts)?);
     is_searched(alloc, case, &mut guide)
 }
+
+/// Whether a search with a guide that counts does it, and tells the guide so many variables.
+pub fn is_told(alloc: Global, case: &Case<'_>, count: u32) -> Result<bool, NoMemory> {
+    let mut guide = Some(Counting { count: 0 });
+    let searched = is_searched(alloc, case, &mut guide)?;
+    match &guide {
+        Some(counting) => Ok(searched && counting.count == count),
+        None => Ok(false),
+    }
+}

@@ -15,3 +15,5 @@ mod repair;
 mod searches;
 #[cfg(test)]
 mod stock;
+#[cfg(test)]
+mod told;

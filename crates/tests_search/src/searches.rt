@@ -4,7 +4,7 @@ ghost use Rattle.palm_search.specs.Kept.{HasOnlyUsers};
 
 use crate::journal::{End, Wanted, are_turns, is_end, is_repair_end};
 use crate::problems::{Problem, pose};
-use palm_agenda::LastOrder;
+use palm_agenda::{LastOrder, Order};
 use palm_base::{NoMemory, Steps, Var};
 use palm_dbt::{Answer, solve};
 use palm_domain::DomainStore;
@@ -34,12 +34,13 @@ fn settle_counted<F: Filter, L: Ledger>(
     engine.settle(&mut order, None, &mut steps)
 }
 
-/// A search without an order, counted from nothing.
-fn solve_counted<F: Filter, G: Guide, L: Ledger>(
+/// A search, counted from nothing.
+fn solve_counted<F: Filter, G: Guide, O: Order, L: Ledger>(
     alloc: Global,
     engine: &mut Engine<F>,
     search: &mut Search,
     guide: &mut Option<G>,
+    order: &mut Option<O>,
     budget: u64,
     blank: Blank,
 ) -> Result<Answer, NoMemory>
@@ -50,16 +51,16 @@ fn solve_counted<F: Filter, G: Guide, L: Ledger>(
     requires users { HasOnlyUsers engine.old.state }
 {
     let mut steps = Steps::<L>::start(blank);
-    let mut order: Option<LastOrder> = None;
-    solve(alloc, engine, search, guide, &mut order, budget, &mut steps)
+    solve(alloc, engine, search, guide, order, budget, &mut steps)
 }
 
-/// A repair without an order, counted from nothing.
-fn repair_counted<F: Filter, G: Guide, L: Ledger>(
+/// A repair, counted from nothing.
+fn repair_counted<F: Filter, G: Guide, O: Order, L: Ledger>(
     alloc: Global,
     engine: &mut Engine<F>,
     search: &mut Search,
     guide: &mut Option<G>,
+    order: &mut Option<O>,
     tabu: u32,
     budget: u64,
     blank: Blank,
@@ -72,9 +73,8 @@ fn repair_counted<F: Filter, G: Guide, L: Ledger>(
     requires some { 0 < tabu }
 {
     let mut steps = Steps::<L>::start(blank);
-    let mut order: Option<LastOrder> = None;
     repair(
-        alloc, engine, search, guide, &mut order, tabu, budget, &mut steps,
+        alloc, engine, search, guide, order, tabu, budget, &mut steps,
     )
 }
 
@@ -128,11 +128,12 @@ fn is_journal(search: &Search, turns: Option<&[Wanted]>) -> bool {
 }
 
 /// Whether a search of the engine in this way answers as it is to.
-fn is_answered<G: Guide>(
+fn is_answered<G: Guide, O: Order>(
     alloc: Global,
     engine: &mut Engine<Kind>,
     search: &mut Search,
     guide: &mut Option<G>,
+    order: &mut Option<O>,
     case: &Case<'_>,
 ) -> Result<bool, NoMemory>
     requires fresh { search.old ≡ record { decisions = []; journal = [] } }
@@ -141,22 +142,24 @@ fn is_answered<G: Guide>(
     let blank = Blank::new(1);
     match case.way {
         Way::Dbt => {
-            let answer = solve_counted::<Kind, G, Brand>(
+            let answer = solve_counted::<Kind, G, O, Brand>(
                 alloc,
                 engine,
                 search,
                 guide,
+                order,
                 case.budget,
                 blank,
             )?;
             Ok(is_end(&answer, &case.end))
         }
         Way::Repair(tabu) if tabu > 0 => {
-            let answer = repair_counted::<Kind, G, Brand>(
+            let answer = repair_counted::<Kind, G, O, Brand>(
                 alloc,
                 engine,
                 search,
                 guide,
+                order,
                 tabu,
                 case.budget,
                 blank,
@@ -169,18 +172,19 @@ fn is_answered<G: Guide>(
 
 /// Whether a search of the engine answers as it is to, by these turns, and leaves no decision, no negation and so many values
 /// of each variable.
-fn is_undone<G: Guide>(
+fn is_undone<G: Guide, O: Order>(
     alloc: Global,
     engine: &mut Engine<Kind>,
     search: &mut Search,
     guide: &mut Option<G>,
+    order: &mut Option<O>,
     case: &Case<'_>,
     counts: &[u32],
 ) -> Result<bool, NoMemory>
     requires fresh { search.old ≡ record { decisions = []; journal = [] } }
     requires users { HasOnlyUsers engine.old.state }
 {
-    let answered = is_answered(alloc, engine, search, guide, case)?;
+    let answered = is_answered(alloc, engine, search, guide, order, case)?;
     Ok(
         answered
             && is_journal(search, case.turns)
@@ -192,11 +196,12 @@ fn is_undone<G: Guide>(
 
 /// Whether a search of the problem in a new engine answers as it is to, by these turns, and leaves no decision, no negation
 /// and the domains as they were.
-fn is_searched_in<G: Guide>(
+fn is_searched_in<G: Guide, O: Order>(
     alloc: Global,
     engine: &mut Engine<Kind>,
     search: &mut Search,
     guide: &mut Option<G>,
+    order: &mut Option<O>,
     case: &Case<'_>,
 ) -> Result<bool, NoMemory>
     requires fresh { search.old ≡ record { decisions = []; journal = [] } }
@@ -205,19 +210,30 @@ fn is_searched_in<G: Guide>(
     pose(alloc, engine, &case.problem)?;
     settle_counted::<Kind, Brand>(engine, Blank::new(1))?;
     let before = counts_of(alloc, engine.store())?;
-    is_undone(alloc, engine, search, guide, case, before.as_slice())
+    is_undone(alloc, engine, search, guide, order, case, before.as_slice())
 }
 
 /// Whether a search of an engine of its own does this. The engine is given up in one place, since each place costs its
 /// proof.
+pub fn is_ordered<G: Guide, O: Order>(
+    alloc: Global,
+    case: &Case<'_>,
+    guide: &mut Option<G>,
+    order: &mut Option<O>,
+) -> Result<bool, NoMemory> {
+    let mut engine = Engine::new(alloc);
+    let mut search = Search::begin(alloc);
+    is_searched_in(alloc, &mut engine, &mut search, guide, order, case)
+}
+
+/// Whether a search without an order does this.
 pub fn is_searched<G: Guide>(
     alloc: Global,
     case: &Case<'_>,
     guide: &mut Option<G>,
 ) -> Result<bool, NoMemory> {
-    let mut engine = Engine::new(alloc);
-    let mut search = Search::begin(alloc);
-    is_searched_in(alloc, &mut engine, &mut search, guide, case)
+    let mut order: Option<LastOrder> = None;
+    is_ordered(alloc, case, guide, &mut order)
 }
 
 /// Whether a search without a guide does this.

@@ -1,45 +1,33 @@
--- Connected constraints: their names, their places, and what one more and one fewer leaves.
-use Rattle.std.proofs.Common.{◌≡◌, ℕ, ◌<◌, Bool, true, not, List, [], ◌∷◌, ◌++◌, length, get_or, slice_get, insert, remove, filter, Contains, Some, ◌⊎◌, ◌↔◌, inl, inr, refl, sym, ap, ◌∙◌, subst, arith}
+-- Connected constraints: their ids, their places, and what one more and one fewer leaves.
+use Rattle.std.proofs.Common.{◌≡◌, ℕ, Bool, not, List, [], ◌∷◌, ◌++◌, slice_get, insert, remove, filter, Contains, Some, ◌⊎◌, ◌↔◌, inl, inr, refl, sym, ap, ◌∙◌, subst}
 use Rattle.std.proofs.lemmas.Bool.{cases_Bool}
-use Rattle.std.proofs.lemmas.List.{get_or-map, length-map, map-append}
+use Rattle.std.proofs.lemmas.List.{map-append}
 use Rattle.std.proofs.lemmas.List.Elements.{Contains-append_left, Contains-append_right, Contains-append_cases}
-use Rattle.std.proofs.lemmas.Option.{slice_get-get_or}
 use Rattle.palm_base.specs.declared.terms.Cid.{Cid}
 use Rattle.palm_base.proofs.cited.Members.{member_here, member_there, member_cases, member_same, member_filter, filter_member, member_map, member_unmap, member_single}
-use Rattle.palm_model.specs.Log.{Rises, cid_before, same_cid, is_named}
+use Rattle.palm_base.specs.Order.{Rises, cid_before, IsPartedAt, with_cid}
+use Rattle.palm_model.specs.Log.{is_named}
 use Rattle.palm_model.specs.State.{without_cid}
-use Rattle.palm_events.proofs.cited.Names.{cid_order, cid_same, member_not_named, not_named_member}
-use Rattle.palm_agenda.specs.Names.{IsPartedAt, with_name}
-use Rattle.palm_agenda.specs.Agenda.{Connected, HasPlace, IsConnected, IsOver, names_of, with_connected, without_connected}
-use Rattle.palm_agenda.proofs.cited.Sorted.{IsSortedKeys, filter_passes, filter_fails, inserted, listed_at, parted_where}
-use Rattle.palm_agenda.proofs.cited.NameLists.{rising, rises_at, removed_by_name}
+use Rattle.palm_base.proofs.cited.CidOrder.{cid_order}
+use Rattle.palm_events.proofs.cited.Names.{member_not_named, not_named_member}
+use Rattle.palm_agenda.specs.Agenda.{Connected, HasPlace, IsConnected, IsOver, connected_cids, with_connected, without_connected}
+use Rattle.palm_base.proofs.cited.Sorted.{IsSortedKeys, filter_passes, filter_fails, inserted, listed_at}
+use Rattle.palm_base.proofs.cited.RisingLists.{sorted_keys, rising}
+use Rattle.palm_agenda.proofs.CidLists.{removed_by_cid}
 
 abbrev pub cid_of : Connected → Cid
 cid_of d = d.cid
 
-pub sorted_connected : (connected : List Connected) → Rises (names_of connected) → IsSortedKeys cid_of cid_before connected
-sorted_connected connected rises = record {
-  at = λ i j d lt within.
-      let li : i < length connected = omega arith in
-      let many = length-map connected cid_of in
-      let h = rises_at (names_of connected) rises i j d.cid lt (omega arith) in
-      subst (λ a. cid_before a (get_or connected j d).cid ≡ true) (get_or-map cid_of connected i d d.cid li)
-      (subst (λ b. cid_before (get_or (names_of connected) i d.cid) b ≡ true) (get_or-map cid_of connected j d d.cid within) h);
-}
+pub sorted_connected : (connected : List Connected) → Rises (connected_cids connected) → IsSortedKeys cid_of cid_before connected
+sorted_connected connected rises = sorted_keys cid_of connected rises
 
--- where a constraint under the name stands, the names are parted
-pub counted_there : (connected : List Connected) → Rises (names_of connected) → (cid name : Cid) (same : Bool) (place : ℕ) (d : Connected) → place < length connected → d ≡ get_or connected place d → name ≡ d.cid
-    → same ≡ same_cid name cid → same ≡ true → IsPartedAt (λ e. cid_before e.cid cid) connected place
-counted_there connected rises cid name same place d within item is told passed =
-    parted_where cid_of cid_before rising connected (sorted_connected connected rises) cid place d (slice_get-get_or connected place d within ∙ ap Some (sym item)) (sym is ∙ cid_same name cid (sym told ∙ passed))
+-- ---- ids
 
--- ---- names
+pub connected_cid : (connected : List Connected) (c : Cid) → IsConnected connected c → Contains (connected_cids connected) c
+connected_cid connected c is = member_same (connected_cids connected) is.owner.cid c is.named (member_map cid_of connected is.owner is.listed)
 
-pub connected_name : (connected : List Connected) (c : Cid) → IsConnected connected c → Contains (names_of connected) c
-connected_name connected c is = member_same (names_of connected) is.owner.cid c is.named (member_map cid_of connected is.owner is.listed)
-
-pub name_connected : (connected : List Connected) (c : Cid) → Contains (names_of connected) c → IsConnected connected c
-name_connected connected c m = let r = member_unmap cid_of connected c m in record { owner = r.0; listed = r.1; named = r.2 }
+pub cid_connected : (connected : List Connected) (c : Cid) → Contains (connected_cids connected) c → IsConnected connected c
+cid_connected connected c m = let r = member_unmap cid_of connected c m in record { owner = r.0; listed = r.1; named = r.2 }
 
 abbrev pub over_connected : (connected : List Connected) (x : ℕ) (c : Cid) → IsOver connected x c → IsConnected connected c
 over_connected connected x c is = record { owner = is.owner; listed = is.listed; named = is.named }
@@ -47,32 +35,32 @@ over_connected connected x c is = record { owner = is.owner; listed = is.listed;
 abbrev pub place_connected : (connected : List Connected) (c : Cid) (place : ℕ) → HasPlace connected c place → IsConnected connected c
 place_connected connected c place is = record { owner = is.owner; listed = is.listed; named = is.named }
 
-names_filter : (test : Cid → Bool) (connected : List Connected) → names_of (filter (λ d. test d.cid) connected) ≡ filter test (names_of connected)
-names_filter test [] = refl
-names_filter test (d ∷ connected) = elim (cases_Bool (test d.cid)) [
+cids_filter : (test : Cid → Bool) (connected : List Connected) → connected_cids (filter (λ d. test d.cid) connected) ≡ filter test (connected_cids connected)
+cids_filter test [] = refl
+cids_filter test (d ∷ connected) = elim (cases_Bool (test d.cid)) [
   | inl t ↦
-      ap names_of (filter_passes (λ (e : Connected). test e.cid) d connected t) ∙ ap (λ names. d.cid ∷ names) (names_filter test connected)
-      ∙ sym (filter_passes test d.cid (names_of connected) t)
+      ap connected_cids (filter_passes (λ (e : Connected). test e.cid) d connected t) ∙ ap (λ cids. d.cid ∷ cids) (cids_filter test connected)
+      ∙ sym (filter_passes test d.cid (connected_cids connected) t)
   | inr f ↦
-      ap names_of (filter_fails (λ (e : Connected). test e.cid) d connected f) ∙ names_filter test connected
-      ∙ sym (filter_fails test d.cid (names_of connected) f)
+      ap connected_cids (filter_fails (λ (e : Connected). test e.cid) d connected f) ∙ cids_filter test connected
+      ∙ sym (filter_fails test d.cid (connected_cids connected) f)
 ]
 
-pub names_with : (d : Connected) (connected : List Connected) → names_of (with_connected d connected) ≡ with_name d.cid (names_of connected)
-names_with d connected =
+pub cids_with : (d : Connected) (connected : List Connected) → connected_cids (with_connected d connected) ≡ with_cid d.cid (connected_cids connected)
+cids_with d connected =
     map-append cid_of (filter (λ e. cid_before e.cid d.cid) connected) (d ∷ filter (λ e. cid_before d.cid e.cid) connected)
-    ∙ ap (λ names. names ++ d.cid ∷ names_of (filter (λ e. cid_before d.cid e.cid) connected)) (names_filter (λ c. cid_before c d.cid) connected)
-    ∙ ap (λ names. filter (λ c. cid_before c d.cid) (names_of connected) ++ d.cid ∷ names) (names_filter (λ c. cid_before d.cid c) connected)
+    ∙ ap (λ cids. cids ++ d.cid ∷ connected_cids (filter (λ e. cid_before d.cid e.cid) connected)) (cids_filter (λ c. cid_before c d.cid) connected)
+    ∙ ap (λ cids. filter (λ c. cid_before c d.cid) (connected_cids connected) ++ d.cid ∷ cids) (cids_filter (λ c. cid_before d.cid c) connected)
 
-pub names_without : (cid : Cid) (connected : List Connected) → names_of (without_connected cid connected) ≡ without_cid cid (names_of connected)
-names_without cid connected = names_filter (λ c. not (is_named (cid ∷ []) c)) connected
+pub cids_without : (cid : Cid) (connected : List Connected) → connected_cids (without_connected cid connected) ≡ without_cid cid (connected_cids connected)
+cids_without cid connected = cids_filter (λ c. not (is_named (cid ∷ []) c)) connected
 
 -- ---- places
 
 pub parted_in : (looked connected : List Connected) (cid : Cid) (place : ℕ) → looked ≡ connected → IsPartedAt (λ d. cid_before d.cid cid) looked place → IsPartedAt (λ d. cid_before d.cid cid) connected place
 parted_in looked connected cid place is at = subst (λ ds. IsPartedAt (λ d. cid_before d.cid cid) ds place) is at
 
-module _ (connected : List Connected) (rises : Rises (names_of connected)) (cid : Cid) (place : ℕ) (at : IsPartedAt (λ d. cid_before d.cid cid) connected place) where
+module _ (connected : List Connected) (rises : Rises (connected_cids connected)) (cid : Cid) (place : ℕ) (at : IsPartedAt (λ d. cid_before d.cid cid) connected place) where
   pub stands : (d : Connected) → Contains connected d → d.cid ≡ cid → slice_get connected place ≡ Some d
   stands d m named = listed_at cid_of cid_before rising connected (sorted_connected connected rises) cid place at d m named
 
@@ -83,7 +71,7 @@ module _ (connected : List Connected) (rises : Rises (names_of connected)) (cid 
 
   pub disconnected_at : IsConnected connected cid → remove connected place ≡ without_connected cid connected
   disconnected_at is =
-      removed_by_name cid_of cid_before rising connected (sorted_connected connected rises) cid place is.owner (stands is.owner is.listed is.named) is.named
+      removed_by_cid cid_of cid_before rising connected (sorted_connected connected rises) cid place is.owner (stands is.owner is.listed is.named) is.named
 
 -- ---- one more
 

@@ -10,23 +10,26 @@ use Rattle.palm_base.specs.declared.terms.Cid.{Cid}
 use Rattle.palm_base.proofs.cited.Members.{member_get, member_nil, member_same, member_map, member_unmap, all_members, map_agree, member_take_more}
 use Rattle.palm_base.specs.Tells.{Tells}
 use Rattle.palm_model.proofs.cited.Supports.{any_member, member_any}
-use Rattle.palm_model.specs.Log.{Rises, cid_before, is_named, same_cid}
+use Rattle.palm_base.specs.Order.{Rises, cid_before, same_cid, IsPartedAt}
+use Rattle.palm_model.specs.Log.{is_named}
 use Rattle.palm_model.specs.State.{without_cid}
-use Rattle.palm_events.proofs.cited.Names.{cid_same, same_cid_itself, member_named}
+use Rattle.palm_base.proofs.cited.CidOrder.{cid_same, same_cid_itself}
+use Rattle.palm_events.proofs.cited.Names.{member_named}
 use Rattle.palm_events.proofs.cited.States.{without_cid_rises}
 use Rattle.palm_agenda.specs.Flags.{FlagRow, IsFirst, count_raised, flagged}
-use Rattle.palm_agenda.specs.Names.{Roomy, IsPartedAt, names_at}
-use Rattle.palm_agenda.specs.Agenda.{Connected, HasMarks, IsConnected, IsFormed, IsMarked, Takes, index_within, IsOver, HasPlace, names_of, marked_whole, marked_where, changed_at, changed_among, mark_others, is_over, unmarked, with_connected, without_connected}
-use Rattle.palm_agenda.specs.Kept.{IsKept}
+use Rattle.palm_agenda.specs.Cids.{Roomy, cids_at}
+use Rattle.palm_agenda.specs.Agenda.{Connected, HasMarks, IsConnected, IsFormed, IsMarked, Takes, index_within, IsOver, HasPlace, connected_cids, marked_whole, marked_where, changed_at, changed_among, mark_others, is_over, unmarked, with_connected, without_connected}
+use Rattle.palm_agenda.specs.Kept.{IsAgenda}
 use Rattle.palm_agenda.specs.Places.{is_place, mark_places}
 use Rattle.palm_agenda.specs.declared.connection.Places.{Places}
 use Rattle.palm_agenda.specs.declared.connection.Places.TheVariants.{Own, Others}
-use Rattle.palm_agenda.proofs.cited.Connecting.{cid_of, name_connected, names_with, names_without, over_connected, over_with, over_without, stands, connected_at, disconnected_at, with_connected_cases, without_connected_member, sorted_connected}
+use Rattle.palm_agenda.proofs.cited.Connecting.{cid_of, cid_connected, cids_with, cids_without, over_connected, over_with, over_without, stands, connected_at, disconnected_at, with_connected_cases, without_connected_member, sorted_connected}
 use Rattle.palm_agenda.proofs.Flagged.{flagged_length, flagged_member, flagged_rises, inserted_set, lowered_without, raised_set, removed_lowered, first_flagged}
 use Rattle.palm_agenda.proofs.cited.Marking.{marks_length, marks_none, marks_twice}
-use Rattle.palm_agenda.proofs.cited.NameLists.{filter_short, member_reverse, reverse_member, with_name_rises, rising}
+use Rattle.palm_base.proofs.cited.RisingLists.{with_cid_rises, rising}
+use Rattle.palm_agenda.proofs.CidLists.{filter_short, member_reverse, reverse_member}
 use Rattle.palm_agenda.proofs.Rows.{front_last, front_more, row_within}
-use Rattle.palm_agenda.proofs.cited.Sorted.{map_sets, apart}
+use Rattle.palm_base.proofs.cited.Sorted.{map_sets, apart}
 
 if_true : {X : Type 0} (b : Bool) (x y : X) → b ≡ true → (if b then x else y) ≡ x
 if_true b x y e = ap (λ v. if v then x else y) e
@@ -34,27 +37,27 @@ if_true b x y e = ap (λ v. if v then x else y) e
 if_false : {X : Type 0} (b : Bool) (x y : X) → b ≡ false → (if b then x else y) ≡ y
 if_false b x y e = ap (λ v. if v then x else y) e
 
--- the names at raised flags are of connected constraints, and rise
-pub formed_of : (connected : List Connected) (flags : List Bool) → Rises (names_of connected) → All HasMarks connected → IsFormed (record { connected = connected; pending = flagged (names_of connected) flags })
+-- the ids at raised flags are of connected constraints, and rise
+pub formed_of : (connected : List Connected) (flags : List Bool) → Rises (connected_cids connected) → All HasMarks connected → IsFormed (record { connected = connected; pending = flagged (connected_cids connected) flags })
 formed_of connected flags rises marks = record {
   rising = rises;
-  pending_rising = flagged_rises (names_of connected) flags rises;
-  pending_connected = λ c m. name_connected connected c (flagged_member (names_of connected) flags c m);
+  pending_rising = flagged_rises (connected_cids connected) flags rises;
+  pending_connected = λ c m. cid_connected connected c (flagged_member (connected_cids connected) flags c m);
   marks = marks;
 }
 
 -- ---- a change of marks
 
--- a change that keeps the name, the scope and how many marks there are
+-- a change that keeps the id, the scope and how many marks there are
 pub record KeepsScopes (f : Connected → Connected) : Type 0 where
   pub cid : (d : Connected) → (f d).cid ≡ d.cid
   pub scope : (d : Connected) → (f d).scope ≡ d.scope
   pub many : (d : Connected) → length (f d).marks ≡ length d.marks
 
 module _ (f : Connected → Connected) (keeps : KeepsScopes f) where
-  pub names_kept : (connected : List Connected) → names_of (map f connected) ≡ names_of connected
-  names_kept [] = refl
-  names_kept (d ∷ connected) = ap (λ c. c ∷ names_of (map f connected)) (keeps.cid d) ∙ ap (λ cs. d.cid ∷ cs) (names_kept connected)
+  pub cids_kept : (connected : List Connected) → connected_cids (map f connected) ≡ connected_cids connected
+  cids_kept [] = refl
+  cids_kept (d ∷ connected) = ap (λ c. c ∷ connected_cids (map f connected)) (keeps.cid d) ∙ ap (λ cs. d.cid ∷ cs) (cids_kept connected)
 
   pub over_kept : (connected : List Connected) (x : ℕ) (c : Cid) → IsOver (map f connected) x c ↔ IsOver connected x c
   over_kept connected x c = (
@@ -92,12 +95,12 @@ module _ (f : Connected → Connected) (keeps : KeepsScopes f) where
       let has : HasMarks r.0 = subst HasMarks k.2 (all k.0 r.0 k.1) in
       subst HasMarks r.2 (keeps.many r.0 ∙ has ∙ ap length (sym (keeps.scope r.0))))
 
-  pub kept_after : (connected : List Connected) (over : List Roomy) (flags : List Bool) (shown : ℕ) → IsKept connected over flags shown → IsKept (map f connected) over flags shown
+  pub kept_after : (connected : List Connected) (over : List Roomy) (flags : List Bool) (shown : ℕ) → IsAgenda connected over flags shown → IsAgenda (map f connected) over flags shown
   kept_after connected over flags shown kept = record {
-    formed = formed_of (map f connected) flags (subst Rises (sym (names_kept connected)) kept.formed.rising) (marks_kept connected kept.formed.marks);
-    over_names = λ x c. (
-      λ m. (over_kept connected x c).1 ((kept.over_names x c).0 m),
-      λ is. (kept.over_names x c).1 ((over_kept connected x c).0 is),
+    formed = formed_of (map f connected) flags (subst Rises (sym (cids_kept connected)) kept.formed.rising) (marks_kept connected kept.formed.marks);
+    over_cids = λ x c. (
+      λ m. (over_kept connected x c).1 ((kept.over_cids x c).0 m),
+      λ is. (kept.over_cids x c).1 ((over_kept connected x c).0 is),
     );
     flag_each = omega (arith, length-map connected f, kept.flag_each);
     shown_room = omega (arith, length-map connected f, kept.shown_room);
@@ -105,61 +108,61 @@ module _ (f : Connected → Connected) (keeps : KeepsScopes f) where
 
 -- ---- a change of what is pending
 
-pub pending_after : (connected : List Connected) (over : List Roomy) (flags now : List Bool) (shown room : ℕ) → IsKept connected over flags shown → length now ≡ length flags → shown ≤ room → IsKept connected over now room
+pub pending_after : (connected : List Connected) (over : List Roomy) (flags now : List Bool) (shown room : ℕ) → IsAgenda connected over flags shown → length now ≡ length flags → shown ≤ room → IsAgenda connected over now room
 pending_after connected over flags now shown room kept same grows = record {
   formed = formed_of connected now kept.formed.rising kept.formed.marks;
-  over_names = kept.over_names;
+  over_cids = kept.over_cids;
   flag_each = omega (arith, same, kept.flag_each);
   shown_room = omega (arith, kept.shown_room, grows);
 }
 
 -- a flag is raised or lowered
-pub set_after : (connected : List Connected) (over : List Roomy) (flags now : List Bool) (shown room place : ℕ) (flag : Bool) → IsKept connected over flags shown → now ≡ set flags place flag → shown ≤ room → IsKept connected over now room
+pub set_after : (connected : List Connected) (over : List Roomy) (flags now : List Bool) (shown room place : ℕ) (flag : Bool) → IsAgenda connected over flags shown → now ≡ set flags place flag → shown ≤ room → IsAgenda connected over now room
 set_after connected over flags now shown room place flag kept is grows = pending_after connected over flags now shown room kept (ap length is ∙ length-set flags place flag) grows
 
 -- the first flag is lowered, where one is raised
-pub first_after : (connected : List Connected) (over : List Roomy) (flags now : FlagRow) (shown : ℕ) (taken : Option ℕ) → IsKept connected over flags.flags shown
-    → MatchOption taken ((count_raised flags.flags ≡ 0) × (now ≡ flags)) (λ place. IsFirst flags.flags place × (now.flags ≡ set flags.flags place false)) → IsKept connected over now.flags shown
-first_after connected over flags now shown None kept is = subst (λ (f : FlagRow). IsKept connected over f.flags shown) (sym is.1) kept
+pub first_after : (connected : List Connected) (over : List Roomy) (flags now : FlagRow) (shown : ℕ) (taken : Option ℕ) → IsAgenda connected over flags.flags shown
+    → MatchOption taken ((count_raised flags.flags ≡ 0) × (now ≡ flags)) (λ place. IsFirst flags.flags place × (now.flags ≡ set flags.flags place false)) → IsAgenda connected over now.flags shown
+first_after connected over flags now shown None kept is = subst (λ (f : FlagRow). IsAgenda connected over f.flags shown) (sym is.1) kept
 first_after connected over flags now shown (Some place) kept is = set_after connected over flags.flags now.flags shown shown place false kept is.1 (omega arith)
 
--- no name is pending where no flag is raised
-pub none_pending : (connected : List Connected) (over : List Roomy) (flags : List Bool) (shown : ℕ) → IsKept connected over flags shown → count_raised flags ≡ 0 → flagged (names_of connected) flags ≡ []
+-- no id is pending where no flag is raised
+pub none_pending : (connected : List Connected) (over : List Roomy) (flags : List Bool) (shown : ℕ) → IsAgenda connected over flags shown → count_raised flags ≡ 0 → flagged (connected_cids connected) flags ≡ []
 none_pending connected over flags shown kept none =
-    nil_from_length (flagged (names_of connected) flags) (flagged_length (names_of connected) flags (kept.flag_each ∙ sym (length-map connected cid_of)) ∙ none)
+    nil_from_length (flagged (connected_cids connected) flags) (flagged_length (connected_cids connected) flags (kept.flag_each ∙ sym (length-map connected cid_of)) ∙ none)
 
-pub tells_none : (connected : List Connected) (over : List Roomy) (flags : List Bool) (shown : ℕ) → IsKept connected over flags shown → (told : Bool) → Tells told (count_raised flags ≡ 0) → Tells told (flagged (names_of connected) flags ≡ [])
+pub tells_none : (connected : List Connected) (over : List Roomy) (flags : List Bool) (shown : ℕ) → IsAgenda connected over flags shown → (told : Bool) → Tells told (count_raised flags ≡ 0) → Tells told (flagged (connected_cids connected) flags ≡ [])
 tells_none connected over flags shown kept true told = none_pending connected over flags shown kept told
-tells_none connected over flags shown kept false told = λ e. told (sym (flagged_length (names_of connected) flags (kept.flag_each ∙ sym (length-map connected cid_of))) ∙ ap length e)
+tells_none connected over flags shown kept false told = λ e. told (sym (flagged_length (connected_cids connected) flags (kept.flag_each ∙ sym (length-map connected cid_of))) ∙ ap length e)
 
--- a name is pending where a flag is raised
-pub some_pending : (connected : List Connected) (over : List Roomy) (flags : List Bool) (shown : ℕ) → IsKept connected over flags shown → (told : Bool) → Tells told (count_raised flags ≡ 0) → told ≡ false
-    → (names : List Cid) → names ≡ flagged (names_of connected) flags → names ≡ [] → ⊥
-some_pending connected over flags shown kept told tells is names shows none =
-    let other : Tells false (flagged (names_of connected) flags ≡ []) = subst (λ b. Tells b (flagged (names_of connected) flags ≡ [])) is (tells_none connected over flags shown kept told tells) in
+-- an id is pending where a flag is raised
+pub some_pending : (connected : List Connected) (over : List Roomy) (flags : List Bool) (shown : ℕ) → IsAgenda connected over flags shown → (told : Bool) → Tells told (count_raised flags ≡ 0) → told ≡ false
+    → (cids : List Cid) → cids ≡ flagged (connected_cids connected) flags → cids ≡ [] → ⊥
+some_pending connected over flags shown kept told tells is cids shows none =
+    let other : Tells false (flagged (connected_cids connected) flags ≡ []) = subst (λ b. Tells b (flagged (connected_cids connected) flags ≡ [])) is (tells_none connected over flags shown kept told tells) in
     other (sym shows ∙ none)
 
-pub no_pending : (connected : List Connected) (over : List Roomy) (flags : List Bool) (shown : ℕ) → IsKept connected over flags shown → (told : Bool) → Tells told (count_raised flags ≡ 0) → told ≡ true → flagged (names_of connected) flags ≡ []
+pub no_pending : (connected : List Connected) (over : List Roomy) (flags : List Bool) (shown : ℕ) → IsAgenda connected over flags shown → (told : Bool) → Tells told (count_raised flags ≡ 0) → told ≡ true → flagged (connected_cids connected) flags ≡ []
 no_pending connected over flags shown kept told tells is = none_pending connected over flags shown kept (subst (λ b. Tells b (count_raised flags ≡ 0)) is tells)
 
--- a name that is shown is of a connected constraint
-pub shown_connected : (connected : List Connected) (over : List Roomy) (flags : List Bool) (shown : ℕ) → IsKept connected over flags shown → (names looked : List Cid) → names ≡ flagged (names_of connected) flags → looked ≡ names
+-- an id that is shown is of a connected constraint
+pub shown_connected : (connected : List Connected) (over : List Roomy) (flags : List Bool) (shown : ℕ) → IsAgenda connected over flags shown → (cids looked : List Cid) → cids ≡ flagged (connected_cids connected) flags → looked ≡ cids
     → (index : ℕ) (cid : Cid) → slice_get looked index ≡ Some cid → IsConnected connected cid
-shown_connected connected over flags shown kept names looked shows is index cid at =
+shown_connected connected over flags shown kept cids looked shows is index cid at =
     kept.formed.pending_connected cid (subst (λ cs. Contains cs cid) (is ∙ shows) (member_get looked index cid at))
 
--- the first name is handed out
-pub first_taken : (connected : List Connected) (over : List Roomy) (flags now : List Bool) (shown : ℕ) → IsKept connected over flags shown → (place : ℕ) → IsFirst flags place → now ≡ set flags place false
-    → (looked : List Connected) → looked ≡ connected → (cid : Cid) → slice_get (names_of looked) place ≡ Some cid → Takes (flagged (names_of connected) flags) (flagged (names_of connected) now) 0 cid
+-- the first id is handed out
+pub first_taken : (connected : List Connected) (over : List Roomy) (flags now : List Bool) (shown : ℕ) → IsAgenda connected over flags shown → (place : ℕ) → IsFirst flags place → now ≡ set flags place false
+    → (looked : List Connected) → looked ≡ connected → (cid : Cid) → slice_get (connected_cids looked) place ≡ Some cid → Takes (flagged (connected_cids connected) flags) (flagged (connected_cids connected) now) 0 cid
 first_taken connected over flags now shown kept place first is looked looked_is cid named =
     let within : place < length flags = slice_get_within flags place true first.raised in
     let same = kept.flag_each in
     let many = length-map connected cid_of in
-    let at : (c : Cid) → get_or (names_of connected) place c ≡ cid = λ c. ap (λ ds. get_or (names_of ds) place c) (sym looked_is) ∙ get_or_from_slice_get (names_of looked) place cid c named in
-    let front = first_flagged cid (names_of connected) flags place (omega arith) within at (λ b. get_or_from_slice_get flags place true b first.raised) first.before in
+    let at : (c : Cid) → get_or (connected_cids connected) place c ≡ cid = λ c. ap (λ ds. get_or (connected_cids ds) place c) (sym looked_is) ∙ get_or_from_slice_get (connected_cids looked) place cid c named in
+    let front = first_flagged cid (connected_cids connected) flags place (omega arith) within at (λ b. get_or_from_slice_get flags place true b first.raised) first.before in
     record {
-      chosen = ap (slice_get (flagged (names_of connected) flags)) (index_none (length (flagged (names_of connected) flags))) ∙ front;
-      pending = ap (flagged (names_of connected)) is ∙ lowered_without cid (names_of connected) flags place kept.formed.rising (omega arith) within at;
+      chosen = ap (slice_get (flagged (connected_cids connected) flags)) (index_none (length (flagged (connected_cids connected) flags))) ∙ front;
+      pending = ap (flagged (connected_cids connected)) is ∙ lowered_without cid (connected_cids connected) flags place kept.formed.rising (omega arith) within at;
     }
   where
     index_none : (n : ℕ) → index_within 0 n ≡ 0
@@ -173,21 +176,21 @@ pub given_none : {X P Q : Type 0} (r : Option X) → P → Q → IfNone r (P × 
 given_none None p q = (p, q)
 given_none (Some x) p q = tt
 
--- the name at the answered index
-pub chosen_within : (names : List Cid) (answer index : ℕ) (d cid : Cid) → answer < length names → index ≡ answer → d ≡ get_or names index d → cid ≡ d → slice_get names (index_within answer (length names)) ≡ Some cid
-chosen_within names answer index d cid lt is item same =
-    ap (slice_get names) (if_true (nat_lt answer (length names)) answer 0 (lt-ltb answer (length names) lt) ∙ sym is) ∙ slice_get-get_or names index d (omega (arith, is)) ∙ ap Some (sym item ∙ sym same)
+-- the id at the answered index
+pub chosen_within : (cids : List Cid) (answer index : ℕ) (d cid : Cid) → answer < length cids → index ≡ answer → d ≡ get_or cids index d → cid ≡ d → slice_get cids (index_within answer (length cids)) ≡ Some cid
+chosen_within cids answer index d cid lt is item same =
+    ap (slice_get cids) (if_true (nat_lt answer (length cids)) answer 0 (lt-ltb answer (length cids) lt) ∙ sym is) ∙ slice_get-get_or cids index d (omega (arith, is)) ∙ ap Some (sym item ∙ sym same)
 
-pub chosen_first : (names : List Cid) (answer index : ℕ) (d cid : Cid) → length names ≤ answer → (names ≡ [] → ⊥) → index ≡ 0 → d ≡ get_or names index d → cid ≡ d → slice_get names (index_within answer (length names)) ≡ Some cid
+pub chosen_first : (cids : List Cid) (answer index : ℕ) (d cid : Cid) → length cids ≤ answer → (cids ≡ [] → ⊥) → index ≡ 0 → d ≡ get_or cids index d → cid ≡ d → slice_get cids (index_within answer (length cids)) ≡ Some cid
 chosen_first [] answer index d cid past some is item same = absurd (some refl)
-chosen_first (c ∷ names) answer index d cid past some is item same =
-    ap (slice_get (c ∷ names)) (if_false (nat_lt answer (length (c ∷ names))) answer 0 (le-ltb answer (length (c ∷ names)) past) ∙ sym is) ∙ slice_get-get_or (c ∷ names) index d (omega (arith, is)) ∙ ap Some (sym item ∙ sym same)
+chosen_first (c ∷ cids) answer index d cid past some is item same =
+    ap (slice_get (c ∷ cids)) (if_false (nat_lt answer (length (c ∷ cids))) answer 0 (le-ltb answer (length (c ∷ cids)) past) ∙ sym is) ∙ slice_get-get_or (c ∷ cids) index d (omega (arith, is)) ∙ ap Some (sym item ∙ sym same)
 
--- the answered name is handed out
-pub answered_taken : (connected : List Connected) (over : List Roomy) (flags now : List Bool) (shown : ℕ) (kept : IsKept connected over flags shown) (names looked : List Cid) → names ≡ flagged (names_of connected) flags → looked ≡ names
-    → (answer : ℕ) (cid : Cid) → slice_get looked (index_within answer (length looked)) ≡ Some cid → flagged (names_of connected) now ≡ without_cid cid (flagged (names_of connected) flags)
-    → Takes (flagged (names_of connected) flags) (flagged (names_of connected) now) answer cid
-answered_taken connected over flags now shown kept names looked shows is answer cid at less = record {
+-- the answered id is handed out
+pub answered_taken : (connected : List Connected) (over : List Roomy) (flags now : List Bool) (shown : ℕ) (kept : IsAgenda connected over flags shown) (cids looked : List Cid) → cids ≡ flagged (connected_cids connected) flags → looked ≡ cids
+    → (answer : ℕ) (cid : Cid) → slice_get looked (index_within answer (length looked)) ≡ Some cid → flagged (connected_cids connected) now ≡ without_cid cid (flagged (connected_cids connected) flags)
+    → Takes (flagged (connected_cids connected) flags) (flagged (connected_cids connected) now) answer cid
+answered_taken connected over flags now shown kept cids looked shows is answer cid at less = record {
   chosen = subst (λ cs. slice_get cs (index_within answer (length cs)) ≡ Some cid) (is ∙ shows) at;
   pending = less;
 }
@@ -223,8 +226,8 @@ keeps_places Others x = keeps_if (is_over x) (marked_where (λ y. not (nat_eq y 
 pub keeps_at : (cid : Cid) (f : Connected → Connected) → KeepsScopes f → KeepsScopes (changed_at cid f)
 keeps_at cid f keeps = keeps_if (λ d. same_cid cid d.cid) f keeps
 
-pub keeps_among : (names : List Cid) (f : Connected → Connected) → KeepsScopes f → KeepsScopes (changed_among names f)
-keeps_among names f keeps = keeps_if (λ d. is_named names d.cid) f keeps
+pub keeps_among : (cids : List Cid) (f : Connected → Connected) → KeepsScopes f → KeepsScopes (changed_among cids f)
+keeps_among cids f keeps = keeps_if (λ d. is_named cids d.cid) f keeps
 
 -- marking twice is marking once
 where_twice : (test : ℕ → Bool) (d : Connected) → marked_where test (marked_where test d) ≡ marked_where test d
@@ -267,32 +270,32 @@ places_over Others x d over = sym (if_true (is_over x d) (marked_where (λ y. no
 
 -- ---- a change at one place
 
-module _ (connected : List Connected) (rises : Rises (names_of connected)) (cid : Cid) (place : ℕ) (at : IsPartedAt (λ d. cid_before d.cid cid) connected place) where
+module _ (connected : List Connected) (rises : Rises (connected_cids connected)) (cid : Cid) (place : ℕ) (at : IsPartedAt (λ d. cid_before d.cid cid) connected place) where
   pub place_within : IsConnected connected cid → place < length connected
   place_within is = slice_get_within connected place is.owner (stands connected rises cid place at is.owner is.listed is.named)
 
   pub owner_is : (is : IsConnected connected cid) (d : Connected) → d ≡ get_or connected place d → d ≡ is.owner
   owner_is is d e = e ∙ get_or_from_slice_get connected place is.owner d (stands connected rises cid place at is.owner is.listed is.named)
 
-  -- its name stands there among the names
-  pub name_here : IsConnected connected cid → (c : Cid) → get_or (names_of connected) place c ≡ cid
-  name_here is c =
+  -- its id stands there among the ids
+  pub cid_here : IsConnected connected cid → (c : Cid) → get_or (connected_cids connected) place c ≡ cid
+  cid_here is c =
       get_or-map cid_of connected place is.owner c (place_within is)
       ∙ ap cid_of (get_or_from_slice_get connected place is.owner is.owner (stands connected rises cid place at is.owner is.listed is.named)) ∙ is.named
 
   -- its flag is raised
   pub raised_at : (flags now : List Bool) → length flags ≡ length connected → IsConnected connected cid → now ≡ set flags place true → (c : Cid)
-      → Contains (flagged (names_of connected) now) c ↔ (Contains (flagged (names_of connected) flags) c ⊎ (c ≡ cid))
+      → Contains (flagged (connected_cids connected) now) c ↔ (Contains (flagged (connected_cids connected) flags) c ⊎ (c ≡ cid))
   raised_at flags now same is becomes c =
       let within = place_within is in
-      subst (λ fs. Contains (flagged (names_of connected) fs) c ↔ (Contains (flagged (names_of connected) flags) c ⊎ (c ≡ cid))) (sym becomes)
-      (raised_set cid (names_of connected) flags place (omega (arith, length-map connected cid_of)) (omega arith) (name_here is) c)
+      subst (λ fs. Contains (flagged (connected_cids connected) fs) c ↔ (Contains (flagged (connected_cids connected) flags) c ⊎ (c ≡ cid))) (sym becomes)
+      (raised_set cid (connected_cids connected) flags place (omega (arith, length-map connected cid_of)) (omega arith) (cid_here is) c)
 
   -- its flag is lowered
-  pub lowered_at : (flags now : List Bool) → length flags ≡ length connected → IsConnected connected cid → now ≡ set flags place false → flagged (names_of connected) now ≡ without_cid cid (flagged (names_of connected) flags)
+  pub lowered_at : (flags now : List Bool) → length flags ≡ length connected → IsConnected connected cid → now ≡ set flags place false → flagged (connected_cids connected) now ≡ without_cid cid (flagged (connected_cids connected) flags)
   lowered_at flags now same is becomes =
       let within = place_within is in
-      ap (flagged (names_of connected)) becomes ∙ lowered_without cid (names_of connected) flags place rises (omega (arith, length-map connected cid_of)) (omega arith) (name_here is)
+      ap (flagged (connected_cids connected)) becomes ∙ lowered_without cid (connected_cids connected) flags place rises (omega (arith, length-map connected cid_of)) (omega arith) (cid_here is)
 
   pub changed_here : (f : Connected → Connected) (is : IsConnected connected cid) (d now : Connected) → d ≡ get_or connected place d → now ≡ f d → set connected place now ≡ map (changed_at cid f) connected
   changed_here f is d now e becomes =
@@ -337,16 +340,16 @@ module _ (f : Connected → Connected) (keeps : KeepsScopes f) (twice : (d : Con
       either false = refl
   change_more cid d false same more s m = ap (λ b. if b then f d else d) (s ∙ sym m)
 
-  pub changed_more : (names : List Cid) (i : ℕ) (cid : Cid) (first : List Connected) → i < length names → cid ≡ get_or names i cid
-      → map (changed_at cid f) (map (changed_among (take i names) f) first) ≡ map (changed_among (take (i + 1) names) f) first
-  changed_more names i cid first lt item =
-      map_twice (changed_at cid f) (changed_among (take i names) f) first
-      ∙ map_agree (λ d. changed_at cid f (changed_among (take i names) f d)) (changed_among (take (i + 1) names) f) first
-      (λ d m. change_more cid d (is_named (take i names) d.cid) (same_cid cid d.cid) (is_named (take (i + 1) names) d.cid) refl
-      (list_any_more (λ c. same_cid c d.cid) names i cid lt ∙ ap (λ c. is_named (take i names) d.cid || same_cid c d.cid) (sym item)))
+  pub changed_more : (cids : List Cid) (i : ℕ) (cid : Cid) (first : List Connected) → i < length cids → cid ≡ get_or cids i cid
+      → map (changed_at cid f) (map (changed_among (take i cids) f) first) ≡ map (changed_among (take (i + 1) cids) f) first
+  changed_more cids i cid first lt item =
+      map_twice (changed_at cid f) (changed_among (take i cids) f) first
+      ∙ map_agree (λ d. changed_at cid f (changed_among (take i cids) f d)) (changed_among (take (i + 1) cids) f) first
+      (λ d m. change_more cid d (is_named (take i cids) d.cid) (same_cid cid d.cid) (is_named (take (i + 1) cids) d.cid) refl
+      (list_any_more (λ c. same_cid c d.cid) cids i cid lt ∙ ap (λ c. is_named (take i cids) d.cid || same_cid c d.cid) (sym item)))
 
-pub marked_more : (places : Places) (x : ℕ) (names : List Cid) (i : ℕ) (cid : Cid) (first : List Connected) → i < length names → cid ≡ get_or names i cid
-    → map (changed_at cid (mark_places places x)) (map (changed_among (take i names) (mark_places places x)) first) ≡ map (changed_among (take (i + 1) names) (mark_places places x)) first
+pub marked_more : (places : Places) (x : ℕ) (cids : List Cid) (i : ℕ) (cid : Cid) (first : List Connected) → i < length cids → cid ≡ get_or cids i cid
+    → map (changed_at cid (mark_places places x)) (map (changed_among (take i cids) (mark_places places x)) first) ≡ map (changed_among (take (i + 1) cids) (mark_places places x)) first
 marked_more places x = changed_more (mark_places places x) (keeps_places places x) (places_twice places x)
 
 pub changed_none : (f : Connected → Connected) (first : List Connected) → first ≡ map (changed_among [] f) first
@@ -354,12 +357,12 @@ changed_none f [] = refl
 changed_none f (d ∷ first) = ap (λ ds. d ∷ ds) (changed_none f first)
 
 -- the marks of all constraints over the variable
-pub woken_marks : (places : Places) (x : ℕ) (names : List Cid) (connected : List Connected) → ((c : Cid) → IsOver connected x c → Contains names c) → map (changed_among names (mark_places places x)) connected ≡ map (mark_places places x) connected
-woken_marks places x names connected all = map_agree (changed_among names (mark_places places x)) (mark_places places x) connected (λ d m. elim (cases_Bool (is_named names d.cid)) [
-  | inl t ↦ if_true (is_named names d.cid) (mark_places places x d) d t
+pub woken_marks : (places : Places) (x : ℕ) (cids : List Cid) (connected : List Connected) → ((c : Cid) → IsOver connected x c → Contains cids c) → map (changed_among cids (mark_places places x)) connected ≡ map (mark_places places x) connected
+woken_marks places x cids connected all = map_agree (changed_among cids (mark_places places x)) (mark_places places x) connected (λ d m. elim (cases_Bool (is_named cids d.cid)) [
+  | inl t ↦ if_true (is_named cids d.cid) (mark_places places x d) d t
   | inr f ↦
-      if_false (is_named names d.cid) (mark_places places x d) d f
-      ∙ sym (places_none places x d (λ over. false≢true (sym f ∙ member_named names d.cid (all d.cid (record { owner = d; listed = m; named = refl; over = over })))))
+      if_false (is_named cids d.cid) (mark_places places x d) d f
+      ∙ sym (places_none places x d (λ over. false≢true (sym f ∙ member_named cids d.cid (all d.cid (record { owner = d; listed = m; named = refl; over = over })))))
 ])
 
 -- ---- one more constraint and one fewer
@@ -376,37 +379,37 @@ map_remove f [] (suc i) = refl
 map_remove f (y ∷ xs) zero = refl
 map_remove f (y ∷ xs) (suc i) = ap (λ ys. f y ∷ ys) (map_remove f xs i)
 
--- more room, and the same names and flags
-pub grown_after : (connected : List Connected) (over later : List Roomy) (flags now : List Bool) (shown room : ℕ) → IsKept connected over flags shown → ((x : ℕ) → names_at later x ≡ names_at over x)
-    → now ≡ flags → shown ≤ room → IsKept connected later now room
-grown_after connected over later flags now shown room kept names same longer = record {
+-- more room, and the same ids and flags
+pub grown_after : (connected : List Connected) (over later : List Roomy) (flags now : List Bool) (shown room : ℕ) → IsAgenda connected over flags shown → ((x : ℕ) → cids_at later x ≡ cids_at over x)
+    → now ≡ flags → shown ≤ room → IsAgenda connected later now room
+grown_after connected over later flags now shown room kept cids same longer = record {
   formed = formed_of connected now kept.formed.rising kept.formed.marks;
-  over_names = λ x c. subst (λ cs. Contains cs c ↔ IsOver connected x c) (sym (names x)) (kept.over_names x c);
+  over_cids = λ x c. subst (λ cs. Contains cs c ↔ IsOver connected x c) (sym (cids x)) (kept.over_cids x c);
   flag_each = ap length same ∙ kept.flag_each;
   shown_room = omega (arith, kept.shown_room, longer);
 }
 
-module _ (connected : List Connected) (over later : List Roomy) (flags now : List Bool) (shown room : ℕ) (cid : Cid) (scope : List ℕ) (place : ℕ) (kept : IsKept connected over flags shown)
+module _ (connected : List Connected) (over later : List Roomy) (flags now : List Bool) (shown room : ℕ) (cid : Cid) (scope : List ℕ) (place : ℕ) (kept : IsAgenda connected over flags shown)
     (at : IsPartedAt (λ d. cid_before d.cid cid) connected place) (absent : IsConnected connected cid → ⊥) where
   inserted_is : insert connected place (marked_whole cid scope) ≡ with_connected (marked_whole cid scope) connected
   inserted_is = connected_at connected kept.formed.rising cid place at absent (marked_whole cid scope) refl
 
   pub connected_after : (after : List Connected) → after ≡ insert connected place (marked_whole cid scope)
-      → ((x : ℕ) (c : Cid) → Contains (names_at later x) c ↔ (Contains (names_at over x) c ⊎ (Contains scope x × (c ≡ cid))))
-      → now ≡ insert flags place true → length connected + 1 ≤ room → IsKept after later now room
-  connected_after after is names now_is long =
+      → ((x : ℕ) (c : Cid) → Contains (cids_at later x) c ↔ (Contains (cids_at over x) c ⊎ (Contains scope x × (c ≡ cid))))
+      → now ≡ insert flags place true → length connected + 1 ≤ room → IsAgenda after later now room
+  connected_after after is cids now_is long =
       let whole = marked_whole cid scope in
       let e : after ≡ with_connected whole connected = is ∙ inserted_is in
       let many : length after ≡ length connected + 1 = ap length is ∙ length-insert connected place whole at.within in
       record {
-        formed = formed_of after now (subst (λ ds. Rises (names_of ds)) (sym e) (subst Rises (sym (names_with whole connected)) (with_name_rises cid (names_of connected) kept.formed.rising)))
+        formed = formed_of after now (subst (λ ds. Rises (connected_cids ds)) (sym e) (subst Rises (sym (cids_with whole connected)) (with_cid_rises cid (connected_cids connected) kept.formed.rising)))
             (subst (All HasMarks) (sym e) (all_members HasMarks (with_connected whole connected) (λ d m. elim (with_connected_cases whole connected d m) [
               | inl s ↦ subst HasMarks s (length-replicate (length scope) true)
               | inr k ↦ subst HasMarks k.2 (kept.formed.marks k.0 d k.1)
             ])));
-        over_names = λ x c. subst (λ ds. Contains (names_at later x) c ↔ IsOver ds x c) (sym e) (
-          λ m. (over_with whole connected x c absent).1 (elim ((names x c).0 m) [ inl k ↦ inl ((kept.over_names x c).0 k) | inr both ↦ inr both ]),
-          λ h. (names x c).1 (elim ((over_with whole connected x c absent).0 h) [ inl k ↦ inl ((kept.over_names x c).1 k) | inr both ↦ inr both ]),
+        over_cids = λ x c. subst (λ ds. Contains (cids_at later x) c ↔ IsOver ds x c) (sym e) (
+          λ m. (over_with whole connected x c absent).1 (elim ((cids x c).0 m) [ inl k ↦ inl ((kept.over_cids x c).0 k) | inr both ↦ inr both ]),
+          λ h. (cids x c).1 (elim ((over_with whole connected x c absent).0 h) [ inl k ↦ inl ((kept.over_cids x c).1 k) | inr both ↦ inr both ]),
         );
         flag_each = let more = length-insert flags place true (omega (arith, kept.flag_each, at.within)) in omega (arith, ap length now_is, more, many, kept.flag_each);
         shown_room = omega (arith, many, long);
@@ -414,14 +417,14 @@ module _ (connected : List Connected) (over later : List Roomy) (flags now : Lis
 
   -- the new one is pending
   pub pending_with : (after : List Connected) → after ≡ insert connected place (marked_whole cid scope) → now ≡ insert flags place true → (c : Cid)
-      → Contains (flagged (names_of after) now) c ↔ (Contains (flagged (names_of connected) flags) c ⊎ (c ≡ cid))
+      → Contains (flagged (connected_cids after) now) c ↔ (Contains (flagged (connected_cids connected) flags) c ⊎ (c ≡ cid))
   pending_with after is now_is c =
-      let names_is : names_of after ≡ insert (names_of connected) place cid = ap names_of is ∙ map_insert cid_of connected place (marked_whole cid scope) in
-      subst (λ names. Contains (flagged names now) c ↔ (Contains (flagged (names_of connected) flags) c ⊎ (c ≡ cid))) (sym names_is)
-      (subst (λ fs. Contains (flagged (insert (names_of connected) place cid) fs) c ↔ (Contains (flagged (names_of connected) flags) c ⊎ (c ≡ cid))) (sym now_is)
-      (inserted_set cid (names_of connected) flags place (kept.flag_each ∙ sym (length-map connected cid_of)) c))
+      let cids_is : connected_cids after ≡ insert (connected_cids connected) place cid = ap connected_cids is ∙ map_insert cid_of connected place (marked_whole cid scope) in
+      subst (λ cids. Contains (flagged cids now) c ↔ (Contains (flagged (connected_cids connected) flags) c ⊎ (c ≡ cid))) (sym cids_is)
+      (subst (λ fs. Contains (flagged (insert (connected_cids connected) place cid) fs) c ↔ (Contains (flagged (connected_cids connected) flags) c ⊎ (c ≡ cid))) (sym now_is)
+      (inserted_set cid (connected_cids connected) flags place (kept.flag_each ∙ sym (length-map connected cid_of)) c))
 
-module _ (connected : List Connected) (over : List Roomy) (flags : List Bool) (shown : ℕ) (cid : Cid) (place : ℕ) (d : Connected) (kept : IsKept connected over flags shown)
+module _ (connected : List Connected) (over : List Roomy) (flags : List Bool) (shown : ℕ) (cid : Cid) (place : ℕ) (d : Connected) (kept : IsAgenda connected over flags shown)
     (at : IsPartedAt (λ e. cid_before e.cid cid) connected place) (there : IsConnected connected cid) (item : d ≡ get_or connected place d) where
   owner_here : d ≡ there.owner
   owner_here = owner_is connected kept.formed.rising cid place at there d item
@@ -431,39 +434,39 @@ module _ (connected : List Connected) (over : List Roomy) (flags : List Bool) (s
 
   -- each variable of its scope has a list
   pub scope_within : (scope : List ℕ) → scope ≡ d.scope → (x : ℕ) → Contains scope x → x < length over
-  scope_within scope is x m = row_within over x cid ((kept.over_names x cid).1 (removed_over x (subst (λ xs. Contains xs x) is m)))
+  scope_within scope is x m = row_within over x cid ((kept.over_cids x cid).1 (removed_over x (subst (λ xs. Contains xs x) is m)))
 
   pub removed_is : remove connected place ≡ without_connected cid connected
   removed_is = disconnected_at connected kept.formed.rising cid place at there
 
   -- it is pending no longer
-  pub pending_without : (after : List Connected) (now : List Bool) → after ≡ remove connected place → now ≡ remove flags place → flagged (names_of after) now ≡ without_cid cid (flagged (names_of connected) flags)
+  pub pending_without : (after : List Connected) (now : List Bool) → after ≡ remove connected place → now ≡ remove flags place → flagged (connected_cids after) now ≡ without_cid cid (flagged (connected_cids connected) flags)
   pending_without after now is now_is =
       let within = place_within connected kept.formed.rising cid place at there in
       let same = kept.flag_each in
-      ap (λ ds. flagged (names_of ds) now) is ∙ ap (flagged (names_of (remove connected place))) now_is
-      ∙ ap (λ names. flagged names (remove flags place)) (map_remove cid_of connected place)
-      ∙ removed_lowered (names_of connected) flags place (omega (arith, length-map connected cid_of)) (omega arith)
+      ap (λ ds. flagged (connected_cids ds) now) is ∙ ap (flagged (connected_cids (remove connected place))) now_is
+      ∙ ap (λ cids. flagged cids (remove flags place)) (map_remove cid_of connected place)
+      ∙ removed_lowered (connected_cids connected) flags place (omega (arith, length-map connected cid_of)) (omega arith)
       ∙ lowered_at connected kept.formed.rising cid place at flags (set flags place false) kept.flag_each there refl
 
   pub disconnected_after : (after : List Connected) (later : List Roomy) (now : List Bool) (scope : List ℕ) → after ≡ remove connected place → scope ≡ d.scope
-      → ((x : ℕ) (c : Cid) → Contains (names_at later x) c ↔ (Contains (names_at over x) c × (Contains scope x → c ≡ cid → ⊥)))
-      → now ≡ remove flags place → IsKept after later now shown
-  disconnected_after after later now scope is scope_is names now_is =
+      → ((x : ℕ) (c : Cid) → Contains (cids_at later x) c ↔ (Contains (cids_at over x) c × (Contains scope x → c ≡ cid → ⊥)))
+      → now ≡ remove flags place → IsAgenda after later now shown
+  disconnected_after after later now scope is scope_is cids now_is =
       let e : after ≡ without_connected cid connected = is ∙ removed_is in
       let few : length after ≤ length connected = omega (arith, ap length e, filter_short (λ (f : Connected). not (is_named (cid ∷ []) f.cid)) connected) in
       record {
-        formed = formed_of after now (subst (λ ds. Rises (names_of ds)) (sym e) (subst Rises (sym (names_without cid connected)) (without_cid_rises cid (names_of connected) kept.formed.rising)))
+        formed = formed_of after now (subst (λ ds. Rises (connected_cids ds)) (sym e) (subst Rises (sym (cids_without cid connected)) (without_cid_rises cid (connected_cids connected) kept.formed.rising)))
             (subst (All HasMarks) (sym e) (all_members HasMarks (without_connected cid connected) (λ f m.
             let k = (without_connected_member cid connected f m).0 in subst HasMarks k.2 (kept.formed.marks k.0 f k.1))));
-        over_names = λ x c. subst (λ ds. Contains (names_at later x) c ↔ IsOver ds x c) (sym e) (
+        over_cids = λ x c. subst (λ ds. Contains (cids_at later x) c ↔ IsOver ds x c) (sym e) (
           λ m.
-              let r = (names x c).0 m in
-              let old = (kept.over_names x c).0 r.0 in
+              let r = (cids x c).0 m in
+              let old = (kept.over_cids x c).0 r.0 in
               (over_without cid connected x c).1 (old, λ s. r.1 (in_scope x c old s) s),
           λ h.
               let r = (over_without cid connected x c).0 h in
-              (names x c).1 ((kept.over_names x c).1 r.0, λ m s. r.1 s),
+              (cids x c).1 ((kept.over_cids x c).1 r.0, λ m s. r.1 s),
         );
         flag_each =
             let within = place_within connected kept.formed.rising cid place at there in
@@ -480,35 +483,35 @@ module _ (connected : List Connected) (over : List Roomy) (flags : List Bool) (s
 
 -- ---- waking
 
-pub woken_after : (places : Places) (x : ℕ) (names : List Cid) (connected : List Connected) (over : List Roomy) (flags now : List Bool) (shown : ℕ) → IsKept connected over flags shown → length now ≡ length flags
-    → (after : List Connected) → after ≡ map (changed_among names (mark_places places x)) connected → IsKept after over now shown
-woken_after places x names connected over flags now shown kept same after becomes =
-    subst (λ ds. IsKept ds over now shown) (sym becomes)
-    (kept_after (changed_among names (mark_places places x)) (keeps_among names (mark_places places x) (keeps_places places x)) connected over now shown
+pub woken_after : (places : Places) (x : ℕ) (cids : List Cid) (connected : List Connected) (over : List Roomy) (flags now : List Bool) (shown : ℕ) → IsAgenda connected over flags shown → length now ≡ length flags
+    → (after : List Connected) → after ≡ map (changed_among cids (mark_places places x)) connected → IsAgenda after over now shown
+woken_after places x cids connected over flags now shown kept same after becomes =
+    subst (λ ds. IsAgenda ds over now shown) (sym becomes)
+    (kept_after (changed_among cids (mark_places places x)) (keeps_among cids (mark_places places x) (keeps_places places x)) connected over now shown
     (pending_after connected over flags now shown shown kept same (omega arith)))
 
-pub names_are_over : (x : ℕ) (names : List Cid) (connected : List Connected) (over : List Roomy) (flags : List Bool) (shown : ℕ) → IsKept connected over flags shown → names ≡ reverse (names_at over x)
-    → (c : Cid) → Contains names c ↔ IsOver connected x c
-names_are_over x names connected over flags shown kept is c = (
-  λ m. (kept.over_names x c).0 (reverse_member (names_at over x) c (subst (λ cs. Contains cs c) is m)),
-  λ h. subst (λ cs. Contains cs c) (sym is) (member_reverse (names_at over x) c ((kept.over_names x c).1 h)),
+pub cids_are_over : (x : ℕ) (cids : List Cid) (connected : List Connected) (over : List Roomy) (flags : List Bool) (shown : ℕ) → IsAgenda connected over flags shown → cids ≡ reverse (cids_at over x)
+    → (c : Cid) → Contains cids c ↔ IsOver connected x c
+cids_are_over x cids connected over flags shown kept is c = (
+  λ m. (kept.over_cids x c).0 (reverse_member (cids_at over x) c (subst (λ cs. Contains cs c) is m)),
+  λ h. subst (λ cs. Contains cs c) (sym is) (member_reverse (cids_at over x) c ((kept.over_cids x c).1 h)),
 )
 
-pub woken_pending : (x : ℕ) (names : List Cid) (connected : List Connected) (over : List Roomy) (flags : List Bool) (shown : ℕ) → IsKept connected over flags shown → names ≡ reverse (names_at over x)
-    → (pending now : List Cid) → ((c : Cid) → Contains now c ↔ (Contains pending c ⊎ Contains names c)) → (c : Cid) → Contains now c ↔ (Contains pending c ⊎ IsOver connected x c)
-woken_pending x names connected over flags shown kept is pending now set c = (
-  λ m. elim ((set c).0 m) [ inl k ↦ inl k | inr k ↦ inr ((names_are_over x names connected over flags shown kept is c).0 k) ],
-  λ h. (set c).1 (elim h [ inl k ↦ inl k | inr k ↦ inr ((names_are_over x names connected over flags shown kept is c).1 k) ]),
+pub woken_pending : (x : ℕ) (cids : List Cid) (connected : List Connected) (over : List Roomy) (flags : List Bool) (shown : ℕ) → IsAgenda connected over flags shown → cids ≡ reverse (cids_at over x)
+    → (pending now : List Cid) → ((c : Cid) → Contains now c ↔ (Contains pending c ⊎ Contains cids c)) → (c : Cid) → Contains now c ↔ (Contains pending c ⊎ IsOver connected x c)
+woken_pending x cids connected over flags shown kept is pending now set c = (
+  λ m. elim ((set c).0 m) [ inl k ↦ inl k | inr k ↦ inr ((cids_are_over x cids connected over flags shown kept is c).0 k) ],
+  λ h. (set c).1 (elim h [ inl k ↦ inl k | inr k ↦ inr ((cids_are_over x cids connected over flags shown kept is c).1 k) ]),
 )
 
-pub woken_connected : (places : Places) (x : ℕ) (names : List Cid) (connected : List Connected) (over : List Roomy) (flags : List Bool) (shown : ℕ) → IsKept connected over flags shown → names ≡ reverse (names_at over x)
-    → (after : List Connected) → after ≡ map (changed_among names (mark_places places x)) connected → after ≡ map (mark_places places x) connected
-woken_connected places x names connected over flags shown kept is after becomes =
-    becomes ∙ woken_marks places x names connected (λ c h. (names_are_over x names connected over flags shown kept is c).1 h)
+pub woken_connected : (places : Places) (x : ℕ) (cids : List Cid) (connected : List Connected) (over : List Roomy) (flags : List Bool) (shown : ℕ) → IsAgenda connected over flags shown → cids ≡ reverse (cids_at over x)
+    → (after : List Connected) → after ≡ map (changed_among cids (mark_places places x)) connected → after ≡ map (mark_places places x) connected
+woken_connected places x cids connected over flags shown kept is after becomes =
+    becomes ∙ woken_marks places x cids connected (λ c h. (cids_are_over x cids connected over flags shown kept is c).1 h)
 
 -- ---- reading
 
-pub marks_here : (connected : List Connected) (cid : Cid) (place : ℕ) → Rises (names_of connected) → IsPartedAt (λ e. cid_before e.cid cid) connected place → (d : Connected) → d ≡ get_or connected place d
+pub marks_here : (connected : List Connected) (cid : Cid) (place : ℕ) → Rises (connected_cids connected) → IsPartedAt (λ e. cid_before e.cid cid) connected place → (d : Connected) → d ≡ get_or connected place d
     → (e : Connected) → Contains connected e → e.cid ≡ cid → d ≡ e
 marks_here connected cid place rises at d item e m named = owner_is connected rises cid place at (record { owner = e; listed = m; named = named }) d item
 
@@ -532,15 +535,15 @@ tells_mark connected cid place has marks is within = go (get_or marks place fals
         let f = get_or_from_slice_get m.owner.marks place true false m.marked in
         false≢true (sym e ∙ ap (λ ms. get_or ms place false) (is m.owner m.listed m.named) ∙ f)
 
--- ---- waking by name
+-- ---- waking by id
 
-pub rises_changed : (f : Connected → Connected) → KeepsScopes f → (first after : List Connected) → after ≡ map f first → Rises (names_of first) → Rises (names_of after)
-rises_changed f keeps first after is rises = subst (λ ds. Rises (names_of ds)) (sym is) (subst Rises (sym (names_kept f keeps first)) rises)
+pub rises_changed : (f : Connected → Connected) → KeepsScopes f → (first after : List Connected) → after ≡ map f first → Rises (connected_cids first) → Rises (connected_cids after)
+rises_changed f keeps first after is rises = subst (λ ds. Rises (connected_cids ds)) (sym is) (subst Rises (sym (cids_kept f keeps first)) rises)
 
 pub over_changed : (f : Connected → Connected) → KeepsScopes f → (first after : List Connected) (x : ℕ) (c : Cid) → after ≡ map f first → IsOver first x c → IsOver after x c
 over_changed f keeps first after x c is over = subst (λ ds. IsOver ds x c) (sym is) ((over_kept f keeps first x c).1 over)
 
--- one more name is pending
+-- one more id is pending
 pub put_set : (first now after more : List Cid) (i : ℕ) (cid : Cid) → i < length more → cid ≡ get_or more i cid → ((c : Cid) → Contains now c ↔ (Contains first c ⊎ Contains (take i more) c))
     → ((c : Cid) → Contains after c ↔ (Contains now c ⊎ (c ≡ cid))) → (c : Cid) → Contains after c ↔ (Contains first c ⊎ Contains (take (i + 1) more) c)
 put_set first now after more i cid lt item so_far put c = (
@@ -558,16 +561,16 @@ put_set first now after more i cid lt item so_far put c = (
 )
 
 -- the flag of a constraint is raised, and its marks change
-pub woken_at : (connected after : List Connected) (flags now : List Bool) (cid : Cid) (place x : ℕ) (f : Connected → Connected) → KeepsScopes f → Rises (names_of connected) → length flags ≡ length connected
+pub woken_at : (connected after : List Connected) (flags now : List Bool) (cid : Cid) (place x : ℕ) (f : Connected → Connected) → KeepsScopes f → Rises (connected_cids connected) → length flags ≡ length connected
     → IsPartedAt (λ d. cid_before d.cid cid) connected place → IsOver connected x cid → after ≡ map (changed_at cid f) connected → now ≡ set flags place true → (c : Cid)
-    → Contains (flagged (names_of after) now) c ↔ (Contains (flagged (names_of connected) flags) c ⊎ (c ≡ cid))
+    → Contains (flagged (connected_cids after) now) c ↔ (Contains (flagged (connected_cids connected) flags) c ⊎ (c ≡ cid))
 woken_at connected after flags now cid place x f keeps rises same at over becomes now_is c =
-    let names_is : names_of after ≡ names_of connected = ap names_of becomes ∙ names_kept (changed_at cid f) (keeps_at cid f keeps) connected in
-    subst (λ names. Contains (flagged names now) c ↔ (Contains (flagged (names_of connected) flags) c ⊎ (c ≡ cid))) (sym names_is)
+    let cids_is : connected_cids after ≡ connected_cids connected = ap connected_cids becomes ∙ cids_kept (changed_at cid f) (keeps_at cid f keeps) connected in
+    subst (λ cids. Contains (flagged cids now) c ↔ (Contains (flagged (connected_cids connected) flags) c ⊎ (c ≡ cid))) (sym cids_is)
     (raised_at connected rises cid place at flags now same (over_connected connected x cid over) now_is c)
 
 pub put_all_set : (first now more : List Cid) (i : ℕ) → length more ≤ i → ((c : Cid) → Contains now c ↔ (Contains first c ⊎ Contains (take i more) c)) → (c : Cid) → Contains now c ↔ (Contains first c ⊎ Contains more c)
-put_all_set first now more i past so_far c = subst (λ names. Contains now c ↔ (Contains first c ⊎ Contains names c)) (take_all i more past) (so_far c)
+put_all_set first now more i past so_far c = subst (λ cids. Contains now c ↔ (Contains first c ⊎ Contains cids c)) (take_all i more past) (so_far c)
 
-pub none_put : (names : List Cid) (c : Cid) → Contains names c ↔ (Contains names c ⊎ Contains {X = Cid} [] c)
-none_put names c = (λ m. inl m, λ h. elim h [ inl m ↦ m | inr m ↦ absurd (member_nil c m) ])
+pub none_put : (cids : List Cid) (c : Cid) → Contains cids c ↔ (Contains cids c ⊎ Contains {X = Cid} [] c)
+none_put cids c = (λ m. inl m, λ h. elim h [ inl m ↦ m | inr m ↦ absurd (member_nil c m) ])

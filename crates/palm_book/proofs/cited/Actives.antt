@@ -5,18 +5,19 @@ use Rattle.std.proofs.lemmas.Option.{slice_get_within, get_or_from_slice_get}
 use Rattle.palm_model.specs.Constraint.{IsWellFormed}
 use Rattle.palm_model.specs.Domains.{Ascends, AllAscend}
 use Rattle.palm_model.specs.declared.constraint.Con.{Con}
-use Rattle.palm_book.specs.Book.{Entry, Contents, IsBook, AreValues, initial_of, user_at, active_of}
+use Rattle.palm_book.specs.Book.{BookVar, Contents, IsBook, AreValues, initial_of, user_at, active_of}
 use Rattle.palm_book.specs.declared.book.BookCon.{BookCon}
 use Rattle.std.proofs.lemmas.List.Kept.{AllPairs-filter}
 use Rattle.std.proofs.lemmas.Bool.{lt-ltb}
 use Rattle.palm_base.specs.declared.terms.Cid.{Cid}
 use Rattle.palm_base.specs.declared.terms.Cid.TheVariants.{User}
-use Rattle.palm_model.specs.Log.{Active, Rises, cid_before, cids_of, cons_of}
+use Rattle.palm_base.specs.Order.{Rises, cid_before}
+use Rattle.palm_model.specs.Log.{Active, cids_of, cons_of}
 
 pub initial_ascend : (book : Contents) → IsBook book → AllAscend (initial_of book)
 initial_ascend book b =
-    All-map Ascends (λ (e : Entry). e.values) book.variables
-    (All-weaker (λ (e : Entry). AreValues e.values) (λ (e : Entry). Ascends e.values) (λ e h. h.ascend) book.variables b.values)
+    All-map Ascends (λ (e : BookVar). e.values) book.variables
+    (All-weaker (λ (e : BookVar). AreValues e.values) (λ (e : BookVar). Ascends e.values) (λ e h. h.ascend) book.variables b.values)
 
 -- the active constraints themselves
 pub same_cons : (cs : List BookCon) → cons_of (map user_at cs) ≡ map (λ (c : BookCon). c.con) cs

@@ -8,7 +8,7 @@ use Rattle.std.proofs.lemmas.Option.{same_Some, none-some, slice_get_within, get
 use Rattle.std.proofs.lemmas.Bool.{eq-eqb, ne_eqb}
 use Rattle.std.specs.List.{AllByRecursion}
 use Rattle.indexmap.specs.IndexMap.{set_value_at}
-use Rattle.palm_book.specs.Book.{Entry, Contents, name_of, number_name, with_active, AreValues, IsBook}
+use Rattle.palm_book.specs.Book.{BookVar, Contents, name_of, number_name, with_active, AreValues, IsBook}
 use Rattle.palm_read.specs.Name.{IsNameText}
 use Rattle.palm_book.specs.declared.book.BookCon.{BookCon}
 use Rattle.palm_model.specs.declared.constraint.Con.{Con}
@@ -87,7 +87,7 @@ pub map-remove : {X Y : Type 0} (f : X → Y) (xs : List X) (place : ℕ) → ma
 map-remove {Y = Y} f xs place = map-append f (take place xs) (drop (suc place) xs) ∙ ap (λ (ys : List Y). ys ++ map f (drop (suc place) xs)) (sym (take-map f place xs)) ∙ ap (λ (ys : List Y). take place (map f xs) ++ ys) (sym (drop-map f (suc place) xs))
 
 -- a variable that was found among what a book is made of
-pub name_of_found : {X : Type 0} (entry : X → Entry) (xs : List X) (place : ℕ) (name : List ℕ) → IfSome (slice_get xs place) (λ x. (entry x).name ≡ name) → place < length xs → (place < length (map entry xs)) × (name_of (map entry xs) place ≡ name)
+pub name_of_found : {X : Type 0} (entry : X → BookVar) (xs : List X) (place : ℕ) (name : List ℕ) → IfSome (slice_get xs place) (λ x. (entry x).name ≡ name) → place < length xs → (place < length (map entry xs)) × (name_of (map entry xs) place ≡ name)
 name_of_found entry [] place name h within = absurd (omega arith)
 name_of_found entry (x ∷ xs) zero name h within = (omega arith, h)
 name_of_found entry (x ∷ xs) (suc place) name h within =
@@ -125,8 +125,8 @@ number_name_at cs place number c rising at is = numbered cs place number c risin
 
 -- what is known of the book is known of its fields
 module _ (fields book : Contents) (seen : fields ≡ book) (is_book : IsBook fields) where
-  pub IsBook-with_variable : (e : Entry) (variables : List Entry) → IsNameText e.name → All (λ f. f.name ≢ e.name) book.variables → AreValues e.values → length book.variables < 64 → variables ≡ fields.variables ++ e ∷ [] → IsBook (record fields { variables = variables })
-  IsBook-with_variable e variables text fresh values room added = subst (λ (vs : List Entry). IsBook (record fields { variables = vs })) (sym added) by
+  pub IsBook-with_variable : (e : BookVar) (variables : List BookVar) → IsNameText e.name → All (λ f. f.name ≢ e.name) book.variables → AreValues e.values → length book.variables < 64 → variables ≡ fields.variables ++ e ∷ [] → IsBook (record fields { variables = variables })
+  IsBook-with_variable e variables text fresh values room added = subst (λ (vs : List BookVar). IsBook (record fields { variables = vs })) (sym added) by
     where
       by : IsBook (record fields { variables = fields.variables ++ e ∷ [] })
       by =

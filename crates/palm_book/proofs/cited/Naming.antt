@@ -12,7 +12,7 @@ use Rattle.palm_model.specs.declared.constraint.Con.TheVariants.{CompareVar as V
 use Rattle.palm_model.specs.declared.constraint.Target.{Target}
 use Rattle.palm_model.specs.declared.constraint.Target.TheVariants.{Const, Variable}
 use Rattle.palm_model.specs.declared.constraint.Term.{Term}
-use Rattle.palm_book.specs.Book.{Entry, name_of}
+use Rattle.palm_book.specs.Book.{BookVar, name_of}
 use Rattle.palm_read.specs.Limits.{names_of}
 use Rattle.palm_read.specs.Count.{line_target_names}
 use Rattle.palm_book.specs.Named.{named, named_term, named_target}
@@ -46,12 +46,12 @@ all_right P xs ys h = all_members P ys (λ x m. All-contains P (xs ++ ys) x h (C
 -- ---- variables by name
 
 -- there is a variable with a name that one has
-pub variable_with : (variables : List Entry) (name : List ℕ) → Any (λ e. e.name ≡ name) variables → (x : ℕ) × (x < length variables) × (name_of variables x ≡ name)
+pub variable_with : (variables : List BookVar) (name : List ℕ) → Any (λ e. e.name ≡ name) variables → (x : ℕ) × (x < length variables) × (name_of variables x ≡ name)
 variable_with variables name a =
-    let none : Entry = record { name = []; values = [] } in
-    (a.0, a.2, ap (λ (e : Entry). e.name) (get_or_default variables a.0 none a.1 a.2 ∙ a.3) ∙ a.4)
+    let none : BookVar = record { name = []; values = [] } in
+    (a.0, a.2, ap (λ (e : BookVar). e.name) (get_or_default variables a.0 none a.1 a.2 ∙ a.3) ∙ a.4)
 
-module _ (variables : List Entry) where
+module _ (variables : List BookVar) where
   abbrev IsNamed : List ℕ → Type 0
   IsNamed name = Any (λ e. e.name ≡ name) variables
 
@@ -126,10 +126,10 @@ module _ (variables : List Entry) where
       (DifferCon r.0, r.1, cc)
 
   -- ---- names that differ stand for one variable each
-  module _ (apart : AllPairs (λ (e f : Entry). e.name ≢ f.name) variables) where
+  module _ (apart : AllPairs (λ (e f : BookVar). e.name ≢ f.name) variables) where
     pub variable_once : (x y : ℕ) → IsDeclared x → IsDeclared y → name_of variables x ≡ name_of variables y → x ≡ y
     variable_once x y lx ly e =
-        let none : Entry = record { name = []; values = [] } in
+        let none : BookVar = record { name = []; values = [] } in
         elim (cases_lt x y) [
           | inl l ↦ absurd (apart x y none l ly e)
           | inr g ↦ elim (cases_lt y x) [ inl l ↦ absurd (apart y x none l lx (sym e)) | inr h ↦ omega (arith, g, h) ]

@@ -16,11 +16,11 @@ use Rattle.palm_read.specs.declared.line.NameTarget.{NameTarget}
 use Rattle.palm_read.specs.declared.line.NameTerm.{NameTerm}
 use Rattle.palm_read.specs.declared.line.Shape.{Shape}
 use Rattle.palm_read.specs.declared.line.Shape.TheVariants.{Linear, Count}
-use Rattle.palm_book.specs.Book.{Entry, name_of}
+use Rattle.palm_book.specs.Book.{BookVar, name_of}
 use Rattle.palm_book.specs.Named.{named, named_term, named_target, IsUnknownName, Resolves}
 use Rattle.palm_book.proofs.cited.Any.{any_here, any_there, any_cases, any_none}
 
-pub resolves_linear : (variables : List Entry) (terms : List NameTerm) (list : List Term) (op : Op) (bound : ℤ)
+pub resolves_linear : (variables : List BookVar) (terms : List NameTerm) (list : List Term) (op : Op) (bound : ℤ)
     → All (λ t. t.var < length variables) list → map (named_term variables) list ≡ terms
     → Resolves variables (Linear terms op bound) (LinearCon list op bound)
 resolves_linear variables terms list op bound declared says = record {
@@ -28,7 +28,7 @@ resolves_linear variables terms list op bound declared says = record {
   says = ap (λ (z : List NameTerm). Linear z op bound) says;
 }
 
-pub resolves_count : (variables : List Entry) (value : ℤ) (names : List (List ℕ)) (vars : List ℕ) (op : Op) (target : NameTarget) (chosen : Target)
+pub resolves_count : (variables : List BookVar) (value : ℤ) (names : List (List ℕ)) (vars : List ℕ) (op : Op) (target : NameTarget) (chosen : Target)
     → All (λ x. x < length variables) vars → map (name_of variables) vars ≡ names
     → All (λ x. x < length variables) (target_scope chosen) → named_target variables chosen ≡ target
     → Resolves variables (Count value names op target) (CountCon value vars op chosen)
@@ -39,11 +39,11 @@ resolves_count variables value names vars op target chosen declared says target_
 
 -- ---- the names of a constraint are those of its scope
 
-term_names : (variables : List Entry) (terms : List Term) → map (λ t. t.name) (map (named_term variables) terms) ≡ map (name_of variables) (term_vars terms)
+term_names : (variables : List BookVar) (terms : List Term) → map (λ t. t.name) (map (named_term variables) terms) ≡ map (name_of variables) (term_vars terms)
 term_names variables [] = refl
 term_names variables (t ∷ ts) = ap (λ (z : List (List ℕ)). name_of variables t.var ∷ z) (term_names variables ts)
 
-target_names : (variables : List Entry) (target : Target) → line_target_names (named_target variables target) ≡ map (name_of variables) (target_scope target)
+target_names : (variables : List BookVar) (target : Target) → line_target_names (named_target variables target) ≡ map (name_of variables) (target_scope target)
 target_names variables (Const w) = refl
 target_names variables (Variable x) = refl
 
@@ -51,7 +51,7 @@ map_both : (f : ℕ → List ℕ) (xs ys : List ℕ) → map f (xs ++ ys) ≡ ma
 map_both f [] ys = refl
 map_both f (x ∷ xs) ys = ap (λ (z : List (List ℕ)). f x ∷ z) (map_both f xs ys)
 
-pub scope_names : (variables : List Entry) (con : Con) → names_of (named variables con) ≡ map (name_of variables) (scope con)
+pub scope_names : (variables : List BookVar) (con : Con) → names_of (named variables con) ≡ map (name_of variables) (scope con)
 scope_names variables (CompareVarCon left op right offset) = refl
 scope_names variables (CompareConstCon left op value) = refl
 scope_names variables (LinearCon terms op bound) = term_names variables terms
@@ -64,12 +64,12 @@ scope_names variables (DifferCon vars) = refl
 
 -- ---- where a constraint says what a shape says, each name of the shape names a variable
 
-pub has_name : (variables : List Entry) (x : ℕ) → x < length variables → Any (λ e. e.name ≡ name_of variables x) variables
+pub has_name : (variables : List BookVar) (x : ℕ) → x < length variables → Any (λ e. e.name ≡ name_of variables x) variables
 has_name [] x within = absurd (omega arith)
-has_name (e ∷ es) zero within = any_here (λ (f : Entry). f.name ≡ e.name) e es refl
-has_name (e ∷ es) (suc x) within = any_there (λ (f : Entry). f.name ≡ name_of es x) e es (has_name es x (omega arith))
+has_name (e ∷ es) zero within = any_here (λ (f : BookVar). f.name ≡ e.name) e es refl
+has_name (e ∷ es) (suc x) within = any_there (λ (f : BookVar). f.name ≡ name_of es x) e es (has_name es x (omega arith))
 
-known_names : (variables : List Entry) (xs : List ℕ) → All (λ x. x < length variables) xs → Any (IsUnknownName variables) (map (name_of variables) xs) → ⊥
+known_names : (variables : List BookVar) (xs : List ℕ) → All (λ x. x < length variables) xs → Any (IsUnknownName variables) (map (name_of variables) xs) → ⊥
 known_names variables [] declared a = any_none (IsUnknownName variables) a
 known_names variables (x ∷ xs) declared a =
     elim (any_cases (IsUnknownName variables) (name_of variables x) (map (name_of variables) xs) a) [
@@ -77,7 +77,7 @@ known_names variables (x ∷ xs) declared a =
       | inr b ↦ known_names variables xs (All-tail (λ (y : ℕ). y < length variables) x xs declared) b
     ]
 
-pub known : (variables : List Entry) (shape : Shape) (con : Con) → Resolves variables shape con → Any (IsUnknownName variables) (names_of shape) → ⊥
+pub known : (variables : List BookVar) (shape : Shape) (con : Con) → Resolves variables shape con → Any (IsUnknownName variables) (names_of shape) → ⊥
 known variables shape con r a =
     known_names variables (scope con) r.declared
     (subst (Any (IsUnknownName variables)) (scope_names variables con) (subst (λ (s : Shape). Any (IsUnknownName variables) (names_of s)) (sym r.says) a))

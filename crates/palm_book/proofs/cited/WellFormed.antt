@@ -10,7 +10,7 @@ use Rattle.palm_model.specs.declared.constraint.Con.{Con}
 use Rattle.palm_model.specs.declared.constraint.Con.TheVariants.{CompareVar as CompareVarCon, CompareConst as CompareConstCon, Linear as LinearCon, Table as TableCon, Element as ElementCon, Count as CountCon, Differ as DifferCon}
 use Rattle.palm_model.specs.declared.constraint.Target.TheVariants.{Const, Variable}
 use Rattle.palm_model.specs.declared.constraint.Term.{Term}
-use Rattle.palm_book.specs.Book.{Entry, name_of}
+use Rattle.palm_book.specs.Book.{BookVar, name_of}
 use Rattle.palm_read.specs.Count.{line_target_names}
 use Rattle.palm_book.proofs.cited.Resolving.{scope_names}
 use Rattle.palm_read.specs.Limits.{Repeats, names_of, HasManyRows}
@@ -25,13 +25,13 @@ distinct_names : (f : ℕ → List ℕ) (xs : List ℕ) → (Repeats (map f xs) 
 distinct_names f [] r = tt
 distinct_names f (x ∷ xs) r = (λ m. r (inl (member_map f xs x m)), distinct_names f xs (λ q. r (inr q)))
 
-factors : (variables : List Entry) (terms : List Term) → All IsSoundTerm (map (named_term variables) terms) → All IsFactor terms
+factors : (variables : List BookVar) (terms : List Term) → All IsSoundTerm (map (named_term variables) terms) → All IsFactor terms
 factors variables [] sound = All-nil IsFactor
 factors variables (t ∷ ts) sound =
     All-cons IsFactor t ts (All-head IsSoundTerm (named_term variables t) (map (named_term variables) ts) sound)
     (factors variables ts (All-tail IsSoundTerm (named_term variables t) (map (named_term variables) ts) sound))
 
-shaped : (variables : List Entry) (con : Con) → IsSoundShape (named variables con) → (HasManyRows (named variables con) → ⊥) → IsShaped con
+shaped : (variables : List BookVar) (con : Con) → IsSoundShape (named variables con) → (HasManyRows (named variables con) → ⊥) → IsShaped con
 shaped variables (CompareVarCon left op right offset) sound few = sound
 shaped variables (CompareConstCon left op value) sound few = sound
 shaped variables (LinearCon terms op bound) sound few = (factors variables terms sound.1, sound.2, sound.3)
@@ -42,7 +42,7 @@ shaped variables (CountCon value vars op (Variable x)) sound few = (omega (arith
 shaped variables (DifferCon vars) sound few = omega (arith, length-map vars (name_of variables))
 
 -- a constraint has a variable
-some_names : (variables : List Entry) (con : Con) → IsSoundShape (named variables con) → 0 < length (names_of (named variables con))
+some_names : (variables : List BookVar) (con : Con) → IsSoundShape (named variables con) → 0 < length (names_of (named variables con))
 some_names variables (CompareVarCon left op right offset) sound = omega arith
 some_names variables (CompareConstCon left op value) sound = omega arith
 some_names variables (LinearCon terms op bound) sound = omega (arith, length-map (map (named_term variables) terms) (λ (t : NameTerm). t.name), sound.0)
@@ -51,7 +51,7 @@ some_names variables (ElementCon outcome index entries) sound = omega arith
 some_names variables (CountCon value vars op target) sound = omega (arith, length-append (map (name_of variables) vars) (line_target_names (named_target variables target)), sound.0)
 some_names variables (DifferCon vars) sound = omega (arith, sound)
 
-formed : (variables : List Entry) (con : Con) → All (λ x. x < length variables) (scope con)
+formed : (variables : List BookVar) (con : Con) → All (λ x. x < length variables) (scope con)
     → (Repeats (names_of (named variables con)) → ⊥) → IsSoundShape (named variables con)
     → (16 < length (names_of (named variables con)) → ⊥) → (HasManyRows (named variables con) → ⊥)
     → IsWellFormed (length variables) con
@@ -67,7 +67,7 @@ formed variables con declared once sound narrow few =
     }
 
 -- a sound constraint within the limits is well formed
-pub well_formed : (variables : List Entry) (shape : Shape) (con : Con) → Resolves variables shape con
+pub well_formed : (variables : List BookVar) (shape : Shape) (con : Con) → Resolves variables shape con
     → (Repeats (names_of shape) → ⊥) → IsSoundShape shape → (16 < length (names_of shape) → ⊥) → (HasManyRows shape → ⊥)
     → IsWellFormed (length variables) con
 well_formed variables shape con r once sound narrow few =

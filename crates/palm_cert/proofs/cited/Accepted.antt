@@ -20,12 +20,13 @@ use Rattle.palm_claim.specs.declared.statement.Stage.TheVariants.{Closed}
 use Rattle.palm_claim.specs.declared.verdict.Claim.{Claim}
 use Rattle.palm_claim.specs.declared.verdict.Claim.TheVariants.{Conflict, Gone}
 use Rattle.palm_claim.specs.declared.statement.Statement.TheVariants.{ConflictClaim, ValueClaim}
-use Rattle.palm_events.proofs.cited.Names.{same_cid_itself}
+use Rattle.palm_base.proofs.cited.CidOrder.{same_cid_itself}
 use Rattle.palm_lang.specs.Reply.{fixed_text}
 use Rattle.palm_lang.specs.declared.reply.Fixed.TheVariants.{End}
 use Rattle.palm_model.specs.Constraint.{IsWellFormed, scope}
 use Rattle.palm_model.specs.Domains.{Domains, Has, without}
-use Rattle.palm_model.specs.Log.{Removal, log_pairs, same_cid}
+use Rattle.palm_base.specs.Order.{same_cid}
+use Rattle.palm_model.specs.Log.{Removal, log_pairs}
 use Rattle.palm_model.specs.State.{EngineState, IsValid, is_over}
 use Rattle.palm_model.specs.Support.{LacksSupport}
 use Rattle.palm_cert.specs.Certificate.{certificate_text, cited, claim_line, claim_var, claimed, declarations, is_cited, is_used, numbers_of, proof_lines, step_line, steps_of, used}

@@ -15,14 +15,14 @@ use Rattle.palm_model.specs.State.{EngineState, IsValid}
 use Rattle.palm_model.proofs.cited.Narrowing.{has_declared}
 use Rattle.palm_model.proofs.cited.Without.{length_without}
 use Rattle.palm_read.specs.Words.{spaced}
-use Rattle.palm_book.specs.Book.{Contents, Entry, HasNumber, IsUser, active_of, initial_of, number_name, user_at, user_name}
+use Rattle.palm_book.specs.Book.{Contents, BookVar, HasNumber, IsUser, active_of, initial_of, number_name, user_at, user_name}
 use Rattle.palm_lang.specs.Reply.{ended}
 use Rattle.palm_explain.specs.Explanations.{log_bys, reasons_of}
 use Rattle.palm_book.specs.declared.book.BookCon.{BookCon}
 use Rattle.palm_book.proofs.cited.Any.{any_member}
 use Rattle.palm_claim.specs.declared.verdict.Claim.{Claim}
 use Rattle.palm_claim.specs.declared.verdict.Claim.TheVariants.{Gone, Conflict}
-use Rattle.palm_events.proofs.cited.Conflicts.{names_active}
+use Rattle.palm_events.proofs.cited.Conflicts.{cids_active}
 use Rattle.palm_cert.specs.Certificate.{claim_var, numbers_of, step_line, step_words}
 use Rattle.palm_cert.specs.Needs.{CanClaim, IsNumbered, IsOfBook}
 use Rattle.palm_cert.proofs.Links.{pair_removal}
@@ -102,12 +102,12 @@ declared_from initial active earlier (s ∷ rest) right r m = elim (member_cases
 -- the state has the variables and the active constraints of the book
 module _ (s : EngineState) (book : Contents) (valid : IsValid s) (initial : s.initial ≡ initial_of book) (active : s.active ≡ active_of book) where
   long : length s.initial ≡ length book.variables
-  long = ap (λ (d : Domains). length d) initial ∙ length-map book.variables (λ (e : Entry). e.values)
+  long = ap (λ (d : Domains). length d) initial ∙ length-map book.variables (λ (e : BookVar). e.values)
 
   of_book : (r : Removal) → Contains s.log r → IsOfBook book r
   of_book r m = record {
     variable = subst (λ (n : ℕ). r.pair.var < n) long (has_declared s.initial r.pair.var r.pair.value (declared_from s.initial s.active [] s.log valid.founded r m));
-    user = active_user book r.by (subst (λ (l : List Active). IsActive l r.by) active (names_active s.initial s.active s.log r.by valid.founded r m (by_itself r refl)));
+    user = active_user book r.by (subst (λ (l : List Active). IsActive l r.by) active (cids_active s.initial s.active s.log r.by valid.founded r m (by_itself r refl)));
   }
 
   pub log_of_book : All (IsOfBook book) s.log

@@ -8,7 +8,7 @@ use Rattle.palm_base.specs.declared.terms.Pair.{Pair}
 use Rattle.palm_base.specs.declared.terms.Cid.{Cid}
 use Rattle.palm_base.specs.declared.terms.Cid.TheVariants.{User}
 use Rattle.palm_base.proofs.cited.Members.{filter_member, member_cases, member_nil, member_same, member_unmap}
-use Rattle.palm_book.specs.Book.{Contents, Entry, IsBook, active_of, initial_of, name_of, number_name, user_at, user_name, values_at}
+use Rattle.palm_book.specs.Book.{Contents, BookVar, IsBook, active_of, initial_of, name_of, number_name, user_at, user_name, values_at}
 use Rattle.palm_book.specs.declared.book.BookCon.{BookCon}
 use Rattle.palm_book.proofs.cited.Any.{any_cases, any_member, any_none}
 use Rattle.palm_claim.specs.Statement.{Says, header}
@@ -150,7 +150,7 @@ module _ (s : EngineState) (book : Contents) (is : IsBook book) (valid : IsValid
       value_claim_says book.variables pair named value (omega (arith, value_claim_length book.variables pair named value))
   claim_readable (Conflict x) can =
       let exists = can.exists in
-      let many : length (present s) ≡ length book.variables = length_without s.initial (log_pairs s.log) ∙ ap length initial ∙ length-map book.variables (λ (e : Entry). e.values) in
+      let many : length (present s) ≡ length book.variables = length_without s.initial (log_pairs s.log) ∙ ap length initial ∙ length-map book.variables (λ (e : BookVar). e.values) in
       let named = name_text book.variables x is.variable_names (omega (arith, exists, many)) in
       conflict_claim_says book.variables x named (omega (arith, conflict_claim_length book.variables x named))
 

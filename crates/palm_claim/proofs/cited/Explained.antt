@@ -4,6 +4,7 @@ use Rattle.std.specs.Bool.{⊤}
 use Rattle.std.proofs.lemmas.Bool.{cases_lt}
 use Rattle.std.proofs.lemmas.List.{get_or_default, length-map}
 use Rattle.std.proofs.lemmas.List.Elements.{All-contains, Contains-push_cases}
+use Rattle.palm_base.specs.First.{IsNone}
 use Rattle.palm_base.specs.declared.terms.Pair.{Pair}
 use Rattle.palm_base.proofs.cited.Members.{member_nil, member_here, member_map, member_unmap}
 use Rattle.palm_book.specs.Book.{Contents, initial_of}
@@ -18,7 +19,7 @@ use Rattle.palm_claim.specs.Claim.{HoldsIn, IsExplained, IsOver, IsOverItsBook, 
 use Rattle.palm_claim.specs.Draft.{Draft, Leads, MayStand, at_stage, blank, with_constraint, with_step, with_variable}
 use Rattle.palm_claim.specs.Statement.{IsStepNumber, Says}
 use Rattle.palm_claim.specs.Step.{IsReached, IsRight, pair_at, pairs_at}
-use Rattle.palm_claim.specs.Verdict.{IsNone, IsVerdict, Judges, Meets, ending, in_order}
+use Rattle.palm_claim.specs.Verdict.{IsVerdict, Judges, Meets, ending, in_order}
 use Rattle.palm_claim.specs.declared.statement.Stage.{Stage}
 use Rattle.palm_claim.specs.declared.statement.Stage.TheVariants.{Unopened, Declaring, Listing, Proving, Claimed, Closed}
 use Rattle.palm_claim.specs.declared.statement.Statement.{Statement}

@@ -2,13 +2,15 @@
 use Rattle.std.proofs.Common.{◌≡◌, ◌≢◌, ℕ, ◌+◌, ℤ, List, [], ◌∷◌, ◌++◌, get_or, Any, inl, inr, sym, ap, ◌∙◌, subst, arith}
 use Rattle.std.proofs.lemmas.List.{get_or_default}
 use Rattle.std.proofs.lemmas.List.Quantifiers.{all_pairs_push}
+use Rattle.palm_base.proofs.cited.FirstCauses.{first_once, first_not_none}
+use Rattle.palm_base.specs.First.{IsFirst, IsNone}
 use Rattle.palm_base.specs.declared.terms.Pair.{Pair}
-use Rattle.palm_book.specs.Book.{Entry}
+use Rattle.palm_book.specs.Book.{BookVar}
 use Rattle.palm_model.specs.declared.constraint.Con.{Con}
 use Rattle.palm_read.specs.Domain.{values_in}
 use Rattle.palm_read.proofs.cited.Cutting.{lines_once}
 use Rattle.palm_claim.specs.Draft.{Draft, Leads, at_stage, blank, with_constraint, with_step}
-use Rattle.palm_claim.specs.Verdict.{IsFirst, IsNone, IsRefusedFor, IsVerdict, Judges, Meets, Passes, in_order}
+use Rattle.palm_claim.specs.Verdict.{IsRefusedFor, IsVerdict, Judges, Meets, Passes, in_order}
 use Rattle.palm_claim.specs.declared.statement.Stage.{Stage}
 use Rattle.palm_claim.specs.declared.statement.Stage.TheVariants.{Claimed, Closed}
 use Rattle.palm_claim.specs.declared.statement.Statement.{Statement}
@@ -21,19 +23,6 @@ use Rattle.palm_claim.specs.declared.verdict.Verdict.TheVariants.{Refused}
 use Rattle.palm_book.proofs.cited.Naming.{constraint_once}
 use Rattle.palm_book.proofs.cited.Pairs.{Apart, pair_is, variable_is}
 use Rattle.palm_claim.proofs.cited.Saying.{one_saying}
-
--- ---- first causes
-
-first_once : (holds : Cause → Type 0) (cs : List Cause) (a b : Cause) → IsFirst holds cs a → IsFirst holds cs b → a ≡ b
-first_once holds [] a b p q = absurd p
-first_once holds (c ∷ cs) a b p q = elim p [
-  | inl l ↦ elim q [ inl m ↦ l.1 ∙ sym m.1 | inr m ↦ absurd (m.0 l.0) ]
-  | inr l ↦ elim q [ inl m ↦ absurd (l.0 m.0) | inr m ↦ first_once holds cs a b l.1 m.1 ]
-]
-
-first_or_none : (holds : Cause → Type 0) (cs : List Cause) (a : Cause) → IsFirst holds cs a → IsNone holds cs → ⊥
-first_or_none holds [] a p n = p
-first_or_none holds (c ∷ cs) a p n = elim p [ inl l ↦ n.0 l.0 | inr l ↦ first_or_none holds cs a l.1 n.1 ]
 
 refused_once : (d : Draft) (line : List ℕ) (a b : Cause) → IsRefusedFor d line a → IsRefusedFor d line b → a ≡ b
 refused_once d line a b p q = elim p [
@@ -51,15 +40,15 @@ refused_or_passes d line a e p passes = elim p [
   | inl l ↦ l.0 passes.statement passes.says
   | inr l ↦
       let same = one_saying line l.0 passes.statement l.1 passes.says in
-      first_or_none (Meets d passes.statement) in_order a (subst (λ (s : Statement). IsFirst (Meets d s) in_order a) same l.2) passes.none
+      first_not_none (Meets d passes.statement) in_order a (subst (λ (s : Statement). IsFirst (Meets d s) in_order a) same l.2) passes.none
 ]
 
 -- ---- names that differ
 
 -- a new variable's name differs from those before it
-pub apart_more : (variables : List Entry) (name : List ℕ) (values : List ℤ) → Apart variables → (Any (λ e. e.name ≡ name) variables → ⊥) → Apart (variables ++ record { name = name; values = values } ∷ [])
+pub apart_more : (variables : List BookVar) (name : List ℕ) (values : List ℤ) → Apart variables → (Any (λ e. e.name ≡ name) variables → ⊥) → Apart (variables ++ record { name = name; values = values } ∷ [])
 apart_more variables name values apart fresh =
-    all_pairs_push (λ (e f : Entry). e.name ≢ f.name) variables (record { name = name; values = values }) apart
+    all_pairs_push (λ (e f : BookVar). e.name ≢ f.name) variables (record { name = name; values = values }) apart
     (λ k d lt same. fresh (k, get_or variables k d, lt, get_or_default variables k (get_or variables k d) d lt, same))
 
 pub leads_apart : (d e : Draft) (s : Statement) → Apart d.book.variables → IsNone (Meets d s) in_order → Leads d s e → Apart e.book.variables

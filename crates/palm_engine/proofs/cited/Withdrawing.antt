@@ -1,4 +1,4 @@
--- Withdrawals one after another, and the negations that rest on a name.
+-- Withdrawals one after another, and the negations that rest on an id.
 use Rattle.std.proofs.Common.{◌≡◌, ℕ, zero, suc, Bool, true, false, not, ◌&&◌, cond, List, [], ◌∷◌, ◌++◌, filter, length, slice_get, take, drop, remove, Contains, Some, inl, inr, refl, sym, ap, ◌∙◌, subst}
 use Rattle.std.specs.List.{list_any}
 use Rattle.std.proofs.lemmas.Bool.{or_cases, and_from, and_parts}
@@ -8,19 +8,21 @@ use Rattle.palm_base.specs.declared.terms.Pair.{Pair}
 use Rattle.palm_base.specs.declared.terms.Cid.{Cid}
 use Rattle.palm_base.specs.declared.terms.Cid.TheVariants.{Decide}
 use Rattle.palm_base.proofs.cited.Members.{member_nil, member_here, member_there, member_same, member_map, member_unmap, member_single, filter_agree_members}
-use Rattle.palm_model.specs.Log.{Active, Removal, Loses, Rises, cids_of, is_named}
+use Rattle.palm_base.specs.Order.{Rises}
+use Rattle.palm_model.specs.Log.{Active, Removal, Loses, cids_of, is_named}
 use Rattle.palm_model.specs.Log.Loses.{none_left, is_kept}
-use Rattle.palm_model.specs.State.{EngineState, IsGround, IsValid, is_awake, is_over, woken}
-use Rattle.palm_model.specs.Event.{Withdraws, WithdrawsAll, gone_with, lost_pairs, vars_of, without_names, withdrawn}
+use Rattle.palm_model.specs.State.{EngineState, IsJustifier, IsValid, is_awake, is_over, woken}
+use Rattle.palm_model.specs.Event.{Withdraws, WithdrawsAll, gone_with, lost_pairs, vars_of, without_cids, withdrawn}
 use Rattle.palm_model.proofs.cited.Supports.{any_member}
-use Rattle.palm_events.proofs.cited.Names.{named_member, member_not_named, not_named_member, rising_same, single}
+use Rattle.palm_base.proofs.cited.CidOrder.{rising_same}
+use Rattle.palm_events.proofs.cited.Names.{named_member, member_not_named, not_named_member, single}
 use Rattle.palm_events.proofs.cited.Scoped.{withdraws_scoped}
-use Rattle.palm_events.proofs.cited.States.{awake_named, awake_over, member_woken, over_member, woken_active, woken_rises, without_names_member, without_names_rises, form_grounds, held_not_ground}
+use Rattle.palm_events.proofs.cited.States.{awake_named, awake_over, member_woken, over_member, woken_active, woken_rises, without_cids_member, without_cids_rises, form_justifiers, held_not_justifier}
 use Rattle.palm_events.proofs.cited.Valid.{withdraws_valid}
 use Rattle.palm_explain.proofs.cited.Withdrawn.{adds_up, lost_in_two, two_lost, lost_logged}
 use Rattle.palm_engine.specs.declared.filtering.Filtering.{Filtering}
 use Rattle.palm_engine.specs.Changed.{PutsBack}
-use Rattle.palm_engine.specs.Kept.{IsEngine, IsKept, state_of}
+use Rattle.palm_engine.specs.Kept.{IsEngine, IsInStep, state_of}
 use Rattle.palm_engine.specs.Posted.{resting_on}
 use Rattle.palm_engine.proofs.Keeping.{put_back_kept, put_back_withdraws}
 use Rattle.palm_engine.proofs.Scopes.{connected_is_active}
@@ -41,7 +43,7 @@ filter_then s t u same (a ∷ active) =
     by_tests true c e = ap (λ d. cond d (a ∷ filter u (filter t active)) (filter u (filter t active))) e
     by_tests false c e = refl
 
-without_both : (first then : List Cid) (active : List Active) → without_names then (without_names first active) ≡ without_names (first ++ then) active
+without_both : (first then : List Cid) (active : List Active) → without_cids then (without_cids first active) ≡ without_cids (first ++ then) active
 without_both first then active =
     filter_then (λ (a : Active). not (is_named (first ++ then) a.cid)) (λ (a : Active). not (is_named first a.cid)) (λ (a : Active). not (is_named then a.cid))
     (λ a. same_tests (not (is_named (first ++ then) a.cid)) (not (is_named first a.cid) && not (is_named then a.cid))
@@ -76,25 +78,25 @@ withdraws_then s m t first then rises one two =
     same_state : (s : EngineState) (middle left : List Removal) (first then : List Cid) → Rises (cids_of s.active) → Loses s.log first s.log middle → Loses middle then middle left
         → withdrawn (withdrawn s first middle) then left ≡ withdrawn s (first ++ then) left
     same_state s middle left first then rises one two =
-        let between = without_names first s.active in
-        let active = without_names then between in
-        let all = without_names (first ++ then) s.active in
+        let between = without_cids first s.active in
+        let active = without_cids then between in
+        let all = without_cids (first ++ then) s.active in
         let vars = vars_of (lost_pairs s.log middle) in
         let more = vars_of (lost_pairs middle left) in
         let lost = vars_of (lost_pairs s.log left) in
         let same = without_both first then s.active in
-        let between_rises = without_names_rises first s.active rises in
+        let between_rises = without_cids_rises first s.active rises in
         let pending : woken active (woken between s.pending vars) more ≡ woken active s.pending lost =
         rising_same (woken active (woken between s.pending vars) more) (woken active s.pending lost)
-        (woken_rises active (woken between s.pending vars) more (without_names_rises then between between_rises))
-        (woken_rises active s.pending lost (without_names_rises then between between_rises))
+        (woken_rises active (woken between s.pending vars) more (without_cids_rises then between between_rises))
+        (woken_rises active s.pending lost (without_cids_rises then between between_rises))
         (λ c k.
         let r = woken_active active (woken between s.pending vars) more c k in
         subst (Contains (woken active s.pending lost)) r.2 (member_woken active s.pending lost r.0 r.1
         (elim (or_cases (is_named (woken between s.pending vars) r.0.cid) (list_any (λ x. is_over r.0.con x) more) r.3) [
           | inl h ↦
               let b = woken_active between s.pending vars r.0.cid (named_member (woken between s.pending vars) r.0.cid h) in
-              let e = single between between_rises b.0 r.0 b.1 (without_names_member then between r.0 r.1).0 b.2 in
+              let e = single between between_rises b.0 r.0 b.1 (without_cids_member then between r.0 r.1).0 b.2 in
               let awake : is_awake s.pending vars r.0 ≡ true = subst (λ z. is_awake s.pending vars z ≡ true) e b.3 in
               elim (or_cases (is_named s.pending r.0.cid) (list_any (λ x. is_over r.0.con x) vars) awake) [
                 | inl n ↦ awake_named s.pending lost r.0 (named_member s.pending r.0.cid n)
@@ -106,7 +108,7 @@ withdraws_then s m t first then rises one two =
         ])))
         (λ c k.
         let r = woken_active active s.pending lost c k in
-        let was = (without_names_member then between r.0 r.1).0 in
+        let was = (without_cids_member then between r.0 r.1).0 in
         subst (Contains (woken active (woken between s.pending vars) more)) r.2 (member_woken active (woken between s.pending vars) more r.0 r.1
         (elim (or_cases (is_named s.pending r.0.cid) (list_any (λ x. is_over r.0.con x) lost) r.3) [
           | inl h ↦ awake_named (woken between s.pending vars) more r.0 (member_woken between s.pending vars r.0 was (awake_named s.pending vars r.0 (named_member s.pending r.0.cid h)))
@@ -121,7 +123,7 @@ withdraws_then s m t first then rises one two =
               ]
         ]))) in
         let there : withdrawn (withdrawn s first middle) then left ≡ record s { active = active; log = left; pending = woken active s.pending lost } =
-        ap (λ names. record s { active = active; log = left; pending = names }) pending in
+        ap (λ cids. record s { active = active; log = left; pending = cids }) pending in
         there ∙ ap (λ l. record s { active = l; log = left; pending = woken l s.pending lost }) same
 
 -- ---- none at all
@@ -130,14 +132,14 @@ pub loses_none : (log rest : List Removal) → Loses log [] rest rest
 loses_none log [] = none_left
 loses_none log (r ∷ rest) = is_kept r rest rest (λ some. member_nil some.cid some.among) (loses_none log rest)
 
-pub without_none : (active : List Active) → without_names [] active ≡ active
+pub without_none : (active : List Active) → without_cids [] active ≡ active
 without_none [] = refl
 without_none (a ∷ active) = ap (λ l. a ∷ l) (without_none active)
 
 pub none_lost : (log : List Removal) (x : ℕ) → Contains (vars_of (lost_pairs log log)) x → ⊥
 none_lost log x m = let r = var_of (lost_pairs log log) x m in let l = lost_logged log log r.0 r.1 in l.1 l.0
 
-pub withdraws_none : (f : Filtering) (active : List Active) → Rises (cids_of active) → IsKept f active → WithdrawsAll (state_of f active) [] (state_of f active)
+pub withdraws_none : (f : Filtering) (active : List Active) → Rises (cids_of active) → IsInStep f active → WithdrawsAll (state_of f active) [] (state_of f active)
 withdraws_none f active rises kept =
     let pending = f.agenda.pending in
     let vars = vars_of (lost_pairs f.log.log f.log.log) in
@@ -155,60 +157,60 @@ withdraws_none f active rises kept =
     record {
       left = f.log.log;
       loses = loses_none f.log.log f.log.log;
-      after = ap (λ names. record (state_of f active) { pending = names }) same
+      after = ap (λ cids. record (state_of f active) { pending = cids }) same
           ∙ ap (λ l. record (state_of f active) { active = l; pending = woken l pending vars }) (sym (without_none active));
     }
 
 -- ---- one constraint is taken out
 
-pub taken_out_kept : (f g : Filtering) (cid : Cid) (a : Active) (before after : List Active) → PutsBack f cid g → cid ≡ a.cid → after ≡ without_names (a.cid ∷ []) before → IsKept f before → IsKept g after
+pub taken_out_kept : (f g : Filtering) (cid : Cid) (a : Active) (before after : List Active) → PutsBack f cid g → cid ≡ a.cid → after ≡ without_cids (a.cid ∷ []) before → IsInStep f before → IsInStep g after
 taken_out_kept f g cid a before after puts named left kept =
-    subst (IsKept g) (ap (λ c. without_names (c ∷ []) before) named ∙ sym left) (put_back_kept f g cid before puts kept)
+    subst (IsInStep g) (ap (λ c. without_cids (c ∷ []) before) named ∙ sym left) (put_back_kept f g cid before puts kept)
 
-pub taken_out_withdraws : (f g : Filtering) (cid : Cid) (a : Active) (before after : List Active) → Rises (cids_of before) → PutsBack f cid g → cid ≡ a.cid → after ≡ without_names (a.cid ∷ []) before → IsKept f before
+pub taken_out_withdraws : (f g : Filtering) (cid : Cid) (a : Active) (before after : List Active) → Rises (cids_of before) → PutsBack f cid g → cid ≡ a.cid → after ≡ without_cids (a.cid ∷ []) before → IsInStep f before
     → WithdrawsAll (state_of f before) (a.cid ∷ []) (state_of g after)
 taken_out_withdraws f g cid a before after rises puts named left kept =
     subst (λ l. WithdrawsAll (state_of f before) (a.cid ∷ []) (state_of g l)) (sym left)
-    (subst (λ c. WithdrawsAll (state_of f before) (c ∷ []) (state_of g (without_names (c ∷ []) before))) named (put_back_withdraws f g cid before rises puts kept))
+    (subst (λ c. WithdrawsAll (state_of f before) (c ∷ []) (state_of g (without_cids (c ∷ []) before))) named (put_back_withdraws f g cid before rises puts kept))
 
--- ---- the constraints that rest on a name
+-- ---- the constraints that rest on an id
 
-pub resting_push : (active : List Active) (a : Active) (cid : Cid) → is_named a.because cid ≡ true → resting_on (active ++ a ∷ []) cid ≡ resting_on active cid ++ a.cid ∷ []
+pub resting_push : (active : List Active) (a : Active) (cid : Cid) → is_named a.justification cid ≡ true → resting_on (active ++ a ∷ []) cid ≡ resting_on active cid ++ a.cid ∷ []
 resting_push active a cid rests =
-    ap cids_of (filter-append (λ (b : Active). is_named b.because cid) active (a ∷ []) ∙ ap (λ b. filter (λ (c : Active). is_named c.because cid) active ++ cond b (a ∷ []) []) rests)
-    ∙ map-append (λ (b : Active). b.cid) (filter (λ (b : Active). is_named b.because cid) active) (a ∷ [])
+    ap cids_of (filter-append (λ (b : Active). is_named b.justification cid) active (a ∷ []) ∙ ap (λ b. filter (λ (c : Active). is_named c.justification cid) active ++ cond b (a ∷ []) []) rests)
+    ∙ map-append (λ (b : Active). b.cid) (filter (λ (b : Active). is_named b.justification cid) active) (a ∷ [])
 
-pub resting_same : (active : List Active) (a : Active) (cid : Cid) → is_named a.because cid ≡ false → resting_on (active ++ a ∷ []) cid ≡ resting_on active cid
+pub resting_same : (active : List Active) (a : Active) (cid : Cid) → is_named a.justification cid ≡ false → resting_on (active ++ a ∷ []) cid ≡ resting_on active cid
 resting_same active a cid stands =
-    ap cids_of (filter-append (λ (b : Active). is_named b.because cid) active (a ∷ []) ∙ ap (λ b. filter (λ (c : Active). is_named c.because cid) active ++ cond b (a ∷ []) []) stands
-    ∙ append-nil (filter (λ (c : Active). is_named c.because cid) active))
+    ap cids_of (filter-append (λ (b : Active). is_named b.justification cid) active (a ∷ []) ∙ ap (λ b. filter (λ (c : Active). is_named c.justification cid) active ++ cond b (a ∷ []) []) stands
+    ∙ append-nil (filter (λ (c : Active). is_named c.justification cid) active))
 
 -- constraints without justification rest on nothing
-pub resting_none : (active : List Active) (cid : Cid) → ((a : Active) → Contains active a → a.because ≡ []) → resting_on active cid ≡ []
+pub resting_none : (active : List Active) (cid : Cid) → ((a : Active) → Contains active a → a.justification ≡ []) → resting_on active cid ≡ []
 resting_none [] cid none = refl
 resting_none (a ∷ active) cid none =
-    let e : is_named a.because cid ≡ false = ap (λ names. is_named names cid) (none a (member_here a active)) in
-    ap (λ b. cids_of (cond b (a ∷ filter (λ (c : Active). is_named c.because cid) active) (filter (λ (c : Active). is_named c.because cid) active))) e
+    let e : is_named a.justification cid ≡ false = ap (λ cids. is_named cids cid) (none a (member_here a active)) in
+    ap (λ b. cids_of (cond b (a ∷ filter (λ (c : Active). is_named c.justification cid) active) (filter (λ (c : Active). is_named c.justification cid) active))) e
     ∙ resting_none active cid (λ b m. none b (member_there a active b m))
 
 pub resting_append : (front rest : List Active) (cid : Cid) → resting_on rest cid ≡ [] → resting_on (front ++ rest) cid ≡ resting_on front cid
 resting_append front rest cid none =
-    ap cids_of (filter-append (λ (b : Active). is_named b.because cid) front rest)
-    ∙ map-append (λ (b : Active). b.cid) (filter (λ (b : Active). is_named b.because cid) front) (filter (λ (b : Active). is_named b.because cid) rest)
-    ∙ ap (λ names. resting_on front cid ++ names) none ∙ append-nil (resting_on front cid)
+    ap cids_of (filter-append (λ (b : Active). is_named b.justification cid) front rest)
+    ∙ map-append (λ (b : Active). b.cid) (filter (λ (b : Active). is_named b.justification cid) front) (filter (λ (b : Active). is_named b.justification cid) rest)
+    ∙ ap (λ cids. resting_on front cid ++ cids) none ∙ append-nil (resting_on front cid)
 
--- no constraint rests on itself, so all that rest on a name are still there when its own constraint is gone
-pub resting_left : (s : EngineState) (cid : Cid) → IsValid s → resting_on (without_names (cid ∷ []) s.active) cid ≡ resting_on s.active cid
+-- no constraint rests on itself, so all that rest on an id are still there when its own constraint is gone
+pub resting_left : (s : EngineState) (cid : Cid) → IsValid s → resting_on (without_cids (cid ∷ []) s.active) cid ≡ resting_on s.active cid
 resting_left s cid valid =
-    ap cids_of (filter_then (λ (a : Active). is_named a.because cid && not (is_named (cid ∷ []) a.cid)) (λ (a : Active). not (is_named (cid ∷ []) a.cid)) (λ (a : Active). is_named a.because cid)
-    (λ a. and_swap (is_named a.because cid) (not (is_named (cid ∷ []) a.cid))) s.active
-    ∙ filter_agree_members (λ (a : Active). is_named a.because cid && not (is_named (cid ∷ []) a.cid)) (λ (a : Active). is_named a.because cid) s.active
-    (λ a m. same_tests (is_named a.because cid && not (is_named (cid ∷ []) a.cid)) (is_named a.because cid)
-    (λ h. (and_parts (is_named a.because cid) (not (is_named (cid ∷ []) a.cid)) h).0)
-    (λ h. and_from (is_named a.because cid) (not (is_named (cid ∷ []) a.cid)) h (member_not_named (cid ∷ []) a.cid (λ k.
-    let held = named_member a.because cid h in
-    let ground = (form_grounds (length s.initial) s.active a.cid a.con a.because (valid.formed a m).form cid held).0 in
-    held_not_ground (length s.initial) s.active a cid (valid.formed a m) held (subst IsGround (member_single cid a.cid k) ground))))))
+    ap cids_of (filter_then (λ (a : Active). is_named a.justification cid && not (is_named (cid ∷ []) a.cid)) (λ (a : Active). not (is_named (cid ∷ []) a.cid)) (λ (a : Active). is_named a.justification cid)
+    (λ a. and_swap (is_named a.justification cid) (not (is_named (cid ∷ []) a.cid))) s.active
+    ∙ filter_agree_members (λ (a : Active). is_named a.justification cid && not (is_named (cid ∷ []) a.cid)) (λ (a : Active). is_named a.justification cid) s.active
+    (λ a m. same_tests (is_named a.justification cid && not (is_named (cid ∷ []) a.cid)) (is_named a.justification cid)
+    (λ h. (and_parts (is_named a.justification cid) (not (is_named (cid ∷ []) a.cid)) h).0)
+    (λ h. and_from (is_named a.justification cid) (not (is_named (cid ∷ []) a.cid)) h (member_not_named (cid ∷ []) a.cid (λ k.
+    let held = named_member a.justification cid h in
+    let justifier = (form_justifiers (length s.initial) s.active a.cid a.con a.justification (valid.formed a m).form cid held).0 in
+    held_not_justifier (length s.initial) s.active a cid (valid.formed a m) held (subst IsJustifier (member_single cid a.cid k) justifier))))))
   where
     and_swap : (a b : Bool) → (a && b) ≡ (b && a)
     and_swap true true = refl
@@ -217,9 +219,9 @@ resting_left s cid valid =
     and_swap false false = refl
 
 -- the constraint, and then those that rest on it
-pub withdraws_both : (s m t : EngineState) (cid : Cid) → IsValid s → m.active ≡ without_names (cid ∷ []) s.active → WithdrawsAll s (cid ∷ []) m → WithdrawsAll m (resting_on m.active cid) t → Withdraws s cid t
+pub withdraws_both : (s m t : EngineState) (cid : Cid) → IsValid s → m.active ≡ without_cids (cid ∷ []) s.active → WithdrawsAll s (cid ∷ []) m → WithdrawsAll m (resting_on m.active cid) t → Withdraws s cid t
 withdraws_both s m t cid valid active one two =
-    subst (λ names. WithdrawsAll s (cid ∷ names) t) (ap (λ l. resting_on l cid) active ∙ resting_left s cid valid)
+    subst (λ cids. WithdrawsAll s (cid ∷ cids) t) (ap (λ l. resting_on l cid) active ∙ resting_left s cid valid)
     (withdraws_then s m t (cid ∷ []) (resting_on m.active cid) valid.rising one two)
 
 -- ---- walking the negations
@@ -240,7 +242,7 @@ drop_here (x ∷ xs) (suc k) a e = drop_here xs k a e
 
 -- how far the walk over the constraints behind the decisions has come: the front is done
 pub record IsWalked (f : Filtering) (before : List Active) (cid : Cid) (g : Filtering) (after : List Active) (place : ℕ) : Type 0 where
-  pub kept : IsKept g after
+  pub kept : IsInStep g after
   pub rising : Rises (cids_of after)
   pub front : List Active
   pub parts : before ≡ front ++ drop place after
@@ -249,7 +251,7 @@ pub record IsWalked (f : Filtering) (before : List Active) (cid : Cid) (g : Filt
   pub checks : g.checks ≡ f.checks
 
 -- the constraint at the place stays
-pub walked_past : (f g : Filtering) (before after : List Active) (cid : Cid) (place : ℕ) (a : Active) → slice_get after place ≡ Some a → is_named a.because cid ≡ false
+pub walked_past : (f g : Filtering) (before after : List Active) (cid : Cid) (place : ℕ) (a : Active) → slice_get after place ≡ Some a → is_named a.justification cid ≡ false
     → IsWalked f before cid g after place → IsWalked f before cid g after (suc place)
 walked_past f g before after cid place a e stands walked = record {
   kept = walked.kept;
@@ -257,13 +259,13 @@ walked_past f g before after cid place a e stands walked = record {
   front = walked.front ++ a ∷ [];
   parts = walked.parts ∙ ap (λ l. walked.front ++ l) (drop_here after place a e) ∙ sym (append_assoc walked.front (a ∷ []) (drop (suc place) after));
   behind = λ b x m. walked.behind b x (subst (λ l. Contains l b) (sym (drop_here after place a e)) (member_there a (drop (suc place) after) b m));
-  withdraws = subst (λ names. WithdrawsAll (state_of f before) names (state_of g after)) (sym (resting_same walked.front a cid stands)) walked.withdraws;
+  withdraws = subst (λ cids. WithdrawsAll (state_of f before) cids (state_of g after)) (sym (resting_same walked.front a cid stands)) walked.withdraws;
   checks = walked.checks;
 }
 
 -- it goes
-pub walked_out : (f g h : Filtering) (before middle after : List Active) (cid : Cid) (place : ℕ) (a : Active) → Rises (cids_of before) → slice_get middle place ≡ Some a → is_named a.because cid ≡ true
-    → after ≡ remove middle place → Rises (cids_of after) → IsKept h after → WithdrawsAll (state_of g middle) (a.cid ∷ []) (state_of h after) → h.checks ≡ g.checks
+pub walked_out : (f g h : Filtering) (before middle after : List Active) (cid : Cid) (place : ℕ) (a : Active) → Rises (cids_of before) → slice_get middle place ≡ Some a → is_named a.justification cid ≡ true
+    → after ≡ remove middle place → Rises (cids_of after) → IsInStep h after → WithdrawsAll (state_of g middle) (a.cid ∷ []) (state_of h after) → h.checks ≡ g.checks
     → IsWalked f before cid g middle place → IsWalked f before cid h after place
 walked_out f g h before middle after cid place a rises e rests left rising kept withdraws checks walked =
     let rest : drop place after ≡ drop (suc place) middle = ap (drop place) left ∙ drop_removed middle place in
@@ -273,13 +275,13 @@ walked_out f g h before middle after cid place a rises e rests left rising kept 
       front = walked.front ++ a ∷ [];
       parts = walked.parts ∙ ap (λ l. walked.front ++ l) (drop_here middle place a e) ∙ sym (append_assoc walked.front (a ∷ []) (drop (suc place) middle)) ∙ ap (λ l. (walked.front ++ a ∷ []) ++ l) (sym rest);
       behind = λ b x m. walked.behind b x (subst (λ l. Contains l b) (sym (drop_here middle place a e)) (member_there a (drop (suc place) middle) b (subst (λ l. Contains l b) rest m)));
-      withdraws = subst (λ names. WithdrawsAll (state_of f before) names (state_of h after)) (sym (resting_push walked.front a cid rests))
+      withdraws = subst (λ cids. WithdrawsAll (state_of f before) cids (state_of h after)) (sym (resting_push walked.front a cid rests))
           (withdraws_then (state_of f before) (state_of g middle) (state_of h after) (resting_on walked.front cid) (a.cid ∷ []) rises walked.withdraws withdraws);
       checks = checks ∙ walked.checks;
     }
 
 -- behind the decisions the walk begins
-pub walk_starts : (f : Filtering) (active : List Active) (cid : Cid) (place : ℕ) → Rises (cids_of active) → IsKept f active → ((a : Active) → Contains (take place active) a → a.because ≡ [])
+pub walk_starts : (f : Filtering) (active : List Active) (cid : Cid) (place : ℕ) → Rises (cids_of active) → IsInStep f active → ((a : Active) → Contains (take place active) a → a.justification ≡ [])
     → ((a : Active) (x : ℕ) → Contains (drop place active) a → a.cid ≡ Decide x → ⊥) → IsWalked f active cid f active place
 walk_starts f active cid place rises kept stands behind = record {
   kept = kept;
@@ -287,23 +289,23 @@ walk_starts f active cid place rises kept stands behind = record {
   front = take place active;
   parts = sym (take-append-drop place active);
   behind = behind;
-  withdraws = subst (λ names. WithdrawsAll (state_of f active) names (state_of f active)) (sym (resting_none (take place active) cid stands)) (withdraws_none f active rises kept);
+  withdraws = subst (λ cids. WithdrawsAll (state_of f active) cids (state_of f active)) (sym (resting_none (take place active) cid stands)) (withdraws_none f active rises kept);
   checks = refl;
 }
 
 -- where the others rest on nothing it is over
-pub walk_ends : (f g : Filtering) (before after : List Active) (cid : Cid) (place : ℕ) → IsWalked f before cid g after place → ((a : Active) → Contains (drop place after) a → a.because ≡ [])
+pub walk_ends : (f g : Filtering) (before after : List Active) (cid : Cid) (place : ℕ) → IsWalked f before cid g after place → ((a : Active) → Contains (drop place after) a → a.justification ≡ [])
     → WithdrawsAll (state_of f before) (resting_on before cid) (state_of g after)
 walk_ends f g before after cid place walked stands =
-    subst (λ names. WithdrawsAll (state_of f before) names (state_of g after))
+    subst (λ cids. WithdrawsAll (state_of f before) cids (state_of g after))
     (sym (ap (λ l. resting_on l cid) walked.parts ∙ resting_append walked.front (drop place after) cid (resting_none (drop place after) cid stands))) walked.withdraws
 
 -- and the whole withdrawal
-pub withdrawn_engine : (f m g : Filtering) (active middle after : List Active) (cid : Cid) (a : Active) → IsEngine f active → a.cid ≡ cid → middle ≡ without_names (a.cid ∷ []) active
-    → WithdrawsAll (state_of f active) (a.cid ∷ []) (state_of m middle) → WithdrawsAll (state_of m middle) (resting_on middle cid) (state_of g after) → IsKept g after
+pub withdrawn_engine : (f m g : Filtering) (active middle after : List Active) (cid : Cid) (a : Active) → IsEngine f active → a.cid ≡ cid → middle ≡ without_cids (a.cid ∷ []) active
+    → WithdrawsAll (state_of f active) (a.cid ∷ []) (state_of m middle) → WithdrawsAll (state_of m middle) (resting_on middle cid) (state_of g after) → IsInStep g after
     → IsEngine g after × Withdraws (state_of f active) cid (state_of g after)
 withdrawn_engine f m g active middle after cid a engine named left one two kept =
-    let withdraws = withdraws_both (state_of f active) (state_of m middle) (state_of g after) cid engine.valid (left ∙ ap (λ c. without_names (c ∷ []) active) named)
+    let withdraws = withdraws_both (state_of f active) (state_of m middle) (state_of g after) cid engine.valid (left ∙ ap (λ c. without_cids (c ∷ []) active) named)
     (subst (λ c. WithdrawsAll (state_of f active) (c ∷ []) (state_of m middle)) named one) two in (
       record {
         kept = kept;

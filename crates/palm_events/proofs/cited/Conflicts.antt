@@ -10,8 +10,8 @@ use Rattle.palm_model.specs.Part.{Satisfies}
 use Rattle.palm_model.specs.Closure.{IsConflict, IsSolution}
 use Rattle.palm_model.specs.Log.{Active, IsActive, Named, Removal, AreRight, IsWellFounded, Names, log_pairs}
 use Rattle.palm_model.specs.Log.Names.{by_itself, by_reason}
-use Rattle.palm_model.specs.State.{EngineState, IsValid, IsEmptyAt, IsGround, present}
-use Rattle.palm_model.specs.Event.{WithdrawsAll, posted, withdrawn, with_posted, without_names, gone_with, Step, StepLeads}
+use Rattle.palm_model.specs.State.{EngineState, IsValid, IsEmptyAt, IsJustifier, present}
+use Rattle.palm_model.specs.Event.{WithdrawsAll, posted, withdrawn, with_posted, without_cids, gone_with, Step, StepLeads}
 use Rattle.palm_model.specs.Event.Event.{Post, Withdraw, Remove}
 use Rattle.palm_model.specs.Event.Step.{Happens, Calm, Declare}
 use Rattle.palm_model.specs.Conflict.{InConflict, InFlat, InFlatConflict, IsJustified, AreJustified}
@@ -23,11 +23,11 @@ use Rattle.palm_laws.specs.Declared.{AreDeclared}
 use Rattle.palm_laws.proofs.cited.Solutions.{conflict_no_solution}
 use Rattle.palm_events.proofs.cited.Logs.{removal_explained, logged}
 use Rattle.palm_events.proofs.cited.Agreeing.{gone_member, values_of_more}
-use Rattle.palm_events.proofs.cited.States.{member_with_posted, with_posted_cases, without_names_member, member_without_names, form_grounds, gone_grounds}
-use Rattle.palm_events.specs.Along.{KeepsGrounds, IsJustifiedPosting}
+use Rattle.palm_events.proofs.cited.States.{member_with_posted, with_posted_cases, without_cids_member, member_without_cids, form_justifiers, gone_justifiers}
+use Rattle.palm_events.specs.Along.{KeepsJustifiers, IsJustifiedPosting}
 use Rattle.palm_events.proofs.cited.Valid.{active_declared}
 
--- ---- names are of active constraints
+-- ---- ids are of active constraints
 
 owner_of : (initial : Domains) (active : List Active) (earlier rest : List Removal) → AreRight initial active earlier rest → (r : Removal) → Contains rest r → IsActive active r.by
 owner_of initial active earlier [] right r m = absurd (member_nil r m)
@@ -36,13 +36,13 @@ owner_of initial active earlier (q ∷ rest) right r m = elim (member_cases q re
   | inr k ↦ owner_of initial active (earlier ++ q ∷ []) rest right.1 r k
 ]
 
-pub names_active : (initial : Domains) (active : List Active) (log : List Removal) (cid : Cid) → IsWellFounded initial active log → (r : Removal) → Contains log r → Names log cid r → IsActive active cid
-names_active initial active log cid founded _ m (by_itself r e) = subst (λ c. IsActive active c) e (owner_of initial active [] log founded r m)
-names_active initial active log cid founded _ m (by_reason r q n reason names) = names_active initial active log cid founded q n names
+pub cids_active : (initial : Domains) (active : List Active) (log : List Removal) (cid : Cid) → IsWellFounded initial active log → (r : Removal) → Contains log r → Names log cid r → IsActive active cid
+cids_active initial active log cid founded _ m (by_itself r e) = subst (λ c. IsActive active c) e (owner_of initial active [] log founded r m)
+cids_active initial active log cid founded _ m (by_reason r q n reason cids) = cids_active initial active log cid founded q n cids
 
 pub conflict_active : (s : EngineState) → IsValid s → (x : ℕ) (cid : Cid) → InConflict s x cid → IsActive s.active cid
 conflict_active s valid x cid held =
-    names_active s.initial s.active s.log cid valid.founded held.names.removal held.names.logged held.names.names
+    cids_active s.initial s.active s.log cid valid.founded held.names.removal held.names.logged held.names.names
 
 -- ---- the kept conflict
 
@@ -72,19 +72,19 @@ kept_conflict s valid x empty = (
 
 -- ---- the flat conflict
 
-pub ground_or_negation : (c : Cid) → IsGround c ⊎ ((p : Pair) × (c ≡ Not p))
-ground_or_negation (Decide x) = inl tt
-ground_or_negation (Not p) = inr (p, refl)
-ground_or_negation (User n) = inl tt
+pub justifier_or_negation : (c : Cid) → IsJustifier c ⊎ ((p : Pair) × (c ≡ Not p))
+justifier_or_negation (Decide x) = inl tt
+justifier_or_negation (Not p) = inr (p, refl)
+justifier_or_negation (User n) = inl tt
 
--- what satisfies the names without negations satisfies those with them
+-- what satisfies the ids without negations satisfies those with them
 pub flat_solves : (s : EngineState) → AreJustified s → (K : Cid → Type 0) (b : Assignment) → IsSolution s.initial (Named s.active (InFlat s.active K)) b → IsSolution s.initial (Named s.active K) b
 flat_solves s justified K b solution = record {
   within = solution.within;
   satisfies = λ c named.
       let a = named.owner in
-      subst (λ d. Satisfies b d) named.is (elim (ground_or_negation a.cid) [
-        | inl ground ↦ solution.satisfies a.con (record { owner = a; posted = named.posted; is = refl; named = as_it_is named.named ground })
+      subst (λ d. Satisfies b d) named.is (elim (justifier_or_negation a.cid) [
+        | inl justifier ↦ solution.satisfies a.con (record { owner = a; posted = named.posted; is = refl; named = as_it_is named.named justifier })
         | inr r ↦ justified a r.0 named.posted r.1 b (record {
           within = solution.within;
           satisfies = λ d held. solution.satisfies d (record {
@@ -102,10 +102,10 @@ flat_unsolved s valid justified x empty b solution =
     conflict_no_solution s.initial (Named s.active (InConflict s x)) b (named_declared s valid (InConflict s x)) (kept_conflict s valid x empty)
     (flat_solves s justified (InConflict s x) b solution)
 
--- the flat conflict holds active grounds alone
-pub flat_grounds : (s : EngineState) → IsValid s → (x : ℕ) (cid : Cid) → InFlatConflict s x cid → IsGround cid × IsActive s.active cid
-flat_grounds s valid x cid (as_it_is held ground) = (ground, conflict_active s valid x cid held)
-flat_grounds s valid x cid (in_place p a held posted named m) = form_grounds (length s.initial) s.active a.cid a.con a.because (valid.formed a posted).form cid m
+-- the flat conflict holds active justifiers alone
+pub flat_justifiers : (s : EngineState) → IsValid s → (x : ℕ) (cid : Cid) → InFlatConflict s x cid → IsJustifier cid × IsActive s.active cid
+flat_justifiers s valid x cid (as_it_is held justifier) = (justifier, conflict_active s valid x cid held)
+flat_justifiers s valid x cid (in_place p a held posted named m) = form_justifiers (length s.initial) s.active a.cid a.con a.justification (valid.formed a posted).form cid m
 
 -- ---- justified negations
 
@@ -114,8 +114,8 @@ fewer_solved : (initial : Domains) (E F : Con → Type 0) (b : Assignment) → (
 fewer_solved initial E F b sub solution = record { within = solution.within; satisfies = λ c m. solution.satisfies c (sub c m) }
 
 -- what is justified by active constraints is so where these are still active
-pub justified_more : (initial : Domains) (active more : List Active) (a : Active) → ((g : Active) → Contains active g → Contains a.because g.cid → Contains more g) → IsJustified initial active a → IsJustified initial more a
-justified_more initial active more a stay justified b solution = justified b (fewer_solved initial (Named active (Contains a.because)) (Named more (Contains a.because)) b
+pub justified_more : (initial : Domains) (active more : List Active) (a : Active) → ((g : Active) → Contains active g → Contains a.justification g.cid → Contains more g) → IsJustified initial active a → IsJustified initial more a
+justified_more initial active more a stay justified b solution = justified b (fewer_solved initial (Named active (Contains a.justification)) (Named more (Contains a.justification)) b
     (λ c named. record { owner = named.owner; posted = stay named.owner named.posted named.named; is = named.is; named = named.named }) solution)
 
 posted_justified : (s : EngineState) (a : Active) → (IsActive s.active a.cid → ⊥) → ((p : Pair) → a.cid ≡ Not p → IsJustified s.initial s.active a) → AreJustified s → AreJustified (posted s a)
@@ -126,15 +126,15 @@ posted_justified s a inactive new justified b p m e =
       | inr k ↦ justified b p k e
     ])
 
-withdrawn_justified : (s : EngineState) (gone : List Cid) (left : List Removal) → IsValid s → KeepsGrounds s.active gone → AreJustified s → AreJustified (withdrawn s gone left)
+withdrawn_justified : (s : EngineState) (gone : List Cid) (left : List Removal) → IsValid s → KeepsJustifiers s.active gone → AreJustified s → AreJustified (withdrawn s gone left)
 withdrawn_justified s gone left valid keeps justified b p m e =
-    let r = without_names_member gone s.active b m in
-    justified_more s.initial s.active (without_names gone s.active) b
-    (λ g k held. member_without_names gone s.active g k
-    (keeps b r.0 r.1 g.cid held (form_grounds (length s.initial) s.active b.cid b.con b.because (valid.formed b r.0).form g.cid held).0))
+    let r = without_cids_member gone s.active b m in
+    justified_more s.initial s.active (without_cids gone s.active) b
+    (λ g k held. member_without_cids gone s.active g k
+    (keeps b r.0 r.1 g.cid held (form_justifiers (length s.initial) s.active b.cid b.con b.justification (valid.formed b r.0).form g.cid held).0))
     (justified b p r.0 e)
 
-pub withdraws_justified : (s t : EngineState) (gone : List Cid) → IsValid s → KeepsGrounds s.active gone → WithdrawsAll s gone t → AreJustified s → AreJustified t
+pub withdraws_justified : (s t : EngineState) (gone : List Cid) → IsValid s → KeepsJustifiers s.active gone → WithdrawsAll s gone t → AreJustified s → AreJustified t
 withdraws_justified s t gone valid keeps withdraws justified = subst AreJustified (sym withdraws.after) (withdrawn_justified s gone withdraws.left valid keeps justified)
 
 declared_justified : (s : EngineState) (values : List ℤ) → AreJustified s → AreJustified (record s { initial = s.initial ++ values ∷ [] })
@@ -148,7 +148,7 @@ declared_justified s values justified b p m e c solution = justified b p m e c (
 
 pub step_justified : (s : EngineState) (step : Step) (t : EngineState) → StepLeads s step t → IsValid s → IsJustifiedPosting s step → AreJustified s → AreJustified t
 step_justified s (Happens (Post a)) t h valid new justified = subst AreJustified (sym h.after) (posted_justified s a h.inactive new justified)
-step_justified s (Happens (Withdraw cid)) t h valid new justified = withdraws_justified s t (gone_with s.active cid) valid (gone_grounds (length s.initial) s.active cid valid.formed) h justified
+step_justified s (Happens (Withdraw cid)) t h valid new justified = withdraws_justified s t (gone_with s.active cid) valid (gone_justifiers (length s.initial) s.active cid valid.formed) h justified
 step_justified s (Happens (Remove a p)) t h valid new justified = subst AreJustified (sym h.after) justified
 step_justified s (Calm a) t h valid new justified = subst AreJustified (sym h.after) justified
 step_justified s (Declare values) t h valid new justified = subst AreJustified (sym h.after) (declared_justified s values justified)

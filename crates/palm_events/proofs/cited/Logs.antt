@@ -10,7 +10,7 @@ use Rattle.palm_model.specs.Closure.{IsClosed, Explains}
 use Rattle.palm_model.specs.Log.{Active, Named, Removal, IsRight, AreRight, IsWellFounded, Names, NamesSome, Loses, log_pairs, is_named}
 use Rattle.palm_model.specs.Log.Names.{by_itself, by_reason}
 use Rattle.palm_model.specs.Log.Loses.{none_left, is_lost, is_kept}
-use Rattle.palm_model.specs.Event.{without_names}
+use Rattle.palm_model.specs.Event.{without_cids}
 use Rattle.palm_model.proofs.cited.Trials.{support_grows}
 use Rattle.palm_model.proofs.cited.Without.{has_without, pair_of}
 use Rattle.palm_events.proofs.cited.Names.{member_not_named}
@@ -107,7 +107,7 @@ right_more initial active more sub earlier (r ∷ rest) right = (
 -- what is left was there
 pub left_member : (log : List Removal) (gone : List Cid) (rest left : List Removal) → Loses log gone rest left → (r : Removal) → Contains left r → Contains rest r
 left_member log gone _ _ none_left r m = m
-left_member log gone _ _ (is_lost s rest left names loses) r m = member_there s rest r (left_member log gone rest left loses r m)
+left_member log gone _ _ (is_lost s rest left cids loses) r m = member_there s rest r (left_member log gone rest left loses r m)
 left_member log gone _ _ (is_kept s rest left keeps loses) r m = elim (member_cases s left r m) [
   | inl e ↦ member_same (s ∷ rest) s r e (member_here s rest)
   | inr k ↦ member_there s rest r (left_member log gone rest left loses r k)
@@ -116,7 +116,7 @@ left_member log gone _ _ (is_kept s rest left keeps loses) r m = elim (member_ca
 -- and does not name what went
 pub left_keeps : (log : List Removal) (gone : List Cid) (rest left : List Removal) → Loses log gone rest left → (r : Removal) → Contains left r → NamesSome log gone r → ⊥
 left_keeps log gone _ _ none_left r m = absurd (member_nil r m)
-left_keeps log gone _ _ (is_lost s rest left names loses) r m = left_keeps log gone rest left loses r m
+left_keeps log gone _ _ (is_lost s rest left cids loses) r m = left_keeps log gone rest left loses r m
 left_keeps log gone _ _ (is_kept s rest left keeps loses) r m = elim (member_cases s left r m) [
   | inl e ↦ subst (λ q. NamesSome log gone q → ⊥) e keeps
   | inr k ↦ left_keeps log gone rest left loses r k
@@ -125,8 +125,8 @@ left_keeps log gone _ _ (is_kept s rest left keeps loses) r m = elim (member_cas
 -- a removal that does not name it stays
 pub kept_member : (log : List Removal) (gone : List Cid) (rest left : List Removal) → Loses log gone rest left → (r : Removal) → Contains rest r → (NamesSome log gone r → ⊥) → Contains left r
 kept_member log gone _ _ none_left r m n = m
-kept_member log gone _ _ (is_lost s rest left names loses) r m n = elim (member_cases s rest r m) [
-  | inl e ↦ absurd (n (subst (λ q. NamesSome log gone q) e names))
+kept_member log gone _ _ (is_lost s rest left cids loses) r m n = elim (member_cases s rest r m) [
+  | inl e ↦ absurd (n (subst (λ q. NamesSome log gone q) e cids))
   | inr k ↦ kept_member log gone rest left loses r k n
 ]
 kept_member log gone _ _ (is_kept s rest left keeps loses) r m n = elim (member_cases s rest r m) [
@@ -134,7 +134,7 @@ kept_member log gone _ _ (is_kept s rest left keeps loses) r m n = elim (member_
   | inr k ↦ member_there s left r (kept_member log gone rest left loses r k n)
 ]
 
--- a name of a reason is a name of the removal
+-- an id of a reason is an id of the removal
 pub some_by_reason : (log : List Removal) (gone : List Cid) (r s : Removal) → Contains log s → Contains r.reasons s.pair → NamesSome log gone s → NamesSome log gone r
 some_by_reason log gone r s m reason some = record { cid = some.cid; among = some.among; names = by_reason r s m reason some.names }
 
@@ -145,10 +145,10 @@ record AreLeft (log : List Removal) (gone : List Cid) (earlier kept : List Remov
   stay : (r : Removal) → Contains earlier r → (NamesSome log gone r → ⊥) → Contains kept r
 
 left_lost : (log : List Removal) (gone : List Cid) (earlier kept : List Removal) (r : Removal) → Contains log r → NamesSome log gone r → AreLeft log gone earlier kept → AreLeft log gone (earlier ++ r ∷ []) kept
-left_lost log gone earlier kept r m names are = record {
+left_lost log gone earlier kept r m cids are = record {
   logged = λ s n. elim (Contains-push_cases earlier r s n) [ inl o ↦ are.logged s o | inr e ↦ member_same log r s e m ];
   were = λ s n. Contains-append_left earlier (r ∷ []) s (are.were s n);
-  stay = λ s n keeps. elim (Contains-push_cases earlier r s n) [ inl o ↦ are.stay s o keeps | inr e ↦ absurd (keeps (subst (λ q. NamesSome log gone q) e names)) ];
+  stay = λ s n keeps. elim (Contains-push_cases earlier r s n) [ inl o ↦ are.stay s o keeps | inr e ↦ absurd (keeps (subst (λ q. NamesSome log gone q) e cids)) ];
 }
 
 left_kept : (log : List Removal) (gone : List Cid) (earlier kept : List Removal) (r : Removal) → Contains log r → AreLeft log gone earlier kept → AreLeft log gone (earlier ++ r ∷ []) (kept ++ r ∷ [])
@@ -165,13 +165,13 @@ left_kept log gone earlier kept r m are = record {
 }
 
 -- the owner of a removal that is kept does not go
-owner_stays : (active : List Active) (log : List Removal) (gone : List Cid) (r : Removal) (a : Active) → Contains active a → a.cid ≡ r.by → (NamesSome log gone r → ⊥) → Contains (without_names gone active) a
+owner_stays : (active : List Active) (log : List Removal) (gone : List Cid) (r : Removal) (a : Active) → Contains active a → a.cid ≡ r.by → (NamesSome log gone r → ⊥) → Contains (without_cids gone active) a
 owner_stays active log gone r a m e keeps =
     member_filter (λ (b : Active). not (is_named gone b.cid)) active a m (member_not_named gone a.cid (λ among.
     keeps (record { cid = a.cid; among = among; names = by_itself r (sym e) })))
 
 kept_right : (initial : Domains) (active : List Active) (log : List Removal) (gone : List Cid) (earlier kept : List Removal) (r : Removal)
-    → AreLeft log gone earlier kept → (NamesSome log gone r → ⊥) → IsRight initial active earlier r → IsRight initial (without_names gone active) kept r
+    → AreLeft log gone earlier kept → (NamesSome log gone r → ⊥) → IsRight initial active earlier r → IsRight initial (without_cids gone active) kept r
 kept_right initial active log gone earlier kept r are keeps right = record {
   owner = right.owner;
   posted = owner_stays active log gone r right.owner right.posted right.named keeps;
@@ -187,10 +187,10 @@ kept_right initial active log gone earlier kept r are keeps right = record {
 
 left_right : (initial : Domains) (active : List Active) (log : List Removal) (gone : List Cid) (earlier kept rest left : List Removal)
     → AreLeft log gone earlier kept → ((r : Removal) → Contains rest r → Contains log r)
-    → AreRight initial active earlier rest → Loses log gone rest left → AreRight initial (without_names gone active) kept left
+    → AreRight initial active earlier rest → Loses log gone rest left → AreRight initial (without_cids gone active) kept left
 left_right initial active log gone earlier kept _ _ are sub right none_left = tt
-left_right initial active log gone earlier kept _ _ are sub right (is_lost r rest left names loses) =
-    left_right initial active log gone (earlier ++ r ∷ []) kept rest left (left_lost log gone earlier kept r (sub r (member_here r rest)) names are)
+left_right initial active log gone earlier kept _ _ are sub right (is_lost r rest left cids loses) =
+    left_right initial active log gone (earlier ++ r ∷ []) kept rest left (left_lost log gone earlier kept r (sub r (member_here r rest)) cids are)
     (λ s m. sub s (member_there r rest s m)) right.1 loses
 left_right initial active log gone earlier kept _ _ are sub right (is_kept r rest left keeps loses) = (
   kept_right initial active log gone earlier kept r are keeps right.0,
@@ -200,7 +200,7 @@ left_right initial active log gone earlier kept _ _ are sub right (is_kept r res
 
 -- a withdrawal keeps the log well founded
 pub left_founded : (initial : Domains) (active : List Active) (log : List Removal) (gone : List Cid) (left : List Removal)
-    → IsWellFounded initial active log → Loses log gone log left → IsWellFounded initial (without_names gone active) left
+    → IsWellFounded initial active log → Loses log gone log left → IsWellFounded initial (without_cids gone active) left
 left_founded initial active log gone left founded loses =
     left_right initial active log gone [] [] log left
     (record { logged = λ r m. absurd (member_nil r m); were = λ r m. m; stay = λ r m keeps. m }) (λ r m. m) founded loses

@@ -12,7 +12,7 @@ use Rattle.palm_model.specs.Part.{scope_of}
 use Rattle.palm_model.specs.Support.{LacksSupport}
 use Rattle.palm_model.specs.Reason.{reason, AreFilled, IsReason}
 use Rattle.palm_model.specs.Log.{Active, IsRight, log_pairs}
-use Rattle.palm_model.specs.State.{EngineState, IsOfForm, FitsName, AllFilled}
+use Rattle.palm_model.specs.State.{EngineState, IsOfForm, FitsCid, AllFilled}
 use Rattle.palm_model.specs.Event.{Removes, removal_of}
 use Rattle.palm_model.specs.declared.constraint.Con.{Con}
 use Rattle.palm_model.specs.declared.constraint.Con.TheVariants.{CompareConst}
@@ -56,19 +56,19 @@ const_reason initial now y op w x v has lacks = record {
 filled_scope : (d : Domains) (xs : List ℕ) (n : ℕ) → length d ≡ n → AllFilled d → ((x : ℕ) → Contains xs x → x < n) → AreFilled d xs
 filled_scope d xs n e filled declared = all_members (λ x. 0 < length (values_of d x)) xs (λ x m. filled x (subst (λ k. x < k) (sym e) (declared x m)))
 
-reason_of_form : ReasonsAreRight → (initial : Domains) (pairs : List Pair) (active : List Active) (cid : Cid) (con : Con) (because : List Cid) (x : ℕ) (v : ℤ)
-    → AllAscend initial → IsOfForm (length initial) active cid con because → AllFilled (without initial pairs)
+reason_of_form : ReasonsAreRight → (initial : Domains) (pairs : List Pair) (active : List Active) (cid : Cid) (con : Con) (justification : List Cid) (x : ℕ) (v : ℤ)
+    → AllAscend initial → IsOfForm (length initial) active cid con justification → AllFilled (without initial pairs)
     → Has (without initial pairs) x v → LacksSupport (without initial pairs) con x v
     → IsReason initial (without initial pairs) con x v (reason initial (without initial pairs) con x v)
-reason_of_form right initial pairs active (Decide y) con because x v ascend form filled has lacks =
+reason_of_form right initial pairs active (Decide y) con justification x v ascend form filled has lacks =
     let now = without initial pairs in
     subst (λ c. IsReason initial now c x v (reason initial now c x v)) (sym form.1)
     (const_reason initial now y _ form.0 x v has (subst (λ c. LacksSupport now c x v) form.1 lacks))
-reason_of_form right initial pairs active (Not p) con because x v ascend form filled has lacks =
+reason_of_form right initial pairs active (Not p) con justification x v ascend form filled has lacks =
     let now = without initial pairs in
     subst (λ c. IsReason initial now c x v (reason initial now c x v)) (sym form.0)
     (const_reason initial now p.var _ p.value x v has (subst (λ c. LacksSupport now c x v) form.0 lacks))
-reason_of_form right initial pairs active (User n) con because x v ascend form filled has lacks =
+reason_of_form right initial pairs active (User n) con justification x v ascend form filled has lacks =
     right initial (without initial pairs) con x v (record {
       initial_ascend = ascend;
       present_ascend = ascend_without initial pairs ascend;
@@ -76,14 +76,14 @@ reason_of_form right initial pairs active (User n) con because x v ascend form f
       formed = well_formed_formed (length initial) con form.0;
       present_value = has;
       lacks = lacks;
-      filled = filled_scope (without initial pairs) (scope con) (length initial) (length_without initial pairs) filled (form_declared (length initial) active (User n) con because form);
+      filled = filled_scope (without initial pairs) (scope con) (length initial) (length_without initial pairs) filled (form_declared (length initial) active (User n) con justification form);
     })
 
 -- a removal is right after the log
-pub removal_right : ReasonsAreRight → (s t : EngineState) (a : Active) (p : Pair) → AllAscend s.initial → FitsName (length s.initial) s.active a → Removes s a p t → IsRight s.initial s.active s.log (removal_of s a p)
+pub removal_right : ReasonsAreRight → (s t : EngineState) (a : Active) (p : Pair) → AllAscend s.initial → FitsCid (length s.initial) s.active a → Removes s a p t → IsRight s.initial s.active s.log (removal_of s a p)
 removal_right right s t a p ascend formed removes =
     let pairs = log_pairs s.log in
-    let ok = reason_of_form right s.initial pairs s.active a.cid a.con a.because p.var p.value ascend formed.form removes.filled removes.has removes.lacks in
+    let ok = reason_of_form right s.initial pairs s.active a.cid a.con a.justification p.var p.value ascend formed.form removes.filled removes.has removes.lacks in
     record {
       owner = a;
       posted = removes.posted;

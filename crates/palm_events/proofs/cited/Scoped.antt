@@ -25,7 +25,7 @@ use Rattle.palm_events.specs.Scoped.{IsScoped, HasScopedReasons}
 use Rattle.palm_events.proofs.cited.Logs.{left_member, left_keeps}
 use Rattle.palm_events.proofs.cited.Reasons.{reasons_right}
 use Rattle.palm_events.proofs.cited.Runs.{step_valid}
-use Rattle.palm_events.proofs.cited.States.{form_declared, member_with_posted, member_without_names}
+use Rattle.palm_events.proofs.cited.States.{form_declared, member_with_posted, member_without_cids}
 
 -- ---- reasons
 
@@ -38,13 +38,13 @@ module _ (initial : Domains) (pairs : List Pair) (x : ℕ) (v : ℤ) where
   const_others : (con : Con) (y : ℕ) (op : Op) (w : ℤ) → con ≡ CompareConst y op w → AreOfOthers con x (reason initial (without initial pairs) con x v)
   const_others con y op w e = subst (λ (c : Con). AreOfOthers c x (reason initial (without initial pairs) c x v)) (sym e) (λ p m. absurd (member_nil p m))
 
-  reason_others : (active : List Active) (cid : Cid) (con : Con) (because : List Cid) → AllAscend initial → IsOfForm (length initial) active cid con because → AllFilled (without initial pairs)
+  reason_others : (active : List Active) (cid : Cid) (con : Con) (justification : List Cid) → AllAscend initial → IsOfForm (length initial) active cid con justification → AllFilled (without initial pairs)
       → Has (without initial pairs) x v → LacksSupport (without initial pairs) con x v → AreOfOthers con x (reason initial (without initial pairs) con x v)
-  reason_others active (Decide y) con because ascend form filled has lacks = const_others con y Eq form.0 form.1
-  reason_others active (Not p) con because ascend form filled has lacks = const_others con p.var Ne p.value form.0
-  reason_others active (User n) con because ascend form filled has lacks =
+  reason_others active (Decide y) con justification ascend form filled has lacks = const_others con y Eq form.0 form.1
+  reason_others active (Not p) con justification ascend form filled has lacks = const_others con p.var Ne p.value form.0
+  reason_others active (User n) con justification ascend form filled has lacks =
       let now : Domains = without initial pairs in
-      let declared = form_declared (length initial) active (User n) con because form in
+      let declared = form_declared (length initial) active (User n) con justification form in
       let right = reasons_right initial now con x v (record {
         initial_ascend = ascend;
         present_ascend = ascend_without initial pairs ascend;
@@ -72,7 +72,7 @@ withdraws_scoped s t gone h scoped = subst HasScopedReasons (sym h.after) (λ r 
     let is = scoped r (left_member s.log gone s.log h.left h.loses r m) in
     record {
       owner = is.owner;
-      posted = member_without_names gone s.active is.owner is.posted (λ among.
+      posted = member_without_cids gone s.active is.owner is.posted (λ among.
           left_keeps s.log gone s.log h.left h.loses r m (record { cid = is.owner.cid; among = among; names = by_itself r (sym is.named) }));
       named = is.named;
       others = is.others;
@@ -85,7 +85,7 @@ removes_scoped s t a p valid h scoped = subst HasScopedReasons (sym h.after) (λ
     owner = a;
     posted = h.posted;
     named = refl;
-    others = reason_others s.initial (log_pairs s.log) p.var p.value s.active a.cid a.con a.because valid.ascend (valid.formed a h.posted).form h.filled h.has h.lacks;
+    others = reason_others s.initial (log_pairs s.log) p.var p.value s.active a.cid a.con a.justification valid.ascend (valid.formed a h.posted).form h.filled h.has h.lacks;
   })
 ])
 

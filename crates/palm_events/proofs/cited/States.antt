@@ -8,14 +8,16 @@ use Rattle.palm_base.specs.declared.terms.Cid.{Cid}
 use Rattle.palm_base.specs.declared.terms.Cid.TheVariants.{Decide, Not, User}
 use Rattle.palm_base.proofs.cited.Members.{member_nil, member_here, member_there, member_cases, member_single, member_same, member_map, member_unmap, member_filter, filter_member, all_members}
 use Rattle.palm_model.specs.Constraint.{scope, IsWellFormed}
-use Rattle.palm_model.specs.Log.{Active, IsActive, Rises, cid_before, is_named, cids_of}
-use Rattle.palm_model.specs.State.{IsGround, AreGrounds, IsOfForm, FitsName, is_over, is_awake, woken, without_cid}
-use Rattle.palm_model.specs.Event.{with_posted, without_names, gone_with}
+use Rattle.palm_base.specs.Order.{Rises, cid_before}
+use Rattle.palm_model.specs.Log.{Active, IsActive, is_named, cids_of}
+use Rattle.palm_model.specs.State.{IsJustifier, AreJustifiers, IsOfForm, FitsCid, is_over, is_awake, woken, without_cid}
+use Rattle.palm_model.specs.Event.{with_posted, without_cids, gone_with}
 use Rattle.palm_model.specs.declared.constraint.Con.{Con}
 use Rattle.palm_model.proofs.cited.Supports.{any_member, member_any}
-use Rattle.palm_events.proofs.cited.Names.{named_member, member_named, member_not_named, not_named_member, cid_order, before_then, rises_filter, rises_append, rising_same}
+use Rattle.palm_base.proofs.cited.CidOrder.{cid_order, before_then, rises_append, rising_same}
+use Rattle.palm_events.proofs.cited.Names.{named_member, member_named, member_not_named, not_named_member, rises_filter}
 
--- ---- names of active constraints
+-- ---- ids of active constraints
 
 pub active_cid : (active : List Active) (c : Cid) → Contains (cids_of active) c → IsActive active c
 active_cid active c m = let r = member_unmap (λ (a : Active). a.cid) active c m in record { owner = r.0; posted = r.1; named = r.2 }
@@ -66,39 +68,39 @@ awake_none pending a h = elim (or_cases (is_named pending a.cid) false h) [
   | inr f ↦ absurd (false≢true f)
 ]
 
--- names that rise and are active are the names of the active constraints that are among them
-pub waits : (active : List Active) (names : List Cid) → Rises (cids_of active) → Rises names → ((c : Cid) → Contains names c → IsActive active c) → names ≡ woken active names []
-waits active names rises rise are = rising_same names (woken active names []) rise (woken_rises active names [] rises)
+-- ids that rise and are active are the ids of the active constraints that are among them
+pub waits : (active : List Active) (cids : List Cid) → Rises (cids_of active) → Rises cids → ((c : Cid) → Contains cids c → IsActive active c) → cids ≡ woken active cids []
+waits active cids rises rise are = rising_same cids (woken active cids []) rise (woken_rises active cids [] rises)
     (λ c m. let a = are c m in
-    subst (λ d. Contains (woken active names []) d) a.named
-    (member_woken active names [] a.owner a.posted (awake_named names [] a.owner (member_same names c a.owner.cid (sym a.named) m))))
-    (λ c m. let r = woken_active active names [] c m in member_same names r.0.cid c r.2 (awake_none names r.0 r.3))
+    subst (λ d. Contains (woken active cids []) d) a.named
+    (member_woken active cids [] a.owner a.posted (awake_named cids [] a.owner (member_same cids c a.owner.cid (sym a.named) m))))
+    (λ c m. let r = woken_active active cids [] c m in member_same cids r.0.cid c r.2 (awake_none cids r.0 r.3))
 
 pub woken_waits : (active : List Active) (pending : List Cid) (vars : List ℕ) → Rises (cids_of active) → woken active pending vars ≡ woken active (woken active pending vars) []
 woken_waits active pending vars rises = waits active (woken active pending vars) rises (woken_rises active pending vars rises)
     (λ c m. let r = woken_active active pending vars c m in record { owner = r.0; posted = r.1; named = r.2 })
 
-rises_names : (test : Cid → Bool) (names : List Cid) → Rises names → Rises (filter test names)
-rises_names test [] rise = tt
-rises_names test (c ∷ names) rise = elim (cases_Bool (test c)) [
+rises_cids : (test : Cid → Bool) (cids : List Cid) → Rises cids → Rises (filter test cids)
+rises_cids test [] rise = tt
+rises_cids test (c ∷ cids) rise = elim (cases_Bool (test c)) [
   | inl t ↦ rw t (
-    all_members (λ d. cid_before c d ≡ true) (filter test names) (λ d m.
-        All-contains (λ e. cid_before c e ≡ true) names d rise.0 (filter_member test names d m).0),
-    rises_names test names rise.1,
+    all_members (λ d. cid_before c d ≡ true) (filter test cids) (λ d m.
+        All-contains (λ e. cid_before c e ≡ true) cids d rise.0 (filter_member test cids d m).0),
+    rises_cids test cids rise.1,
   )
-  | inr f ↦ rw f (rises_names test names rise.1)
+  | inr f ↦ rw f (rises_cids test cids rise.1)
 ]
 
-pub without_cid_rises : (cid : Cid) (names : List Cid) → Rises names → Rises (without_cid cid names)
-without_cid_rises cid names rise = rises_names (λ c. not (is_named (cid ∷ []) c)) names rise
+pub without_cid_rises : (cid : Cid) (cids : List Cid) → Rises cids → Rises (without_cid cid cids)
+without_cid_rises cid cids rise = rises_cids (λ c. not (is_named (cid ∷ []) c)) cids rise
 
-pub without_cid_member : (cid : Cid) (names : List Cid) (c : Cid) → Contains (without_cid cid names) c → Contains names c × (c ≡ cid → ⊥)
-without_cid_member cid names c m =
-    let r = filter_member (λ d. not (is_named (cid ∷ []) d)) names c m in
+pub without_cid_member : (cid : Cid) (cids : List Cid) (c : Cid) → Contains (without_cid cid cids) c → Contains cids c × (c ≡ cid → ⊥)
+without_cid_member cid cids c m =
+    let r = filter_member (λ d. not (is_named (cid ∷ []) d)) cids c m in
     (r.0, λ e. not_named_member (cid ∷ []) c r.1 (member_same (cid ∷ []) cid c (sym e) (member_here cid [])))
 
-pub member_without_cid : (cid : Cid) (names : List Cid) (c : Cid) → Contains names c → (c ≡ cid → ⊥) → Contains (without_cid cid names) c
-member_without_cid cid names c m n = member_filter (λ d. not (is_named (cid ∷ []) d)) names c m (member_not_named (cid ∷ []) c (λ k. n (sym (member_single cid c k))))
+pub member_without_cid : (cid : Cid) (cids : List Cid) (c : Cid) → Contains cids c → (c ≡ cid → ⊥) → Contains (without_cid cid cids) c
+member_without_cid cid cids c m n = member_filter (λ d. not (is_named (cid ∷ []) d)) cids c m (member_not_named (cid ∷ []) c (λ k. n (sym (member_single cid c k))))
 
 -- ---- one more constraint
 
@@ -153,15 +155,15 @@ with_posted_rises a active rises =
 
 -- ---- fewer constraints
 
-pub without_names_member : (gone : List Cid) (active : List Active) (a : Active) → Contains (without_names gone active) a → Contains active a × (Contains gone a.cid → ⊥)
-without_names_member gone active a m =
+pub without_cids_member : (gone : List Cid) (active : List Active) (a : Active) → Contains (without_cids gone active) a → Contains active a × (Contains gone a.cid → ⊥)
+without_cids_member gone active a m =
     let r = filter_member (λ (b : Active). not (is_named gone b.cid)) active a m in (r.0, not_named_member gone a.cid r.1)
 
-pub member_without_names : (gone : List Cid) (active : List Active) (a : Active) → Contains active a → (Contains gone a.cid → ⊥) → Contains (without_names gone active) a
-member_without_names gone active a m n = member_filter (λ (b : Active). not (is_named gone b.cid)) active a m (member_not_named gone a.cid n)
+pub member_without_cids : (gone : List Cid) (active : List Active) (a : Active) → Contains active a → (Contains gone a.cid → ⊥) → Contains (without_cids gone active) a
+member_without_cids gone active a m n = member_filter (λ (b : Active). not (is_named gone b.cid)) active a m (member_not_named gone a.cid n)
 
-pub without_names_rises : (gone : List Cid) (active : List Active) → Rises (cids_of active) → Rises (cids_of (without_names gone active))
-without_names_rises gone active rises = rises_filter (λ (b : Active). not (is_named gone b.cid)) active rises
+pub without_cids_rises : (gone : List Cid) (active : List Active) → Rises (cids_of active) → Rises (cids_of (without_cids gone active))
+without_cids_rises gone active rises = rises_filter (λ (b : Active). not (is_named gone b.cid)) active rises
 
 -- ---- forms
 
@@ -174,45 +176,45 @@ well_formed_more n m c le formed = record {
   shaped = formed.shaped;
 }
 
--- the form stays where there are more variables, and where the grounds of a negation stay active
-pub form_more : (n m : ℕ) (active more : List Active) (cid : Cid) (con : Con) (because : List Cid) → n ≤ m
-    → ((c : Cid) → Contains because c → IsGround c → IsActive active c → IsActive more c) → IsOfForm n active cid con because → IsOfForm m more cid con because
-form_more n m active more (Decide x) con because le stay form = (form.0, form.1, omega (arith, form.2), form.3)
-form_more n m active more (Not p) con because le stay form = (form.0, omega (arith, form.1), λ c k. let g = form.2 c k in (g.0, stay c k g.0 g.1))
-form_more n m active more (User k) con because le stay form = (well_formed_more n m con le form.0, form.1)
+-- the form stays where there are more variables, and where the justifiers of a negation stay active
+pub form_more : (n m : ℕ) (active more : List Active) (cid : Cid) (con : Con) (justification : List Cid) → n ≤ m
+    → ((c : Cid) → Contains justification c → IsJustifier c → IsActive active c → IsActive more c) → IsOfForm n active cid con justification → IsOfForm m more cid con justification
+form_more n m active more (Decide x) con justification le stay form = (form.0, form.1, omega (arith, form.2), form.3)
+form_more n m active more (Not p) con justification le stay form = (form.0, omega (arith, form.1), λ c k. let g = form.2 c k in (g.0, stay c k g.0 g.1))
+form_more n m active more (User k) con justification le stay form = (well_formed_more n m con le form.0, form.1)
 
 -- what stands in a justification is active, and the constraint that has one is a negation
-pub form_grounds : (n : ℕ) (active : List Active) (cid : Cid) (con : Con) (because : List Cid) → IsOfForm n active cid con because → AreGrounds active because
-form_grounds n active (Decide x) con because form c m = absurd (member_nil c (subst (λ cs. Contains cs c) form.3 m))
-form_grounds n active (Not p) con because form c m = form.2 c m
-form_grounds n active (User k) con because form c m = absurd (member_nil c (subst (λ cs. Contains cs c) form.1 m))
+pub form_justifiers : (n : ℕ) (active : List Active) (cid : Cid) (con : Con) (justification : List Cid) → IsOfForm n active cid con justification → AreJustifiers active justification
+form_justifiers n active (Decide x) con justification form c m = absurd (member_nil c (subst (λ cs. Contains cs c) form.3 m))
+form_justifiers n active (Not p) con justification form c m = form.2 c m
+form_justifiers n active (User k) con justification form c m = absurd (member_nil c (subst (λ cs. Contains cs c) form.1 m))
 
-pub form_negation : (n : ℕ) (active : List Active) (cid : Cid) (con : Con) (because : List Cid) (c : Cid) → IsOfForm n active cid con because → Contains because c → IsGround cid → ⊥
-form_negation n active (Decide x) con because c form m ground = member_nil c (subst (λ cs. Contains cs c) form.3 m)
-form_negation n active (Not p) con because c form m ground = ground
-form_negation n active (User k) con because c form m ground = member_nil c (subst (λ cs. Contains cs c) form.1 m)
+pub form_negation : (n : ℕ) (active : List Active) (cid : Cid) (con : Con) (justification : List Cid) (c : Cid) → IsOfForm n active cid con justification → Contains justification c → IsJustifier cid → ⊥
+form_negation n active (Decide x) con justification c form m justifier = member_nil c (subst (λ cs. Contains cs c) form.3 m)
+form_negation n active (Not p) con justification c form m justifier = justifier
+form_negation n active (User k) con justification c form m justifier = member_nil c (subst (λ cs. Contains cs c) form.1 m)
 
 -- each constraint is over declared variables
-pub form_declared : (n : ℕ) (active : List Active) (cid : Cid) (con : Con) (because : List Cid) → IsOfForm n active cid con because → (x : ℕ) → Contains (scope con) x → x < n
-form_declared n active (Decide y) con because form x m =
+pub form_declared : (n : ℕ) (active : List Active) (cid : Cid) (con : Con) (justification : List Cid) → IsOfForm n active cid con justification → (x : ℕ) → Contains (scope con) x → x < n
+form_declared n active (Decide y) con justification form x m =
     let e = member_single y x (subst (λ c. Contains (scope c) x) form.1 m) in subst (λ z. z < n) e form.2
-form_declared n active (Not p) con because form x m =
+form_declared n active (Not p) con justification form x m =
     let e = member_single p.var x (subst (λ c. Contains (scope c) x) form.0 m) in subst (λ z. z < n) e form.1
-form_declared n active (User k) con because form x m = All-contains (λ z. z < n) (scope con) x form.0.declared m
+form_declared n active (User k) con justification form x m = All-contains (λ z. z < n) (scope con) x form.0.declared m
 
--- a ground is no negation whose justification holds something
-pub held_not_ground : (n : ℕ) (active : List Active) (a : Active) (c : Cid) → FitsName n active a → Contains a.because c → IsGround a.cid → ⊥
-held_not_ground n active a c formed m ground = form_negation n active a.cid a.con a.because c formed.form m ground
+-- a justifier is no negation whose justification holds something
+pub held_not_justifier : (n : ℕ) (active : List Active) (a : Active) (c : Cid) → FitsCid n active a → Contains a.justification c → IsJustifier a.cid → ⊥
+held_not_justifier n active a c formed m justifier = form_negation n active a.cid a.con a.justification c formed.form m justifier
 
--- the grounds of those that stay do not go with a name
-pub gone_grounds : (n : ℕ) (active : List Active) (cid : Cid) → ((a : Active) → Contains active a → FitsName n active a)
-    → (a : Active) → Contains active a → (Contains (gone_with active cid) a.cid → ⊥) → (c : Cid) → Contains a.because c → IsGround c → Contains (gone_with active cid) c → ⊥
-gone_grounds n active cid formed a m stays c held ground gone = elim (member_cases cid (cids_of (filter (λ b. is_named b.because cid) active)) c gone) [
-  | inl e ↦ stays (member_there cid (cids_of (filter (λ b. is_named b.because cid) active)) a.cid
-      (member_map (λ (b : Active). b.cid) (filter (λ b. is_named b.because cid) active) a
-      (member_filter (λ (b : Active). is_named b.because cid) active a m (member_named a.because cid (member_same a.because c cid (sym e) held)))))
+-- the justifiers of those that stay do not go with an id
+pub gone_justifiers : (n : ℕ) (active : List Active) (cid : Cid) → ((a : Active) → Contains active a → FitsCid n active a)
+    → (a : Active) → Contains active a → (Contains (gone_with active cid) a.cid → ⊥) → (c : Cid) → Contains a.justification c → IsJustifier c → Contains (gone_with active cid) c → ⊥
+gone_justifiers n active cid formed a m stays c held justifier gone = elim (member_cases cid (cids_of (filter (λ b. is_named b.justification cid) active)) c gone) [
+  | inl e ↦ stays (member_there cid (cids_of (filter (λ b. is_named b.justification cid) active)) a.cid
+      (member_map (λ (b : Active). b.cid) (filter (λ b. is_named b.justification cid) active) a
+      (member_filter (λ (b : Active). is_named b.justification cid) active a m (member_named a.justification cid (member_same a.justification c cid (sym e) held)))))
   | inr k ↦
-      let r = member_unmap (λ (b : Active). b.cid) (filter (λ b. is_named b.because cid) active) c k in
-      let f = filter_member (λ (b : Active). is_named b.because cid) active r.0 r.1 in
-      held_not_ground n active r.0 cid (formed r.0 f.0) (named_member r.0.because cid f.1) (subst IsGround (sym r.2) ground)
+      let r = member_unmap (λ (b : Active). b.cid) (filter (λ b. is_named b.justification cid) active) c k in
+      let f = filter_member (λ (b : Active). is_named b.justification cid) active r.0 r.1 in
+      held_not_justifier n active r.0 cid (formed r.0 f.0) (named_member r.0.justification cid f.1) (subst IsJustifier (sym r.2) justifier)
 ]

@@ -1,8 +1,7 @@
 -- From a settled or empty state, a run that withdraws none of its constraints and ends with them alone gives back the log:
 -- each further removal names a constraint that came later.
 use Rattle.std.proofs.Common.{◌≡◌, ℕ, true, ◌<◌, List, [], ◌∷◌, ◌++◌, length, filter, Contains, All, ℤ, ◌⊎◌, inl, inr, refl, sym, ap, ◌∙◌, subst, arith, length-append}
-use Rattle.std.proofs.lemmas.List.{append_assoc}
-use Rattle.std.proofs.lemmas.List.{map-append}
+use Rattle.std.proofs.lemmas.List.{append_assoc, map-append}
 use Rattle.std.proofs.lemmas.List.Elements.{All-contains, All-head, All-tail, Contains-append_cases, Contains-append_left, Contains-append_right, Contains-push, Contains-push_cases}
 use Rattle.palm_base.specs.declared.terms.Pair.{Pair}
 use Rattle.palm_base.specs.declared.terms.Cid.{Cid}
@@ -10,11 +9,12 @@ use Rattle.palm_base.proofs.cited.Members.{Known, member_nil, member_here, membe
 use Rattle.palm_model.specs.Domains.{Domains, Has, values_of, without}
 use Rattle.palm_model.specs.Part.{scope_of}
 use Rattle.palm_model.specs.Support.{LacksSupport}
-use Rattle.palm_model.specs.Log.{Active, IsActive, Removal, IsRight, AreRight, IsWellFounded, Names, NamesSome, Loses, Rises, cid_before, cids_of, log_pairs, is_named}
+use Rattle.palm_base.specs.Order.{Rises, cid_before}
+use Rattle.palm_model.specs.Log.{Active, IsActive, Removal, IsRight, AreRight, IsWellFounded, Names, NamesSome, Loses, cids_of, log_pairs, is_named}
 use Rattle.palm_model.specs.Log.Names.{by_itself, by_reason}
 use Rattle.palm_model.specs.Log.Loses.{is_lost, is_kept}
 use Rattle.palm_model.specs.State.{EngineState, HasEmpty, AllFilled, IsValid, present}
-use Rattle.palm_model.specs.Event.{Posts, WithdrawsAll, Withdraws, Removes, Calms, Declares, with_posted, without_names, gone_with, removal_of, Step, StepLeads, Runs}
+use Rattle.palm_model.specs.Event.{Posts, WithdrawsAll, Withdraws, Removes, Calms, Declares, with_posted, without_cids, gone_with, removal_of, Step, StepLeads, Runs}
 use Rattle.palm_model.specs.Event.Event.{Post, Withdraw, Remove}
 use Rattle.palm_model.specs.Event.Step.{Happens, Calm, Declare}
 use Rattle.palm_model.proofs.cited.Formed.{part_scope}
@@ -22,27 +22,28 @@ use Rattle.palm_model.proofs.cited.Narrowing.{has_declared}
 use Rattle.palm_model.proofs.cited.Without.{pair_of, length_without, without_has, has_without}
 use Rattle.palm_events.specs.Along.{IsStill, IsNew, AreNew, KeepsAll, IsFiltering}
 use Rattle.palm_events.specs.Reasons.{ReasonsAreRight}
-use Rattle.palm_events.proofs.cited.Names.{named_member, single, cid_known, before_then, not_before_itself}
+use Rattle.palm_base.proofs.cited.CidOrder.{cid_known, before_then, not_before_itself}
+use Rattle.palm_events.proofs.cited.Names.{named_member, single}
 use Rattle.palm_events.proofs.cited.Logs.{logged, pair_logged, left_member, left_keeps, kept_member, some_by_reason}
 use Rattle.palm_events.proofs.cited.Agreeing.{support_in, values_of_more, pair_known}
-use Rattle.palm_events.proofs.cited.States.{with_posted_cases, member_with_posted, without_names_member, member_without_names, form_grounds}
+use Rattle.palm_events.proofs.cited.States.{with_posted_cases, member_with_posted, without_cids_member, member_without_cids, form_justifiers}
 use Rattle.palm_events.proofs.cited.Reasons.{removal_right}
 use Rattle.palm_events.proofs.cited.Valid.{active_declared, posts_valid, withdraws_valid}
 use Rattle.palm_events.proofs.cited.Runs.{step_valid, run_valid}
-use Rattle.palm_events.proofs.cited.Conflicts.{names_active}
+use Rattle.palm_events.proofs.cited.Conflicts.{cids_active}
 
--- ---- names in longer and in shorter logs
+-- ---- ids in longer and in shorter logs
 
-pub names_append : (log more : List Removal) (cid : Cid) (r : Removal) → Names log cid r → Names (log ++ more) cid r
-names_append log more cid _ (by_itself r e) = by_itself r e
-names_append log more cid _ (by_reason r q m reason names) = by_reason r q (Contains-append_left log more q m) reason (names_append log more cid q names)
+pub cids_append : (log more : List Removal) (cid : Cid) (r : Removal) → Names log cid r → Names (log ++ more) cid r
+cids_append log more cid _ (by_itself r e) = by_itself r e
+cids_append log more cid _ (by_reason r q m reason cids) = by_reason r q (Contains-append_left log more q m) reason (cids_append log more cid q cids)
 
 -- what is left names what it named
-pub names_left : (log : List Removal) (gone : List Cid) (left : List Removal) (cid : Cid) → Loses log gone log left → (r : Removal) → (NamesSome log gone r → ⊥) → Names log cid r → Names left cid r
-names_left log gone left cid loses _ keeps (by_itself r e) = by_itself r e
-names_left log gone left cid loses _ keeps (by_reason r q m reason names) =
+pub cids_left : (log : List Removal) (gone : List Cid) (left : List Removal) (cid : Cid) → Loses log gone log left → (r : Removal) → (NamesSome log gone r → ⊥) → Names log cid r → Names left cid r
+cids_left log gone left cid loses _ keeps (by_itself r e) = by_itself r e
+cids_left log gone left cid loses _ keeps (by_reason r q m reason cids) =
     let stays : NamesSome log gone q → ⊥ = λ some. keeps (some_by_reason log gone r q m reason some) in
-    by_reason r q (kept_member log gone log left loses q m stays) reason (names_left log gone left cid loses q stays names)
+    by_reason r q (kept_member log gone log left loses q m stays) reason (cids_left log gone left cid loses q stays cids)
 
 -- ---- a pair is logged once
 
@@ -88,7 +89,7 @@ reasons_logged initial active log founded r m p k = reasons_logged_from initial 
 -- ---- a log of which the first removals are kept
 
 loses_first : (log : List Removal) (gone : List Cid) (r : Removal) (rest left : List Removal) → Loses log gone (r ∷ rest) left → (NamesSome log gone r → ⊥) → (others : List Removal) × (left ≡ r ∷ others) × Loses log gone rest others
-loses_first log gone _ _ _ (is_lost r rest left names loses) keeps = absurd (keeps names)
+loses_first log gone _ _ _ (is_lost r rest left cids loses) keeps = absurd (keeps cids)
 loses_first log gone _ _ _ (is_kept r rest left stays loses) keeps = (left, refl, loses)
 
 pub loses_front : (log : List Removal) (gone : List Cid) (front back left : List Removal) → Loses log gone (front ++ back) left → ((r : Removal) → Contains front r → NamesSome log gone r → ⊥)
@@ -210,7 +211,7 @@ active_known active cid = elim (any_known (λ (b : Active). b.cid ≡ cid) activ
   | inr none ↦ inr (λ is. none is.owner is.posted is.named)
 ]
 
--- what the owner of a right removal lacks, where it is the only one of its name
+-- what the owner of a right removal lacks, where it is the only one of its id
 own_lacks : (m : EngineState) (a : Active) (p : Pair) → IsValid m → Contains m.active a → (right : IsRight m.initial m.active m.log (removal_of m a p)) → LacksSupport (without m.initial (removal_of m a p).reasons) a.con p.var p.value
 own_lacks m a p valid posted right =
     subst (λ (b : Active). LacksSupport (without m.initial (removal_of m a p).reasons) b.con p.var p.value)
@@ -235,7 +236,7 @@ by_later_reason s m carries a p right q k n =
     let l = carries.later r.0 r.1 in
     let made = removal_of m a p in
     let in_log : Contains m.log r.0 = subst (λ z. Contains z r.0) (sym carries.log) (Contains-append_right s.log carries.more r.0 r.1) in
-    (l.0, l.1, by_reason made r.0 (Contains-append_left m.log (made ∷ []) r.0 in_log) (member_same made.reasons q r.0.pair (sym r.2) k) (names_append m.log (made ∷ []) l.0 r.0 l.2))
+    (l.0, l.1, by_reason made r.0 (Contains-append_left m.log (made ∷ []) r.0 in_log) (member_same made.reasons q r.0.pair (sym r.2) k) (cids_append m.log (made ∷ []) l.0 r.0 l.2))
 
 -- the removal names a later constraint
 names_later : (s m : EngineState) → Carries s m → IsValid s → IsValid m → IsStill s → (a : Active) (p : Pair) (t : EngineState) → Removes m a p t
@@ -265,7 +266,7 @@ carries_removed right s m a p t removes valid still valid_m carries =
       old = carries.old;
       longer = carries.longer;
       later = λ r k. elim (Contains-push_cases carries.more made r k) [
-        | inl j ↦ let l = carries.later r j in (l.0, l.1, names_append m.log (made ∷ []) l.0 r l.2)
+        | inl j ↦ let l = carries.later r j in (l.0, l.1, cids_append m.log (made ∷ []) l.0 r l.2)
         | inr e ↦ subst (λ z. (c : Cid) × IsNew s c × Names (m.log ++ made ∷ []) c z) e (names_later s m carries valid valid_m still a p t removes is_right)
       ];
     })
@@ -273,41 +274,41 @@ carries_removed right s m a p t removes valid still valid_m carries =
 -- ---- withdrawing
 
 -- a removal of s names constraints of s alone, in the longer log too
-old_names : (s m : EngineState) → Carries s m → IsValid s → IsValid m → (cid : Cid) (r : Removal) → Contains s.log r → Names m.log cid r → IsActive s.active cid
-old_names s m carries valid valid_m cid _ k (by_itself r e) = names_active s.initial s.active s.log cid valid.founded r k (by_itself r e)
-old_names s m carries valid valid_m cid _ k (by_reason r q in_m reason names) =
+old_cids : (s m : EngineState) → Carries s m → IsValid s → IsValid m → (cid : Cid) (r : Removal) → Contains s.log r → Names m.log cid r → IsActive s.active cid
+old_cids s m carries valid valid_m cid _ k (by_itself r e) = cids_active s.initial s.active s.log cid valid.founded r k (by_itself r e)
+old_cids s m carries valid valid_m cid _ k (by_reason r q in_m reason cids) =
     let old = logged s.log q.pair (reasons_logged s.initial s.active s.log valid.founded r k q.pair reason) in
     let in_log = subst (λ l. Contains l old.0) (sym carries.log) (Contains-append_left s.log carries.more old.0 old.1) in
     let same : old.0 ≡ q = logged_once m.initial m.active m.log valid_m.founded old.0 q in_log in_m old.2 in
-    old_names s m carries valid valid_m cid q (member_same s.log old.0 q same old.1) names
+    old_cids s m carries valid valid_m cid q (member_same s.log old.0 q same old.1) cids
 
 pub carries_withdrawn : (s m : EngineState) (gone : List Cid) (t : EngineState) → WithdrawsAll m gone t → AreNew s gone → IsValid s → IsValid m → Carries s m → Carries s t
 carries_withdrawn s m gone t withdraws later valid valid_m carries =
     let loses : Loses m.log gone (s.log ++ carries.more) withdraws.left = subst (λ l. Loses m.log gone l withdraws.left) carries.log withdraws.loses in
-    let parts = loses_front m.log gone s.log carries.more withdraws.left loses (λ r k some. later some.cid some.among (old_names s m carries valid valid_m some.cid r k some.names)) in
+    let parts = loses_front m.log gone s.log carries.more withdraws.left loses (λ r k some. later some.cid some.among (old_cids s m carries valid valid_m some.cid r k some.names)) in
     subst (λ z. Carries s z) (sym withdraws.after) (record {
       more = parts.0;
       log = parts.1;
-      active = λ a k. member_without_names gone m.active a (carries.active a k) (λ j. later a.cid j (record { owner = a; posted = k; named = refl }));
+      active = λ a k. member_without_cids gone m.active a (carries.active a k) (λ j. later a.cid j (record { owner = a; posted = k; named = refl }));
       declared = carries.declared;
       old = carries.old;
       longer = carries.longer;
       later = λ r k.
           let l = carries.later r (left_member m.log gone carries.more parts.0 parts.2 r k) in
-          (l.0, l.1, names_left m.log gone withdraws.left l.0 withdraws.loses r (left_keeps m.log gone carries.more parts.0 parts.2 r k) l.2);
+          (l.0, l.1, cids_left m.log gone withdraws.left l.0 withdraws.loses r (left_keeps m.log gone carries.more parts.0 parts.2 r k) l.2);
     })
 
 -- what goes with a later constraint is later
 pub gone_later : (s m : EngineState) (cid : Cid) → Carries s m → IsValid s → IsValid m → IsNew s cid → AreNew s (gone_with m.active cid)
-gone_later s m cid carries valid valid_m later c k is = elim (member_cases cid (cids_of (filter (λ b. is_named b.because cid) m.active)) c k) [
+gone_later s m cid carries valid valid_m later c k is = elim (member_cases cid (cids_of (filter (λ b. is_named b.justification cid) m.active)) c k) [
   | inl e ↦ later (subst (λ d. IsActive s.active d) (sym e) is)
   | inr j ↦
-      let r = member_unmap (λ (b : Active). b.cid) (filter (λ b. is_named b.because cid) m.active) c j in
-      let f = filter_member (λ (b : Active). is_named b.because cid) m.active r.0 r.1 in
+      let r = member_unmap (λ (b : Active). b.cid) (filter (λ b. is_named b.justification cid) m.active) c j in
+      let f = filter_member (λ (b : Active). is_named b.justification cid) m.active r.0 r.1 in
       let same : is.owner ≡ r.0 = single m.active valid_m.rising is.owner r.0 (carries.active is.owner is.posted) f.0 (is.named ∙ sym r.2) in
       let b = is.owner in
-      let held : Contains b.because cid = subst (λ (z : Active). Contains z.because cid) (sym same) (named_member r.0.because cid f.1) in
-      later (form_grounds (length s.initial) s.active b.cid b.con b.because (valid.formed b is.posted).form cid held).1
+      let held : Contains b.justification cid = subst (λ (z : Active). Contains z.justification cid) (sym same) (named_member r.0.justification cid f.1) in
+      later (form_justifiers (length s.initial) s.active b.cid b.con b.justification (valid.formed b is.posted).form cid held).1
 ]
 
 -- ---- whole runs
@@ -331,7 +332,7 @@ pub carried_log : (s t : EngineState) → IsValid t → Carries s t → ((a : Ac
 carried_log s t valid carries alone = carries.log ∙ ap (λ l. s.log ++ l) (none_more carries.more (λ r k.
     let l = carries.later r k in
     let in_log = subst (λ z. Contains z r) (sym carries.log) (Contains-append_right s.log carries.more r k) in
-    let is = names_active t.initial t.active t.log l.0 valid.founded r in_log l.2 in
+    let is = cids_active t.initial t.active t.log l.0 valid.founded r in_log l.2 in
     l.1 (subst (λ c. IsActive s.active c) is.named (alone is.owner is.posted)))) ∙ append_nil s.log
   where
     none_more : (l : List Removal) → ((r : Removal) → Contains l r → ⊥) → l ≡ []
@@ -376,12 +377,12 @@ filtered right s m (step ∷ steps) t filtering run valid still valid_m carries 
     record { valid = rest.valid; carries = rest.carries; active = rest.active ∙ first.1 }
 
 -- what is left after the withdrawal was there before the posting
-left_alone : (s m : EngineState) (a : Active) → m.active ≡ with_posted a s.active → (b : Active) → Contains (without_names (gone_with m.active a.cid) m.active) b → IsActive s.active b.cid
+left_alone : (s m : EngineState) (a : Active) → m.active ≡ with_posted a s.active → (b : Active) → Contains (without_cids (gone_with m.active a.cid) m.active) b → IsActive s.active b.cid
 left_alone s m a e b k =
-    let r = without_names_member (gone_with m.active a.cid) m.active b k in
+    let r = without_cids_member (gone_with m.active a.cid) m.active b k in
     elim (with_posted_cases a s.active b (subst (λ l. Contains l b) e r.0)) [
       | inl f ↦ absurd (r.1 (member_same (gone_with m.active a.cid) a.cid b.cid (ap (λ (c : Active). c.cid) f)
-          (member_here a.cid (cids_of (filter (λ c. is_named c.because a.cid) m.active)))))
+          (member_here a.cid (cids_of (filter (λ c. is_named c.justification a.cid) m.active)))))
       | inr j ↦ record { owner = b; posted = j; named = refl }
     ]
 

@@ -7,19 +7,21 @@ use Rattle.palm_base.specs.declared.terms.Cid.{Cid}
 use Rattle.palm_base.proofs.cited.Members.{member_nil, member_here, member_there, member_single, member_same, member_map, member_filter}
 use Rattle.palm_model.specs.Domains.{Domains, Ascends, AllAscend, Has, is_among, without}
 use Rattle.palm_model.specs.Constraint.{scope}
-use Rattle.palm_model.specs.Log.{Active, IsActive, Removal, IsRight, AreRight, Rises, Loses, cids_of, log_pairs}
+use Rattle.palm_base.specs.Order.{Rises}
+use Rattle.palm_model.specs.Log.{Active, IsActive, Removal, IsRight, AreRight, Loses, cids_of, log_pairs}
 use Rattle.palm_model.specs.Closure.{IsClosedBy}
-use Rattle.palm_model.specs.State.{EngineState, FitsName, IsValid, present, blank, without_cid}
-use Rattle.palm_model.specs.Event.{Posts, WithdrawsAll, Withdraws, Removes, Calms, Declares, posted, withdrawn, removed, calmed, with_posted, without_names, gone_with, lost_pairs, vars_of, removal_of}
+use Rattle.palm_model.specs.State.{EngineState, FitsCid, IsValid, present, blank, without_cid}
+use Rattle.palm_model.specs.Event.{Posts, WithdrawsAll, Withdraws, Removes, Calms, Declares, posted, withdrawn, removed, calmed, with_posted, without_cids, gone_with, lost_pairs, vars_of, removal_of}
 use Rattle.palm_model.proofs.cited.Narrowing.{has_declared}
 use Rattle.palm_model.proofs.cited.Supports.{not_true}
 use Rattle.palm_model.proofs.cited.Without.{pair_of, among_member, without_has, has_without, without_grows}
-use Rattle.palm_events.specs.Along.{KeepsGrounds}
+use Rattle.palm_events.specs.Along.{KeepsJustifiers}
 use Rattle.palm_events.specs.Reasons.{ReasonsAreRight}
-use Rattle.palm_events.proofs.cited.Names.{single, cid_known}
+use Rattle.palm_base.proofs.cited.CidOrder.{cid_known}
+use Rattle.palm_events.proofs.cited.Names.{single}
 use Rattle.palm_events.proofs.cited.Logs.{right_push, right_more, left_founded, left_member, logged, pair_logged}
 use Rattle.palm_events.proofs.cited.Agreeing.{lacks_in, closed_in, more_has, has_more, values_of_more}
-use Rattle.palm_events.proofs.cited.States.{waits, woken_waits, woken_rises, woken_active, asleep_before, asleep_over, without_cid_rises, without_cid_member, member_without_cid, with_posted_cases, member_with_posted, with_posted_rises, without_names_member, member_without_names, without_names_rises, form_more, form_declared, gone_grounds}
+use Rattle.palm_events.proofs.cited.States.{waits, woken_waits, woken_rises, woken_active, asleep_before, asleep_over, without_cid_rises, without_cid_member, member_without_cid, with_posted_cases, member_with_posted, with_posted_rises, without_cids_member, member_without_cids, without_cids_rises, form_more, form_declared, gone_justifiers}
 use Rattle.palm_events.proofs.cited.Reasons.{removal_right}
 
 -- ---- what a valid state has
@@ -33,7 +35,7 @@ pub pending_rises : (s : EngineState) → IsValid s → Rises s.pending
 pending_rises s valid = subst Rises (sym valid.waiting) (woken_rises s.active s.pending [] valid.rising)
 
 pub active_declared : (s : EngineState) → IsValid s → (a : Active) → Contains s.active a → (x : ℕ) → Contains (scope a.con) x → x < length s.initial
-active_declared s valid a m x over = form_declared (length s.initial) s.active a.cid a.con a.because (valid.formed a m).form x over
+active_declared s valid a m x over = form_declared (length s.initial) s.active a.cid a.con a.justification (valid.formed a m).form x over
 
 -- ---- the state without constraints
 
@@ -52,12 +54,12 @@ blank_valid initial ascend = record {
 still_active : (a : Active) (active : List Active) (c : Cid) → (IsActive active a.cid → ⊥) → IsActive active c → IsActive (with_posted a active) c
 still_active a active c inactive is = record { owner = is.owner; posted = member_with_posted a active is.owner inactive is.posted; named = is.named }
 
-formed_with : (n : ℕ) (a : Active) (active : List Active) (b : Active) → (IsActive active a.cid → ⊥) → FitsName n active b → FitsName n (with_posted a active) b
+formed_with : (n : ℕ) (a : Active) (active : List Active) (b : Active) → (IsActive active a.cid → ⊥) → FitsCid n active b → FitsCid n (with_posted a active) b
 formed_with n a active b inactive formed = record {
-  form = form_more n n active (with_posted a active) b.cid b.con b.because (omega arith) (λ c m g is. still_active a active c inactive is) formed.form;
+  form = form_more n n active (with_posted a active) b.cid b.con b.justification (omega arith) (λ c m g is. still_active a active c inactive is) formed.form;
 }
 
-posted_valid : (s : EngineState) (a : Active) → (IsActive s.active a.cid → ⊥) → FitsName (length s.initial) s.active a → IsValid s → IsValid (posted s a)
+posted_valid : (s : EngineState) (a : Active) → (IsActive s.active a.cid → ⊥) → FitsCid (length s.initial) s.active a → IsValid s → IsValid (posted s a)
 posted_valid s a inactive formed valid =
     let active = with_posted a s.active in
     let rising : Rises (cids_of active) = with_posted_rises a s.active valid.rising in
@@ -65,7 +67,7 @@ posted_valid s a inactive formed valid =
       ascend = valid.ascend;
       rising = rising;
       formed = λ b m. formed_with (length s.initial) a s.active b inactive (elim (with_posted_cases a s.active b m) [
-        | inl e ↦ subst (λ c. FitsName (length s.initial) s.active c) e formed
+        | inl e ↦ subst (λ c. FitsCid (length s.initial) s.active c) e formed
         | inr k ↦ valid.formed b k
       ]);
       founded = right_more s.initial s.active active (λ b m. member_with_posted a s.active b inactive m) [] s.log valid.founded;
@@ -96,42 +98,42 @@ left_same s left x v untouched has =
     (member_filter (λ p. not (is_among (log_pairs left) p.var p.value)) (log_pairs s.log) (pair_of x v) m
     (not_true (is_among (log_pairs left) x v) (λ t. r.1 (among_member (log_pairs left) x v t))))))
 
-stays_active : (s : EngineState) (gone : List Cid) (c : Cid) → (Contains gone c → ⊥) → IsActive s.active c → IsActive (without_names gone s.active) c
+stays_active : (s : EngineState) (gone : List Cid) (c : Cid) → (Contains gone c → ⊥) → IsActive s.active c → IsActive (without_cids gone s.active) c
 stays_active s gone c stays is = record {
   owner = is.owner;
-  posted = member_without_names gone s.active is.owner is.posted (λ m. stays (member_same gone is.owner.cid c is.named m));
+  posted = member_without_cids gone s.active is.owner is.posted (λ m. stays (member_same gone is.owner.cid c is.named m));
   named = is.named;
 }
 
-withdrawn_valid : (s : EngineState) (gone : List Cid) (left : List Removal) → KeepsGrounds s.active gone → Loses s.log gone s.log left → IsValid s → IsValid (withdrawn s gone left)
+withdrawn_valid : (s : EngineState) (gone : List Cid) (left : List Removal) → KeepsJustifiers s.active gone → Loses s.log gone s.log left → IsValid s → IsValid (withdrawn s gone left)
 withdrawn_valid s gone left keeps loses valid =
-    let active = without_names gone s.active in
+    let active = without_cids gone s.active in
     let vars = vars_of (lost_pairs s.log left) in
-    let rising : Rises (cids_of active) = without_names_rises gone s.active valid.rising in
+    let rising : Rises (cids_of active) = without_cids_rises gone s.active valid.rising in
     record {
       ascend = valid.ascend;
       rising = rising;
       formed = λ a m.
-          let r = without_names_member gone s.active a m in
+          let r = without_cids_member gone s.active a m in
           record {
-            form = form_more (length s.initial) (length s.initial) s.active active a.cid a.con a.because (omega arith)
-                (λ c k ground is. stays_active s gone c (keeps a r.0 r.1 c k ground) is) (valid.formed a r.0).form;
+            form = form_more (length s.initial) (length s.initial) s.active active a.cid a.con a.justification (omega arith)
+                (λ c k justifier is. stays_active s gone c (keeps a r.0 r.1 c k justifier) is) (valid.formed a r.0).form;
           };
       founded = left_founded s.initial s.active s.log gone left valid.founded loses;
       waiting = woken_waits active s.pending vars rising;
       closed = λ a m asleep.
-          let r = without_names_member gone s.active a m in
+          let r = without_cids_member gone s.active a m in
           let was = valid.closed a r.0 (asleep_before active s.pending vars a m asleep) in
           closed_in a.con (present s) (without s.initial (log_pairs left))
           (λ x v over has. left_grows s gone left loses x v has)
           (λ x v over has. left_same s left x v (λ at. asleep_over active s.pending vars a m asleep x at over) has) was;
     }
 
-pub withdraws_all_valid : (s t : EngineState) (gone : List Cid) → KeepsGrounds s.active gone → WithdrawsAll s gone t → IsValid s → IsValid t
+pub withdraws_all_valid : (s t : EngineState) (gone : List Cid) → KeepsJustifiers s.active gone → WithdrawsAll s gone t → IsValid s → IsValid t
 withdraws_all_valid s t gone keeps withdraws valid = subst IsValid (sym withdraws.after) (withdrawn_valid s gone withdraws.left keeps withdraws.loses valid)
 
 pub withdraws_valid : (s t : EngineState) (cid : Cid) → Withdraws s cid t → IsValid s → IsValid t
-withdraws_valid s t cid withdraws valid = withdraws_all_valid s t (gone_with s.active cid) (gone_grounds (length s.initial) s.active cid valid.formed) withdraws valid
+withdraws_valid s t cid withdraws valid = withdraws_all_valid s t (gone_with s.active cid) (gone_justifiers (length s.initial) s.active cid valid.formed) withdraws valid
 
 -- ---- removing
 
@@ -196,12 +198,12 @@ length_more d vs = omega (arith, length-append d (vs ∷ []))
 has_in_more : (d : Domains) (x : ℕ) (v : ℤ) → x < length d → (vs : List ℤ) → Has d x v → Has (d ++ vs ∷ []) x v
 has_in_more d x v lt vs has = subst (λ ws. Contains ws v) (sym (values_of_more d vs x lt)) has
 
-right_declared : (initial : Domains) (vs : List ℤ) (active : List Active) → ((a : Active) → Contains active a → FitsName (length initial) active a)
+right_declared : (initial : Domains) (vs : List ℤ) (active : List Active) → ((a : Active) → Contains active a → FitsCid (length initial) active a)
     → (earlier rest : List Removal) → AreRight initial active earlier rest → AreRight (initial ++ vs ∷ []) active earlier rest
 right_declared initial vs active formed earlier [] right = tt
 right_declared initial vs active formed earlier (r ∷ rest) right =
     let o = right.0 in
-    let declared = form_declared (length initial) active o.owner.cid o.owner.con o.owner.because (formed o.owner o.posted).form in (
+    let declared = form_declared (length initial) active o.owner.cid o.owner.con o.owner.justification (formed o.owner o.posted).form in (
       record {
         owner = o.owner;
         posted = o.posted;
@@ -222,7 +224,7 @@ declared_valid s values ascends valid =
       ascend = All-append Ascends s.initial (values ∷ []) valid.ascend (All-cons Ascends values [] ascends (All-nil Ascends));
       rising = valid.rising;
       formed = λ a m. record {
-        form = form_more (length s.initial) (length (s.initial ++ values ∷ [])) s.active s.active a.cid a.con a.because (length_more s.initial values) (λ c k ground is. is) (valid.formed a m).form;
+        form = form_more (length s.initial) (length (s.initial ++ values ∷ [])) s.active s.active a.cid a.con a.justification (length_more s.initial values) (λ c k justifier is. is) (valid.formed a m).form;
       };
       founded = right_declared s.initial values s.active valid.formed [] s.log valid.founded;
       waiting = valid.waiting;

@@ -4,7 +4,7 @@ ghost use Rattle.palm_base.specs.declared.terms.Cid.{Cid};
 ghost use Rattle.palm_model.specs.Domains.{Assignment};
 ghost use Rattle.palm_model.specs.Closure.{IsConflict, IsSolution};
 ghost use Rattle.palm_model.specs.Log.{IsActive, Named};
-ghost use Rattle.palm_model.specs.State.{EngineState, IsValid, IsEmptyAt, IsGround, present};
+ghost use Rattle.palm_model.specs.State.{EngineState, IsValid, IsEmptyAt, IsJustifier, present};
 ghost use Rattle.palm_model.specs.Event.{Step, StepLeads};
 ghost use Rattle.palm_model.specs.Conflict.{InConflict, InFlatConflict, IsKeptConflict, IsFlatConflict, AreJustified};
 ghost use Rattle.palm_events.specs.Along.{IsJustifiedPosting};
@@ -22,9 +22,9 @@ pub fn conflicts_name_active_constraints()
 {}
 
 /// The flat conflict holds active decisions and active constraints of users alone.
-pub fn flat_conflicts_hold_active_grounds()
+pub fn flat_conflicts_hold_active_justifiers()
     ensures { (s : EngineState) (x : ℕ) (cid : Cid)
-        → IsValid s → InFlatConflict s x cid → IsGround cid × IsActive s.active cid }
+        → IsValid s → InFlatConflict s x cid → IsJustifier cid × IsActive s.active cid }
 {}
 
 /// Where all active negations are justified, the flat conflict has no solution.
@@ -39,7 +39,7 @@ pub fn steps_keep_negations_justified()
         → StepLeads s step t → IsValid s → IsJustifiedPosting s step → AreJustified s → AreJustified t }
 {}
 
-/// The kept and the flat conflict are lists of names.
+/// The kept and the flat conflict are lists of ids.
 pub fn conflicts_are_lists()
     ensures kept { (s : EngineState) (x : ℕ) → IsValid s → (list : List Cid) × IsKeptConflict s x list }
     ensures flat { (s : EngineState) (x : ℕ) → IsValid s → (list : List Cid) × IsFlatConflict s x list }

@@ -3,9 +3,10 @@ ghost use Rattle.std.specs.Prelude.{◌≡◌, ◌↔◌, List, Contains};
 ghost use Rattle.palm_base.specs.declared.terms.Cid.{Cid};
 ghost use Rattle.palm_model.specs.Domains.{Domains};
 ghost use Rattle.palm_model.specs.Closure.{Explains};
-ghost use Rattle.palm_model.specs.Log.{Active, IsActive, Named, Removal, IsWellFounded, Names, Loses, Rises, IsListOf};
+ghost use Rattle.palm_base.specs.Order.{Rises};
+ghost use Rattle.palm_model.specs.Log.{Active, IsActive, Named, Removal, IsWellFounded, Names, Loses, IsListOf};
 ghost use Rattle.palm_model.specs.State.{EngineState, IsValid};
-ghost use Rattle.palm_model.specs.Event.{without_names, WithdrawsAll};
+ghost use Rattle.palm_model.specs.Event.{without_cids, WithdrawsAll};
 
 /// The constraints that a removal of a well founded log names explain its pair.
 pub fn removals_are_explained()
@@ -30,7 +31,7 @@ pub fn pairs_are_logged_once()
 pub fn withdrawals_keep_logs_well_founded()
     ensures { (initial : Domains) (active : List Active) (log left : List Removal) (gone : List Cid)
         → IsWellFounded initial active log → Loses log gone log left
-        → IsWellFounded initial (without_names gone active) left }
+        → IsWellFounded initial (without_cids gone active) left }
 {}
 
 /// Whatever goes from a valid state, the withdrawal has an outcome.
@@ -43,13 +44,13 @@ pub fn withdrawals_have_one_outcome()
     ensures { (s t u : EngineState) (gone : List Cid) → WithdrawsAll s gone t → WithdrawsAll s gone u → t ≡ u }
 {}
 
-/// The explanation of a removal is a list of names.
+/// The explanation of a removal is a list of ids.
 pub fn explanations_are_lists()
     ensures { (s : EngineState) (r : Removal) → IsValid s → Contains s.log r
         → (list : List Cid) × IsListOf (λ c. Names s.log c r) list }
 {}
 
-/// Two rising lists of the same names are one.
-pub fn lists_of_names_are_unique()
+/// Two rising lists of the same ids are one.
+pub fn lists_of_ids_are_unique()
     ensures { (xs ys : List Cid) → Rises xs → Rises ys → ((c : Cid) → Contains xs c ↔ Contains ys c) → xs ≡ ys }
 {}

@@ -7,7 +7,7 @@ ghost use Rattle.palm_model.specs.Log.{Active};
 ghost use Rattle.palm_model.specs.Domains.{Domains, AllAscend};
 ghost use Rattle.palm_model.specs.State.{EngineState, IsValid, blank};
 ghost use Rattle.palm_model.specs.Event.{Step, StepLeads, Runs, WithdrawsAll, lost_pairs};
-ghost use Rattle.palm_events.specs.Along.{KeepsGrounds};
+ghost use Rattle.palm_events.specs.Along.{KeepsJustifiers};
 ghost use Rattle.palm_events.specs.Scoped.{HasScopedReasons};
 
 /// The state without constraints is valid.
@@ -20,10 +20,10 @@ pub fn steps_keep_validity()
     ensures { (s t : EngineState) (step : Step) → StepLeads s step t → IsValid s → IsValid t }
 {}
 
-/// Several constraints may go at once, where they are no grounds of negations that stay.
+/// Several constraints may go at once, where they are no justifiers of negations that stay.
 pub fn withdrawals_keep_validity()
     ensures { (s t : EngineState) (gone : List Cid)
-        → KeepsGrounds s.active gone → WithdrawsAll s gone t → IsValid s → IsValid t }
+        → KeepsJustifiers s.active gone → WithdrawsAll s gone t → IsValid s → IsValid t }
 {}
 
 /// Every run from the state without constraints leads to a valid state.
@@ -44,7 +44,7 @@ pub fn reasons_stay_in_scopes()
 /// restored variable.
 pub fn withdrawals_wake()
     ensures { (s t : EngineState) (gone : List Cid) (withdraws : WithdrawsAll s gone t) (a : Active)
-        → IsValid s → KeepsGrounds s.active gone → Contains t.active a
+        → IsValid s → KeepsJustifiers s.active gone → Contains t.active a
         → (Contains t.pending a.cid ↔ (Contains s.pending a.cid
         ⊎ ((p : Pair) × Contains (lost_pairs s.log withdraws.left) p × Contains (scope a.con) p.var))) }
 {}

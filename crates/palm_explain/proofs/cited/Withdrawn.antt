@@ -15,7 +15,7 @@ use Rattle.palm_events.proofs.cited.Logs.{logged, pair_logged, left_member, left
 use Rattle.palm_model.proofs.cited.Supports.{not_true}
 use Rattle.palm_explain.specs.Explanations.{IsLinked}
 use Rattle.palm_explain.proofs.Linked.{once, pairs_more}
-use Rattle.palm_explain.proofs.Naming.{names_left, left_names}
+use Rattle.palm_explain.proofs.Naming.{cids_left, left_cids}
 
 -- ---- two withdrawals
 
@@ -25,7 +25,7 @@ data FirstOf (log : List Removal) (gone : List Cid) (r : Removal) (rest left : L
   remains : (NamesSome log gone r → ⊥) → (others : List Removal) → left ≡ r ∷ others → Loses log gone rest others → FirstOf log gone r rest left
 
 loses_first : (log : List Removal) (gone : List Cid) (r : Removal) (rest left : List Removal) → Loses log gone (r ∷ rest) left → FirstOf log gone r rest left
-loses_first log gone _ _ _ (is_lost r rest left names loses) = goes names loses
+loses_first log gone _ _ _ (is_lost r rest left cids loses) = goes cids loses
 loses_first log gone _ _ _ (is_kept r rest left keeps loses) = remains keeps left refl loses
 
 loses_nothing : (log : List Removal) (gone : List Cid) (left : List Removal) → Loses log gone [] left → left ≡ []
@@ -38,26 +38,26 @@ some_then : (log : List Removal) (first : List Cid) (middle : List Removal) (the
 some_then log first middle then loses r some = record {
   cid = some.cid;
   among = Contains-append_right first then some.cid some.among;
-  names = left_names log first middle loses some.cid r some.names;
+  names = left_cids log first middle loses some.cid r some.names;
 }
 
 names_neither : (log : List Removal) (first : List Cid) (middle : List Removal) (then : List Cid) → Loses log first log middle → (r : Removal) → Contains middle r
     → (NamesSome log first r → ⊥) → (NamesSome middle then r → ⊥) → NamesSome log (first ++ then) r → ⊥
 names_neither log first middle then loses r m a b some = elim (Contains-append_cases first then some.cid some.among) [
   | inl k ↦ a (record { cid = some.cid; among = k; names = some.names })
-  | inr k ↦ b (record { cid = some.cid; among = k; names = names_left log first middle loses some.cid r m some.names })
+  | inr k ↦ b (record { cid = some.cid; among = k; names = cids_left log first middle loses some.cid r m some.names })
 ]
 
 adds_up_from : (log : List Removal) (first : List Cid) (middle : List Removal) (then : List Cid) → Loses log first log middle
     → (rest mid left : List Removal) → ((r : Removal) → Contains mid r → Contains middle r) → Loses log first rest mid → Loses middle then mid left → Loses log (first ++ then) rest left
 adds_up_from log first middle then loses _ _ left sub none_left two =
     subst (λ l. Loses log (first ++ then) [] l) (sym (loses_nothing middle then left two)) none_left
-adds_up_from log first middle then loses _ _ left sub (is_lost r rest mid names one) two =
-    is_lost r rest left (some_first log first then r names) (adds_up_from log first middle then loses rest mid left sub one two)
+adds_up_from log first middle then loses _ _ left sub (is_lost r rest mid cids one) two =
+    is_lost r rest left (some_first log first then r cids) (adds_up_from log first middle then loses rest mid left sub one two)
 adds_up_from log first middle then loses _ _ left sub (is_kept r rest mid keeps one) two =
     let after : (s : Removal) → Contains mid s → Contains middle s = λ s m. sub s (member_there r mid s m) in
     elim (loses_first middle then r mid left two) [
-      | goes names l ↦ is_lost r rest left (some_then log first middle then loses r names) (adds_up_from log first middle then loses rest mid left after one l)
+      | goes cids l ↦ is_lost r rest left (some_then log first middle then loses r cids) (adds_up_from log first middle then loses rest mid left after one l)
       | remains k others e l ↦ subst (λ z. Loses log (first ++ then) (r ∷ rest) z) (sym e)
           (is_kept r rest others (names_neither log first middle then loses r (sub r (member_here r mid)) keeps k) (adds_up_from log first middle then loses rest mid others after one l))
     ]
@@ -99,8 +99,8 @@ two_lost log middle left first then one two p m = elim m [
 -- a removal is lost or stays
 pub lost_or_left : (log : List Removal) (gone : List Cid) (rest left : List Removal) → Loses log gone rest left → (r : Removal) → Contains rest r → NamesSome log gone r ⊎ Contains left r
 lost_or_left log gone _ _ none_left r m = absurd (member_nil r m)
-lost_or_left log gone _ _ (is_lost s rest left names loses) r m = elim (member_cases s rest r m) [
-  | inl e ↦ inl (subst (λ z. NamesSome log gone z) e names)
+lost_or_left log gone _ _ (is_lost s rest left cids loses) r m = elim (member_cases s rest r m) [
+  | inl e ↦ inl (subst (λ z. NamesSome log gone z) e cids)
   | inr k ↦ lost_or_left log gone rest left loses r k
 ]
 lost_or_left log gone _ _ (is_kept s rest left keeps loses) r m = elim (member_cases s rest r m) [
@@ -109,19 +109,19 @@ lost_or_left log gone _ _ (is_kept s rest left keeps loses) r m = elim (member_c
 ]
 
 -- the lost pairs are those of the removals that name one of what goes
-pub lost_names : (log : List Removal) (gone : List Cid) (left : List Removal) → Loses log gone log left → (p : Pair) → Contains (lost_pairs log left) p
+pub lost_cids : (log : List Removal) (gone : List Cid) (left : List Removal) → Loses log gone log left → (p : Pair) → Contains (lost_pairs log left) p
     → (r : Removal) × Contains log r × (r.pair ≡ p) × NamesSome log gone r
-lost_names log gone left loses p m =
+lost_cids log gone left loses p m =
     let out = lost_logged log left p m in
     let r = logged log p out.0 in
     elim (lost_or_left log gone log left loses r.0 r.1) [
-      | inl names ↦ (r.0, r.1, r.2, names)
+      | inl cids ↦ (r.0, r.1, r.2, cids)
       | inr k ↦ absurd (out.1 (member_same (log_pairs left) r.0.pair p r.2 (pair_logged left r.0 k)))
     ]
 
-pub names_lost : (log : List Removal) (gone : List Cid) (left : List Removal) → IsLinked log → Loses log gone log left → (r : Removal) → Contains log r → NamesSome log gone r → Contains (lost_pairs log left) r.pair
-names_lost log gone left linked loses r m names =
+pub cids_lost : (log : List Removal) (gone : List Cid) (left : List Removal) → IsLinked log → Loses log gone log left → (r : Removal) → Contains log r → NamesSome log gone r → Contains (lost_pairs log left) r.pair
+cids_lost log gone left linked loses r m cids =
     logged_lost log left r.pair (pair_logged log r m) (λ k.
     let s = logged left r.pair k in
     let same = once log linked s.0 r (left_member log gone log left loses s.0 s.1) m s.2 in
-    left_keeps log gone log left loses s.0 s.1 (subst (λ z. NamesSome log gone z) (sym same) names))
+    left_keeps log gone log left loses s.0 s.1 (subst (λ z. NamesSome log gone z) (sym same) cids))

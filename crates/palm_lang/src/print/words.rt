@@ -1,5 +1,5 @@
 //! Names, numbers and fixed texts at the end of what was written. Where memory runs out, what was there is still the
-//! front.
+//! front. Of these the writing of certificates uses four.
 #![tactic(auto, using(crate::proofs::PrintLemmas::keeping))]
 
 ghost use Rattle.std.specs.Prelude.{◌≡◌, codes, ◌++◌};
@@ -12,7 +12,7 @@ use palm_model::Op;
 use palm_read::Name;
 
 /// A fixed text.
-pub(crate) fn put_text(text: &str, out: &mut Vec<u8>) -> Result<(), NoMemory>
+pub fn put_text(text: &str, out: &mut Vec<u8>) -> Result<(), NoMemory>
     ensures { Puts out.old.items out.new.items text.now result }
 {
     out.extend_from_slice(text.as_bytes())?;
@@ -28,7 +28,7 @@ pub(crate) fn put_name(name: &Name, out: &mut Vec<u8>) -> Result<(), NoMemory>
 }
 
 /// A space and a name.
-pub(crate) fn put_spaced_name(name: &Name, out: &mut Vec<u8>) -> Result<(), NoMemory>
+pub fn put_spaced_name(name: &Name, out: &mut Vec<u8>) -> Result<(), NoMemory>
     ensures { Puts out.old.items out.new.items (codes " " ++ name.now) result }
 {
     put_text(" ", out)?;
@@ -50,7 +50,7 @@ pub(crate) fn put_value(value: &Value, out: &mut Vec<u8>) -> Result<(), NoMemory
 }
 
 /// A space and a whole number.
-pub(crate) fn put_spaced_int(number: i128, out: &mut Vec<u8>) -> Result<(), NoMemory>
+pub fn put_spaced_int(number: i128, out: &mut Vec<u8>) -> Result<(), NoMemory>
     ensures { Puts out.old.items out.new.items (codes " " ++ signed_decimal number) result }
 {
     put_text(" ", out)?;
@@ -58,7 +58,7 @@ pub(crate) fn put_spaced_int(number: i128, out: &mut Vec<u8>) -> Result<(), NoMe
 }
 
 /// A space and a value.
-pub(crate) fn put_spaced_value(value: &Value, out: &mut Vec<u8>) -> Result<(), NoMemory>
+pub fn put_spaced_value(value: &Value, out: &mut Vec<u8>) -> Result<(), NoMemory>
     ensures { Puts out.old.items out.new.items (codes " " ++ signed_decimal value.now) result }
 {
     put_text(" ", out)?;

@@ -1,13 +1,13 @@
 -- Domains are closed by a constraint exactly where each present value of its variables has support in it, and taking
 -- out values without support, one constraint and one variable after another, loses no value of any closed domains.
-use Rattle.std.proofs.Common.{◌≡◌, ℕ, ◌+◌, ◌<◌, ◌≤◌, Bool, true, false, ◌||◌, List, [], ◌∷◌, length, take, get_or, Contains, ℤ, inl, inr, refl, sym, ◌∙◌, subst, take_all}
+use Rattle.std.proofs.Common.{◌≡◌, ℕ, ◌+◌, ◌<◌, ◌≤◌, Bool, false, ◌||◌, List, [], ◌∷◌, length, take, get_or, Contains, ℤ, inl, inr, refl, sym, ◌∙◌, subst, take_all}
 use Rattle.std.proofs.lemmas.List.Elements.{Contains-get_or}
 use Rattle.palm_base.proofs.cited.Members.{member_same, member_here, member_take_more, member_cases, member_nil}
 use Rattle.palm_model.specs.Closure.{IsClosed, IsClosedBy}
 use Rattle.palm_model.specs.Constraint.{scope}
 use Rattle.palm_model.specs.Domains.{Domains, Has, IsInside}
 use Rattle.palm_model.specs.Support.{IsSupported, LacksSupport}
-use Rattle.palm_model.specs.Trial.{IsKept, AreKept, AreSupported, Narrowed}
+use Rattle.palm_model.specs.Trial.{IsSupportedIfPresent, AreKept, AreSupported, Narrowed}
 use Rattle.palm_model.specs.declared.constraint.Con.{Con}
 use Rattle.palm_model.proofs.cited.Formed.{part_scope}
 use Rattle.palm_model.proofs.cited.Narrowing.{narrows_none, narrowed_then, narrowed_for}
@@ -40,16 +40,16 @@ not_lacking c d e x v lacks inside closed h =
 pub narrowed_none : (Closed Rest : Domains → Type 0) (d : Domains) → Rest d → Narrowed Closed Rest d d false
 narrowed_none Closed Rest d rest = record { step = narrows_none Closed d; fewer = λ is. cc; same = λ is. refl; rest = λ is. rest }
 
-kept_more : (c : Con) (x : ℕ) (vs : List ℤ) (i : ℕ) (v : ℤ) → i < length vs → v ≡ get_or vs i v → (d : Domains) → AreKept c x (take i vs) d → IsKept c x v d → AreKept c x (take (i + 1) vs) d
+kept_more : (c : Con) (x : ℕ) (vs : List ℤ) (i : ℕ) (v : ℤ) → i < length vs → v ≡ get_or vs i v → (d : Domains) → AreKept c x (take i vs) d → IsSupportedIfPresent c x v d → AreKept c x (take (i + 1) vs) d
 kept_more c x vs i v lt at d before here w m h = elim (member_take_more vs i v w lt at m) [
   | inl k ↦ before w k h
-  | inr e ↦ subst (λ (u : ℤ). IsKept c x u d) e here h
+  | inr e ↦ subst (λ (u : ℤ). IsSupportedIfPresent c x u d) e here h
 ]
 
-pub narrowed_value : (c : Con) (x : ℕ) (vs : List ℤ) (i : ℕ) (v : ℤ) (d e f : Domains) (r a b : Bool) → i < length vs → v ≡ get_or vs i v → r ≡ (a || b) → Narrowed (IsClosedBy c) (AreKept c x (take i vs)) d e a → Narrowed (IsClosedBy c) (IsKept c x v) e f b → Narrowed (IsClosedBy c) (AreKept c x (take (i + 1) vs)) d f r
+pub narrowed_value : (c : Con) (x : ℕ) (vs : List ℤ) (i : ℕ) (v : ℤ) (d e f : Domains) (r a b : Bool) → i < length vs → v ≡ get_or vs i v → r ≡ (a || b) → Narrowed (IsClosedBy c) (AreKept c x (take i vs)) d e a → Narrowed (IsClosedBy c) (IsSupportedIfPresent c x v) e f b → Narrowed (IsClosedBy c) (AreKept c x (take (i + 1) vs)) d f r
 narrowed_value c x vs i v d e f r a b lt at is before here =
     subst (Narrowed (IsClosedBy c) (AreKept c x (take (i + 1) vs)) d f) (sym is)
-    (narrowed_then (IsClosedBy c) (AreKept c x (take i vs)) (IsKept c x v) (AreKept c x (take (i + 1) vs)) d e f a b (kept_more c x vs i v lt at) before here)
+    (narrowed_then (IsClosedBy c) (AreKept c x (take i vs)) (IsSupportedIfPresent c x v) (AreKept c x (take (i + 1) vs)) d e f a b (kept_more c x vs i v lt at) before here)
 
 -- every declared value of the variable was looked at
 values_supported : (c : Con) (x : ℕ) (vs : List ℤ) (i : ℕ) → length vs ≤ i → (d : Domains) → ((v : ℤ) → Has d x v → Contains vs v) → AreKept c x (take i vs) d → AreSupported c (x ∷ []) d

@@ -1,8 +1,8 @@
 -- What is known of the parts of a formed constraint, and of a well formed one.
-use Rattle.std.proofs.Common.{◌≡◌, ℕ, ℤ, ◌<◌, ◌≤◌, List, [], ◌∷◌, length, map, flat_map, All, Contains, inl, inr, sym, subst}
+use Rattle.std.proofs.Common.{◌≡◌, ℕ, ℤ, ◌<◌, ◌≤◌, List, [], ◌∷◌, length, map, flat_map, All, Contains, inl, inr, sym, subst, arith}
 use Rattle.std.proofs.lemmas.List.{length-map}
-use Rattle.std.proofs.lemmas.List.Elements.{All-contains, Contains-append_cases}
-use Rattle.palm_base.proofs.cited.Members.{member_nil, member_here, member_there, member_cases, member_single, member_same, member_unmap, flat_map_member, all_members}
+use Rattle.std.proofs.lemmas.List.Elements.{All-contains, Contains-append_cases, Contains-append_left}
+use Rattle.palm_base.proofs.cited.Members.{member_nil, member_here, member_there, member_cases, member_single, member_same, member_map, member_unmap, flat_map_member, all_members}
 use Rattle.palm_model.specs.Constraint.{scope, IsFormed, IsShaped, IsWellFormed}
 use Rattle.palm_model.specs.Part.{scope_of, parts}
 use Rattle.palm_model.specs.Linear.{linear_parts}
@@ -14,7 +14,7 @@ use Rattle.palm_model.specs.declared.constraint.Op.{Op}
 use Rattle.palm_model.specs.declared.constraint.Op.TheVariants.{Eq, Ne, Lt, Le, Gt, Ge}
 use Rattle.palm_model.specs.declared.constraint.Term.{Term}
 use Rattle.palm_model.specs.declared.part.Part.{Part}
-use Rattle.palm_model.specs.declared.part.Part.TheVariants.{Linear as LinearPart, Differ as DifferPart}
+use Rattle.palm_model.specs.declared.part.Part.TheVariants.{CompareVar as CompareVarPart, CompareConst as CompareConstPart, Linear as LinearPart, Table as TablePart, Element as ElementPart, Count as CountPart, Differ as DifferPart}
 
 -- ---- the parts of a sum and of a difference
 
@@ -57,6 +57,66 @@ part_scope (Count value vars op target) p x m h = single_scope _ p x m h
 part_scope (Differ vars) p x m h =
     let r = differ_part vars p m in
     pair_member vars r.0 r.1 x r.2 r.3 (subst (λ q. Contains (scope_of q) x) (sym r.4) h)
+
+-- ---- a part of a constraint over some variable is over some variable
+
+first_member : (xs : List ℕ) → 0 < length xs → (x : ℕ) × Contains xs x
+first_member [] lt = absurd (omega (arith, lt))
+first_member (x ∷ xs) lt = (x, member_here x xs)
+
+only_part : (q p : Part) → Contains (q ∷ []) p → 0 < length (scope_of q) → (x : ℕ) × Contains (scope_of p) x
+only_part q p m lt = subst (λ r. (x : ℕ) × Contains (scope_of r) x) (member_single q p m) (first_member (scope_of q) lt)
+
+pub part_variable : (c : Con) (p : Part) → 0 < length (scope c) → Contains (parts c) p → (x : ℕ) × Contains (scope_of p) x
+part_variable (CompareVar left op right offset) p lt m = only_part _ p m lt
+part_variable (CompareConst left op value) p lt m = only_part _ p m lt
+part_variable (Linear terms op bound) p lt m =
+    let r = sum_part terms op bound p m in
+    subst (λ q. (x : ℕ) × Contains (scope_of q) x) r.1 (first_member (scope (Linear terms op bound)) lt)
+part_variable (Table vars rows) p lt m = only_part _ p m lt
+part_variable (Element outcome index entries) p lt m = only_part _ p m lt
+part_variable (Count value vars op target) p lt m = only_part _ p m lt
+part_variable (Differ vars) p lt m =
+    let r = differ_part vars p m in
+    subst (λ q. (x : ℕ) × Contains (scope_of q) x) r.4 (r.0, member_here r.0 (r.1 ∷ []))
+
+-- ---- a variable of the scope is one of a part's
+
+abbrev pub PartOver : List Part → ℕ → Type 0
+PartOver ps x = (p : Part) × Contains ps p × Contains (scope_of p) x
+
+linear_over : (terms : List Term) (op : Op) (bound : ℤ) (x : ℕ) → Contains (map (λ t. t.var) terms) x → PartOver (linear_parts terms op bound) x
+linear_over terms Eq bound x m = (LinearPart terms Le bound, member_here (LinearPart terms Le bound) (LinearPart terms Ge bound ∷ []), m)
+linear_over terms Ne bound x m = (LinearPart terms Ne bound, member_here (LinearPart terms Ne bound) [], m)
+linear_over terms Lt bound x m = (LinearPart terms Lt bound, member_here (LinearPart terms Lt bound) [], m)
+linear_over terms Le bound x m = (LinearPart terms Le bound, member_here (LinearPart terms Le bound) [], m)
+linear_over terms Gt bound x m = (LinearPart terms Gt bound, member_here (LinearPart terms Gt bound) [], m)
+linear_over terms Ge bound x m = (LinearPart terms Ge bound, member_here (LinearPart terms Ge bound) [], m)
+
+differ_over : (vars : List ℕ) (x : ℕ) → 2 ≤ length vars → Contains vars x → PartOver (differ_parts vars) x
+differ_over [] x two m = absurd (member_nil x m)
+differ_over (v ∷ []) x two m = absurd (omega (arith, two))
+differ_over (v ∷ w ∷ vs) x two m = elim (member_cases v (w ∷ vs) x m) [
+  | inl e ↦ (
+    DifferPart v w,
+    Contains-append_left (map (DifferPart v) (w ∷ vs)) (differ_parts (w ∷ vs)) (DifferPart v w) (member_map (DifferPart v) (w ∷ vs) w (member_here w vs)),
+    subst (Contains (v ∷ w ∷ [])) e (member_here v (w ∷ [])),
+  )
+  | inr n ↦ (
+    DifferPart v x,
+    Contains-append_left (map (DifferPart v) (w ∷ vs)) (differ_parts (w ∷ vs)) (DifferPart v x) (member_map (DifferPart v) (w ∷ vs) x n),
+    member_there v (x ∷ []) x (member_here x []),
+  )
+]
+
+pub variable_part : (n : ℕ) (c : Con) (x : ℕ) → IsWellFormed n c → Contains (scope c) x → PartOver (parts c) x
+variable_part n (CompareVar left op right offset) x formed m = (CompareVarPart left op right offset, member_here (CompareVarPart left op right offset) [], m)
+variable_part n (CompareConst left op value) x formed m = (CompareConstPart left op value, member_here (CompareConstPart left op value) [], m)
+variable_part n (Linear terms op bound) x formed m = linear_over terms op bound x m
+variable_part n (Table vars rows) x formed m = (TablePart vars rows, member_here (TablePart vars rows) [], m)
+variable_part n (Element outcome index entries) x formed m = (ElementPart outcome index entries, member_here (ElementPart outcome index entries) [], m)
+variable_part n (Count value vars op target) x formed m = (CountPart value vars op target, member_here (CountPart value vars op target) [], m)
+variable_part n (Differ vars) x formed m = differ_over vars x formed.shaped m
 
 -- ---- their sums are small
 

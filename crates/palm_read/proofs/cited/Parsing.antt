@@ -14,7 +14,7 @@ use Rattle.palm_read.specs.Token.{tokens_of}
 use Rattle.palm_read.specs.Form.{Form}
 use Rattle.palm_read.specs.Grammar.{IsForm}
 use Rattle.palm_read.specs.Limits.{IsInRange, HasNothing, HasRepeat}
-use Rattle.palm_read.specs.Reader.Checks.{HasLineInRange, IsKept}
+use Rattle.palm_read.specs.Reader.Checks.{HasLineInRange, PassesChecks}
 use Rattle.palm_read.specs.Reading.{line_of, IsRead, a_comment, a_form, HasBadBytes, IsRefusedBy, IsReadAs}
 use Rattle.palm_read.specs.Reader.Lines.{form_at}
 use Rattle.palm_read.specs.Reader.Held.{HoldsAll, GivesAll, held_line}
@@ -59,7 +59,7 @@ formless bytes error short says none plain odd (inl is) =
     subst (IsRefusedBy bytes) (sym is) (no_form_refused bytes (record { short = short; says = says; plain = plain is }) none)
 formless bytes error short says none plain odd (inr is) = subst (IsRefusedBy bytes) (sym is) (odd_refused bytes says (odd is))
 
-pub answered : (bytes : List ℕ) (line : Line) (result : Result Line LineError) → IsPlain bytes → HoldsAll held_line line (form_at (tokens_of bytes)) → IsKept line result → IsReadAs bytes result
+pub answered : (bytes : List ℕ) (line : Line) (result : Result Line LineError) → IsPlain bytes → HoldsAll held_line line (form_at (tokens_of bytes)) → PassesChecks line result → IsReadAs bytes result
 answered bytes line (Ok kept) plain h k =
     let range = in_line h.form (subst HasLineInRange h.is k.1) in
     let same : line ≡ line_of h.form = h.is ∙ ap line_of (same_form h.form range) in

@@ -48,10 +48,10 @@ HasLineInRange (DropOrder number) = 0 < number
 HasLineInRange _ = ⊤
 
 -- what asking the limits of a line answers: the line, or the first limit that it breaks, unless memory ran out
-abbrev pub IsKept : Line → Result Line LineError → Type 0
-IsKept line (Ok kept) = (kept ≡ line) × HasLineInRange line × (HasNothing line → ⊥) × (HasRepeat line → ⊥)
-IsKept line (Err OutOfRange) = HasLineInRange line → ⊥
-IsKept line (Err Empty) = HasLineInRange line × HasNothing line
-IsKept line (Err Repeated) = HasLineInRange line × (HasNothing line → ⊥) × HasRepeat line
-IsKept line (Err NoMemory) = ⊤
-IsKept line (Err _) = ⊥
+abbrev pub PassesChecks : Line → Result Line LineError → Type 0
+PassesChecks line (Ok kept) = (kept ≡ line) × HasLineInRange line × (HasNothing line → ⊥) × (HasRepeat line → ⊥)
+PassesChecks line (Err OutOfRange) = HasLineInRange line → ⊥
+PassesChecks line (Err Empty) = HasLineInRange line × HasNothing line
+PassesChecks line (Err Repeated) = HasLineInRange line × (HasNothing line → ⊥) × HasRepeat line
+PassesChecks line (Err NoMemory) = ⊤
+PassesChecks line (Err _) = ⊥

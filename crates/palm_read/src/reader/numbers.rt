@@ -1,5 +1,5 @@
 //! Numbers of any size, as far as the limits of the language reach.
-ghost use Rattle.std.specs.Prelude.{◌≡◌, ◌<◌, ◌≤◌, ◌^◌, ◌+◌, min};
+ghost use Rattle.std.specs.Prelude.{◌≡◌, ◌<◌, ◌^◌, ◌+◌, min};
 ghost use Rattle.palm_base.specs.Numbers.{AreDigits, digits_number};
 ghost use Rattle.palm_read.specs.Reader.Held.{Gives, held, held_value, counted};
 ghost use Rattle.palm_read.specs.Domain.{count_in};

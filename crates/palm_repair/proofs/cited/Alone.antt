@@ -72,32 +72,32 @@ record IsSameHeaviest (g : Pair) (e l : List Pair) (g' : Pair) (e' l' : List Pai
   gone : g ≡ g'
   others : e ++ l ≡ e' ++ l'
 
-heaviest_parts : (weights : List ℕ) (names : List Cid) (e : List Pair) (g : Pair) (l e' : List Pair) (g' : Pair) (l' : List Pair) → e ++ g ∷ l ≡ e' ++ g' ∷ l' → Contains names (Decide g.var) → Contains names (Decide g'.var)
-    → ((p : Pair) → Contains e p → Contains names (Decide p.var) → weight_of weights p.var ≤ weight_of weights g.var)
-    → ((p : Pair) → Contains l p → Contains names (Decide p.var) → weight_of weights p.var < weight_of weights g.var)
-    → ((p : Pair) → Contains e' p → Contains names (Decide p.var) → weight_of weights p.var ≤ weight_of weights g'.var)
-    → ((p : Pair) → Contains l' p → Contains names (Decide p.var) → weight_of weights p.var < weight_of weights g'.var) → IsSameHeaviest g e l g' e' l'
-heaviest_parts weights names [] g l [] g' l' eq held held' most after most' after' = record { gone = head_same g g' l l' eq; others = tail_same g g' l l' eq }
-heaviest_parts weights names [] g l (x ∷ e') g' l' eq held held' most after most' after' =
+heaviest_parts : (weights : List ℕ) (cids : List Cid) (e : List Pair) (g : Pair) (l e' : List Pair) (g' : Pair) (l' : List Pair) → e ++ g ∷ l ≡ e' ++ g' ∷ l' → Contains cids (Decide g.var) → Contains cids (Decide g'.var)
+    → ((p : Pair) → Contains e p → Contains cids (Decide p.var) → weight_of weights p.var ≤ weight_of weights g.var)
+    → ((p : Pair) → Contains l p → Contains cids (Decide p.var) → weight_of weights p.var < weight_of weights g.var)
+    → ((p : Pair) → Contains e' p → Contains cids (Decide p.var) → weight_of weights p.var ≤ weight_of weights g'.var)
+    → ((p : Pair) → Contains l' p → Contains cids (Decide p.var) → weight_of weights p.var < weight_of weights g'.var) → IsSameHeaviest g e l g' e' l'
+heaviest_parts weights cids [] g l [] g' l' eq held held' most after most' after' = record { gone = head_same g g' l l' eq; others = tail_same g g' l l' eq }
+heaviest_parts weights cids [] g l (x ∷ e') g' l' eq held held' most after most' after' =
     let first = head_same g x l (e' ++ g' ∷ l') eq in
     let less = after g' (subst (λ k. Contains k g') (sym (tail_same g x l (e' ++ g' ∷ l') eq)) (later_member e' g' l')) held' in
     let more = most' g (subst (λ z. Contains (x ∷ e') z) (sym first) (member_here x e')) held in
     absurd (omega (arith, less, more))
-heaviest_parts weights names (x ∷ e) g l [] g' l' eq held held' most after most' after' =
+heaviest_parts weights cids (x ∷ e) g l [] g' l' eq held held' most after most' after' =
     let first = head_same x g' (e ++ g ∷ l) l' eq in
     let less = after' g (subst (λ k. Contains k g) (tail_same x g' (e ++ g ∷ l) l' eq) (later_member e g l)) held in
     let more = most g' (subst (λ z. Contains (x ∷ e) z) first (member_here x e)) held' in
     absurd (omega (arith, less, more))
-heaviest_parts weights names (x ∷ e) g l (y ∷ e') g' l' eq held held' most after most' after' =
+heaviest_parts weights cids (x ∷ e) g l (y ∷ e') g' l' eq held held' most after most' after' =
     let first = head_same x y (e ++ g ∷ l) (e' ++ g' ∷ l') eq in
-    let rest = heaviest_parts weights names e g l e' g' l' (tail_same x y (e ++ g ∷ l) (e' ++ g' ∷ l') eq) held held'
+    let rest = heaviest_parts weights cids e g l e' g' l' (tail_same x y (e ++ g ∷ l) (e' ++ g' ∷ l') eq) held held'
     (λ p m. most p (member_there x e p m)) after (λ p m. most' p (member_there y e' p m)) after' in
     record { gone = rest.gone; others = λ i. first i ∷ rest.others i }
 
-heaviest_same : (weights : List ℕ) (decisions : List Pair) (names : List Cid) (g : Pair) (left : List Pair) (g' : Pair) (left' : List Pair) → IsHeaviest weights decisions names g left → IsHeaviest weights decisions names g' left'
+heaviest_same : (weights : List ℕ) (decisions : List Pair) (cids : List Cid) (g : Pair) (left : List Pair) (g' : Pair) (left' : List Pair) → IsHeaviest weights decisions cids g left → IsHeaviest weights decisions cids g' left'
     → (g ≡ g') × (left ≡ left')
-heaviest_same weights decisions names g left g' left' one two =
-    let same = heaviest_parts weights names one.earlier g one.later two.earlier g' two.later (sym one.are ∙ two.are) one.held two.held one.heaviest one.latest two.heaviest two.latest in
+heaviest_same weights decisions cids g left g' left' one two =
+    let same = heaviest_parts weights cids one.earlier g one.later two.earlier g' two.later (sym one.are ∙ two.are) one.held two.held one.heaviest one.latest two.heaviest two.latest in
     (same.gone, one.others ∙ same.others ∙ sym two.others)
 
 -- ---- room
@@ -140,18 +140,18 @@ repair_undoes_same : (tabu : ℕ) (s : RepairState) (g : Pair) (c : List Cid) (t
 repair_undoes_same tabu s g c t g' c' u one two =
     let engine = s.search.engine in
     let decisions = s.search.decisions in
-    let names : c ≡ c' = flat_same engine c c' one.flat two.flat in
+    let cids : c ≡ c' = flat_same engine c c' one.flat two.flat in
     let heaviest = heaviest_same (raised s.weights (decided_vars c')) decisions c' g one.left g' two.left
-    (subst (λ k. IsHeaviest (raised s.weights (decided_vars k)) decisions k g one.left) names one.heaviest) two.heaviest in
+    (subst (λ k. IsHeaviest (raised s.weights (decided_vars k)) decisions k g one.left) cids one.heaviest) two.heaviest in
     let gone : g ≡ g' = heaviest.0 in
     let left : one.left ≡ two.left = heaviest.1 in
     let withdraws : Withdraws engine (Decide g'.var) one.engine = subst (λ (p : Pair). Withdraws engine (Decide p.var) one.engine) gone one.withdraws in
     let engines : one.engine ≡ two.engine = withdrawal_same engine (gone_with engine.active (Decide g'.var)) one.engine two.engine withdraws two.withdraws in
-    let before : undone s one.engine one.left (decided_vars c) ≡ undone s two.engine two.left (decided_vars c') = λ i. undone s (engines i) (left i) (decided_vars (names i)) in
+    let before : undone s one.engine one.left (decided_vars c) ≡ undone s two.engine two.left (decided_vars c') = λ i. undone s (engines i) (left i) (decided_vars (cids i)) in
     let rooms : one.roomy ≡ two.roomy = room_same tabu (undone s two.engine two.left (decided_vars c')) one.roomy two.roomy (subst (λ z. MakesRoom tabu z one.roomy) before one.makes_room) two.makes_room in
-    let readies : ready one.roomy (nogood_of decisions c) ≡ ready two.roomy (nogood_of decisions c') = λ i. ready (rooms i) (nogood_of decisions (names i)) in
+    let readies : ready one.roomy (nogood_of decisions c) ≡ ready two.roomy (nogood_of decisions c') = λ i. ready (rooms i) (nogood_of decisions (cids i)) in
     record {
-      same = λ i. TurnUndo (gone i) (names i);
+      same = λ i. TurnUndo (gone i) (cids i);
       state = posting_same (ready two.roomy (nogood_of decisions c')) t u (subst (λ z. PostsAll z t) readies one.posts) two.posts;
     }
 

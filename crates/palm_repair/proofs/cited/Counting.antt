@@ -28,7 +28,7 @@ use Rattle.palm_search.proofs.cited.Weighing.{turns_few}
 use Rattle.palm_repair.specs.Posting.{Nogood, RepairState, pairs_under, nogood_of}
 use Rattle.palm_repair.specs.Repair.{MakesRoom, RepairUndoes, RepairTakes, RepairSettles, RepairFollows, RepairTurns, RepairRun, repair_begun}
 use Rattle.palm_repair.specs.Kept.{IsAtTurn}
-use Rattle.palm_repair.specs.Sets.{decision_sets, most_turns}
+use Rattle.palm_repair.specs.Sets.{decision_sets, most_repair_turns}
 use Rattle.palm_repair.proofs.Refuting.{under_member, member_under, one_under, nogood_pair}
 use Rattle.palm_repair.proofs.Forcing.{posts_from_leaves, undecided_member}
 use Rattle.palm_repair.proofs.Repairing.{undone, room_users}
@@ -411,7 +411,7 @@ no_variables [] e = refl
 no_variables (vs ∷ d) e = absurd (omega (arith, e))
 
 pub repair_turns_bounded : ReasonsAreRight → (guided ordered : Bool) (tabu : ℕ) (s : RepairState) (turns : List Turn) (t : RepairState) → RepairTurns guided ordered tabu s turns t → IsAtTurn s → s.search.decisions ≡ []
-    → t.dropped ≡ s.dropped → length turns < most_turns s.search.engine.initial
+    → t.dropped ≡ s.dropped → length turns < most_repair_turns s.search.engine.initial
 repair_turns_bounded right guided ordered tabu s turns t run at none same =
     let d = s.search.engine.initial in
     let undone_few = undoes_few d s.nogoods turns (turns_visit right guided ordered tabu s turns t d run at refl same) in
@@ -427,12 +427,12 @@ repair_turns_bounded right guided ordered tabu s turns t run at none same =
     omega (arith, total, count)
 
 pub repair_run_bounded : ReasonsAreRight → (guided ordered : Bool) (tabu budget : ℕ) (s : EngineState) (turns : List Turn) (end : SearchEnd) (dropped : ℕ) (t : RepairState) → IsValid s → HasOnlyUsers s
-    → RepairRun guided ordered tabu budget s turns end dropped t → dropped ≡ 0 → length turns < most_turns s.initial
+    → RepairRun guided ordered tabu budget s turns end dropped t → dropped ≡ 0 → length turns < most_repair_turns s.initial
 repair_run_bounded right guided ordered tabu budget s turns end dropped t valid users run none =
     let start = starts_at_turn right ordered s run.start valid users run.settles in
     let filters = settling_filters None s run.settles.settles.revisions run.start.search.engine run.settles.settles.settles in
     let same : t.dropped ≡ run.start.dropped = sym run.drops ∙ none ∙ sym (settles_nogoods ordered (repair_begun s) run.start run.settles).1 in
-    subst (λ (d : Domains). length turns < most_turns d) filters.initial
+    subst (λ (d : Domains). length turns < most_repair_turns d) filters.initial
     (repair_turns_bounded right guided ordered tabu run.start turns t run.taken start run.settles.settles.decisions same)
 
 zero_or_more : (n : ℕ) → (n ≡ 0) ⊎ (0 < n)
@@ -440,7 +440,7 @@ zero_or_more zero = inl refl
 zero_or_more (suc n) = inr (omega arith)
 
 pub repair_run_spent : ReasonsAreRight → (guided ordered : Bool) (tabu budget spent : ℕ) (s : EngineState) (turns : List Turn) (dropped : ℕ) (t : RepairState) → IsValid s → HasOnlyUsers s
-    → RepairRun guided ordered tabu budget s turns (Spent spent) dropped t → (spent ≡ budget) × ((0 < dropped) ⊎ (spent < most_turns s.initial))
+    → RepairRun guided ordered tabu budget s turns (Spent spent) dropped t → (spent ≡ budget) × ((0 < dropped) ⊎ (spent < most_repair_turns s.initial))
 repair_run_spent right guided ordered tabu budget spent s turns dropped t valid users run =
     let e = run.ends in
     let count = e.0 in (

@@ -5,9 +5,9 @@ use Rattle.palm_base.specs.declared.terms.Cid.TheVariants.{Decide}
 use Rattle.palm_model.specs.Log.{Active}
 use Rattle.palm_model.specs.State.{EngineState, IsValid, is_user, decision_of, negation_of}
 use Rattle.palm_model.specs.Event.{Posts, WithdrawsAll, gone_with}
-use Rattle.palm_events.specs.Along.{IsStill, KeepsGrounds}
+use Rattle.palm_events.specs.Along.{IsStill, KeepsJustifiers}
 use Rattle.palm_events.specs.Reasons.{ReasonsAreRight}
-use Rattle.palm_events.proofs.cited.States.{gone_grounds}
+use Rattle.palm_events.proofs.cited.States.{gone_justifiers}
 use Rattle.palm_engine.proofs.cited.Settled.{settling_filters}
 use Rattle.palm_search.specs.declared.turn.Turn.{Turn}
 use Rattle.palm_search.specs.declared.turn.Turn.TheVariants.{Decide as TurnDecide, Undo as TurnUndo}
@@ -26,9 +26,9 @@ use Rattle.palm_repair.proofs.Blocking.{starts_at_turn, turns_at_turn}
 
 -- ---- what holds along the turns
 
--- the names of no users, none of them a ground of a negation that stays
+-- the ids of no users, none of them a justifier of a negation that stays
 pub record MayGo (m : EngineState) (gone : List Cid) : Type 0 where
-  pub keeps : KeepsGrounds m.active gone
+  pub keeps : KeepsJustifiers m.active gone
   pub none : (c : Cid) → Contains gone c → is_user c ≡ true → ⊥
 
 -- kept by each posting of what is no user's, and by each withdrawal of what is none
@@ -56,10 +56,10 @@ before_along : (Q : EngineState → Type 0) → IsKeptAlong Q → (guided : Bool
 before_along Q kept guided tabu s (TurnDecide pair pick) t takes valid q = kept.posts s.search.engine (decision_of pair) takes.middle.engine refl takes.decides.posts q
 before_along Q kept guided tabu s (TurnUndo gone conflict) t takes valid q =
     let cid : Cid = Decide gone.var in
-    let names = gone_with s.search.engine.active cid in
+    let cids = gone_with s.search.engine.active cid in
     room_along Q kept tabu (undone s takes.engine takes.left (decided_vars conflict)) takes.roomy takes.makes_room
-    (kept.withdraws s.search.engine names takes.engine (record {
-      keeps = gone_grounds (length s.search.engine.initial) s.search.engine.active cid valid.formed;
+    (kept.withdraws s.search.engine cids takes.engine (record {
+      keeps = gone_justifiers (length s.search.engine.initial) s.search.engine.active cid valid.formed;
       none = decision_no_user s.search.engine valid gone.var;
     }) takes.withdraws q)
 

@@ -12,10 +12,11 @@ use Rattle.palm_model.specs.State.{EngineState, IsValid, negation_of}
 use Rattle.palm_model.specs.Event.{gone_with, posted}
 use Rattle.palm_model.proofs.cited.Narrowing.{has_declared}
 use Rattle.palm_events.specs.Reasons.{ReasonsAreRight}
-use Rattle.palm_events.proofs.cited.Names.{cid_known, named_member, member_named}
+use Rattle.palm_base.proofs.cited.CidOrder.{cid_known}
+use Rattle.palm_events.proofs.cited.Names.{named_member, member_named}
 use Rattle.palm_events.proofs.cited.States.{active_cid, cid_active}
 use Rattle.palm_events.proofs.cited.Outcomes.{withdrawal_exists}
-use Rattle.palm_events.proofs.cited.Conflicts.{flat_grounds}
+use Rattle.palm_events.proofs.cited.Conflicts.{flat_justifiers}
 use Rattle.palm_search.specs.declared.turn.Pick.{Pick}
 use Rattle.palm_search.specs.declared.turn.Turn.{Turn}
 use Rattle.palm_search.specs.declared.turn.Turn.TheVariants.{Decide as TurnDecide, Undo as TurnUndo}
@@ -31,7 +32,7 @@ use Rattle.palm_search.proofs.cited.Whole.{closes_exist}
 use Rattle.palm_repair.specs.Posting.{Nogood, RepairState, PostsFor, PostsFrom, PostsAll, nogood_of, undecided, justification}
 use Rattle.palm_repair.specs.Repair.{IsHeaviest, Drops, MakesRoom, RepairTakes, RepairSettles, RepairFollows, RepairTurns, RepairRun, RepairsTo, weight_of, raised, forced_by, repair_begun}
 use Rattle.palm_repair.specs.Kept.{IsNumbered, IsRepairing, IsAtTurn}
-use Rattle.palm_repair.proofs.Forcing.{justification_grounds, one_left, negated, numbered_member, posts_for_keeps, posts_for_leaves, IsWalked, walked_more, none_walked, posts_from_leaves}
+use Rattle.palm_repair.proofs.Forcing.{justification_justifies, one_left, negated, numbered_member, posts_for_keeps, posts_for_leaves, IsWalked, walked_more, none_walked, posts_from_leaves}
 use Rattle.palm_repair.proofs.Repairing.{undone, decided_repairing, withdrawn_repairing, roomy_repairing, repair_takes_keep}
 use Rattle.palm_repair.proofs.Blocking.{follows_at_turn, starts_at_turn, turns_at_turn}
 
@@ -51,7 +52,7 @@ posts_for_exists s number nogood (p ∷ []) e numbered repairing = elim (cases_B
         inr (record {
           posts = record {
             inactive = λ active. false≢true (sym f ∙ member_named (cids_of engine.active) (Not p) (member_same (cids_of engine.active) active.owner.cid (Not p) active.named (cid_active engine.active active.owner active.posted)));
-            formed = record { form = (refl, has_declared engine.initial p.var p.value has, λ c m. justification_grounds s.search nogood p repairing.searching is e c m) };
+            formed = record { form = (refl, has_declared engine.initial p.var p.value has, λ c m. justification_justifies s.search nogood p repairing.searching is e c m) };
             after = refl;
           };
           after = refl;
@@ -76,10 +77,10 @@ posting_exists s repairing = posts_from_exists s s.dropped s.nogoods (none_walke
 
 -- ---- the heaviest decision
 
-record HeaviestOf (weights : List ℕ) (decisions : List Pair) (names : List Cid) : Type 0 where
+record HeaviestOf (weights : List ℕ) (decisions : List Pair) (cids : List Cid) : Type 0 where
   gone : Pair
   left : List Pair
-  heaviest : IsHeaviest weights decisions names gone left
+  heaviest : IsHeaviest weights decisions cids gone left
 
 not_less : (m n : ℕ) → (m < n → ⊥) → n ≤ m
 not_less m n k = omega (arith, k)
@@ -91,9 +92,9 @@ less_or_not m n = elim (cases_Bool (nat_lt m n)) [
 ]
 
 -- a decision that is heavier than the heaviest one behind it
-heavier_first : (weights : List ℕ) (q : Pair) (decisions : List Pair) (names : List Cid) → Contains names (Decide q.var) → (rest : HeaviestOf weights decisions names)
-    → weight_of weights rest.gone.var < weight_of weights q.var → HeaviestOf weights (q ∷ decisions) names
-heavier_first weights q decisions names held rest lt =
+heavier_first : (weights : List ℕ) (q : Pair) (decisions : List Pair) (cids : List Cid) → Contains cids (Decide q.var) → (rest : HeaviestOf weights decisions cids)
+    → weight_of weights rest.gone.var < weight_of weights q.var → HeaviestOf weights (q ∷ decisions) cids
+heavier_first weights q decisions cids held rest lt =
     let h = rest.heaviest in
     record {
       gone = q;
@@ -115,10 +116,10 @@ heavier_first weights q decisions names held rest lt =
       };
     }
 
--- a decision that is not heavier, or that the names do not hold
-lighter_first : (weights : List ℕ) (q : Pair) (decisions : List Pair) (names : List Cid) → (rest : HeaviestOf weights decisions names)
-    → (Contains names (Decide q.var) → weight_of weights q.var ≤ weight_of weights rest.gone.var) → HeaviestOf weights (q ∷ decisions) names
-lighter_first weights q decisions names rest le =
+-- a decision that is not heavier, or that the ids do not hold
+lighter_first : (weights : List ℕ) (q : Pair) (decisions : List Pair) (cids : List Cid) → (rest : HeaviestOf weights decisions cids)
+    → (Contains cids (Decide q.var) → weight_of weights q.var ≤ weight_of weights rest.gone.var) → HeaviestOf weights (q ∷ decisions) cids
+lighter_first weights q decisions cids rest le =
     let h = rest.heaviest in
     record {
       gone = rest.gone;
@@ -129,7 +130,7 @@ lighter_first weights q decisions names rest le =
         are = ap (λ l. q ∷ l) h.are;
         held = h.held;
         heaviest = λ p m k. elim (member_cases q h.earlier p m) [
-          | inl e ↦ subst (λ (z : Pair). weight_of weights z.var ≤ weight_of weights rest.gone.var) e (le (subst (λ (z : Pair). Contains names (Decide z.var)) (sym e) k))
+          | inl e ↦ subst (λ (z : Pair). weight_of weights z.var ≤ weight_of weights rest.gone.var) e (le (subst (λ (z : Pair). Contains cids (Decide z.var)) (sym e) k))
           | inr j ↦ h.heaviest p j k
         ];
         latest = h.latest;
@@ -137,9 +138,9 @@ lighter_first weights q decisions names rest le =
       };
     }
 
-heaviest_exists : (weights : List ℕ) (decisions : List Pair) (names : List Cid) (p : Pair) → Contains decisions p → Contains names (Decide p.var) → HeaviestOf weights decisions names
-heaviest_exists weights [] names p m held = absurd (member_nil p m)
-heaviest_exists weights (q ∷ decisions) names p m held = elim (any_known (λ (r : Pair). Contains names (Decide r.var)) decisions (λ r k. member_known cid_known names (Decide r.var))) [
+heaviest_exists : (weights : List ℕ) (decisions : List Pair) (cids : List Cid) (p : Pair) → Contains decisions p → Contains cids (Decide p.var) → HeaviestOf weights decisions cids
+heaviest_exists weights [] cids p m held = absurd (member_nil p m)
+heaviest_exists weights (q ∷ decisions) cids p m held = elim (any_known (λ (r : Pair). Contains cids (Decide r.var)) decisions (λ r k. member_known cid_known cids (Decide r.var))) [
   | inr none ↦ record {
     gone = q;
     left = decisions;
@@ -148,7 +149,7 @@ heaviest_exists weights (q ∷ decisions) names p m held = elim (any_known (λ (
       later = decisions;
       are = refl;
       held = elim (member_cases q decisions p m) [
-        | inl e ↦ subst (λ (z : Pair). Contains names (Decide z.var)) (sym e) held
+        | inl e ↦ subst (λ (z : Pair). Contains cids (Decide z.var)) (sym e) held
         | inr k ↦ absurd (none p k held)
       ];
       heaviest = λ r k h. absurd (member_nil r k);
@@ -157,12 +158,12 @@ heaviest_exists weights (q ∷ decisions) names p m held = elim (any_known (λ (
     };
   }
   | inl r ↦
-      let rest = heaviest_exists weights decisions names r.0 r.1 r.2 in
-      elim (member_known cid_known names (Decide q.var)) [
-        | inr n ↦ lighter_first weights q decisions names rest (λ k. absurd (n k))
+      let rest = heaviest_exists weights decisions cids r.0 r.1 r.2 in
+      elim (member_known cid_known cids (Decide q.var)) [
+        | inr n ↦ lighter_first weights q decisions cids rest (λ k. absurd (n k))
         | inl k ↦ elim (less_or_not (weight_of weights rest.gone.var) (weight_of weights q.var)) [
-          | inl lt ↦ heavier_first weights q decisions names k rest lt
-          | inr le ↦ lighter_first weights q decisions names rest (λ h. le)
+          | inl lt ↦ heavier_first weights q decisions cids k rest lt
+          | inr le ↦ lighter_first weights q decisions cids rest (λ h. le)
         ]
       ]
 ]
@@ -229,7 +230,7 @@ undo_exists : (guided : Bool) (tabu : ℕ) (pick : Pick) (s : RepairState) → 0
 undo_exists guided tabu pick s some few repairing conflict x flat held =
     let engine = s.search.engine in
     let searching = repairing.searching in
-    let is = (flat_grounds engine searching.valid flat.var (Decide x) (flat.is.sound (Decide x) held)).1 in
+    let is = (flat_justifiers engine searching.valid flat.var (Decide x) (flat.is.sound (Decide x) held)).1 in
     let taken = searching.decisions.taken is.owner x is.posted is.named in
     let held' : Contains conflict (Decide taken.0.var) = member_same conflict (Decide x) (Decide taken.0.var) (sym is.named ∙ ap (λ (a : Active). a.cid) taken.2) held in
     let vars = decided_vars conflict in

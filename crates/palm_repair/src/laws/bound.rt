@@ -11,7 +11,7 @@ ghost use Rattle.palm_search.specs.Kept.{HasOnlyUsers};
 ghost use Rattle.palm_repair.specs.Posting.{RepairState};
 ghost use Rattle.palm_repair.specs.Repair.{RepairTurns, Repairs};
 ghost use Rattle.palm_repair.specs.Kept.{IsAtTurn};
-ghost use Rattle.palm_repair.specs.Sets.{most_turns};
+ghost use Rattle.palm_repair.specs.Sets.{most_repair_turns};
 
 /// While nothing is dropped, no later turn begins with all the decisions that stood at an undoing: some pair of them is
 /// decided no more. So no two undoings happen at the same set of decisions.
@@ -27,12 +27,12 @@ pub fn repairs_are_bounded()
     ensures { (guided ordered : Bool) (tabu budget dropped : ℕ) (s t : EngineState) (turns : List Turn)
         (end : SearchEnd)
         → HasOnlyUsers s → IsValid s → Repairs guided ordered tabu budget s turns end dropped t → dropped ≡ 0
-        → length turns < most_turns s.initial }
+        → length turns < most_repair_turns s.initial }
 {}
 
 /// And it spends its budget only where something was dropped or the budget is below that.
 pub fn spent_budgets_are_small()
     ensures { (guided ordered : Bool) (tabu budget spent dropped : ℕ) (s t : EngineState) (turns : List Turn)
         → HasOnlyUsers s → IsValid s → Repairs guided ordered tabu budget s turns (Spent spent) dropped t
-        → (spent ≡ budget) × ((0 < dropped) ⊎ (spent < most_turns s.initial)) }
+        → (spent ≡ budget) × ((0 < dropped) ⊎ (spent < most_repair_turns s.initial)) }
 {}

@@ -72,7 +72,7 @@ flat_same s one other a b =
     let var : a.var ≡ b.var = omega (arith, below, above) in
     listed_once (InFlatConflict s b.var) one other (subst (λ x. IsFlatConflict s x one) var a.is) b.is
 
--- the latest decision among some names is one
+-- the latest decision among some ids is one
 record IsSameLatest (g : Pair) (e l : List Pair) (g' : Pair) (e' l' : List Pair) : Type 0 where
   gone : g ≡ g'
   others : e ++ l ≡ e' ++ l'
@@ -86,35 +86,35 @@ tail_same x y xs ys e = cc
 pub later_member : (e : List Pair) (g : Pair) (l : List Pair) → Contains (e ++ g ∷ l) g
 later_member e g l = Contains-append_right e (g ∷ l) g (member_here g l)
 
-latest_same : (names : List Cid) (e : List Pair) (g : Pair) (l e' : List Pair) (g' : Pair) (l' : List Pair) → e ++ g ∷ l ≡ e' ++ g' ∷ l'
-    → Contains names (Decide g.var) → Contains names (Decide g'.var)
-    → ((p : Pair) → Contains l p → Contains names (Decide p.var) → ⊥) → ((p : Pair) → Contains l' p → Contains names (Decide p.var) → ⊥) → IsSameLatest g e l g' e' l'
-latest_same names [] g l [] g' l' eq held held' none none' = record { gone = head_same g g' l l' eq; others = tail_same g g' l l' eq }
-latest_same names [] g l (x ∷ e') g' l' eq held held' none none' =
+latest_same : (cids : List Cid) (e : List Pair) (g : Pair) (l e' : List Pair) (g' : Pair) (l' : List Pair) → e ++ g ∷ l ≡ e' ++ g' ∷ l'
+    → Contains cids (Decide g.var) → Contains cids (Decide g'.var)
+    → ((p : Pair) → Contains l p → Contains cids (Decide p.var) → ⊥) → ((p : Pair) → Contains l' p → Contains cids (Decide p.var) → ⊥) → IsSameLatest g e l g' e' l'
+latest_same cids [] g l [] g' l' eq held held' none none' = record { gone = head_same g g' l l' eq; others = tail_same g g' l l' eq }
+latest_same cids [] g l (x ∷ e') g' l' eq held held' none none' =
     absurd (none g' (subst (λ k. Contains k g') (sym (tail_same g x l (e' ++ g' ∷ l') eq)) (later_member e' g' l')) held')
-latest_same names (x ∷ e) g l [] g' l' eq held held' none none' =
+latest_same cids (x ∷ e) g l [] g' l' eq held held' none none' =
     absurd (none' g (subst (λ k. Contains k g) (tail_same x g' (e ++ g ∷ l) l' eq) (later_member e g l)) held)
-latest_same names (x ∷ e) g l (y ∷ e') g' l' eq held held' none none' =
-    let rest = latest_same names e g l e' g' l' (tail_same x y (e ++ g ∷ l) (e' ++ g' ∷ l') eq) held held' none none' in
+latest_same cids (x ∷ e) g l (y ∷ e') g' l' eq held held' none none' =
+    let rest = latest_same cids e g l e' g' l' (tail_same x y (e ++ g ∷ l) (e' ++ g' ∷ l') eq) held held' none none' in
     let first = head_same x y (e ++ g ∷ l) (e' ++ g' ∷ l') eq in
     record { gone = rest.gone; others = λ i. first i ∷ rest.others i }
 
-is_latest_same : (decisions : List Pair) (names : List Cid) (g : Pair) (left : List Pair) (g' : Pair) (left' : List Pair) → IsLatest decisions names g left → IsLatest decisions names g' left' → (g ≡ g') × (left ≡ left')
-is_latest_same decisions names g left g' left' one two =
-    let same = latest_same names one.earlier g one.later two.earlier g' two.later (sym one.are ∙ two.are) one.held two.held one.latest two.latest in
+is_latest_same : (decisions : List Pair) (cids : List Cid) (g : Pair) (left : List Pair) (g' : Pair) (left' : List Pair) → IsLatest decisions cids g left → IsLatest decisions cids g' left' → (g ≡ g') × (left ≡ left')
+is_latest_same decisions cids g left g' left' one two =
+    let same = latest_same cids one.earlier g one.later two.earlier g' two.later (sym one.are ∙ two.are) one.held two.held one.latest two.latest in
     (same.gone, one.others ∙ same.others ∙ sym two.others)
 
 undoes_same : (s : SearchState) → (g : Pair) (c : List Cid) (t : SearchState) (g' : Pair) (c' : List Cid) (u : SearchState) → Undoes s g c t → Undoes s g' c' u → IsSameTurn (TurnUndo g c) t (TurnUndo g' c') u
 undoes_same s g c t g' c' u one two =
-    let names : c ≡ c' = flat_same s.engine c c' one.flat two.flat in
-    let latest : IsLatest s.decisions c' g t.decisions = subst (λ k. IsLatest s.decisions k g t.decisions) names one.latest in
+    let cids : c ≡ c' = flat_same s.engine c c' one.flat two.flat in
+    let latest : IsLatest s.decisions c' g t.decisions = subst (λ k. IsLatest s.decisions k g t.decisions) cids one.latest in
     let same = is_latest_same s.decisions c' g t.decisions g' u.decisions latest two.latest in
     let gone : g ≡ g' = same.0 in
     let withdraws : Withdraws s.engine (Decide g'.var) one.middle = subst (λ (p : Pair). Withdraws s.engine (Decide p.var) one.middle) gone one.withdraws in
     let middles : one.middle ≡ two.middle = withdrawal_same s.engine (gone_with s.engine.active (Decide g'.var)) one.middle two.middle withdraws two.withdraws in
-    let engines : t.engine ≡ u.engine = one.posts.after ∙ (λ i. posted (middles i) (negation_of (gone i) (without_cid (Decide (gone i).var) (names i)))) ∙ sym two.posts.after in
+    let engines : t.engine ≡ u.engine = one.posts.after ∙ (λ i. posted (middles i) (negation_of (gone i) (without_cid (Decide (gone i).var) (cids i)))) ∙ sym two.posts.after in
     record {
-      same = λ i. TurnUndo (gone i) (names i);
+      same = λ i. TurnUndo (gone i) (cids i);
       state = λ i. record { engine = engines i; decisions = same.1 i };
     }
 

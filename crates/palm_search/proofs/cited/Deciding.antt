@@ -10,11 +10,11 @@ use Rattle.palm_model.specs.Domains.{Domains, Has}
 use Rattle.palm_model.specs.Constraint.{Distinct}
 use Rattle.palm_model.proofs.cited.Without.{without_has}
 use Rattle.palm_model.specs.Log.{Active, IsActive, cids_of, is_named, log_pairs}
-use Rattle.palm_model.specs.State.{EngineState, IsValid, IsGround, FitsName, present, decision_of, negation_of}
+use Rattle.palm_model.specs.State.{EngineState, IsValid, IsJustifier, FitsCid, present, decision_of, negation_of}
 use Rattle.palm_search.specs.declared.turn.Pick.{Pick}
-use Rattle.palm_model.specs.Event.{with_posted, without_names, gone_with, vars_of}
+use Rattle.palm_model.specs.Event.{with_posted, without_cids, gone_with, vars_of}
 use Rattle.palm_events.proofs.cited.Names.{named_member}
-use Rattle.palm_events.proofs.cited.States.{with_posted_cases, with_posted_here, member_with_posted, without_names_member, member_without_names, held_not_ground}
+use Rattle.palm_events.proofs.cited.States.{with_posted_cases, with_posted_here, member_with_posted, without_cids_member, member_without_cids, held_not_justifier}
 use Rattle.palm_search.specs.Turns.{SearchState, IsDecided, Decides, Undoes}
 use Rattle.palm_search.specs.declared.turn.Pick.TheVariants.{NoGuide, Nothing, Asked}
 use Rattle.palm_search.specs.Kept.{HasDecisions, HasDeclared}
@@ -81,18 +81,18 @@ decided_has s p engine e inactive has = record {
 
 -- ---- undoing
 
--- what goes with a ground is no other ground
-pub ground_stays : (n : ℕ) (active : List Active) (cid : Cid) → ((a : Active) → Contains active a → FitsName n active a) → (c : Cid) → IsGround c → (c ≡ cid → ⊥) → Contains (gone_with active cid) c → ⊥
-ground_stays n active cid formed c ground ne m = elim (member_cases cid (cids_of (filter (λ b. is_named b.because cid) active)) c m) [
+-- what goes with a justifier is no other justifier
+pub justifier_stays : (n : ℕ) (active : List Active) (cid : Cid) → ((a : Active) → Contains active a → FitsCid n active a) → (c : Cid) → IsJustifier c → (c ≡ cid → ⊥) → Contains (gone_with active cid) c → ⊥
+justifier_stays n active cid formed c justifier ne m = elim (member_cases cid (cids_of (filter (λ b. is_named b.justification cid) active)) c m) [
   | inl e ↦ ne (sym e)
   | inr k ↦
-      let r = member_unmap (λ (b : Active). b.cid) (filter (λ b. is_named b.because cid) active) c k in
-      let f = filter_member (λ (b : Active). is_named b.because cid) active r.0 r.1 in
-      held_not_ground n active r.0 cid (formed r.0 f.0) (named_member r.0.because cid f.1) (subst IsGround (sym r.2) ground)
+      let r = member_unmap (λ (b : Active). b.cid) (filter (λ b. is_named b.justification cid) active) c k in
+      let f = filter_member (λ (b : Active). is_named b.justification cid) active r.0 r.1 in
+      held_not_justifier n active r.0 cid (formed r.0 f.0) (named_member r.0.justification cid f.1) (subst IsJustifier (sym r.2) justifier)
 ]
 
 pub gone_itself : (active : List Active) (cid : Cid) → Contains (gone_with active cid) cid
-gone_itself active cid = member_here cid (cids_of (filter (λ b. is_named b.because cid) active))
+gone_itself active cid = member_here cid (cids_of (filter (λ b. is_named b.justification cid) active))
 
 -- the decisions but one
 pub latest_vars : (s : SearchState) (earlier later : List Pair) (gone : Pair) → s.decisions ≡ earlier ++ gone ∷ later → Distinct (vars_of s.decisions) → IsWithoutOne (vars_of earlier) (vars_of later) gone.var
@@ -117,7 +117,7 @@ taken_others earlier later gone p ne m = elim (Contains-append_cases earlier (go
 
 -- without one of its decisions, which is withdrawn, a search has the others
 pub withdrawn_has : (s : SearchState) (gone : Pair) (earlier later : List Pair) (engine : EngineState) → s.decisions ≡ earlier ++ gone ∷ later
-    → engine.active ≡ without_names (gone_with s.engine.active (Decide gone.var)) s.engine.active → IsValid s.engine → HasDecisions s → HasDecisions (record { engine = engine; decisions = earlier ++ later })
+    → engine.active ≡ without_cids (gone_with s.engine.active (Decide gone.var)) s.engine.active → IsValid s.engine → HasDecisions s → HasDecisions (record { engine = engine; decisions = earlier ++ later })
 withdrawn_has s gone earlier later engine e ee valid has =
     let vars = latest_vars s earlier later gone e has.distinct in
     record {
@@ -125,11 +125,11 @@ withdrawn_has s gone earlier later engine e ee valid has =
           let taken : Contains s.decisions q = subst (λ l. Contains l q) (sym e) (others_taken earlier later gone q m) in
           let other : Decide q.var ≡ Decide gone.var → ⊥ = λ f. vars.lacks (subst (λ l. Contains l gone.var) (map-append (λ (p : Pair). p.var) earlier later)
           (member_same (vars_of (earlier ++ later)) q.var gone.var (decide_same q.var gone.var f) (member_map (λ (p : Pair). p.var) (earlier ++ later) q m))) in
-          let stays = ground_stays (length s.engine.initial) s.engine.active (Decide gone.var) valid.formed (Decide q.var) tt other in
+          let stays = justifier_stays (length s.engine.initial) s.engine.active (Decide gone.var) valid.formed (Decide q.var) tt other in
           subst (λ l. Contains l (decision_of q)) (sym ee)
-          (member_without_names (gone_with s.engine.active (Decide gone.var)) s.engine.active (decision_of q) (has.active q taken) stays);
+          (member_without_cids (gone_with s.engine.active (Decide gone.var)) s.engine.active (decision_of q) (has.active q taken) stays);
       taken = λ a x m named.
-          let old = without_names_member (gone_with s.engine.active (Decide gone.var)) s.engine.active a (subst (λ l. Contains l a) ee m) in
+          let old = without_cids_member (gone_with s.engine.active (Decide gone.var)) s.engine.active a (subst (λ l. Contains l a) ee m) in
           let r = has.taken a x old.0 named in
           let other : gone ≡ r.0 → ⊥ = λ f. old.1 (member_same (gone_with s.engine.active (Decide gone.var)) (Decide gone.var) a.cid
           (ap (λ (p : Pair). Decide p.var) f ∙ sym (ap (λ (b : Active). b.cid) r.2)) (gone_itself s.engine.active (Decide gone.var))) in
@@ -214,7 +214,7 @@ undoes_declared s gone conflict t turn declared =
       negated = λ a q m named. subst (λ d. Has d q.var q.value) (sym ei) (elim (with_posted_cases (negation_of gone _) turn.middle.active a (subst (λ (z : EngineState). Contains z.active a) turn.posts.after m)) [
         | inl e ↦ subst (λ (z : Pair). Has s.engine.initial z.var z.value) (negation_same gone q (ap (λ (b : Active). b.cid) e ∙ named))
             (declared.decided gone (subst (λ l. Contains l gone) (sym latest.are) (Contains-append_right latest.earlier (gone ∷ latest.later) gone (member_here gone latest.later))))
-        | inr k ↦ declared.negated a q (without_names_member (gone_with s.engine.active (Decide gone.var)) s.engine.active a (subst (λ (z : EngineState). Contains z.active a) turn.withdraws.after k)).0 named
+        | inr k ↦ declared.negated a q (without_cids_member (gone_with s.engine.active (Decide gone.var)) s.engine.active a (subst (λ (z : EngineState). Contains z.active a) turn.withdraws.after k)).0 named
       ]);
     }
 

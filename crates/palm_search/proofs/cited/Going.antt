@@ -10,8 +10,8 @@ use Rattle.palm_base.proofs.cited.Members.{Known, member_nil, member_here, membe
 use Rattle.palm_model.specs.Domains.{Domains, Has, Ascends, AllAscend, values_of}
 use Rattle.palm_model.specs.Part.{parts}
 use Rattle.palm_model.specs.Log.{Active, IsActive, log_pairs}
-use Rattle.palm_model.specs.State.{EngineState, IsValid, IsEmptyAt, AllFilled, FitsName, IsOfForm, AreGrounds, present, without_cid, is_user, decision_of, negation_of}
-use Rattle.palm_model.specs.Event.{gone_with, posted, without_names, vars_of}
+use Rattle.palm_model.specs.State.{EngineState, IsValid, IsEmptyAt, AllFilled, FitsCid, IsOfForm, AreJustifiers, present, without_cid, is_user, decision_of, negation_of}
+use Rattle.palm_model.specs.Event.{gone_with, posted, without_cids, vars_of}
 use Rattle.palm_model.specs.declared.constraint.Con.{Con}
 use Rattle.palm_model.specs.declared.constraint.Con.TheVariants.{CompareConst}
 use Rattle.palm_model.specs.declared.constraint.Op.TheVariants.{Eq, Ne}
@@ -20,10 +20,10 @@ use Rattle.palm_model.proofs.cited.Ascending.{ascends_at}
 use Rattle.palm_model.proofs.cited.Without.{length_without, ascend_without}
 use Rattle.palm_events.specs.Along.{IsStill}
 use Rattle.palm_events.specs.Reasons.{ReasonsAreRight}
-use Rattle.palm_events.proofs.cited.Names.{cid_known}
-use Rattle.palm_events.proofs.cited.States.{with_posted_cases, without_names_member, member_without_names, without_cid_member}
+use Rattle.palm_base.proofs.cited.CidOrder.{cid_known}
+use Rattle.palm_events.proofs.cited.States.{with_posted_cases, without_cids_member, member_without_cids, without_cid_member}
 use Rattle.palm_events.proofs.cited.Outcomes.{withdrawal_exists, flat_listed}
-use Rattle.palm_events.proofs.cited.Conflicts.{flat_grounds}
+use Rattle.palm_events.proofs.cited.Conflicts.{flat_justifiers}
 use Rattle.palm_engine.specs.Settling.{Revision, FitsOrder}
 use Rattle.palm_engine.proofs.cited.Settled.{plainly_exists, settling_filters}
 use Rattle.palm_engine.proofs.cited.Walking.{empty_or_filled, not_empty}
@@ -38,7 +38,7 @@ use Rattle.palm_search.specs.Search.{IsFound, GoesOn, EndsWith, SearchRun, IsPic
 use Rattle.palm_search.specs.declared.ending.SearchEnd.TheVariants.{Found, NoSolution, Spent}
 use Rattle.palm_search.specs.Search.GoesOn.{could_decide, could_undo}
 use Rattle.palm_search.specs.Kept.{HasDecisions, HasNoneNegated, HasOnlyUsers, IsSearching}
-use Rattle.palm_search.proofs.cited.Deciding.{ground_stays, latest_vars, others_taken}
+use Rattle.palm_search.proofs.cited.Deciding.{justifier_stays, latest_vars, others_taken}
 use Rattle.palm_search.proofs.cited.Keeping.{begins, takes_keep, settles_keep}
 use Rattle.palm_search.proofs.cited.Leaving.{settles_still}
 
@@ -70,16 +70,16 @@ quiet_decided s valid quiet p m v has =
     let s' = closed (CompareConstPart p.var Eq p.value) (member_here (CompareConstPart p.var Eq p.value) []) p.var v (member_here p.var []) has in
     sym s'.gives ∙ s'.holds
 
-negation_con : (n : ℕ) (active : List Active) (cid : Cid) (con : Con) (because : List Cid) (p : Pair) → cid ≡ Not p → IsOfForm n active cid con because → con ≡ CompareConst p.var Ne p.value
-negation_con n active (Decide x) con because p e form = absurd (apart x p e)
+negation_con : (n : ℕ) (active : List Active) (cid : Cid) (con : Con) (justification : List Cid) (p : Pair) → cid ≡ Not p → IsOfForm n active cid con justification → con ≡ CompareConst p.var Ne p.value
+negation_con n active (Decide x) con justification p e form = absurd (apart x p e)
   where
     apart : (x : ℕ) (p : Pair) → Decide x ≡ Not p → ⊥
     apart x p e = cc
-negation_con n active (Not q) con because p e form = form.0 ∙ ap (λ (r : Pair). CompareConst r.var Ne r.value) (same q p e)
+negation_con n active (Not q) con justification p e form = form.0 ∙ ap (λ (r : Pair). CompareConst r.var Ne r.value) (same q p e)
   where
     same : (q p : Pair) → Not q ≡ Not p → q ≡ p
     same q p e = cc
-negation_con n active (User k) con because p e form = absurd (apart k p e)
+negation_con n active (User k) con justification p e form = absurd (apart k p e)
   where
     apart : (k : ℕ) (p : Pair) → User k ≡ Not p → ⊥
     apart k p e = cc
@@ -88,7 +88,7 @@ negation_con n active (User k) con because p e form = absurd (apart k p e)
 pub quiet_negated : (s : EngineState) → IsValid s → s.pending ≡ [] → (p : Pair) → Has (present s) p.var p.value → IsActive s.active (Not p) → ⊥
 quiet_negated s valid quiet p has is =
     let a = is.owner in
-    let con = negation_con (length s.initial) s.active a.cid a.con a.because p is.named (valid.formed a is.posted).form in
+    let con = negation_con (length s.initial) s.active a.cid a.con a.justification p is.named (valid.formed a is.posted).form in
     let closed = valid.closed a is.posted (λ k. member_nil a.cid (subst (λ l. Contains l a.cid) quiet k)) in
     let is_part = subst (λ d. Contains (parts d) (CompareConstPart p.var Ne p.value)) (sym con) (member_here (CompareConstPart p.var Ne p.value) []) in
     let s' = closed (CompareConstPart p.var Ne p.value) is_part p.var p.value (member_here p.var []) has in
@@ -280,26 +280,26 @@ decide_exists guided pick s fits searching none quiet filled x is_open lowest =
 
 -- ---- an undoing
 
-pub vars_member : (names : List Cid) (x : ℕ) → Contains (decided_vars names) x → Contains names (Decide x)
+pub vars_member : (cids : List Cid) (x : ℕ) → Contains (decided_vars cids) x → Contains cids (Decide x)
 vars_member [] x m = absurd (member_nil x m)
-vars_member (Decide y ∷ names) x m = elim (member_cases y (decided_vars names) x m) [
-  | inl e ↦ member_same (Decide y ∷ names) (Decide y) (Decide x) (ap Decide e) (member_here (Decide y) names)
-  | inr k ↦ member_there (Decide y) names (Decide x) (vars_member names x k)
+vars_member (Decide y ∷ cids) x m = elim (member_cases y (decided_vars cids) x m) [
+  | inl e ↦ member_same (Decide y ∷ cids) (Decide y) (Decide x) (ap Decide e) (member_here (Decide y) cids)
+  | inr k ↦ member_there (Decide y) cids (Decide x) (vars_member cids x k)
 ]
-vars_member (Not p ∷ names) x m = member_there (Not p) names (Decide x) (vars_member names x m)
-vars_member (User n ∷ names) x m = member_there (User n) names (Decide x) (vars_member names x m)
+vars_member (Not p ∷ cids) x m = member_there (Not p) cids (Decide x) (vars_member cids x m)
+vars_member (User n ∷ cids) x m = member_there (User n) cids (Decide x) (vars_member cids x m)
 
--- the latest decision that the names hold
-record LatestOf (decisions : List Pair) (names : List Cid) : Type 0 where
+-- the latest decision that the ids hold
+record LatestOf (decisions : List Pair) (cids : List Cid) : Type 0 where
   gone : Pair
   left : List Pair
-  latest : IsLatest decisions names gone left
+  latest : IsLatest decisions cids gone left
 
-latest_exists : (decisions : List Pair) (names : List Cid) (p : Pair) → Contains decisions p → Contains names (Decide p.var) → LatestOf decisions names
-latest_exists [] names p m held = absurd (member_nil p m)
-latest_exists (q ∷ decisions) names p m held = elim (any_known (λ (r : Pair). Contains names (Decide r.var)) decisions (λ r k. member_known cid_known names (Decide r.var))) [
+latest_exists : (decisions : List Pair) (cids : List Cid) (p : Pair) → Contains decisions p → Contains cids (Decide p.var) → LatestOf decisions cids
+latest_exists [] cids p m held = absurd (member_nil p m)
+latest_exists (q ∷ decisions) cids p m held = elim (any_known (λ (r : Pair). Contains cids (Decide r.var)) decisions (λ r k. member_known cid_known cids (Decide r.var))) [
   | inl r ↦
-      let rest = latest_exists decisions names r.0 r.1 r.2 in
+      let rest = latest_exists decisions cids r.0 r.1 r.2 in
       let l = rest.latest in
       record {
         gone = rest.gone;
@@ -321,7 +321,7 @@ latest_exists (q ∷ decisions) names p m held = elim (any_known (λ (r : Pair).
       later = decisions;
       are = refl;
       held = elim (member_cases q decisions p m) [
-        | inl e ↦ subst (λ (z : Pair). Contains names (Decide z.var)) (sym e) held
+        | inl e ↦ subst (λ (z : Pair). Contains cids (Decide z.var)) (sym e) held
         | inr k ↦ absurd (none p k held)
       ];
       latest = none;
@@ -330,40 +330,40 @@ latest_exists (q ∷ decisions) names p m held = elim (any_known (λ (r : Pair).
   }
 ]
 
-decided_form : (n : ℕ) (active : List Active) (p : Pair) → FitsName n active (decision_of p) → p.var < n
+decided_form : (n : ℕ) (active : List Active) (p : Pair) → FitsCid n active (decision_of p) → p.var < n
 decided_form n active p formed = let lt = formed.form.2 in lt
 
-others_decided : (decisions : List Pair) (names : List Cid) (gone : Pair) (left : List Pair) → IsLatest decisions names gone left → (p : Pair) → Contains left p → Contains decisions p
-others_decided decisions names gone left latest p m =
+others_decided : (decisions : List Pair) (cids : List Cid) (gone : Pair) (left : List Pair) → IsLatest decisions cids gone left → (p : Pair) → Contains left p → Contains decisions p
+others_decided decisions cids gone left latest p m =
     subst (λ l. Contains l p) (sym latest.are) (others_taken latest.earlier latest.later gone p (subst (λ l. Contains l p) latest.others m))
 
-others_apart : (s : SearchState) → HasDecisions s → (names : List Cid) (gone : Pair) (left : List Pair) → IsLatest s.decisions names gone left → (p : Pair) → Contains left p → gone ≡ p → ⊥
-others_apart s has names gone left latest p m e =
+others_apart : (s : SearchState) → HasDecisions s → (cids : List Cid) (gone : Pair) (left : List Pair) → IsLatest s.decisions cids gone left → (p : Pair) → Contains left p → gone ≡ p → ⊥
+others_apart s has cids gone left latest p m e =
     let vars = latest_vars s latest.earlier latest.later gone latest.are has.distinct in
     vars.lacks (subst (λ l. Contains l gone.var) (map-append (λ (q : Pair). q.var) latest.earlier latest.later)
     (member_same (vars_of (latest.earlier ++ latest.later)) p.var gone.var (sym (ap (λ (q : Pair). q.var) e))
     (member_map (λ (q : Pair). q.var) (latest.earlier ++ latest.later) p (subst (λ l. Contains l p) latest.others m))))
 
 -- a negation that is active after the withdrawal was so before it
-pub negation_before : (s : SearchState) (gone : Pair) (middle : EngineState) → middle.active ≡ without_names (gone_with s.engine.active (Decide gone.var)) s.engine.active → (p : Pair) → IsActive middle.active (Not p) → IsActive s.engine.active (Not p)
+pub negation_before : (s : SearchState) (gone : Pair) (middle : EngineState) → middle.active ≡ without_cids (gone_with s.engine.active (Decide gone.var)) s.engine.active → (p : Pair) → IsActive middle.active (Not p) → IsActive s.engine.active (Not p)
 negation_before s gone middle same p is = record {
   owner = is.owner;
-  posted = (without_names_member (gone_with s.engine.active (Decide gone.var)) s.engine.active is.owner (subst (λ l. Contains l is.owner) same is.posted)).0;
+  posted = (without_cids_member (gone_with s.engine.active (Decide gone.var)) s.engine.active is.owner (subst (λ l. Contains l is.owner) same is.posted)).0;
   named = is.named;
 }
 
 -- the rest of the flat conflict is active after the withdrawal
-pub rest_grounds : (s : SearchState) → IsValid s.engine → (gone : Pair) (conflict : List Cid) → HasFlatConflict s.engine conflict → (middle : EngineState) → middle.active ≡ without_names (gone_with s.engine.active (Decide gone.var)) s.engine.active
-    → AreGrounds middle.active (without_cid (Decide gone.var) conflict)
-rest_grounds s valid gone conflict flat middle same c m =
+pub rest_justifiers : (s : SearchState) → IsValid s.engine → (gone : Pair) (conflict : List Cid) → HasFlatConflict s.engine conflict → (middle : EngineState) → middle.active ≡ without_cids (gone_with s.engine.active (Decide gone.var)) s.engine.active
+    → AreJustifiers middle.active (without_cid (Decide gone.var) conflict)
+rest_justifiers s valid gone conflict flat middle same c m =
     let r = without_cid_member (Decide gone.var) conflict c m in
-    let g = flat_grounds s.engine valid flat.var c (flat.is.sound c r.0) in
-    let stays = ground_stays (length s.engine.initial) s.engine.active (Decide gone.var) valid.formed c g.0 r.1 in
+    let g = flat_justifiers s.engine valid flat.var c (flat.is.sound c r.0) in
+    let stays = justifier_stays (length s.engine.initial) s.engine.active (Decide gone.var) valid.formed c g.0 r.1 in
     let o = g.1 in (
       g.0,
       record {
         owner = o.owner;
-        posted = subst (λ l. Contains l o.owner) (sym same) (member_without_names (gone_with s.engine.active (Decide gone.var)) s.engine.active o.owner o.posted (λ k. stays (member_same (gone_with s.engine.active (Decide gone.var)) o.owner.cid c o.named k)));
+        posted = subst (λ l. Contains l o.owner) (sym same) (member_without_cids (gone_with s.engine.active (Decide gone.var)) s.engine.active o.owner o.posted (λ k. stays (member_same (gone_with s.engine.active (Decide gone.var)) o.owner.cid c o.named k)));
         named = o.named;
       },
     )
@@ -371,9 +371,9 @@ rest_grounds s valid gone conflict flat middle same c m =
 -- an undoing negates a pair that is decided no longer
 pub undoes_unnegated : (s : SearchState) (gone : Pair) (conflict : List Cid) (t : SearchState) → Undoes s gone conflict t → HasDecisions s → HasNoneNegated s → HasNoneNegated t
 undoes_unnegated s gone conflict t turn has none p m is =
-    let because = without_cid (Decide gone.var) conflict in
-    let same : turn.middle.active ≡ without_names (gone_with s.engine.active (Decide gone.var)) s.engine.active = ap (λ (z : EngineState). z.active) turn.withdraws.after in
-    elim (with_posted_cases (negation_of gone because) turn.middle.active is.owner (subst (λ (z : EngineState). Contains z.active is.owner) turn.posts.after is.posted)) [
+    let justification = without_cid (Decide gone.var) conflict in
+    let same : turn.middle.active ≡ without_cids (gone_with s.engine.active (Decide gone.var)) s.engine.active = ap (λ (z : EngineState). z.active) turn.withdraws.after in
+    elim (with_posted_cases (negation_of gone justification) turn.middle.active is.owner (subst (λ (z : EngineState). Contains z.active is.owner) turn.posts.after is.posted)) [
       | inl e ↦ others_apart s has conflict gone t.decisions turn.latest p m (same_negated gone p (ap (λ (a : Active). a.cid) e ∙ is.named))
       | inr k ↦ none p (others_decided s.decisions conflict gone t.decisions turn.latest p m) (negation_before s gone turn.middle same p (record { owner = is.owner; posted = k; named = is.named }))
     ]
@@ -384,7 +384,7 @@ undoes_unnegated s gone conflict t turn has none p m is =
 undo_exists : (guided : Bool) (pick : Pick) (s : SearchState) → IsSearching s → HasNoneNegated s → (conflict : List Cid) (x : ℕ) → HasFlatConflict s.engine conflict → Contains conflict (Decide x) → TakesSome guided pick s
 undo_exists guided pick s searching none conflict x flat held =
     let valid = searching.valid in
-    let is = (flat_grounds s.engine valid flat.var (Decide x) (flat.is.sound (Decide x) held)).1 in
+    let is = (flat_justifiers s.engine valid flat.var (Decide x) (flat.is.sound (Decide x) held)).1 in
     let taken = searching.decisions.taken is.owner x is.posted is.named in
     let held' : Contains conflict (Decide taken.0.var) = member_same conflict (Decide x) (Decide taken.0.var) (sym is.named ∙ ap (λ (a : Active). a.cid) taken.2) held in
     let found = latest_exists s.decisions conflict taken.0 taken.1 held' in
@@ -392,10 +392,10 @@ undo_exists guided pick s searching none conflict x flat held =
     let in_decisions : Contains s.decisions gone = subst (λ l. Contains l gone) (sym found.latest.are) (gone_taken found.latest.earlier found.latest.later gone) in
     let w = withdrawal_exists s.engine (gone_with s.engine.active (Decide gone.var)) valid in
     let middle = w.0 in
-    let same : middle.active ≡ without_names (gone_with s.engine.active (Decide gone.var)) s.engine.active = ap (λ (z : EngineState). z.active) w.1.after in
+    let same : middle.active ≡ without_cids (gone_with s.engine.active (Decide gone.var)) s.engine.active = ap (λ (z : EngineState). z.active) w.1.after in
     let initial : middle.initial ≡ s.engine.initial = ap (λ (z : EngineState). z.initial) w.1.after in
-    let because = without_cid (Decide gone.var) conflict in
-    let t : SearchState = record { engine = posted middle (negation_of gone because); decisions = found.left } in
+    let justification = without_cid (Decide gone.var) conflict in
+    let t : SearchState = record { engine = posted middle (negation_of gone justification); decisions = found.left } in
     let undoes : Undoes s gone conflict t = record {
       flat = flat;
       latest = found.latest;
@@ -407,7 +407,7 @@ undo_exists guided pick s searching none conflict x flat held =
           form = (
             refl,
             subst (λ d. gone.var < length d) (sym initial) (decided_form (length s.engine.initial) s.engine.active gone (valid.formed (decision_of gone) (searching.decisions.active gone in_decisions))),
-            rest_grounds s valid gone conflict flat middle same,
+            rest_justifiers s valid gone conflict flat middle same,
           );
         };
         after = refl;

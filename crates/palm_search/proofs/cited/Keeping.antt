@@ -9,7 +9,7 @@ use Rattle.palm_model.specs.Part.{Holds, Satisfies}
 use Rattle.palm_model.specs.Closure.{IsSolution}
 use Rattle.palm_model.specs.Log.{Active, Named}
 use Rattle.palm_model.specs.State.{EngineState, IsValid, without_cid, is_user, decision_of, negation_of}
-use Rattle.palm_model.specs.Event.{Step, Runs, without_names, gone_with}
+use Rattle.palm_model.specs.Event.{Step, Runs, without_cids, gone_with}
 use Rattle.palm_model.specs.Event.Event.{Post, Withdraw, Remove}
 use Rattle.palm_model.specs.Event.Step.{Happens, Calm, Declare}
 use Rattle.palm_model.specs.Conflict.{InFlatConflict, IsFlatConflict, IsJustified, AreJustified}
@@ -20,11 +20,12 @@ use Rattle.palm_events.specs.Along.{IsFiltering, IsJustifiedPosting}
 use Rattle.palm_events.specs.Reasons.{ReasonsAreRight}
 use Rattle.std.proofs.lemmas.Bool.{false≢true}
 use Rattle.std.proofs.lemmas.List.Elements.{All-head, All-tail, Contains-append_right}
-use Rattle.palm_events.proofs.cited.Names.{cid_known, single}
-use Rattle.palm_events.proofs.cited.States.{member_without_names, member_without_cid}
+use Rattle.palm_base.proofs.cited.CidOrder.{cid_known}
+use Rattle.palm_events.proofs.cited.Names.{single}
+use Rattle.palm_events.proofs.cited.States.{member_without_cids, member_without_cid}
 use Rattle.palm_events.proofs.cited.Valid.{posts_valid, withdraws_valid}
 use Rattle.palm_events.proofs.cited.Runs.{step_valid}
-use Rattle.palm_events.proofs.cited.Conflicts.{flat_unsolved, flat_grounds, step_justified}
+use Rattle.palm_events.proofs.cited.Conflicts.{flat_unsolved, flat_justifiers, step_justified}
 use Rattle.palm_engine.specs.Settling.{Filters}
 use Rattle.palm_engine.proofs.cited.Settled.{settling_filters, filters_valid}
 use Rattle.palm_search.specs.declared.turn.Pick.{Pick}
@@ -33,7 +34,7 @@ use Rattle.palm_search.specs.declared.turn.Turn.TheVariants.{Decide as TurnDecid
 use Rattle.palm_search.specs.Turns.{SearchState, Decides, Undoes, Takes, SettlesAfter, Follows, Turns}
 use Rattle.palm_search.specs.Search.{begun}
 use Rattle.palm_search.specs.Kept.{HasOnlyUsers, IsSearching}
-use Rattle.palm_search.proofs.cited.Deciding.{decides_has, undoes_has, settles_has, decides_declared, undoes_declared, settles_declared, ground_stays, not_negation}
+use Rattle.palm_search.proofs.cited.Deciding.{decides_has, undoes_has, settles_has, decides_declared, undoes_declared, settles_declared, justifier_stays, not_negation}
 
 -- ---- filtering
 
@@ -84,7 +85,7 @@ satisfies_negation b p n part m = subst (λ q. Holds q b) (member_single (Compar
 
 -- what satisfies the rest of the flat conflict and the decision satisfies all of it
 rest_solves : (s : SearchState) (gone : Pair) (conflict : List Cid) (x : ℕ) (middle : EngineState) → IsSearching s → Contains s.decisions gone → IsFlatConflict s.engine x conflict
-    → middle.initial ≡ s.engine.initial → middle.active ≡ without_names (gone_with s.engine.active (Decide gone.var)) s.engine.active → (b : Assignment) → b gone.var ≡ gone.value
+    → middle.initial ≡ s.engine.initial → middle.active ≡ without_cids (gone_with s.engine.active (Decide gone.var)) s.engine.active → (b : Assignment) → b gone.var ≡ gone.value
     → IsSolution middle.initial (Named middle.active (Contains (without_cid (Decide gone.var) conflict))) b → IsSolution s.engine.initial (Named s.engine.active (InFlatConflict s.engine x)) b
 rest_solves s gone conflict x middle searching taken flat ei ea b at solution = record {
   within = subst (λ d. (y : ℕ) → y < length d → Has d y (b y)) ei solution.within;
@@ -95,11 +96,11 @@ rest_solves s gone conflict x middle searching taken flat ei ea b at solution = 
             let same : decision_of gone ≡ a = single s.engine.active searching.valid.rising (decision_of gone) a (searching.decisions.active gone taken) named.posted (sym e) in
             subst (λ (d : Active). Satisfies b d.con) same (satisfies_decision b gone at)
         | inr ne ↦
-            let ground = (flat_grounds s.engine searching.valid x a.cid named.named).0 in
-            let stays = ground_stays (length s.engine.initial) s.engine.active (Decide gone.var) searching.valid.formed a.cid ground ne in
+            let justifier = (flat_justifiers s.engine searching.valid x a.cid named.named).0 in
+            let stays = justifier_stays (length s.engine.initial) s.engine.active (Decide gone.var) searching.valid.formed a.cid justifier ne in
             solution.satisfies a.con (record {
               owner = a;
-              posted = subst (λ l. Contains l a) (sym ea) (member_without_names (gone_with s.engine.active (Decide gone.var)) s.engine.active a named.posted stays);
+              posted = subst (λ l. Contains l a) (sym ea) (member_without_cids (gone_with s.engine.active (Decide gone.var)) s.engine.active a named.posted stays);
               is = refl;
               named = member_without_cid (Decide gone.var) conflict a.cid (flat.whole a.cid named.named) ne;
             })

@@ -11,13 +11,13 @@ use Rattle.palm_model.specs.Closure.{IsSolution}
 use Rattle.palm_model.specs.Trial.{listed}
 use Rattle.palm_model.specs.Log.{Active, IsActive, Named, cons_of}
 use Rattle.palm_events.proofs.cited.Names.{single}
-use Rattle.palm_model.specs.State.{EngineState, IsValid, IsGround, FitsName, present, is_user, decision_of, negation_of}
+use Rattle.palm_model.specs.State.{EngineState, IsValid, IsJustifier, FitsCid, present, is_user, decision_of, negation_of}
 use Rattle.palm_model.specs.Event.{Posts, WithdrawsAll, Step, gone_with}
 use Rattle.palm_model.specs.Event.Event.{Withdraw}
 use Rattle.palm_model.specs.Event.Step.{Happens}
-use Rattle.palm_events.specs.Along.{IsStill, IsNew, AreNew, KeepsGrounds, KeepsAll, IsFiltering}
+use Rattle.palm_events.specs.Along.{IsStill, IsNew, AreNew, KeepsJustifiers, KeepsAll, IsFiltering}
 use Rattle.palm_events.specs.Reasons.{ReasonsAreRight}
-use Rattle.palm_events.proofs.cited.States.{with_posted_cases, member_with_posted, without_names_member, member_without_names, held_not_ground, gone_grounds}
+use Rattle.palm_events.proofs.cited.States.{with_posted_cases, member_with_posted, without_cids_member, member_without_cids, held_not_justifier, gone_justifiers}
 use Rattle.palm_events.proofs.cited.Valid.{posts_valid, withdraws_all_valid}
 use Rattle.palm_events.proofs.cited.Undone.{active_same, Carries, carries_none, carries_posted, carries_withdrawn, gone_later, run_carries, carried_log}
 use Rattle.palm_engine.specs.Settling.{Filters}
@@ -28,7 +28,7 @@ use Rattle.palm_search.specs.Turns.{SearchState, Takes, Undoes, SettlesAfter, Tu
 use Rattle.palm_search.specs.declared.ending.SearchEnd.{SearchEnd}
 use Rattle.palm_search.specs.Search.{SearchRun, Closes, Searches, HasNoSolution, IsFound, begun, search_cids}
 use Rattle.palm_search.specs.Kept.{HasOnlyUsers, IsSearching, Rests}
-use Rattle.palm_search.proofs.cited.Deciding.{ground_stays}
+use Rattle.palm_search.proofs.cited.Deciding.{justifier_stays}
 use Rattle.palm_search.proofs.cited.Keeping.{begins, settles_keep, follows_keep, turns_keep, user_not_decision}
 use Rattle.palm_search.proofs.Solving.{found_solves, users_unsolved, users_active}
 
@@ -57,12 +57,12 @@ searched_posted s m a t f posts searched = record {
   ];
 }
 
-pub searched_withdrawn : (s m : EngineState) (gone : List Cid) (t : EngineState) → KeepsGrounds m.active gone → AreNew s gone → WithdrawsAll m gone t → IsValid s → Searched s m → Searched s t
+pub searched_withdrawn : (s m : EngineState) (gone : List Cid) (t : EngineState) → KeepsJustifiers m.active gone → AreNew s gone → WithdrawsAll m gone t → IsValid s → Searched s m → Searched s t
 searched_withdrawn s m gone t keeps later withdraws valid searched = record {
   valid = withdraws_all_valid m t gone keeps withdraws searched.valid;
   carries = carries_withdrawn s m gone t withdraws later valid searched.valid searched.carries;
   initial = ap (λ (z : EngineState). z.initial) withdraws.after ∙ searched.initial;
-  later = λ b k. searched.later b (without_names_member gone m.active b (subst (λ (z : EngineState). Contains z.active b) withdraws.after k)).0;
+  later = λ b k. searched.later b (without_cids_member gone m.active b (subst (λ (z : EngineState). Contains z.active b) withdraws.after k)).0;
 }
 
 pub searched_filtered : ReasonsAreRight → (s m t : EngineState) → Filters m t → IsValid s → IsStill s → Searched s m → Searched s t
@@ -84,7 +84,7 @@ searched_undone s m gone conflict t undoes users valid searched =
     let cid : Cid = Decide gone.var in
     let later = searcher_later s users cid refl in
     searched_withdrawn s m.engine (gone_with m.engine.active cid) undoes.middle
-    (gone_grounds (length m.engine.initial) m.engine.active cid searched.valid.formed) (gone_later s m.engine cid searched.carries valid searched.valid later) undoes.withdraws valid searched
+    (gone_justifiers (length m.engine.initial) m.engine.active cid searched.valid.formed) (gone_later s m.engine cid searched.carries valid searched.valid later) undoes.withdraws valid searched
 
 pub searched_takes : (guided : Bool) (s : EngineState) (m : SearchState) (turn : Turn) (t : SearchState) → HasOnlyUsers s → IsValid s → Takes guided m turn t → Searched s m.engine → Searched s t.engine
 searched_takes guided s m (TurnDecide pair pick) t users valid takes searched = searched_posted s m.engine (decision_of pair) t.engine refl takes.posts searched
@@ -117,19 +117,19 @@ stays_user active a m n = elim (cases_Bool (is_user a.cid)) [
   | inr f ↦ absurd (n (member_map (λ (b : Active). b.cid) (filter (λ b. not (is_user b.cid)) active) a (member_filter (λ (b : Active). not (is_user b.cid)) active a m (ap not f))))
 ]
 
-pub user_ground : (c : Cid) → is_user c ≡ true → IsGround c
-user_ground (Decide x) t = tt
-user_ground (Not p) t = false≢true t
-user_ground (User n) t = tt
+pub user_justifier : (c : Cid) → is_user c ≡ true → IsJustifier c
+user_justifier (Decide x) t = tt
+user_justifier (Not p) t = false≢true t
+user_justifier (User n) t = tt
 
-pub closing_keeps : (m : EngineState) → IsValid m → KeepsGrounds m.active (search_cids m.active)
-closing_keeps m valid a k stays c held ground gone =
-    held_not_ground (length m.initial) m.active a c (valid.formed a k) held (user_ground a.cid (stays_user m.active a k stays))
+pub closing_keeps : (m : EngineState) → IsValid m → KeepsJustifiers m.active (search_cids m.active)
+closing_keeps m valid a k stays c held justifier gone =
+    held_not_justifier (length m.initial) m.active a c (valid.formed a k) held (user_justifier a.cid (stays_user m.active a k stays))
 
 -- after the closing the constraints are those from before
 closed_alone : (s m t : EngineState) → WithdrawsAll m (search_cids m.active) t → Searched s m → (a : Active) → Contains t.active a → IsActive s.active a.cid
 closed_alone s m t withdraws searched a k =
-    let r = without_names_member (search_cids m.active) m.active a (subst (λ (z : EngineState). Contains z.active a) withdraws.after k) in
+    let r = without_cids_member (search_cids m.active) m.active a (subst (λ (z : EngineState). Contains z.active a) withdraws.after k) in
     elim (searched.later a r.0) [
       | inl is ↦ is
       | inr f ↦ absurd (false≢true (sym f ∙ stays_user m.active a r.0 r.1))
@@ -189,8 +189,8 @@ pub remembers_withdrawn : (s m : EngineState) (gone : List Cid) (t : EngineState
 remembers_withdrawn s m gone t later withdraws old = record {
   initial = ap (λ (z : EngineState). z.initial) withdraws.after ∙ old.initial;
   active = λ b k. subst (λ (z : EngineState). Contains z.active b) (sym withdraws.after)
-      (member_without_names gone m.active b (old.active b k) (λ j. later b.cid j (record { owner = b; posted = k; named = refl })));
-  users = λ b k user. old.users b (without_names_member gone m.active b (subst (λ (z : EngineState). Contains z.active b) withdraws.after k)).0 user;
+      (member_without_cids gone m.active b (old.active b k) (λ j. later b.cid j (record { owner = b; posted = k; named = refl })));
+  users = λ b k user. old.users b (without_cids_member gone m.active b (subst (λ (z : EngineState). Contains z.active b) withdraws.after k)).0 user;
 }
 
 pub remembers_filtered : (s m t : EngineState) → Filters m t → Remembers s m → Remembers s t
@@ -201,16 +201,16 @@ remembers_filtered s m t filters old = record {
 }
 
 -- what goes with a decision is no user
-pub gone_no_user : (n : ℕ) (active : List Active) (x : ℕ) → ((a : Active) → Contains active a → FitsName n active a) → (c : Cid) → Contains (gone_with active (Decide x)) c → is_user c ≡ true → ⊥
-gone_no_user n active x formed c m user = ground_stays n active (Decide x) formed c (user_ground c user) (user_not_decision c x user) m
+pub gone_no_user : (n : ℕ) (active : List Active) (x : ℕ) → ((a : Active) → Contains active a → FitsCid n active a) → (c : Cid) → Contains (gone_with active (Decide x)) c → is_user c ≡ true → ⊥
+gone_no_user n active x formed c m user = justifier_stays n active (Decide x) formed c (user_justifier c user) (user_not_decision c x user) m
 
 pub users_later : (s : EngineState) → HasOnlyUsers s → (gone : List Cid) → ((c : Cid) → Contains gone c → is_user c ≡ true → ⊥) → AreNew s gone
 users_later s users gone none c m is = none c m (subst (λ d. is_user d ≡ true) is.named (users is.owner is.posted))
 
 pub remembers_undone : (s : EngineState) (m : SearchState) (gone : Pair) (conflict : List Cid) (t : SearchState) (undoes : Undoes m gone conflict t) → HasOnlyUsers s → IsValid m.engine → Remembers s m.engine → Remembers s undoes.middle
 remembers_undone s m gone conflict t undoes users valid old =
-    let names = gone_with m.engine.active (Decide gone.var) in
-    remembers_withdrawn s m.engine names undoes.middle (users_later s users names (gone_no_user (length m.engine.initial) m.engine.active gone.var valid.formed)) undoes.withdraws old
+    let cids = gone_with m.engine.active (Decide gone.var) in
+    remembers_withdrawn s m.engine cids undoes.middle (users_later s users cids (gone_no_user (length m.engine.initial) m.engine.active gone.var valid.formed)) undoes.withdraws old
 
 pub remembers_takes : (guided : Bool) (s : EngineState) (m : SearchState) (turn : Turn) (t : SearchState) → HasOnlyUsers s → IsValid m.engine → Takes guided m turn t → Remembers s m.engine → Remembers s t.engine
 remembers_takes guided s m (TurnDecide pair pick) t users valid takes old = remembers_posted s m.engine (decision_of pair) t.engine refl takes.posts old
@@ -297,7 +297,7 @@ closing_returns right s m n t users valid valid_m old withdraws filters =
     let last = remembers_filtered s n t filters (remembers_withdrawn s m (search_cids m.active) n later withdraws old) in
     let valid_t = filters_valid right n t filters (withdraws_all_valid m n (search_cids m.active) (closing_keeps m valid_m) withdraws valid_m) in
     let back : (a : Active) → Contains t.active a → Contains s.active a = λ a k.
-    let r = without_names_member (search_cids m.active) m.active a (subst (λ (z : EngineState). Contains z.active a) withdraws.after (subst (λ l. Contains l a) filters.active k)) in
+    let r = without_cids_member (search_cids m.active) m.active a (subst (λ (z : EngineState). Contains z.active a) withdraws.after (subst (λ l. Contains l a) filters.active k)) in
     user_before s m valid_m old a r.0 (stays_user m.active a r.0 r.1) in
     record { valid = valid_t; active = active_same t.active s.active valid_t.rising valid.rising back last.active; initial = last.initial }
 

@@ -12,14 +12,16 @@ use Rattle.palm_base.proofs.cited.Members.{member_nil, member_here, member_there
 use Rattle.palm_model.specs.Domains.{Domains, Has}
 use Rattle.palm_model.specs.Constraint.{Distinct}
 use Rattle.palm_model.specs.Trial.{value_count}
-use Rattle.palm_model.specs.Log.{Active, IsActive, cid_before, is_named, cids_of}
-use Rattle.palm_model.specs.State.{EngineState, IsValid, IsGround, without_cid, is_user, decision_of, negation_of}
-use Rattle.palm_model.specs.Event.{with_posted, without_names, gone_with, vars_of}
+use Rattle.palm_base.specs.Order.{cid_before}
+use Rattle.palm_model.specs.Log.{Active, IsActive, is_named, cids_of}
+use Rattle.palm_model.specs.State.{EngineState, IsValid, IsJustifier, without_cid, is_user, decision_of, negation_of}
+use Rattle.palm_model.specs.Event.{with_posted, without_cids, gone_with, vars_of}
 use Rattle.palm_model.proofs.cited.Without.{pair_of}
 use Rattle.palm_events.specs.Reasons.{ReasonsAreRight}
-use Rattle.palm_events.proofs.cited.Names.{named_member, member_named, single, cid_order, rises_filter}
+use Rattle.palm_base.proofs.cited.CidOrder.{cid_order}
+use Rattle.palm_events.proofs.cited.Names.{named_member, member_named, single, rises_filter}
 use Rattle.palm_events.proofs.cited.States.{without_cid_member}
-use Rattle.palm_events.proofs.cited.Conflicts.{flat_grounds}
+use Rattle.palm_events.proofs.cited.Conflicts.{flat_justifiers}
 use Rattle.palm_engine.proofs.cited.Settled.{settling_filters}
 use Rattle.palm_search.specs.declared.turn.Pick.{Pick}
 use Rattle.palm_search.specs.declared.turn.Turn.{Turn}
@@ -29,7 +31,7 @@ use Rattle.palm_search.specs.declared.ending.SearchEnd.{SearchEnd}
 use Rattle.palm_search.specs.Search.{SearchRun, begun}
 use Rattle.palm_search.specs.declared.ending.SearchEnd.TheVariants.{Spent}
 use Rattle.palm_search.specs.Kept.{HasDeclared, HasOnlyUsers, IsSearching}
-use Rattle.palm_search.specs.Measure.{is_negation, is_within, negations_within, weighed, measure, most_turns}
+use Rattle.palm_search.specs.Measure.{is_of_negation, is_within, negations_within, weighed, measure, most_turns}
 use Rattle.palm_search.proofs.cited.Deciding.{latest_vars}
 use Rattle.palm_search.proofs.cited.Keeping.{begins, settles_keep, follows_keep}
 use Rattle.palm_search.proofs.cited.Weighing.{weighed_sum, weighed_below, weighed_more, weighed_rises, turns_few, rising_short, distinct_below}
@@ -38,31 +40,31 @@ use Rattle.palm_search.proofs.cited.Weighing.{weighed_sum, weighed_below, weighe
 
 -- whether the constraint is a negation whose justification lies within these decisions and the users
 abbrev pub held : List Pair → Active → Bool
-held decisions a = is_negation a.cid && is_within decisions a.because
+held decisions a = is_of_negation a.cid && is_within decisions a.justification
 
-within_cases : (decisions : List Pair) (names : List Cid) → is_within decisions names ≡ true → (c : Cid) → Contains names c → (is_user c ≡ true) ⊎ ((p : Pair) × Contains decisions p × (Decide p.var ≡ c))
-within_cases decisions names h c m =
-    let all : All (λ d. (is_user d || is_named (map (λ p. Decide p.var) decisions) d) ≡ true) names = AllPass-from_list_all (λ d. is_user d || is_named (map (λ p. Decide p.var) decisions) d) names h in
-    elim (or_cases (is_user c) (is_named (map (λ p. Decide p.var) decisions) c) (All-contains (λ d. (is_user d || is_named (map (λ p. Decide p.var) decisions) d) ≡ true) names c all m)) [
+within_cases : (decisions : List Pair) (cids : List Cid) → is_within decisions cids ≡ true → (c : Cid) → Contains cids c → (is_user c ≡ true) ⊎ ((p : Pair) × Contains decisions p × (Decide p.var ≡ c))
+within_cases decisions cids h c m =
+    let all : All (λ d. (is_user d || is_named (map (λ p. Decide p.var) decisions) d) ≡ true) cids = AllPass-from_list_all (λ d. is_user d || is_named (map (λ p. Decide p.var) decisions) d) cids h in
+    elim (or_cases (is_user c) (is_named (map (λ p. Decide p.var) decisions) c) (All-contains (λ d. (is_user d || is_named (map (λ p. Decide p.var) decisions) d) ≡ true) cids c all m)) [
       | inl t ↦ inl t
       | inr t ↦ inr (member_unmap (λ (p : Pair). Decide p.var) decisions c (named_member (map (λ p. Decide p.var) decisions) c t))
     ]
 
-within_from : (decisions : List Pair) (names : List Cid) → ((c : Cid) → Contains names c → (is_user c ≡ true) ⊎ ((p : Pair) × Contains decisions p × (Decide p.var ≡ c))) → is_within decisions names ≡ true
-within_from decisions names each = list_all-from_AllPass (λ d. is_user d || is_named (map (λ p. Decide p.var) decisions) d) names
-    (all_members (λ d. (is_user d || is_named (map (λ p. Decide p.var) decisions) d) ≡ true) names (λ c m. elim (each c m) [
+within_from : (decisions : List Pair) (cids : List Cid) → ((c : Cid) → Contains cids c → (is_user c ≡ true) ⊎ ((p : Pair) × Contains decisions p × (Decide p.var ≡ c))) → is_within decisions cids ≡ true
+within_from decisions cids each = list_all-from_AllPass (λ d. is_user d || is_named (map (λ p. Decide p.var) decisions) d) cids
+    (all_members (λ d. (is_user d || is_named (map (λ p. Decide p.var) decisions) d) ≡ true) cids (λ c m. elim (each c m) [
       | inl t ↦ or_left (is_user c) (is_named (map (λ p. Decide p.var) decisions) c) t
       | inr r ↦ or_right (is_user c) (is_named (map (λ p. Decide p.var) decisions) c)
           (member_named (map (λ p. Decide p.var) decisions) c (member_same (map (λ p. Decide p.var) decisions) (Decide r.0.var) c r.2 (member_map (λ (p : Pair). Decide p.var) decisions r.0 r.1)))
     ]))
 
-within_more : (few more : List Pair) (names : List Cid) → ((p : Pair) → Contains few p → Contains more p) → is_within few names ≡ true → is_within more names ≡ true
-within_more few more names sub h = within_from more names (λ c m. elim (within_cases few names h c m) [ inl t ↦ inl t | inr r ↦ inr (r.0, sub r.0 r.1, r.2) ])
+within_more : (few more : List Pair) (cids : List Cid) → ((p : Pair) → Contains few p → Contains more p) → is_within few cids ≡ true → is_within more cids ≡ true
+within_more few more cids sub h = within_from more cids (λ c m. elim (within_cases few cids h c m) [ inl t ↦ inl t | inr r ↦ inr (r.0, sub r.0 r.1, r.2) ])
 
 held_more : (few more : List Pair) (a : Active) → ((p : Pair) → Contains few p → Contains more p) → held few a ≡ true → held more a ≡ true
 held_more few more a sub h =
-    let b = and_parts (is_negation a.cid) (is_within few a.because) h in
-    and_from (is_negation a.cid) (is_within more a.because) b.0 (within_more few more a.because sub b.1)
+    let b = and_parts (is_of_negation a.cid) (is_within few a.justification) h in
+    and_from (is_of_negation a.cid) (is_within more a.justification) b.0 (within_more few more a.justification sub b.1)
 
 -- ---- counting among more and among fewer constraints
 
@@ -122,7 +124,7 @@ count_posted p a active inactive =
     joined all low first high active one e h k = omega arith
 
 -- where none of those counted goes, none is lost
-count_kept : (p : Active → Bool) (gone : List Cid) (active : List Active) → ((a : Active) → Contains active a → p a ≡ true → Contains gone a.cid → ⊥) → length (filter p active) ≤ length (filter p (without_names gone active))
+count_kept : (p : Active → Bool) (gone : List Cid) (active : List Active) → ((a : Active) → Contains active a → p a ≡ true → Contains gone a.cid → ⊥) → length (filter p active) ≤ length (filter p (without_cids gone active))
 count_kept p gone [] stays = omega arith
 count_kept p gone (x ∷ xs) stays =
     let k = count_kept p gone xs (λ a m. stays a (member_there x xs a m)) in
@@ -136,7 +138,7 @@ count_kept p gone (x ∷ xs) stays =
 
 -- ---- the number of negations
 
--- the names of the negations of all declared pairs, of the variables from number x on
+-- the ids of the negations of all declared pairs, of the variables from number x on
 declared_from : ℕ → Domains → List Cid
 declared_from n [] = []
 declared_from n (vs ∷ d) = map (λ v. Not (pair_of n v)) vs ++ declared_from (n + 1) d
@@ -162,7 +164,7 @@ declared_member n (vs ∷ d) (suc x) v h =
     Contains-append_right (map (λ w. Not (pair_of n w)) vs) (declared_from (n + 1) d) (Not (pair_of (n + suc x) v))
     (subst (λ k. Contains (declared_from (n + 1) d) (Not (pair_of k v))) e (declared_member (n + 1) d x v h))
 
-negation_of_test : (c : Cid) → is_negation c ≡ true → (p : Pair) × (c ≡ Not p)
+negation_of_test : (c : Cid) → is_of_negation c ≡ true → (p : Pair) × (c ≡ Not p)
 negation_of_test (Decide x) t = absurd (false≢true t)
 negation_of_test (Not p) t = (p, refl)
 negation_of_test (User n) t = absurd (false≢true t)
@@ -174,7 +176,7 @@ negations_few s valid declared i =
     let k = rising_short (cids_of some) (rises_filter test s.engine.active valid.rising) (declared_from 0 s.engine.initial) (λ c m.
     let r = member_unmap (λ (a : Active). a.cid) some c m in
     let f = filter_member test s.engine.active r.0 r.1 in
-    let n = negation_of_test r.0.cid (and_parts (is_negation r.0.cid) (is_within (take i s.decisions) r.0.because) f.1).0 in
+    let n = negation_of_test r.0.cid (and_parts (is_of_negation r.0.cid) (is_within (take i s.decisions) r.0.justification) f.1).0 in
     let has = declared.negated r.0 n.0 f.0 n.1 in
     let z : 0 + n.0.var ≡ n.0.var = omega arith in
     subst (λ d. Contains (declared_from 0 s.engine.initial) d) (ap (λ x. Not (pair_of x n.0.value)) z ∙ sym n.1 ∙ r.2) (declared_member 0 s.engine.initial n.0.var n.0.value has)) in
@@ -245,16 +247,16 @@ decided_counts guided s p pick t turn i =
 apart_within : (s : SearchState) (gone : Pair) (earlier later : List Pair) (a : Active) (decisions : List Pair) → s.decisions ≡ earlier ++ gone ∷ later → Distinct (vars_of s.decisions)
     → ((p : Pair) → Contains decisions p → Contains earlier p) → held decisions a ≡ true → Contains (gone_with s.engine.active (Decide gone.var)) a.cid → IsSearching s → Contains s.engine.active a → ⊥
 apart_within s gone earlier later a decisions e distinct sub h m searching posted =
-    let b = and_parts (is_negation a.cid) (is_within decisions a.because) h in
+    let b = and_parts (is_of_negation a.cid) (is_within decisions a.justification) h in
     let n = negation_of_test a.cid b.0 in
-    elim (member_cases (Decide gone.var) (cids_of (filter (λ c. is_named c.because (Decide gone.var)) s.engine.active)) a.cid m) [
+    elim (member_cases (Decide gone.var) (cids_of (filter (λ c. is_named c.justification (Decide gone.var)) s.engine.active)) a.cid m) [
       | inl f ↦ not_both gone.var n.0 (f ∙ n.1)
       | inr k ↦
-          let r = member_unmap (λ (c : Active). c.cid) (filter (λ c. is_named c.because (Decide gone.var)) s.engine.active) a.cid k in
-          let f = filter_member (λ (c : Active). is_named c.because (Decide gone.var)) s.engine.active r.0 r.1 in
+          let r = member_unmap (λ (c : Active). c.cid) (filter (λ c. is_named c.justification (Decide gone.var)) s.engine.active) a.cid k in
+          let f = filter_member (λ (c : Active). is_named c.justification (Decide gone.var)) s.engine.active r.0 r.1 in
           let same = single s.engine.active searching.valid.rising r.0 a f.0 posted r.2 in
-          let because : Contains a.because (Decide gone.var) = subst (λ (c : Active). Contains c.because (Decide gone.var)) same (named_member r.0.because (Decide gone.var) f.1) in
-          elim (within_cases decisions a.because b.1 (Decide gone.var) because) [
+          let justification : Contains a.justification (Decide gone.var) = subst (λ (c : Active). Contains c.justification (Decide gone.var)) same (named_member r.0.justification (Decide gone.var) f.1) in
+          elim (within_cases decisions a.justification b.1 (Decide gone.var) justification) [
             | inl t ↦ false≢true t
             | inr q ↦
                 let vars = latest_vars s earlier later gone e distinct in
@@ -276,13 +278,13 @@ undone_counts s gone conflict t turn searching i le =
     let latest = turn.latest in
     let neg = negation_of gone (without_cid (Decide gone.var) conflict) in
     let test = held (take i t.decisions) in
-    let gone_names = gone_with s.engine.active (Decide gone.var) in
+    let gone_cids = gone_with s.engine.active (Decide gone.var) in
     let front : take i s.decisions ≡ take i t.decisions = ap (take i) latest.are ∙ take_front i latest.earlier (gone ∷ latest.later) latest.later le ∙ ap (take i) (sym latest.others) in
     let before : negations_within s i ≡ length (filter test s.engine.active) = ap (λ l. length (filter (held l) s.engine.active)) front in
-    let kept = count_kept test gone_names s.engine.active (λ a m h k. apart_within s gone latest.earlier latest.later a (take i t.decisions) latest.are searching.decisions.distinct
+    let kept = count_kept test gone_cids s.engine.active (λ a m h k. apart_within s gone latest.earlier latest.later a (take i t.decisions) latest.are searching.decisions.distinct
     (λ p j. take_of_front i latest.earlier latest.later p le (subst (λ l. Contains (take i l) p) latest.others j)) h k searching m) in
-    let em : turn.middle.active ≡ without_names gone_names s.engine.active = ap (λ (z : EngineState). z.active) turn.withdraws.after in
-    let middle : length (filter test turn.middle.active) ≡ length (filter test (without_names gone_names s.engine.active)) = ap (λ l. length (filter test l)) em in
+    let em : turn.middle.active ≡ without_cids gone_cids s.engine.active = ap (λ (z : EngineState). z.active) turn.withdraws.after in
+    let middle : length (filter test turn.middle.active) ≡ length (filter test (without_cids gone_cids s.engine.active)) = ap (λ l. length (filter test l)) em in
     let posted = count_posted test neg turn.middle.active turn.posts.inactive in
     let et : t.engine.active ≡ with_posted neg turn.middle.active = ap (λ (z : EngineState). z.active) turn.posts.after in
     let after : negations_within t i ≡ length (filter test (with_posted neg turn.middle.active)) = ap (λ l. length (filter test l)) et in
@@ -293,13 +295,13 @@ new_held : (s : SearchState) (gone : Pair) (conflict : List Cid) (t : SearchStat
     → held (take (length turn.latest.earlier) t.decisions) (negation_of gone (without_cid (Decide gone.var) conflict)) ≡ true
 new_held s gone conflict t turn searching = within_from (take (length turn.latest.earlier) t.decisions) (without_cid (Decide gone.var) conflict) (λ c m.
     let r = without_cid_member (Decide gone.var) conflict c m in
-    let g = flat_grounds s.engine searching.valid turn.flat.var c (turn.flat.is.sound c r.0) in
+    let g = flat_justifiers s.engine searching.valid turn.flat.var c (turn.flat.is.sound c r.0) in
     user_or_decided c r.0 r.1 g.0 g.1)
   where
-    user_or_decided : (c : Cid) → Contains conflict c → (c ≡ Decide gone.var → ⊥) → IsGround c → IsActive s.engine.active c → (is_user c ≡ true) ⊎ ((p : Pair) × Contains (take (length turn.latest.earlier) t.decisions) p × (Decide p.var ≡ c))
-    user_or_decided (User n) k ne ground is = inl refl
-    user_or_decided (Not p) k ne ground is = absurd ground
-    user_or_decided (Decide x) k ne ground is =
+    user_or_decided : (c : Cid) → Contains conflict c → (c ≡ Decide gone.var → ⊥) → IsJustifier c → IsActive s.engine.active c → (is_user c ≡ true) ⊎ ((p : Pair) × Contains (take (length turn.latest.earlier) t.decisions) p × (Decide p.var ≡ c))
+    user_or_decided (User n) k ne justifier is = inl refl
+    user_or_decided (Not p) k ne justifier is = absurd justifier
+    user_or_decided (Decide x) k ne justifier is =
         let taken = searching.decisions.taken is.owner x is.posted is.named in
         let named : Decide taken.0.var ≡ Decide x = sym (ap (λ (a : Active). a.cid) taken.2) ∙ is.named in
         let at = subst (λ l. Contains l taken.0) turn.latest.are taken.1 in

@@ -8,8 +8,8 @@ use Rattle.std.proofs.lemmas.List.Elements.{All-contains}
 use Rattle.palm_base.specs.declared.terms.Cid.{Cid}
 use Rattle.palm_base.proofs.cited.Members.{nat_known, member_nil, member_here, member_there, member_cases, member_same, member_filter}
 use Rattle.palm_model.specs.Constraint.{Distinct}
-use Rattle.palm_model.specs.Log.{Rises, cid_before, same_cid}
-use Rattle.palm_events.proofs.cited.Names.{same_cid_itself, cid_same, not_before_itself}
+use Rattle.palm_base.specs.Order.{Rises, cid_before, same_cid}
+use Rattle.palm_base.proofs.cited.CidOrder.{same_cid_itself, cid_same, not_before_itself}
 
 -- ---- weighed sums
 
@@ -126,7 +126,7 @@ filter_shorter p (y ∷ xs) x m f = elim (member_cases y xs x m) [
   ]
 ]
 
--- names that rise and are among others are not more than these
+-- ids that rise and are among others are not more than these
 pub rising_short : (xs : List Cid) → Rises xs → (ys : List Cid) → ((c : Cid) → Contains xs c → Contains ys c) → length xs ≤ length ys
 rising_short [] rises ys sub = omega arith
 rising_short (x ∷ xs) rises ys sub =

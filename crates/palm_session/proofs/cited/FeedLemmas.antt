@@ -3,9 +3,12 @@ use Rattle.std.proofs.Common.{◌≡◌, ℕ, ◌+◌, inl, inr, List, [], ◌�
 use Rattle.std.specs.Prelude.{slice_range}
 use Rattle.std.proofs.lemmas.List.Elements.{All-nil, All-head, All-tail, All-push, All-append}
 use Rattle.std.proofs.lemmas.Grind.{flat_map-append}
-use Rattle.palm_base.specs.Streams.{Appended, AppendedFront}
+use Rattle.palm_base.specs.Streams.{Appended}
 use Rattle.palm_base.proofs.cited.StreamLemmas.{appended_nothing, appended_both}
+use Rattle.palm_lang.proofs.cited.Writes.{stopped_behind, stopped_in_second}
 use Rattle.palm_lang.specs.Reply.{ended}
+use Rattle.palm_lang.specs.declared.stop.WriteStop.{WriteStop as Stop}
+use Rattle.palm_lang.specs.declared.stop.WriteStop.TheVariants.{NoMemory}
 use Rattle.palm_session.specs.State.{SessionState}
 use Rattle.palm_session.specs.Answers.{Answers}
 use Rattle.palm_read.specs.Lines.{HasNoFeed, IsNextFeed, without_return}
@@ -133,12 +136,12 @@ All-first l ls all = All-head GoesOn l ls all
 All-others : (l : List ℕ) (ls : List (List ℕ)) → All GoesOn (l ∷ ls) → All GoesOn ls
 All-others l ls all = All-tail GoesOn l ls all
 
-keeps_on : (lines : List (List ℕ)) → All GoesOn lines → KeepsOn lines
+pub keeps_on : (lines : List (List ℕ)) → All GoesOn lines → KeepsOn lines
 keeps_on [] all = tt
 keeps_on (l ∷ []) all = tt
 keeps_on (l ∷ m ∷ ms) all = (All-first l (m ∷ ms) all, keeps_on (m ∷ ms) (All-others l (m ∷ ms) all))
 
-keeps_on_last : (lines : List (List ℕ)) (last : List ℕ) → All GoesOn lines → KeepsOn (lines ++ last ∷ [])
+pub keeps_on_last : (lines : List (List ℕ)) (last : List ℕ) → All GoesOn lines → KeepsOn (lines ++ last ∷ [])
 keeps_on_last [] last all = tt
 keeps_on_last (l ∷ []) last all = (All-first l [] all, tt)
 keeps_on_last (l ∷ m ∷ ms) last all = (All-first l (m ∷ ms) all, keeps_on_last (m ∷ ms) last (All-others l (m ∷ ms) all))
@@ -180,13 +183,10 @@ feeds_end s m t text from end was mid now a b n e so f one = subst (λ (k : ℕ)
   written = appended_both was mid now so.replies one.reply so.written one.written;
 })
 
-front_all : (was now : Option (List ℕ)) (x : List ℕ) → Appended was now x → AppendedFront was now x
-front_all was now x w = record { front = x; back = []; whole = sym (append-nil x); written = w }
-
-pub feeds_part : (s m : SessionState) (text : List ℕ) (from end : ℕ) (was mid now : Option (List ℕ)) (a : ℕ)
+pub feeds_part : {stop : Stop} (s m : SessionState) (text : List ℕ) (from end : ℕ) (was mid now : Option (List ℕ)) (a : ℕ)
     → SoFar s text was mid (drop from text) m a → IsNextFeed text from end
-    → AnswersFront m (without_return (slice_range text from end)) mid now
-    → FeedsPart s text was now
+    → AnswersFront stop m (without_return (slice_range text from end)) mid now
+    → FeedsPart stop s text was now
 feeds_part s m text from end was mid now a so f one = record {
   lines = so.lines ++ slice_range text from end ∷ [];
   rest = drop (end + 1) text;
@@ -195,12 +195,7 @@ feeds_part s m text from end was mid now a so f one = record {
   answered = answered_more s m one.after text so.lines so.replies one.reply from end (answered_of s text so.lines (drop from text) so.replies m a so.answered) f one.answers;
   keeps_on = subst KeepsOn (sym (map_more so.lines (slice_range text from end)))
       (keeps_on_last (map without_return so.lines) (without_return (slice_range text from end)) so.goes_on);
-  written = record {
-    front = so.replies ++ one.written.front;
-    back = one.written.back;
-    whole = ap (λ (z : List ℕ). so.replies ++ z) one.written.whole ∙ sym (append_assoc so.replies one.written.front one.written.back);
-    written = appended_both was mid now so.replies one.written.front so.written one.written.written;
-  };
+  written = stopped_in_second was mid now so.replies one.reply so.written one.written;
 }
 
 pub feeds_on : (s m : SessionState) (text rest : List ℕ) (was now : Option (List ℕ)) (a : ℕ) → SoFar s text was now rest m a → HasNoFeed rest → FeedsOn s text was now rest m a
@@ -241,8 +236,8 @@ feeds_more_end s m t text more mid was then now a b one two = record {
   written = appended_both was then now one.replies two.replies one.written two.written;
 }
 
-pub feeds_more_part : (s m : SessionState) (text more mid : List ℕ) (was then now : Option (List ℕ)) (a : ℕ)
-    → FeedsOn s text was then mid m a → FeedsPart m (mid ++ more) then now → FeedsPart s (text ++ more) was now
+pub feeds_more_part : {stop : Stop} (s m : SessionState) (text more mid : List ℕ) (was then now : Option (List ℕ)) (a : ℕ)
+    → FeedsOn s text was then mid m a → FeedsPart stop m (mid ++ more) then now → FeedsPart stop s (text ++ more) was now
 feeds_more_part s m text more mid was then now a one two = record {
   lines = one.lines ++ two.lines;
   rest = two.rest;
@@ -250,12 +245,7 @@ feeds_more_part s m text more mid was then now a one two = record {
   after = two.after;
   answered = answered_append s m two.after text more two.rest one.lines two.lines mid one.replies two.replies (answered_of s text one.lines mid one.replies m a one.answered) two.answered;
   keeps_on = subst KeepsOn (sym (map_append one.lines two.lines)) (keeps_on_append (map without_return one.lines) (map without_return two.lines) one.goes_on two.keeps_on);
-  written = record {
-    front = one.replies ++ two.written.front;
-    back = two.written.back;
-    whole = ap (λ (z : List ℕ). one.replies ++ z) two.written.whole ∙ sym (append_assoc one.replies two.written.front two.written.back);
-    written = appended_both was then now one.replies two.written.front one.written two.written.written;
-  };
+  written = stopped_in_second was then now one.replies two.replies one.written two.written;
 }
 
 pub feeds_none : (s : SessionState) (w : Option (List ℕ)) → FeedsOn s [] w w [] s 0
@@ -288,8 +278,8 @@ finishes_one s t [] was now going asked some one = absurd (some refl)
 finishes_one s t (b ∷ bs) was now going asked some one = finishes_line s t b bs was now going asked one
 
 -- the last line was answered in part
-pub finishes_part : (s : SessionState) (line : List ℕ) (was now : Option (List ℕ))
-    → (length line ≡ 0 → ⊥) → AnswersFront s (without_return line) was now → FinishesPart s line was now
+pub finishes_part : {stop : Stop} (s : SessionState) (line : List ℕ) (was now : Option (List ℕ))
+    → (length line ≡ 0 → ⊥) → AnswersFront stop s (without_return line) was now → FinishesPart stop s line was now
 finishes_part s [] was now some one = absurd (some refl)
 finishes_part s (b ∷ bs) was now some one = record {
   replies = one.reply;
@@ -298,8 +288,8 @@ finishes_part s (b ∷ bs) was now some one = record {
   written = one.written;
 }
 
--- at a stop before any line of the text
-pub part_nothing : (s : SessionState) (text : List ℕ) (w : Option (List ℕ)) → FeedsPart s text w w
+-- at want of memory before any line of the text
+pub part_nothing : (s : SessionState) (text : List ℕ) (w : Option (List ℕ)) → FeedsPart NoMemory s text w w
 part_nothing s text w = record {
   lines = [];
   rest = text;
@@ -307,11 +297,11 @@ part_nothing s text w = record {
   after = s;
   answered = record { whole = refl; unbroken = All-nil HasNoFeed; run = (refl, refl) };
   keeps_on = tt;
-  written = front_all w w [] (appended_nothing w);
+  written = stopped_behind w w [] (appended_nothing w);
 }
 
--- at a stop behind all lines of the text
-pub part_all : (s t : SessionState) (text rest : List ℕ) (was now : Option (List ℕ)) (a : ℕ) → FeedsOn s text was now rest t a → FeedsPart s text was now
+-- at want of memory behind all lines of the text
+pub part_all : (s t : SessionState) (text rest : List ℕ) (was now : Option (List ℕ)) (a : ℕ) → FeedsOn s text was now rest t a → FeedsPart NoMemory s text was now
 part_all s t text rest was now a so = record {
   lines = so.lines;
   rest = rest;
@@ -319,5 +309,5 @@ part_all s t text rest was now a so = record {
   after = t;
   answered = answered_of s text so.lines rest so.replies t a so.answered;
   keeps_on = keeps_on (map without_return so.lines) so.goes_on;
-  written = front_all was now so.replies so.written;
+  written = stopped_behind was now so.replies so.written;
 }

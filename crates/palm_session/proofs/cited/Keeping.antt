@@ -4,8 +4,10 @@ use Rattle.std.specs.Prelude.{slice_range}
 use Rattle.std.proofs.lemmas.Bool.{cases_lt}
 use Rattle.std.proofs.Math.Seq.{take-append-add}
 use Rattle.std.proofs.lemmas.List.Elements.{All-nil, All-cons, All-head, All-tail, All-append, All-take}
-use Rattle.palm_base.specs.Streams.{Appended, AppendedFront}
+use Rattle.palm_base.specs.Streams.{Appended}
+use Rattle.palm_lang.proofs.cited.Writes.{stopped_at_once}
 use Rattle.palm_lang.specs.Reply.{ended}
+use Rattle.palm_lang.specs.Writing.{AppendedUntil}
 use Rattle.palm_read.specs.declared.line.Line.TheVariants.{Quit as QuitLine}
 use Rattle.palm_session.specs.State.{SessionState, IsState}
 use Rattle.palm_session.specs.Answers.{Answers}
@@ -17,10 +19,10 @@ use Rattle.palm_session.specs.declared.limits.TheConstants.{MOST_KEPT_BYTES}
 use Rattle.palm_session.specs.declared.going.Going.{Going}
 use Rattle.palm_session.specs.declared.going.Going.TheVariants.{More, Quit}
 use Rattle.palm_lang.specs.declared.stop.WriteStop.{WriteStop as Stop}
+use Rattle.palm_lang.specs.declared.stop.WriteStop.TheVariants.{NoMemory}
 use Rattle.palm_session.proofs.cited.FeedLemmas.{one_line, feeds_on, feeds_more, feeds_more_end, feeds_more_part, so_far_none}
 use Rattle.palm_book.proofs.cited.Naming.{all_right}
 use Rattle.palm_session.proofs.cited.LawsOfAnswers.{has_answer, first_bytes_decide, first_bytes_read, same_first_bytes, same_first_bytes_read, kept_more}
-use Rattle.palm_base.proofs.cited.StreamLemmas.{appended_nothing}
 
 abbrev kept_of : List ℕ → List ℕ
 kept_of line = take MOST_KEPT_BYTES line
@@ -74,21 +76,20 @@ asks_long s t x y n e (asks_none none) = asks_none none
 asks_long s t x y n e (asks_search search) =
     asks_search (record {
       line = search.line;
-      changed = search.changed;
       by = search.by;
       read = same_first_bytes_read x y search.line e search.read;
-      accepted = search.accepted;
-      changes = search.changes;
-      searches = search.searches;
+      admitted = search.admitted;
+      awake = search.awake;
     })
 asks_long s t x y n e (asks_settling settling few) =
     asks_settling (record {
       line = settling.line;
+      request = settling.request;
       changed = settling.changed;
       limit = settling.limit;
       gained = settling.gained;
       read = same_first_bytes_read x y settling.line e settling.read;
-      accepted = settling.accepted;
+      admitted = settling.admitted;
       changes = settling.changes;
       filters = settling.filters;
       log = settling.log;
@@ -104,15 +105,15 @@ line_long s t line was now going n a = record {
   decides = decides_long going line a.decides;
 }
 
-front_long : (s : SessionState) (line : List ℕ) (was now : Option (List ℕ))
-    → AnswersFront s (without_return (take MOST_KEPT_BYTES line)) was now → AnswersFront s (without_return line) was now
+front_long : {stop : Stop} (s : SessionState) (line : List ℕ) (was now : Option (List ℕ))
+    → AnswersFront stop s (without_return (take MOST_KEPT_BYTES line)) was now → AnswersFront stop s (without_return line) was now
 front_long s line was now a = record { reply = a.reply; after = a.after; answers = (first_bytes_decide s line a.reply a.after).1 a.answers; written = a.written }
 
--- at a stop before the reply nothing of it was written
-pub front_nothing : (s : SessionState) (line : List ℕ) (w : Option (List ℕ)) → IsState s → AnswersFront s line w w
+-- at want of memory before the reply nothing of it was written
+pub front_nothing : (s : SessionState) (line : List ℕ) (w : Option (List ℕ)) → IsState s → AnswersFront NoMemory s line w w
 front_nothing s line w is =
     let a = has_answer s is line in
-    record { reply = a.0; after = a.1; answers = a.2; written = record { front = []; back = a.0; whole = refl; written = appended_nothing w } }
+    record { reply = a.0; after = a.1; answers = a.2; written = stopped_at_once w a.0 }
 
 -- ---- the first line of a text
 
@@ -238,9 +239,9 @@ end_long s t rest more after was now (l ∷ ls) last replies n none a on ends w 
       written = w;
     }
 
-part_long : (s t : SessionState) (rest more after : List ℕ) (was now : Option (List ℕ)) (lines : List (List ℕ)) (replies : List ℕ) → HasNoFeed rest
-    → Answered s (take MOST_KEPT_BYTES rest ++ more) lines after replies t → KeepsOn (map without_return lines) → AppendedFront was now replies
-    → FeedsPart s (rest ++ more) was now
+part_long : {stop : Stop} (s t : SessionState) (rest more after : List ℕ) (was now : Option (List ℕ)) (lines : List (List ℕ)) (replies : List ℕ) → HasNoFeed rest
+    → Answered s (take MOST_KEPT_BYTES rest ++ more) lines after replies t → KeepsOn (map without_return lines) → AppendedUntil stop was now replies
+    → FeedsPart stop s (rest ++ more) was now
 part_long s t rest more after was now [] replies none a keeps w = record {
   lines = [];
   rest = rest ++ more;
@@ -269,9 +270,9 @@ module _ (s : SessionState) (kept rest more : List ℕ) (was now : Option (List 
       let g = subst (λ (z : List ℕ). FeedsEnd s (z ++ more) was now t n) is f in
       end_long s t rest more g.rest was now g.lines g.last g.replies n none g.answered g.goes_on g.ends g.written
 
-  pub feeds_long_part : FeedsPart s (kept ++ more) was now → FeedsPart s (rest ++ more) was now
-  feeds_long_part f =
-      let g = subst (λ (z : List ℕ). FeedsPart s (z ++ more) was now) is f in
+  pub feeds_long_part : {stop : Stop} → FeedsPart stop s (kept ++ more) was now → FeedsPart stop s (rest ++ more) was now
+  feeds_long_part {stop} f =
+      let g = subst (λ (z : List ℕ). FeedsPart stop s (z ++ more) was now) is f in
       part_long s g.after rest more g.rest was now g.lines g.replies none g.answered g.keeps_on g.written
 
 -- ---- a last line of which the first bytes were kept
@@ -319,9 +320,9 @@ module _ (s : SessionState) (kept rest : List ℕ) (was now : Option (List ℕ))
         written = g.written;
       }
 
-  pub finishes_long_part : FinishesPart s kept was now → FinishesPart s rest was now
-  finishes_long_part f =
-      let g = subst (λ (z : List ℕ). FinishesPart s z was now) is f in
+  pub finishes_long_part : {stop : Stop} → FinishesPart stop s kept was now → FinishesPart stop s rest was now
+  finishes_long_part {stop} f =
+      let g = subst (λ (z : List ℕ). FinishesPart stop s z was now) is f in
       record { replies = g.replies; after = g.after; run = last_part s g.after rest g.replies g.run; written = g.written }
 
 -- ---- a piece that completes the line whose first bytes are kept
@@ -396,10 +397,10 @@ module _ (s : SessionState) (kept piece : List ℕ) (end : ℕ) (none : HasNoFee
         written = a.written;
       })
 
-  pub first_part : (was now : Option (List ℕ)) → AnswersFront s (without_return (take MOST_KEPT_BYTES first)) was now → FeedsPart s (kept ++ piece) was now
-  first_part was now short =
+  pub first_part : {stop : Stop} (was now : Option (List ℕ)) → AnswersFront stop s (without_return (take MOST_KEPT_BYTES first)) was now → FeedsPart stop s (kept ++ piece) was now
+  first_part {stop} was now short =
       let a = front_long s first was now short in
-      subst (λ (z : List ℕ). FeedsPart s z was now) (sym completes) (record {
+      subst (λ (z : List ℕ). FeedsPart stop s z was now) (sym completes) (record {
         lines = first ∷ [];
         rest = others;
         replies = a.reply;
@@ -421,7 +422,7 @@ module _ (s : SessionState) (kept piece : List ℕ) (end : ℕ) (none : HasNoFee
       subst (λ (z : List ℕ). FeedsEnd s z was now after.state (n + k)) (sym completes)
       (feeds_more_end s m after.state (ended first) others [] was mid now n k (first_on m was mid n one) f)
   first_then m was mid now after n k (Err stop) one f =
-      subst (λ (z : List ℕ). FeedsPart s z was now) (sym completes)
+      subst (λ (z : List ℕ). FeedsPart stop s z was now) (sym completes)
       (feeds_more_part s m (ended first) others [] was mid now n (first_on m was mid n one) f)
 
   pub first_more : (m : SessionState) (was mid now : Option (List ℕ)) (after : View) (n k i : ℕ) (result : Result Going Stop) → n + k ≡ i

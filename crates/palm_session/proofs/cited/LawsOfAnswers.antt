@@ -1,5 +1,7 @@
 -- Every line has an answer in each state that a session can hold, and no line has two.
-use Rattle.std.proofs.Common.{◌≡◌, ℕ, ℤ, zero, suc, ◌++◌, ◌+◌, ◌-◌, ◌<◌, ◌≤◌, ◌==◌, Bool, true, false, None, cond, List, [], ◌∷◌, length, take, Any, Contains, Some, ◌⊎◌, inl, inr, refl, sym, ap, ◌∙◌, subst, arith, length-take, take_all}
+use Rattle.std.proofs.Common.{◌≡◌, ℕ, ℤ, zero, suc, ◌++◌, ◌+◌, ◌-◌, ◌<◌, ◌≤◌, ◌==◌, Bool, true, false, None, cond, List, [], ◌∷◌, length, take, Any, Contains, Some, inl, inr, refl, sym, ap, ◌∙◌, subst, arith, length-take, take_all}
+use Rattle.palm_base.proofs.cited.FirstCauses.{first_known, first_once, first_not_none}
+use Rattle.palm_base.specs.First.{IsFirst, IsNone}
 use Rattle.palm_book.specs.declared.limits.TheConstants.{MOST_VARIABLES, MOST_CONSTRAINTS, MOST_ADDED}
 use Rattle.palm_read.specs.declared.limits.TheConstants.{MOST_LINE_BYTES}
 use Rattle.std.specs.Prelude.{slice_index, ◌↔◌}
@@ -10,7 +12,7 @@ use Rattle.palm_base.proofs.cited.Members.{Known, known_both, known_not, int_kno
 use Rattle.palm_model.specs.Domains.{AllAscend, Domains, values_of}
 use Rattle.palm_model.proofs.cited.Without.{pair_of}
 use Rattle.palm_base.specs.declared.terms.Pair.{Pair}
-use Rattle.palm_book.specs.Book.{Contents, Entry, active_of, initial_of}
+use Rattle.palm_book.specs.Book.{Contents, BookVar, active_of, initial_of, name_of}
 use Rattle.palm_book.proofs.cited.Actives.{initial_ascend}
 use Rattle.palm_book.specs.declared.book.BookCon.{BookCon}
 use Rattle.palm_events.proofs.cited.Names.{listed_once}
@@ -25,9 +27,8 @@ use Rattle.palm_laws.proofs.cited.Reducing.{minimal_one, minimal_some}
 use Rattle.palm_read.specs.Limits.{names_of}
 use Rattle.palm_read.specs.Reading.{IsRead, IsRefusedBy}
 use Rattle.palm_lang.specs.Reply.{fixed_text, refusal_text, ran_text, domain_line}
-use Rattle.palm_read.specs.Sound.{IsSound}
 use Rattle.palm_read.specs.declared.line.Line.{Line}
-use Rattle.palm_read.specs.declared.line.Line.TheVariants.{Comment, Var, Add, Relax, Enforce, Retract, Domains as DomainsLine, Domain, List as ListLine, Log, Why, Conflict, MinimalConflict, Minimal, Pause, Resume, Step, SolveDbt, SolveRepair, Cert, CertConflict, Guide, GuideNone, Order, OrderNone, DropGuide, DropOrder, Quit}
+use Rattle.palm_read.specs.declared.line.Line.TheVariants.{Var, Add, Relax, Enforce, Retract, Domain, Why, Minimal, Pause, Resume, Step, Cert, Guide, Order, DropGuide, DropOrder}
 use Rattle.palm_read.specs.declared.parse.LineError.{LineError}
 use Rattle.palm_read.specs.declared.parse.LineError.TheVariants.{Bytes, Form, Range as OutOfRange, Empty, Repeated, NoMemory}
 use Rattle.palm_lang.specs.declared.reply.Fixed.TheVariants.{Done, Contradiction, Paused, Present, Consistent, Bye}
@@ -36,16 +37,24 @@ use Rattle.palm_lang.specs.declared.reply.Refusal.{Refusal}
 use Rattle.palm_lang.specs.declared.reply.Refusal.TheVariants.{E1, E2, E3, E4, E5, E6, E7, E8, E9, E10, E11, E12}
 use Rattle.palm_read.proofs.cited.Parsing.{one_reading, read_not_refused, one_refusal, each_answered}
 use Rattle.palm_read.proofs.cited.SoundLines.{read_sound}
-use Rattle.palm_session.specs.State.{SessionState, IsState, HasVariable, AreDomains, has_empty}
-use Rattle.palm_session.specs.Refusals.{IsUnknown, TakesName, NamesNone, NamesNoConstraint, HasNoRoom, NamesNoObject, IsUndeclared, AsksUndeclared, HasActive, IsInWrongState, Meets, in_order, IsFirst, IsNone, refusal_of, heard}
-use Rattle.palm_session.specs.Effects.{Effect, Nothing, Settled, Searched, Rests, Filters, Procedure, ByDbt, ByRepair, search_line, Searches, Follows, Does}
-use Rattle.palm_session.specs.Answers.{IsPausable, IsContradictable, domains_text, list_text, log_text, users_text, SaysWhy, HasConflict, SaysConflict, SaysMinimal, SaysMinimalConflict, SaysCert, SaysCertConflict, end_text, Says, WaitsFor, Contradicts, Accepts, waits, contradicts, says, Answers, misread, refused, accepted}
+use Rattle.palm_session.specs.State.{SessionState, IsHeld, IsState, AreDomains, has_empty}
+use Rattle.palm_session.specs.Refusals.{IsUnknown, TakesName, NamesNone, NamesNoConstraint, HasNoRoom, NamesNoObject, IsUndeclared, AsksUndeclared, HasActive, IsInWrongState, Meets, in_order, refusal_of, heard}
+use Rattle.palm_session.specs.Effects.{Effect, Nothing, Settled, Searched, Rests, Filters, Searches, Follows, Does}
+use Rattle.palm_session.specs.declared.request.Procedure.{Procedure}
+use Rattle.palm_session.specs.declared.request.Question.{Question}
+use Rattle.palm_session.specs.declared.request.Question.TheVariants.{Domains as DomainsAsked, Domain as DomainAsked, List as ListAsked, Log as LogAsked, Why as WhyAsked, Conflict as ConflictAsked, Minimal as MinimalAsked, MinimalConflict as MinimalConflictAsked, Cert as CertAsked, CertConflict as CertConflictAsked}
+use Rattle.palm_session.specs.declared.request.Request.{Request}
+use Rattle.palm_session.specs.declared.request.Request.TheVariants.{Nothing as NothingAsked, Declare as DeclareAsked, Add as AddAsked, Relax as RelaxAsked, Enforce as EnforceAsked, Retract as RetractAsked, Ask, Pause as PauseAsked, Resume as ResumeAsked, Step as StepAsked, Solve, ChooseGuide, DropGuide as DropGuideAsked, ChooseOrder, DropOrder as DropOrderAsked, Quit as QuitAsked}
+use Rattle.palm_session.specs.Requests.{Admits, IsAdmitted, Requests}
+use Rattle.palm_session.specs.Answers.{CanWait, IsPausable, AsksOfDomains, IsContradictable, IsAnswer, domains_text, list_text, log_text, users_text, SaysWhy, HasConflict, SaysConflict, SaysMinimal, SaysMinimalConflict, SaysCert, SaysCertConflict, end_text, Says, WaitsFor, Contradicts, Accepts, waits, contradicts, says, Answers, misread, refused, accepted}
 use Rattle.palm_read.specs.Lines.{without_return}
 use Rattle.palm_session.specs.Replies.{ChoosesObject, chooses_guide, chooses_order}
 use Rattle.palm_session.specs.declared.limits.TheConstants.{MOST_KEPT_BYTES}
-use Rattle.palm_session.proofs.cited.LawsOfChanges.{variable_known, has_variable, IsOther, IsWithout}
+use Rattle.palm_session.proofs.cited.LawsOfChanges.{IsOther, IsWithout}
+use Rattle.palm_session.proofs.HeldObjects.{listed}
+use Rattle.palm_session.proofs.Requesting.{admits, request_exists, request_once, variable_known}
 use Rattle.palm_session.proofs.LawsOfDomains.{empty_domains, explanation_names, conflict_exists, lowest_empty}
-use Rattle.palm_book.proofs.cited.Naming.{some_known, name_known, variable_with, variable_once}
+use Rattle.palm_book.proofs.cited.Naming.{some_known, name_known}
 use Rattle.palm_read.proofs.cited.KnownLimits.{known_either, most_known, beyond_known}
 use Rattle.palm_session.proofs.LawsOfLines.{long_bytes, long_unread, tabu_read}
 use Rattle.palm_session.proofs.cited.LawsOfStates.{does_keeps, does_exist, does_once, does_without, rests_same, domains_exist, domains_once, bool_known, contradiction_known}
@@ -88,7 +97,7 @@ objects_known s _ = inr (λ h. h)
 
 value_known : (s : SessionState) (name : List ℕ) (value : ℤ) → Known (IsUndeclared s name value)
 value_known s name value =
-    some_known (λ (e : Entry). (e.name ≡ name) × (Contains e.values value → ⊥)) s.book.variables
+    some_known (λ (e : BookVar). (e.name ≡ name) × (Contains e.values value → ⊥)) s.book.variables
     (λ e. known_both (list_known nat_known e.name name) (known_not (member_known int_known e.values value)))
 
 undeclared_known : (s : SessionState) (line : Line) → Known (AsksUndeclared s line)
@@ -119,25 +128,6 @@ meets_known s line E11 = objects_known s line
 meets_known s line E12 = undeclared_known s line
 meets_known s line E10 = wrong_known s line
 meets_known s line _ = inr (λ h. h)
-
--- the first of a list that holds, or none does
-first_known : (holds : Refusal → Type 0) → ((q : Refusal) → Known (holds q)) → (qs : List Refusal) → ((r : Refusal) × IsFirst holds qs r) ⊎ IsNone holds qs
-first_known holds known [] = inr tt
-first_known holds known (q ∷ qs) = elim (known q) [
-  | inl h ↦ inl (q, inl (h, refl))
-  | inr n ↦ elim (first_known holds known qs) [ inl f ↦ inl (f.0, inr (n, f.1)) | inr none ↦ inr (n, none) ]
-]
-
-first_once : (holds : Refusal → Type 0) (qs : List Refusal) (p r : Refusal) → IsFirst holds qs p → IsFirst holds qs r → p ≡ r
-first_once holds [] p r f g = absurd f
-first_once holds (q ∷ qs) p r f g = elim f [
-  | inl h ↦ elim g [ inl k ↦ h.1 ∙ sym k.1 | inr m ↦ absurd (m.0 h.0) ]
-  | inr n ↦ elim g [ inl k ↦ absurd (n.0 k.0) | inr m ↦ first_once holds qs p r n.1 m.1 ]
-]
-
-first_not_none : (holds : Refusal → Type 0) (qs : List Refusal) (r : Refusal) → IsFirst holds qs r → IsNone holds qs → ⊥
-first_not_none holds [] r f n = f
-first_not_none holds (q ∷ qs) r f n = elim f [ inl h ↦ n.0 h.0 | inr m ↦ first_not_none holds qs r m.1 n.1 ]
 
 -- ---- there is something to say
 
@@ -188,124 +178,105 @@ cert_conflict_says t is awake d are = elim (cases_Bool (has_empty d)) [
   | inr e ↦ (fixed_text Consistent, inl (e, refl))
 ]
 
--- a line that waits while filtering waits finds the session awake
-pub awake_for : (s : SessionState) (line : Line) → IsPausable line → (WaitsFor s line → ⊥) → s.paused ≡ false
-awake_for s line pausable goes = elim (cases_Bool s.paused) [ inl on ↦ absurd (goes (record { paused = on; pausable = pausable })) | inr off ↦ off ]
+-- a request that waits while filtering waits finds the session awake
+pub awake_for : (s : SessionState) (request : Request) → IsPausable request → (WaitsFor s request → ⊥) → s.paused ≡ false
+awake_for s request pausable goes = elim (cases_Bool s.paused) [ inl on ↦ absurd (goes (record { paused = on; pausable = pausable })) | inr off ↦ off ]
 
-step_says : (m : SessionState) (count : ℕ) (effect : Effect) (t : SessionState) → Follows m (Filters (Some count)) effect t → (reply : List ℕ) × Says t (Step count) effect reply
+step_says : (m : SessionState) (count : ℕ) (effect : Effect) (t : SessionState) → Follows m (Filters (Some count)) effect t → (reply : List ℕ) × Says t (StepAsked count) effect reply
 step_says m count Nothing t f = absurd f
 step_says m count (Settled k) t f = (ran_text k, refl)
-step_says m count (Searched k) t f = absurd f
+step_says m count (Searched k j) t f = absurd f
 
-search_says : (m : SessionState) (by : Procedure) (effect : Effect) (t : SessionState) → Follows m (Searches by) effect t → (reply : List ℕ) × Says t (search_line by) effect reply
+search_says : (m : SessionState) (by : Procedure) (effect : Effect) (t : SessionState) → Follows m (Searches by) effect t → (reply : List ℕ) × Says t (Solve by) effect reply
 search_says m by Nothing t f = absurd f
 search_says m by (Settled k) t f = absurd f
-search_says m (ByDbt budget) (Searched end) t f = (end_text t.book end, refl)
-search_says m (ByRepair tabu budget) (Searched end) t f = (end_text t.book end, refl)
+search_says m by (Searched end dropped) t f = (end_text t.book end dropped, refl)
 
--- a query leaves the state
+-- a question leaves the state
 pub query_same : (s m t : SessionState) (effect : Effect) → m ≡ s → Follows m Rests effect t → t ≡ s
 query_same s m t effect e f = rests_same m effect t f ∙ e
 
-says_exist : (s : SessionState) (line : Line) (effect : Effect) (t : SessionState) → IsNone (Meets s line) in_order → IsState t → (WaitsFor s line → ⊥) → Does s line effect t
-    → (reply : List ℕ) × Says t line effect reply
-says_exist s Comment effect t none is goes does = ([], refl)
-says_exist s (Var name domain) effect t none is goes does = (fixed_text Done, refl)
-says_exist s (Add name shape) effect t none is goes does = (fixed_text Done, refl)
-says_exist s (Relax name) effect t none is goes does = (fixed_text Done, refl)
-says_exist s (Enforce name) effect t none is goes does = (fixed_text Done, refl)
-says_exist s (Retract name) effect t none is goes does = (fixed_text Done, refl)
-says_exist s DomainsLine effect t none is goes does = let d = domains_exist t is.held in (domains_text t.book.variables d.0, (d.0, d.1, refl))
-says_exist s (Domain name) effect t none is goes does =
+-- a question has an answer
+answer_exists : (t : SessionState) → IsState t → (question : Question) → (CanWait question → t.paused ≡ false) → (reply : List ℕ) × IsAnswer t question reply
+answer_exists t is DomainsAsked awake = let d = domains_exist t is.held in (domains_text t.book.variables d.0, (d.0, d.1, refl))
+answer_exists t is (DomainAsked x) awake = let d = domains_exist t is.held in (domain_line (name_of t.book.variables x) (values_of d.0 x), (d.0, d.1, refl))
+answer_exists t is ListAsked awake = (list_text t.book, refl)
+answer_exists t is LogAsked awake = (log_text t.book t.engine.log, refl)
+answer_exists t is (WhyAsked pair) awake =
     let d = domains_exist t is.held in
-    let same : t ≡ s = query_same s does.0 t effect does.1 does.2 in
-    let h : HasVariable t name = subst (λ (z : SessionState). HasVariable z name) (sym same) (has_variable s name none.1.0) in
-    let x = variable_with t.book.variables name h in
-    (domain_line name (values_of d.0 x.0), (d.0, x.0, d.1, x.1, x.2, refl))
-says_exist s ListLine effect t none is goes does = (list_text t.book, refl)
-says_exist s Log effect t none is goes does = (log_text t.book t.engine.log, refl)
-says_exist s (Why name value) effect t none is goes does =
+    let w = why_exists t is d.0 pair.var pair.value in
+    (w.0, (d.0, d.1, w.1))
+answer_exists t is ConflictAsked awake =
     let d = domains_exist t is.held in
-    let same : t ≡ s = query_same s does.0 t effect does.1 does.2 in
-    let h : HasVariable t name = subst (λ (z : SessionState). HasVariable z name) (sym same) (has_variable s name none.1.0) in
-    let x = variable_with t.book.variables name h in
-    let w = why_exists t is d.0 x.0 value in
-    (w.0, (d.0, x.0, d.1, x.1, x.2, w.1))
-says_exist s Conflict effect t none is goes does =
-    let d = domains_exist t is.held in
-    let same : t ≡ s = query_same s does.0 t effect does.1 does.2 in
-    let awake : t.paused ≡ false = ap (λ (z : SessionState). z.paused) same ∙ awake_for s Conflict tt goes in
-    let c = conflict_says t is awake d.0 d.1 in
+    let c = conflict_says t is (awake tt) d.0 d.1 in
     (c.0, (d.0, d.1, c.1))
-says_exist s (Minimal name value) effect t none is goes does =
-    let same : t ≡ s = query_same s does.0 t effect does.1 does.2 in
-    let h : HasVariable t name = subst (λ (z : SessionState). HasVariable z name) (sym same) (has_variable s name none.1.0) in
-    let x = variable_with t.book.variables name h in
-    let w = minimal_says t.book (initial_ascend t.book is.held.book) (pair_of x.0 value) in
-    (w.0, (x.0, x.1, x.2, w.1))
-says_exist s MinimalConflict effect t none is goes does = minimal_conflict_says t.book (initial_ascend t.book is.held.book)
-says_exist s (Cert name value) effect t none is goes does =
+answer_exists t is (MinimalAsked pair) awake = minimal_says t.book (initial_ascend t.book is.held.book) pair
+answer_exists t is MinimalConflictAsked awake = minimal_conflict_says t.book (initial_ascend t.book is.held.book)
+answer_exists t is (CertAsked pair) awake =
     let d = domains_exist t is.held in
-    let same : t ≡ s = query_same s does.0 t effect does.1 does.2 in
-    let h : HasVariable t name = subst (λ (z : SessionState). HasVariable z name) (sym same) (has_variable s name none.1.0) in
-    let x = variable_with t.book.variables name h in
-    let w = cert_says t d.0 (pair_of x.0 value) in
-    (w.0, (d.0, x.0, d.1, x.1, x.2, w.1))
-says_exist s CertConflict effect t none is goes does =
+    let w = cert_says t d.0 pair in
+    (w.0, (d.0, d.1, w.1))
+answer_exists t is CertConflictAsked awake =
     let d = domains_exist t is.held in
-    let same : t ≡ s = query_same s does.0 t effect does.1 does.2 in
-    let awake : t.paused ≡ false = ap (λ (z : SessionState). z.paused) same ∙ awake_for s CertConflict tt goes in
-    let c = cert_conflict_says t is awake d.0 d.1 in
+    let c = cert_conflict_says t is (awake tt) d.0 d.1 in
     (c.0, (d.0, d.1, c.1))
-says_exist s Pause effect t none is goes does = (fixed_text Done, refl)
-says_exist s Resume effect t none is goes does = (fixed_text Done, refl)
-says_exist s (Step count) effect t none is goes does = step_says does.0 count effect t does.2
-says_exist s (SolveDbt budget) effect t none is goes does = search_says does.0 (ByDbt budget) effect t does.2
-says_exist s (SolveRepair tabu budget) effect t none is goes does = search_says does.0 (ByRepair tabu budget) effect t does.2
-says_exist s (Guide number) effect t none is goes does = (fixed_text Done, refl)
-says_exist s GuideNone effect t none is goes does = (fixed_text Done, refl)
-says_exist s (Order number) effect t none is goes does = (fixed_text Done, refl)
-says_exist s OrderNone effect t none is goes does = (fixed_text Done, refl)
-says_exist s (DropGuide number) effect t none is goes does = (fixed_text Done, refl)
-says_exist s (DropOrder number) effect t none is goes does = (fixed_text Done, refl)
-says_exist s Quit effect t none is goes does = (fixed_text Bye, refl)
 
-pausable_known : (line : Line) → Known (IsPausable line)
-pausable_known DomainsLine = inl tt
-pausable_known (Domain name) = inl tt
-pausable_known Log = inl tt
-pausable_known (Why name value) = inl tt
-pausable_known Conflict = inl tt
-pausable_known MinimalConflict = inl tt
-pausable_known (Minimal name value) = inl tt
-pausable_known (Cert name value) = inl tt
-pausable_known CertConflict = inl tt
-pausable_known (SolveDbt budget) = inl tt
-pausable_known (SolveRepair tabu budget) = inl tt
+says_exist : (s : SessionState) (request : Request) (effect : Effect) (t : SessionState) → IsState t → (WaitsFor s request → ⊥) → Does s request effect t
+    → (reply : List ℕ) × Says t request effect reply
+says_exist s NothingAsked effect t is goes does = ([], refl)
+says_exist s (DeclareAsked name domain) effect t is goes does = (fixed_text Done, refl)
+says_exist s (AddAsked name con) effect t is goes does = (fixed_text Done, refl)
+says_exist s (RelaxAsked place) effect t is goes does = (fixed_text Done, refl)
+says_exist s (EnforceAsked place) effect t is goes does = (fixed_text Done, refl)
+says_exist s (RetractAsked place) effect t is goes does = (fixed_text Done, refl)
+says_exist s (Ask question) effect t is goes does =
+    let same : t ≡ s = query_same s does.0 t effect does.1 does.2 in
+    answer_exists t is question (λ waits_too. ap (λ (z : SessionState). z.paused) same ∙ awake_for s (Ask question) waits_too goes)
+says_exist s PauseAsked effect t is goes does = (fixed_text Done, refl)
+says_exist s ResumeAsked effect t is goes does = (fixed_text Done, refl)
+says_exist s (StepAsked count) effect t is goes does = step_says does.0 count effect t does.2
+says_exist s (Solve by) effect t is goes does = search_says does.0 by effect t does.2
+says_exist s (ChooseGuide chosen) effect t is goes does = (fixed_text Done, refl)
+says_exist s (DropGuideAsked number) effect t is goes does = (fixed_text Done, refl)
+says_exist s (ChooseOrder chosen) effect t is goes does = (fixed_text Done, refl)
+says_exist s (DropOrderAsked number) effect t is goes does = (fixed_text Done, refl)
+says_exist s QuitAsked effect t is goes does = (fixed_text Bye, refl)
+
+waiting_known : (question : Question) → Known (CanWait question)
+waiting_known ListAsked = inr (λ h. h)
+waiting_known _ = inl tt
+
+pausable_known : (request : Request) → Known (IsPausable request)
+pausable_known (Ask question) = waiting_known question
+pausable_known (Solve by) = inl tt
 pausable_known _ = inr (λ h. h)
 
-contradictable_known : (line : Line) → Known (IsContradictable line)
-contradictable_known (Var name domain) = inl tt
-contradictable_known (Add name shape) = inl tt
-contradictable_known (Relax name) = inl tt
-contradictable_known (Enforce name) = inl tt
-contradictable_known (Retract name) = inl tt
-contradictable_known Resume = inl tt
-contradictable_known DomainsLine = inl tt
-contradictable_known (Domain name) = inl tt
-contradictable_known (Why name value) = inl tt
-contradictable_known (Minimal name value) = inl tt
-contradictable_known (Cert name value) = inl tt
+of_domains_known : (question : Question) → Known (AsksOfDomains question)
+of_domains_known DomainsAsked = inl tt
+of_domains_known (DomainAsked x) = inl tt
+of_domains_known (WhyAsked pair) = inl tt
+of_domains_known (MinimalAsked pair) = inl tt
+of_domains_known (CertAsked pair) = inl tt
+of_domains_known _ = inr (λ h. h)
+
+contradictable_known : (request : Request) → Known (IsContradictable request)
+contradictable_known (DeclareAsked name domain) = inl tt
+contradictable_known (AddAsked name con) = inl tt
+contradictable_known (RelaxAsked place) = inl tt
+contradictable_known (EnforceAsked place) = inl tt
+contradictable_known (RetractAsked place) = inl tt
+contradictable_known ResumeAsked = inl tt
+contradictable_known (Ask question) = of_domains_known question
 contradictable_known _ = inr (λ h. h)
 
-waits_known : (s : SessionState) (line : Line) → Known (WaitsFor s line)
-waits_known s line = elim (known_both (bool_known s.paused true) (pausable_known line)) [
+waits_known : (s : SessionState) (request : Request) → Known (WaitsFor s request)
+waits_known s request = elim (known_both (bool_known s.paused true) (pausable_known request)) [
   | inl w ↦ inl (record { paused = w.0; pausable = w.1 })
   | inr n ↦ inr (λ w. n (w.paused, w.pausable))
 ]
 
-contradicts_known : (t : SessionState) → IsState t → (line : Line) → Known (Contradicts t line)
-contradicts_known t is line = elim (known_both (contradiction_known t is.held) (contradictable_known line)) [
+contradicts_known : (t : SessionState) → IsState t → (request : Request) → Known (Contradicts t request)
+contradicts_known t is request = elim (known_both (contradiction_known t is.held) (contradictable_known request)) [
   | inl c ↦ inl (record { contradiction = c.0; contradictable = c.1 })
   | inr n ↦ inr (λ c. n (c.contradiction, c.contradictable))
 ]
@@ -316,17 +287,20 @@ abbrev HasAnswer : SessionState → List ℕ → Type 0
 HasAnswer s bytes = (reply : List ℕ) × (t : SessionState) × Answers s bytes reply t
 
 accepted_answer : (s : SessionState) → IsState s → (bytes : List ℕ) (line : Line) → IsRead bytes line → IsNone (Meets s line) in_order → HasAnswer s bytes
-accepted_answer s is bytes line read none = elim (waits_known s line) [
-  | inl w ↦ (fixed_text Paused, s, accepted line read none (waits w))
-  | inr awake ↦
-      let sound = read_sound bytes line read in
-      let d = does_exist s line is sound (tabu_read bytes line read) none in
-      let it : IsState d.1 = does_keeps s line d.0 d.1 is sound none d.2 in
-      elim (contradicts_known d.1 it line) [
-        | inl c ↦ (fixed_text Contradiction, d.1, accepted line read none (contradicts d.0 awake d.2 c))
-        | inr n ↦ let r = says_exist s line d.0 d.1 none it awake d.2 in (r.0, d.1, accepted line read none (says d.0 awake d.2 n r.1))
-      ]
-]
+accepted_answer s is bytes line read none =
+    let r = request_exists s line none in
+    let a : IsAdmitted s line r.0 = record { none = none; requests = r.1 } in
+    elim (waits_known s r.0) [
+      | inl w ↦ (fixed_text Paused, s, accepted line r.0 read a (waits w))
+      | inr awake ↦
+          let can = admits s is.held line r.0 (read_sound bytes line read) (tabu_read bytes line read) a in
+          let d = does_exist s r.0 is can in
+          let it : IsState d.1 = does_keeps s r.0 d.0 d.1 is can d.2 in
+          elim (contradicts_known d.1 it r.0) [
+            | inl c ↦ (fixed_text Contradiction, d.1, accepted line r.0 read a (contradicts d.0 awake d.2 c))
+            | inr n ↦ let x = says_exist s r.0 d.0 d.1 it awake d.2 in (x.0, d.1, accepted line r.0 read a (says d.0 awake d.2 n x.1))
+          ]
+    ]
 
 read_answer : (s : SessionState) → IsState s → (bytes : List ℕ) (line : Line) → IsRead bytes line → HasAnswer s bytes
 read_answer s is bytes line read = elim (first_known (Meets s line) (meets_known s line) in_order) [
@@ -350,33 +324,76 @@ has_answer s is bytes = elim (each_answered bytes) [
 
 -- ---- a state that a session can hold stays one
 
-accepts_keeps : (s : SessionState) (line : Line) (reply : List ℕ) (t : SessionState) → IsState s → IsSound line → IsNone (Meets s line) in_order → Accepts s line reply t → IsState t
-accepts_keeps s line reply t is sound none (waits w) = is
-accepts_keeps s line reply t is sound none (contradicts effect awake does c) = does_keeps s line effect t is sound none does
-accepts_keeps s line reply t is sound none (says effect awake does n r) = does_keeps s line effect t is sound none does
+-- what a line that was read and admitted asks for can be obeyed
+pub read_admits : (s : SessionState) → IsHeld s → (bytes : List ℕ) (line : Line) (request : Request) → IsRead bytes line → IsAdmitted s line request → Admits s request
+read_admits s is bytes line request read a = admits s is line request (read_sound bytes line read) (tabu_read bytes line read) a
+
+accepts_keeps : (s : SessionState) (request : Request) (reply : List ℕ) (t : SessionState) → IsState s → Admits s request → Accepts s request reply t → IsState t
+accepts_keeps s request reply t is can (waits w) = is
+accepts_keeps s request reply t is can (contradicts effect awake does c) = does_keeps s request effect t is can does
+accepts_keeps s request reply t is can (says effect awake does n r) = does_keeps s request effect t is can does
 
 pub answers_keep : (s : SessionState) (bytes reply : List ℕ) (t : SessionState) → IsState s → Answers s bytes reply t → IsState t
 answers_keep s bytes reply t is (misread error refusal q some) = is
 answers_keep s bytes reply t is (refused line refusal read first) = is
-answers_keep s bytes reply t is (accepted line read none a) = accepts_keeps s line reply t is (read_sound bytes line read) none a
+answers_keep s bytes reply t is (accepted line request read a h) = accepts_keeps s request reply t is (read_admits s is.held bytes line request read a) h
 
 -- ---- which objects are there, and which are chosen
 
-accepts_without : (guides orders : List ℕ) (s : SessionState) (line : Line) (reply : List ℕ) (t : SessionState) → IsNone (Meets s line) in_order → IsOther guides orders line
-    → Accepts s line reply t → IsWithout guides orders s → IsWithout guides orders t
-accepts_without guides orders s line reply t none other (waits w) is = is
-accepts_without guides orders s line reply t none other (contradicts effect awake does c) is = does_without guides orders s line effect t none other does is
-accepts_without guides orders s line reply t none other (says effect awake does n r) is = does_without guides orders s line effect t none other does is
+accepts_without : (guides orders : List ℕ) (s : SessionState) (request : Request) (reply : List ℕ) (t : SessionState) → IsOther request
+    → Accepts s request reply t → IsWithout guides orders s → IsWithout guides orders t
+accepts_without guides orders s request reply t other (waits w) is = is
+accepts_without guides orders s request reply t other (contradicts effect awake does c) is = does_without guides orders s request effect t other does is
+accepts_without guides orders s request reply t other (says effect awake does n r) is = does_without guides orders s request effect t other does is
+
+-- a line that asks for a guide or an order names it
+abbrev ChoosesGuide : Request → Type 0
+ChoosesGuide (ChooseGuide (Some number)) = Unit {0}
+ChoosesGuide _ = ⊥
+
+guide_line : (s : SessionState) (line : Line) (number : ℕ) → Requests s line (ChooseGuide (Some number)) → line ≡ Guide number
+guide_line s (Guide other) number r = let e : ChooseGuide (Some number) ≡ ChooseGuide (Some other) = r in let same : other ≡ number = cc in ap Guide same
+guide_line s (Add name shape) number r = absurd (subst ChoosesGuide r.2 tt)
+guide_line s (Relax name) number r = absurd (subst ChoosesGuide r.2 tt)
+guide_line s (Enforce name) number r = absurd (subst ChoosesGuide r.2 tt)
+guide_line s (Retract name) number r = absurd (subst ChoosesGuide r.2 tt)
+guide_line s (Domain name) number r = absurd (subst ChoosesGuide r.2 tt)
+guide_line s (Why name value) number r = absurd (subst ChoosesGuide r.2 tt)
+guide_line s (Minimal name value) number r = absurd (subst ChoosesGuide r.2 tt)
+guide_line s (Cert name value) number r = absurd (subst ChoosesGuide r.2 tt)
+guide_line s _ number r = absurd (subst ChoosesGuide r tt)
+
+abbrev ChoosesOrder : Request → Type 0
+ChoosesOrder (ChooseOrder (Some number)) = Unit {0}
+ChoosesOrder _ = ⊥
+
+order_line : (s : SessionState) (line : Line) (number : ℕ) → Requests s line (ChooseOrder (Some number)) → line ≡ Order number
+order_line s (Order other) number r = let e : ChooseOrder (Some number) ≡ ChooseOrder (Some other) = r in let same : other ≡ number = cc in ap Order same
+order_line s (Add name shape) number r = absurd (subst ChoosesOrder r.2 tt)
+order_line s (Relax name) number r = absurd (subst ChoosesOrder r.2 tt)
+order_line s (Enforce name) number r = absurd (subst ChoosesOrder r.2 tt)
+order_line s (Retract name) number r = absurd (subst ChoosesOrder r.2 tt)
+order_line s (Domain name) number r = absurd (subst ChoosesOrder r.2 tt)
+order_line s (Why name value) number r = absurd (subst ChoosesOrder r.2 tt)
+order_line s (Minimal name value) number r = absurd (subst ChoosesOrder r.2 tt)
+order_line s (Cert name value) number r = absurd (subst ChoosesOrder r.2 tt)
+order_line s _ number r = absurd (subst ChoosesOrder r tt)
 
 -- a line that chooses none of these objects leaves none chosen
 pub answers_without : (guides orders : List ℕ) (s : SessionState) (bytes reply : List ℕ) (t : SessionState) → (ChoosesObject guides orders bytes → ⊥) → Answers s bytes reply t
     → IsWithout guides orders s → IsWithout guides orders t
 answers_without guides orders s bytes reply t other (misread error refusal q some) is = is
 answers_without guides orders s bytes reply t other (refused line refusal read first) is = is
-answers_without guides orders s bytes reply t other (accepted line read none a) is = accepts_without guides orders s line reply t none (record {
-  guide = λ number e c. other (chooses_guide number c (subst (λ (x : Line). IsRead bytes x) e read));
-  order = λ number e c. other (chooses_order number c (subst (λ (x : Line). IsRead bytes x) e read));
-}) a is
+answers_without guides orders s bytes reply t other (accepted line request read a h) is = accepts_without guides orders s request reply t (record {
+  guide = λ number e.
+      let l = guide_line s line number (subst (λ (r : Request). Requests s line r) e a.requests) in
+      let none = subst (λ (x : Line). IsNone (Meets s x) in_order) l a.none in
+      other (chooses_guide number (is.guides_within number (listed s.guides number none.1.1.1.1.0)) (subst (λ (x : Line). IsRead bytes x) l read));
+  order = λ number e.
+      let l = order_line s line number (subst (λ (r : Request). Requests s line r) e a.requests) in
+      let none = subst (λ (x : Line). IsNone (Meets s x) in_order) l a.none in
+      other (chooses_order number (is.orders_within number (listed s.orders number none.1.1.1.1.0)) (subst (λ (x : Line). IsRead bytes x) l read));
+}) h is
 
 -- ---- no line has two answers
 
@@ -435,89 +452,75 @@ cert_conflict_same t d a b (inr p) (inr q) =
     let same : p.1 ≡ q.1 = omega (arith, below, above) in
     p.3 ∙ ap (λ (x : ℕ). certificate_text t.book t.engine.log (ConflictClaim x)) same ∙ sym q.3
 
-step_same : (t : SessionState) (count : ℕ) (effect : Effect) (a b : List ℕ) → Says t (Step count) effect a → Says t (Step count) effect b → a ≡ b
+step_same : (t : SessionState) (count : ℕ) (effect : Effect) (a b : List ℕ) → Says t (StepAsked count) effect a → Says t (StepAsked count) effect b → a ≡ b
 step_same t count Nothing a b x y = absurd x
 step_same t count (Settled k) a b x y = x ∙ sym y
-step_same t count (Searched k) a b x y = absurd x
+step_same t count (Searched k j) a b x y = absurd x
 
-search_same : (t : SessionState) (by : Procedure) (effect : Effect) (a b : List ℕ) → Says t (search_line by) effect a → Says t (search_line by) effect b → a ≡ b
-search_same t (ByDbt budget) Nothing a b x y = absurd x
-search_same t (ByDbt budget) (Settled k) a b x y = absurd x
-search_same t (ByDbt budget) (Searched end) a b x y = x ∙ sym y
-search_same t (ByRepair tabu budget) Nothing a b x y = absurd x
-search_same t (ByRepair tabu budget) (Settled k) a b x y = absurd x
-search_same t (ByRepair tabu budget) (Searched end) a b x y = x ∙ sym y
+search_same : (t : SessionState) (by : Procedure) (effect : Effect) (a b : List ℕ) → Says t (Solve by) effect a → Says t (Solve by) effect b → a ≡ b
+search_same t by Nothing a b x y = absurd x
+search_same t by (Settled k) a b x y = absurd x
+search_same t by (Searched end dropped) a b x y = x ∙ sym y
 
-says_same : (t : SessionState) (line : Line) (effect : Effect) (a b : List ℕ) → IsState t → Says t line effect a → Says t line effect b → a ≡ b
-says_same t Comment effect a b is x y = x ∙ sym y
-says_same t (Var name domain) effect a b is x y = x ∙ sym y
-says_same t (Add name shape) effect a b is x y = x ∙ sym y
-says_same t (Relax name) effect a b is x y = x ∙ sym y
-says_same t (Enforce name) effect a b is x y = x ∙ sym y
-says_same t (Retract name) effect a b is x y = x ∙ sym y
-says_same t DomainsLine effect a b is x y =
+answer_same : (t : SessionState) (question : Question) (a b : List ℕ) → IsAnswer t question a → IsAnswer t question b → a ≡ b
+answer_same t DomainsAsked a b x y =
     x.2 ∙ ap (λ (z : Domains). domains_text t.book.variables z) (domains_once t x.0 y.0 x.1 y.1) ∙ sym y.2
-says_same t (Domain name) effect a b is x y =
-    let d : x.0 ≡ y.0 = domains_once t x.0 y.0 x.2 y.2 in
-    let v : x.1 ≡ y.1 = variable_once t.book.variables is.held.book.different_variables x.1 y.1 x.3 y.3 (x.4 ∙ sym y.4) in
-    x.5 ∙ ap (λ (z : Domains). domain_line name (values_of z x.1)) d ∙ ap (λ (z : ℕ). domain_line name (values_of y.0 z)) v ∙ sym y.5
-says_same t ListLine effect a b is x y = x ∙ sym y
-says_same t Log effect a b is x y = x ∙ sym y
-says_same t (Why name value) effect a b is x y =
-    let d : x.0 ≡ y.0 = domains_once t x.0 y.0 x.2 y.2 in
-    let v : x.1 ≡ y.1 = variable_once t.book.variables is.held.book.different_variables x.1 y.1 x.3 y.3 (x.4 ∙ sym y.4) in
-    why_same t y.0 y.1 value a b
-    (subst (λ (z : ℕ). SaysWhy t y.0 z value a) v (subst (λ (z : Domains). SaysWhy t z x.1 value a) d x.5)) y.5
-says_same t Conflict effect a b is x y =
+answer_same t (DomainAsked v) a b x y =
+    x.2 ∙ ap (λ (z : Domains). domain_line (name_of t.book.variables v) (values_of z v)) (domains_once t x.0 y.0 x.1 y.1) ∙ sym y.2
+answer_same t ListAsked a b x y = x ∙ sym y
+answer_same t LogAsked a b x y = x ∙ sym y
+answer_same t (WhyAsked pair) a b x y =
+    why_same t y.0 pair.var pair.value a b (subst (λ (z : Domains). SaysWhy t z pair.var pair.value a) (domains_once t x.0 y.0 x.1 y.1) x.2) y.2
+answer_same t ConflictAsked a b x y =
     conflict_same t y.0 a b (subst (λ (z : Domains). SaysConflict t z a) (domains_once t x.0 y.0 x.1 y.1) x.2) y.2
-says_same t (Minimal name value) effect a b is x y =
-    let v : x.0 ≡ y.0 = variable_once t.book.variables is.held.book.different_variables x.0 y.0 x.1 y.1 (x.2 ∙ sym y.2) in
-    minimal_same t.book (pair_of y.0 value) a b (subst (λ (z : ℕ). SaysMinimal t.book (pair_of z value) a) v x.3) y.3
-says_same t MinimalConflict effect a b is x y = minimal_conflict_same t.book a b x y
-says_same t (Cert name value) effect a b is x y =
-    let d : x.0 ≡ y.0 = domains_once t x.0 y.0 x.2 y.2 in
-    let v : x.1 ≡ y.1 = variable_once t.book.variables is.held.book.different_variables x.1 y.1 x.3 y.3 (x.4 ∙ sym y.4) in
-    cert_same t y.0 (pair_of y.1 value) a b
-    (subst (λ (z : ℕ). SaysCert t y.0 (pair_of z value) a) v (subst (λ (z : Domains). SaysCert t z (pair_of x.1 value) a) d x.5)) y.5
-says_same t CertConflict effect a b is x y =
+answer_same t (MinimalAsked pair) a b x y = minimal_same t.book pair a b x y
+answer_same t MinimalConflictAsked a b x y = minimal_conflict_same t.book a b x y
+answer_same t (CertAsked pair) a b x y =
+    cert_same t y.0 pair a b (subst (λ (z : Domains). SaysCert t z pair a) (domains_once t x.0 y.0 x.1 y.1) x.2) y.2
+answer_same t CertConflictAsked a b x y =
     cert_conflict_same t y.0 a b (subst (λ (z : Domains). SaysCertConflict t z a) (domains_once t x.0 y.0 x.1 y.1) x.2) y.2
-says_same t Pause effect a b is x y = x ∙ sym y
-says_same t Resume effect a b is x y = x ∙ sym y
-says_same t (Step count) effect a b is x y = step_same t count effect a b x y
-says_same t (SolveDbt budget) effect a b is x y = search_same t (ByDbt budget) effect a b x y
-says_same t (SolveRepair tabu budget) effect a b is x y = search_same t (ByRepair tabu budget) effect a b x y
-says_same t (Guide number) effect a b is x y = x ∙ sym y
-says_same t GuideNone effect a b is x y = x ∙ sym y
-says_same t (Order number) effect a b is x y = x ∙ sym y
-says_same t OrderNone effect a b is x y = x ∙ sym y
-says_same t (DropGuide number) effect a b is x y = x ∙ sym y
-says_same t (DropOrder number) effect a b is x y = x ∙ sym y
-says_same t Quit effect a b is x y = x ∙ sym y
+
+says_same : (t : SessionState) (request : Request) (effect : Effect) (a b : List ℕ) → Says t request effect a → Says t request effect b → a ≡ b
+says_same t NothingAsked effect a b x y = x ∙ sym y
+says_same t (DeclareAsked name domain) effect a b x y = x ∙ sym y
+says_same t (AddAsked name con) effect a b x y = x ∙ sym y
+says_same t (RelaxAsked place) effect a b x y = x ∙ sym y
+says_same t (EnforceAsked place) effect a b x y = x ∙ sym y
+says_same t (RetractAsked place) effect a b x y = x ∙ sym y
+says_same t (Ask question) effect a b x y = answer_same t question a b x y
+says_same t PauseAsked effect a b x y = x ∙ sym y
+says_same t ResumeAsked effect a b x y = x ∙ sym y
+says_same t (StepAsked count) effect a b x y = step_same t count effect a b x y
+says_same t (Solve by) effect a b x y = search_same t by effect a b x y
+says_same t (ChooseGuide chosen) effect a b x y = x ∙ sym y
+says_same t (DropGuideAsked number) effect a b x y = x ∙ sym y
+says_same t (ChooseOrder chosen) effect a b x y = x ∙ sym y
+says_same t (DropOrderAsked number) effect a b x y = x ∙ sym y
+says_same t QuitAsked effect a b x y = x ∙ sym y
 
 abbrev AreOne : List ℕ → List ℕ → SessionState → SessionState → Type 0
 AreOne a b t u = (a ≡ b) × (t ≡ u)
 
-module _ (s : SessionState) (line : Line) (unguided : s.guide ≡ None) (free : s.order ≡ None) (is : IsState s) (sound : IsSound line) (none : IsNone (Meets s line) in_order) where
-  both_say : (e f : Effect) (t u : SessionState) (a b : List ℕ) → Does s line e t → Does s line f u → Says t line e a → Says u line f b → AreOne a b t u
+module _ (s : SessionState) (request : Request) (unguided : s.guide ≡ None) (free : s.order ≡ None) (is : IsState s) (can : Admits s request) where
+  both_say : (e f : Effect) (t u : SessionState) (a b : List ℕ) → Does s request e t → Does s request f u → Says t request e a → Says u request f b → AreOne a b t u
   both_say e f t u a b d g x y =
-      let at = does_keeps s line e t is sound none d in
-      let one = does_once s line e f t u unguided free is sound none d g in
-      let there : Says t line f b = subst (λ (z : SessionState). Says z line f b) (sym one.1) y in
-      (says_same t line e a b at x (subst (λ (z : Effect). Says t line z b) (sym one.0) there), one.1)
+      let one = does_once s request e f t u unguided free is can d g in
+      let there : Says t request f b = subst (λ (z : SessionState). Says z request f b) (sym one.1) y in
+      (says_same t request e a b x (subst (λ (z : Effect). Says t request z b) (sym one.0) there), one.1)
 
-  one_tells : (e f : Effect) (t u : SessionState) → Does s line e t → Does s line f u → Contradicts t line → (Contradicts u line → ⊥) → ⊥
-  one_tells e f t u d g c n = n (subst (λ (z : SessionState). Contradicts z line) (does_once s line e f t u unguided free is sound none d g).1 c)
+  one_tells : (e f : Effect) (t u : SessionState) → Does s request e t → Does s request f u → Contradicts t request → (Contradicts u request → ⊥) → ⊥
+  one_tells e f t u d g c n = n (subst (λ (z : SessionState). Contradicts z request) (does_once s request e f t u unguided free is can d g).1 c)
 
-accepts_once : (s : SessionState) (line : Line) (a b : List ℕ) (t u : SessionState) → s.guide ≡ None → s.order ≡ None → IsState s → IsSound line → IsNone (Meets s line) in_order → Accepts s line a t → Accepts s line b u → AreOne a b t u
-accepts_once s line a b t u unguided free is sound none (waits w) (waits v) = (refl, refl)
-accepts_once s line a b t u unguided free is sound none (waits w) (contradicts f m g k) = absurd (m w)
-accepts_once s line a b t u unguided free is sound none (waits w) (says f m g k y) = absurd (m w)
-accepts_once s line a b t u unguided free is sound none (contradicts e n d c) (waits v) = absurd (n v)
-accepts_once s line a b t u unguided free is sound none (contradicts e n d c) (contradicts f m g k) = (refl, (does_once s line e f t u unguided free is sound none d g).1)
-accepts_once s line a b t u unguided free is sound none (contradicts e n d c) (says f m g k y) = absurd (one_tells s line unguided free is sound none e f t u d g c k)
-accepts_once s line a b t u unguided free is sound none (says e n d c x) (waits v) = absurd (n v)
-accepts_once s line a b t u unguided free is sound none (says e n d c x) (contradicts f m g k) = absurd (one_tells s line unguided free is sound none f e u t g d k c)
-accepts_once s line a b t u unguided free is sound none (says e n d c x) (says f m g k y) = both_say s line unguided free is sound none e f t u a b d g x y
+accepts_once : (s : SessionState) (request : Request) (a b : List ℕ) (t u : SessionState) → s.guide ≡ None → s.order ≡ None → IsState s → Admits s request → Accepts s request a t → Accepts s request b u → AreOne a b t u
+accepts_once s request a b t u unguided free is can (waits w) (waits v) = (refl, refl)
+accepts_once s request a b t u unguided free is can (waits w) (contradicts f m g k) = absurd (m w)
+accepts_once s request a b t u unguided free is can (waits w) (says f m g k y) = absurd (m w)
+accepts_once s request a b t u unguided free is can (contradicts e n d c) (waits v) = absurd (n v)
+accepts_once s request a b t u unguided free is can (contradicts e n d c) (contradicts f m g k) = (refl, (does_once s request e f t u unguided free is can d g).1)
+accepts_once s request a b t u unguided free is can (contradicts e n d c) (says f m g k y) = absurd (one_tells s request unguided free is can e f t u d g c k)
+accepts_once s request a b t u unguided free is can (says e n d c x) (waits v) = absurd (n v)
+accepts_once s request a b t u unguided free is can (says e n d c x) (contradicts f m g k) = absurd (one_tells s request unguided free is can f e u t g d k c)
+accepts_once s request a b t u unguided free is can (says e n d c x) (says f m g k y) = both_say s request unguided free is can e f t u a b d g x y
 
 -- an error with a refusal is not want of memory
 not_memory : (error : LineError) (refusal : Refusal) → refusal_of error ≡ Some refusal → error ≡ NoMemory → ⊥
@@ -535,21 +538,22 @@ misread_once bytes d e p r x y some other =
 pub answers_once : (s : SessionState) (bytes a b : List ℕ) (t u : SessionState) → s.guide ≡ None → s.order ≡ None → IsState s → Answers s bytes a t → Answers s bytes b u → (a ≡ b) × (t ≡ u)
 answers_once s bytes a b t u unguided free is (misread d p x some) (misread e r y other) = (ap refusal_text (misread_once bytes d e p r x y some other), refl)
 answers_once s bytes a b t u unguided free is (misread d p x some) (refused line r read first) = absurd (misread_unread bytes line d p read x some)
-answers_once s bytes a b t u unguided free is (misread d p x some) (accepted line read none h) = absurd (misread_unread bytes line d p read x some)
+answers_once s bytes a b t u unguided free is (misread d p x some) (accepted line request read k h) = absurd (misread_unread bytes line d p read x some)
 answers_once s bytes a b t u unguided free is (refused line p read first) (misread e r y other) = absurd (misread_unread bytes line e r read y other)
 answers_once s bytes a b t u unguided free is (refused line p read first) (refused other r again second) =
     let same : other ≡ line = one_reading bytes other line again read in
     (ap refusal_text (first_once (Meets s line) in_order p r first (subst (λ (z : Line). IsFirst (Meets s z) in_order r) same second)), refl)
-answers_once s bytes a b t u unguided free is (refused line p read first) (accepted other again none h) =
+answers_once s bytes a b t u unguided free is (refused line p read first) (accepted other request again k h) =
     let same : other ≡ line = one_reading bytes other line again read in
-    absurd (first_not_none (Meets s line) in_order p first (subst (λ (z : Line). IsNone (Meets s z) in_order) same none))
-answers_once s bytes a b t u unguided free is (accepted line read none h) (misread e r y other) = absurd (misread_unread bytes line e r read y other)
-answers_once s bytes a b t u unguided free is (accepted line read none h) (refused other r again second) =
+    absurd (first_not_none (Meets s line) in_order p first (subst (λ (z : Line). IsNone (Meets s z) in_order) same k.none))
+answers_once s bytes a b t u unguided free is (accepted line request read k h) (misread e r y other) = absurd (misread_unread bytes line e r read y other)
+answers_once s bytes a b t u unguided free is (accepted line request read k h) (refused other r again second) =
     let same : other ≡ line = one_reading bytes other line again read in
-    absurd (first_not_none (Meets s line) in_order r (subst (λ (z : Line). IsFirst (Meets s z) in_order r) same second) none)
-answers_once s bytes a b t u unguided free is (accepted line read none h) (accepted other again clear k) =
+    absurd (first_not_none (Meets s line) in_order r (subst (λ (z : Line). IsFirst (Meets s z) in_order r) same second) k.none)
+answers_once s bytes a b t u unguided free is (accepted line request read k h) (accepted other asked again l i) =
     let same : other ≡ line = one_reading bytes other line again read in
-    accepts_once s line a b t u unguided free is (read_sound bytes line read) none h (subst (λ (z : Line). Accepts s z b u) same k)
+    let one : asked ≡ request = request_once s is.held line asked request (subst (λ (z : Line). Requests s z asked) same l.requests) k.requests in
+    accepts_once s request a b t u unguided free is (read_admits s is.held bytes line request read k) h (subst (λ (r : Request). Accepts s r b u) one i)
 
 -- ---- the first bytes decide
 
@@ -565,7 +569,7 @@ return_length line = returned line (slice_index line (length line - 1) == 13)
 long_answer : (s : SessionState) (bytes reply : List ℕ) (t : SessionState) → MOST_LINE_BYTES < length bytes → Answers s bytes reply t → (reply ≡ refusal_text E1) × (t ≡ s)
 long_answer s bytes reply t long (misread error refusal q some) = (ap refusal_text (misread_once bytes error Bytes refusal E1 q (long_bytes bytes long) some refl), refl)
 long_answer s bytes reply t long (refused line refusal read first) = absurd (long_unread bytes line long read)
-long_answer s bytes reply t long (accepted line read none h) = absurd (long_unread bytes line long read)
+long_answer s bytes reply t long (accepted line request read a h) = absurd (long_unread bytes line long read)
 
 -- and every line that is too long has it
 long_same : (s : SessionState) (bytes others reply : List ℕ) (t : SessionState) → MOST_LINE_BYTES < length bytes → MOST_LINE_BYTES < length others → Answers s bytes reply t → Answers s others reply t

@@ -1,49 +1,43 @@
--- What a line changes: it can be done, in one way, and leaves what a session can hold in the midst of a line.
-use Rattle.std.proofs.Common.{◌≡◌, ◌≢◌, ℕ, ◌+◌, ◌<◌, ◌≤◌, ℤ, pos, negsuc, ◌+ℤ◌, ◌-ℤ◌, ◌≤ℤ◌, Bool, true, false, not, if◌then◌else◌, Some, None, List, [], ◌∷◌, ◌++◌, length, filter, slice_get, remove, All, AllPairs, Any, Contains, ◌⊎◌, inl, inr, refl, sym, ap, ◌∙◌, subst, arith, length-append, get_or}
-use Rattle.std.proofs.lemmas.Bool.{cases_Bool, cases_lt, false≢true}
+-- What a request changes: it can be done, in one way, and leaves what a session can hold in the midst of a line.
+use Rattle.std.proofs.Common.{◌≡◌, ◌≢◌, ℕ, ◌+◌, ◌<◌, ◌≤◌, ℤ, pos, negsuc, ◌+ℤ◌, ◌-ℤ◌, ◌≤ℤ◌, Bool, true, false, not, if◌then◌else◌, Some, None, List, [], ◌∷◌, ◌++◌, length, filter, slice_get, remove, All, Any, Contains, ◌⊎◌, inl, inr, refl, sym, ap, ◌∙◌, subst, arith, length-append}
+use Rattle.std.proofs.lemmas.Bool.{false≢true}
 use Rattle.std.proofs.lemmas.Int.{ints}
 use Rattle.std.proofs.lemmas.List.{length-map, map-append}
 use Rattle.std.proofs.lemmas.List.Elements.{All-push, All-weaker, All-contains}
-use Rattle.std.proofs.lemmas.Option.{same_Some, slice_get_within, get_or_from_slice_get}
+use Rattle.std.proofs.lemmas.Option.{same_Some, slice_get_within}
 use Rattle.palm_base.specs.declared.terms.Pair.{Pair}
 use Rattle.palm_base.specs.declared.terms.Cid.TheVariants.{User}
-use Rattle.palm_base.proofs.cited.Members.{Known, all_members, member_get, member_place, remove_member}
-use Rattle.palm_model.specs.declared.limits.TheConstants.{MOST_SCOPE}
+use Rattle.palm_base.proofs.cited.Members.{all_members, member_get, remove_member}
 use Rattle.palm_model.specs.Constraint.{IsWellFormed}
 use Rattle.palm_model.specs.Domains.{Domains, is_among, without}
 use Rattle.palm_model.specs.Limits.{IsValue}
 use Rattle.palm_model.specs.Log.{Active, IsActive, log_pairs}
 use Rattle.palm_model.specs.State.{EngineState, HasEmpty, IsEmptyAt, IsValid, present}
-use Rattle.palm_model.specs.Event.{Posts, Withdraws, Declares, posted, with_posted, without_names, gone_with}
+use Rattle.palm_model.specs.Event.{Posts, Withdraws, Declares, posted, with_posted, without_cids, gone_with}
 use Rattle.palm_model.specs.declared.constraint.Con.{Con}
 use Rattle.palm_model.proofs.cited.Without.{length_without, values_of_without}
-use Rattle.palm_book.specs.Book.{Entry, IsBook, AreValues, user_at, active_of, with_active}
-use Rattle.palm_book.specs.Named.{Resolves}
+use Rattle.palm_book.specs.Book.{BookVar, IsBook, AreValues, user_at, active_of, with_active}
 use Rattle.palm_book.specs.declared.book.BookCon.{BookCon}
 use Rattle.palm_book.specs.declared.limits.TheConstants.{MOST_VARIABLES, MOST_CONSTRAINTS, MOST_ADDED}
-use Rattle.palm_book.proofs.cited.Any.{any_member, member_any}
 use Rattle.palm_book.proofs.cited.BookLemmas.{IsBook-with_variable, IsBook-with_constraint, IsBook-with_active, IsBook-without, All-remove}
-use Rattle.palm_read.specs.Limits.{names_of, HasManyRows}
 use Rattle.palm_read.specs.Domain.{IsLarge, IsSoundDomain, count_in, values_in}
-use Rattle.palm_read.specs.Sound.{IsSound}
 use Rattle.palm_read.specs.declared.line.DomainText.{DomainText}
 use Rattle.palm_read.specs.declared.line.DomainText.TheVariants.{Range, Set}
-use Rattle.palm_read.specs.declared.line.Line.{Line}
-use Rattle.palm_read.specs.declared.line.Line.TheVariants.{Comment, Var, Add, Relax, Enforce, Retract, Domains as DomainsLine, Domain, List as ListLine, Log, Why, Conflict, MinimalConflict, Minimal, Cert, CertConflict, Pause, Resume, Step, SolveDbt, SolveRepair, Guide, GuideNone, Order, OrderNone, DropGuide, DropOrder, Quit}
-use Rattle.palm_read.specs.declared.line.Shape.{Shape}
 use Rattle.palm_events.specs.Along.{IsStill}
 use Rattle.palm_events.proofs.cited.Agreeing.{values_of_more}
 use Rattle.palm_events.proofs.cited.Outcomes.{withdrawal_exists, withdrawal_same}
 use Rattle.palm_events.proofs.cited.Valid.{declares_valid, posts_valid, withdraws_valid}
-use Rattle.palm_session.specs.State.{SessionState, IsHeld, IsState, HasConstraint, HasVariable}
-use Rattle.palm_session.specs.Refusals.{IsUnknown, HasActive, Meets, in_order, IsNone}
-use Rattle.palm_session.specs.Effects.{with_engine, with_variable, with_constraint, with_active_at, without_constraint, without_guide, without_order, next_constraint, IsNamed, WithdrawsWhere, WithdrawsActive, Changes, Rests, Filters, Procedure, ByDbt, ByRepair, search_line, Searches, next, unless_paused}
+use Rattle.palm_session.specs.State.{SessionState, IsHeld, IsState}
+use Rattle.palm_session.specs.declared.request.Procedure.{Procedure}
+use Rattle.palm_session.specs.declared.request.Request.{Request}
+use Rattle.palm_session.specs.declared.request.Request.TheVariants.{Nothing as NothingAsked, Declare, Add, Relax, Enforce, Retract, Ask, Pause, Resume, Step, Solve, ChooseGuide, DropGuide, ChooseOrder, DropOrder, Quit}
+use Rattle.palm_session.specs.Requests.{Admits, CanAdd, CanDeclare, StandsAt}
+use Rattle.palm_session.specs.Effects.{with_engine, with_variable, with_constraint, with_active_at, without_constraint, without_guide, without_order, next_constraint, WithdrawsWhere, WithdrawsActive, Changes, Rests, Filters, Searches, next, unless_paused}
 use Rattle.palm_session.specs.Objects.{without_number, chosen_without}
 use Rattle.palm_session.proofs.ActiveLists.{turned_cases, active_member, active_added, active_enforced, active_relaxed, active_retracted, active_alike, relaxed_inactive, user_same}
-use Rattle.palm_session.proofs.HeldObjects.{listed, left_inside, left_chosen, held_guides, held_orders}
+use Rattle.palm_session.proofs.Standing.{some_entry}
+use Rattle.palm_session.proofs.HeldObjects.{left_inside, left_chosen, held_guides, held_orders}
 use Rattle.palm_book.proofs.cited.Intervals.{are_values, narrow}
-use Rattle.palm_book.proofs.cited.Naming.{name_known, constraint_once, constraint_with}
-use Rattle.palm_book.proofs.cited.WellFormed.{well_formed}
 
 -- ---- one more variable
 
@@ -65,27 +59,27 @@ domain_values (Set values) sound small = record { some = sound.0; few = omega (a
 none_named : {X : Type 0} (f : X → List ℕ) (xs : List X) (name : List ℕ) → (Any (λ x. f x ≡ name) xs → ⊥) → All (λ x. f x ≢ name) xs
 none_named f xs name none = all_members (λ x. f x ≢ name) xs (λ x m e. none (m.0, x, m.1, m.2, e))
 
-pub line_values : (s : SessionState) (name : List ℕ) (domain : DomainText) → IsSound (Var name domain) → IsNone (Meets s (Var name domain)) in_order → AreValues (values_in domain)
-line_values s name domain sound none = domain_values domain sound.1 (λ h. none.1.1.1.0 (inl h))
+module _ (s : SessionState) (name : List ℕ) (domain : DomainText) (can : CanDeclare s name domain) where
+  pub declared_values : AreValues (values_in domain)
+  declared_values = domain_values domain can.sound can.small
 
-keeps_variable : (s : SessionState) (name : List ℕ) (domain : DomainText) (e : EngineState) → IsHeld s → IsSound (Var name domain) → IsNone (Meets s (Var name domain)) in_order
-    → Declares s.engine (values_in domain) e → IsHeld (with_engine (with_variable s name (values_in domain)) e)
-keeps_variable s name domain e is sound none declares =
-    let entry : Entry = record { name = name; values = values_in domain } in
-    let room : length s.book.variables < 64 = let r : MOST_VARIABLES ≤ length s.book.variables → ⊥ = λ h. none.1.1.1.0 (inr h) in omega (arith, r) in
-    record {
-      book = IsBook-with_variable s.book s.book refl is.book entry (s.book.variables ++ entry ∷ []) sound.0
-          (none_named (λ (f : Entry). f.name) s.book.variables name none.0)
-          (line_values s name domain sound none) room refl;
-      accepted = is.accepted;
-      numbered = is.numbered;
-      guide = is.guide;
-      order = is.order;
-      initial = ap (λ (z : EngineState). z.initial) declares.after ∙ ap (λ (d : Domains). d ++ values_in domain ∷ []) is.initial
-          ∙ sym (map-append (λ (f : Entry). f.values) s.book.variables (entry ∷ []));
-      active = ap (λ (z : EngineState). z.active) declares.after ∙ is.active;
-      valid = declares_valid s.engine e (values_in domain) declares is.valid;
-    }
+  keeps_variable : (e : EngineState) → IsHeld s → Declares s.engine (values_in domain) e → IsHeld (with_engine (with_variable s name (values_in domain)) e)
+  keeps_variable e is declares =
+      let entry : BookVar = record { name = name; values = values_in domain } in
+      let room : length s.book.variables < 64 = let r : MOST_VARIABLES ≤ length s.book.variables → ⊥ = can.room in omega (arith, r) in
+      record {
+        book = IsBook-with_variable s.book s.book refl is.book entry (s.book.variables ++ entry ∷ []) can.text
+            (none_named (λ (f : BookVar). f.name) s.book.variables name can.free)
+            declared_values room refl;
+        accepted = is.accepted;
+        numbered = is.numbered;
+        guide = is.guide;
+        order = is.order;
+        initial = ap (λ (z : EngineState). z.initial) declares.after ∙ ap (λ (d : Domains). d ++ values_in domain ∷ []) is.initial
+            ∙ sym (map-append (λ (f : BookVar). f.values) s.book.variables (entry ∷ []));
+        active = ap (λ (z : EngineState). z.active) declares.after ∙ is.active;
+        valid = declares_valid s.engine e (values_in domain) declares is.valid;
+      }
 
 -- an empty domain stays empty
 declared_empty : (d : Domains) (vs : List ℤ) (pairs : List Pair) (x : ℕ) → IsEmptyAt (without d pairs) x → IsEmptyAt (without (d ++ vs ∷ []) pairs) x
@@ -109,7 +103,7 @@ declared_still e t values h still = elim still [
 user_posts : (s : SessionState) → IsHeld s → (c : BookCon) → IsWellFormed (length s.book.variables) c.con → (IsActive (active_of s.book) (User c.number) → ⊥)
     → Posts s.engine (user_at c) (posted s.engine (user_at c))
 user_posts s is c formed inactive =
-    let same : length s.engine.initial ≡ length s.book.variables = ap (λ (d : Domains). length d) is.initial ∙ length-map s.book.variables (λ (f : Entry). f.values) in
+    let same : length s.engine.initial ≡ length s.book.variables = ap (λ (d : Domains). length d) is.initial ∙ length-map s.book.variables (λ (f : BookVar). f.values) in
     record {
       inactive = subst (λ (l : List Active). IsActive l (User c.number) → ⊥) (sym is.active) inactive;
       formed = record { form = (subst (λ (k : ℕ). IsWellFormed k c.con) (sym same) formed, refl) };
@@ -118,21 +112,15 @@ user_posts s is c formed inactive =
 
 -- ---- one more constraint
 
-module _ (s : SessionState) (name : List ℕ) (shape : Shape) (con : Con) (is : IsHeld s) (sound : IsSound (Add name shape)) (none : IsNone (Meets s (Add name shape)) in_order) (says : Resolves s.book.variables shape con) where
-  added_formed : IsWellFormed (length s.book.variables) con
-  added_formed =
-      let narrow_scope : MOST_SCOPE < length (names_of shape) → ⊥ = λ h. none.1.1.1.0 (inl (inl h)) in
-      let few_rows : HasManyRows shape → ⊥ = λ h. none.1.1.1.0 (inl (inr h)) in
-      well_formed s.book.variables shape con says sound.1 sound.2 narrow_scope few_rows
-
+module _ (s : SessionState) (name : List ℕ) (con : Con) (is : IsHeld s) (can : CanAdd s name con) where
   added_book : IsBook (record s.book { constraints = s.book.constraints ++ next_constraint s name con ∷ [] })
   added_book =
       let c : BookCon = next_constraint s name con in
-      let few : MOST_CONSTRAINTS ≤ length s.book.constraints → ⊥ = λ h. none.1.1.1.0 (inr (inl h)) in
-      IsBook-with_constraint s.book s.book refl is.book c (s.book.constraints ++ c ∷ []) sound.0
-      (none_named (λ (d : BookCon). d.name) s.book.constraints name none.0)
+      let few : MOST_CONSTRAINTS ≤ length s.book.constraints → ⊥ = can.room in
+      IsBook-with_constraint s.book s.book refl is.book c (s.book.constraints ++ c ∷ []) can.text
+      (none_named (λ (d : BookCon). d.name) s.book.constraints name can.free)
       (All-weaker (λ (d : BookCon). d.number ≤ s.accepted) (λ (d : BookCon). d.number < s.accepted + 1) (λ d h. omega (arith, h)) s.book.constraints is.numbered)
-      added_formed (omega (arith, few)) refl
+      can.formed (omega (arith, few)) refl
 
   -- no active constraint has the next number
   added_inactive : IsActive (active_of s.book) (User (s.accepted + 1)) → ⊥
@@ -143,12 +131,12 @@ module _ (s : SessionState) (name : List ℕ) (shape : Shape) (con : Con) (is : 
       omega (arith, le, n)
 
   added_posts : Posts s.engine (user_at (next_constraint s name con)) (posted s.engine (user_at (next_constraint s name con)))
-  added_posts = user_posts s is (next_constraint s name con) added_formed added_inactive
+  added_posts = user_posts s is (next_constraint s name con) can.formed added_inactive
 
   keeps_constraint : (e : EngineState) → Posts s.engine (user_at (next_constraint s name con)) e → IsHeld (with_engine (with_constraint s name con) e)
   keeps_constraint e posts =
       let c : BookCon = next_constraint s name con in
-      let counts : MOST_ADDED ≤ s.accepted → ⊥ = λ h. none.1.1.1.0 (inr (inr h)) in
+      let counts : MOST_ADDED ≤ s.accepted → ⊥ = can.numbers in
       record {
         book = added_book;
         accepted = omega (arith, counts);
@@ -196,7 +184,7 @@ module _ (s : SessionState) (is : IsHeld s) (place : ℕ) (c : BookCon) (at : sl
     guide = is.guide;
     order = is.order;
     initial = ap (λ (z : EngineState). z.initial) w.after ∙ is.initial;
-    active = ap (λ (z : EngineState). z.active) w.after ∙ ap (λ (l : List Active). without_names (gone_with l (User c.number)) l) is.active
+    active = ap (λ (z : EngineState). z.active) w.after ∙ ap (λ (l : List Active). without_cids (gone_with l (User c.number)) l) is.active
         ∙ active_relaxed s.book is.book place c at (turned_book false);
     valid = withdraws_valid s.engine e (User c.number) w is.valid;
   }
@@ -222,7 +210,7 @@ module _ (s : SessionState) (is : IsHeld s) (place : ℕ) (c : BookCon) (at : sl
     guide = is.guide;
     order = is.order;
     initial = ap (λ (z : EngineState). z.initial) w.1.after ∙ is.initial;
-    active = ap (λ (z : EngineState). z.active) w.1.after ∙ ap (λ (l : List Active). without_names (gone_with l (User c.number)) l) is.active
+    active = ap (λ (z : EngineState). z.active) w.1.after ∙ ap (λ (l : List Active). without_cids (gone_with l (User c.number)) l) is.active
         ∙ active_retracted s.book is.book place c at less_book;
     valid = withdraws_valid s.engine e (User c.number) w.1 is.valid;
   }
@@ -240,12 +228,9 @@ module _ (s : SessionState) (is : IsHeld s) (place : ℕ) (c : BookCon) (at : sl
   keeps_retracted : (e : EngineState) → WithdrawsActive s.engine c e → IsHeld (with_engine (without_constraint s place) e)
   keeps_retracted e w = less_held e (withdraws_cases s.engine c e w)
 
--- a constraint with the name that is not active is relaxed
-relaxed_named : (s : SessionState) (name : List ℕ) (place : ℕ) (c : BookCon) → IsNamed s name place c → (HasActive s name true → ⊥) → c.active ≡ false
-relaxed_named s name place c named none = elim (cases_Bool c.active) [
-  | inl on ↦ absurd (none (any_member (λ (d : BookCon). (d.name ≡ name) × (d.active ≡ true)) s.book.constraints c (member_get s.book.constraints place c named.at) (named.named, on)))
-  | inr off ↦ off
-]
+-- what stands at a place is active or relaxed
+stands_so : (s : SessionState) (place : ℕ) (active : Bool) (c : BookCon) → StandsAt s place active → slice_get s.book.constraints place ≡ Some c → c.active ≡ active
+stands_so s place active c stands at = ap (λ (d : BookCon). d.active) (same_Some c stands.constraint (sym at ∙ stands.at)) ∙ stands.is
 
 held_paused : (s : SessionState) (b : Bool) → IsHeld s → IsHeld (record s { paused = b })
 held_paused s b is = record {
@@ -261,38 +246,25 @@ held_paused s b is = record {
 
 -- ---- what a session can hold in the midst of a line stays so
 
-pub changes_keep : (s m : SessionState) (line : Line) → IsHeld s → IsSound line → IsNone (Meets s line) in_order → Changes s line m → IsHeld m
-changes_keep s m Comment is sound none h = subst IsHeld (sym h) is
-changes_keep s m (Var name domain) is sound none h = subst IsHeld (sym h.2) (keeps_variable s name domain h.0 is sound none h.1)
-changes_keep s m (Add name shape) is sound none h = subst IsHeld (sym h.4) (keeps_constraint s name shape h.0 is sound none h.2 h.1 h.3)
-changes_keep s m (Relax name) is sound none h = subst IsHeld (sym h.5) (keeps_relaxed s is h.0 h.1 h.3.at h.2 h.4)
-changes_keep s m (Enforce name) is sound none h =
-    subst IsHeld (sym h.5) (keeps_enforced s is h.0 h.1 h.3.at h.2 (relaxed_named s name h.0 h.1 h.3 none.1.1.1.1.1.1.0) h.4)
-changes_keep s m (Retract name) is sound none h = subst IsHeld (sym h.5) (keeps_retracted s is h.0 h.1 h.3.at h.2 h.4)
-changes_keep s m DomainsLine is sound none h = subst IsHeld (sym h) is
-changes_keep s m (Domain name) is sound none h = subst IsHeld (sym h) is
-changes_keep s m ListLine is sound none h = subst IsHeld (sym h) is
-changes_keep s m Log is sound none h = subst IsHeld (sym h) is
-changes_keep s m (Why name value) is sound none h = subst IsHeld (sym h) is
-changes_keep s m Conflict is sound none h = subst IsHeld (sym h) is
-changes_keep s m MinimalConflict is sound none h = subst IsHeld (sym h) is
-changes_keep s m (Minimal name value) is sound none h = subst IsHeld (sym h) is
-changes_keep s m (Cert name value) is sound none h = subst IsHeld (sym h) is
-changes_keep s m CertConflict is sound none h = subst IsHeld (sym h) is
-changes_keep s m Pause is sound none h = subst IsHeld (sym h) (held_paused s true is)
-changes_keep s m Resume is sound none h = subst IsHeld (sym h) (held_paused s false is)
-changes_keep s m (Step count) is sound none h = subst IsHeld (sym h) is
-changes_keep s m (SolveDbt budget) is sound none h = subst IsHeld (sym h) is
-changes_keep s m (SolveRepair tabu budget) is sound none h = subst IsHeld (sym h) is
-changes_keep s m (Guide number) is sound none h = subst IsHeld (sym h) (held_guides s s.guides (Some number) (listed s.guides number none.1.1.1.1.0) is)
-changes_keep s m GuideNone is sound none h = subst IsHeld (sym h) (held_guides s s.guides None tt is)
-changes_keep s m (Order number) is sound none h = subst IsHeld (sym h) (held_orders s s.orders (Some number) (listed s.orders number none.1.1.1.1.0) is)
-changes_keep s m OrderNone is sound none h = subst IsHeld (sym h) (held_orders s s.orders None tt is)
-changes_keep s m (DropGuide number) is sound none h =
+pub changes_keep : (s m : SessionState) (request : Request) → IsHeld s → Admits s request → Changes s request m → IsHeld m
+changes_keep s m NothingAsked is can h = subst IsHeld (sym h) is
+changes_keep s m (Declare name domain) is can h = subst IsHeld (sym h.2) (keeps_variable s name domain can h.0 is h.1)
+changes_keep s m (Add name con) is can h = subst IsHeld (sym h.2) (keeps_constraint s name con is can h.0 h.1)
+changes_keep s m (Relax place) is can h = subst IsHeld (sym h.4) (keeps_relaxed s is place h.0 h.2 h.1 h.3)
+changes_keep s m (Enforce place) is can h = subst IsHeld (sym h.4) (keeps_enforced s is place h.0 h.2 h.1 (stands_so s place false h.0 can h.2) h.3)
+changes_keep s m (Retract place) is can h = subst IsHeld (sym h.4) (keeps_retracted s is place h.0 h.2 h.1 h.3)
+changes_keep s m (Ask question) is can h = subst IsHeld (sym h) is
+changes_keep s m Pause is can h = subst IsHeld (sym h) (held_paused s true is)
+changes_keep s m Resume is can h = subst IsHeld (sym h) (held_paused s false is)
+changes_keep s m (Step count) is can h = subst IsHeld (sym h) is
+changes_keep s m (Solve by) is can h = subst IsHeld (sym h) is
+changes_keep s m (ChooseGuide chosen) is can h = subst IsHeld (sym h) (held_guides s s.guides chosen can is)
+changes_keep s m (DropGuide number) is can h =
     subst IsHeld (sym h) (held_guides s (without_number number s.guides) (chosen_without number s.guide) (left_chosen number s.guides s.guide is.guide) is)
-changes_keep s m (DropOrder number) is sound none h =
+changes_keep s m (ChooseOrder chosen) is can h = subst IsHeld (sym h) (held_orders s s.orders chosen can is)
+changes_keep s m (DropOrder number) is can h =
     subst IsHeld (sym h) (held_orders s (without_number number s.orders) (chosen_without number s.order) (left_chosen number s.orders s.order is.order) is)
-changes_keep s m Quit is sound none h = subst IsHeld (sym h) is
+changes_keep s m Quit is can h = subst IsHeld (sym h) is
 
 -- ---- where nothing follows, nothing waits for filtering
 
@@ -306,35 +278,23 @@ stays_still s m is e awake = (subst IsState (sym e) is).still awake
 untouched_still : (s m : SessionState) → IsState s → m.engine ≡ s.engine → m.paused ≡ s.paused → m.paused ≡ false → IsStill m.engine
 untouched_still s m is engine paused awake = subst (λ (e : EngineState). IsStill e) (sym engine) (is.still (sym paused ∙ awake))
 
-pub changes_still : (s m : SessionState) (line : Line) → IsState s → Changes s line m → next m line ≡ Rests → m.paused ≡ false → IsStill m.engine
-changes_still s m Comment is h rests awake = stays_still s m is h awake
-changes_still s m (Var name domain) is h rests awake =
+pub changes_still : (s m : SessionState) (request : Request) → IsState s → Changes s request m → next m request ≡ Rests → m.paused ≡ false → IsStill m.engine
+changes_still s m NothingAsked is h rests awake = stays_still s m is h awake
+changes_still s m (Declare name domain) is h rests awake =
     let before : s.paused ≡ false = sym (ap (λ (z : SessionState). z.paused) h.2) ∙ awake in
     subst (λ (z : SessionState). IsStill z.engine) (sym h.2) (declared_still s.engine h.0 (values_in domain) h.1 (is.still before))
-changes_still s m (Add name shape) is h rests awake = absurd (rests_paused m rests awake)
-changes_still s m (Relax name) is h rests awake = absurd (rests_paused m rests awake)
-changes_still s m (Enforce name) is h rests awake = absurd (rests_paused m rests awake)
-changes_still s m (Retract name) is h rests awake = absurd (rests_paused m rests awake)
-changes_still s m DomainsLine is h rests awake = stays_still s m is h awake
-changes_still s m (Domain name) is h rests awake = stays_still s m is h awake
-changes_still s m ListLine is h rests awake = stays_still s m is h awake
-changes_still s m Log is h rests awake = stays_still s m is h awake
-changes_still s m (Why name value) is h rests awake = stays_still s m is h awake
-changes_still s m Conflict is h rests awake = stays_still s m is h awake
-changes_still s m MinimalConflict is h rests awake = stays_still s m is h awake
-changes_still s m (Minimal name value) is h rests awake = stays_still s m is h awake
-changes_still s m (Cert name value) is h rests awake = stays_still s m is h awake
-changes_still s m CertConflict is h rests awake = stays_still s m is h awake
+changes_still s m (Add name con) is h rests awake = absurd (rests_paused m rests awake)
+changes_still s m (Relax place) is h rests awake = absurd (rests_paused m rests awake)
+changes_still s m (Enforce place) is h rests awake = absurd (rests_paused m rests awake)
+changes_still s m (Retract place) is h rests awake = absurd (rests_paused m rests awake)
+changes_still s m (Ask question) is h rests awake = stays_still s m is h awake
 changes_still s m Pause is h rests awake = absurd (false≢true (sym awake ∙ ap (λ (z : SessionState). z.paused) h))
-changes_still s m Resume is h rests awake = let e : Filters None ≡ Rests = rests in cc
+changes_still s m Resume is h rests awake = absurd (rests_paused m rests awake)
 changes_still s m (Step count) is h rests awake = let e : Filters (Some count) ≡ Rests = rests in cc
-changes_still s m (SolveDbt budget) is h rests awake = let e : Searches (ByDbt budget) ≡ Rests = rests in cc
-changes_still s m (SolveRepair tabu budget) is h rests awake = let e : Searches (ByRepair tabu budget) ≡ Rests = rests in cc
-changes_still s m (Guide number) is h rests awake = untouched_still s m is (ap (λ (z : SessionState). z.engine) h) (ap (λ (z : SessionState). z.paused) h) awake
-changes_still s m GuideNone is h rests awake = untouched_still s m is (ap (λ (z : SessionState). z.engine) h) (ap (λ (z : SessionState). z.paused) h) awake
-changes_still s m (Order number) is h rests awake = untouched_still s m is (ap (λ (z : SessionState). z.engine) h) (ap (λ (z : SessionState). z.paused) h) awake
-changes_still s m OrderNone is h rests awake = untouched_still s m is (ap (λ (z : SessionState). z.engine) h) (ap (λ (z : SessionState). z.paused) h) awake
+changes_still s m (Solve by) is h rests awake = let e : Searches by ≡ Rests = rests in cc
+changes_still s m (ChooseGuide chosen) is h rests awake = untouched_still s m is (ap (λ (z : SessionState). z.engine) h) (ap (λ (z : SessionState). z.paused) h) awake
 changes_still s m (DropGuide number) is h rests awake = untouched_still s m is (ap (λ (z : SessionState). z.engine) h) (ap (λ (z : SessionState). z.paused) h) awake
+changes_still s m (ChooseOrder chosen) is h rests awake = untouched_still s m is (ap (λ (z : SessionState). z.engine) h) (ap (λ (z : SessionState). z.paused) h) awake
 changes_still s m (DropOrder number) is h rests awake = untouched_still s m is (ap (λ (z : SessionState). z.engine) h) (ap (λ (z : SessionState). z.paused) h) awake
 changes_still s m Quit is h rests awake = stays_still s m is h awake
 
@@ -346,59 +306,25 @@ not_limited false limit e = cc
 rests_not_limited : (limit : ℕ) → Rests ≡ Filters (Some limit) → ⊥
 rests_not_limited limit e = cc
 
-pub changes_limited : (s m : SessionState) (line : Line) → IsNone (Meets s line) in_order → Changes s line m → (limit : ℕ) → next m line ≡ Filters (Some limit) → m.paused ≡ true
-changes_limited s m Comment none h limit e = absurd (rests_not_limited limit e)
-changes_limited s m (Var name domain) none h limit e = absurd (rests_not_limited limit e)
-changes_limited s m (Add name shape) none h limit e = absurd (not_limited m.paused limit e)
-changes_limited s m (Relax name) none h limit e = absurd (not_limited m.paused limit e)
-changes_limited s m (Enforce name) none h limit e = absurd (not_limited m.paused limit e)
-changes_limited s m (Retract name) none h limit e = absurd (not_limited m.paused limit e)
-changes_limited s m DomainsLine none h limit e = absurd (rests_not_limited limit e)
-changes_limited s m (Domain name) none h limit e = absurd (rests_not_limited limit e)
-changes_limited s m ListLine none h limit e = absurd (rests_not_limited limit e)
-changes_limited s m Log none h limit e = absurd (rests_not_limited limit e)
-changes_limited s m (Why name value) none h limit e = absurd (rests_not_limited limit e)
-changes_limited s m Conflict none h limit e = absurd (rests_not_limited limit e)
-changes_limited s m MinimalConflict none h limit e = absurd (rests_not_limited limit e)
-changes_limited s m (Minimal name value) none h limit e = absurd (rests_not_limited limit e)
-changes_limited s m (Cert name value) none h limit e = absurd (rests_not_limited limit e)
-changes_limited s m CertConflict none h limit e = absurd (rests_not_limited limit e)
-changes_limited s m Pause none h limit e = absurd (rests_not_limited limit e)
-changes_limited s m Resume none h limit e = absurd (not_limited false limit e)
-changes_limited s m (Step count) none h limit e = elim (cases_Bool s.paused) [
-  | inl on ↦ ap (λ (z : SessionState). z.paused) h ∙ on
-  | inr off ↦ absurd (none.1.1.1.1.1.1.0 off)
-]
-changes_limited s m (SolveDbt budget) none h limit e = let f : Searches (ByDbt budget) ≡ Filters (Some limit) = e in cc
-changes_limited s m (SolveRepair tabu budget) none h limit e = let f : Searches (ByRepair tabu budget) ≡ Filters (Some limit) = e in cc
-changes_limited s m (Guide number) none h limit e = absurd (rests_not_limited limit e)
-changes_limited s m GuideNone none h limit e = absurd (rests_not_limited limit e)
-changes_limited s m (Order number) none h limit e = absurd (rests_not_limited limit e)
-changes_limited s m OrderNone none h limit e = absurd (rests_not_limited limit e)
-changes_limited s m (DropGuide number) none h limit e = absurd (rests_not_limited limit e)
-changes_limited s m (DropOrder number) none h limit e = absurd (rests_not_limited limit e)
-changes_limited s m Quit none h limit e = absurd (rests_not_limited limit e)
+pub changes_limited : (s m : SessionState) (request : Request) → Admits s request → Changes s request m → (limit : ℕ) → next m request ≡ Filters (Some limit) → m.paused ≡ true
+changes_limited s m NothingAsked can h limit e = absurd (rests_not_limited limit e)
+changes_limited s m (Declare name domain) can h limit e = absurd (rests_not_limited limit e)
+changes_limited s m (Add name con) can h limit e = absurd (not_limited m.paused limit e)
+changes_limited s m (Relax place) can h limit e = absurd (not_limited m.paused limit e)
+changes_limited s m (Enforce place) can h limit e = absurd (not_limited m.paused limit e)
+changes_limited s m (Retract place) can h limit e = absurd (not_limited m.paused limit e)
+changes_limited s m (Ask question) can h limit e = absurd (rests_not_limited limit e)
+changes_limited s m Pause can h limit e = absurd (rests_not_limited limit e)
+changes_limited s m Resume can h limit e = absurd (not_limited m.paused limit e)
+changes_limited s m (Step count) can h limit e = ap (λ (z : SessionState). z.paused) h ∙ can
+changes_limited s m (Solve by) can h limit e = let f : Searches by ≡ Filters (Some limit) = e in cc
+changes_limited s m (ChooseGuide chosen) can h limit e = absurd (rests_not_limited limit e)
+changes_limited s m (DropGuide number) can h limit e = absurd (rests_not_limited limit e)
+changes_limited s m (ChooseOrder chosen) can h limit e = absurd (rests_not_limited limit e)
+changes_limited s m (DropOrder number) can h limit e = absurd (rests_not_limited limit e)
+changes_limited s m Quit can h limit e = absurd (rests_not_limited limit e)
 
 -- ---- the change can be made
-
--- a name that is not unknown is known
-pub variable_known : (s : SessionState) (name : List ℕ) → Known (HasVariable s name)
-variable_known s name = name_known (λ (e : Entry). e.name) s.book.variables name
-
-pub has_variable : (s : SessionState) (name : List ℕ) → (IsUnknown s name → ⊥) → HasVariable s name
-has_variable s name n = elim (variable_known s name) [ inl h ↦ h | inr u ↦ absurd (n u) ]
-
-all_named : (s : SessionState) (names : List (List ℕ)) → (Any (IsUnknown s) names → ⊥) → All (HasVariable s) names
-all_named s names none = all_members (HasVariable s) names (λ x m. has_variable s x (λ u. none (m.0, x, m.1, m.2, u)))
-
-named_exists : (s : SessionState) (name : List ℕ) → ((HasConstraint s name → ⊥) → ⊥) → (place : ℕ) × (c : BookCon) × IsNamed s name place c
-named_exists s name some = elim (name_known (λ (c : BookCon). c.name) s.book.constraints name) [
-  | inl a ↦
-      let m = member_any (λ (c : BookCon). c.name ≡ name) s.book.constraints a in
-      let p = member_place s.book.constraints m.0 m.1 in
-      (p.0, m.0, record { at = p.1; named = m.2 })
-  | inr n ↦ absurd (some n)
-]
 
 formed_at : (s : SessionState) → IsHeld s → (place : ℕ) (c : BookCon) → slice_get s.book.constraints place ≡ Some c → IsWellFormed (length s.book.variables) c.con
 formed_at s is place c at =
@@ -411,73 +337,40 @@ withdraws_exist s is c = by c.active
     by true = withdrawal_exists s.engine (gone_with s.engine.active (User c.number)) is.valid
     by false = (s.engine, refl)
 
-pub changes_exist : (s : SessionState) (line : Line) → IsHeld s → IsSound line → IsNone (Meets s line) in_order → (m : SessionState) × Changes s line m
-changes_exist s Comment is sound none = (s, refl)
-changes_exist s (Var name domain) is sound none =
+pub changes_exist : (s : SessionState) (request : Request) → IsHeld s → Admits s request → (m : SessionState) × Changes s request m
+changes_exist s NothingAsked is can = (s, refl)
+changes_exist s (Declare name domain) is can =
     let e : EngineState = record s.engine { initial = s.engine.initial ++ values_in domain ∷ [] } in
-    (with_engine (with_variable s name (values_in domain)) e, (e, record { ascend = (line_values s name domain sound none).ascend; after = refl }, refl))
-changes_exist s (Add name shape) is sound none =
-    let r = constraint_with s.book.variables shape (all_named s (names_of shape) none.1.0) in
-    let says : Resolves s.book.variables shape r.0 = record { declared = r.1; says = r.2 } in
-    let e : EngineState = posted s.engine (user_at (next_constraint s name r.0)) in
-    (with_engine (with_constraint s name r.0) e, (r.0, e, says, added_posts s name shape r.0 is sound none says, refl))
-changes_exist s (Relax name) is sound none =
-    let n = named_exists s name none.1.1.0 in
-    let w = withdrawal_exists s.engine (gone_with s.engine.active (User n.1.number)) is.valid in
-    (with_engine (with_active_at s n.0 false) w.0, (n.0, n.1, w.0, n.2, w.1, refl))
-changes_exist s (Enforce name) is sound none =
-    let n = named_exists s name none.1.1.0 in
-    let off = relaxed_named s name n.0 n.1 n.2 none.1.1.1.1.1.1.0 in
-    let e : EngineState = posted s.engine (user_at n.1) in
-    (with_engine (with_active_at s n.0 true) e, (n.0, n.1, e, n.2, user_posts s is n.1 (formed_at s is n.0 n.1 n.2.at) (relaxed_inactive s.book is.book n.0 n.1 n.2.at off), refl))
-changes_exist s (Retract name) is sound none =
-    let n = named_exists s name none.1.1.0 in
-    let w = withdraws_exist s is n.1 in
-    (with_engine (without_constraint s n.0) w.0, (n.0, n.1, w.0, n.2, w.1, refl))
-changes_exist s DomainsLine is sound none = (s, refl)
-changes_exist s (Domain name) is sound none = (s, refl)
-changes_exist s ListLine is sound none = (s, refl)
-changes_exist s Log is sound none = (s, refl)
-changes_exist s (Why name value) is sound none = (s, refl)
-changes_exist s Conflict is sound none = (s, refl)
-changes_exist s MinimalConflict is sound none = (s, refl)
-changes_exist s (Minimal name value) is sound none = (s, refl)
-changes_exist s (Cert name value) is sound none = (s, refl)
-changes_exist s CertConflict is sound none = (s, refl)
-changes_exist s Pause is sound none = (record s { paused = true }, refl)
-changes_exist s Resume is sound none = (record s { paused = false }, refl)
-changes_exist s (Step count) is sound none = (s, refl)
-changes_exist s (SolveDbt budget) is sound none = (s, refl)
-changes_exist s (SolveRepair tabu budget) is sound none = (s, refl)
-changes_exist s (Guide number) is sound none = (record s { guide = Some number }, refl)
-changes_exist s GuideNone is sound none = (record s { guide = None }, refl)
-changes_exist s (Order number) is sound none = (record s { order = Some number }, refl)
-changes_exist s OrderNone is sound none = (record s { order = None }, refl)
-changes_exist s (DropGuide number) is sound none = (without_guide s number, refl)
-changes_exist s (DropOrder number) is sound none = (without_order s number, refl)
-changes_exist s Quit is sound none = (s, refl)
+    (with_engine (with_variable s name (values_in domain)) e, (e, record { ascend = (declared_values s name domain can).ascend; after = refl }, refl))
+changes_exist s (Add name con) is can =
+    let e : EngineState = posted s.engine (user_at (next_constraint s name con)) in
+    (with_engine (with_constraint s name con) e, (e, added_posts s name con is can, refl))
+changes_exist s (Relax place) is can =
+    let w = withdrawal_exists s.engine (gone_with s.engine.active (User can.constraint.number)) is.valid in
+    (with_engine (with_active_at s place false) w.0, (can.constraint, w.0, can.at, w.1, refl))
+changes_exist s (Enforce place) is can =
+    let c = can.constraint in
+    let e : EngineState = posted s.engine (user_at c) in
+    (with_engine (with_active_at s place true) e, (c, e, can.at, user_posts s is c (formed_at s is place c can.at) (relaxed_inactive s.book is.book place c can.at can.is), refl))
+changes_exist s (Retract place) is can =
+    let n = some_entry s.book.constraints place can in
+    let w = withdraws_exist s is n.0 in
+    (with_engine (without_constraint s place) w.0, (n.0, w.0, n.1, w.1, refl))
+changes_exist s (Ask question) is can = (s, refl)
+changes_exist s Pause is can = (record s { paused = true }, refl)
+changes_exist s Resume is can = (record s { paused = false }, refl)
+changes_exist s (Step count) is can = (s, refl)
+changes_exist s (Solve by) is can = (s, refl)
+changes_exist s (ChooseGuide chosen) is can = (record s { guide = chosen }, refl)
+changes_exist s (DropGuide number) is can = (without_guide s number, refl)
+changes_exist s (ChooseOrder chosen) is can = (record s { order = chosen }, refl)
+changes_exist s (DropOrder number) is can = (without_order s number, refl)
+changes_exist s Quit is can = (s, refl)
 
 -- ---- in one way
 
--- one place has a constraint with the name
-place_once : (s : SessionState) → IsHeld s → (name : List ℕ) (p q : ℕ) (c d : BookCon) → IsNamed s name p c → IsNamed s name q d → p ≡ q
-place_once s is name p q c d x y =
-    let apart : AllPairs (λ (e f : BookCon). e.name ≢ f.name) s.book.constraints = is.book.different_constraints in
-    let at_p : get_or s.book.constraints p c ≡ c = get_or_from_slice_get s.book.constraints p c c x.at in
-    let at_q : get_or s.book.constraints q c ≡ d = get_or_from_slice_get s.book.constraints q d c y.at in
-    let same : (get_or s.book.constraints p c).name ≡ (get_or s.book.constraints q c).name
-    = ap (λ (e : BookCon). e.name) at_p ∙ x.named ∙ sym y.named ∙ sym (ap (λ (e : BookCon). e.name) at_q) in
-    elim (cases_lt p q) [
-      | inl l ↦ absurd (apart p q c l (slice_get_within s.book.constraints q d y.at) same)
-      | inr g ↦ elim (cases_lt q p) [
-        | inl l ↦ absurd (apart q p c l (slice_get_within s.book.constraints p c x.at) (sym same))
-        | inr h ↦ omega (arith, g, h)
-      ]
-    ]
-
-named_once : (s : SessionState) → IsHeld s → (name : List ℕ) (p q : ℕ) (c d : BookCon) → IsNamed s name p c → IsNamed s name q d → c ≡ d
-named_once s is name p q c d x y =
-    same_Some c d (sym x.at ∙ ap (λ (k : ℕ). slice_get s.book.constraints k) (place_once s is name p q c d x y) ∙ y.at)
+one_at : (s : SessionState) (place : ℕ) (c d : BookCon) → slice_get s.book.constraints place ≡ Some c → slice_get s.book.constraints place ≡ Some d → c ≡ d
+one_at s place c d x y = same_Some c d (sym x ∙ y)
 
 withdraws_once : (e : EngineState) (c : BookCon) (t u : EngineState) → WithdrawsActive e c t → WithdrawsActive e c u → t ≡ u
 withdraws_once e c t u one two = elim (withdraws_cases e c t one) [
@@ -491,52 +384,33 @@ withdraws_once e c t u one two = elim (withdraws_cases e c t one) [
   ]
 ]
 
-pub changes_once : (s m n : SessionState) (line : Line) → IsHeld s → Changes s line m → Changes s line n → m ≡ n
-changes_once s m n Comment is h k = h ∙ sym k
-changes_once s m n (Var name domain) is h k =
+pub changes_once : (s m n : SessionState) (request : Request) → Changes s request m → Changes s request n → m ≡ n
+changes_once s m n NothingAsked h k = h ∙ sym k
+changes_once s m n (Declare name domain) h k =
     h.2 ∙ ap (λ (e : EngineState). with_engine (with_variable s name (values_in domain)) e) (h.1.after ∙ sym k.1.after) ∙ sym k.2
-changes_once s m n (Add name shape) is h k =
-    let same : h.0 ≡ k.0 = constraint_once s.book.variables is.book.different_variables h.0 k.0 h.2.declared k.2.declared (h.2.says ∙ sym k.2.says) in
-    h.4 ∙ ap (λ (e : EngineState). with_engine (with_constraint s name h.0) e) h.3.after
-    ∙ ap (λ (con : Con). with_engine (with_constraint s name con) (posted s.engine (user_at (next_constraint s name con)))) same
-    ∙ sym (ap (λ (e : EngineState). with_engine (with_constraint s name k.0) e) k.3.after) ∙ sym k.4
-changes_once s m n (Relax name) is h k =
-    let p : h.0 ≡ k.0 = place_once s is name h.0 k.0 h.1 k.1 h.3 k.3 in
-    let c : h.1 ≡ k.1 = named_once s is name h.0 k.0 h.1 k.1 h.3 k.3 in
-    let e : h.2 ≡ k.2 = withdrawal_same s.engine (gone_with s.engine.active (User k.1.number)) h.2 k.2 (subst (λ (x : BookCon). Withdraws s.engine (User x.number) h.2) c h.4) k.4 in
-    h.5 ∙ ap (λ (x : ℕ). with_engine (with_active_at s x false) h.2) p ∙ ap (λ (x : EngineState). with_engine (with_active_at s k.0 false) x) e ∙ sym k.5
-changes_once s m n (Enforce name) is h k =
-    let p : h.0 ≡ k.0 = place_once s is name h.0 k.0 h.1 k.1 h.3 k.3 in
-    let c : h.1 ≡ k.1 = named_once s is name h.0 k.0 h.1 k.1 h.3 k.3 in
-    let e : h.2 ≡ k.2 = h.4.after ∙ ap (λ (x : BookCon). posted s.engine (user_at x)) c ∙ sym k.4.after in
-    h.5 ∙ ap (λ (x : ℕ). with_engine (with_active_at s x true) h.2) p ∙ ap (λ (x : EngineState). with_engine (with_active_at s k.0 true) x) e ∙ sym k.5
-changes_once s m n (Retract name) is h k =
-    let p : h.0 ≡ k.0 = place_once s is name h.0 k.0 h.1 k.1 h.3 k.3 in
-    let c : h.1 ≡ k.1 = named_once s is name h.0 k.0 h.1 k.1 h.3 k.3 in
-    let e : h.2 ≡ k.2 = withdraws_once s.engine k.1 h.2 k.2 (subst (λ (x : BookCon). WithdrawsActive s.engine x h.2) c h.4) k.4 in
-    h.5 ∙ ap (λ (x : ℕ). with_engine (without_constraint s x) h.2) p ∙ ap (λ (x : EngineState). with_engine (without_constraint s k.0) x) e ∙ sym k.5
-changes_once s m n DomainsLine is h k = h ∙ sym k
-changes_once s m n (Domain name) is h k = h ∙ sym k
-changes_once s m n ListLine is h k = h ∙ sym k
-changes_once s m n Log is h k = h ∙ sym k
-changes_once s m n (Why name value) is h k = h ∙ sym k
-changes_once s m n Conflict is h k = h ∙ sym k
-changes_once s m n MinimalConflict is h k = h ∙ sym k
-changes_once s m n (Minimal name value) is h k = h ∙ sym k
-changes_once s m n (Cert name value) is h k = h ∙ sym k
-changes_once s m n CertConflict is h k = h ∙ sym k
-changes_once s m n Pause is h k = h ∙ sym k
-changes_once s m n Resume is h k = h ∙ sym k
-changes_once s m n (Step count) is h k = h ∙ sym k
-changes_once s m n (SolveDbt budget) is h k = h ∙ sym k
-changes_once s m n (SolveRepair tabu budget) is h k = h ∙ sym k
-changes_once s m n (Guide number) is h k = h ∙ sym k
-changes_once s m n GuideNone is h k = h ∙ sym k
-changes_once s m n (Order number) is h k = h ∙ sym k
-changes_once s m n OrderNone is h k = h ∙ sym k
-changes_once s m n (DropGuide number) is h k = h ∙ sym k
-changes_once s m n (DropOrder number) is h k = h ∙ sym k
-changes_once s m n Quit is h k = h ∙ sym k
+changes_once s m n (Add name con) h k = h.2 ∙ ap (λ (e : EngineState). with_engine (with_constraint s name con) e) (h.1.after ∙ sym k.1.after) ∙ sym k.2
+changes_once s m n (Relax place) h k =
+    let c : h.0 ≡ k.0 = one_at s place h.0 k.0 h.2 k.2 in
+    let e : h.1 ≡ k.1 = withdrawal_same s.engine (gone_with s.engine.active (User k.0.number)) h.1 k.1 (subst (λ (x : BookCon). Withdraws s.engine (User x.number) h.1) c h.3) k.3 in
+    h.4 ∙ ap (λ (x : EngineState). with_engine (with_active_at s place false) x) e ∙ sym k.4
+changes_once s m n (Enforce place) h k =
+    let c : h.0 ≡ k.0 = one_at s place h.0 k.0 h.2 k.2 in
+    let e : h.1 ≡ k.1 = h.3.after ∙ ap (λ (x : BookCon). posted s.engine (user_at x)) c ∙ sym k.3.after in
+    h.4 ∙ ap (λ (x : EngineState). with_engine (with_active_at s place true) x) e ∙ sym k.4
+changes_once s m n (Retract place) h k =
+    let c : h.0 ≡ k.0 = one_at s place h.0 k.0 h.2 k.2 in
+    let e : h.1 ≡ k.1 = withdraws_once s.engine k.0 h.1 k.1 (subst (λ (x : BookCon). WithdrawsActive s.engine x h.1) c h.3) k.3 in
+    h.4 ∙ ap (λ (x : EngineState). with_engine (without_constraint s place) x) e ∙ sym k.4
+changes_once s m n (Ask question) h k = h ∙ sym k
+changes_once s m n Pause h k = h ∙ sym k
+changes_once s m n Resume h k = h ∙ sym k
+changes_once s m n (Step count) h k = h ∙ sym k
+changes_once s m n (Solve by) h k = h ∙ sym k
+changes_once s m n (ChooseGuide chosen) h k = h ∙ sym k
+changes_once s m n (DropGuide number) h k = h ∙ sym k
+changes_once s m n (ChooseOrder chosen) h k = h ∙ sym k
+changes_once s m n (DropOrder number) h k = h ∙ sym k
+changes_once s m n Quit h k = h ∙ sym k
 
 -- ---- which objects are there, and which are chosen
 
@@ -547,13 +421,11 @@ pub record KeepsObjects (s t : SessionState) : Type 0 where
   pub guide : t.guide ≡ s.guide
   pub order : t.order ≡ s.order
 
--- the line chooses an object or drops one
-abbrev pub IsAboutObjects : Line → Type 0
-IsAboutObjects (Guide number) = Unit {0}
-IsAboutObjects GuideNone = Unit {0}
-IsAboutObjects (Order number) = Unit {0}
-IsAboutObjects OrderNone = Unit {0}
+-- the request chooses an object or drops one
+abbrev pub IsAboutObjects : Request → Type 0
+IsAboutObjects (ChooseGuide chosen) = Unit {0}
 IsAboutObjects (DropGuide number) = Unit {0}
+IsAboutObjects (ChooseOrder chosen) = Unit {0}
 IsAboutObjects (DropOrder number) = Unit {0}
 IsAboutObjects _ = ⊥
 
@@ -561,50 +433,36 @@ IsAboutObjects _ = ⊥
 alike : (s t z : SessionState) → t ≡ z → KeepsObjects s z → KeepsObjects s t
 alike s t z e k = subst (KeepsObjects s) (sym e) k
 
-pub changes_objects : (s m : SessionState) (line : Line) → Changes s line m → IsAboutObjects line ⊎ KeepsObjects s m
-changes_objects s m Comment h = inr (alike s m s h (record { guides = refl; orders = refl; guide = refl; order = refl }))
-changes_objects s m (Var name domain) h = inr (alike s m (with_engine (with_variable s name (values_in domain)) h.0) h.2 (record { guides = refl; orders = refl; guide = refl; order = refl }))
-changes_objects s m (Add name shape) h = inr (alike s m (with_engine (with_constraint s name h.0) h.1) h.4 (record { guides = refl; orders = refl; guide = refl; order = refl }))
-changes_objects s m (Relax name) h = inr (alike s m (with_engine (with_active_at s h.0 false) h.2) h.5 (record { guides = refl; orders = refl; guide = refl; order = refl }))
-changes_objects s m (Enforce name) h = inr (alike s m (with_engine (with_active_at s h.0 true) h.2) h.5 (record { guides = refl; orders = refl; guide = refl; order = refl }))
-changes_objects s m (Retract name) h = inr (alike s m (with_engine (without_constraint s h.0) h.2) h.5 (record { guides = refl; orders = refl; guide = refl; order = refl }))
-changes_objects s m DomainsLine h = inr (alike s m s h (record { guides = refl; orders = refl; guide = refl; order = refl }))
-changes_objects s m (Domain name) h = inr (alike s m s h (record { guides = refl; orders = refl; guide = refl; order = refl }))
-changes_objects s m ListLine h = inr (alike s m s h (record { guides = refl; orders = refl; guide = refl; order = refl }))
-changes_objects s m Log h = inr (alike s m s h (record { guides = refl; orders = refl; guide = refl; order = refl }))
-changes_objects s m (Why name value) h = inr (alike s m s h (record { guides = refl; orders = refl; guide = refl; order = refl }))
-changes_objects s m Conflict h = inr (alike s m s h (record { guides = refl; orders = refl; guide = refl; order = refl }))
-changes_objects s m MinimalConflict h = inr (alike s m s h (record { guides = refl; orders = refl; guide = refl; order = refl }))
-changes_objects s m (Minimal name value) h = inr (alike s m s h (record { guides = refl; orders = refl; guide = refl; order = refl }))
-changes_objects s m (Cert name value) h = inr (alike s m s h (record { guides = refl; orders = refl; guide = refl; order = refl }))
-changes_objects s m CertConflict h = inr (alike s m s h (record { guides = refl; orders = refl; guide = refl; order = refl }))
+pub changes_objects : (s m : SessionState) (request : Request) → Changes s request m → IsAboutObjects request ⊎ KeepsObjects s m
+changes_objects s m NothingAsked h = inr (alike s m s h (record { guides = refl; orders = refl; guide = refl; order = refl }))
+changes_objects s m (Declare name domain) h = inr (alike s m (with_engine (with_variable s name (values_in domain)) h.0) h.2 (record { guides = refl; orders = refl; guide = refl; order = refl }))
+changes_objects s m (Add name con) h = inr (alike s m (with_engine (with_constraint s name con) h.0) h.2 (record { guides = refl; orders = refl; guide = refl; order = refl }))
+changes_objects s m (Relax place) h = inr (alike s m (with_engine (with_active_at s place false) h.1) h.4 (record { guides = refl; orders = refl; guide = refl; order = refl }))
+changes_objects s m (Enforce place) h = inr (alike s m (with_engine (with_active_at s place true) h.1) h.4 (record { guides = refl; orders = refl; guide = refl; order = refl }))
+changes_objects s m (Retract place) h = inr (alike s m (with_engine (without_constraint s place) h.1) h.4 (record { guides = refl; orders = refl; guide = refl; order = refl }))
+changes_objects s m (Ask question) h = inr (alike s m s h (record { guides = refl; orders = refl; guide = refl; order = refl }))
 changes_objects s m Pause h = inr (alike s m (record s { paused = true }) h (record { guides = refl; orders = refl; guide = refl; order = refl }))
 changes_objects s m Resume h = inr (alike s m (record s { paused = false }) h (record { guides = refl; orders = refl; guide = refl; order = refl }))
 changes_objects s m (Step count) h = inr (alike s m s h (record { guides = refl; orders = refl; guide = refl; order = refl }))
-changes_objects s m (SolveDbt budget) h = inr (alike s m s h (record { guides = refl; orders = refl; guide = refl; order = refl }))
-changes_objects s m (SolveRepair tabu budget) h = inr (alike s m s h (record { guides = refl; orders = refl; guide = refl; order = refl }))
-changes_objects s m (Guide number) h = inl tt
-changes_objects s m GuideNone h = inl tt
-changes_objects s m (Order number) h = inl tt
-changes_objects s m OrderNone h = inl tt
+changes_objects s m (Solve by) h = inr (alike s m s h (record { guides = refl; orders = refl; guide = refl; order = refl }))
+changes_objects s m (ChooseGuide chosen) h = inl tt
 changes_objects s m (DropGuide number) h = inl tt
+changes_objects s m (ChooseOrder chosen) h = inl tt
 changes_objects s m (DropOrder number) h = inl tt
 changes_objects s m Quit h = inr (alike s m s h (record { guides = refl; orders = refl; guide = refl; order = refl }))
 
--- nothing follows a line about objects
-pub objects_rest : (s : SessionState) (line : Line) → IsAboutObjects line → next s line ≡ Rests
-objects_rest s (Guide number) is = refl
-objects_rest s GuideNone is = refl
-objects_rest s (Order number) is = refl
-objects_rest s OrderNone is = refl
+-- nothing follows a request about objects
+pub objects_rest : (s : SessionState) (request : Request) → IsAboutObjects request → next s request ≡ Rests
+objects_rest s (ChooseGuide chosen) is = refl
 objects_rest s (DropGuide number) is = refl
+objects_rest s (ChooseOrder chosen) is = refl
 objects_rest s (DropOrder number) is = refl
 objects_rest s _ is = absurd is
 
--- the line chooses none of these guides and orders
-pub record IsOther (guides orders : List ℕ) (line : Line) : Type 0 where
-  pub guide : (number : ℕ) → line ≡ Guide number → Contains guides number → ⊥
-  pub order : (number : ℕ) → line ≡ Order number → Contains orders number → ⊥
+-- the request chooses no guide and no order by its number
+pub record IsOther (request : Request) : Type 0 where
+  pub guide : (number : ℕ) → request ≡ ChooseGuide (Some number) → ⊥
+  pub order : (number : ℕ) → request ≡ ChooseOrder (Some number) → ⊥
 
 -- no guide and no order is chosen, and all that are there are among these
 pub record IsWithout (guides orders : List ℕ) (s : SessionState) : Type 0 where
@@ -622,27 +480,27 @@ module _ (guides orders : List ℕ) (s m : SessionState) (is : IsWithout guides 
     orders_within = λ n c. is.orders_within n (subst (λ (ns : List ℕ). Contains ns n) k.orders c);
   }
 
-  -- a line about objects that chooses none of these leaves none chosen
-  pub changes_without : (line : Line) → IsNone (Meets s line) in_order → IsAboutObjects line → Changes s line m → IsOther guides orders line → IsWithout guides orders m
-  changes_without (Guide number) none about h other = absurd (other.guide number refl (is.guides_within number (listed s.guides number none.1.1.1.1.0)))
-  changes_without GuideNone none about h other = subst (IsWithout guides orders) (sym h) (record { unguided = refl; free = is.free; guides_within = is.guides_within; orders_within = is.orders_within })
-  changes_without (Order number) none about h other = absurd (other.order number refl (is.orders_within number (listed s.orders number none.1.1.1.1.0)))
-  changes_without OrderNone none about h other = subst (IsWithout guides orders) (sym h) (record { unguided = is.unguided; free = refl; guides_within = is.guides_within; orders_within = is.orders_within })
-  changes_without (DropGuide number) none about h other = subst (IsWithout guides orders) (sym h) (record {
+  -- a request about objects that chooses none leaves none chosen
+  pub changes_without : (request : Request) → IsAboutObjects request → Changes s request m → IsOther request → IsWithout guides orders m
+  changes_without (ChooseGuide None) about h other = subst (IsWithout guides orders) (sym h) (record { unguided = refl; free = is.free; guides_within = is.guides_within; orders_within = is.orders_within })
+  changes_without (ChooseGuide (Some number)) about h other = absurd (other.guide number refl)
+  changes_without (DropGuide number) about h other = subst (IsWithout guides orders) (sym h) (record {
     unguided = ap (chosen_without number) is.unguided;
     free = is.free;
     guides_within = λ n c. is.guides_within n (left_inside number s.guides n c);
     orders_within = is.orders_within;
   })
-  changes_without (DropOrder number) none about h other = subst (IsWithout guides orders) (sym h) (record {
+  changes_without (ChooseOrder None) about h other = subst (IsWithout guides orders) (sym h) (record { unguided = is.unguided; free = refl; guides_within = is.guides_within; orders_within = is.orders_within })
+  changes_without (ChooseOrder (Some number)) about h other = absurd (other.order number refl)
+  changes_without (DropOrder number) about h other = subst (IsWithout guides orders) (sym h) (record {
     unguided = is.unguided;
     free = ap (chosen_without number) is.free;
     guides_within = is.guides_within;
     orders_within = λ n c. is.orders_within n (left_inside number s.orders n c);
   })
-  changes_without _ none about h other = absurd about
+  changes_without _ about h other = absurd about
 
--- ---- which lines are searches
+-- ---- which requests are searches
 
 rests_not_searches : (by : Procedure) → Rests ≡ Searches by → ⊥
 rests_not_searches by e = cc
@@ -651,13 +509,12 @@ waits_not_searches : (b : Bool) (by : Procedure) → (if b then Rests else Filte
 waits_not_searches true by e = cc
 waits_not_searches false by e = cc
 
-pub searches_by : (m : SessionState) (line : Line) (by : Procedure) → next m line ≡ Searches by → line ≡ search_line by
-searches_by m (Add name shape) by e = absurd (waits_not_searches m.paused by e)
-searches_by m (Relax name) by e = absurd (waits_not_searches m.paused by e)
-searches_by m (Enforce name) by e = absurd (waits_not_searches m.paused by e)
-searches_by m (Retract name) by e = absurd (waits_not_searches m.paused by e)
-searches_by m Resume by e = absurd (waits_not_searches false by e)
+pub searches_by : (m : SessionState) (request : Request) (by : Procedure) → next m request ≡ Searches by → request ≡ Solve by
+searches_by m (Add name con) by e = absurd (waits_not_searches m.paused by e)
+searches_by m (Relax place) by e = absurd (waits_not_searches m.paused by e)
+searches_by m (Enforce place) by e = absurd (waits_not_searches m.paused by e)
+searches_by m (Retract place) by e = absurd (waits_not_searches m.paused by e)
+searches_by m Resume by e = absurd (waits_not_searches m.paused by e)
 searches_by m (Step count) by e = let f : Filters (Some count) ≡ Searches by = e in cc
-searches_by m (SolveDbt budget) by e = let f : Searches (ByDbt budget) ≡ Searches by = e in let same : ByDbt budget ≡ by = cc in ap search_line same
-searches_by m (SolveRepair tabu budget) by e = let f : Searches (ByRepair tabu budget) ≡ Searches by = e in let same : ByRepair tabu budget ≡ by = cc in ap search_line same
+searches_by m (Solve other) by e = let f : Searches other ≡ Searches by = e in let same : other ≡ by = cc in ap Solve same
 searches_by m _ by e = absurd (rests_not_searches by e)

@@ -1,4 +1,4 @@
--- What an accepted line leaves is a state that a session can hold, and without an order object nothing else.
+-- What an admitted request leaves is a state that a session can hold, and without an order object nothing else.
 use Rattle.std.proofs.Common.{◌≡◌, ℕ, Bool, true, false, is_some, Option, Some, None, List, [], length, Contains, inl, inr, refl, sym, ap, ◌∙◌, subst, arith}
 use Rattle.std.proofs.lemmas.Bool.{false≢true}
 use Rattle.std.proofs.lemmas.List.Elements.{All-nil}
@@ -8,8 +8,9 @@ use Rattle.palm_model.specs.Log.{cons_of}
 use Rattle.palm_model.specs.State.{EngineState}
 use Rattle.palm_book.specs.Book.{initial_of, active_of}
 use Rattle.palm_book.proofs.cited.Actives.{initial_ascend}
-use Rattle.palm_read.specs.Sound.{IsSound}
-use Rattle.palm_read.specs.declared.line.Line.{Line}
+use Rattle.palm_session.specs.declared.request.Procedure.{Procedure}
+use Rattle.palm_session.specs.declared.request.Request.{Request}
+use Rattle.palm_session.specs.Requests.{Admits, HasTabu}
 use Rattle.palm_laws.proofs.cited.Existence.{greatest_exists}
 use Rattle.palm_laws.proofs.cited.Uniqueness.{greatest_unique}
 use Rattle.palm_events.specs.Along.{IsStill}
@@ -18,8 +19,8 @@ use Rattle.palm_events.proofs.cited.Valid.{blank_valid}
 use Rattle.palm_engine.specs.Settling.{Revision, FitsOrder}
 use Rattle.palm_engine.proofs.cited.Settled.{settling_filters, settling_valid, settling_still, plainly_exists, plainly_same}
 use Rattle.palm_session.specs.State.{SessionState, IsHeld, IsState, fresh, AreDomains, has_empty, IsContradiction}
-use Rattle.palm_session.specs.Refusals.{Meets, in_order, IsNone}
-use Rattle.palm_session.specs.Effects.{Effect, Nothing, Settled, Searched, with_engine, with_search, Changes, Next, Rests, Filters, Procedure, search_line, HasTabu, Searches, next, SettlesIn, Follows, Does}
+use Rattle.palm_session.specs.Effects.{Effect, Nothing, Settled, Searched, with_engine, with_search, Changes, Next, Rests, Filters, Searches, next, SettlesIn, Follows, Does}
+use Rattle.palm_search.specs.declared.ending.SearchEnd.{SearchEnd}
 use Rattle.palm_search.specs.declared.turn.Turn.{Turn}
 use Rattle.palm_session.proofs.Searching.{search_in, search_once, searched_state}
 use Rattle.palm_session.proofs.cited.LawsOfChanges.{changes_keep, changes_still, changes_limited, changes_exist, changes_once, KeepsObjects, changes_objects, objects_rest, searches_by, IsOther, IsWithout, kept_without, changes_without}
@@ -75,29 +76,29 @@ pub follows_keeps : (m : SessionState) (n : Next) (effect : Effect) (t : Session
     → ((l : ℕ) → n ≡ Filters (Some l) → m.paused ≡ true) → Follows m n effect t → IsState t
 follows_keeps m Rests Nothing t is still limited f = subst IsState (sym f) (record { held = is; still = still refl })
 follows_keeps m Rests (Settled count) t is still limited f = absurd f
-follows_keeps m Rests (Searched end) t is still limited f = absurd f
+follows_keeps m Rests (Searched end dropped) t is still limited f = absurd f
 follows_keeps m (Filters limit) Nothing t is still limited f = absurd f
 follows_keeps m (Filters limit) (Settled count) t is still limited f = subst IsState (sym f.2) (record {
   held = settled_held m limit count f.0 is f.1;
   still = λ awake. settled_still m limit count f.0 f.1 (λ l e. limited l (ap Filters e)) awake;
 })
-follows_keeps m (Filters limit) (Searched end) t is still limited f = absurd f
+follows_keeps m (Filters limit) (Searched end dropped) t is still limited f = absurd f
 follows_keeps m (Searches by) Nothing t is still limited f = absurd f
 follows_keeps m (Searches by) (Settled count) t is still limited f = absurd f
-follows_keeps m (Searches by) (Searched end) t is still limited f = subst IsState (sym f.3) (searched_state m by f.0 end f.1 is f.2)
+follows_keeps m (Searches by) (Searched end dropped) t is still limited f = subst IsState (sym f.3) (searched_state m by f.0 end dropped f.1 is f.2)
 
-pub does_keeps : (s : SessionState) (line : Line) (effect : Effect) (t : SessionState) → IsState s → IsSound line → IsNone (Meets s line) in_order → Does s line effect t → IsState t
-does_keeps s line effect t is sound none d =
-    follows_keeps d.0 (next d.0 line) effect t (changes_keep s d.0 line is.held sound none d.1)
-    (λ rests awake. changes_still s d.0 line is d.1 rests awake) (λ l e. changes_limited s d.0 line none d.1 l e) d.2
+pub does_keeps : (s : SessionState) (request : Request) (effect : Effect) (t : SessionState) → IsState s → Admits s request → Does s request effect t → IsState t
+does_keeps s request effect t is can d =
+    follows_keeps d.0 (next d.0 request) effect t (changes_keep s d.0 request is.held can d.1)
+    (λ rests awake. changes_still s d.0 request is d.1 rests awake) (λ l e. changes_limited s d.0 request can d.1 l e) d.2
 
--- ---- a line does something
+-- ---- a request does something
 
 fits_any : (b : Bool) (rs : List Revision) → FitsOrder false rs → FitsOrder b rs
 fits_any false rs fits = fits
 fits_any true rs fits = tt
 
-follows_exist : (m : SessionState) (n : Next) → IsHeld m → ((by : Procedure) → n ≡ Searches by → HasTabu (search_line by)) → (effect : Effect) × (t : SessionState) × Follows m n effect t
+follows_exist : (m : SessionState) (n : Next) → IsHeld m → ((by : Procedure) → n ≡ Searches by → HasTabu by) → (effect : Effect) × (t : SessionState) × Follows m n effect t
 follows_exist m Rests is some = (Nothing, m, refl)
 follows_exist m (Filters limit) is some =
     let p = plainly_exists limit m.engine is.valid in
@@ -106,13 +107,16 @@ follows_exist m (Filters limit) is some =
     (Settled (length p.revisions), with_engine m p.state, (p.state, settles, refl))
 follows_exist m (Searches by) is some =
     let p = search_in m is by (some by refl) in
-    (Searched p.end, with_search m p.turns p.engine, (p.turns, p.engine, p.searches, refl))
+    (Searched p.end p.dropped, with_search m p.turns p.engine, (p.turns, p.engine, p.searches, refl))
 
-pub does_exist : (s : SessionState) (line : Line) → IsState s → IsSound line → HasTabu line → IsNone (Meets s line) in_order → (effect : Effect) × (t : SessionState) × Does s line effect t
-does_exist s line is sound tabu none =
-    let c = changes_exist s line is.held sound none in
-    let some = λ (by : Procedure) (e : next c.0 line ≡ Searches by). subst HasTabu (searches_by c.0 line by e) tabu in
-    let f = follows_exist c.0 (next c.0 line) (changes_keep s c.0 line is.held sound none c.1) some in
+-- a search that is admitted has a tabu length above 0
+tabu_of : (s m : SessionState) (request : Request) → Admits s request → (by : Procedure) → next m request ≡ Searches by → HasTabu by
+tabu_of s m request can by e = subst (λ (r : Request). Admits s r) (searches_by m request by e) can
+
+pub does_exist : (s : SessionState) (request : Request) → IsState s → Admits s request → (effect : Effect) × (t : SessionState) × Does s request effect t
+does_exist s request is can =
+    let c = changes_exist s request is.held can in
+    let f = follows_exist c.0 (next c.0 request) (changes_keep s c.0 request is.held can c.1) (λ by e. tabu_of s c.0 request can by e) in
     (f.0, f.1, (c.0, c.1, f.2))
 
 -- ---- and without an order object nothing else
@@ -134,80 +138,82 @@ plain_any m (Searches by) unguided free = (unguided, free)
 follows_once : (m : SessionState) (n : Next) (e f : Effect) (t u : SessionState) → IsPlain m n → IsHeld m → Follows m n e t → Follows m n f u → (e ≡ f) × (t ≡ u)
 follows_once m Rests Nothing Nothing t u plain is x y = (refl, x ∙ sym y)
 follows_once m Rests Nothing (Settled k) t u plain is x y = absurd y
-follows_once m Rests Nothing (Searched k) t u plain is x y = absurd y
+follows_once m Rests Nothing (Searched k j) t u plain is x y = absurd y
 follows_once m Rests (Settled k) f t u plain is x y = absurd x
-follows_once m Rests (Searched k) f t u plain is x y = absurd x
+follows_once m Rests (Searched k j) f t u plain is x y = absurd x
 follows_once m (Filters limit) Nothing f t u plain is x y = absurd x
-follows_once m (Filters limit) (Searched k) f t u plain is x y = absurd x
+follows_once m (Filters limit) (Searched k j) f t u plain is x y = absurd x
 follows_once m (Filters limit) (Settled k) Nothing t u plain is x y = absurd y
-follows_once m (Filters limit) (Settled k) (Searched l) t u plain is x y = absurd y
+follows_once m (Filters limit) (Settled k) (Searched l j) t u plain is x y = absurd y
 follows_once m (Filters limit) (Settled k) (Settled l) t u plain is x y =
     let same = plainly_same limit m.engine x.1.revisions x.0 y.1.revisions y.0 is.valid (fits_none m limit k x.0 plain x.1) (fits_none m limit l y.0 plain y.1) x.1.settles y.1.settles in
     let count : k ≡ l = sym x.1.counted ∙ ap (λ (rs : List Revision). length rs) same.revisions ∙ y.1.counted in
     (ap Settled count, x.2 ∙ ap (λ (z : EngineState). with_engine m z) same.state ∙ sym y.2)
 follows_once m (Searches by) Nothing f t u plain is x y = absurd x
 follows_once m (Searches by) (Settled k) f t u plain is x y = absurd x
-follows_once m (Searches by) (Searched k) Nothing t u plain is x y = absurd y
-follows_once m (Searches by) (Searched k) (Settled l) t u plain is x y = absurd y
-follows_once m (Searches by) (Searched k) (Searched l) t u plain is x y =
-    let same = search_once m by x.0 y.0 k l x.1 y.1 is plain.0 plain.1 x.2 y.2 in
-    (ap Searched same.end_same, x.3 ∙ ap (λ (z : List Turn). with_search m z x.1) same.turns_same ∙ ap (λ (z : EngineState). with_search m y.0 z) same.engine_same ∙ sym y.3)
+follows_once m (Searches by) (Searched k j) Nothing t u plain is x y = absurd y
+follows_once m (Searches by) (Searched k j) (Settled l) t u plain is x y = absurd y
+follows_once m (Searches by) (Searched k j) (Searched l i) t u plain is x y =
+    let same = search_once m by x.0 y.0 k l j i x.1 y.1 is plain.0 plain.1 x.2 y.2 in (
+      ap (λ (z : SearchEnd). Searched z j) same.end_same ∙ ap (Searched l) same.dropped_same,
+      x.3 ∙ ap (λ (z : List Turn). with_search m z x.1) same.turns_same ∙ ap (λ (z : EngineState). with_search m y.0 z) same.engine_same ∙ sym y.3,
+    )
 
--- a line that chooses an object has nothing follow it
-change_plain : (s m : SessionState) (line : Line) → Changes s line m → s.guide ≡ None → s.order ≡ None → IsPlain m (next m line)
-change_plain s m line h unguided free = elim (changes_objects s m line h) [
-  | inl about ↦ subst (IsPlain m) (sym (objects_rest m line about)) tt
-  | inr k ↦ plain_any m (next m line) (k.guide ∙ unguided) (k.order ∙ free)
+-- a request that chooses an object has nothing follow it
+change_plain : (s m : SessionState) (request : Request) → Changes s request m → s.guide ≡ None → s.order ≡ None → IsPlain m (next m request)
+change_plain s m request h unguided free = elim (changes_objects s m request h) [
+  | inl about ↦ subst (IsPlain m) (sym (objects_rest m request about)) tt
+  | inr k ↦ plain_any m (next m request) (k.guide ∙ unguided) (k.order ∙ free)
 ]
 
--- a line does one thing
-pub does_once : (s : SessionState) (line : Line) (e f : Effect) (t u : SessionState) → s.guide ≡ None → s.order ≡ None → IsState s → IsSound line → IsNone (Meets s line) in_order
-    → Does s line e t → Does s line f u → (e ≡ f) × (t ≡ u)
-does_once s line e f t u unguided free is sound none d g =
-    let same : g.0 ≡ d.0 = changes_once s g.0 d.0 line is.held g.1 d.1 in
-    follows_once d.0 (next d.0 line) e f t u (change_plain s d.0 line d.1 unguided free) (changes_keep s d.0 line is.held sound none d.1) d.2
-    (subst (λ (z : SessionState). Follows z (next z line) f u) same g.2)
+-- a request does one thing
+pub does_once : (s : SessionState) (request : Request) (e f : Effect) (t u : SessionState) → s.guide ≡ None → s.order ≡ None → IsState s → Admits s request
+    → Does s request e t → Does s request f u → (e ≡ f) × (t ≡ u)
+does_once s request e f t u unguided free is can d g =
+    let same : g.0 ≡ d.0 = changes_once s g.0 d.0 request g.1 d.1 in
+    follows_once d.0 (next d.0 request) e f t u (change_plain s d.0 request d.1 unguided free) (changes_keep s d.0 request is.held can d.1) d.2
+    (subst (λ (z : SessionState). Follows z (next z request) f u) same g.2)
 
 -- ---- which objects are there, and which are chosen
 
 follows_objects : (m : SessionState) (n : Next) (effect : Effect) (t : SessionState) → Follows m n effect t → KeepsObjects m t
 follows_objects m Rests Nothing t f = subst (KeepsObjects m) (sym f) (record { guides = refl; orders = refl; guide = refl; order = refl })
 follows_objects m Rests (Settled k) t f = absurd f
-follows_objects m Rests (Searched k) t f = absurd f
+follows_objects m Rests (Searched k j) t f = absurd f
 follows_objects m (Filters limit) Nothing t f = absurd f
 follows_objects m (Filters limit) (Settled k) t f = subst (KeepsObjects m) (sym f.2) (record { guides = refl; orders = refl; guide = refl; order = refl })
-follows_objects m (Filters limit) (Searched k) t f = absurd f
+follows_objects m (Filters limit) (Searched k j) t f = absurd f
 follows_objects m (Searches by) Nothing t f = absurd f
 follows_objects m (Searches by) (Settled k) t f = absurd f
-follows_objects m (Searches by) (Searched k) t f = subst (KeepsObjects m) (sym f.3) (record { guides = refl; orders = refl; guide = refl; order = refl })
+follows_objects m (Searches by) (Searched k j) t f = subst (KeepsObjects m) (sym f.3) (record { guides = refl; orders = refl; guide = refl; order = refl })
 
--- a line that chooses none of these objects leaves none chosen
-pub does_without : (guides orders : List ℕ) (s : SessionState) (line : Line) (effect : Effect) (t : SessionState) → IsNone (Meets s line) in_order → IsOther guides orders line
-    → Does s line effect t → IsWithout guides orders s → IsWithout guides orders t
-does_without guides orders s line effect t none other d is =
-    let changed : IsWithout guides orders d.0 = elim (changes_objects s d.0 line d.1) [
-      | inl about ↦ changes_without guides orders s d.0 is line none about d.1 other
+-- a request that chooses none of the objects leaves none chosen
+pub does_without : (guides orders : List ℕ) (s : SessionState) (request : Request) (effect : Effect) (t : SessionState) → IsOther request
+    → Does s request effect t → IsWithout guides orders s → IsWithout guides orders t
+does_without guides orders s request effect t other d is =
+    let changed : IsWithout guides orders d.0 = elim (changes_objects s d.0 request d.1) [
+      | inl about ↦ changes_without guides orders s d.0 is request about d.1 other
       | inr k ↦ kept_without guides orders s d.0 is k
     ] in
-    kept_without guides orders d.0 t changed (follows_objects d.0 (next d.0 line) effect t d.2)
+    kept_without guides orders d.0 t changed (follows_objects d.0 (next d.0 request) effect t d.2)
 
 -- where nothing follows, the change is all
 pub rests_same : (m : SessionState) (effect : Effect) (t : SessionState) → Follows m Rests effect t → t ≡ m
 rests_same m Nothing t f = f
 rests_same m (Settled k) t f = absurd f
-rests_same m (Searched k) t f = absurd f
+rests_same m (Searched k j) t f = absurd f
 
 -- what follows leaves the book
 pub follows_book : (m : SessionState) (n : Next) (effect : Effect) (t : SessionState) → Follows m n effect t → t.book ≡ m.book
 follows_book m Rests Nothing t f = ap (λ (z : SessionState). z.book) f
 follows_book m Rests (Settled k) t f = absurd f
-follows_book m Rests (Searched k) t f = absurd f
+follows_book m Rests (Searched k j) t f = absurd f
 follows_book m (Filters limit) Nothing t f = absurd f
 follows_book m (Filters limit) (Settled k) t f = ap (λ (z : SessionState). z.book) f.2
-follows_book m (Filters limit) (Searched k) t f = absurd f
+follows_book m (Filters limit) (Searched k j) t f = absurd f
 follows_book m (Searches by) Nothing t f = absurd f
 follows_book m (Searches by) (Settled k) t f = absurd f
-follows_book m (Searches by) (Searched k) t f = ap (λ (z : SessionState). z.book) f.3
+follows_book m (Searches by) (Searched k j) t f = ap (λ (z : SessionState). z.book) f.3
 
 -- ---- the greatest closed domains
 

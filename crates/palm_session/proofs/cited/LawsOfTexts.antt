@@ -1,10 +1,13 @@
 -- The lines of a text are answered in one way.
-use Rattle.std.proofs.Common.{◌≡◌, ℕ, List, [], ◌∷◌, ◌++◌, All, Contains, ◌⊎◌, inl, inr, refl, sym, ap, ◌∙◌, subst}
-use Rattle.std.proofs.lemmas.List.Elements.{All-nil, All-cons, All-head, All-tail, All-contains, Contains-append_right}
+use Rattle.std.proofs.Common.{◌≡◌, ℕ, List, [], ◌∷◌, ◌++◌, All, Contains, ◌⊎◌, inl, inr, refl, sym, ap, ◌∙◌, subst, append_assoc, append-nil}
+use Rattle.std.proofs.lemmas.List.Elements.{All-nil, All-cons, All-head, All-tail, All-push, All-contains, Contains-append_right}
 use Rattle.palm_base.proofs.cited.Members.{member_here}
 use Rattle.palm_session.specs.State.{SessionState, IsState, fresh}
+use Rattle.palm_read.specs.Lines.{AreLines, last_line, without_return}
 use Rattle.palm_read.proofs.cited.Cutting.{has_lines, lines_once}
-use Rattle.palm_session.specs.Replies.{Ends, GoesOn, Run, AreAnswered, all, until, Replies, ChoosesObject, ChoosesNone}
+use Rattle.palm_session.specs.Answers.{Answers}
+use Rattle.palm_session.specs.Replies.{Ends, GoesOn, KeepsOn, Run, AreAnswered, all, until, Replies, ChoosesObject, ChoosesNone, KeepsNoneChosen}
+use Rattle.palm_session.proofs.cited.FeedLemmas.{keeps_on, keeps_on_last, run_then}
 use Rattle.palm_session.proofs.cited.LawsOfAnswers.{has_answer, answers_keep, answers_without, answers_once}
 use Rattle.palm_session.proofs.LawsOfLines.{quit_known}
 use Rattle.palm_session.proofs.cited.LawsOfChanges.{IsWithout}
@@ -38,6 +41,14 @@ first_end (l ∷ ls) = elim (quit_known l) [
   ]
 ]
 
+-- a last line goes on, or ends the session
+pub last_known : (line : List ℕ) → All GoesOn (last_line line) ⊎ All Ends (last_line line)
+last_known [] = inl (All-nil GoesOn)
+last_known (b ∷ bs) = elim (quit_known (without_return (b ∷ bs))) [
+  | inl e ↦ inr (All-cons Ends (without_return (b ∷ bs)) [] e (All-nil Ends))
+  | inr n ↦ inl (All-cons GoesOn (without_return (b ∷ bs)) [] n (All-nil GoesOn))
+]
+
 has_answered : (lines : List (List ℕ)) → (answered : List (List ℕ)) × AreAnswered lines answered
 has_answered lines = elim (first_end lines) [
   | inl f ↦ (f.before ++ f.last ∷ [], until f.before f.after f.last f.goes_on f.ends f.whole)
@@ -66,18 +77,7 @@ answered_once lines xs ys (all on) (until before after last on_too ends is) = ab
 answered_once lines xs ys (until before after last on ends is) (all too) = absurd (no_end lines before after last too ends is)
 answered_once lines xs ys (until a x k on e is) (until b y l too f other) = ends_once a b x y k l on too e f (sym is ∙ other)
 
--- ---- the lines are answered in one way
-
-pub run_once : (guides orders : List ℕ) (s : SessionState) (lines : List (List ℕ)) (a b : List ℕ) (t u : SessionState) → IsWithout guides orders s → IsState s → All (λ line. ChoosesObject guides orders line → ⊥) lines
-    → Run s lines a t → Run s lines b u → a ≡ b
-run_once guides orders s [] a b t u free is none x y = x.0 ∙ sym y.0
-run_once guides orders s (l ∷ ls) a b t u free is none x y =
-    let one = answers_once s l x.0 y.0 x.2 y.2 free.unguided free.free is x.3 y.3 in
-    let next : Run x.2 ls y.1 u = subst (λ (z : SessionState). Run z ls y.1 u) (sym one.1) y.5 in
-    let here : ChoosesObject guides orders l → ⊥ = All-head (λ line. ChoosesObject guides orders line → ⊥) l ls none in
-    let rest : x.1 ≡ y.1 = run_once guides orders x.2 ls x.1 y.1 t u (answers_without guides orders s l x.0 x.2 here x.3 free) (answers_keep s l x.0 x.2 is x.3)
-    (All-tail (λ line. ChoosesObject guides orders line → ⊥) l ls none) x.5 next in
-    x.4 ∙ ap (λ (z : List ℕ). z ++ x.1) one.0 ∙ ap (λ (z : List ℕ). y.0 ++ z) rest ∙ sym y.4
+-- ---- a run
 
 pub has_run : (s : SessionState) (lines : List (List ℕ)) → IsState s → (replies : List ℕ) × (t : SessionState) × Run s lines replies t
 has_run s [] is = ([], s, (refl, refl))
@@ -91,27 +91,73 @@ pub run_keeps : (s : SessionState) (lines : List (List ℕ)) (replies : List ℕ
 run_keeps s [] replies t is run = subst IsState (sym run.1) is
 run_keeps s (l ∷ ls) replies t is run = run_keeps run.2 ls run.1 t (answers_keep s l run.0 run.2 is run.3) run.5
 
+-- ---- no guide and no order is chosen
+
+-- lines that choose none leave none chosen
+run_without : (guides orders : List ℕ) (s : SessionState) (lines : List (List ℕ)) (replies : List ℕ) (t : SessionState) → IsWithout guides orders s
+    → All (λ line. ChoosesObject guides orders line → ⊥) lines → Run s lines replies t → IsWithout guides orders t
+run_without guides orders s [] replies t free none run = subst (IsWithout guides orders) (sym run.1) free
+run_without guides orders s (l ∷ ls) replies t free none run =
+    let here : ChoosesObject guides orders l → ⊥ = All-head (λ line. ChoosesObject guides orders line → ⊥) l ls none in
+    run_without guides orders run.2 ls run.1 t (answers_without guides orders s l run.0 run.2 here run.3 free) (All-tail (λ line. ChoosesObject guides orders line → ⊥) l ls none) run.5
+
+all_front : (P : List ℕ → Type 0) (xs ys : List (List ℕ)) → All P (xs ++ ys) → All P xs
+all_front P [] ys h = All-nil P
+all_front P (x ∷ xs) ys h = All-cons P x xs (All-head P x (xs ++ ys) h) (all_front P xs ys (All-tail P x (xs ++ ys) h))
+
+pub none_chosen : (guides orders text : List ℕ) → ChoosesNone guides orders text → KeepsNoneChosen guides orders text
+none_chosen guides orders text none before after line replies s lines on run =
+    let start : IsWithout guides orders (fresh guides orders) = record { unguided = refl; free = refl; guides_within = λ n c. c; orders_within = λ n c. c } in
+    let others : All (λ l. ChoosesObject guides orders l → ⊥) before = all_front (λ l. ChoosesObject guides orders l → ⊥) before (line ∷ after) (none (before ++ line ∷ after) lines) in
+    let free = run_without guides orders (fresh guides orders) before replies s start others run in
+    (free.unguided, free.free)
+
 -- ---- a text has one output
 
--- what holds of all lines holds of those that are answered
-all_until : (P : List ℕ → Type 0) (before after : List (List ℕ)) (last : List ℕ) → All P (before ++ last ∷ after) → All P (before ++ last ∷ [])
-all_until P [] after last h = All-cons P last [] (All-head P last after h) (All-nil P)
-all_until P (x ∷ xs) after last h =
-    All-cons P x (xs ++ last ∷ []) (All-head P x (xs ++ last ∷ after) h) (all_until P xs after last (All-tail P x (xs ++ last ∷ after) h))
+-- the lines that are answered are the first ones
+record Front (lines answered : List (List ℕ)) : Type 0 where
+  others : List (List ℕ)
+  whole : lines ≡ answered ++ others
+  keeps : KeepsOn answered
 
-all_answered : (P : List ℕ → Type 0) (lines answered : List (List ℕ)) → AreAnswered lines answered → All P lines → All P answered
-all_answered P lines answered (all on) h = h
-all_answered P lines answered (until before after last on ends is) h = all_until P before after last (subst (λ (ls : List (List ℕ)). All P ls) is h)
+front_of : (lines answered : List (List ℕ)) → AreAnswered lines answered → Front lines answered
+front_of lines answered (all on) = record { others = []; whole = sym (append-nil lines); keeps = keeps_on lines on }
+front_of lines answered (until before after last on ends is) = record {
+  others = after;
+  whole = is ∙ sym (append_assoc before (last ∷ []) after);
+  keeps = keeps_on_last before last on;
+}
 
-pub output_once : (guides orders text a b : List ℕ) → ChoosesNone guides orders text → Replies guides orders text a → Replies guides orders text b → a ≡ b
+one_line : (s t : SessionState) (line reply : List ℕ) → Answers s line reply t → Run s (line ∷ []) reply t
+one_line s t line reply a = (reply, [], t, a, sym (append-nil reply), (refl, refl))
+
+-- behind the first lines of the text the next ones are answered in one way
+run_once : (guides orders text : List ℕ) → KeepsNoneChosen guides orders text → (before : List (List ℕ)) (said : List ℕ) (s : SessionState) (lines after : List (List ℕ)) (a b : List ℕ) (t u : SessionState)
+    → AreLines text (before ++ (lines ++ after)) → All GoesOn before → Run (fresh guides orders) before said s → IsState s → KeepsOn lines → Run s lines a t → Run s lines b u → a ≡ b
+run_once guides orders text none before said s [] after a b t u cut on run is keeps x y = x.0 ∙ sym y.0
+run_once guides orders text none before said s (l ∷ []) after a b t u cut on run is keeps x y =
+    let free = none before after l said s cut on run in
+    let one = answers_once s l x.0 y.0 x.2 y.2 free.0 free.1 is x.3 y.3 in
+    x.4 ∙ ap (λ (z : List ℕ). z ++ x.1) one.0 ∙ ap (λ (z : List ℕ). y.0 ++ z) (x.5.0 ∙ sym y.5.0) ∙ sym y.4
+run_once guides orders text none before said s (l ∷ m ∷ ms) after a b t u cut on run is keeps x y =
+    let free = none before ((m ∷ ms) ++ after) l said s cut on run in
+    let one = answers_once s l x.0 y.0 x.2 y.2 free.0 free.1 is x.3 y.3 in
+    let next : Run x.2 (m ∷ ms) y.1 u = subst (λ (z : SessionState). Run z (m ∷ ms) y.1 u) (sym one.1) y.5 in
+    let there : AreLines text ((before ++ l ∷ []) ++ ((m ∷ ms) ++ after)) = subst (λ (ls : List (List ℕ)). AreLines text ls) (sym (append_assoc before (l ∷ []) ((m ∷ ms) ++ after))) cut in
+    let more : Run (fresh guides orders) (before ++ l ∷ []) (said ++ x.0) x.2 = run_then (fresh guides orders) s x.2 before (l ∷ []) said x.0 run (one_line s x.2 l x.0 x.3) in
+    let others : x.1 ≡ y.1 = run_once guides orders text none (before ++ l ∷ []) (said ++ x.0) x.2 (m ∷ ms) after x.1 y.1 t u there (All-push GoesOn before l on keeps.0) more
+    (answers_keep s l x.0 x.2 is x.3) keeps.1 x.5 next in
+    x.4 ∙ ap (λ (z : List ℕ). z ++ x.1) one.0 ∙ ap (λ (z : List ℕ). y.0 ++ z) others ∙ sym y.4
+
+pub output_once : (guides orders text a b : List ℕ) → KeepsNoneChosen guides orders text → Replies guides orders text a → Replies guides orders text b → a ≡ b
 output_once guides orders text a b none x y =
     let lines : x.lines ≡ y.lines = lines_once text x.lines y.lines x.are_lines y.are_lines in
     let there : AreAnswered x.lines y.answered = subst (λ (z : List (List ℕ)). AreAnswered z y.answered) (sym lines) y.are_answered in
     let same : x.answered ≡ y.answered = answered_once x.lines x.answered y.answered x.are_answered there in
     let run : Run (fresh guides orders) x.answered b y.state = subst (λ (z : List (List ℕ)). Run (fresh guides orders) z b y.state) (sym same) y.run in
-    let free : IsWithout guides orders (fresh guides orders) = record { unguided = refl; free = refl; guides_within = λ n c. c; orders_within = λ n c. c } in
-    run_once guides orders (fresh guides orders) x.answered a b x.state y.state free (fresh_is guides orders)
-    (all_answered (λ line. ChoosesObject guides orders line → ⊥) x.lines x.answered x.are_answered (none x.lines x.are_lines)) x.run run
+    let front = front_of x.lines x.answered x.are_answered in
+    run_once guides orders text none [] [] (fresh guides orders) x.answered front.others a b x.state y.state (subst (λ (ls : List (List ℕ)). AreLines text ls) front.whole x.are_lines) (All-nil GoesOn)
+    (refl, refl) (fresh_is guides orders) front.keeps x.run run
 
 pub has_output : (guides orders text : List ℕ) → (output : List ℕ) × Replies guides orders text output
 has_output guides orders text =

@@ -4,12 +4,15 @@ ghost use Rattle.std.specs.Prelude.{◌≡◌, ◌↔◌, ℕ, ℤ, false, List}
 ghost use Rattle.palm_events.specs.Scoped.{HasScopedReasons};
 ghost use Rattle.palm_model.specs.Domains.{Domains};
 ghost use Rattle.palm_model.specs.State.{HasEmpty, IsEmptyAt, present};
-ghost use Rattle.palm_read.specs.declared.line.Line.TheVariants.{Add, Retract, Domains as DomainsLine, Why, Conflict, Minimal, MinimalConflict, Cert, CertConflict};
+ghost use Rattle.palm_read.specs.declared.line.Line.TheVariants.{Add, Retract, Why, Minimal, Cert};
 ghost use Rattle.palm_read.specs.declared.line.Shape.{Shape};
 ghost use Rattle.palm_session.specs.State.{SessionState, IsState, fresh, AreDomains, IsContradiction};
-ghost use Rattle.palm_session.specs.Refusals.{Meets, IsNone, in_order};
+ghost use Rattle.palm_session.specs.Requests.{IsAdmitted, Requests};
+ghost use Rattle.palm_session.specs.declared.request.Procedure.{Procedure};
+ghost use Rattle.palm_session.specs.declared.request.Question.TheVariants.{Domains as DomainsAsked, Conflict, MinimalConflict, CertConflict};
+ghost use Rattle.palm_session.specs.declared.request.Request.{Request};
+ghost use Rattle.palm_session.specs.declared.request.Request.TheVariants.{Ask, Solve};
 ghost use Rattle.palm_session.specs.Answers.{Accepts};
-ghost use Rattle.palm_session.specs.Effects.{Procedure, search_line};
 ghost use Rattle.palm_session.specs.Replies.{Run};
 ghost use Rattle.palm_session.specs.Told.{KeepsAllButJournal, ToldCert, ToldCertConflict, ToldWhy, ToldConflict, ToldMinimal, ToldMinimalConflict, ToldSearch};
 
@@ -26,37 +29,37 @@ pub fn contradictions_are_empty_domains()
 
 /// The constraints that `why` names are active, and explain that the value is absent.
 pub fn kept_explanations_explain()
-    ensures { (s t : SessionState) (name reply : List ℕ) (value : ℤ)
-        → IsState s → IsNone (Meets s (Why name value)) in_order → Accepts s (Why name value) reply t → ToldWhy s.book name value reply }
+    ensures { (s t : SessionState) (name reply : List ℕ) (value : ℤ) (request : Request)
+        → IsState s → IsAdmitted s (Why name value) request → Accepts s request reply t → ToldWhy s.book name value reply }
 {}
 
 /// The constraints that `conflict` names are active, and are a conflict.
 pub fn kept_conflicts_conflict()
     ensures { (s t : SessionState) (reply : List ℕ)
-        → IsState s → Accepts s Conflict reply t → ToldConflict s.book reply }
+        → IsState s → Accepts s (Ask Conflict) reply t → ToldConflict s.book reply }
 {}
 
 /// What `minimal NAME VALUE` names are active constraints that explain the value's absence, and they are the minimal
 /// explanation.
 pub fn minimal_explanations_explain()
-    ensures { (s t : SessionState) (name reply : List ℕ) (value : ℤ)
-        → Accepts s (Minimal name value) reply t → ToldMinimal s.book name value reply }
+    ensures { (s t : SessionState) (name reply : List ℕ) (value : ℤ) (request : Request)
+        → Requests s (Minimal name value) request → Accepts s request reply t → ToldMinimal s.book name value reply }
 {}
 
 /// What `minimal conflict` names are active constraints that are a conflict, and they are the minimal conflict.
 pub fn minimal_conflicts_conflict()
     ensures { (s t : SessionState) (reply : List ℕ)
-        → Accepts s MinimalConflict reply t → ToldMinimalConflict s.book reply }
+        → Accepts s (Ask MinimalConflict) reply t → ToldMinimalConflict s.book reply }
 {}
 
 /// The certificate that `cert NAME VALUE` prints is accepted by the checker's definition, with the claim that the value is
 /// gone, of the constraints that the kept log needs for it.
 pub fn printed_certificates_are_accepted()
-    ensures value { (s t : SessionState) (name reply : List ℕ) (value : ℤ)
-        → IsState s → HasScopedReasons s.engine → IsNone (Meets s (Cert name value)) in_order → Accepts s (Cert name value) reply t
+    ensures value { (s t : SessionState) (name reply : List ℕ) (value : ℤ) (request : Request)
+        → IsState s → HasScopedReasons s.engine → IsAdmitted s (Cert name value) request → Accepts s request reply t
         → ToldCert s name value reply }
     ensures conflict { (s t : SessionState) (reply : List ℕ)
-        → IsState s → HasScopedReasons s.engine → Accepts s CertConflict reply t → ToldCertConflict s reply }
+        → IsState s → HasScopedReasons s.engine → Accepts s (Ask CertConflict) reply t → ToldCertConflict s reply }
 {}
 
 /// The values that `solve` tells satisfy all active constraints, and the constraints that it names are active and have no
@@ -64,13 +67,13 @@ pub fn printed_certificates_are_accepted()
 /// how many.
 pub fn searches_tell_the_truth()
     ensures { (s t : SessionState) (by : Procedure) (reply : List ℕ)
-        → IsState s → Accepts s (search_line by) reply t → ToldSearch s.book by reply }
+        → IsState s → Accepts s (Solve by) reply t → ToldSearch s.book by reply }
 {}
 
 /// After `solve` the book, the constraints of the engine and its log are those from before.
 pub fn searches_leave_all_but_the_journal()
     ensures { (s t : SessionState) (by : Procedure) (reply : List ℕ)
-        → IsState s → Accepts s (search_line by) reply t → KeepsAllButJournal s t }
+        → IsState s → Accepts s (Solve by) reply t → KeepsAllButJournal s t }
 {}
 
 /// From a fresh session on at most one variable has no value, so `conflict` names the constraints of the one conflict that
@@ -84,10 +87,10 @@ pub fn one_domain_is_empty_at_most()
 /// Adding a constraint and then retracting it leaves the greatest closed domains as they were, and `domains` prints what it
 /// would have printed before.
 pub fn adding_and_retracting_gives_back_the_domains()
-    ensures domains { (s m t : SessionState) (name a b : List ℕ) (shape : Shape) (d : Domains)
-        → IsNone (Meets s (Add name shape)) in_order → Accepts s (Add name shape) a m → Accepts m (Retract name) b t
+    ensures domains { (s m t : SessionState) (name a b : List ℕ) (shape : Shape) (add retract : Request) (d : Domains)
+        → IsAdmitted s (Add name shape) add → Accepts s add a m → Requests m (Retract name) retract → Accepts m retract b t
         → (AreDomains s d ↔ AreDomains t d) }
-    ensures printed { (s m t u : SessionState) (name a b reply : List ℕ) (shape : Shape)
-        → IsNone (Meets s (Add name shape)) in_order → Accepts s (Add name shape) a m → Accepts m (Retract name) b t
-        → Accepts s DomainsLine reply u → Accepts t DomainsLine reply t }
+    ensures printed { (s m t u : SessionState) (name a b reply : List ℕ) (shape : Shape) (add retract : Request)
+        → IsAdmitted s (Add name shape) add → Accepts s add a m → Requests m (Retract name) retract → Accepts m retract b t
+        → Accepts s (Ask DomainsAsked) reply u → Accepts t (Ask DomainsAsked) reply t }
 {}

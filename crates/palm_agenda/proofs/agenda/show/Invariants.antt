@@ -1,12 +1,12 @@
 use Rattle.std.proofs.Common.{◌≡◌, ◌≤◌, length, take, vec_capacity}
-use Rattle.palm_agenda.specs.Agenda.{names_of}
+use Rattle.palm_agenda.specs.Agenda.{connected_cids}
 use Rattle.palm_agenda.specs.Flags.{flagged}
 use Rattle.palm_agenda.proofs.agenda.show.Given as goal
 
--- the names at the raised flags so far are written
+-- the ids at the raised flags so far are written
 abbrev pub invariant-loop-place : goal.invariant-loop-place
 invariant-loop-place l = record {
-  names : l.shown.items ≡ flagged (take l.place (names_of l.connections)) (take l.place l.flags);
+  cids : l.shown.items ≡ flagged (take l.place (connected_cids l.connections)) (take l.place l.flags);
   few : length l.shown.items ≤ l.place;
   room : vec_capacity l.initial.shown ≤ vec_capacity l.shown;
 }

@@ -1,15 +1,15 @@
 use Rattle.std.proofs.Common.{◌≡◌, ◌⊎◌, ◌↔◌, length, map, take, Contains}
 use Rattle.palm_base.specs.declared.terms.Cid.{Cid}
-use Rattle.palm_agenda.specs.Agenda.{changed_among, names_of}
+use Rattle.palm_agenda.specs.Agenda.{changed_among, connected_cids}
 use Rattle.palm_agenda.specs.Flags.{flagged}
 use Rattle.palm_agenda.specs.Places.{mark_places}
 use Rattle.palm_agenda.proofs.agenda.wake_each.Given as goal
 
--- the constraints under the names so far are marked, and pending
+-- the constraints under the ids so far are marked, and pending
 abbrev pub invariant-loop-cid : goal.invariant-loop-cid
 invariant-loop-cid l = record {
-  marks : l.connections.items ≡ map (changed_among (take l.cid-index l.names) (mark_places l.places l.var)) l.initial.connections.items;
-  pending : (c : Cid) → Contains (flagged (names_of l.connections.items) l.pending.flags) c
-      ↔ (Contains (flagged (names_of l.initial.connections.items) l.initial.pending.flags) c ⊎ Contains (take l.cid-index l.names) c);
+  marks : l.connections.items ≡ map (changed_among (take l.cid-index l.cids) (mark_places l.places l.var)) l.initial.connections.items;
+  pending : (c : Cid) → Contains (flagged (connected_cids l.connections.items) l.pending.flags) c
+      ↔ (Contains (flagged (connected_cids l.initial.connections.items) l.initial.pending.flags) c ⊎ Contains (take l.cid-index l.cids) c);
   flags : length l.pending.flags ≡ length l.initial.pending.flags;
 }

@@ -1,5 +1,5 @@
 use Rattle.std.proofs.Common.{◌≡◌, ℕ, ◌-◌, ◌≤◌, length}
-use Rattle.palm_agenda.specs.Names.{row_at}
+use Rattle.palm_agenda.specs.Cids.{row_at}
 use Rattle.palm_agenda.proofs.over.reach.Given as goal
 
 -- no list has changed

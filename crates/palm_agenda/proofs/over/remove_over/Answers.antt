@@ -12,10 +12,10 @@ loop-var-preserved c =
     let old = c.requires c.var-item.result (c.loop-var.var-index, c.loop-var-test.true, sym c.var-item.is) in
     let within : c.var-item.result < length c.loop-var.over.items = omega (arith, c.loop-var.invariant.many, old) in
     record {
-      names = cut_more c.loop-var.over.items c.remove_at.new.over.items c.var-item.result c.args.cid.now within c.remove_at.ensures
-          c.args.over.now.items c.args.scope.now c.loop-var.var-index c.loop-var-test.true c.var-item.is c.loop-var.invariant.names;
+      cids = cut_more c.loop-var.over.items c.remove_at.new.over.items c.var-item.result c.args.cid.now within c.remove_at.ensures
+          c.args.over.now.items c.args.scope.now c.loop-var.var-index c.loop-var-test.true c.var-item.is c.loop-var.invariant.cids;
       many = same_many c.loop-var.over.items c.remove_at.new.over.items c.var-item.result (row_cut c.loop-var.over.items c.var-item.result c.args.cid.now) within c.remove_at.ensures ∙ c.loop-var.invariant.many;
     }
 
 pub returns : goal.returns
-returns c = cut_all c.loop-var.over.items c.args.over.now.items c.args.scope.now c.loop-var.var-index c.args.cid.now c.loop-var-test.false c.loop-var.invariant.names
+returns c = cut_all c.loop-var.over.items c.args.over.now.items c.args.scope.now c.loop-var.var-index c.args.cid.now c.loop-var-test.false c.loop-var.invariant.cids

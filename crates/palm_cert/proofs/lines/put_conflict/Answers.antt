@@ -1,6 +1,5 @@
 use Rattle.std.proofs.Common.{◌++◌, ◌∙◌, ◌∷◌, [], List, ℕ, sym, ap, append_assoc, append-nil, codes}
 use Rattle.palm_book.specs.Book.{name_of}
-use Rattle.palm_cert.proofs.Made.{ok_then}
 use Rattle.palm_cert.proofs.lines.put_conflict.Goals as goal
 
 pub returns : goal.returns
@@ -8,8 +7,7 @@ returns c =
     let out = c.args.out.now.items in
     let front = codes "claim conflict" in
     let name = name_of c.args.book.now.variables c.args.var in
-    let written = c.in_ok-put_name.ensures ∙ ap (λ (b : List ℕ). b ++ (codes " " ++ c.variable_name.result.now)) c.in_ok-put_text.ensures
+    let written = c.in_ok-put_spaced_name.ensures ∙ ap (λ (b : List ℕ). b ++ (codes " " ++ c.variable_name.result.now)) c.in_ok-put_text.ensures
     ∙ ap (λ (n : List ℕ). (out ++ front) ++ (codes " " ++ n)) c.variable_name.ensures in
-    ok_then c.put_text-2.result _ _ _ c.put_text-2.ensures
-    (ap (λ (b : List ℕ). b ++ 10 ∷ []) written ∙ append_assoc (out ++ front) (codes " " ++ name) (10 ∷ []) ∙ append_assoc out front ((codes " " ++ name) ++ 10 ∷ [])
+    c.in_ok-put_text-2.ensures ∙ (ap (λ (b : List ℕ). b ++ 10 ∷ []) written ∙ append_assoc (out ++ front) (codes " " ++ name) (10 ∷ []) ∙ append_assoc out front ((codes " " ++ name) ++ 10 ∷ [])
     ∙ ap (λ (n : List ℕ). out ++ (codes "claim conflict " ++ (n ++ 10 ∷ []))) (sym (append-nil name)))

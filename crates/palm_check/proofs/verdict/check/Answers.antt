@@ -1,6 +1,6 @@
 use Rattle.std.proofs.Common.{subst}
 use Rattle.palm_claim.proofs.cited.Explained.{verdict_over}
-use Rattle.palm_check.specs.Kept.{Takes, draft_of}
+use Rattle.palm_check.specs.Kept.{TakesLine, draft_of}
 use Rattle.palm_check.proofs.Judging.{judged_over, judged_refused, judging_next}
 use Rattle.palm_check.proofs.verdict.check.Goals as goal
 
@@ -9,14 +9,14 @@ returns-in-Some-2-clause-verdict c =
     let d = draft_of c.loop-line.checker in
     let e = draft_of c.take.new.self in
     judged_refused c.args.bytes.now c.loop-line.checker c.loop-line.number c.loop-line.from c.in-Some.line.now c.in-Some.next c.in-Some-2.cause c.loop-line.invariant c.in-Some.ensures.some
-    (subst (λ o. Takes d c.in-Some.line.now o e) c.in-Some-2.is c.in_ok-cause.ensures.takes)
+    (subst (λ o. TakesLine d c.in-Some.line.now o e) c.in-Some-2.is c.in_ok-cause.ensures.takes)
 
 pub loop-line-preserved : goal.loop-line-preserved
 loop-line-preserved c =
     let d = draft_of c.loop-line.checker in
     let e = draft_of c.take.new.self in
     judging_next c.args.bytes.now c.loop-line.checker c.take.new.self c.loop-line.number c.loop-line.from c.in-Some.line.now c.in-Some.next c.loop-line.invariant c.in-Some.ensures.some
-    (subst (λ o. Takes d c.in-Some.line.now o e) c.in_default-2.is c.in_ok-cause.ensures.takes) c.in_ok-cause.ensures.kept
+    (subst (λ o. TakesLine d c.in-Some.line.now o e) c.in_default-2.is c.in_ok-cause.ensures.takes) c.in_ok-cause.ensures.kept
 
 pub returns-clause-verdict : goal.returns-clause-verdict
 returns-clause-verdict c =

@@ -1,29 +1,40 @@
-use Rattle.std.proofs.Common.{None, is_some, refl, rules, ◌∙◌, subst}
+use Rattle.std.proofs.Common.{None, Option, is_some, refl, rules, ◌∙◌, subst}
 use Rattle.palm_events.proofs.cited.Reasons.{reasons_right}
-use Rattle.palm_engine.specs.Engine.{HasSettled, IsInterrupted}
+use Rattle.palm_engine.specs.Engine.{IsInterrupted}
+use Rattle.palm_engine.specs.Following.{Hearing, OrderFollows}
 use Rattle.palm_search.specs.declared.turn.Turn.TheVariants.{Decide, Undo}
 use Rattle.palm_search.specs.Calls.{TakesTurn}
+use Rattle.palm_search.specs.Following.{GuideFollows, Moment}
 use Rattle.palm_search.specs.Turning.{IsNext}
+use Rattle.palm_search.proofs.cited.Following.{run_ends_by, run_goes_on_by, run_starts_by, settled_alike}
 use Rattle.palm_search.proofs.cited.Results.{on_err}
-use Rattle.palm_search.proofs.cited.Running.{counts_then, cut_first, cut_here, cut_settling, cut_undoing, fresh_has, interrupted_has, run_goes_on, run_starts}
+use Rattle.palm_search.proofs.cited.Running.{counts_then, cut_first, cut_here, cut_settling, cut_undoing, fresh_has, interrupted_has}
 use Rattle.palm_dbt.proofs.Taking.{HasTaken, taken_alike}
+use Rattle.palm_dbt.proofs.solving.run.Given as given
 use Rattle.palm_dbt.proofs.solving.run.Goals as goal
 use Rattle.palm_dbt.proofs.solving.run.Goals.{in-Decide+in_ok-decide-in-Decide, in-Undo+in_ok-undo_latest-in-Undo}
+
+-- the guide's own relations, and the order's
+abbrev guiding : (g : given.Over) → Moment → Option g.row.G.Denot → Option g.row.G.Denot → Type 0
+guiding g = GuideFollows g.G.Guide.answers g.G.Guide.hears g.G.Guide.state
+
+abbrev ordering : (g : given.Over) → Hearing → Option g.row.O.Denot → Option g.row.O.Denot → Type 0
+ordering g = OrderFollows g.O.Order.answers g.O.Order.hears g.O.Order.state
 
 -- ---- the first settling
 
 pub returns-in_err-settle-clause-err : goal.returns-in_err-settle-clause-err
 returns-in_err-settle-clause-err g c =
-    on_err _ c.from_residual.result (cut_first (is_some c.args.guide.now) (is_some c.args.order.now) c.args.budget c.args.engine.now c.settle.new.self c.args.search.now c.requires.fresh c.in_err-settle.ensures.err)
+    on_err _ c.from_residual.result (cut_first (is_some c.args.guide.now) (is_some c.args.order.now) c.args.budget c.args.engine.now c.settle.new.self c.args.search.now c.requires.fresh c.in_err-settle.ensures.err.interrupted)
 
 pub returns-in_err-settle-clause-decisions : goal.returns-in_err-settle-clause-decisions
 returns-in_err-settle-clause-decisions g c =
-    interrupted_has (is_some c.args.order.now) c.args.engine.now c.settle.new.self c.args.search.now c.in_err-settle.ensures.err
+    interrupted_has (is_some c.args.order.now) c.args.engine.now c.settle.new.self c.args.search.now c.in_err-settle.ensures.err.interrupted
     (fresh_has c.args.engine.now.state c.args.search.now c.store-store.ensures.valid c.requires.users c.requires.fresh)
 
 pub loop-end-init : goal.loop-end-init
 loop-end-init g c = (
-  run_starts reasons_right (is_some c.args.guide.now) (is_some c.args.order.now) c.args.budget c.in_ok-settle.field-0 c.args.engine.now c.settle.new.self c.args.search.now
+  run_starts_by reasons_right (guiding g) (ordering g) c.args.guide.now c.args.order.now c.settle.new.order c.args.budget c.in_ok-settle.field-0 c.args.engine.now c.settle.new.self c.args.search.now
       c.store-store.ensures.valid c.requires.users c.requires.fresh c.in_ok-settle.ensures.ok,
   record { later = c.settle.ensures.asked.later; checks = c.settle.ensures.checks },
   record { guide = refl; order = c.settle.ensures.stays },
@@ -34,19 +45,19 @@ loop-end-init g c = (
 pub returns-in_err-end-clause-err : goal.returns-in_err-end-clause-err
 returns-in_err-end-clause-err g c =
     let m = c.loop-end.engine.state in
-    on_err _ c.from_residual-in_err-end.result (cut_here (is_some c.args.guide.now) (is_some c.args.order.now) c.args.budget c.args.engine.now.state m m c.loop-end.search c.loop-end.search c.loop-end.invariant.0 refl refl)
+    on_err _ c.from_residual-in_err-end.result (cut_here (is_some c.args.guide.now) (is_some c.args.order.now) c.args.budget c.args.engine.now.state m m c.loop-end.search c.loop-end.search c.loop-end.invariant.0.running refl refl)
 
 pub returns-in_err-decide-in-Decide-clause-err : goal.returns-in_err-decide-in-Decide-clause-err
 returns-in_err-decide-in-Decide-clause-err g c =
     let cut = c.in_err-decide-in-Decide.ensures.err in
     on_err _ c.from_residual-in_err-decide-in-Decide.result
-    (cut_here (is_some c.args.guide.now) (is_some c.args.order.now) c.args.budget c.args.engine.now.state c.loop-end.engine.state c.decide.new.engine.state c.loop-end.search c.decide.new.self c.loop-end.invariant.0 (λ i. (cut.0 i).state) cut.1)
+    (cut_here (is_some c.args.guide.now) (is_some c.args.order.now) c.args.budget c.args.engine.now.state c.loop-end.engine.state c.decide.new.engine.state c.loop-end.search c.decide.new.self c.loop-end.invariant.0.running (λ i. (cut.0 i).state) cut.1)
 
 pub returns-in_err-undo_latest-in-Undo-clause-err : goal.returns-in_err-undo_latest-in-Undo-clause-err
 returns-in_err-undo_latest-in-Undo-clause-err g c =
     let next = subst (IsNext c.args.budget c.loop-end.engine.state c.loop-end.search) c.in-Undo.is c.in_ok-end.ensures in
     on_err _ c.from_residual-in_err-undo_latest-in-Undo.result
-    (cut_undoing (is_some c.args.guide.now) (is_some c.args.order.now) c.args.budget c.args.engine.now.state c.loop-end.engine.state c.undo_latest.new.engine.state c.loop-end.search c.undo_latest.new.search c.in-Undo.conflict c.loop-end.invariant.0 next.0
+    (cut_undoing (is_some c.args.guide.now) (is_some c.args.order.now) c.args.budget c.args.engine.now.state c.loop-end.engine.state c.undo_latest.new.engine.state c.loop-end.search c.undo_latest.new.search c.in-Undo.conflict c.loop-end.invariant.0.running next.0
     c.in_err-undo_latest-in-Undo.ensures.err)
 
 -- ---- the settling after a turn
@@ -56,23 +67,24 @@ loop-end-preserved g c =
     let m = c.loop-end.engine in
     let before = c.loop-end.search in
     let so_far = c.loop-end.invariant in
-    let taken : HasTaken c.args.budget m c.match-branch-3.engine before c.match-branch-3.search c.loop-end.guide c.match-branch-3.guide = elim c.match-branch-3.branch [
+    let taken : HasTaken (guiding g) c.args.budget m c.match-branch-3.engine before c.match-branch-3.search c.loop-end.guide c.match-branch-3.guide = elim c.match-branch-3.branch [
       | in-Decide+in_ok-decide-in-Decide w ↦
           let next = subst (IsNext c.args.budget m.state before) w.in-Decide.is c.in_ok-end.ensures in
           let done = w.in_ok-decide-in-Decide.ensures in
           taken_alike w.engine-is w.search-is w.guide-is
-          (record { turn = Decide w.in_ok-decide-in-Decide.field-0 done.ok.0; left = next.0; takes = done.ok.2; decisions = done.decisions; counts = done.counts; stays = done.stays })
+          (record { turn = Decide w.in_ok-decide-in-Decide.field-0 done.ok.0; left = next.0; takes = done.ok.2; step = done.ok.1; decisions = done.decisions; counts = done.counts; stays = done.stays })
       | in-Undo+in_ok-undo_latest-in-Undo w ↦
           let next = subst (IsNext c.args.budget m.state before) w.in-Undo.is c.in_ok-end.ensures in
           let done = w.in_ok-undo_latest-in-Undo.ensures in
           taken_alike w.engine-is w.search-is w.guide-is
-          (record { turn = Undo done.ok.0 w.in-Undo.conflict; left = next.0; takes = done.ok.1; decisions = done.decisions; counts = done.counts; stays = done.stays })
+          (record { turn = Undo done.ok.0 w.in-Undo.conflict; left = next.0; takes = done.ok.1; step = done.told; decisions = done.decisions; counts = done.counts; stays = done.stays })
     ] in
     let after = c.settle-in-loop-end.new.self in
     let settle = c.settle-in-loop-end.ensures in
     let takes = subst (λ b. TakesTurn b taken.turn m.state before c.match-branch-3.engine.state c.match-branch-3.search) so_far.2.guide taken.takes in
-    let settled = subst (λ b. HasSettled None b c.in_ok-settle-2.field-0 c.match-branch-3.engine after) so_far.2.order c.in_ok-settle-2.ensures.ok in (
-      run_goes_on reasons_right (is_some c.args.guide.now) (is_some c.args.order.now) c.args.budget c.args.engine.now.state m.state before taken.turn c.in_ok-settle-2.field-0 c.match-branch-3.engine after c.match-branch-3.search so_far.0 taken.left takes settled,
+    let settled = settled_alike (ordering g) (is_some c.args.order.now) c.in_ok-settle-2.field-0 c.match-branch-3.engine after c.loop-end.order c.settle-in-loop-end.new.order so_far.2.order c.in_ok-settle-2.ensures.ok in (
+      run_goes_on_by reasons_right (guiding g) (ordering g) c.args.guide.now c.loop-end.guide c.match-branch-3.guide c.args.order.now c.loop-end.order c.settle-in-loop-end.new.order
+          c.args.budget c.args.engine.now.state m.state before taken.turn c.in_ok-settle-2.field-0 c.match-branch-3.engine after c.match-branch-3.search so_far.0 taken.left takes taken.step settled,
       counts_then c.args.engine.now m c.match-branch-3.engine after c.args.steps.now c.loop-end.steps c.settle-in-loop-end.new.steps so_far.1 taken.counts.checks settle.asked.later settle.checks,
       record { guide = taken.stays ∙ so_far.2.guide; order = settle.stays ∙ so_far.2.order },
     )
@@ -82,29 +94,36 @@ returns-in_err-settle-2 g c =
     let m = c.loop-end.engine in
     let before = c.loop-end.search in
     let so_far = c.loop-end.invariant in
-    let taken : HasTaken c.args.budget m c.match-branch-3.engine before c.match-branch-3.search c.loop-end.guide c.match-branch-3.guide = elim c.match-branch-3.branch [
+    let taken : HasTaken (guiding g) c.args.budget m c.match-branch-3.engine before c.match-branch-3.search c.loop-end.guide c.match-branch-3.guide = elim c.match-branch-3.branch [
       | in-Decide+in_ok-decide-in-Decide w ↦
           let next = subst (IsNext c.args.budget m.state before) w.in-Decide.is c.in_ok-end.ensures in
           let done = w.in_ok-decide-in-Decide.ensures in
           taken_alike w.engine-is w.search-is w.guide-is
-          (record { turn = Decide w.in_ok-decide-in-Decide.field-0 done.ok.0; left = next.0; takes = done.ok.2; decisions = done.decisions; counts = done.counts; stays = done.stays })
+          (record { turn = Decide w.in_ok-decide-in-Decide.field-0 done.ok.0; left = next.0; takes = done.ok.2; step = done.ok.1; decisions = done.decisions; counts = done.counts; stays = done.stays })
       | in-Undo+in_ok-undo_latest-in-Undo w ↦
           let next = subst (IsNext c.args.budget m.state before) w.in-Undo.is c.in_ok-end.ensures in
           let done = w.in_ok-undo_latest-in-Undo.ensures in
           taken_alike w.engine-is w.search-is w.guide-is
-          (record { turn = Undo done.ok.0 w.in-Undo.conflict; left = next.0; takes = done.ok.1; decisions = done.decisions; counts = done.counts; stays = done.stays })
+          (record { turn = Undo done.ok.0 w.in-Undo.conflict; left = next.0; takes = done.ok.1; step = done.told; decisions = done.decisions; counts = done.counts; stays = done.stays })
     ] in
     let after = c.settle-in-loop-end.new.self in
     let settle = c.settle-in-loop-end.ensures in
     let guided = is_some c.args.guide.now in
     let ordered = is_some c.args.order.now in
     let takes = subst (λ b. TakesTurn b taken.turn m.state before c.match-branch-3.engine.state c.match-branch-3.search) so_far.2.guide taken.takes in
-    let cut = subst (λ b. IsInterrupted None b c.match-branch-3.engine after) so_far.2.order c.in_err-settle-2.ensures.err in
+    let cut = subst (λ b. IsInterrupted None b c.match-branch-3.engine after) so_far.2.order c.in_err-settle-2.ensures.err.interrupted in
     record {
       ok = search rules;
-      err = on_err _ c.from_residual-in_err-settle-2.result (cut_settling guided ordered c.args.budget c.args.engine.now.state m.state before taken.turn c.match-branch-3.engine after c.match-branch-3.search so_far.0 taken.left takes cut);
+      err = on_err _ c.from_residual-in_err-settle-2.result (cut_settling guided ordered c.args.budget c.args.engine.now.state m.state before taken.turn c.match-branch-3.engine after c.match-branch-3.search so_far.0.running taken.left takes cut);
       decisions = interrupted_has ordered c.match-branch-3.engine after c.match-branch-3.search cut taken.decisions;
       counts = counts_then c.args.engine.now m c.match-branch-3.engine after c.args.steps.now c.loop-end.steps c.settle-in-loop-end.new.steps so_far.1 taken.counts.checks settle.asked.later settle.checks;
       lent = record { guide = taken.stays ∙ so_far.2.guide; order = settle.stays ∙ so_far.2.order };
       before = c.store-store.ensures.valid;
     }
+
+-- ---- the end
+
+pub returns-in-Ended-clause-ok : goal.returns-in-Ended-clause-ok
+returns-in-Ended-clause-ok g c =
+    let ends = subst (IsNext c.args.budget c.loop-end.engine.state c.loop-end.search) c.in-Ended.is c.in_ok-end.ensures in
+    run_ends_by (guiding g) (ordering g) c.args.guide.now c.loop-end.guide c.args.order.now c.loop-end.order c.args.budget c.args.engine.now.state c.loop-end.engine.state c.loop-end.search c.in-Ended.end c.loop-end.invariant.0 ends

@@ -1,12 +1,13 @@
 use Rattle.std.proofs.Common.{◌-◌, length}
-use Rattle.std.specs.Prelude.{is_some}
+use Rattle.palm_engine.specs.Following.{OrderFollows}
+use Rattle.palm_search.specs.Following.{GuideFollows}
 use Rattle.palm_search.specs.Leaves.{Counts, Lent}
-use Rattle.palm_search.proofs.cited.Running.{IsRunning}
+use Rattle.palm_search.proofs.cited.Following.{IsRunningBy}
 use Rattle.palm_dbt.proofs.solving.run.Given as goal
 
 abbrev pub invariant-loop-end : goal.invariant-loop-end
 invariant-loop-end g l =
-    IsRunning (is_some l.fn.guide) (is_some l.fn.order) l.budget l.fn.engine.state l.engine.state l.search
+    IsRunningBy (GuideFollows g.G.Guide.answers g.G.Guide.hears g.G.Guide.state) (OrderFollows g.O.Order.answers g.O.Order.hears g.O.Order.state) l.fn.guide l.guide l.fn.order l.order l.budget l.fn.engine.state l.engine.state l.search
     × Counts l.fn.engine l.engine l.fn.steps l.steps × Lent l.fn.guide l.guide l.fn.order l.order
 
 abbrev pub decreases-loop-end : goal.decreases-loop-end

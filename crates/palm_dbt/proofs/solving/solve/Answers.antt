@@ -1,15 +1,24 @@
-use Rattle.std.proofs.Common.{None, is_some, rules, sym, ◌∙◌, subst}
+use Rattle.std.proofs.Common.{None, Option, is_some, rules, sym, ◌∙◌, subst}
 use Rattle.palm_events.proofs.cited.Reasons.{reasons_right}
-use Rattle.palm_engine.specs.Engine.{HasSettled}
+use Rattle.palm_engine.specs.Following.{Hearing, OrderFollows}
 use Rattle.palm_engine.proofs.cited.Walking.{filters_none}
 use Rattle.palm_search.specs.Breaking.{BreaksOff}
 use Rattle.palm_search.specs.Calls.{search_state}
-use Rattle.palm_search.specs.Search.{Searches}
-use Rattle.palm_search.proofs.cited.Breaking.{broken_at_end, broken_leaves, searches_leaves, searches_whole}
+use Rattle.palm_search.specs.Following.{GuideFollows, Moment, SearchesBy}
+use Rattle.palm_search.proofs.cited.Breaking.{broken_at_end, broken_leaves, searches_leaves}
+use Rattle.palm_search.proofs.cited.Following.{searches_whole_by, settled_alike}
 use Rattle.palm_search.proofs.cited.Results.{on_err}
 use Rattle.palm_search.proofs.cited.Running.{counts_then, interrupted_filters}
 use Rattle.palm_dbt.proofs.Answering.{answer_true}
+use Rattle.palm_dbt.proofs.solving.solve.Given as given
 use Rattle.palm_dbt.proofs.solving.solve.Goals as goal
+
+-- the guide's own relations, and the order's
+abbrev guiding : (g : given.Over) → Moment → Option g.row.G.Denot → Option g.row.G.Denot → Type 0
+guiding g = GuideFollows g.G.Guide.answers g.G.Guide.hears g.G.Guide.state
+
+abbrev ordering : (g : given.Over) → Hearing → Option g.row.O.Denot → Option g.row.O.Denot → Type 0
+ordering g = OrderFollows g.O.Order.answers g.O.Order.hears g.O.Order.state
 
 -- memory ran out in the run
 pub returns-in_err-end-clause-leaves : goal.returns-in_err-end-clause-leaves
@@ -33,8 +42,8 @@ returns-in_err-settle g c =
     let run = c.run-end.ensures in
     let settle = c.settle.ensures in
     let turns = c.run-end.new.search.journal in
-    let broken = broken_at_end guided ordered c.args.budget s.state turns c.in_ok-end.end (search_state c.run-end.new.engine.state c.run-end.new.search) n.state t.state c.in_ok-end.ensures.ok c.close.ensures.withdraws
-    (interrupted_filters (is_some c.run-end.new.order) n t c.in_err-settle.ensures.err) in
+    let broken = broken_at_end guided ordered c.args.budget s.state turns c.in_ok-end.end (search_state c.run-end.new.engine.state c.run-end.new.search) n.state t.state c.in_ok-end.ensures.ok.run c.close.ensures.withdraws
+    (interrupted_filters (is_some c.run-end.new.order) n t c.in_err-settle.ensures.err.interrupted) in
     record {
       ok = search rules;
       holds = search rules;
@@ -56,10 +65,12 @@ returns g c =
     let run = c.run-end.ensures in
     let settle = c.settle.ensures in
     let turns = c.run-end.new.search.journal in
-    let settled = subst (λ b. HasSettled None b c.in_ok-settle.field-0 n t) run.lent.order c.in_ok-settle.ensures.ok in
-    let searches = searches_whole guided ordered c.args.budget s.state turns end (search_state c.run-end.new.engine.state c.run-end.new.search) c.in_ok-settle.field-0 n t c.in_ok-end.ensures.ok c.close.ensures.withdraws settled in
+    let settled = settled_alike (ordering g) ordered c.in_ok-settle.field-0 n t c.run-end.new.order c.settle.new.order run.lent.order c.in_ok-settle.ensures.ok in
+    let by = searches_whole_by (guiding g) (ordering g) c.args.guide.now c.run-end.new.guide c.args.order.now c.run-end.new.order c.settle.new.order c.args.budget s.state turns end (search_state c.run-end.new.engine.state c.run-end.new.search)
+    c.in_ok-settle.field-0 n t c.in_ok-end.ensures.ok c.close.ensures.withdraws settled in
+    let searches = by.searches in
     record {
-      ok = subst (λ l. Searches guided ordered c.args.budget s.state l end t.state) (sym c.close.ensures.journal) searches;
+      ok = subst (λ l. SearchesBy (guiding g) (ordering g) c.args.guide.now c.run-end.new.guide c.args.order.now c.settle.new.order c.args.budget s.state l end t.state) (sym c.close.ensures.journal) by;
       holds = answer_true reasons_right guided ordered c.args.budget s.state turns t.state end c.requires.users run.before searches;
       err = tt;
       leaves = searches_leaves reasons_right guided ordered c.args.budget s.state turns end t.state c.close.new.self end c.requires.users run.before searches settle.valid c.close.ensures.decisions;

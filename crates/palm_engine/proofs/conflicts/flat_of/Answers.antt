@@ -6,21 +6,21 @@ use Rattle.palm_engine.proofs.Gathering.{flat_all, flat_more, flat_none}
 use Rattle.palm_engine.proofs.conflicts.flat_of.Goals as goal
 
 pub loop-cid-init : goal.loop-cid-init
-loop-cid-init g c = flat_none (actives_of g.F.Filter.meaning c.args.posted.now) [] c.new-names.result.items refl c.new-names.ensures.items
+loop-cid-init g c = flat_none (actives_of g.F.Filter.meaning c.args.posted.now) [] c.new-cids.result.items refl c.new-cids.ensures.items
 
 pub add_flat-requires-clause-active : goal.add_flat-requires-clause-active
 add_flat-requires-clause-active g c = c.requires.active c.cid-item.result (c.loop-cid.cid-index, c.loop-cid-test.true, sym c.cid-item.is)
 
-pub add_flat-requires-clause-names : goal.add_flat-requires-clause-names
-add_flat-requires-clause-names g c = c.loop-cid.invariant.rising
+pub add_flat-requires-clause-cids : goal.add_flat-requires-clause-cids
+add_flat-requires-clause-cids g c = c.loop-cid.invariant.rising
 
 pub loop-cid-preserved : goal.loop-cid-preserved
 loop-cid-preserved g c =
-    flat_more (actives_of g.F.Filter.meaning c.args.posted.now) c.args.from.now c.loop-cid.cid-index c.cid-item.result c.loop-cid.names.items c.add_flat.new.names.items
+    flat_more (actives_of g.F.Filter.meaning c.args.posted.now) c.args.from.now c.loop-cid.cid-index c.cid-item.result c.loop-cid.cids.items c.add_flat.new.cids.items
     c.loop-cid-test.true c.cid-item.is c.loop-cid.invariant c.in_ok-add_flat.ensures
 
 pub returns : goal.returns
 returns g c =
     let active = actives_of g.F.Filter.meaning c.args.posted.now in
     subst (IsListOf (InFlat active (Contains c.args.from.now))) (sym c.from_vec.ensures)
-    (flat_all active c.args.from.now c.loop-cid.cid-index c.loop-cid.names.items c.loop-cid-test.false c.loop-cid.invariant)
+    (flat_all active c.args.from.now c.loop-cid.cid-index c.loop-cid.cids.items c.loop-cid-test.false c.loop-cid.invariant)

@@ -1,9 +1,9 @@
 use Rattle.std.proofs.Common.{◌≡◌, ◌⊎◌, ◌↔◌, if◌then◌else◌, insert, sym, ap, ◌∙◌, subst, Contains}
 use Rattle.palm_base.specs.declared.terms.Cid.{Cid}
-use Rattle.palm_model.specs.Log.{IsActive, cid_before}
-use Rattle.palm_agenda.specs.Names.{IsPartedAt}
+use Rattle.palm_base.specs.Order.{cid_before, IsPartedAt}
+use Rattle.palm_model.specs.Log.{IsActive}
 use Rattle.palm_engine.specs.Posted.{active_of, actives_of}
-use Rattle.palm_engine.proofs.Placing.{inserted_names}
+use Rattle.palm_engine.proofs.Placing.{inserted_cids}
 use Rattle.palm_engine.proofs.Scopes.{connected_is_active}
 use Rattle.palm_engine.proofs.posting.insert.Goals as goal
 
@@ -24,7 +24,7 @@ returns-clause-active g c =
     (c.insert-inserted.ensures.items
     ∙ ap (λ b. if b then insert c.reserve.new.self.items place new else c.reserve.new.self.items) (sym c.is_ok.ensures.value ∙ c.if-prove.false)
     ∙ ap (λ xs. insert xs place new) c.in_ok-reserve.ensures.items)
-    ∙ inserted_names (active_of meaning) before new place c.requires.rising here c.requires.inactive
+    ∙ inserted_cids (active_of meaning) before new place c.requires.rising here c.requires.inactive
 
 pub returns-clause-pending : goal.returns-clause-pending
 returns-clause-pending g c =

@@ -10,7 +10,7 @@ use Rattle.palm_explain.proofs.node.add_dependent.Goals.{in_default-via-in-Some+
 pub returns-in-Some-clause-linked : goal.returns-in-Some-clause-linked
 returns-in-Some-clause-linked c =
     let s = c.args.nodes.now in
-    let k = c.args.cause in
+    let k = c.args.antecedent in
     let n = c.index_mut.result.now in
     let at = c.index_mut.ensures.value in
     let last : slice_get n.dependents.items (length n.dependents.items - 1) ≡ Some c.args.key = sym (rw c.deref.ensures.value at c.in-Some.ensures.value) ∙ ap Some c.if-last-key.true in
@@ -18,15 +18,15 @@ returns-in-Some-clause-linked c =
     (there_only n.dependents.items c.args.key) (λ d m. there_more n.dependents.items c.args.key d (length n.dependents.items - 1) last m) (λ tailed. tailed)
 
 pub returns-in-Some-clause-marks : goal.returns-in-Some-clause-marks
-returns-in-Some-clause-marks c = same_marks c.args.nodes.now c.args.cause c.index_mut.result.now c.index_mut.result.now c.index_mut.ensures.value refl
+returns-in-Some-clause-marks c = same_marks c.args.nodes.now c.args.antecedent c.index_mut.result.now c.index_mut.result.now c.index_mut.ensures.value refl
 
 pub returns-in-Some-clause-ready : goal.returns-in-Some-clause-ready
 returns-in-Some-clause-ready c j ready m found =
     let n = c.index_mut.result.now in
-    ready m (sym (same_everywhere c.args.nodes.now c.args.cause n n c.index_mut.ensures.value (λ o. o) refl j) ∙ found)
+    ready m (sym (same_everywhere c.args.nodes.now c.args.antecedent n n c.index_mut.ensures.value (λ o. o) refl j) ∙ found)
 
 pub returns-in-Some-clause-room : goal.returns-in-Some-clause-room
-returns-in-Some-clause-room c = same_room c.args.nodes.now c.args.cause c.index_mut.result.now c.index_mut.result.now c.index_mut.ensures.value
+returns-in-Some-clause-room c = same_room c.args.nodes.now c.args.antecedent c.index_mut.result.now c.index_mut.result.now c.index_mut.ensures.value
 
 pub push_reserved-requires : goal.push_reserved-requires
 push_reserved-requires c =
@@ -40,7 +40,7 @@ push_reserved-requires c =
 pub returns-in_default-clause-linked : goal.returns-in_default-clause-linked
 returns-in_default-clause-linked c =
     let s = c.args.nodes.now in
-    let k = c.args.cause in
+    let k = c.args.antecedent in
     let n = c.index_mut.result.now in
     let at = c.index_mut.ensures.value in
     let differs : slice_get n.dependents.items (length n.dependents.items - 1) ≡ Some c.args.key → ⊥ = elim c.in_default.branch [
@@ -56,14 +56,14 @@ returns-in_default-clause-linked c =
 pub returns-in_default-clause-marks : goal.returns-in_default-clause-marks
 returns-in_default-clause-marks c =
     let n = c.index_mut.result.now in
-    same_marks c.args.nodes.now c.args.cause n (record n { dependents = c.push_reserved.new.self }) c.index_mut.ensures.value refl
+    same_marks c.args.nodes.now c.args.antecedent n (record n { dependents = c.push_reserved.new.self }) c.index_mut.ensures.value refl
 
 pub returns-in_default-clause-ready : goal.returns-in_default-clause-ready
 returns-in_default-clause-ready c =
     let n = c.index_mut.result.now in
-    ready_pushed c.args.nodes.now c.args.cause c.args.key n (record n { dependents = c.push_reserved.new.self }) c.index_mut.ensures.value c.push_reserved.ensures.items
+    ready_pushed c.args.nodes.now c.args.antecedent c.args.key n (record n { dependents = c.push_reserved.new.self }) c.index_mut.ensures.value c.push_reserved.ensures.items
 
 pub returns-in_default-clause-room : goal.returns-in_default-clause-room
 returns-in_default-clause-room c =
     let n = c.index_mut.result.now in
-    same_room c.args.nodes.now c.args.cause n (record n { dependents = c.push_reserved.new.self }) c.index_mut.ensures.value
+    same_room c.args.nodes.now c.args.antecedent n (record n { dependents = c.push_reserved.new.self }) c.index_mut.ensures.value

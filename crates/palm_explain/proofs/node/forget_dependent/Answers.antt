@@ -7,12 +7,12 @@ use Rattle.slab.specs.Slab.{with_value}
 use Rattle.palm_explain.proofs.node.forget_dependent.Goals as goal
 
 pub take_out-requires : goal.take_out-requires
-take_out-requires c = c.requires.once c.args.cause (said c.index_mut-node.result.now) (ap link_of c.index_mut-node.ensures.value)
+take_out-requires c = c.requires.once c.args.antecedent (said c.index_mut-node.result.now) (ap link_of c.index_mut-node.ensures.value)
 
 pub returns-then-not-node-clause-forgotten : goal.returns-then-not-node-clause-forgotten
 returns-then-not-node-clause-forgotten c =
     let s = c.args.nodes.now in
-    let k = c.args.cause in
+    let k = c.args.antecedent in
     let n = c.index_mut-node.result.now in
     let at = c.index_mut-node.ensures.value in
     forgets s (with_value s k (record n { dependents = c.take_out.new.keys })) k n (record n { dependents = c.take_out.new.keys }) at
@@ -22,12 +22,12 @@ returns-then-not-node-clause-forgotten c =
 
 pub returns-then-not-node-clause-marks : goal.returns-then-not-node-clause-marks
 returns-then-not-node-clause-marks c =
-    same_marks c.args.nodes.now c.args.cause c.index_mut-node.result.now (record c.index_mut-node.result.now { dependents = c.take_out.new.keys }) c.index_mut-node.ensures.value refl
+    same_marks c.args.nodes.now c.args.antecedent c.index_mut-node.result.now (record c.index_mut-node.result.now { dependents = c.take_out.new.keys }) c.index_mut-node.ensures.value refl
 
 pub returns-else-not-node-clause-forgotten : goal.returns-else-not-node-clause-forgotten
 returns-else-not-node-clause-forgotten c =
     let s = c.args.nodes.now in
-    let k = c.args.cause in
+    let k = c.args.antecedent in
     let n = c.index_mut-node.result.now in
     let at = c.index_mut-node.ensures.value in
     subst (λ g. HasForgotten (graph_of s) g (λ j d. (k ≡ j) × (c.args.key ≡ d) × (marks_of s j ≡ false))) (sym (same_graph s k n n at refl))

@@ -3,10 +3,10 @@ use Rattle.std.proofs.lemmas.Bool.{false≢true}
 use Rattle.std.proofs.lemmas.Option.{slice_get-get_or, slice_get_within}
 use Rattle.palm_base.specs.Tells.{Tells}
 use Rattle.palm_base.proofs.cited.Members.{member_get}
-use Rattle.palm_explain.specs.Graph.{AreBefore, HasPassed, IsBy, IsCause, IsKey, NamesAt, graph_of, link_of, marks_of, said}
-use Rattle.palm_explain.proofs.Graphs.{cause_key, member_key}
-use Rattle.palm_explain.proofs.Visits.{none_before, one_before, one_way, told_by, told_first, told_names, told_not}
-use Rattle.palm_explain.proofs.Walks.{before_next, cause_differs, way_next}
+use Rattle.palm_explain.specs.Graph.{AreBefore, HasPassed, IsBy, IsAntecedent, IsKey, NamesAt, graph_of, link_of, marks_of, said}
+use Rattle.palm_explain.proofs.Graphs.{antecedent_key, member_key}
+use Rattle.palm_explain.proofs.Visits.{none_before, one_before, one_way, told_by, told_first, told_cids, told_not}
+use Rattle.palm_explain.proofs.Walks.{before_next, antecedent_differs, way_next}
 use Rattle.palm_explain.proofs.walking.rests_on.Goals as goal
 
 pub pass_mark-rests-requires-clause-key : goal.pass_mark-rests-requires-clause-key
@@ -14,11 +14,11 @@ pass_mark-rests-requires-clause-key c = subst (λ g. IsKey g c.args.key) (sym c.
 
 pub pass_mark-rests-requires-clause-keys : goal.pass_mark-rests-requires-clause-keys
 pass_mark-rests-requires-clause-keys c =
-    subst (λ g. (q : ℕ) → IsCause g q c.args.key → IsKey g q) (sym c.set_mark.ensures.graph) (λ q m. cause_key (graph_of c.args.nodes.now) c.args.log.now q c.args.key c.requires.graph m)
+    subst (λ g. (q : ℕ) → IsAntecedent g q c.args.key → IsKey g q) (sym c.set_mark.ensures.graph) (λ q m. antecedent_key (graph_of c.args.nodes.now) c.args.log.now q c.args.key c.requires.graph m)
 
 pub pass_mark-rests-requires-clause-before : goal.pass_mark-rests-requires-clause-before
 pass_mark-rests-requires-clause-before c =
-    subst (λ g. (q : ℕ) → IsCause g q c.args.key → q ≢ c.args.key) (sym c.set_mark.ensures.graph) (λ q m. cause_differs (graph_of c.args.nodes.now) c.args.log.now q c.args.key c.requires.linked c.requires.graph m)
+    subst (λ g. (q : ℕ) → IsAntecedent g q c.args.key → q ≢ c.args.key) (sym c.set_mark.ensures.graph) (λ q m. antecedent_differs (graph_of c.args.nodes.now) c.args.log.now q c.args.key c.requires.linked c.requires.graph m)
 
 pub loop-place-init : goal.loop-place-init
 loop-place-init c =
@@ -56,12 +56,12 @@ pass_mark-requires-clause-key c =
 pub pass_mark-requires-clause-keys : goal.pass_mark-requires-clause-keys
 pass_mark-requires-clause-keys c =
     let k = slice_index_or c.args.log.now (c.loop-place.place - 1) 0 in
-    subst (λ g. (q : ℕ) → IsCause g q k → IsKey g q) (sym c.loop-place.invariant.graph) (λ q m. cause_key (graph_of c.args.nodes.now) c.args.log.now q k c.requires.graph m)
+    subst (λ g. (q : ℕ) → IsAntecedent g q k → IsKey g q) (sym c.loop-place.invariant.graph) (λ q m. antecedent_key (graph_of c.args.nodes.now) c.args.log.now q k c.requires.graph m)
 
 pub pass_mark-requires-clause-before : goal.pass_mark-requires-clause-before
 pass_mark-requires-clause-before c =
     let k = slice_index_or c.args.log.now (c.loop-place.place - 1) 0 in
-    subst (λ g. (q : ℕ) → IsCause g q k → q ≢ k) (sym c.loop-place.invariant.graph) (λ q m. cause_differs (graph_of c.args.nodes.now) c.args.log.now q k c.requires.linked c.requires.graph m)
+    subst (λ g. (q : ℕ) → IsAntecedent g q k → q ≢ k) (sym c.loop-place.invariant.graph) (λ q m. antecedent_differs (graph_of c.args.nodes.now) c.args.log.now q k c.requires.linked c.requires.graph m)
 
 pub loop-place-preserved-then-pass_mark : goal.loop-place-preserved-then-pass_mark
 loop-place-preserved-then-pass_mark c =
@@ -116,5 +116,5 @@ returns-clause-unmarked c =
 pub returns-clause-tells : goal.returns-clause-tells
 returns-clause-tells c =
     let none : c.loop-place.place ≡ 0 = omega (arith, c.loop-place-test.false) in
-    told_names (graph_of c.args.nodes.now) c.args.log.now (marks_of c.loop-place.nodes) c.args.cid.now c.args.key c.loop-place.rests
+    told_cids (graph_of c.args.nodes.now) c.args.log.now (marks_of c.loop-place.nodes) c.args.cid.now c.args.key c.loop-place.rests
     (subst (AreBefore (graph_of c.args.nodes.now) (marks_of c.loop-place.nodes)) none c.loop-place.invariant.before) c.loop-place.invariant.way

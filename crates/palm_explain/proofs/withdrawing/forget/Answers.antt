@@ -1,7 +1,7 @@
 use Rattle.std.proofs.Common.{◌≡◌, ◌∙◌, ◌+◌, ◌<◌, ◌≤◌, ℕ, false, get_or, length, inl, inr, refl, sym, ap, arith}
-use Rattle.palm_explain.specs.Graph.{IsAmongFirst, IsCause, graph_of, link_of, marks_of, said}
+use Rattle.palm_explain.specs.Graph.{IsAmongFirst, IsAntecedent, graph_of, link_of, marks_of, said}
 use Rattle.palm_explain.proofs.Changes.{all_first, first_all, first_cases, first_last, first_left, first_none, forgotten_key, forgotten_like, forgotten_none, forgotten_once, forgotten_then}
-use Rattle.palm_explain.proofs.Writes.{forgotten_causes, key_there}
+use Rattle.palm_explain.proofs.Writes.{forgotten_antecedents, key_there}
 use Rattle.palm_explain.proofs.withdrawing.forget.Goals as goal
 
 pub index-requires : goal.index-requires
@@ -11,8 +11,8 @@ pub loop-index-init : goal.loop-index-init
 loop-index-init c =
     let s = c.args.nodes.now in
     let n = c.index.result.now in record {
-      forgotten = forgotten_none (graph_of s) (λ k d. (c.args.key ≡ d) × (marks_of s k ≡ false) × IsAmongFirst 0 (λ l. l.causes) (graph_of s) c.args.key k)
-          (λ k d gone. first_none (λ l. l.causes) (graph_of s) c.args.key (said n) (ap link_of c.index.ensures) k gone.2);
+      forgotten = forgotten_none (graph_of s) (λ k d. (c.args.key ≡ d) × (marks_of s k ≡ false) × IsAmongFirst 0 (λ l. l.antecedents) (graph_of s) c.args.key k)
+          (λ k d gone. first_none (λ l. l.antecedents) (graph_of s) c.args.key (said n) (ap link_of c.index.ensures) k gone.2);
       marks = refl;
     }
 
@@ -21,11 +21,11 @@ forget_dependent-requires-clause-key c =
     let s = c.args.nodes.now in
     let n = c.index.result.now in
     let m = c.index-in-loop-index.result.now in
-    let Gone : ℕ → ℕ → Type 0 = λ k d. (c.args.key ≡ d) × (marks_of s k ≡ false) × IsAmongFirst c.loop-index.index (λ l. l.causes) (graph_of s) c.args.key k in
-    let same = forgotten_causes s c.loop-index.nodes Gone c.args.key n m c.loop-index.invariant.forgotten c.index.ensures c.index-in-loop-index.ensures in
-    let d = c.index-cause.result.now in
-    let lt : c.loop-index.index < length n.causes.items = omega (arith, c.loop-index-test.true, c.len-index-end.ensures, n.causes.ok.0) in
-    let is : get_or n.causes.items c.loop-index.index d ≡ d = ap (λ ds. get_or ds c.loop-index.index d) (sym same) ∙ sym c.index-cause.ensures in
+    let Gone : ℕ → ℕ → Type 0 = λ k d. (c.args.key ≡ d) × (marks_of s k ≡ false) × IsAmongFirst c.loop-index.index (λ l. l.antecedents) (graph_of s) c.args.key k in
+    let same = forgotten_antecedents s c.loop-index.nodes Gone c.args.key n m c.loop-index.invariant.forgotten c.index.ensures c.index-in-loop-index.ensures in
+    let d = c.index-antecedent.result.now in
+    let lt : c.loop-index.index < length n.antecedents.items = omega (arith, c.loop-index-test.true, c.len-index-end.ensures, n.antecedents.ok.0) in
+    let is : get_or n.antecedents.items c.loop-index.index d ≡ d = ap (λ ds. get_or ds c.loop-index.index d) (sym same) ∙ sym c.index-antecedent.ensures in
     forgotten_key (graph_of s) (graph_of c.loop-index.nodes) Gone d c.loop-index.invariant.forgotten (c.requires.keys d ((said n), ap link_of c.index.ensures, (c.loop-index.index, lt, is)))
 
 pub forget_dependent-requires-clause-once : goal.forget_dependent-requires-clause-once
@@ -39,18 +39,18 @@ loop-index-preserved c =
     let m = c.index-in-loop-index.result.now in
     let key = c.args.key in
     let i = c.loop-index.index in
-    let Gone : ℕ → ℕ → Type 0 = λ k d. (key ≡ d) × (marks_of s k ≡ false) × IsAmongFirst i (λ l. l.causes) g key k in
-    let same = forgotten_causes s c.loop-index.nodes Gone key n m c.loop-index.invariant.forgotten c.index.ensures c.index-in-loop-index.ensures in
-    let d = c.index-cause.result.now in
+    let Gone : ℕ → ℕ → Type 0 = λ k d. (key ≡ d) × (marks_of s k ≡ false) × IsAmongFirst i (λ l. l.antecedents) g key k in
+    let same = forgotten_antecedents s c.loop-index.nodes Gone key n m c.loop-index.invariant.forgotten c.index.ensures c.index-in-loop-index.ensures in
+    let d = c.index-antecedent.result.now in
     let at = ap link_of c.index.ensures in
-    let lt : i < length n.causes.items = omega (arith, c.loop-index-test.true, c.len-index-end.ensures, n.causes.ok.0) in
-    let is : d ≡ get_or n.causes.items i d = c.index-cause.ensures ∙ ap (λ ds. get_or ds i d) same in
+    let lt : i < length n.antecedents.items = omega (arith, c.loop-index-test.true, c.len-index-end.ensures, n.antecedents.ok.0) in
+    let is : d ≡ get_or n.antecedents.items i d = c.index-antecedent.ensures ∙ ap (λ ds. get_or ds i d) same in
     let marks : (k : ℕ) → marks_of c.loop-index.nodes k ≡ marks_of s k = λ k. ap (λ q. q k) c.loop-index.invariant.marks in record {
       forgotten = forgotten_then g (graph_of c.loop-index.nodes) (graph_of c.forget_dependent.new.nodes) Gone (λ k e. (d ≡ k) × (key ≡ e) × (marks_of c.loop-index.nodes k ≡ false))
-          (λ k e. (key ≡ e) × (marks_of s k ≡ false) × IsAmongFirst (i + 1) (λ l. l.causes) g key k)
-          (λ k e p. (p.0, p.1, first_left (λ l. l.causes) g key (said n) at i d lt is k p.2))
-          (λ k e p. (p.1, sym (marks k) ∙ p.2, first_last (λ l. l.causes) g key (said n) at i d lt is k p.0))
-          (λ k e p. elim (first_cases (λ l. l.causes) g key (said n) at i d lt is k p.2) [
+          (λ k e. (key ≡ e) × (marks_of s k ≡ false) × IsAmongFirst (i + 1) (λ l. l.antecedents) g key k)
+          (λ k e p. (p.0, p.1, first_left (λ l. l.antecedents) g key (said n) at i d lt is k p.2))
+          (λ k e p. (p.1, sym (marks k) ∙ p.2, first_last (λ l. l.antecedents) g key (said n) at i d lt is k p.0))
+          (λ k e p. elim (first_cases (λ l. l.antecedents) g key (said n) at i d lt is k p.2) [
             | inl q ↦ inl (p.0, p.1, q)
             | inr q ↦ inr (q, p.0, marks k ∙ p.1)
           ])
@@ -66,8 +66,8 @@ returns-clause-forgotten c =
     let key = c.args.key in
     let i = c.loop-index.index in
     let at = ap link_of c.index.ensures in
-    let le : length n.causes.items ≤ i = omega (arith, c.loop-index-test.false, c.len-index-end.ensures, n.causes.ok.0) in
-    forgotten_like g (graph_of c.loop-index.nodes) (λ k d. (key ≡ d) × (marks_of s k ≡ false) × IsAmongFirst i (λ l. l.causes) g key k) (λ k d. (key ≡ d) × (marks_of s k ≡ false) × IsCause g k key)
-    (λ k d p. (p.0, p.1, first_all (λ l. l.causes) g key (said n) at i le k p.2))
-    (λ k d p. (p.0, p.1, all_first (λ l. l.causes) g key (said n) at i le k p.2))
+    let le : length n.antecedents.items ≤ i = omega (arith, c.loop-index-test.false, c.len-index-end.ensures, n.antecedents.ok.0) in
+    forgotten_like g (graph_of c.loop-index.nodes) (λ k d. (key ≡ d) × (marks_of s k ≡ false) × IsAmongFirst i (λ l. l.antecedents) g key k) (λ k d. (key ≡ d) × (marks_of s k ≡ false) × IsAntecedent g k key)
+    (λ k d p. (p.0, p.1, first_all (λ l. l.antecedents) g key (said n) at i le k p.2))
+    (λ k d p. (p.0, p.1, all_first (λ l. l.antecedents) g key (said n) at i le k p.2))
     c.loop-index.invariant.forgotten

@@ -2,10 +2,10 @@ use Rattle.std.proofs.Common.{◌≡◌, false}
 use Rattle.palm_explain.specs.Graph.{HasForgotten, IsAmongFirst, graph_of, marks_of}
 use Rattle.palm_explain.proofs.withdrawing.forget.Given as goal
 
--- the causes so far have forgotten it
+-- the antecedents so far have forgotten it
 abbrev pub invariant-loop-index : goal.invariant-loop-index
 invariant-loop-index l = record {
   forgotten : HasForgotten (graph_of l.fn.nodes) (graph_of l.nodes)
-      (λ k d. (l.key ≡ d) × (marks_of l.fn.nodes k ≡ false) × IsAmongFirst l.index (λ m. m.causes) (graph_of l.fn.nodes) l.key k);
+      (λ k d. (l.key ≡ d) × (marks_of l.fn.nodes k ≡ false) × IsAmongFirst l.index (λ m. m.antecedents) (graph_of l.fn.nodes) l.key k);
   marks : marks_of l.nodes ≡ marks_of l.fn.nodes;
 }

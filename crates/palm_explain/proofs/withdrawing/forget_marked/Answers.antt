@@ -1,10 +1,10 @@
 use Rattle.std.proofs.Common.{◌≡◌, ◌≤◌, ◌∙◌, ◌-◌, suc, Some, true, false, ◌∷◌, drop, slice_get, slice_index_or, ap, arith}
 use Rattle.std.proofs.lemmas.Option.{slice_get-get_or}
-use Rattle.palm_explain.specs.Graph.{IsCause, graph_of, marks_of}
+use Rattle.palm_explain.specs.Graph.{IsAntecedent, graph_of, marks_of}
 use Rattle.palm_explain.proofs.Chains.{mark_key}
-use Rattle.palm_explain.proofs.Changes.{IsGoneFrom, cause_back, forgotten_key, forgotten_like, forgotten_once, gone_next, gone_same}
+use Rattle.palm_explain.proofs.Changes.{IsGoneFrom, antecedent_back, forgotten_key, forgotten_like, forgotten_once, gone_next, gone_same}
 use Rattle.palm_explain.proofs.Closing.{drop_first, place_dropped}
-use Rattle.palm_explain.proofs.Graphs.{cause_key}
+use Rattle.palm_explain.proofs.Graphs.{antecedent_key}
 use Rattle.palm_explain.proofs.Writes.{node_mark}
 use Rattle.palm_explain.proofs.withdrawing.forget_marked.Goals as goal
 
@@ -14,7 +14,7 @@ forget-requires-clause-keys c q m =
     let h = graph_of c.loop-place.nodes in
     let key = slice_index_or c.args.log.now (c.loop-place.place - 1) 0 in
     let Gone = IsGoneFrom g (marks_of c.args.nodes.now) c.args.log.now c.loop-place.place in
-    forgotten_key g h Gone q c.loop-place.invariant.forgotten (cause_key g c.args.log.now q key c.requires.graph (cause_back g h Gone q key c.loop-place.invariant.forgotten m))
+    forgotten_key g h Gone q c.loop-place.invariant.forgotten (antecedent_key g c.args.log.now q key c.requires.graph (antecedent_back g h Gone q key c.loop-place.invariant.forgotten m))
 
 pub forget-requires-clause-once : goal.forget-requires-clause-once
 forget-requires-clause-once c =
@@ -52,7 +52,7 @@ returns-clause-forgotten c =
     let marks = marks_of c.args.nodes.now in
     let log = c.args.log.now in
     let le : c.loop-place.place ≤ c.args.start = omega (arith, c.loop-place-test.false) in
-    forgotten_like g (graph_of c.loop-place.nodes) (IsGoneFrom g marks log c.loop-place.place) (λ k d. (marks d ≡ true) × (marks k ≡ false) × IsCause g k d)
+    forgotten_like g (graph_of c.loop-place.nodes) (IsGoneFrom g marks log c.loop-place.place) (λ k d. (marks d ≡ true) × (marks k ≡ false) × IsAntecedent g k d)
     (λ k d m. (m.1, m.2, m.3))
     (λ k d m.
     let l = mark_key c.args.nodes.now d m.0 in

@@ -1,7 +1,7 @@
 use Rattle.std.proofs.Common.{◌≡◌, ◌⊎◌, ◌≤◌, ◌-◌, true, suc, Some, ◌∷◌, drop, slice_get, slice_index_or, inl, inr, refl, sym, ap, ◌∙◌, subst, arith}
 use Rattle.std.proofs.lemmas.Bool.{false≢true}
 use Rattle.std.proofs.lemmas.Option.{slice_get-get_or}
-use Rattle.palm_events.proofs.cited.Names.{cid_same}
+use Rattle.palm_base.proofs.cited.CidOrder.{cid_same}
 use Rattle.palm_explain.specs.Graph.{IsBy, graph_of, link_of, marks_of, said}
 use Rattle.palm_explain.proofs.Chains.{mark_key}
 use Rattle.palm_explain.proofs.Closing.{drop_first, place_dropped}

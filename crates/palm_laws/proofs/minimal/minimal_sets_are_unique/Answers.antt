@@ -4,6 +4,6 @@ use Rattle.palm_laws.proofs.minimal.minimal_sets_are_unique.Goals as goal
 
 pub returns : goal.returns
 returns c = record {
-  conflict = λ initial active names others one two. minimal_one (AreConflict initial) active names others one two;
-  explanation = λ initial active pair names others one two. minimal_one (DoExplain initial pair) active names others one two;
+  conflict = λ initial active cids others one two. minimal_one (AreConflict initial) active cids others one two;
+  explanation = λ initial active pair cids others one two. minimal_one (DoExplain initial pair) active cids others one two;
 }

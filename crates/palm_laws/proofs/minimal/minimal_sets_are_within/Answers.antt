@@ -5,8 +5,8 @@ use Rattle.palm_laws.proofs.minimal.minimal_sets_are_within.Goals as goal
 
 pub returns : goal.returns
 returns c = record {
-  conflict = λ initial active names minimal a m. left_within (AreConflict initial) [] active minimal.left minimal.walk a m;
-  explanation = λ initial active pair names minimal a m. left_within (DoExplain initial pair) [] active minimal.left minimal.walk a m;
-  conflict_rises = λ initial active names minimal rises. minimal_rises (AreConflict initial) active names minimal rises;
-  explanation_rises = λ initial active pair names minimal rises. minimal_rises (DoExplain initial pair) active names minimal rises;
+  conflict = λ initial active cids minimal a m. left_within (AreConflict initial) [] active minimal.left minimal.walk a m;
+  explanation = λ initial active pair cids minimal a m. left_within (DoExplain initial pair) [] active minimal.left minimal.walk a m;
+  conflict_rises = λ initial active cids minimal rises. minimal_rises (AreConflict initial) active cids minimal rises;
+  explanation_rises = λ initial active pair cids minimal rises. minimal_rises (DoExplain initial pair) active cids minimal rises;
 }

@@ -8,6 +8,6 @@ use Rattle.palm_laws.proofs.minimal.minimal_sets_have_the_property.Goals as goal
 
 pub returns : goal.returns
 returns c = record {
-  conflict = λ initial active names minimal. conflict_more initial (Contains (cons_of minimal.left)) (Named active (Contains names)) (minimal_named (AreConflict initial) active names minimal) (minimal_holds (AreConflict initial) active names minimal);
-  explanation = λ initial active pair names minimal. explains_more initial (Contains (cons_of minimal.left)) (Named active (Contains names)) pair.var pair.value (minimal_named (DoExplain initial pair) active names minimal) (minimal_holds (DoExplain initial pair) active names minimal);
+  conflict = λ initial active cids minimal. conflict_more initial (Contains (cons_of minimal.left)) (Named active (Contains cids)) (minimal_named (AreConflict initial) active cids minimal) (minimal_holds (AreConflict initial) active cids minimal);
+  explanation = λ initial active pair cids minimal. explains_more initial (Contains (cons_of minimal.left)) (Named active (Contains cids)) pair.var pair.value (minimal_named (DoExplain initial pair) active cids minimal) (minimal_holds (DoExplain initial pair) active cids minimal);
 }

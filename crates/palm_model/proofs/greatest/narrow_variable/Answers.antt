@@ -1,4 +1,4 @@
-use Rattle.std.proofs.Common.{◌<◌, length, sym, ◌∙◌, subst, refl}
+use Rattle.std.proofs.Common.{◌<◌, length, sym, ◌∙◌, subst}
 use Rattle.palm_model.proofs.cited.Narrowing.{lost_value}
 use Rattle.palm_model.proofs.greatest.narrow_variable.Goals as goal
 

@@ -4,9 +4,9 @@ use Rattle.palm_book.specs.Book.{user_at}
 use Rattle.palm_book.specs.declared.book.BookCon.{BookCon}
 use Rattle.palm_model.specs.Domains.{Domains}
 use Rattle.palm_model.specs.Log.{Active, IsActive}
-use Rattle.palm_reduce.specs.Properties.{IsCause}
+use Rattle.palm_reduce.specs.Properties.{IsCore}
 use Rattle.palm_reduce.proofs.Filling.{entry_same}
-use Rattle.palm_reduce.proofs.Passing.{allowed_rest, is_gone, is_there, passes_in, passes_out, passes_relaxed, rest_cause, rest_initial, rest_tells}
+use Rattle.palm_reduce.proofs.Passing.{allowed_rest, is_gone, is_there, passes_in, passes_out, passes_relaxed, rest_core, rest_initial, rest_tells}
 use Rattle.palm_reduce.proofs.reduce.pass.Goals as goal
 
 pub withdraw-requires : goal.withdraw-requires
@@ -23,24 +23,24 @@ returns-then-not-entry g c =
     passes_relaxed c.args.property.now c.args.book.now c.requires.book c.args.place c.args.found.now c.args.engine.now.state c.requires.walked c.constraint-entry.result.now c.constraint-entry.ensures.at c.if-not-entry.true
 
 pub is_among-requires : goal.is_among-requires
-is_among-requires g c = c.requires.walked.cause.rising
+is_among-requires g c = c.requires.walked.core.rising
 
 pub returns-then-not-is_among : goal.returns-then-not-is_among
 returns-then-not-is_among g c =
     passes_out c.args.property.now c.args.book.now c.requires.book c.args.place c.args.found.now c.args.engine.now.state c.requires.walked c.constraint-entry.result.now c.constraint-entry.ensures.at c.if-not-entry.false
-    c.withdraw.new.self.state c.withdraw.ensures.withdraws c.withdraw.new.self.state refl refl c.args.found.now.cause
-    (rest_cause c.args.property.now c.args.book.now c.requires.book c.args.place c.args.found.now c.args.engine.now.state c.requires.walked c.constraint-entry.result.now c.constraint-entry.ensures.at c.if-not-entry.false
+    c.withdraw.new.self.state c.withdraw.ensures.withdraws c.withdraw.new.self.state refl refl c.args.found.now.core
+    (rest_core c.args.property.now c.args.book.now c.requires.book c.args.place c.args.found.now c.args.engine.now.state c.requires.walked c.constraint-entry.result.now c.constraint-entry.ensures.at c.if-not-entry.false
     c.withdraw.new.self.state c.withdraw.ensures.withdraws (tells_false _ c.is_among.result c.is_among.ensures c.if-not-is_among.true))
 
 pub returns-then-branch : goal.returns-then-branch
 returns-then-branch g c =
     let initial = rest_initial c.args.property.now c.args.book.now c.requires.book c.args.place c.args.found.now c.args.engine.now.state c.requires.walked c.constraint-entry.result.now c.constraint-entry.ensures.at c.if-not-entry.false
     c.withdraw.new.self.state c.withdraw.ensures.withdraws in
-    let told = c.in_ok-has_property.ensures.cause c.if-branch.true in
+    let told = c.in_ok-has_property.ensures.core c.if-branch.true in
     passes_out c.args.property.now c.args.book.now c.requires.book c.args.place c.args.found.now c.args.engine.now.state c.requires.walked c.constraint-entry.result.now c.constraint-entry.ensures.at c.if-not-entry.false
-    c.withdraw.new.self.state c.withdraw.ensures.withdraws c.has_property.new.engine.state c.in_ok-has_property.ensures.initial c.in_ok-has_property.ensures.active c.has_property.new.cause
-    (subst (λ (d : Domains). IsCause c.args.property.now d c.has_property.new.engine.state.active c.has_property.new.cause) initial
-    (subst (λ (xs : List Active). IsCause c.args.property.now c.withdraw.new.self.state.initial xs c.has_property.new.cause) (sym c.in_ok-has_property.ensures.active) told))
+    c.withdraw.new.self.state c.withdraw.ensures.withdraws c.has_property.new.engine.state c.in_ok-has_property.ensures.initial c.in_ok-has_property.ensures.active c.has_property.new.core
+    (subst (λ (d : Domains). IsCore c.args.property.now d c.has_property.new.engine.state.active c.has_property.new.core) initial
+    (subst (λ (xs : List Active). IsCore c.args.property.now c.withdraw.new.self.state.initial xs c.has_property.new.core) (sym c.in_ok-has_property.ensures.active) told))
 
 pub post-requires-clause-inactive : goal.post-requires-clause-inactive
 post-requires-clause-inactive g c d too =
@@ -55,5 +55,5 @@ returns g c =
     c.withdraw.new.self.state c.withdraw.ensures.withdraws c.has_property.new.engine.state c.in_ok-has_property.ensures.initial c.in_ok-has_property.ensures.active c.in_ok-has_property.field-0 c.in_ok-has_property.ensures.tells in
     passes_in c.args.property.now c.args.book.now c.requires.book c.args.place c.args.found.now c.args.engine.now.state c.requires.walked c.constraint-entry.result.now c.constraint-entry.ensures.at c.if-not-entry.false
     c.withdraw.new.self.state c.withdraw.ensures.withdraws c.has_property.new.engine.state c.in_ok-has_property.ensures.initial c.in_ok-has_property.ensures.active c.post.new.engine.state (c.in_ok-post.ensures c.constraint-entry.result.now c.constraint-entry.ensures.at)
-    (record { names = c.push.new.self; cause = c.has_property.new.cause }) c.in_ok-push.ensures.items (c.in_ok-has_property.ensures.kept c.if-branch.false)
+    (record { cids = c.push.new.self; core = c.has_property.new.core }) c.in_ok-push.ensures.items (c.in_ok-has_property.ensures.kept c.if-branch.false)
     (tells_false _ c.in_ok-has_property.field-0 told c.if-branch.false)

@@ -3,9 +3,9 @@ use Rattle.palm_base.proofs.cited.Telling.{tells_false}
 use Rattle.palm_book.specs.Book.{active_of, initial_of}
 use Rattle.palm_model.specs.Domains.{Domains}
 use Rattle.palm_model.specs.Log.{Active}
-use Rattle.palm_reduce.specs.Properties.{IsCause}
+use Rattle.palm_reduce.specs.Properties.{IsCore}
 use Rattle.palm_reduce.proofs.Asking.{allowed_at, tells_at}
-use Rattle.palm_reduce.proofs.Causes.{cause_more}
+use Rattle.palm_reduce.proofs.Cores.{core_more}
 use Rattle.palm_reduce.proofs.reduce.reduce.Goals as goal
 
 pub has_property-requires : goal.has_property-requires
@@ -25,9 +25,9 @@ walk-requires-clause-active g c a = (
   λ m. subst (λ (z : List Active). Contains z a) (sym c.in_ok-has_property.ensures.active) ((c.in_ok-engine.ensures.active a).1 m),
 )
 
-pub walk-requires-clause-cause : goal.walk-requires-clause-cause
-walk-requires-clause-cause g c =
+pub walk-requires-clause-core : goal.walk-requires-clause-core
+walk-requires-clause-core g c =
     let s = c.in_ok-engine.engine.state in
-    let known = c.in_ok-has_property.ensures.cause c.if-not-branch.false in
-    cause_more c.args.property.now (initial_of c.args.book.now) s.active (active_of c.args.book.now) c.has_property.new.cause (λ a named m. (c.in_ok-engine.ensures.active a).0 m)
-    (subst (λ (d : Domains). IsCause c.args.property.now d s.active c.has_property.new.cause) c.in_ok-engine.ensures.initial known)
+    let known = c.in_ok-has_property.ensures.core c.if-not-branch.false in
+    core_more c.args.property.now (initial_of c.args.book.now) s.active (active_of c.args.book.now) c.has_property.new.core (λ a named m. (c.in_ok-engine.ensures.active a).0 m)
+    (subst (λ (d : Domains). IsCore c.args.property.now d s.active c.has_property.new.core) c.in_ok-engine.ensures.initial known)

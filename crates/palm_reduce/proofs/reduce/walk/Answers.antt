@@ -12,10 +12,10 @@ loop-place-init g c =
     let property = c.args.property.now in
     let book = c.args.book.now in
     let s = c.args.engine.now.state in
-    let found : Found = record { names = c.new.result; cause = c.args.cause } in (
+    let found : Found = record { cids = c.new.result; core = c.args.core } in (
       omega (arith, c.constraints-place.ensures.count),
       subst (λ (n : ℕ). HasWalked property book n found s) (sym c.constraints-place.ensures.count)
-          (walk_starts property book found s c.new.ensures.items c.requires.initial c.requires.active c.requires.cause),
+          (walk_starts property book found s c.new.ensures.items c.requires.initial c.requires.active c.requires.core),
     )
 
 pub returns : goal.returns
@@ -24,4 +24,4 @@ returns g c =
     let book = c.args.book.now in
     let done : c.loop-place.place ≡ 0 = omega (arith, c.loop-place-test.false) in
     subst (IsMinimal (HasProperty property (initial_of book)) (active_of book)) (sym (c.from_vec.ensures ∙ c.reverse.ensures.items))
-    (walk_ends property book c.loop-place.place c.args.cause c.loop-place.found c.loop-place.engine.state done c.requires.cause c.loop-place.invariant.1)
+    (walk_ends property book c.loop-place.place c.args.core c.loop-place.found c.loop-place.engine.state done c.requires.core c.loop-place.invariant.1)

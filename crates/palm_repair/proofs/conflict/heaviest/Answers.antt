@@ -18,7 +18,7 @@ pub loop-place-preserved : goal.loop-place-preserved
 loop-place-preserved c =
     let weights = c.args.weights.now in
     let decisions = c.args.decisions.now in
-    let names = c.args.names.now in
+    let cids = c.args.cids.now in
     let i = c.loop-place.place in
     let p = c.index-decisions-place.result in
     let is = c.index-decisions-place.is in
@@ -31,11 +31,11 @@ loop-place-preserved c =
     let greatest = c.loop-place.greatest in
     elim c.if-weight-greatest.branch [
       | then-weight-greatest+then-holds w ↦
-          heaviest_then weights decisions names i best now greatest weight most p w.best-is w.greatest-is at
-          (subst (λ (z : Pair). Contains names (Decide z.var)) (sym is) w.if-holds.ensures) weighs w.if-weight-greatest.true c.loop-place.invariant
-      | else-weight-greatest w ↦ heaviest_still weights decisions names i best now greatest most p w.best-is w.greatest-is at (λ held. elim w.else-weight-greatest.branch [
+          heaviest_then weights decisions cids i best now greatest weight most p w.best-is w.greatest-is at
+          (subst (λ (z : Pair). Contains cids (Decide z.var)) (sym is) w.if-holds.ensures) weighs w.if-weight-greatest.true c.loop-place.invariant
+      | else-weight-greatest w ↦ heaviest_still weights decisions cids i best now greatest most p w.best-is w.greatest-is at (λ held. elim w.else-weight-greatest.branch [
         | else-weight-greatest-via-then-weight-greatest+else-holds w' ↦
-            absurd (tells_false _ w'.holds.result w'.holds.ensures w'.if-holds.false (subst (λ (z : Pair). Contains names (Decide z.var)) is held))
+            absurd (tells_false _ w'.holds.result w'.holds.ensures w'.if-holds.false (subst (λ (z : Pair). Contains cids (Decide z.var)) is held))
         | else-weight-greatest-via-else-weight-greatest w' ↦ let less = w'.if-weight-greatest.false in omega (arith, less, weighs)
       ]) c.loop-place.invariant
     ]
@@ -43,4 +43,4 @@ loop-place-preserved c =
 pub returns : goal.returns
 returns c =
     let le = c.loop-place-test.false in
-    heaviest_all c.args.weights.now c.args.decisions.now c.args.names.now c.loop-place.place c.loop-place.best c.loop-place.greatest (omega (arith, le)) c.loop-place.invariant
+    heaviest_all c.args.weights.now c.args.decisions.now c.args.cids.now c.loop-place.place c.loop-place.best c.loop-place.greatest (omega (arith, le)) c.loop-place.invariant

@@ -2,4 +2,4 @@ use Rattle.palm_repair.proofs.Choosing.{IsHeaviestYet}
 use Rattle.palm_repair.proofs.conflict.heaviest.Given as goal
 
 abbrev pub invariant-loop-place : goal.invariant-loop-place
-invariant-loop-place l = IsHeaviestYet l.weights l.decisions l.names l.place l.best l.greatest
+invariant-loop-place l = IsHeaviestYet l.weights l.decisions l.cids l.place l.best l.greatest

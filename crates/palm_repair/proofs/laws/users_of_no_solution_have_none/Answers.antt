@@ -7,6 +7,6 @@ pub returns : goal.returns
 returns c = record {
   unsolved = λ guided ordered tabu budget dropped s t turns users only valid repairs a solution.
       run_unsolved s repairs.last.search users (repair_ended reasons_right guided ordered tabu budget s turns _ dropped repairs.last only valid repairs.run) repairs.run.ends a solution;
-  active = λ guided ordered tabu budget dropped s t turns users only valid repairs name m.
-      run_users s repairs.last.search users (repair_ended reasons_right guided ordered tabu budget s turns _ dropped repairs.last only valid repairs.run) repairs.run.ends name m;
+  active = λ guided ordered tabu budget dropped s t turns users only valid repairs cid m.
+      run_users s repairs.last.search users (repair_ended reasons_right guided ordered tabu budget s turns _ dropped repairs.last only valid repairs.run) repairs.run.ends cid m;
 }

@@ -13,6 +13,6 @@ loop-other-preserved c =
     let is = c.other-item.is ∙ ap (λ l. get_or l i x) same in
     elim c.if-not-is_same.branch [
       | then-not-is_same+in_ok-push w ↦
-          others_more pairs i x c.args.pair.now c.loop-other.names c.if-not-is_same.names lt is (sym c.is_same.ensures ∙ w.if-not-is_same.true) c.loop-other.invariant (w.names-is ∙ w.in_ok-push.ensures.ok)
-      | else-not-is_same w ↦ others_same pairs i x c.args.pair.now c.loop-other.names c.if-not-is_same.names lt is (sym c.is_same.ensures ∙ w.if-not-is_same.false) c.loop-other.invariant w.names-is
+          others_more pairs i x c.args.pair.now c.loop-other.cids c.if-not-is_same.cids lt is (sym c.is_same.ensures ∙ w.if-not-is_same.true) c.loop-other.invariant (w.cids-is ∙ w.in_ok-push.ensures.ok)
+      | else-not-is_same w ↦ others_same pairs i x c.args.pair.now c.loop-other.cids c.if-not-is_same.cids lt is (sym c.is_same.ensures ∙ w.if-not-is_same.false) c.loop-other.invariant w.cids-is
     ]

@@ -120,13 +120,7 @@ learn-requires-clause-small g c =
 
 pub returns-clause-told : goal.returns-clause-told
 returns-clause-told g c =
-    let back = c.in_ok-undo.ensures.ok in
-    on_ok_weaker c.learn.result (λ learns. record {
-      gone = back.gone;
-      conflict = c.args.conflict.now;
-      journal = back.journal;
-      told = subst (λ l. Hears g.G.Guide.hears g.G.Guide.state l c.args.guide.now c.tell.new.guide) (c.as_slice-4.ensures ∙ c.in_ok-vars.ensures ∙ ap decided_vars c.as_slice.ensures) c.tell.ensures;
-    }) c.learn.ensures.ok
+    on_ok_weaker c.learn.result (λ learns. subst (λ l. Hears g.G.Guide.hears g.G.Guide.state l c.args.guide.now c.tell.new.guide) (c.as_slice-4.ensures ∙ c.in_ok-vars.ensures ∙ ap decided_vars c.as_slice.ensures) c.tell.ensures) c.learn.ensures.ok
 
 pub returns-clause-decisions : goal.returns-clause-decisions
 returns-clause-decisions g c = c.learn.ensures.decisions

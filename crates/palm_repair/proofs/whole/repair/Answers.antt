@@ -1,15 +1,27 @@
-use Rattle.std.proofs.Common.{None, rules, sym, ◌∙◌, subst}
+use Rattle.std.proofs.Common.{Option, rules, sym, ◌∙◌, subst}
 use Rattle.std.specs.Prelude.{IfOk, OnErr, is_some}
 use Rattle.palm_events.proofs.cited.Reasons.{reasons_right}
-use Rattle.palm_engine.specs.Engine.{HasSettled}
+use Rattle.palm_engine.specs.Following.{Hearing, OrderFollows}
 use Rattle.palm_engine.proofs.cited.Walking.{filters_none}
+use Rattle.palm_search.specs.Following.{GuideFollows, Moment}
+use Rattle.palm_search.proofs.cited.Following.{settled_alike}
 use Rattle.palm_search.proofs.cited.Results.{on_err}
 use Rattle.palm_search.proofs.cited.Running.{counts_then, interrupted_filters}
-use Rattle.palm_repair.specs.Answers.{HasRepaired, end_of}
-use Rattle.palm_repair.specs.Turning.{BreaksOff, HasRun, IsCutOff}
+use Rattle.palm_repair.specs.Answers.{end_of}
+use Rattle.palm_repair.specs.Following.{HasRepairedBy, HasRunBy}
+use Rattle.palm_repair.specs.Turning.{BreaksOff, IsCutOff}
 use Rattle.palm_repair.proofs.Breaking.{broken_at_end, broken_in_run, broken_leaves, repaired_leaves}
-use Rattle.palm_repair.proofs.Running.{answer_true, counts_kept, repaired}
+use Rattle.palm_repair.proofs.Following.{repaired_by}
+use Rattle.palm_repair.proofs.Running.{answer_true, counts_kept}
+use Rattle.palm_repair.proofs.whole.repair.Given as given
 use Rattle.palm_repair.proofs.whole.repair.Goals as goal
+
+-- the guide's own relations, and the order's
+abbrev guiding : (g : given.Over) → Moment → Option g.row.G.Denot → Option g.row.G.Denot → Type 0
+guiding g = GuideFollows g.G.Guide.answers g.G.Guide.hears g.G.Guide.state
+
+abbrev ordering : (g : given.Over) → Hearing → Option g.row.O.Denot → Option g.row.O.Denot → Type 0
+ordering g = OrderFollows g.O.Order.answers g.O.Order.hears g.O.Order.state
 
 -- ---- memory ran out in the run
 
@@ -60,8 +72,8 @@ returns-in_err-settle-clause-err g c =
     let turns = run.new.search.journal in
     let n = c.close.new.engine in
     let t = c.settle.new.self in
-    let has = subst (λ r. IfOk r (HasRun guided ordered tabu budget s turns run.new.engine.state)) c.in_ok-answer.was run.ensures.ok in
-    let broken = broken_at_end guided ordered tabu budget s turns run.new.engine.state c.in_ok-answer.answer n.state t.state has c.close.ensures.withdraws (interrupted_filters (is_some run.new.order) n t c.in_err-settle.ensures.err) in
+    let has = subst (λ r. IfOk r (HasRunBy (guiding g) (ordering g) c.args.guide.now run.new.guide c.args.order.now run.new.order tabu budget s turns run.new.engine.state)) c.in_ok-answer.was run.ensures.ok in
+    let broken = broken_at_end guided ordered tabu budget s turns run.new.engine.state c.in_ok-answer.answer n.state t.state has.has_run c.close.ensures.withdraws (interrupted_filters (is_some run.new.order) n t c.in_err-settle.ensures.err.interrupted) in
     on_err _ c.from_residual-in_err-settle.result (subst (λ l. BreaksOff guided ordered tabu budget s l t.state) (sym c.close.ensures.journal) broken)
 
 pub returns-in_err-settle-clause-leaves : goal.returns-in_err-settle-clause-leaves
@@ -75,8 +87,8 @@ returns-in_err-settle-clause-leaves g c =
     let turns = run.new.search.journal in
     let n = c.close.new.engine in
     let t = c.settle.new.self in
-    let has = subst (λ r. IfOk r (HasRun guided ordered tabu budget s turns run.new.engine.state)) c.in_ok-answer.was run.ensures.ok in
-    let broken = broken_at_end guided ordered tabu budget s turns run.new.engine.state c.in_ok-answer.answer n.state t.state has c.close.ensures.withdraws (interrupted_filters (is_some run.new.order) n t c.in_err-settle.ensures.err) in
+    let has = subst (λ r. IfOk r (HasRunBy (guiding g) (ordering g) c.args.guide.now run.new.guide c.args.order.now run.new.order tabu budget s turns run.new.engine.state)) c.in_ok-answer.was run.ensures.ok in
+    let broken = broken_at_end guided ordered tabu budget s turns run.new.engine.state c.in_ok-answer.answer n.state t.state has.has_run c.close.ensures.withdraws (interrupted_filters (is_some run.new.order) n t c.in_err-settle.ensures.err.interrupted) in
     broken_leaves reasons_right guided ordered tabu budget s turns t.state c.close.new.self c.from_residual-in_err-settle.result c.requires.users run.ensures.before broken c.close.ensures.decisions (search rules)
 
 pub returns-in_err-settle-clause-counts : goal.returns-in_err-settle-clause-counts
@@ -102,10 +114,10 @@ returns-clause-ok g c =
     let turns = run.new.search.journal in
     let n = c.close.new.engine in
     let t = c.settle.new.self in
-    let settled = subst (λ b. HasSettled None b c.in_ok-settle.field-0 n t) run.ensures.lent.order c.in_ok-settle.ensures.ok in
-    let has = subst (λ r. IfOk r (HasRun guided ordered tabu budget s turns run.new.engine.state)) c.in_ok-answer.was run.ensures.ok in
-    let whole = repaired guided ordered tabu budget s turns run.new.engine.state c.in_ok-answer.answer c.in_ok-settle.field-0 n t has c.close.ensures.withdraws settled in
-    subst (λ l. HasRepaired guided ordered tabu budget s l t.state c.in_ok-answer.answer) (sym c.close.ensures.journal) whole
+    let settled = settled_alike (ordering g) ordered c.in_ok-settle.field-0 n t run.new.order c.settle.new.order run.ensures.lent.order c.in_ok-settle.ensures.ok in
+    let has = subst (λ r. IfOk r (HasRunBy (guiding g) (ordering g) c.args.guide.now run.new.guide c.args.order.now run.new.order tabu budget s turns run.new.engine.state)) c.in_ok-answer.was run.ensures.ok in
+    let whole = repaired_by (guiding g) (ordering g) c.args.guide.now run.new.guide c.args.order.now run.new.order c.settle.new.order tabu budget s turns run.new.engine.state c.in_ok-answer.answer c.in_ok-settle.field-0 n t has c.close.ensures.withdraws settled in
+    subst (λ l. HasRepairedBy (guiding g) (ordering g) c.args.guide.now run.new.guide c.args.order.now c.settle.new.order tabu budget s l t.state c.in_ok-answer.answer) (sym c.close.ensures.journal) whole
 
 pub returns-clause-holds : goal.returns-clause-holds
 returns-clause-holds g c =
@@ -118,10 +130,10 @@ returns-clause-holds g c =
     let turns = run.new.search.journal in
     let n = c.close.new.engine in
     let t = c.settle.new.self in
-    let settled = subst (λ b. HasSettled None b c.in_ok-settle.field-0 n t) run.ensures.lent.order c.in_ok-settle.ensures.ok in
-    let has = subst (λ r. IfOk r (HasRun guided ordered tabu budget s turns run.new.engine.state)) c.in_ok-answer.was run.ensures.ok in
-    let whole = repaired guided ordered tabu budget s turns run.new.engine.state c.in_ok-answer.answer c.in_ok-settle.field-0 n t has c.close.ensures.withdraws settled in
-    answer_true reasons_right guided ordered tabu budget s turns t.state c.in_ok-answer.answer c.requires.users run.ensures.before whole
+    let settled = settled_alike (ordering g) ordered c.in_ok-settle.field-0 n t run.new.order c.settle.new.order run.ensures.lent.order c.in_ok-settle.ensures.ok in
+    let has = subst (λ r. IfOk r (HasRunBy (guiding g) (ordering g) c.args.guide.now run.new.guide c.args.order.now run.new.order tabu budget s turns run.new.engine.state)) c.in_ok-answer.was run.ensures.ok in
+    let whole = repaired_by (guiding g) (ordering g) c.args.guide.now run.new.guide c.args.order.now run.new.order c.settle.new.order tabu budget s turns run.new.engine.state c.in_ok-answer.answer c.in_ok-settle.field-0 n t has c.close.ensures.withdraws settled in
+    answer_true reasons_right guided ordered tabu budget s turns t.state c.in_ok-answer.answer c.requires.users run.ensures.before whole.repaired
 
 pub returns-clause-leaves : goal.returns-clause-leaves
 returns-clause-leaves g c =
@@ -134,10 +146,10 @@ returns-clause-leaves g c =
     let turns = run.new.search.journal in
     let n = c.close.new.engine in
     let t = c.settle.new.self in
-    let settled = subst (λ b. HasSettled None b c.in_ok-settle.field-0 n t) run.ensures.lent.order c.in_ok-settle.ensures.ok in
-    let has = subst (λ r. IfOk r (HasRun guided ordered tabu budget s turns run.new.engine.state)) c.in_ok-answer.was run.ensures.ok in
-    let whole = repaired guided ordered tabu budget s turns run.new.engine.state c.in_ok-answer.answer c.in_ok-settle.field-0 n t has c.close.ensures.withdraws settled in
-    repaired_leaves reasons_right guided ordered tabu budget s turns (end_of c.in_ok-answer.answer) whole.dropped t.state c.close.new.self c.in_ok-answer.answer c.requires.users run.ensures.before whole.repairs c.close.ensures.decisions
+    let settled = settled_alike (ordering g) ordered c.in_ok-settle.field-0 n t run.new.order c.settle.new.order run.ensures.lent.order c.in_ok-settle.ensures.ok in
+    let has = subst (λ r. IfOk r (HasRunBy (guiding g) (ordering g) c.args.guide.now run.new.guide c.args.order.now run.new.order tabu budget s turns run.new.engine.state)) c.in_ok-answer.was run.ensures.ok in
+    let whole = repaired_by (guiding g) (ordering g) c.args.guide.now run.new.guide c.args.order.now run.new.order c.settle.new.order tabu budget s turns run.new.engine.state c.in_ok-answer.answer c.in_ok-settle.field-0 n t has c.close.ensures.withdraws settled in
+    repaired_leaves reasons_right guided ordered tabu budget s turns (end_of c.in_ok-answer.answer) whole.repaired.dropped t.state c.close.new.self c.in_ok-answer.answer c.requires.users run.ensures.before whole.repaired.repairs c.close.ensures.decisions
 
 pub returns-clause-counts : goal.returns-clause-counts
 returns-clause-counts g c =

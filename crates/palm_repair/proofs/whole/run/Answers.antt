@@ -1,14 +1,26 @@
-use Rattle.std.proofs.Common.{None, Some, length, refl, sym, ap, ◌∙◌, subst}
+use Rattle.std.proofs.Common.{None, Option, Some, length, refl, sym, ap, ◌∙◌, subst}
 use Rattle.std.specs.Prelude.{is_some}
 use Rattle.palm_events.proofs.cited.Reasons.{reasons_right}
-use Rattle.palm_engine.specs.Engine.{HasSettled, IsInterrupted}
+use Rattle.palm_engine.specs.Engine.{IsInterrupted}
+use Rattle.palm_engine.specs.Following.{Hearing, OrderFollows}
+use Rattle.palm_search.specs.Following.{GuideFollows, Moment}
+use Rattle.palm_search.proofs.cited.Following.{settled_alike}
 use Rattle.palm_search.proofs.cited.Results.{on_err}
 use Rattle.palm_search.proofs.cited.Running.{counts_then, fresh_has, interrupted_filters, settled_filters}
 use Rattle.palm_repair.specs.Learned.{repair_state}
 use Rattle.palm_repair.specs.Turning.{Advances, IsCutTurn}
+use Rattle.palm_repair.proofs.Following.{run_ends_by, run_goes_on_by, run_starts_by}
 use Rattle.palm_repair.proofs.Learning.{rows_length}
-use Rattle.palm_repair.proofs.Running.{counts_kept, cut_first, cut_settling, cut_started, cut_turn, filtered_has, run_ends, run_goes_on, run_starts}
+use Rattle.palm_repair.proofs.Running.{counts_kept, cut_first, cut_settling, cut_started, cut_turn, filtered_has}
+use Rattle.palm_repair.proofs.whole.run.Given as given
 use Rattle.palm_repair.proofs.whole.run.Goals as goal
+
+-- the guide's own relations, and the order's
+abbrev guiding : (g : given.Over) → Moment → Option g.row.G.Denot → Option g.row.G.Denot → Type 0
+guiding g = GuideFollows g.G.Guide.answers g.G.Guide.hears g.G.Guide.state
+
+abbrev ordering : (g : given.Over) → Hearing → Option g.row.O.Denot → Option g.row.O.Denot → Type 0
+ordering g = OrderFollows g.O.Order.answers g.O.Order.hears g.O.Order.state
 
 -- ---- the first settling
 
@@ -19,11 +31,11 @@ returns-in_err-settle-clause-err g c =
     let tabu = c.args.tabu in
     let budget = c.args.budget in
     let s = c.args.engine.now in
-    on_err _ c.from_residual.result (cut_first guided ordered tabu budget s c.settle.new.self c.args.search.now c.requires.fresh c.in_err-settle.ensures.err)
+    on_err _ c.from_residual.result (cut_first guided ordered tabu budget s c.settle.new.self c.args.search.now c.requires.fresh c.in_err-settle.ensures.err.interrupted)
 
 pub returns-in_err-settle-clause-decisions : goal.returns-in_err-settle-clause-decisions
 returns-in_err-settle-clause-decisions g c =
-    filtered_has c.args.engine.now.state c.settle.new.self.state c.args.search.now (interrupted_filters (is_some c.args.order.now) c.args.engine.now c.settle.new.self c.in_err-settle.ensures.err)
+    filtered_has c.args.engine.now.state c.settle.new.self.state c.args.search.now (interrupted_filters (is_some c.args.order.now) c.args.engine.now c.settle.new.self c.in_err-settle.ensures.err.interrupted)
     (fresh_has c.args.engine.now.state c.args.search.now c.store-store.ensures.valid c.requires.users c.requires.fresh)
 
 pub returns-in_err-settle-clause-counts : goal.returns-in_err-settle-clause-counts
@@ -42,11 +54,11 @@ returns-in_err-learned-clause-err g c =
     let tabu = c.args.tabu in
     let budget = c.args.budget in
     let s = c.args.engine.now in
-    on_err _ c.from_residual-in_err-learned.result (cut_started guided ordered tabu budget c.in_ok-settle.field-0 s c.settle.new.self c.args.search.now c.requires.fresh c.in_ok-settle.ensures.ok)
+    on_err _ c.from_residual-in_err-learned.result (cut_started guided ordered tabu budget c.in_ok-settle.field-0 s c.settle.new.self c.args.search.now c.requires.fresh c.in_ok-settle.ensures.ok.settled)
 
 pub returns-in_err-learned-clause-decisions : goal.returns-in_err-learned-clause-decisions
 returns-in_err-learned-clause-decisions g c =
-    filtered_has c.args.engine.now.state c.settle.new.self.state c.args.search.now (settled_filters (is_some c.args.order.now) c.in_ok-settle.field-0 c.args.engine.now c.settle.new.self c.in_ok-settle.ensures.ok)
+    filtered_has c.args.engine.now.state c.settle.new.self.state c.args.search.now (settled_filters (is_some c.args.order.now) c.in_ok-settle.field-0 c.args.engine.now c.settle.new.self c.in_ok-settle.ensures.ok.settled)
     (fresh_has c.args.engine.now.state c.args.search.now c.store-store.ensures.valid c.requires.users c.requires.fresh)
 
 pub returns-in_err-learned-clause-counts : goal.returns-in_err-learned-clause-counts
@@ -68,20 +80,21 @@ loop-learned-init g c =
     let budget = c.args.budget in
     let s = c.args.engine.now in
     let t = c.settle.new.self in
-    let filters = settled_filters ordered c.in_ok-settle.field-0 s t c.in_ok-settle.ensures.ok in
+    let filters = settled_filters ordered c.in_ok-settle.field-0 s t c.in_ok-settle.ensures.ok.settled in
     let rows = rows_length c.store.result.now t.state.initial c.store.ensures.initial in
     let new = c.in_ok-learned.ensures s.state.initial (sym (c.variables.ensures.count ∙ rows ∙ ap length filters.initial)) in
     record {
-      running = run_starts reasons_right guided ordered tabu budget c.in_ok-settle.field-0 s t c.args.search.now c.in_ok-learned.learned c.store-store.ensures.valid c.requires.users c.requires.fresh c.in_ok-settle.ensures.ok new;
+      by = run_starts_by reasons_right (guiding g) (ordering g) c.args.guide.now c.args.order.now c.settle.new.order tabu budget c.in_ok-settle.field-0 s t c.args.search.now c.in_ok-learned.learned c.store-store.ensures.valid
+          c.requires.users c.requires.fresh c.in_ok-settle.ensures.ok new;
       lent = record { guide = refl; order = c.settle.ensures.stays };
       counts = record { later = c.settle.ensures.asked.later; checks = c.settle.ensures.checks };
     }
 
 pub advance-requires-clause-ready : goal.advance-requires-clause-ready
-advance-requires-clause-ready g c = c.loop-learned.invariant.running.ready
+advance-requires-clause-ready g c = c.loop-learned.invariant.by.running.ready
 
 pub advance-requires-clause-within : goal.advance-requires-clause-within
-advance-requires-clause-within g c = c.loop-learned.invariant.running.turned.within
+advance-requires-clause-within g c = c.loop-learned.invariant.by.running.turned.within
 
 pub loop-learned-preserved : goal.loop-learned-preserved
 loop-learned-preserved g c =
@@ -96,12 +109,13 @@ loop-learned-preserved g c =
     let before = repair_state m.engine.state m.search.decisions m.learned in
     let middle = repair_state taken.engine.state taken.search.decisions taken.learned in
     let after = c.settle-in-loop-learned.new.self in
-    let turn = subst (λ b. Advances b tabu budget before m.search middle taken.search None) so_far.lent.guide
-    (subst (Advances (is_some m.guide) tabu budget before m.search middle taken.search) c.in_default.is c.in_ok-answer.ensures.ok) in
+    let turn = subst (λ b. Advances (guiding g) m.guide taken.guide b tabu budget before m.search middle taken.search None) so_far.lent.guide
+    (subst (Advances (guiding g) m.guide taken.guide (is_some m.guide) tabu budget before m.search middle taken.search) c.in_default.is c.in_ok-answer.ensures.ok) in
     let settle = c.settle-in-loop-learned.ensures in
-    let settled = subst (λ b. HasSettled None b c.in_ok-settle-2.field-0 taken.engine after) so_far.lent.order c.in_ok-settle-2.ensures.ok in
+    let settled = settled_alike (ordering g) ordered c.in_ok-settle-2.field-0 taken.engine after m.order c.settle-in-loop-learned.new.order so_far.lent.order c.in_ok-settle-2.ensures.ok in
     record {
-      running = run_goes_on reasons_right guided ordered tabu budget s.state m.engine.state m.search m.learned taken.learned turn.0 c.in_ok-settle-2.field-0 taken.engine after taken.search so_far.running turn.2 c.advance.ensures.within settled;
+      by = run_goes_on_by reasons_right (guiding g) (ordering g) c.args.guide.now m.guide taken.guide c.args.order.now m.order c.settle-in-loop-learned.new.order tabu budget s.state m.engine.state m.search m.learned taken.learned turn.0
+          c.in_ok-settle-2.field-0 taken.engine after taken.search so_far.by turn.2 c.advance.ensures.within turn.3 settled;
       lent = record { guide = c.advance.ensures.stays ∙ so_far.lent.guide; order = settle.stays ∙ so_far.lent.order };
       counts = counts_then s m.engine taken.engine after c.args.steps.now m.steps c.settle-in-loop-learned.new.steps so_far.counts c.advance.ensures.counts.checks settle.asked.later settle.checks;
     }
@@ -121,7 +135,7 @@ returns-in_err-answer-clause-err g c =
     let before = repair_state m.engine.state m.search.decisions m.learned in
     let middle = repair_state taken.engine.state taken.search.decisions taken.learned in
     let cut = subst (λ b. IsCutTurn b tabu before m.search taken.engine.state taken.search) so_far.lent.guide c.in_err-answer.ensures.err in
-    on_err _ c.from_residual-in_err-answer.result (cut_turn guided ordered tabu budget s.state m.engine.state taken.engine.state m.search taken.search m.learned so_far.running cut c.advance.ensures.within)
+    on_err _ c.from_residual-in_err-answer.result (cut_turn guided ordered tabu budget s.state m.engine.state taken.engine.state m.search taken.search m.learned so_far.by.running cut c.advance.ensures.within)
 
 pub returns-in_err-answer-clause-decisions : goal.returns-in_err-answer-clause-decisions
 returns-in_err-answer-clause-decisions g c = c.advance.ensures.decisions
@@ -150,16 +164,16 @@ returns-in_err-settle-2-clause-err g c =
     let before = repair_state m.engine.state m.search.decisions m.learned in
     let middle = repair_state taken.engine.state taken.search.decisions taken.learned in
     let after = c.settle-in-loop-learned.new.self in
-    let turn = subst (λ b. Advances b tabu budget before m.search middle taken.search None) so_far.lent.guide
-    (subst (Advances (is_some m.guide) tabu budget before m.search middle taken.search) c.in_default.is c.in_ok-answer.ensures.ok) in
-    let cut = subst (λ b. IsInterrupted None b taken.engine after) so_far.lent.order c.in_err-settle-2.ensures.err in
-    on_err _ c.from_residual-in_err-settle-2.result (cut_settling guided ordered tabu budget s.state m.engine.state m.search m.learned taken.learned turn.0 taken.engine after taken.search so_far.running turn.1 turn.2 cut)
+    let turn = subst (λ b. Advances (guiding g) m.guide taken.guide b tabu budget before m.search middle taken.search None) so_far.lent.guide
+    (subst (Advances (guiding g) m.guide taken.guide (is_some m.guide) tabu budget before m.search middle taken.search) c.in_default.is c.in_ok-answer.ensures.ok) in
+    let cut = subst (λ b. IsInterrupted None b taken.engine after) so_far.lent.order c.in_err-settle-2.ensures.err.interrupted in
+    on_err _ c.from_residual-in_err-settle-2.result (cut_settling guided ordered tabu budget s.state m.engine.state m.search m.learned taken.learned turn.0 taken.engine after taken.search so_far.by.running turn.1 turn.2 cut)
 
 pub returns-in_err-settle-2-clause-decisions : goal.returns-in_err-settle-2-clause-decisions
 returns-in_err-settle-2-clause-decisions g c =
     let taken = c.advance.new in
     let after = c.settle-in-loop-learned.new.self in
-    filtered_has taken.engine.state after.state taken.search (interrupted_filters (is_some c.loop-learned.order) taken.engine after c.in_err-settle-2.ensures.err) c.advance.ensures.decisions
+    filtered_has taken.engine.state after.state taken.search (interrupted_filters (is_some c.loop-learned.order) taken.engine after c.in_err-settle-2.ensures.err.interrupted) c.advance.ensures.decisions
 
 pub returns-in_err-settle-2-clause-counts : goal.returns-in_err-settle-2-clause-counts
 returns-in_err-settle-2-clause-counts g c =
@@ -190,9 +204,9 @@ returns-in-Some-clause-ok g c =
     let taken = c.advance.new in
     let before = repair_state m.engine.state m.search.decisions m.learned in
     let middle = repair_state taken.engine.state taken.search.decisions taken.learned in
-    let ends = subst (Advances (is_some m.guide) tabu budget before m.search middle taken.search) c.in-Some.is c.in_ok-answer.ensures.ok in
-    run_ends guided ordered tabu budget s.state m.engine.state taken.engine.state m.search taken.search m.learned taken.learned c.in-Some.answer so_far.running
-    (subst (λ b. Advances b tabu budget before m.search middle taken.search (Some c.in-Some.answer)) so_far.lent.guide ends)
+    let ends = subst (Advances (guiding g) m.guide taken.guide (is_some m.guide) tabu budget before m.search middle taken.search) c.in-Some.is c.in_ok-answer.ensures.ok in
+    run_ends_by (guiding g) (ordering g) c.args.guide.now m.guide taken.guide c.args.order.now m.order tabu budget s.state m.engine.state taken.engine.state m.search taken.search m.learned taken.learned c.in-Some.answer so_far.by
+    (subst (λ b. Advances (guiding g) m.guide taken.guide b tabu budget before m.search middle taken.search (Some c.in-Some.answer)) so_far.lent.guide ends)
 
 pub returns-in-Some-clause-decisions : goal.returns-in-Some-clause-decisions
 returns-in-Some-clause-decisions g c = c.advance.ensures.decisions

@@ -2,5 +2,5 @@ use Rattle.std.proofs.Common.{◌≡◌, take}
 use Rattle.palm_search.specs.Turns.{decided_vars}
 use Rattle.palm_search.proofs.conflict.decided_vars.Given as goal
 
-abbrev pub invariant-loop-name : goal.invariant-loop-name
-invariant-loop-name l = l.vars ≡ decided_vars (take l.name-index l.names)
+abbrev pub invariant-loop-cid : goal.invariant-loop-cid
+invariant-loop-cid l = l.vars ≡ decided_vars (take l.cid-index l.cids)

@@ -4,7 +4,7 @@ use Rattle.palm_base.specs.declared.terms.Pair.{Pair}
 use Rattle.palm_search.proofs.conflict.latest.Given as goal
 
 abbrev pub invariant-loop-place : goal.invariant-loop-place
-invariant-loop-place l = (l.place ≤ length l.decisions) × ((k : ℕ) (p : Pair) → l.place ≤ k → slice_get l.decisions k ≡ Some p → Contains l.names (Decide p.var) → ⊥)
+invariant-loop-place l = (l.place ≤ length l.decisions) × ((k : ℕ) (p : Pair) → l.place ≤ k → slice_get l.decisions k ≡ Some p → Contains l.cids (Decide p.var) → ⊥)
 
 abbrev pub decreases-loop-place : goal.decreases-loop-place
 decreases-loop-place l = l.place

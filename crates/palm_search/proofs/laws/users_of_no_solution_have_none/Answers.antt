@@ -6,6 +6,6 @@ pub returns : goal.returns
 returns c = record {
   unsolved = λ guided ordered budget s t turns users only valid searches a solution.
       run_unsolved s searches.last users (run_ended reasons_right guided ordered budget s turns _ searches.last only valid searches.run) searches.run.ends a solution;
-  active = λ guided ordered budget s t turns users only valid searches name m.
-      run_users s searches.last users (run_ended reasons_right guided ordered budget s turns _ searches.last only valid searches.run) searches.run.ends name m;
+  active = λ guided ordered budget s t turns users only valid searches cid m.
+      run_users s searches.last users (run_ended reasons_right guided ordered budget s turns _ searches.last only valid searches.run) searches.run.ends cid m;
 }

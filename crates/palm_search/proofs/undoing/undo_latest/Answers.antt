@@ -8,13 +8,13 @@ use Rattle.palm_engine.proofs.cited.Results.{on_either}
 use Rattle.palm_model.specs.Domains.{Has}
 use Rattle.palm_model.specs.Event.{Posts, posted}
 use Rattle.palm_model.specs.Log.{IsActive}
-use Rattle.palm_model.specs.State.{AreGrounds, without_cid, negation_of}
+use Rattle.palm_model.specs.State.{AreJustifiers, without_cid, negation_of}
 use Rattle.palm_search.specs.Calls.{search_state}
 use Rattle.palm_search.specs.Kept.{HasDecisions}
 use Rattle.palm_search.specs.Turning.{Hears}
 use Rattle.palm_search.specs.Turning.IsCutUndoing.{cut_within}
 use Rattle.palm_search.specs.Turns.{decided_vars}
-use Rattle.palm_search.proofs.Undone.{latest_at, latest_found, negated_has, removed_is, undone_declared, undone_grounds, undone_inactive, undone_posts, undone_turn}
+use Rattle.palm_search.proofs.Undone.{latest_at, latest_found, negated_has, removed_is, undone_declared, undone_justifiers, undone_inactive, undone_posts, undone_turn}
 use Rattle.palm_search.proofs.undoing.undo_latest.Goals as goal
 
 -- ---- the latest decision
@@ -70,18 +70,18 @@ forbid-requires-clause-declared g c =
     subst (λ (p : Pair). Has c.undo.new.engine.state.initial p.var p.value) same
     (undone_declared c.args.conflict.now place c.args.engine.now.state c.undo.new.engine.state before c.undo.new.self back c.requires.between.searching.declared)
 
-pub forbid-requires-clause-grounds : goal.forbid-requires-clause-grounds
-forbid-requires-clause-grounds g c =
+pub forbid-requires-clause-justifiers : goal.forbid-requires-clause-justifiers
+forbid-requires-clause-justifiers g c =
     let conflict = c.args.conflict.now in
     let before = c.args.search.now in
     let place = c.unwrap-place.result in
     let gone = c.index-decisions-place.result in
     let back = c.in_ok-undo.ensures.ok in
     let same = removed_is before.decisions place back.gone gone back.stood (c.index-decisions-place.is ∙ ap (λ l. get_or l place gone) c.decisions-2.ensures) in
-    let rest : c.as_slice-5.result.now ≡ without_cid (Decide gone.var) conflict = c.as_slice-5.ensures ∙ c.in_ok-rest.ensures ∙ ap (without_cid (Decide gone.var)) c.as_slice-2.ensures in
+    let rest : c.as_slice-4.result.now ≡ without_cid (Decide gone.var) conflict = c.as_slice-4.ensures ∙ c.in_ok-rest.ensures ∙ ap (without_cid (Decide gone.var)) c.as_slice-2.ensures in
     let active = c.undo.new.engine.state.active in
-    subst (AreGrounds active) (sym rest) (subst (λ (p : Pair). AreGrounds active (without_cid (Decide p.var) conflict)) same
-    (undone_grounds conflict place c.args.engine.now.state c.undo.new.engine.state before c.undo.new.self back c.requires.between.searching.valid c.requires.flat))
+    subst (AreJustifiers active) (sym rest) (subst (λ (p : Pair). AreJustifiers active (without_cid (Decide p.var) conflict)) same
+    (undone_justifiers conflict place c.args.engine.now.state c.undo.new.engine.state before c.undo.new.self back c.requires.between.searching.valid c.requires.flat))
 
 -- ---- the turn
 
@@ -97,7 +97,7 @@ returns-clause-ok g c =
     let gone = c.index-decisions-place.result in
     let back = c.in_ok-undo.ensures.ok in
     let same = removed_is before.decisions place back.gone gone back.stood (c.index-decisions-place.is ∙ ap (λ l. get_or l place gone) c.decisions-2.ensures) in
-    let rest : c.as_slice-5.result.now ≡ without_cid (Decide gone.var) conflict = c.as_slice-5.ensures ∙ c.in_ok-rest.ensures ∙ ap (without_cid (Decide gone.var)) c.as_slice-2.ensures in
+    let rest : c.as_slice-4.result.now ≡ without_cid (Decide gone.var) conflict = c.as_slice-4.ensures ∙ c.in_ok-rest.ensures ∙ ap (without_cid (Decide gone.var)) c.as_slice-2.ensures in
     let latest = latest_at c.latest.result place _ _ _ _ c.decisions.ensures c.as_slice.ensures c.unwrap-place.ensures c.latest.ensures in
     on_ok_weaker c.forbid.result (λ posts. (
       back.gone,
@@ -110,13 +110,7 @@ returns-clause-ok g c =
 
 pub returns-clause-told : goal.returns-clause-told
 returns-clause-told g c =
-    let back = c.in_ok-undo.ensures.ok in
-    on_ok_weaker c.forbid.result (λ posts. record {
-      gone = back.gone;
-      conflict = c.args.conflict.now;
-      journal = back.journal;
-      told = subst (λ l. Hears g.G.Guide.hears g.G.Guide.state l c.args.guide.now c.tell.new.guide) (c.as_slice-4.ensures ∙ c.in_ok-vars.ensures ∙ ap decided_vars c.as_slice-3.ensures) c.tell.ensures;
-    }) c.forbid.ensures.ok
+    on_ok_weaker c.forbid.result (λ posts. subst (λ l. Hears g.G.Guide.hears g.G.Guide.state (decided_vars l) c.args.guide.now c.tell_decided.new.guide) c.as_slice-3.ensures c.in_ok-tell_decided.ensures.ok) c.forbid.ensures.ok
 
 pub returns-clause-err : goal.returns-clause-err
 returns-clause-err g c =
@@ -140,7 +134,7 @@ returns-clause-decisions g c =
     let t = c.forbid.new.self.state in
     let after = c.undo.new.self in
     let gone = c.index-decisions-place.result in
-    let rest = c.as_slice-5.result.now in
+    let rest = c.as_slice-4.result.now in
     let has = c.in_ok-undo.ensures.decisions in
     on_either c.forbid.result (Posts m (negation_of gone rest) t) (c.forbid.new.self ≡ c.undo.new.engine) (HasDecisions (search_state t after)) c.forbid.ensures.ok c.forbid.ensures.err
     (λ posts. negated_has m t after gone rest posts has)

@@ -22,7 +22,7 @@ pub returns-in-Log : goal.returns-in-Log
 returns-in-Log g c = rw c.in-Log.is c.write_log.ensures
 
 pub returns-in-Users : goal.returns-in-Users
-returns-in-Users g c = rw c.in-Users.is (rw c.book-in-Users.ensures at c.write_names.ensures)
+returns-in-Users g c = rw c.in-Users.is (rw c.book-in-Users.ensures at c.write_users.ensures)
 
 pub returns-in-Certificate : goal.returns-in-Certificate
 returns-in-Certificate g c = rw c.in-Certificate.is c.write_certificate.ensures

@@ -2,7 +2,7 @@ use Rattle.std.proofs.Common.{◌<◌, ◌∙◌, List, All, length, sym, subst}
 use Rattle.palm_base.specs.declared.terms.Pair.{Pair}
 use Rattle.palm_lang.proofs.cited.Writes.{writes_text}
 use Rattle.palm_session.proofs.Logging.{line_at, numbered_user, reasons_at_place, user_at_place, variable_at}
-use Rattle.palm_session.proofs.Users.{user_numbered}
+use Rattle.palm_cert.proofs.cited.Logged.{user_numbered}
 use Rattle.palm_session.proofs.deliver.write_removal.Goals as goal
 
 pub number_of-by-requires : goal.number_of-by-requires

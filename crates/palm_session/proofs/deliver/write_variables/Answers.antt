@@ -1,7 +1,7 @@
 use Rattle.std.proofs.Common.{◌<◌, ◌≤◌, List, ap, flat_map, length, arith, []}
 use Rattle.std.proofs.lemmas.List.{take_all}
 use Rattle.std.proofs.lemmas.Result.{err_from_is_err_and}
-use Rattle.palm_book.specs.Book.{Entry}
+use Rattle.palm_book.specs.Book.{BookVar}
 use Rattle.palm_lang.specs.Reply.{var_line}
 use Rattle.palm_lang.proofs.cited.Writes.{writes_text, writes_then, writes_within}
 use Rattle.palm_session.proofs.Delivering.{flat_split, flat_step}
@@ -30,4 +30,4 @@ write_var-requires-clause-values g c =
 pub returns : goal.returns
 returns g c =
     let all : length c.args.book.now.variables ≤ c.loop-index.index = omega (arith, c.loop-index-test.false, c.variables-index-end.ensures.count) in
-    writes_text _ _ _ _ _ (ap (λ (es : List Entry). flat_map (λ e. var_line e.name e.values) es) (take_all _ _ all)) c.loop-index.invariant
+    writes_text _ _ _ _ _ (ap (λ (es : List BookVar). flat_map (λ e. var_line e.name e.values) es) (take_all _ _ all)) c.loop-index.invariant

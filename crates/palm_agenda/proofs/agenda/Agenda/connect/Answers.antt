@@ -7,21 +7,21 @@ use Rattle.palm_agenda.proofs.agenda.Agenda.connect.Goals.{After-insert_over}
 
 pub invariant_of-self : goal.invariant_of-self
 invariant_of-self c =
-    grown_after c.self.inside.connections.items c.self.inside.over.items c.make_room_for.new.over.items c.self.inside.pending.flags c.make_room_for.new.pending.flags _ _ c.self.invariant c.make_room_for.ensures.names c.make_room_for.ensures.flags c.make_room_for.ensures.grows
+    grown_after c.self.inside.connections.items c.self.inside.over.items c.make_room_for.new.over.items c.self.inside.pending.flags c.make_room_for.new.pending.flags _ _ c.self.invariant c.make_room_for.ensures.cids c.make_room_for.ensures.flags c.make_room_for.ensures.grows
 
 pub invariant_of-self-in_err-connection : goal.invariant_of-self-in_err-connection
 invariant_of-self-in_err-connection c =
-    grown_after c.self.inside.connections.items c.self.inside.over.items c.make_room_for.new.over.items c.self.inside.pending.flags c.make_room_for.new.pending.flags _ _ c.self.invariant c.make_room_for.ensures.names c.make_room_for.ensures.flags c.make_room_for.ensures.grows
+    grown_after c.self.inside.connections.items c.self.inside.over.items c.make_room_for.new.over.items c.self.inside.pending.flags c.make_room_for.new.pending.flags _ _ c.self.invariant c.make_room_for.ensures.cids c.make_room_for.ensures.flags c.make_room_for.ensures.grows
 
 pub invariant_of-self-in_err-insert : goal.invariant_of-self-in_err-insert
 invariant_of-self-in_err-insert c =
     rw c.in_err-insert.ensures.items
-    (grown_after c.self.inside.connections.items c.self.inside.over.items c.make_room_for.new.over.items c.self.inside.pending.flags c.make_room_for.new.pending.flags _ _ c.self.invariant c.make_room_for.ensures.names c.make_room_for.ensures.flags c.make_room_for.ensures.grows)
+    (grown_after c.self.inside.connections.items c.self.inside.over.items c.make_room_for.new.over.items c.self.inside.pending.flags c.make_room_for.new.pending.flags _ _ c.self.invariant c.make_room_for.ensures.cids c.make_room_for.ensures.flags c.make_room_for.ensures.grows)
 
 is_inserted : (c : After-insert_over) → c.insert.new.self.items ≡ insert c.self.inside.connections.items c.place_of-place.result (marked_whole c.args.cid c.args.scope.now)
 is_inserted c =
     c.in_ok-insert.ensures.items
-    ∙ ap (insert c.self.inside.connections.items c.place_of-place.result) (c.in_ok-connection.ensures ∙ ap (λ cid. marked_whole cid c.args.scope.now) c.copy_of.ensures)
+    ∙ ap (insert c.self.inside.connections.items c.place_of-place.result) (c.in_ok-connection.ensures ∙ ap (λ cid. marked_whole cid c.args.scope.now) c.copy.ensures)
 
 is_absent : (c : After-insert_over) → IsConnected c.self.inside.connections.items c.args.cid → ⊥
 is_absent c is = c.requires (subst (λ (w : Waiting). IsConnected w.connected c.args.cid) c.self.view_is is)
@@ -29,7 +29,7 @@ is_absent c is = c.requires (subst (λ (w : Waiting). IsConnected w.connected c.
 pub invariant_of-self-2 : goal.invariant_of-self-2
 invariant_of-self-2 c =
     connected_after c.self.inside.connections.items c.make_room_for.new.over.items c.insert_over.new.over.items c.make_room_for.new.pending.flags c.insert-2.new.self.flags _ _ c.args.cid c.args.scope.now c.place_of-place.result
-    (grown_after c.self.inside.connections.items c.self.inside.over.items c.make_room_for.new.over.items c.self.inside.pending.flags c.make_room_for.new.pending.flags _ (vec_capacity c.make_room_for.new.shown) c.self.invariant c.make_room_for.ensures.names c.make_room_for.ensures.flags c.make_room_for.ensures.grows)
+    (grown_after c.self.inside.connections.items c.self.inside.over.items c.make_room_for.new.over.items c.self.inside.pending.flags c.make_room_for.new.pending.flags _ (vec_capacity c.make_room_for.new.shown) c.self.invariant c.make_room_for.ensures.cids c.make_room_for.ensures.flags c.make_room_for.ensures.grows)
     (parted_in c.deref.result.now c.self.inside.connections.items c.args.cid c.place_of-place.result c.deref.ensures.value c.place_of-place.ensures) (is_absent c)
     c.insert.new.self.items (is_inserted c) c.insert_over.ensures c.insert-2.ensures (omega (arith, c.in_ok-make_room_for.ensures.shown, c.len-count.ensures, c.self.inside.connections.ok.0))
 

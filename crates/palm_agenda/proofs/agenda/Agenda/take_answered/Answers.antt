@@ -1,5 +1,5 @@
 use Rattle.std.proofs.Common.{◌≡◌, ◌∙◌, [], ap, arith, false, length, refl, subst}
-use Rattle.palm_agenda.specs.Agenda.{Takes, Waiting, index_within, names_of}
+use Rattle.palm_agenda.specs.Agenda.{Takes, Waiting, index_within, connected_cids}
 use Rattle.palm_agenda.specs.Flags.{flagged}
 use Rattle.palm_agenda.proofs.cited.Connecting.{parted_in}
 use Rattle.palm_agenda.proofs.cited.Keeping.{answered_taken, lowered_at, no_pending, place_within, set_after, shown_connected, some_pending}
@@ -17,11 +17,11 @@ pub chosen-cid-requires : goal.chosen-cid-requires
 chosen-cid-requires g c = λ none.
     some_pending c.self.inside.connections.items c.self.inside.over.items c.self.inside.pending.flags _ c.self.invariant c.is_empty.result c.is_empty.ensures c.if-is_empty.false
     c.deref-3.result.now
-    (c.deref-3.ensures.value ∙ c.show.ensures.names ∙ ap (λ ds. flagged (names_of ds) c.as_slice.result.now) c.deref.ensures.value ∙ ap (flagged (names_of c.self.inside.connections.items)) c.as_slice.ensures) none
+    (c.deref-3.ensures.value ∙ c.show.ensures.cids ∙ ap (λ ds. flagged (connected_cids ds) c.as_slice.result.now) c.deref.ensures.value ∙ ap (flagged (connected_cids c.self.inside.connections.items)) c.as_slice.ensures) none
 
 pub lower-requires : goal.lower-requires
 lower-requires g c =
-    let shows = c.show.ensures.names ∙ ap (λ ds. flagged (names_of ds) c.as_slice.result.now) c.deref.ensures.value ∙ ap (flagged (names_of c.self.inside.connections.items)) c.as_slice.ensures in
+    let shows = c.show.ensures.cids ∙ ap (λ ds. flagged (connected_cids ds) c.as_slice.result.now) c.deref.ensures.value ∙ ap (flagged (connected_cids c.self.inside.connections.items)) c.as_slice.ensures in
     let within = place_within c.self.inside.connections.items c.self.invariant.formed.rising c.chosen-cid.result c.place_of-place.result
     (parted_in c.deref-4.result.now c.self.inside.connections.items c.chosen-cid.result c.place_of-place.result c.deref-4.ensures.value c.place_of-place.ensures)
     (shown_connected c.self.inside.connections.items c.self.inside.over.items c.self.inside.pending.flags _ c.self.invariant c.show.new.shown.items c.deref-3.result.now shows c.deref-3.ensures.value
@@ -35,9 +35,9 @@ invariant_of-self g c =
 
 pub returns-clause-some : goal.returns-clause-some
 returns-clause-some g c =
-    let shows = c.show.ensures.names ∙ ap (λ ds. flagged (names_of ds) c.as_slice.result.now) c.deref.ensures.value ∙ ap (flagged (names_of c.self.inside.connections.items)) c.as_slice.ensures in (
+    let shows = c.show.ensures.cids ∙ ap (λ ds. flagged (connected_cids ds) c.as_slice.result.now) c.deref.ensures.value ∙ ap (flagged (connected_cids c.self.inside.connections.items)) c.as_slice.ensures in (
       c.next-answer.result,
-      subst (λ (w : Waiting). Takes w.pending (flagged (names_of c.self.inside.connections.items) c.lower.new.self.flags) c.next-answer.result c.chosen-cid.result) c.self.view_is
+      subst (λ (w : Waiting). Takes w.pending (flagged (connected_cids c.self.inside.connections.items) c.lower.new.self.flags) c.next-answer.result c.chosen-cid.result) c.self.view_is
           (answered_taken c.self.inside.connections.items c.self.inside.over.items c.self.inside.pending.flags c.lower.new.self.flags _ c.self.invariant c.show.new.shown.items c.deref-3.result.now shows c.deref-3.ensures.value
           c.next-answer.result c.chosen-cid.result c.chosen-cid.ensures
           (lowered_at c.self.inside.connections.items c.self.invariant.formed.rising c.chosen-cid.result c.place_of-place.result

@@ -1,6 +1,6 @@
 use Rattle.std.proofs.Common.{◌≡◌, ◌∙◌, List, [], ap, arith, false, length, subst, true}
 use Rattle.std.proofs.lemmas.Option.{slice_get_within}
-use Rattle.palm_agenda.specs.Agenda.{Connected, Waiting, names_of}
+use Rattle.palm_agenda.specs.Agenda.{Connected, Waiting, connected_cids}
 use Rattle.palm_agenda.specs.Flags.{FlagRow, flagged}
 use Rattle.palm_agenda.proofs.cited.Keeping.{first_taken, given_none, none_pending, set_after}
 use Rattle.palm_agenda.proofs.agenda.Agenda.take_first.Goals as goal
@@ -9,10 +9,10 @@ pub returns-in_err-place-clause-none : goal.returns-in_err-place-clause-none
 returns-in_err-place-clause-none c =
     given_none _
     (subst (λ (w : Waiting). w.pending ≡ []) c.self.view_is (none_pending c.self.inside.connections.items c.self.inside.over.items c.self.inside.pending.flags _ c.self.invariant c.in_err-place.ensures.0))
-    (ap (λ (f : FlagRow). record { connected = c.self.inside.connections.items; pending = flagged (names_of c.self.inside.connections.items) f.flags }) c.in_err-place.ensures.1 ∙ c.self.view_is)
+    (ap (λ (f : FlagRow). record { connected = c.self.inside.connections.items; pending = flagged (connected_cids c.self.inside.connections.items) f.flags }) c.in_err-place.ensures.1 ∙ c.self.view_is)
 
-pub name_at-requires : goal.name_at-requires
-name_at-requires c =
+pub cid_at-requires : goal.cid_at-requires
+cid_at-requires c =
     let within = slice_get_within c.self.inside.pending.flags c.in_ok-place.place true c.in_ok-place.ensures.0.raised in
     let same = c.self.invariant.flag_each in
     let many = ap (λ (ds : List Connected). length ds) c.deref.ensures.value in
@@ -26,4 +26,4 @@ pub returns-clause-some : goal.returns-clause-some
 returns-clause-some c =
     rw (← c.self.view_is)
     (first_taken c.self.inside.connections.items c.self.inside.over.items c.self.inside.pending.flags c.lower_first.new.self.flags _ c.self.invariant c.in_ok-place.place c.in_ok-place.ensures.0 c.in_ok-place.ensures.1
-    c.deref.result.now c.deref.ensures.value c.name_at.result c.name_at.ensures)
+    c.deref.result.now c.deref.ensures.value c.cid_at.result c.cid_at.ensures)

@@ -1,7 +1,7 @@
 use Rattle.std.proofs.Common.{◌∙◌, ap}
-use Rattle.palm_agenda.specs.Agenda.{changed_at, names_of, unmarked}
+use Rattle.palm_agenda.specs.Agenda.{changed_at, connected_cids, unmarked}
 use Rattle.palm_agenda.specs.Flags.{flagged}
-use Rattle.palm_agenda.proofs.cited.Keeping.{keeps_at, keeps_unmarked, kept_after, names_kept}
+use Rattle.palm_agenda.proofs.cited.Keeping.{keeps_at, keeps_unmarked, kept_after, cids_kept}
 use Rattle.palm_agenda.proofs.agenda.Agenda.unmark.Goals as goal
 
 pub invariant_of-self : goal.invariant_of-self
@@ -12,5 +12,5 @@ invariant_of-self c =
 pub returns-clause-pending : goal.returns-clause-pending
 returns-clause-pending c =
     rw (← c.self.view_is)
-    (ap (λ ds. flagged (names_of ds) c.self.inside.pending.flags) c.unmark_named.ensures
-    ∙ ap (λ names. flagged names c.self.inside.pending.flags) (names_kept (changed_at c.args.cid (unmarked c.args.place)) (keeps_at c.args.cid (unmarked c.args.place) (keeps_unmarked c.args.place)) c.self.inside.connections.items))
+    (ap (λ ds. flagged (connected_cids ds) c.self.inside.pending.flags) c.unmark_named.ensures
+    ∙ ap (λ cids. flagged cids c.self.inside.pending.flags) (cids_kept (changed_at c.args.cid (unmarked c.args.place)) (keeps_at c.args.cid (unmarked c.args.place) (keeps_unmarked c.args.place)) c.self.inside.connections.items))

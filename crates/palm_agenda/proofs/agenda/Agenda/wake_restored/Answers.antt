@@ -1,33 +1,33 @@
 use Rattle.std.proofs.Common.{◌∙◌, ap, reverse}
-use Rattle.palm_agenda.specs.Agenda.{names_of}
+use Rattle.palm_agenda.specs.Agenda.{connected_cids}
 use Rattle.palm_agenda.specs.Flags.{flagged}
-use Rattle.palm_agenda.specs.Names.{names_at}
+use Rattle.palm_agenda.specs.Cids.{cids_at}
 use Rattle.palm_agenda.specs.declared.connection.Places.TheVariants.{Own}
-use Rattle.palm_agenda.proofs.cited.Keeping.{names_are_over, woken_after, woken_connected, woken_pending}
+use Rattle.palm_agenda.proofs.cited.Keeping.{cids_are_over, woken_after, woken_connected, woken_pending}
 use Rattle.palm_agenda.proofs.agenda.Agenda.wake_restored.Goals as goal
 
 pub wake_each-requires-clause-over : goal.wake_each-requires-clause-over
 wake_each-requires-clause-over c k m =
-    (names_are_over c.args.var c.names_over-names.result.now c.self.inside.connections.items c.self.inside.over.items c.self.inside.pending.flags _ c.self.invariant
-    (c.names_over-names.ensures ∙ ap (λ rows. reverse (names_at rows c.args.var)) c.deref.ensures.value) k).0 m
+    (cids_are_over c.args.var c.cids_over-cids.result.now c.self.inside.connections.items c.self.inside.over.items c.self.inside.pending.flags _ c.self.invariant
+    (c.cids_over-cids.ensures ∙ ap (λ rows. reverse (cids_at rows c.args.var)) c.deref.ensures.value) k).0 m
 
 pub invariant_of-self : goal.invariant_of-self
 invariant_of-self c =
-    woken_after Own c.args.var c.names_over-names.result.now c.self.inside.connections.items c.self.inside.over.items c.self.inside.pending.flags c.wake_each.new.pending.flags _ c.self.invariant
+    woken_after Own c.args.var c.cids_over-cids.result.now c.self.inside.connections.items c.self.inside.over.items c.self.inside.pending.flags c.wake_each.new.pending.flags _ c.self.invariant
     c.wake_each.ensures.flags c.wake_each.new.connections.items c.wake_each.ensures.marks
 
 pub returns-clause-connected : goal.returns-clause-connected
 returns-clause-connected c =
     rw (← c.self.view_is)
-    (woken_connected Own c.args.var c.names_over-names.result.now c.self.inside.connections.items c.self.inside.over.items c.self.inside.pending.flags _ c.self.invariant
-    (c.names_over-names.ensures ∙ ap (λ rows. reverse (names_at rows c.args.var)) c.deref.ensures.value) c.wake_each.new.connections.items c.wake_each.ensures.marks)
+    (woken_connected Own c.args.var c.cids_over-cids.result.now c.self.inside.connections.items c.self.inside.over.items c.self.inside.pending.flags _ c.self.invariant
+    (c.cids_over-cids.ensures ∙ ap (λ rows. reverse (cids_at rows c.args.var)) c.deref.ensures.value) c.wake_each.new.connections.items c.wake_each.ensures.marks)
 
 pub returns-clause-pending : goal.returns-clause-pending
 returns-clause-pending c =
     rw (← c.self.view_is)
-    (woken_pending c.args.var c.names_over-names.result.now c.self.inside.connections.items c.self.inside.over.items c.self.inside.pending.flags _ c.self.invariant
-    (c.names_over-names.ensures ∙ ap (λ rows. reverse (names_at rows c.args.var)) c.deref.ensures.value)
-    (flagged (names_of c.self.inside.connections.items) c.self.inside.pending.flags) (flagged (names_of c.wake_each.new.connections.items) c.wake_each.new.pending.flags) c.wake_each.ensures.pending)
+    (woken_pending c.args.var c.cids_over-cids.result.now c.self.inside.connections.items c.self.inside.over.items c.self.inside.pending.flags _ c.self.invariant
+    (c.cids_over-cids.ensures ∙ ap (λ rows. reverse (cids_at rows c.args.var)) c.deref.ensures.value)
+    (flagged (connected_cids c.self.inside.connections.items) c.self.inside.pending.flags) (flagged (connected_cids c.wake_each.new.connections.items) c.wake_each.new.pending.flags) c.wake_each.ensures.pending)
 
 pub returns-clause-formed : goal.returns-clause-formed
 returns-clause-formed c = (invariant_of-self c).formed

@@ -10,8 +10,8 @@ use Rattle.palm_check.specs.Kept.{draft_of}
 use Rattle.palm_check.proofs.Hearing.{without_cause}
 use Rattle.palm_check.proofs.checker.Checker.claim_conflict.Goals as goal
 
-pub returns-clause-hears : goal.returns-clause-hears
-returns-clause-hears c =
+pub returns-clause-takes : goal.returns-clause-takes
+returns-clause-takes c =
     let book = c.args.self.now.listed.book in
     let x = c.in-Some.var in
     let is : IsVariable book.variables c.args.name.now x = record { declared = c.in-Some.ensures.found.0; named = c.in-Some.ensures.found.1 } in (

@@ -8,8 +8,8 @@ use Rattle.palm_claim.specs.declared.statement.Statement.TheVariants.{Constraint
 use Rattle.palm_check.proofs.checker.Checker.list.Goals as goal
 use Rattle.palm_check.proofs.checker.Checker.list.Goals.{then-is_beyond-via-then-is_beyond, then-is_beyond-via-else-is_beyond+then-constraints-ge-MOST_CONSTRAINTS}
 
-pub returns-then-is_beyond-clause-hears : goal.returns-then-is_beyond-clause-hears
-returns-then-is_beyond-clause-hears c =
+pub returns-then-is_beyond-clause-takes : goal.returns-then-is_beyond-clause-takes
+returns-then-is_beyond-clause-takes c =
     first_beyond (draft_of c.args.self.now) (Constraint c.args.name c.args.shape) c.requires.stands
     (λ m. elim m [ inl h ↦ c.if-has_constraint.ensures h | inr u ↦ known c.args.self.now.listed.book.variables c.args.shape c.in-Ok.con c.in-Ok.ensures.says u ])
     (elim c.then-is_beyond.branch [
@@ -22,8 +22,8 @@ add_constraint-requires-clause-formed c =
     let within = tells_false (IsBeyondAlone (Constraint c.args.name c.args.shape)) c.args.is_beyond c.requires.beyond c.if-is_beyond.false in
     well_formed c.args.self.now.listed.book.variables c.args.shape c.in-Ok.con c.in-Ok.ensures.says c.requires.sound.1 c.requires.sound.2 (λ h. within (inl h)) (λ h. within (inr h))
 
-pub returns-clause-hears : goal.returns-clause-hears
-returns-clause-hears c =
+pub returns-clause-takes : goal.returns-clause-takes
+returns-clause-takes c =
     let within = tells_false (IsBeyondAlone (Constraint c.args.name c.args.shape)) c.args.is_beyond c.requires.beyond c.if-is_beyond.false in (
       without_cause (draft_of c.args.self.now) (Constraint c.args.name c.args.shape) c.requires.stands
           (λ m. elim m [ inl h ↦ c.if-has_constraint.ensures h | inr u ↦ known c.args.self.now.listed.book.variables c.args.shape c.in-Ok.con c.in-Ok.ensures.says u ])

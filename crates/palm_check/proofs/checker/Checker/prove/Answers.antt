@@ -13,16 +13,16 @@ use Rattle.palm_check.proofs.Hearing.{constraint_known, first_not_right, first_u
 use Rattle.palm_check.proofs.Keeping.{keeps_step, proving}
 use Rattle.palm_check.proofs.checker.Checker.prove.Goals as goal
 
-pub returns-then-not-are_proved-clause-hears : goal.returns-then-not-are_proved-clause-hears
-returns-then-not-are_proved-clause-hears c =
+pub returns-then-not-are_proved-clause-takes : goal.returns-then-not-are_proved-clause-takes
+returns-then-not-are_proved-clause-takes c =
     let book = c.args.self.now.listed.book in
     let at = found_at book.constraints c.in-Some-constraint_named.place c.args.by.now c.in-Some-constraint_named.ensures.found.0 c.in-Some-constraint_named.ensures.found.1 in
     first_unproved (draft_of c.args.self.now) (Step c.args.name.now c.args.value c.args.by.now c.args.reasons.now) c.requires.stands
     (λ m. elim m [ inl h ↦ h (pair_declared book c.args.name.now c.args.value c.in-Some.pair c.in-Some.ensures.pair c.in-Some.ensures.declared) | inr h ↦ h (constraint_known book.constraints c.in-Some-constraint_named.place c.args.by.now at.0 at.1 at.2) ])
     (λ h. h) (some_late c.args.self.now.proved.items c.args.reasons.now c.if-not-are_proved.ensures)
 
-pub returns-then-not-branch-clause-hears : goal.returns-then-not-branch-clause-hears
-returns-then-not-branch-clause-hears c =
+pub returns-then-not-branch-clause-takes : goal.returns-then-not-branch-clause-takes
+returns-then-not-branch-clause-takes c =
     let book = c.args.self.now.listed.book in
     let proved = c.args.self.now.proved.items in
     let by = c.args.by.now in
@@ -40,8 +40,8 @@ returns-then-not-branch-clause-hears c =
           (lacks_at book proved p by reasons place at.0 c.requires.kept.lists.formed.different_constraints at.1 at.2 right),
     )
 
-pub returns-clause-hears : goal.returns-clause-hears
-returns-clause-hears c =
+pub returns-clause-takes : goal.returns-clause-takes
+returns-clause-takes c =
     let book = c.args.self.now.listed.book in
     let proved = c.args.self.now.proved.items in
     let by = c.args.by.now in

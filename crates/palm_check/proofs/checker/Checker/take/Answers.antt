@@ -18,4 +18,4 @@ hear-requires-clause-sound c =
 pub returns-clause-takes : goal.returns-clause-takes
 returns-clause-takes c =
     let says = subst (SaysOrNot c.args.line.now) c.in-Some.is c.in_ok-statement.ensures.says in
-    takes_all (draft_of c.args.self.now) (draft_of c.hear.new.self) c.args.line.now c.in-Some.field-0.statement c.hear.result says c.hear.ensures.hears
+    takes_all (draft_of c.args.self.now) (draft_of c.hear.new.self) c.args.line.now c.in-Some.field-0.statement c.hear.result says c.hear.ensures.takes

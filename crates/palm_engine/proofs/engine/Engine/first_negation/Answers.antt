@@ -1,6 +1,6 @@
 use Rattle.std.proofs.Common.{◌≤◌, ◌∙◌, Some, length, slice_get, sym, ap, subst}
 use Rattle.std.proofs.lemmas.Option.{slice_get-get_or}
-use Rattle.palm_agenda.specs.Names.{IsPartedAt}
+use Rattle.palm_base.specs.Order.{IsPartedAt}
 use Rattle.palm_engine.specs.Posted.{is_decision}
 use Rattle.palm_engine.proofs.Placing.{negation_first, negation_past}
 use Rattle.palm_engine.proofs.engine.Engine.first_negation.Goals as goal

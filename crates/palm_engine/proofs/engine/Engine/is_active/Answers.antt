@@ -1,6 +1,7 @@
 use Rattle.std.proofs.Common.{◌≡◌, ◌≤◌, ◌∙◌, Contains, Some, length, slice_get, sym, ap, subst}
 use Rattle.std.proofs.lemmas.Option.{slice_get-get_or}
-use Rattle.palm_model.specs.Log.{Active, same_cid}
+use Rattle.palm_base.specs.Order.{same_cid}
+use Rattle.palm_model.specs.Log.{Active}
 use Rattle.palm_engine.specs.Posted.{active_of, actives_of}
 use Rattle.palm_engine.proofs.Placing.{active_tells, none_active}
 use Rattle.palm_engine.proofs.engine.Engine.is_active.Goals as goal

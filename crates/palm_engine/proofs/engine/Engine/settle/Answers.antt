@@ -1,15 +1,17 @@
-use Rattle.std.proofs.Common.{◌≡◌, ℕ, ◌+◌, ◌-◌, ◌≤◌, min, Bool, Result, IfOk, OnErr, ◌∷◌, [], is_some, refl, sym, ap, ◌∙◌, subst, arith}
+use Rattle.std.proofs.Common.{◌≡◌, ℕ, ◌+◌, ◌-◌, ◌≤◌, min, Bool, List, Option, Result, IfOk, OnErr, ◌∷◌, [], is_some, refl, sym, ap, ◌∙◌, subst, arith}
 use Rattle.palm_base.specs.declared.errors.NoMemory.{NoMemory}
 use Rattle.palm_base.specs.declared.limits.TheConstants.{LAST_COUNT}
+use Rattle.palm_base.specs.declared.terms.Cid.{Cid}
 use Rattle.palm_model.specs.State.{EngineState}
 use Rattle.palm_engine.specs.declared.filtering.Filtering.{Filtering}
-use Rattle.palm_engine.specs.Engine.{View, HasAsked, IsInterrupted}
-use Rattle.palm_engine.specs.Kept.{IsKept, state_of, state_in_revision}
+use Rattle.palm_engine.specs.Engine.{View, HasAsked}
+use Rattle.palm_engine.specs.Following.{Hearing, IsInterruptedBy, OrderAnswers, OrderFollows}
+use Rattle.palm_engine.specs.Kept.{IsInStep, state_of, state_in_revision}
 use Rattle.palm_engine.specs.Posted.{actives_of}
 use Rattle.palm_engine.specs.Revising.{HasCounted, HasPartlyRevised, HasRevised, IsTaken, TakesNext, TakesNone}
 use Rattle.palm_engine.specs.Work.{named_sizes}
 use Rattle.palm_engine.proofs.Progress.{on_err_of}
-use Rattle.palm_engine.proofs.Running.{HasRun, HasTried, run_start, run_more, run_falls, run_settled, run_asked, run_stopped, taken_is, stopped_engine, stopped_asked, tried_checks}
+use Rattle.palm_engine.proofs.Running.{HasRunBy, HasTried, run_start, run_more, run_falls, run_settled, run_asked, run_stopped, taken_is, stopped_engine, stopped_asked, tried_checks}
 use Rattle.palm_engine.proofs.engine.Engine.settle.Given as given
 use Rattle.palm_engine.proofs.engine.Engine.settle.Goals as goal
 use Rattle.palm_engine.proofs.engine.Engine.settle.Goals.{After-take_next, After-run_revision-removed, In_err-removed, In_ok-removed, In_default}
@@ -20,8 +22,25 @@ seen g c =
     sym (ap (λ (v : View). v.state) c.self.view_is)
     ∙ ap (λ ys. state_of c.self.inside.filtering (actives_of g.F.Filter.meaning ys)) (sym (ap (λ p. p.items) c.loop-cid.invariant.same))
 
+-- the order's own relations
+abbrev answering : (g : given.Over) → List Cid → ℕ → Option g.row.O.Denot → Option g.row.O.Denot → Type 0
+answering g = OrderAnswers g.O.Order.answers g.O.Order.state
+
+abbrev following : (g : given.Over) → Hearing → Option g.row.O.Denot → Option g.row.O.Denot → Type 0
+following g = OrderFollows g.O.Order.answers g.O.Order.hears g.O.Order.state
+
+-- the constraint that was taken, and what the order was asked for it
+abbrev taking : (g : given.Over) (c : After-run_revision-removed g)
+    → (takes : TakesNext c.args.limit (is_some c.args.order.now) c.loop-cid.self-inside.revisions c.loop-cid.self-inside.filtering c.take_next.new.filtering c.in-Some.cid)
+    × answering g c.loop-cid.self-inside.filtering.agenda.pending takes.answer c.loop-cid.order c.take_next.new.order
+taking g c =
+    let now = c.loop-cid.self-inside.filtering in
+    let after = c.take_next.new.filtering in
+    subst (λ (o : Bool). (takes : TakesNext c.args.limit o c.loop-cid.self-inside.revisions now after c.in-Some.cid) × answering g now.agenda.pending takes.answer c.loop-cid.order c.take_next.new.order)
+    c.loop-cid.invariant.stays c.in-Some.ensures.some
+
 -- after the call that revises the constraint that was taken
-tried : (g : given.Over) (c : After-run_revision-removed g) → HasTried c.args.limit (is_some c.args.order.now) (actives_of g.F.Filter.meaning c.loop-cid.self-inside.posted.items) c.self.inside.filtering c.loop-cid.self-inside.filtering
+abbrev tried : (g : given.Over) (c : After-run_revision-removed g) → HasTried c.args.limit (is_some c.args.order.now) (actives_of g.F.Filter.meaning c.loop-cid.self-inside.posted.items) c.self.inside.filtering c.loop-cid.self-inside.filtering
     c.take_next.new.filtering c.run_revision-removed.new.filtering c.loop-cid.self-inside.revisions c.args.steps.now c.loop-cid.steps c.run_revision-removed.new.steps c.in-Some.cid
 tried g c =
     let meaning = g.F.Filter.meaning in
@@ -29,15 +48,15 @@ tried g c =
     let after = c.run_revision-removed.new.filtering in
     let cid = c.in-Some.cid in
     record {
-      run = c.loop-cid.invariant.run;
-      takes = subst (λ (o : Bool). TakesNext c.args.limit o c.loop-cid.self-inside.revisions c.loop-cid.self-inside.filtering before cid) c.loop-cid.invariant.stays c.in-Some.ensures.some;
-      kept = subst (λ ys. IsKept after (actives_of meaning ys)) c.deref.ensures.value c.run_revision-removed.ensures.kept;
+      run = c.loop-cid.invariant.by.run;
+      takes = (taking g c).0;
+      kept = subst (λ ys. IsInStep after (actives_of meaning ys)) c.deref.ensures.value c.run_revision-removed.ensures.kept;
       counted = subst (λ ys. HasCounted (named_sizes (state_in_revision before (actives_of meaning ys) cid) (cid ∷ [])) before after c.loop-cid.steps c.run_revision-removed.new.steps) c.deref.ensures.value c.run_revision-removed.ensures.counted;
     }
 
 pub loop-cid-init : goal.loop-cid-init
 loop-cid-init g c = record {
-  run = run_start c.args.limit (is_some c.args.order.now) (actives_of g.F.Filter.meaning c.self.inside.posted.items) c.self.inside.filtering c.args.steps.now c.self.invariant;
+  by = run_start (following g) c.args.limit (actives_of g.F.Filter.meaning c.self.inside.posted.items) c.self.inside.filtering c.args.steps.now c.args.order.now c.self.invariant;
   stays = refl;
   same = refl;
 }
@@ -47,9 +66,9 @@ run_revision-removed-requires g c =
     let meaning = g.F.Filter.meaning in
     let now = c.loop-cid.self-inside.filtering in
     let after = c.take_next.new.filtering in
-    let takes = subst (λ (o : Bool). TakesNext c.args.limit o c.loop-cid.self-inside.revisions now after c.in-Some.cid) c.loop-cid.invariant.stays c.in-Some.ensures.some in
+    let takes = subst (λ (o : Bool). TakesNext c.args.limit o c.loop-cid.self-inside.revisions now after c.in-Some.cid) c.loop-cid.invariant.stays c.in-Some.ensures.some.0 in
     subst (λ ys. IsTaken after (actives_of meaning ys) c.in-Some.cid) (sym c.deref.ensures.value)
-    (taken_is c.args.limit (is_some c.args.order.now) c.loop-cid.self-inside.revisions (actives_of meaning c.loop-cid.self-inside.posted.items) now after c.in-Some.cid takes c.loop-cid.invariant.run.engine)
+    (taken_is c.args.limit (is_some c.args.order.now) c.loop-cid.self-inside.revisions (actives_of meaning c.loop-cid.self-inside.posted.items) now after c.in-Some.cid takes c.loop-cid.invariant.by.run.engine)
 
 -- ---- where memory ran out
 
@@ -73,8 +92,8 @@ returns-in_err-removed-clause-err g c =
     let after = c.run_revision-removed.new.filtering in
     let left = λ (n : ℕ). let v : View = record { state = state_of after (actives_of g.F.Filter.meaning c.loop-cid.self-inside.posted.items); revisions = n; checks = after.checks } in v in
     on_err_of c.from_residual.result
-    (subst (λ (n : ℕ). IsInterrupted c.args.limit (is_some c.args.order.now) c.args.self.now (left n)) (sym c.saturating_add-self-inside.ensures)
-    (run_stopped (tried g at.After-run_revision-removed) c.args.self.now (seen g at.After-take_next) (part g at.In_err-removed)))
+    (subst (λ (n : ℕ). IsInterruptedBy (answering g) (following g) c.args.limit c.args.order.now c.take_next.new.order c.args.self.now (left n)) (sym c.saturating_add-self-inside.ensures)
+    (run_stopped c.loop-cid.order (tried g at.After-run_revision-removed) c.args.self.now (seen g at.After-take_next) (part g at.In_err-removed) c.loop-cid.invariant.by.followed (taking g at.After-run_revision-removed).1))
 
 pub returns-in_err-removed-clause-asked : goal.returns-in_err-removed-clause-asked
 returns-in_err-removed-clause-asked g c =
@@ -116,19 +135,24 @@ loop-cid-preserved g c =
     let at = goal.at.loop-cid-preserved g c in
     let active = actives_of g.F.Filter.meaning c.loop-cid.self-inside.posted.items in
     record {
-      run = subst (λ (n : ℕ). HasRun c.args.limit (is_some c.args.order.now) active c.self.inside.filtering c.run_revision-removed.new.filtering n c.args.steps.now c.run_revision-removed.new.steps) (sym c.saturating_add-self-inside.ensures)
-          (run_more (tried g at.After-run_revision-removed) c.in_ok-removed.field-0 (revised g at.In_ok-removed));
-      stays = c.tell.ensures ∙ c.take_next.ensures.stays ∙ c.loop-cid.invariant.stays;
+      by = subst (λ (n : ℕ). HasRunBy (following g) c.args.limit active c.self.inside.filtering c.run_revision-removed.new.filtering n c.args.steps.now c.run_revision-removed.new.steps c.args.order.now c.tell.new.order)
+          (sym c.saturating_add-self-inside.ensures)
+          (run_more c.loop-cid.order (tried g at.After-run_revision-removed) c.in_ok-removed.field-0 (revised g at.In_ok-removed) c.loop-cid.invariant.by.followed
+          (record { between = c.take_next.new.order; asked = (taking g at.After-run_revision-removed).1; told = c.tell.ensures.told }));
+      stays = c.tell.ensures.stays ∙ c.take_next.ensures.stays ∙ c.loop-cid.invariant.stays;
       same = c.loop-cid.invariant.same;
     }
 
 -- ---- where the settling ended
 
-ended : (g : given.Over) (c : In_default g) → HasRun c.args.limit (is_some c.args.order.now) (actives_of g.F.Filter.meaning c.loop-cid.self-inside.posted.items) c.self.inside.filtering c.take_next.new.filtering
-    c.loop-cid.self-inside.revisions c.args.steps.now c.loop-cid.steps
+ended : (g : given.Over) (c : In_default g) → HasRunBy (following g) c.args.limit (actives_of g.F.Filter.meaning c.loop-cid.self-inside.posted.items) c.self.inside.filtering c.take_next.new.filtering
+    c.loop-cid.self-inside.revisions c.args.steps.now c.loop-cid.steps c.args.order.now c.take_next.new.order
 ended g c =
     let active = actives_of g.F.Filter.meaning c.loop-cid.self-inside.posted.items in
-    subst (λ (z : Filtering). HasRun c.args.limit (is_some c.args.order.now) active c.self.inside.filtering z c.loop-cid.self-inside.revisions c.args.steps.now c.loop-cid.steps) (sym c.in_default.ensures.none.0) c.loop-cid.invariant.run
+    let first = c.args.order.now in
+    let count = c.loop-cid.self-inside.revisions in
+    subst (λ (o : Option g.row.O.Denot). HasRunBy (following g) c.args.limit active c.self.inside.filtering c.take_next.new.filtering count c.args.steps.now c.loop-cid.steps first o) (sym c.in_default.ensures.none.2)
+    (subst (λ (z : Filtering). HasRunBy (following g) c.args.limit active c.self.inside.filtering z count c.args.steps.now c.loop-cid.steps first c.loop-cid.order) (sym c.in_default.ensures.none.0) c.loop-cid.invariant.by)
 
 pub returns-clause-ok : goal.returns-clause-ok
 returns-clause-ok g c =
@@ -137,18 +161,18 @@ returns-clause-ok g c =
     let count = c.loop-cid.self-inside.revisions in
     let run = ended g at.In_default in
     let none = subst (λ (z : Filtering). TakesNone c.args.limit count z) (sym c.in_default.ensures.none.0) c.in_default.ensures.none.1 in
-    run_settled c.args.limit (is_some c.args.order.now) active c.self.inside.filtering c.take_next.new.filtering count c.args.steps.now c.loop-cid.steps c.outcome.result c.args.self.now (seen g at.After-take_next) run none
-    (c.outcome.ensures active run.engine.kept)
+    run_settled (following g) c.args.limit active c.self.inside.filtering c.take_next.new.filtering count c.args.steps.now c.loop-cid.steps c.args.order.now c.take_next.new.order c.outcome.result c.args.self.now
+    (seen g at.After-take_next) run none (c.outcome.ensures active run.run.engine.kept)
 
 pub returns-clause-asked : goal.returns-clause-asked
 returns-clause-asked g c =
     let at = goal.at.returns-clause-asked g c in
     let active = actives_of g.F.Filter.meaning c.loop-cid.self-inside.posted.items in
     subst (λ (s : EngineState). HasAsked s (state_of c.take_next.new.filtering active) c.args.steps.now c.loop-cid.steps) (sym (seen g at.After-take_next))
-    (run_asked c.args.limit (is_some c.args.order.now) active c.self.inside.filtering c.take_next.new.filtering c.loop-cid.self-inside.revisions c.args.steps.now c.loop-cid.steps c.loop-cid.invariant.run.engine.valid.rising (ended g at.In_default))
+    (run_asked c.args.limit (is_some c.args.order.now) active c.self.inside.filtering c.take_next.new.filtering c.loop-cid.self-inside.revisions c.args.steps.now c.loop-cid.steps c.loop-cid.invariant.by.run.engine.valid.rising (ended g at.In_default).run)
 
 pub returns-clause-checks : goal.returns-clause-checks
 returns-clause-checks g c =
     let le : c.self.inside.filtering.checks ≤ LAST_COUNT = omega arith in
     let is = ap (λ (v : View). v.checks) c.self.view_is in
-    (ended g (goal.at.returns-clause-checks g c).In_default).asked.checks le ∙ ap (λ (k : ℕ). min (k + (c.loop-cid.steps - c.args.steps.now)) LAST_COUNT) is
+    (ended g (goal.at.returns-clause-checks g c).In_default).run.asked.checks le ∙ ap (λ (k : ℕ). min (k + (c.loop-cid.steps - c.args.steps.now)) LAST_COUNT) is

@@ -3,13 +3,13 @@ use Rattle.palm_model.specs.Log.{Active}
 use Rattle.palm_model.specs.Event.{Withdraws}
 use Rattle.palm_engine.specs.Kept.{IsEngine, state_of}
 use Rattle.palm_engine.specs.Posted.{active_of, actives_of}
-use Rattle.palm_engine.proofs.Placing.{placed_within, removed_names, removed_rises}
+use Rattle.palm_engine.proofs.Placing.{placed_within, removed_cids, removed_rises}
 use Rattle.palm_engine.proofs.cited.Withdrawing.{withdrawn_engine}
 use Rattle.palm_engine.proofs.engine.Engine.withdraw.Given as given
 use Rattle.palm_engine.proofs.engine.Engine.withdraw.Goals as goal
 use Rattle.palm_engine.proofs.engine.Engine.withdraw.Goals.{After-place_of-place, After-take_out_resting}
 
--- the constraint under the name, and its place
+-- the constraint under the id, and its place
 placed : (g : given.Over) (c : After-place_of-place g) → (a : Active) × (a.cid ≡ c.args.cid) × (slice_get (actives_of g.F.Filter.meaning c.self.inside.posted.items) c.place_of-place.result ≡ Some a)
 placed g c =
     let meaning = g.F.Filter.meaning in
@@ -25,7 +25,7 @@ withdrawn g c is =
     let meaning = g.F.Filter.meaning in
     let xs = c.self.inside.posted.items in
     withdrawn_engine c.self.inside.filtering c.take_out.new.filtering c.take_out_resting.new.filtering (actives_of meaning xs) (actives_of meaning c.take_out.new.posted.items) (actives_of meaning c.take_out_resting.new.posted.items)
-    c.args.cid is.0 c.self.invariant is.1 (ap (actives_of meaning) c.take_out.ensures.posted ∙ removed_names (active_of meaning) xs c.place_of-place.result is.0 c.self.invariant.valid.rising is.2)
+    c.args.cid is.0 c.self.invariant is.1 (ap (actives_of meaning) c.take_out.ensures.posted ∙ removed_cids (active_of meaning) xs c.place_of-place.result is.0 c.self.invariant.valid.rising is.2)
     (c.take_out.ensures.withdraws is.0 is.2) c.take_out_resting.ensures.withdraws c.take_out_resting.ensures.kept
 
 pub take_out-requires-clause-within : goal.take_out-requires-clause-within

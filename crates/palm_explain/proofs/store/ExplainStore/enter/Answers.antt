@@ -4,7 +4,7 @@ use Rattle.indexmap.specs.IndexSet.{spare}
 use Rattle.slab.specs.Slab.{Updates, get}
 use Rattle.palm_explain.specs.declared.node.Node.{Node}
 use Rattle.palm_explain.specs.Explanations.{Explanations}
-use Rattle.palm_explain.specs.Graph.{AreFound, HasLinked, IsKept, IsKey, graph_of, log_of}
+use Rattle.palm_explain.specs.Graph.{AreFound, HasLinked, IsStored, IsKey, graph_of, log_of}
 use Rattle.palm_explain.proofs.Graphs.{pair_key}
 use Rattle.palm_explain.proofs.Reading.{on_err, view_same}
 use Rattle.palm_explain.proofs.Stores.{kept_entered, kept_like, kept_with_rows, log_entered, threaded_entered}
@@ -18,26 +18,26 @@ invariant_of-self c =
     let rows = kept_with_rows s keys c.self.inside.rows.items c.put_key.new.rows.items (spare c.self.inside.restored) c.args.pair c.self.invariant.kept (rw (← c.self.view_is) at c.requires.fresh) c.put_key.ensures.formed c.put_key.ensures.others in
     record { kept = rows; threaded = c.self.invariant.threaded }
 
-pub causes_of-requires-clause-found : goal.causes_of-requires-clause-found
-causes_of-requires-clause-found c =
+pub antecedents_of-requires-clause-found : goal.antecedents_of-requires-clause-found
+antecedents_of-requires-clause-found c =
     let s = c.self.inside.nodes in
     let keys = c.self.inside.log.items in
     let rows = kept_with_rows s keys c.self.inside.rows.items c.put_key.new.rows.items (spare c.self.inside.restored) c.args.pair c.self.invariant.kept (rw (← c.self.view_is) at c.requires.fresh) c.put_key.ensures.formed c.put_key.ensures.others in
     subst (λ rs. AreFound rs (graph_of s)) (sym c.deref.ensures.value) rows.found
 
-pub causes_of-requires-clause-removed : goal.causes_of-requires-clause-removed
-causes_of-requires-clause-removed c p m =
+pub antecedents_of-requires-clause-removed : goal.antecedents_of-requires-clause-removed
+antecedents_of-requires-clause-removed c p m =
     pair_key (graph_of c.self.inside.nodes) c.self.inside.log.items p c.self.invariant.kept.graph.places ((rw (← c.self.view_is) at c.requires.earlier) p m)
 
-pub invariant_of-self-in_err-causes : goal.invariant_of-self-in_err-causes
-invariant_of-self-in_err-causes c =
+pub invariant_of-self-in_err-antecedents : goal.invariant_of-self-in_err-antecedents
+invariant_of-self-in_err-antecedents c =
     let s = c.self.inside.nodes in
     let keys = c.self.inside.log.items in
     let rows = kept_with_rows s keys c.self.inside.rows.items c.put_key.new.rows.items (spare c.self.inside.restored) c.args.pair c.self.invariant.kept (rw (← c.self.view_is) at c.requires.fresh) c.put_key.ensures.formed c.put_key.ensures.others in
     record { kept = rows; threaded = c.self.invariant.threaded }
 
 pub make_room-requires : goal.make_room-requires
-make_room-requires c k m = c.in_ok-causes.ensures.keys k (subst (λ l. Contains l k) c.deref-2.ensures.value m)
+make_room-requires c k m = c.in_ok-antecedents.ensures.keys k (subst (λ l. Contains l k) c.deref-2.ensures.value m)
 
 pub invariant_of-self-in_err-make_room : goal.invariant_of-self-in_err-make_room
 invariant_of-self-in_err-make_room c =
@@ -47,7 +47,7 @@ invariant_of-self-in_err-make_room c =
     let spares = spare c.make_room.new.restored in
     let more = kept_like s c.make_room.new.nodes keys c.put_key.new.rows.items (spare c.self.inside.restored) spares rows c.make_room.ensures.graph c.make_room.ensures.marks (le_trans c.self.invariant.kept.room c.make_room.ensures.grows) in
     record {
-      kept = subst (λ ks. IsKept c.make_room.new.nodes ks c.put_key.new.rows.items spares) (sym c.make_room.ensures.log) more;
+      kept = subst (λ ks. IsStored c.make_room.new.nodes ks c.put_key.new.rows.items spares) (sym c.make_room.ensures.log) more;
       threaded = threaded_same c.self.inside.threads c.self.inside.threads (graph_of s) (graph_of c.make_room.new.nodes) _ c.self.invariant.threaded c.self.invariant.threaded.formed (λ q. refl) c.make_room.ensures.graph;
     }
 
@@ -64,7 +64,7 @@ invariant_of-self-in_err-push c =
     let spares = spare c.make_room.new.restored in
     let more = kept_like s c.make_room.new.nodes keys c.put_key.new.rows.items (spare c.self.inside.restored) spares rows c.make_room.ensures.graph c.make_room.ensures.marks (le_trans c.self.invariant.kept.room c.make_room.ensures.grows) in
     record {
-      kept = subst (λ ks. IsKept c.make_room.new.nodes ks c.put_key.new.rows.items spares) (sym c.make_room.ensures.log) more;
+      kept = subst (λ ks. IsStored c.make_room.new.nodes ks c.put_key.new.rows.items spares) (sym c.make_room.ensures.log) more;
       threaded = threaded_same c.self.inside.threads c.push.new.self (graph_of s) (graph_of c.make_room.new.nodes) _ c.self.invariant.threaded c.push.ensures.formed c.in_err-push.ensures.err c.make_room.ensures.graph;
     }
 
@@ -75,7 +75,7 @@ returns-in_err-push-clause-err c =
 
 pub link-requires-clause-keys : goal.link-requires-clause-keys
 link-requires-clause-keys c k m =
-    subst (λ h. IsKey h k) (sym c.make_room.ensures.graph) (c.in_ok-causes.ensures.keys k (subst (λ l. Contains l k) c.deref-3.ensures.value m))
+    subst (λ h. IsKey h k) (sym c.make_room.ensures.graph) (c.in_ok-antecedents.ensures.keys k (subst (λ l. Contains l k) c.deref-3.ensures.value m))
 
 pub link-requires-clause-ready : goal.link-requires-clause-ready
 link-requires-clause-ready c k m =
@@ -91,19 +91,19 @@ invariant_of-self-2 c =
     let t = c.link.new.nodes in
     let u = c.insert_reserved.new.self in
     let key = c.vacant_key-key.result in
-    let n : Node = record { pair = c.args.pair; by = c.args.by; causes = c.in_ok-causes.causes; dependents = c.take.result; place = c.len-place.result; mark = false; next = 0 } in
+    let n : Node = record { pair = c.args.pair; by = c.args.by; antecedents = c.in_ok-antecedents.antecedents; dependents = c.take.result; place = c.len-place.result; mark = false; next = 0 } in
     let place : c.len-place.result ≡ length keys = c.len-place.ensures ∙ c.self.inside.log.ok.0 in
     let same : c.insert_reserved.result ≡ key = c.insert_reserved.ensures.key ∙ c.link.ensures.room.vacant_key ∙ c.make_room.ensures.vacant_key ∙ sym c.vacant_key-key.ensures.value in
-    let linked : HasLinked (graph_of s) (graph_of t) n.causes.items key =
+    let linked : HasLinked (graph_of s) (graph_of t) n.antecedents.items key =
     subst (λ ks. HasLinked (graph_of s) (graph_of t) ks key) c.deref-3.ensures.value (subst (λ h. HasLinked h (graph_of t) c.deref-3.result.now key) c.make_room.ensures.graph c.link.ensures.linked) in
     let free : get t key ≡ None = subst (λ k. get t k ≡ None) same c.insert_reserved.ensures.was_vacant in
     let updates : Updates t u key (Some n) = subst (λ k. Updates t u k (Some n)) same c.insert_reserved.ensures.updates in
     let wide : length keys + 1 ≤ spares = subst (λ l. length l + 1 ≤ spares) c.make_room.ensures.log c.in_ok-make_room.ensures.variables in
     let pushed = c.push_reserved.ensures.items ∙ ap (λ l. l ++ key ∷ []) c.make_room.ensures.log in
     record {
-      kept = subst (λ ks. IsKept u ks c.put_key.new.rows.items spares) (sym pushed)
-          (kept_entered s t u keys c.put_key.new.rows.items spares key n c.args.reasons.now more (rw (← c.self.view_is) at c.requires.fresh) (rw (← c.self.view_is) at c.requires.earlier) c.in_ok-causes.ensures.reasons c.in_ok-causes.ensures.keys c.in_ok-put_key.ensures.there linked (c.link.ensures.marks ∙ c.make_room.ensures.marks) free updates c.take.ensures place refl wide);
-      threaded = threaded_entered s t u keys c.put_key.new.rows.items spares key n c.args.reasons.now more (rw (← c.self.view_is) at c.requires.fresh) (rw (← c.self.view_is) at c.requires.earlier) c.in_ok-causes.ensures.reasons c.in_ok-causes.ensures.keys c.in_ok-put_key.ensures.there linked (c.link.ensures.marks ∙ c.make_room.ensures.marks) free updates c.take.ensures place refl wide
+      kept = subst (λ ks. IsStored u ks c.put_key.new.rows.items spares) (sym pushed)
+          (kept_entered s t u keys c.put_key.new.rows.items spares key n c.args.reasons.now more (rw (← c.self.view_is) at c.requires.fresh) (rw (← c.self.view_is) at c.requires.earlier) c.in_ok-antecedents.ensures.reasons c.in_ok-antecedents.ensures.keys c.in_ok-put_key.ensures.there linked (c.link.ensures.marks ∙ c.make_room.ensures.marks) free updates c.take.ensures place refl wide);
+      threaded = threaded_entered s t u keys c.put_key.new.rows.items spares key n c.args.reasons.now more (rw (← c.self.view_is) at c.requires.fresh) (rw (← c.self.view_is) at c.requires.earlier) c.in_ok-antecedents.ensures.reasons c.in_ok-antecedents.ensures.keys c.in_ok-put_key.ensures.there linked (c.link.ensures.marks ∙ c.make_room.ensures.marks) free updates c.take.ensures place refl wide
           c.self.inside.threads c.push.new.self c.self.invariant.threaded c.push.ensures.formed c.in_ok-push.ensures.added c.push.ensures.others;
     }
 
@@ -117,15 +117,15 @@ returns-clause-ok c =
     let t = c.link.new.nodes in
     let u = c.insert_reserved.new.self in
     let key = c.vacant_key-key.result in
-    let n : Node = record { pair = c.args.pair; by = c.args.by; causes = c.in_ok-causes.causes; dependents = c.take.result; place = c.len-place.result; mark = false; next = 0 } in
+    let n : Node = record { pair = c.args.pair; by = c.args.by; antecedents = c.in_ok-antecedents.antecedents; dependents = c.take.result; place = c.len-place.result; mark = false; next = 0 } in
     let place : c.len-place.result ≡ length keys = c.len-place.ensures ∙ c.self.inside.log.ok.0 in
     let same : c.insert_reserved.result ≡ key = c.insert_reserved.ensures.key ∙ c.link.ensures.room.vacant_key ∙ c.make_room.ensures.vacant_key ∙ sym c.vacant_key-key.ensures.value in
-    let linked : HasLinked (graph_of s) (graph_of t) n.causes.items key =
+    let linked : HasLinked (graph_of s) (graph_of t) n.antecedents.items key =
     subst (λ ks. HasLinked (graph_of s) (graph_of t) ks key) c.deref-3.ensures.value (subst (λ h. HasLinked h (graph_of t) c.deref-3.result.now key) c.make_room.ensures.graph c.link.ensures.linked) in
     let free : get t key ≡ None = subst (λ k. get t k ≡ None) same c.insert_reserved.ensures.was_vacant in
     let updates : Updates t u key (Some n) = subst (λ k. Updates t u k (Some n)) same c.insert_reserved.ensures.updates in
     let wide : length keys + 1 ≤ spares = subst (λ l. length l + 1 ≤ spares) c.make_room.ensures.log c.in_ok-make_room.ensures.variables in
     let pushed = c.push_reserved.ensures.items ∙ ap (λ l. l ++ key ∷ []) c.make_room.ensures.log in
-    let log = ap (log_of (graph_of u)) pushed ∙ log_entered s t u keys c.put_key.new.rows.items spares key n c.args.reasons.now more (rw (← c.self.view_is) at c.requires.fresh) (rw (← c.self.view_is) at c.requires.earlier) c.in_ok-causes.ensures.reasons c.in_ok-causes.ensures.keys c.in_ok-put_key.ensures.there linked (c.link.ensures.marks ∙ c.make_room.ensures.marks) free updates c.take.ensures place refl wide ∙ ap (λ (v : Explanations). v.log ++ record { pair = c.args.pair; by = c.args.by; reasons = c.args.reasons.now } ∷ []) c.self.view_is in
+    let log = ap (log_of (graph_of u)) pushed ∙ log_entered s t u keys c.put_key.new.rows.items spares key n c.args.reasons.now more (rw (← c.self.view_is) at c.requires.fresh) (rw (← c.self.view_is) at c.requires.earlier) c.in_ok-antecedents.ensures.reasons c.in_ok-antecedents.ensures.keys c.in_ok-put_key.ensures.there linked (c.link.ensures.marks ∙ c.make_room.ensures.marks) free updates c.take.ensures place refl wide ∙ ap (λ (v : Explanations). v.log ++ record { pair = c.args.pair; by = c.args.by; reasons = c.args.reasons.now } ∷ []) c.self.view_is in
     let restored = c.make_room.ensures.restored ∙ ap (λ (v : Explanations). v.restored) c.self.view_is in
     (λ i. record { log = log i; restored = restored i })

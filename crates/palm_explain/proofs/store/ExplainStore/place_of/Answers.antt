@@ -1,7 +1,8 @@
 use Rattle.std.proofs.Common.{◌≡◌, ◌∙◌, true, Some, slice_get, Contains, sym, ap, subst}
 use Rattle.std.proofs.lemmas.Bool.{false≢true}
-use Rattle.palm_model.specs.Log.{log_pairs, same_pair}
-use Rattle.palm_events.proofs.cited.Names.{pair_same, same_pair_itself}
+use Rattle.palm_base.specs.Order.{same_pair}
+use Rattle.palm_model.specs.Log.{log_pairs}
+use Rattle.palm_base.proofs.cited.CidOrder.{pair_same, same_pair_itself}
 use Rattle.palm_explain.specs.Explanations.{Explanations}
 use Rattle.palm_explain.specs.Graph.{graph_of}
 use Rattle.palm_explain.specs.Rows.{key_at}

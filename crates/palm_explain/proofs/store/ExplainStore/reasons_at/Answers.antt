@@ -28,4 +28,4 @@ returns c =
     let long = log_length (graph_of s) keys in
     let lt : c.args.place < length keys = omega (arith, within, long) in
     subst (λ (v : Explanations). c.len.result ≡ length (reasons_of v.log c.args.place)) c.self.view_is
-    (c.len.ensures ∙ n.causes.ok.0 ∙ sym (read_count s keys c.args.place n lt (node_read s keys c.args.place c.index.result.now n lt c.index.ensures c.index-2.ensures)))
+    (c.len.ensures ∙ n.antecedents.ok.0 ∙ sym (read_count s keys c.args.place n lt (node_read s keys c.args.place c.index.result.now n lt c.index.ensures c.index-2.ensures)))

@@ -1,11 +1,15 @@
-use Rattle.palm_explain.proofs.Rising.{name_ranks, place_found, place_missing}
+use Rattle.std.proofs.Common.{refl, subst}
+use Rattle.palm_base.specs.Order.{BelongsAt, StandsAt}
+use Rattle.palm_base.proofs.cited.RisingLists.{stands_cid}
 use Rattle.palm_explain.proofs.threads.Threads.find.Goals as goal
 
 pub returns-in-Ok : goal.returns-in-Ok
 returns-in-Ok c =
-    place_found _ name_ranks c.args.self.now.names.items c.args.cid.now c.binary_search.result c.in-Ok.place c.in-Ok.is (rw c.deref.ensures.value at c.binary_search.ensures.bound) (rw c.deref.ensures.value at c.binary_search.ensures.position)
+    let i = c.in-Ok.place in
+    stands_cid c.args.self.now.cids.items i c.args.cid.now (subst (λ xs. StandsAt (λ x. x) xs i c.args.cid.now) c.deref.ensures.value c.in-Ok.ensures)
 
 pub returns-in-Err : goal.returns-in-Err
-returns-in-Err c =
-    (place_missing _ name_ranks c.args.self.now.names.items c.args.cid.now c.binary_search.result c.in-Err.field-0 c.in-Err.is c.requires.rises (rw c.deref.ensures.value at c.binary_search.ensures.bound)
-    (rw c.deref.ensures.value at c.binary_search.ensures.position)).1
+returns-in-Err c = λ m.
+    let i = c.in-Err.field-0 in
+    let at : BelongsAt (λ x. x) c.args.self.now.cids.items i c.args.cid.now = subst (λ xs. BelongsAt (λ x. x) xs i c.args.cid.now) c.deref.ensures.value c.in-Err.ensures in
+    at.absent c.args.cid.now m refl

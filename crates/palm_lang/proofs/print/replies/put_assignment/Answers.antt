@@ -2,7 +2,7 @@ use Rattle.std.proofs.Common.{◌≡◌, ◌<◌, ◌≤◌, ◌++◌, ℕ, ℤ,
 use Rattle.std.specs.Fmt.{signed_decimal}
 use Rattle.std.proofs.lemmas.List.{take_all}
 use Rattle.std.proofs.lemmas.Slice.Zip.{length-zip}
-use Rattle.palm_book.specs.Book.{Entry, name_of}
+use Rattle.palm_book.specs.Book.{BookVar, name_of}
 use Rattle.palm_lang.specs.Reply.{assigned_text}
 use Rattle.palm_read.specs.Words.{after_spaces}
 use Rattle.palm_lang.proofs.PrintLemmas.{Puts-failed, assigned_more}
@@ -29,7 +29,7 @@ returns c =
     let values = c.as_slice-values.result.now in
     let i = c.loop-var.var in
     let all : length (zip variables values) ≤ i = let end = c.variables-var-end.ensures.count in omega (arith, length-zip variables values) in
-    c.loop-var.invariant ∙ ap (λ (ps : List (Entry × ℤ)). c.args.out.now.items ++ after_spaces (map assigned_text ps)) (take_all i (zip variables values) all) ∙ ap (λ (vs : List ℤ). c.args.out.now.items ++ after_spaces (map assigned_text (zip variables vs))) c.as_slice-values.ensures
+    c.loop-var.invariant ∙ ap (λ (ps : List (BookVar × ℤ)). c.args.out.now.items ++ after_spaces (map assigned_text ps)) (take_all i (zip variables values) all) ∙ ap (λ (vs : List ℤ). c.args.out.now.items ++ after_spaces (map assigned_text (zip variables vs))) c.as_slice-values.ensures
 
 pub returns-in_err-put_assigned : goal.returns-in_err-put_assigned
 returns-in_err-put_assigned c =

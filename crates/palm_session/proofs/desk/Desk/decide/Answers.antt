@@ -1,24 +1,55 @@
+use Rattle.std.proofs.Common.{◌-◌}
 use Rattle.std.proofs.lemmas.Result.{IfOk-weaker}
-use Rattle.palm_session.specs.Answers.{Answers}
+use Rattle.palm_session.specs.Answers.{Answers, refused}
+use Rattle.palm_session.specs.Asking.{Asks}
 use Rattle.palm_session.specs.Feeding.{Decides}
 use Rattle.palm_session.specs.ReplyText.{reply_text, IsRefusal}
-use Rattle.palm_session.proofs.Deciding.{answers_refusal, decides_read, decides_refusal, serves_answers, serves_asks}
-use Rattle.palm_session.proofs.LawsOfLines.{tabu_read}
+use Rattle.palm_session.specs.Serving.{Takes}
+use Rattle.palm_session.proofs.Deciding.{answers_refusal, decides_refusal, decides_refused, decides_taken, on_ok, takes_answers, takes_asks}
+use Rattle.palm_session.proofs.cited.LawsOfAnswers.{read_admits}
 use Rattle.palm_session.proofs.desk.Desk.decide.Goals as goal
 
-pub serve-requires-clause-tabu : goal.serve-requires-clause-tabu
-serve-requires-clause-tabu g c = tabu_read c.args.line.now c.in-Ok.line c.in-Ok.ensures.read
+pub take-requires-clause-admitted : goal.take-requires-clause-admitted
+take-requires-clause-admitted g c =
+    let admitted = rw c.in-Ok-2.is at c.in_ok-request-in-Ok.ensures in
+    read_admits c.args.self.now.state c.requires.held c.args.line.now c.in-Ok.line c.in-Ok-2.request c.in-Ok.ensures.read admitted
 
-pub returns-in_ok-serve-in-Ok-clause-answers : goal.returns-in_ok-serve-in-Ok-clause-answers
-returns-in_ok-serve-in-Ok-clause-answers g c =
-    serves_answers c.args.self.now.state c.serve.new.self.state c.args.line.now c.in-Ok.line _ c.in-Ok.ensures.read c.in_ok-serve-in-Ok.ensures.serves
+pub returns-in-Ok-2-clause-answers : goal.returns-in-Ok-2-clause-answers
+returns-in-Ok-2-clause-answers g c =
+    let s = c.args.self.now.state in
+    let t = c.take.new.self.state in
+    let asked = c.take.new.steps - c.args.steps.now in
+    let admitted = rw c.in-Ok-2.is at c.in_ok-request-in-Ok.ensures in
+    IfOk-weaker c.take.result (λ r. Takes s c.in-Ok-2.request t asked r) (λ r. Answers s c.args.line.now (reply_text t r.0) t)
+    (λ r taken. takes_answers s t c.args.line.now c.in-Ok.line c.in-Ok-2.request asked r c.in-Ok.ensures.read admitted taken) c.take.ensures.takes
 
-pub returns-in_ok-serve-in-Ok-clause-asks : goal.returns-in_ok-serve-in-Ok-clause-asks
-returns-in_ok-serve-in-Ok-clause-asks g c =
-    serves_asks c.args.self.now.state c.serve.new.self.state c.args.line.now c.in-Ok.line _ c.in-Ok.ensures.read c.in_ok-serve-in-Ok.ensures.asks
+pub returns-in-Ok-2-clause-asks : goal.returns-in-Ok-2-clause-asks
+returns-in-Ok-2-clause-asks g c =
+    let s = c.args.self.now.state in
+    let t = c.take.new.self.state in
+    let asked = c.take.new.steps - c.args.steps.now in
+    let admitted = rw c.in-Ok-2.is at c.in_ok-request-in-Ok.ensures in
+    on_ok c.take.result (λ r. Takes s c.in-Ok-2.request t asked r) (Asks s c.args.line.now t asked)
+    (λ r taken. takes_asks s t c.args.line.now c.in-Ok.line c.in-Ok-2.request asked c.in-Ok.ensures.read admitted taken.asks) c.take.ensures.takes
 
-pub returns-in_ok-serve-in-Ok-clause-going : goal.returns-in_ok-serve-in-Ok-clause-going
-returns-in_ok-serve-in-Ok-clause-going g c = decides_read c.after-going.result c.args.line.now c.in-Ok.line c.in-Ok.ensures.read c.after-going.ensures.quit c.after-going.ensures.more
+pub returns-in-Ok-2-clause-going : goal.returns-in-Ok-2-clause-going
+returns-in-Ok-2-clause-going g c =
+    let s = c.args.self.now.state in
+    let t = c.take.new.self.state in
+    let asked = c.take.new.steps - c.args.steps.now in
+    let admitted = rw c.in-Ok-2.is at c.in_ok-request-in-Ok.ensures in
+    IfOk-weaker c.take.result (λ r. Takes s c.in-Ok-2.request t asked r) (λ r. Decides r.1 c.args.line.now)
+    (λ r taken. decides_taken s r.1 c.args.line.now c.in-Ok.line c.in-Ok-2.request c.in-Ok.ensures.read admitted.requests taken.goes) c.take.ensures.takes
+
+pub returns-in-Err-2-clause-answers : goal.returns-in-Err-2-clause-answers
+returns-in-Err-2-clause-answers g c =
+    let first = rw c.in-Err-2.is at c.in_ok-request-in-Ok.ensures in
+    refused c.in-Ok.line c.in-Err-2.refusal c.in-Ok.ensures.read first
+
+pub returns-in-Err-2-clause-going : goal.returns-in-Err-2-clause-going
+returns-in-Err-2-clause-going g c =
+    let first = rw c.in-Err-2.is at c.in_ok-request-in-Ok.ensures in
+    decides_refused c.args.self.now.state c.args.line.now c.in-Ok.line c.in-Err-2.refusal c.in-Ok.ensures.read first
 
 pub returns-in-Err-clause-answers : goal.returns-in-Err-clause-answers
 returns-in-Err-clause-answers g c =

@@ -2,7 +2,8 @@ use Rattle.std.proofs.Common.{◌≡◌, ◌∙◌, ◌<◌, All, ℕ, ap, false
 use Rattle.std.proofs.lemmas.List.{length-map}
 use Rattle.std.proofs.lemmas.Option.{same_Some, slice_get_within}
 use Rattle.palm_model.specs.Constraint.{scope}
-use Rattle.palm_session.specs.Serving.{DeskView, StandsAt}
+use Rattle.palm_session.specs.Requests.{StandsAt}
+use Rattle.palm_session.specs.Serving.{DeskView}
 use Rattle.palm_session.specs.State.{IsHeld}
 use Rattle.palm_session.proofs.Standing.{stands_as, stands_inactive}
 use Rattle.palm_session.proofs.desk.Desk.enforce.Goals as goal

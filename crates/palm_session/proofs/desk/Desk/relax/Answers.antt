@@ -1,6 +1,7 @@
 use Rattle.std.proofs.Common.{true, sym, subst}
 use Rattle.std.proofs.lemmas.Option.{slice_get_within}
-use Rattle.palm_session.specs.Serving.{DeskView, StandsAt}
+use Rattle.palm_session.specs.Requests.{StandsAt}
+use Rattle.palm_session.specs.Serving.{DeskView}
 use Rattle.palm_session.specs.State.{IsHeld}
 use Rattle.palm_session.proofs.Standing.{stands_as, stands_active}
 use Rattle.palm_session.proofs.desk.Desk.relax.Goals as goal

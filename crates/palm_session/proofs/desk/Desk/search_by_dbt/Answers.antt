@@ -1,15 +1,15 @@
 use Rattle.std.proofs.Common.{is_some, None, sym, subst}
 use Rattle.std.proofs.lemmas.Result.{IfOk-weaker}
 use Rattle.palm_search.specs.Search.{Searches}
-use Rattle.palm_session.specs.Effects.{ByDbt, told_end}
-use Rattle.palm_session.specs.Serving.{DeskView, desk_of, HasSearched}
+use Rattle.palm_session.specs.declared.request.Procedure.TheVariants.{Dbt}
+use Rattle.palm_session.specs.Serving.{DeskView, desk_of, HasRun}
 use Rattle.palm_session.specs.State.{IsHeld}
 use Rattle.palm_session.proofs.Searching.{held_users}
 use Rattle.palm_session.proofs.Solved.{dbt_searches, searched_desk}
 use Rattle.palm_session.proofs.desk.Desk.search_by_dbt.Goals as goal
 
 pub solve_by-requires-clause-users : goal.solve_by-requires-clause-users
-solve_by-requires-clause-users g c = held_users _ (subst (λ (d : DeskView). IsHeld d.state) (sym c.self.view_is) c.requires.held)
+solve_by-requires-clause-users g c = held_users _ (subst (λ (d : DeskView). IsHeld d.state) (sym c.self.view_is) c.requires)
 
 pub returns-clause-searched : goal.returns-clause-searched
 returns-clause-searched g c =
@@ -18,6 +18,6 @@ returns-clause-searched g c =
     let before = desk_of was.book was.engine was.accepted was.paused was.guides was.orders was.search in
     IfOk-weaker c.solve_by.result
     (λ answer. Searches (is_some was.guides.chosen) (is_some was.orders.chosen) c.args.budget was.engine.state now.search.journal answer now.engine.state)
-    (λ answer. HasSearched c.args.self.now.state (ByDbt c.args.budget) (told_end None answer) (desk_of was.book now.engine was.accepted was.paused now.guides now.orders now.search).state)
-    (λ answer h. searched_desk was.book was.engine now.engine was.accepted was.paused was.guides was.orders now.guides now.orders was.search now.search c.args.self.now (ByDbt c.args.budget) (told_end None answer) c.self.view_is
+    (λ answer. HasRun c.args.self.now.state (Dbt c.args.budget) answer None (desk_of was.book now.engine was.accepted was.paused now.guides now.orders now.search).state)
+    (λ answer h. searched_desk was.book was.engine now.engine was.accepted was.paused was.guides was.orders now.guides now.orders was.search now.search c.args.self.now (Dbt c.args.budget) answer None c.self.view_is
     c.solve_by.ensures.guides c.solve_by.ensures.orders (dbt_searches before.state c.args.budget now.search.journal now.engine.state answer h)) c.solve_by.ensures.ok

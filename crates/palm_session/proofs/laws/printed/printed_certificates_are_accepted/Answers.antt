@@ -3,6 +3,6 @@ use Rattle.palm_session.proofs.laws.printed.printed_certificates_are_accepted.Go
 
 pub returns : goal.returns
 returns c = record {
-  value = λ s t name reply value is scoped none accepts. told_cert s t name reply value is scoped none accepts;
+  value = λ s t name reply value request is scoped admitted accepts. told_cert s t name reply value request is scoped admitted accepts;
   conflict = λ s t reply is scoped accepts. told_cert_conflict s t reply is scoped accepts;
 }

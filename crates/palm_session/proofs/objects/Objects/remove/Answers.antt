@@ -1,16 +1,12 @@
 use Rattle.std.proofs.Common.{Contains, arith, sym, subst}
-use Rattle.palm_base.proofs.cited.Telling.{tells_true}
 use Rattle.palm_session.specs.Objects.{ObjectsView}
 use Rattle.palm_session.proofs.Places.{there_within, dropped_objects}
 use Rattle.palm_session.proofs.objects.Objects.remove.Goals as goal
 
 pub index_mut-requires : goal.index_mut-requires
 index_mut-requires g c =
-    let there = tells_true _ c.has.result c.has.ensures c.if-not-has.false in
-    let lt = there_within c.args.number c.self.inside.places.items (subst (λ (v : ObjectsView). Contains v.numbers c.args.number) (sym c.self.view_is) there) in
+    let lt = there_within c.args.number c.self.inside.places.items (subst (λ (v : ObjectsView). Contains v.numbers c.args.number) (sym c.self.view_is) c.requires) in
     omega (arith, lt, c.self.inside.places.ok.0)
 
-pub returns-clause-there : goal.returns-clause-there
-returns-clause-there g c =
-    let there = tells_true _ c.has.result c.has.ensures c.if-not-has.false in
-    λ _. (there, dropped_objects c.self.inside.places.items c.self.inside.chosen c.args.self.now c.self.invariant c.self.view_is c.args.number)
+pub returns : goal.returns
+returns g c = dropped_objects c.self.inside.places.items c.self.inside.chosen c.args.self.now c.self.invariant c.self.view_is c.args.number

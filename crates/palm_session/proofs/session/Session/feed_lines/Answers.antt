@@ -10,7 +10,7 @@ use Rattle.palm_session.proofs.session.Session.feed_lines.Goals as goal
 pub returns-in_err-keep-clause-feeds : goal.returns-in_err-keep-clause-feeds
 returns-in_err-keep-clause-feeds g c =
     let p = err_from_is_err_and c.from_residual.result c.from_residual.ensures.1 in
-    rw p.1 (part_nothing _ _ _)
+    rw (p.1, p.2) (part_nothing _ _ _)
 
 pub returns-in_default-clause-feeds : goal.returns-in_default-clause-feeds
 returns-in_default-clause-feeds g c =
@@ -21,7 +21,7 @@ returns-in_default-clause-feeds g c =
 pub returns-in_err-keep-2-clause-feeds : goal.returns-in_err-keep-2-clause-feeds
 returns-in_err-keep-2-clause-feeds g c =
     let p = err_from_is_err_and c.from_residual-in_err-keep-2.result c.from_residual-in_err-keep-2.ensures.1 in
-    rw p.1 (part_nothing _ _ _)
+    rw (p.1, p.2) (part_nothing _ _ _)
 
 pub returns-in-Ok-More-clause-feeds : goal.returns-in-Ok-More-clause-feeds
 returns-in-Ok-More-clause-feeds g c =
@@ -41,5 +41,5 @@ returns-in-Ok-Quit-clause-feeds g c =
 pub returns-in-Err-clause-feeds : goal.returns-in-Err-clause-feeds
 returns-in-Err-clause-feeds g c =
     let one = rw (c.without_return-line.ensures, c.deref.ensures.value, c.in_ok-keep-2.ensures.ok) at c.in-Err.ensures.answers in
-    subst (λ (v : View). FeedsPart v.state (v.unfinished ++ c.args.piece.now) (g.K.Sink.state c.args.out.now).written (g.K.Sink.state c.answer.new.out).written) c.self.view_is
+    subst (λ (v : View). FeedsPart c.in-Err.stop v.state (v.unfinished ++ c.args.piece.now) (g.K.Sink.state c.args.out.now).written (g.K.Sink.state c.answer.new.out).written) c.self.view_is
     (first_part c.self.inside.desk.state c.self.inside.unfinished.items c.args.piece.now c.in-Some.end c.self.invariant.unfinished.unbroken c.in-Some.ensures.found _ _ one)

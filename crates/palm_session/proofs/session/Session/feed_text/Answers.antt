@@ -1,5 +1,6 @@
 use Rattle.std.proofs.lemmas.Result.{err_from_is_err_and}
 use Rattle.std.proofs.Common.{sym, subst}
+use Rattle.palm_lang.specs.declared.stop.WriteStop.TheVariants.{NoMemory}
 use Rattle.palm_session.specs.Feeding.{View, FeedsPart}
 use Rattle.palm_read.specs.Lines.{HasNoFeed}
 use Rattle.palm_session.proofs.cited.FeedLemmas.{part_all}
@@ -11,7 +12,7 @@ pub returns-in_err-keep-in-Ok-More-default-clause-feeds :
 returns-in_err-keep-in-Ok-More-default-clause-feeds g c =
     let p = err_from_is_err_and c.from_residual.result c.from_residual.ensures.1 in
     let fed = rw c.in-Ok-More-default.field-0-0-is at c.in-Ok-More-default.ensures.answers in
-    rw p.1 (subst (λ (v : View). FeedsPart v.state c.args.text.now (g.K.Sink.state c.args.out.now).written (g.K.Sink.state c.answer_lines.new.out).written) c.self.view_is
+    rw (p.1, p.2) (subst (λ (v : View). FeedsPart NoMemory v.state c.args.text.now (g.K.Sink.state c.args.out.now).written (g.K.Sink.state c.answer_lines.new.out).written) c.self.view_is
     (part_all c.self.inside.desk.state c.answer_lines.new.desk.state c.args.text.now _ _ _ _ fed.1))
 
 pub keep-requires-clause-unbroken : goal.keep-requires-clause-unbroken

@@ -1,5 +1,0 @@
-use Rattle.palm_events.proofs.cited.Names.{rising_same}
-use Rattle.palm_events.proofs.laws.logged.lists_of_names_are_unique.Goals as goal
-
-pub returns : goal.returns
-returns c = λ xs ys rx ry same. rising_same xs ys rx ry (λ n m. (same n).0 m) (λ n m. (same n).1 m)
