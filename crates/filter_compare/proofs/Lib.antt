@@ -1,2 +1,3 @@
 pub mod Comparisons
 pub mod Ends
+pub mod Memberships

@@ -1,6 +1,11 @@
 //! The program `palm`: standard input to standard output, by the one call of palm_cli.
 #![tactic(auto)]
 
+#[cfg(test)]
+mod interrupted;
+mod retrying;
+
+use crate::retrying::Retrying;
 use palm_agenda::{LastOrder, Order, RotateOrder};
 use palm_base::{NoMemory, StdSink, StdSource};
 use palm_cli::{Status, top};
@@ -39,8 +44,8 @@ fn run(rt: &HostRuntime, words: &[String]) -> Result<Status, NoMemory> {
     let mut orders: Vec<Box<dyn Order>> = Vec::new(alloc);
     orders.push(Box::new(alloc, LastOrder::new())?)?;
     orders.push(Box::new(alloc, RotateOrder::new())?)?;
-    let mut source = StdSource::new(rt.stdin());
-    let mut sink = StdSink::new(rt.stdout());
+    let mut source = StdSource::new(Retrying::new(rt.stdin()));
+    let mut sink = StdSink::new(Retrying::new(rt.stdout()));
     Ok(top(alloc, words, &mut source, &mut sink, guides, orders))
 }
 

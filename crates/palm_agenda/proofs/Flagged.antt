@@ -2,6 +2,7 @@
 use Rattle.std.proofs.Common.{◌≡◌, ℕ, zero, suc, ◌+◌, ◌-◌, ◌<◌, ◌≤◌, Bool, true, false, not, length-set, List, [], ◌∷◌, ◌++◌, length, get_or, set, take, slice_get, insert, remove, Contains, Some, ◌⊎◌, ◌↔◌, inl, inr, refl, sym, ap, ◌∙◌, subst, arith, get_or-set_same, get_or-set_other}
 use Rattle.std.specs.List.{AllWithin}
 use Rattle.std.proofs.lemmas.Bool.{cases_lt, false≢true}
+use Rattle.std.proofs.lemmas.Option.{get_or_from_slice_get}
 use Rattle.std.proofs.lemmas.List.Edits.{get_or-insert_below, get_or-remove_below, get_or-remove_above}
 use Rattle.palm_base.specs.declared.terms.Cid.{Cid}
 use Rattle.palm_base.proofs.cited.Members.{member_nil, member_here, member_there, member_cases, member_same, all_members, nat_known}
@@ -316,3 +317,97 @@ pub shown_more : (cids : List Cid) (flags : List Bool) (i : ℕ) (d : Bool) (cid
     → flagged (take i cids) (take i flags) ++ cid ∷ [] ≡ flagged (take (i + 1) cids) (take (i + 1) flags)
 shown_more cids flags i d cid lt within is at =
     ap (λ c. flagged (take i cids) (take i flags) ++ c ∷ []) (sym at) ∙ sym (walked_more cids flags i d cid lt within is) ∙ ap (λ k. flagged (take k cids) (take k flags)) (plus_one i)
+
+-- no id is at a raised flag below the lowest one
+pub none_shown : (cids : List Cid) (flags : List Bool) (lowest : ℕ) → AreLowered flags lowest → [] ≡ flagged (take lowest cids) (take lowest flags)
+none_shown [] flags zero lowered = refl
+none_shown [] flags (suc i) lowered = refl
+none_shown (n ∷ cids) flags zero lowered = refl
+none_shown (n ∷ cids) [] (suc i) lowered = refl
+none_shown (n ∷ cids) (true ∷ flags) (suc i) lowered = absurd (false≢true (sym (lowered 0 true (omega arith) (omega arith))))
+none_shown (n ∷ cids) (false ∷ flags) (suc i) lowered = none_shown cids flags i (λ k d ge lt. lowered (suc k) d (omega arith) (omega arith))
+
+-- no id is at a raised flag between two places where none is raised
+pub shown_to : (cids : List Cid) (flags : List Bool) (from to gap : ℕ) → to ≡ from + gap → to ≤ length flags → AllWithin (λ b. b ≡ false) flags from to
+    → flagged (take from cids) (take from flags) ≡ flagged (take to cids) (take to flags)
+shown_to cids flags from to zero is within between = ap (λ k. flagged (take k cids) (take k flags)) (from_to from to is)
+  where
+    from_to : (from to : ℕ) → to ≡ from + 0 → from ≡ to
+    from_to from to is = omega (arith, is)
+shown_to cids flags from to (suc gap) is within between =
+    shown_past cids flags from false (omega (arith, is)) (between from false (omega arith) (omega (arith, is)))
+    ∙ shown_to cids flags (from + 1) to gap (omega (arith, is)) within (λ k d ge lt. between k d (omega arith) lt)
+
+-- the flags up to a place have all raised ones, where none is raised from it on
+pub count_ahead : (flags : List Bool) (place to : ℕ) → length flags ≤ to → AllWithin (λ b. b ≡ false) flags place to → count_raised (take place flags) ≡ count_raised flags
+count_ahead [] zero to le between = refl
+count_ahead [] (suc place) to le between = refl
+count_ahead (b ∷ flags) zero to le between = sym (none_raised (b ∷ flags) to le between)
+count_ahead (true ∷ flags) (suc place) to le between = ap suc (count_ahead flags place (to - 1) (omega arith) (λ k d ge lt. between (suc k) d (omega arith) (omega arith)))
+count_ahead (false ∷ flags) (suc place) to le between = count_ahead flags place (to - 1) (omega arith) (λ k d ge lt. between (suc k) d (omega arith) (omega arith))
+
+-- all ids at raised flags are up to a place, where so many are
+pub shown_all : (cids : List Cid) (flags : List Bool) (place : ℕ) → count_raised (take place flags) ≡ count_raised flags → flagged (take place cids) (take place flags) ≡ flagged cids flags
+shown_all [] flags zero is = refl
+shown_all [] flags (suc place) is = refl
+shown_all (n ∷ cids) [] zero is = refl
+shown_all (n ∷ cids) [] (suc place) is = refl
+shown_all (n ∷ cids) (true ∷ flags) zero is = absurd (omega (arith, is))
+shown_all (n ∷ cids) (false ∷ flags) zero is = shown_all cids flags zero is
+shown_all (n ∷ cids) (true ∷ flags) (suc place) is = ap (λ cs. n ∷ cs) (shown_all cids flags place (omega (arith, is)))
+shown_all (n ∷ cids) (false ∷ flags) (suc place) is = shown_all cids flags place is
+
+-- no flag is raised below a place and from it to another
+pub lowered_on : (flags looked : List Bool) (from to : ℕ) → looked ≡ flags → AreLowered flags from → AllWithin (λ b. b ≡ false) looked from to → AreLowered flags to
+lowered_on flags looked from to is below between k d ge lt = elim (cases_lt k from) [
+  | inl l ↦ below k d ge l
+  | inr le ↦ ap (λ bs. get_or bs k d) (sym is) ∙ between k d le lt
+]
+
+-- what is taken out of a rising list at a place is taken out by its id
+pub removed_from : (cid : Cid) (cids : List Cid) (i : ℕ) → Rises cids → i < length cids → ((d : Cid) → get_or cids i d ≡ cid) → remove cids i ≡ without_cid cid cids
+removed_from cid [] i rises lt at = absurd (omega arith)
+removed_from cid (n ∷ cids) zero rises lt at = subst (λ k. cids ≡ without_cid k (n ∷ cids)) (at n) (sym (first_cut n cids rises))
+removed_from cid (n ∷ cids) (suc i) rises lt at =
+    ap (λ cs. n ∷ cs) (removed_from cid cids i rises.1 (omega arith) at)
+    ∙ sym (filter_passes (λ d. not (is_named (cid ∷ []) d)) n cids
+    (not_other cid n (λ e. not_before_itself n (subst (λ d. cid_before n d ≡ true) (at n ∙ sym e) (rises.0 i n (omega arith))))))
+
+-- ---- a walk that ends once so many are shown
+
+take_same : (cids : List Cid) (flags : List Bool) (place : ℕ) → length flags ≡ length cids → length (take place flags) ≡ length (take place cids)
+take_same [] [] zero same = refl
+take_same [] [] (suc place) same = refl
+take_same [] (b ∷ flags) place same = absurd (omega (arith, same))
+take_same (n ∷ cids) [] place same = absurd (omega (arith, same))
+take_same (n ∷ cids) (b ∷ flags) zero same = refl
+take_same (n ∷ cids) (b ∷ flags) (suc place) same = ap suc (take_same cids flags place (omega (arith, same)))
+
+count_take : (flags : List Bool) (place : ℕ) → count_raised (take place flags) ≤ count_raised flags
+count_take [] zero = omega arith
+count_take [] (suc place) = omega arith
+count_take (b ∷ flags) zero = omega arith
+count_take (true ∷ flags) (suc place) = let e = count_take flags place in omega arith
+count_take (false ∷ flags) (suc place) = count_take flags place
+
+module _ (cids shown : List Cid) (flags : List Bool) (place raised : ℕ) (same : length flags ≡ length cids) (so_far : shown ≡ flagged (take place cids) (take place flags)) (many : raised ≡ count_raised flags) where
+  count_so_far : length shown ≡ count_raised (take place flags)
+  count_so_far = ap length so_far ∙ flagged_length (take place cids) (take place flags) (take_same cids flags place same)
+
+  -- one is raised ahead, where fewer are shown
+  pub one_ahead : (to : ℕ) → length shown < raised → AllWithin (λ b. b ≡ false) flags place to → to < length flags
+  one_ahead to fewer between = elim (cases_lt to (length flags)) [
+    | inl l ↦ l
+    | inr le ↦ absurd (omega (arith, fewer, many, count_so_far, count_ahead flags place to le between))
+  ]
+
+  -- none is left, where so many are shown
+  pub none_ahead : raised ≤ length shown → shown ≡ flagged cids flags
+  none_ahead enough = so_far ∙ shown_all cids flags place (omega (arith, enough, many, count_so_far, count_take flags place))
+
+  -- the next one is shown
+  pub one_more_shown : (to gap : ℕ) (cid : Cid) → to ≡ place + gap → to < length flags → AllWithin (λ b. b ≡ false) flags place to → slice_get flags to ≡ Some true → slice_get cids to ≡ Some cid
+      → shown ++ cid ∷ [] ≡ flagged (take (to + 1) cids) (take (to + 1) flags)
+  one_more_shown to gap cid is within between raises named =
+      ap (λ cs. cs ++ cid ∷ []) (so_far ∙ shown_to cids flags place to gap is (omega (arith, within)) between)
+      ∙ shown_more cids flags to true cid (omega (arith, within, same)) within (get_or_from_slice_get flags to true true raises) (get_or_from_slice_get cids to cid cid named)

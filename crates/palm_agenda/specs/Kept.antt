@@ -1,5 +1,5 @@
 -- What an agenda keeps beside what it shows.
-use Rattle.std.specs.Prelude.{◌≡◌, ℕ, ◌≤◌, ◌↔◌, Bool, List, length, Contains}
+use Rattle.std.specs.Prelude.{◌≡◌, ℕ, ◌≤◌, ◌↔◌, ⊤, Bool, true, false, List, length, Contains}
 use Rattle.palm_base.specs.declared.terms.Cid.{Cid}
 use Rattle.palm_agenda.specs.Agenda.{Connected, IsFormed, IsOver, connected_cids}
 use Rattle.palm_agenda.specs.Flags.{flagged}
@@ -12,3 +12,8 @@ pub record IsAgenda (connected : List Connected) (over : List Roomy) (flags : Li
   pub over_cids : (x : ℕ) (c : Cid) → Contains (cids_at over x) c ↔ IsOver connected x c
   pub flag_each : length flags ≡ length connected
   pub shown_room : length connected ≤ shown
+
+-- the ids among those that are shown are the pending ones, where it is noted so
+abbrev pub IsShown : Bool → List Cid → List Cid → Type 0
+IsShown false shown pending = ⊤
+IsShown true shown pending = shown ≡ pending

@@ -1,32 +1,35 @@
 //! The connected constraints, and those of them that wait to be revised.
-ghost use Rattle.std.specs.Prelude.{◌≡◌, ℕ, ◌<◌, ◌≤◌, ◌↔◌, ◌⊎◌, [], ◌∷◌, ◌++◌, length, map, Contains, MatchOption, IfSome, IfNone, IsSomeAnd, Some, OnOk, OnErr, is_some, slice_get, vec_capacity};
+ghost use Rattle.std.specs.Prelude.{◌≡◌, ℕ, ◌<◌, ◌≤◌, ◌↔◌, ◌⊎◌, [], ◌∷◌, ◌++◌, length, map, false, Contains, MatchOption, IfSome, IfNone, IsSomeAnd, Some, OnOk, OnErr, is_some, slice_get, vec_capacity};
+ghost use Rattle.std.specs.List.{AllWithin};
 ghost use Rattle.palm_base.specs.Tells.{Tells};
 ghost use Rattle.palm_base.specs.declared.terms.Cid.{Cid as CidTerm};
 ghost use Rattle.palm_base.specs.Order.{Rises, cid_before, IsPartedAt};
 ghost use Rattle.palm_model.specs.State.{without_cid};
 ghost use Rattle.palm_agenda.specs.Agenda.{Connected, HasPlace, IsConnected, IsFormed, IsMarked, IsOver, Takes, changed_among, changed_at, index_within, marked_whole, mark_others, mark_own, connected_cids, unmarked, with_connected, without_connected};
-ghost use Rattle.palm_agenda.specs.Flags.{flagged};
+ghost use Rattle.palm_agenda.specs.Flags.{count_raised, flagged};
 ghost use Rattle.palm_agenda.specs.Cids.{HasSpace, cids_at};
+ghost use Rattle.palm_agenda.specs.Kept.{IsShown};
 ghost use Rattle.palm_agenda.specs.Places.{mark_places};
 
 use crate::cids::Cids;
 use crate::connection::{Connection, Places};
-use crate::flags::Flags;
+use crate::flags::{Flags, raised_from};
 use crate::order::Order;
 use crate::over::{cids_over, insert_over, make_room, remove_over};
-use palm_base::{Cid, HasCid, NoMemory, Var, place_at, place_from, place_of};
+use palm_base::{Cid, HasCid, NoMemory, Var, place_from, place_of, stands_at};
 use std::alloc::Global;
 use std::marker::Model;
 
 /// The connected constraints by rising id, a flag for each of them that is raised where it is pending, and the ids of
-/// the constraints over each variable. There is room for every id among those that an order is shown. The place of the
-/// constraint that was taken last is where one is looked for first.
+/// the constraints over each variable. There is room for every id among those that an order is shown; where it is noted so
+/// they are those that are pending. The place of the constraint that was taken last is where one is looked for first.
 #[derive(Debug, Drop)]
 pub struct Agenda {
     connections: Vec<Connection>,
     pending: Flags,
     over: Vec<Cids>,
     shown: Vec<Cid>,
+    is_shown: bool,
     near: usize,
 }
 
@@ -34,13 +37,14 @@ impl Model for Agenda {
     ghost use Rattle.std.specs.Prelude.{vec_capacity};
     ghost use Rattle.palm_agenda.specs.Agenda.{Waiting, connected_cids};
     ghost use Rattle.palm_agenda.specs.Flags.{flagged};
-    ghost use Rattle.palm_agenda.specs.Kept.{IsAgenda};
+    ghost use Rattle.palm_agenda.specs.Kept.{IsAgenda, IsShown};
 
     ghost Value = { Waiting };
 
     ghost view = { λ a. record { connected = a.connections.items; pending = flagged (connected_cids a.connections.items) a.pending.flags } };
 
-    ghost invariant = { λ a. IsAgenda a.connections.items a.over.items a.pending.flags (vec_capacity a.shown) };
+    ghost invariant = { λ a. IsAgenda a.connections.items a.over.items a.pending.flags (vec_capacity a.shown)
+        × IsShown a.is_shown a.shown.items (flagged (connected_cids a.connections.items) a.pending.flags) };
 }
 
 /// How many of the connected constraints have ids that come before this one, which is looked for at `near` first.
@@ -49,9 +53,10 @@ fn place_near(connections: &[Connection], near: usize, cid: &Cid) -> usize
     requires { Rises (connected_cids connections.now) }
     ensures { IsPartedAt (λ d. cid_before d.cid cid.now) connections.now result }
 {
-    match place_at(connections, near, cid) {
-        Some(place) => place,
-        None => place_of(connections, cid),
+    if stands_at(connections, near, cid) {
+        near
+    } else {
+        place_of(connections, cid)
     }
 }
 
@@ -146,18 +151,33 @@ fn show_one(shown: &mut Vec<Cid>, cid: &Cid)
     prove!(pushed.is_ok());
 }
 
-/// Writes the ids of the constraints whose flags are raised.
-fn show(shown: &mut Vec<Cid>, connections: &[Connection], flags: &[bool])
+/// Writes the ids of the constraints whose flags are raised: so many, and none below the lowest place. It ends with the
+/// last of them, and does not look at the flags behind it. Where they are written already it does nothing.
+fn show(
+    is_shown: bool,
+    shown: &mut Vec<Cid>,
+    connections: &[Connection],
+    flags: &[bool],
+    lowest: usize,
+    raised: usize,
+)
     requires room { length connections.now ≤ vec_capacity shown.old }
     requires flags { length flags.now ≡ length connections.now }
+    requires below { AllWithin (λ b. b ≡ false) flags.now 0 lowest }
+    requires many { raised ≡ count_raised flags.now }
+    requires already { IsShown is_shown shown.old.items (flagged (connected_cids connections.now) flags.now) }
     ensures cids { shown.new.items ≡ flagged (connected_cids connections.now) flags.now }
     ensures room { vec_capacity shown.old ≤ vec_capacity shown.new }
 {
+    if is_shown {
+        return;
+    }
     shown.clear();
-    for place in 0..connections.len() {
-        if flags[place] {
-            show_one(shown, &connections[place].cid());
-        }
+    let mut place = lowest;
+    while shown.len() < raised {
+        place = raised_from(flags, place);
+        show_one(shown, &cid_at(connections, place));
+        place += 1;
     }
 }
 
@@ -169,13 +189,23 @@ fn cid_at(connections: &[Connection], place: usize) -> Cid
     connections[place].cid()
 }
 
-/// The id at the answered index, and the first one where it is out of range.
-fn chosen(shown: &[Cid], answer: usize) -> Cid
-    requires { shown.now ≡ [] → ⊥ }
-    ensures { slice_get shown.now (index_within answer (length shown.now)) ≡ Some result }
+/// The answered index, and 0 where it is out of range.
+fn index_of(shown: &[Cid], answer: usize) -> usize
+    ensures { result ≡ index_within answer (length shown.now) }
 {
-    let index = if answer < shown.len() { answer } else { 0 };
-    shown[index].copy()
+    if answer < shown.len() { answer } else { 0 }
+}
+
+/// Takes the id at the answered index out, and the first one where it is out of range.
+fn take_chosen(shown: &mut Vec<Cid>, answer: usize) -> Cid
+    requires rising { Rises shown.old.items }
+    requires some { shown.old.items ≡ [] → ⊥ }
+    ensures chosen { slice_get shown.old.items (index_within answer (length shown.old.items)) ≡ Some result }
+    ensures left { shown.new.items ≡ without_cid result shown.old.items }
+    ensures room { vec_capacity shown.old ≤ vec_capacity shown.new }
+{
+    let index = index_of(shown, answer);
+    shown.remove(index)
 }
 
 impl Agenda {
@@ -188,6 +218,7 @@ impl Agenda {
             pending: Flags::new(alloc),
             over: Vec::new(alloc),
             shown: Vec::new(alloc),
+            is_shown: false,
             near: 0,
         }
     }
@@ -200,6 +231,7 @@ impl Agenda {
         ensures formed { IsFormed self.new }
         ensures err { OnErr result (self.new ≡ self.old) }
     {
+        self.is_shown = false;
         let count = self.connections.len() + 1;
         make_room_for(
             &mut self.over,
@@ -223,6 +255,7 @@ impl Agenda {
         ensures connected { self.new.connected ≡ without_connected cid self.old.connected }
         ensures pending { self.new.pending ≡ without_cid cid self.old.pending }
     {
+        self.is_shown = false;
         let place = place_of(&self.connections, &cid);
         let connection = self.connections.remove(place);
         self.pending.remove(place);
@@ -236,6 +269,7 @@ impl Agenda {
         ensures pending { (c : CidTerm) → Contains self.new.pending c ↔ (Contains self.old.pending c ⊎ IsOver self.old.connected var c) }
         ensures formed { IsFormed self.new }
     {
+        self.is_shown = false;
         let cids = cids_over(&self.over, &var);
         wake_each(
             &mut self.connections,
@@ -253,6 +287,7 @@ impl Agenda {
         ensures pending { (c : CidTerm) → Contains self.new.pending c ↔ (Contains self.old.pending c ⊎ IsOver self.old.connected var c) }
         ensures formed { IsFormed self.new }
     {
+        self.is_shown = false;
         let cids = cids_over(&self.over, &var);
         wake_each(
             &mut self.connections,
@@ -270,6 +305,7 @@ impl Agenda {
         ensures pending { (c : CidTerm) → Contains self.new.pending c ↔ (Contains self.old.pending c ⊎ (c ≡ cid)) }
         ensures formed { IsFormed self.new }
     {
+        self.is_shown = false;
         let place = place_near(&self.connections, self.near, &cid);
         self.pending.raise(place);
     }
@@ -334,6 +370,7 @@ impl Agenda {
         ensures connected { self.new.connected ≡ self.old.connected }
     {
         let place = self.pending.lower_first()?;
+        self.is_shown = false;
         self.near = place;
         Some(cid_at(&self.connections, place))
     }
@@ -348,11 +385,21 @@ impl Agenda {
         if self.pending.is_empty() {
             return None;
         }
-        show(&mut self.shown, &self.connections, self.pending.as_slice());
+        let lowest = self.pending.lowest();
+        let raised = self.pending.raised();
+        show(
+            self.is_shown,
+            &mut self.shown,
+            &self.connections,
+            self.pending.as_slice(),
+            lowest,
+            raised,
+        );
         let answer = order.next(&self.shown);
-        let cid = chosen(&self.shown, answer);
+        let cid = take_chosen(&mut self.shown, answer);
         let place = place_of(&self.connections, &cid);
         self.pending.lower(place);
+        self.is_shown = true;
         self.near = place;
         Some(cid)
     }

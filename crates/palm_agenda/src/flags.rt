@@ -45,13 +45,13 @@ fn put_flag(flags: &mut Vec<bool>, place: usize)
     prove!(inserted.is_ok());
 }
 
-/// The first place from the lowest one on whose flag is raised, and where there is none the end.
-fn raised_from(flags: &[bool], lowest: usize) -> usize
-    requires { AllWithin (λ b. b ≡ false) flags.now 0 lowest }
-    ensures before { AllWithin (λ b. b ≡ false) flags.now 0 result }
+/// The first place from this one on whose flag is raised, and where there is none the end, or this one if it lies beyond.
+pub(crate) fn raised_from(flags: &[bool], from: usize) -> usize
+    ensures from { from ≤ result }
+    ensures between { AllWithin (λ b. b ≡ false) flags.now from result }
     ensures raised { result < length flags.now → slice_get flags.now result ≡ Some true }
 {
-    let mut place = lowest;
+    let mut place = from;
     while place < flags.len() && !flags[place] {
         place += 1;
     }
@@ -82,6 +82,22 @@ impl Flags {
         ensures { Tells result (count_raised self.now.flags ≡ 0) }
     {
         self.raised == 0
+    }
+
+    /// How many flags are raised.
+    pub(crate) fn raised(&self) -> usize
+        ensures { result ≡ count_raised self.now.flags }
+    {
+        self.raised
+    }
+
+    /// A place below which no flag is raised. It is the first raised one where one is raised, and is looked for once.
+    pub(crate) fn lowest(&mut self) -> usize
+        ensures same { self.new ≡ self.old }
+        ensures below { AllWithin (λ b. b ≡ false) self.old.flags 0 result }
+    {
+        self.lowest = raised_from(&self.flags, self.lowest);
+        self.lowest
     }
 
     /// Makes room for one more flag.

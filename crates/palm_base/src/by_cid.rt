@@ -38,19 +38,6 @@ pub fn stands_at<T: HasCid>(items: &[T], place: usize, cid: &Cid) -> bool
     }
 }
 
-/// The place, where the item under the id stands there.
-#[inline(always)]
-pub fn place_at<T: HasCid>(items: &[T], place: usize, cid: &Cid) -> Option<usize>
-    requires { Rises (map T.id items.now) }
-    ensures { IfSome result (IsPartedAt (λ x. cid_before (T.id x) cid.now) items.now) }
-{
-    if stands_at(items, place, cid) {
-        Some(place)
-    } else {
-        None
-    }
-}
-
 /// How far the numbers of two users are apart, as far behind the place.
 fn likely_place<T: HasCid>(items: &[T], near: usize, cid: &Cid) -> Option<usize> {
     match (items.get(near)?.cid(), cid) {
@@ -66,23 +53,35 @@ fn likely_place<T: HasCid>(items: &[T], near: usize, cid: &Cid) -> Option<usize>
 
 /// The place of the item under the id, where the numbers of users leave none out between it and the one at `near`.
 fn counted_place<T: HasCid>(items: &[T], near: usize, cid: &Cid) -> Option<usize>
-    requires { Rises (map T.id items.now) }
-    ensures { IfSome result (IsPartedAt (λ x. cid_before (T.id x) cid.now) items.now) }
+    ensures { IfSome result (λ place. StandsAt T.id items.now place cid.now) }
 {
     let place = likely_place(items, near, cid)?;
-    place_at(items, place, cid)
+    if stands_at(items, place, cid) {
+        Some(place)
+    } else {
+        None
+    }
+}
+
+/// How many of the items have ids that come before this one, found by halves.
+#[inline(never)]
+fn place_by_halves<T: HasCid>(items: &[T], cid: &Cid) -> usize
+    requires { Rises (map T.id items.now) }
+    ensures { IsPartedAt (λ x. cid_before (T.id x) cid.now) items.now result }
+{
+    items.partition_point(|item| item.cid().is_before(cid))
 }
 
 /// How many of the items have ids that come before this one, counted from the one at `near`, and else found by halves.
 /// The item under the id stands behind these.
-#[inline(never)]
+#[inline(always)]
 pub fn place_from<T: HasCid>(items: &[T], near: usize, cid: &Cid) -> usize
     requires { Rises (map T.id items.now) }
     ensures { IsPartedAt (λ x. cid_before (T.id x) cid.now) items.now result }
 {
     match counted_place(items, near, cid) {
         Some(place) => place,
-        None => items.partition_point(|item| item.cid().is_before(cid)),
+        None => place_by_halves(items, cid),
     }
 }
 

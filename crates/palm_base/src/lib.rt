@@ -17,7 +17,7 @@ mod terms;
 mod writing;
 
 pub use adapters::{StdSink, StdSource};
-pub use by_cid::{HasCid, place_at, place_for, place_from, place_of, stands_at};
+pub use by_cid::{HasCid, place_for, place_from, place_of, stands_at};
 pub use errors::{Failed, NoMemory};
 pub use laws::{ids_are_ordered, limits_are_these_numbers};
 pub use limits::LAST_COUNT;

@@ -1,10 +1,10 @@
 -- What names stand for: variables and declared pairs, constraints with the names of their variables, and what a constraint
 -- says with names in place of variables.
-use Rattle.std.specs.Prelude.{◌≡◌, ℕ, ℤ, ◌<◌, List, map, length, All, Any, Contains}
+use Rattle.std.specs.Prelude.{◌≡◌, ℕ, ℤ, ◌<◌, List, [], ◌∷◌, map, length, All, Any, Contains, ⊤}
 use Rattle.palm_base.specs.declared.terms.Pair.{Pair}
 use Rattle.palm_model.specs.Constraint.{scope}
 use Rattle.palm_model.specs.declared.constraint.Con.{Con}
-use Rattle.palm_model.specs.declared.constraint.Con.TheVariants.{CompareVar as CompareVarCon, CompareConst as CompareConstCon, Linear as LinearCon, Table as TableCon, Element as ElementCon, Count as CountCon, Differ as DifferCon}
+use Rattle.palm_model.specs.declared.constraint.Con.TheVariants.{CompareVar as CompareVarCon, CompareConst as CompareConstCon, Linear as LinearCon, Table as TableCon, Element as ElementCon, Count as CountCon, Differ as DifferCon, Within as WithinCon}
 use Rattle.palm_model.specs.declared.constraint.Target.{Target}
 use Rattle.palm_model.specs.declared.constraint.Target.TheVariants.{Const, Variable}
 use Rattle.palm_model.specs.declared.constraint.Term.{Term}
@@ -22,7 +22,16 @@ named_target variables (Variable x) = VariableTarget (name_of variables x)
 abbrev pub named_term : List BookVar → Term → NameTerm
 named_term variables t = record { factor = t.factor; name = name_of variables t.var }
 
--- a constraint with the names of its variables
+-- the values as the rows of a table of one column
+abbrev pub column_of : List ℤ → List (List ℤ)
+column_of values = map (λ v. v ∷ []) values
+
+-- a line of the language has a form for the constraint: for `x in S` none has, and a table of one column says the same
+abbrev pub HasForm : Con → Type 0
+HasForm (WithinCon var values) = ⊥
+HasForm _ = ⊤
+
+-- a constraint as a line says it, with the names of its variables
 abbrev pub named : List BookVar → Con → Shape
 named variables (CompareVarCon left op right offset) = CompareVar (name_of variables left) op (name_of variables right) offset
 named variables (CompareConstCon left op value) = CompareConst (name_of variables left) op value
@@ -31,6 +40,7 @@ named variables (TableCon vars rows) = Table (map (name_of variables) vars) rows
 named variables (ElementCon outcome index entries) = Element (name_of variables outcome) (name_of variables index) entries
 named variables (CountCon value vars op target) = Count value (map (name_of variables) vars) op (named_target variables target)
 named variables (DifferCon vars) = Differ (map (name_of variables) vars)
+named variables (WithinCon var values) = Table (name_of variables var ∷ []) (column_of values)
 
 -- the variable has the name
 pub record IsVariable (variables : List BookVar) (name : List ℕ) (x : ℕ) : Type 0 where
@@ -53,4 +63,5 @@ IsUnknownName variables name = Any (λ e. e.name ≡ name) variables → ⊥
 -- the constraint says what the shape says, of the variables with these names
 pub record Resolves (variables : List BookVar) (shape : Shape) (con : Con) : Type 0 where
   pub declared : All (λ x. x < length variables) (scope con)
+  pub has_form : HasForm con
   pub says : named variables con ≡ shape

@@ -1,25 +1,23 @@
 -- Lines with names, numbers and lists within the limits: their texts read as these lines.
-use Rattle.std.proofs.Common.{◌∙◌, ◌≡◌, ℕ, ℤ, pos, negsuc, suc, ◌<◌, ◌≤◌, Bool, true, false, Some, List, [], ◌∷◌, ◌++◌, length, map, flat_map, codes, All, refl, sym, ap, subst, arith}
+use Rattle.std.proofs.Common.{◌∙◌, ◌≡◌, ℕ, ℤ, pos, negsuc, suc, ◌<◌, Bool, true, false, Some, List, [], ◌∷◌, ◌++◌, length, map, flat_map, codes, All, refl, sym, ap, subst, arith}
 use Rattle.std.specs.Prelude.{Any, ◌<ℤ◌}
 use Rattle.std.proofs.lemmas.Int.{ints}
-use Rattle.std.proofs.lemmas.List.Elements.{All-nil, All-cons, All-head, All-tail, All-append, All-weaker, recursion_from_All}
+use Rattle.std.proofs.lemmas.List.Elements.{All-nil, All-cons, All-head, All-tail, All-weaker, recursion_from_All}
 use Rattle.palm_base.specs.Ascending.{Ascends}
 use Rattle.palm_model.specs.Limits.{IsUpTo, IsValue}
 use Rattle.palm_model.specs.Table.{IsRow}
-use Rattle.palm_read.specs.Bounds.{Bounded, a_value, up_to}
-use Rattle.palm_read.specs.Bytes.{after_blanks, is_note}
-use Rattle.palm_read.specs.Comparison.{OffsetForm, Plus, Minus, offset_numbers, offset_of, offset_pieces}
-use Rattle.palm_read.specs.Count.{TargetForm, Number, Variable, IsSoundTarget, line_target, line_target_names, target_numbers, target_pieces}
+use Rattle.palm_read.specs.Comparison.{OffsetForm, Plus, Minus, offset_of, offset_pieces}
+use Rattle.palm_read.specs.Count.{TargetForm, Number, Variable, line_target, line_target_names, target_pieces}
 use Rattle.palm_read.specs.Domain.{DomainForm, Interval, Members, IsLarge, IsSoundDomain, domain_pieces, set_of}
-use Rattle.palm_read.specs.Form.{ShapeForm, CompareVarForm, CompareConstForm, LinearForm, TableForm, ElementForm, CountForm, DifferForm, Form, DeclareForm, AddForm}
-use Rattle.palm_read.specs.Grammar.{IsProper, IsProperShape, pieces, shape_pieces}
-use Rattle.palm_read.specs.Limits.{HasNothing, HasRepeat, IsBeyond, IsInRange, Repeats, names_of, shape_numbers}
+use Rattle.palm_read.specs.Form.{ShapeForm, CompareVarForm, CompareConstForm, LinearForm, TableForm, ElementForm, CountForm, DifferForm, DeclareForm, AddForm}
+use Rattle.palm_read.specs.Grammar.{IsProperShape, shape_pieces}
+use Rattle.palm_read.specs.Limits.{HasNothing, HasRepeat, IsBeyond, IsInRange, IsShapeInRange, Repeats, names_of}
 use Rattle.palm_read.specs.Linear.{TermForm, IsSoundTerm, linear_first_term, linear_later_term, linear_terms, linear_unsigned_term, signed, term_of}
 use Rattle.palm_read.specs.Name.{IsNameText}
 use Rattle.palm_read.specs.Piece.{Piece, Named, Mark, Integer, in_parentheses, listed, op_text}
-use Rattle.palm_read.specs.Reading.{IsRead, a_form, line_of, shape_of}
+use Rattle.palm_read.specs.Reading.{IsRead, line_of, shape_of}
 use Rattle.palm_read.specs.Sound.{IsSoundShape}
-use Rattle.palm_read.specs.Text.{line_words, text_of}
+use Rattle.palm_read.specs.Text.{text_of}
 use Rattle.palm_read.specs.declared.line.DomainText.{DomainText}
 use Rattle.palm_read.specs.declared.line.DomainText.TheVariants.{Range, Set}
 use Rattle.palm_read.specs.declared.line.Line.{Line}
@@ -29,28 +27,9 @@ use Rattle.palm_read.specs.declared.line.NameTarget.TheVariants.{Const as ConstT
 use Rattle.palm_read.specs.declared.line.NameTerm.{NameTerm}
 use Rattle.palm_read.specs.declared.line.Shape.{Shape}
 use Rattle.palm_read.specs.declared.line.Shape.TheVariants.{CompareVar, CompareConst, Linear, Table, Element, Count, Differ}
-use Rattle.palm_read.proofs.cited.Canonical.{canonical, canonical_line, canonical_once, canonical_proper, canonical_range, canonical_something, numbers_within}
-use Rattle.palm_read.proofs.cited.Layouts.{words_plain, words_short, words_spell}
-use Rattle.palm_read.proofs.cited.PrintedForms.{words_line}
 use Rattle.palm_read.proofs.cited.PrintedParts.{HasNames}
-use Rattle.palm_read.proofs.cited.Ranges.{IsWithin, a_bound, term_numbers}
+use Rattle.palm_read.proofs.cited.ReadBack.{form_read}
 use Rattle.palm_read.proofs.cited.Sets.{Rises, member_set, rises_set, same_rising, set_member}
-use Rattle.palm_cert.proofs.Saying.{value_within}
-
--- ---- a form with names is printed as a text that reads as its line
-
-says_something : (form : Form) → is_note (after_blanks (text_of (line_of form))) ≡ false
-says_something (DeclareForm name domain) = refl
-says_something _ = refl
-
-form_read : (form : Form) → IsProper form → IsInRange form → (HasNothing (line_of form) → ⊥) → (HasRepeat (line_of form) → ⊥) → (IsBeyond (line_of form) → ⊥) → HasNames (pieces form) → IsRead (text_of (line_of form)) (line_of form)
-form_read form proper range some once near names =
-    let printed = words_line form proper some (numbers_within form range) names near in
-    let words = line_words (line_of form) in
-    let short : length (text_of (line_of form)) ≤ 65536 = omega (arith, words_short words (pieces (canonical form)) printed) in
-    a_form (canonical form) (record { short = short; says = says_something form; plain = words_plain words (pieces (canonical form)) printed })
-    (record { proper = canonical_proper form proper; spells = words_spell words (pieces (canonical form)) printed })
-    (canonical_range form range) (canonical_something form some) (canonical_once form once) (sym (canonical_line form))
 
 -- ---- names among pieces
 
@@ -82,21 +61,6 @@ names_domain : (d : DomainForm) → HasNames (domain_pieces d)
 names_domain (Interval low high) = tt
 names_domain (Members vs) = names_both (listed vs) (Mark (codes "}") ∷ []) (names_listed vs) tt
 
--- ---- numbers of values
-
-values_within : (vs : List ℤ) → All IsValue vs → All IsWithin (map a_value vs)
-values_within [] h = All-nil IsWithin
-values_within (v ∷ vs) h =
-    All-cons IsWithin (a_value v) (map a_value vs) (value_within v (All-head IsValue v vs h)) (values_within vs (All-tail IsValue v vs h))
-
-one_within : (b : Bounded) → IsWithin b → All IsWithin (b ∷ [])
-one_within b w = All-cons IsWithin b [] w (All-nil IsWithin)
-
-rows_within : (n : ℕ) (rows : List (List ℤ)) → All (IsRow n) rows → All IsWithin (flat_map (map a_value) rows)
-rows_within n [] h = All-nil IsWithin
-rows_within n (row ∷ rows) h =
-    All-append IsWithin (map a_value row) (flat_map (map a_value) rows) (values_within row (All-head (IsRow n) row rows h).1) (rows_within n rows (All-tail (IsRow n) row rows h))
-
 -- ---- variables
 
 rises : (vs : List ℤ) → Ascends vs → Rises vs
@@ -109,14 +73,14 @@ set_same vs h = same_rising (set_of vs) vs (rises_set vs) (rises vs h) (set_memb
 -- a name with values reads back
 pub var_read : (name : List ℕ) (domain : DomainText) → IsNameText name → IsSoundDomain domain → (IsLarge domain → ⊥) → IsRead (text_of (Var name domain)) (Var name domain)
 var_read name (Range low high) named sound near =
-    let range = All-cons IsWithin (a_value low) (a_value high ∷ []) (value_within low sound.0) (one_within (a_value high) (value_within high sound.1)) in
-    form_read (DeclareForm name (Interval low high)) tt range (λ less. absurd (omega (arith, ints, less, sound.2))) (λ h. h) near (named, tt)
+    form_read (DeclareForm name (Interval low high)) tt (sound.0, sound.1) (λ less. absurd (omega (arith, ints, less, sound.2))) (λ h. h) near (named, tt)
 var_read name (Set vs) named sound near =
     let same = set_same vs sound.1 in
     let many : IsLarge (Set (set_of vs)) → ⊥ = λ h. near (subst (λ (ws : List ℤ). 256 < length ws) same h) in
     let none : set_of vs ≡ [] → ⊥ = λ e. absurd (omega (arith, sound.0, ap length (sym same ∙ e))) in
+    let range = subst (All IsValue) (sym same) sound.2 in
     subst (λ (ws : List ℤ). IsRead (text_of (Var name (Set ws))) (Var name (Set ws))) same
-    (form_read (DeclareForm name (Members vs)) tt (values_within vs sound.2) none (λ h. h) many (named, names_domain (Members vs)))
+    (form_read (DeclareForm name (Members vs)) tt range none (λ h. h) many (named, names_domain (Members vs)))
 
 -- ---- the form of a constraint
 
@@ -193,33 +157,14 @@ proper (Element outcome index entries) h = tt
 proper (Count value vars op target) h = h.0
 proper (Differ vars) h = h
 
-offset_within : (z : ℤ) → IsUpTo 2000000 z → All IsWithin (offset_numbers (offset_form z))
-offset_within (pos n) h = one_within (up_to 2000000 n) (omega (arith, ints), omega (arith, ints, h.below))
-offset_within (negsuc n) h = one_within (up_to 2000000 (suc n)) (omega (arith, ints), omega (arith, ints, h.above))
-
-size_within : (z : ℤ) → IsUpTo 100000 z → IsWithin (up_to 100000 (size_of z))
-size_within (pos n) h = (omega (arith, ints), omega (arith, ints, h.below))
-size_within (negsuc n) h = (omega (arith, ints), omega (arith, ints, h.above))
-
-terms_within : (ts : List NameTerm) → All IsSoundTerm ts → All IsWithin (flat_map term_numbers (map term_form ts))
-terms_within [] h = All-nil IsWithin
-terms_within (t ∷ ts) h =
-    All-cons IsWithin (up_to 100000 (size_of t.factor)) (flat_map term_numbers (map term_form ts)) (size_within t.factor (All-head IsSoundTerm t ts h).1) (terms_within ts (All-tail IsSoundTerm t ts h))
-
-target_within : (t : NameTarget) → IsSoundTarget t → All IsWithin (target_numbers (target_form t))
-target_within (ConstTarget w) h = one_within (a_value w) (value_within w h)
-target_within (VariableTarget name) h = All-nil IsWithin
-
-in_range : (s : Shape) → IsSoundShape s → All IsWithin (shape_numbers (shape_form s))
-in_range (CompareVar left op right offset) h = offset_within offset h
-in_range (CompareConst left op value) h = one_within (a_value value) (value_within value h)
-in_range (Linear terms op bound) h =
-    All-append IsWithin (flat_map term_numbers (map term_form terms)) (a_bound bound ∷ []) (terms_within terms h.1) (one_within (a_bound bound) (h.3.above, h.3.below))
-in_range (Table vars rows) h = rows_within (length vars) rows h.2
-in_range (Element outcome index entries) h = values_within entries h.1
-in_range (Count value vars op target) h =
-    All-cons IsWithin (a_value value) (target_numbers (target_form target)) (value_within value h.1) (target_within target h.2)
-in_range (Differ vars) h = All-nil IsWithin
+in_range : (s : Shape) → IsSoundShape s → IsShapeInRange s
+in_range (CompareVar left op right offset) h = h
+in_range (CompareConst left op value) h = h
+in_range (Linear terms op bound) h = (All-weaker IsSoundTerm (λ (t : NameTerm). IsUpTo 100000 t.factor) (λ t sound. sound.1) terms h.1, h.3)
+in_range (Table vars rows) h = All-weaker (IsRow (length vars)) (All IsValue) (λ row r. r.1) rows h.2
+in_range (Element outcome index entries) h = h.1
+in_range (Count value vars op target) h = (h.1, h.2)
+in_range (Differ vars) h = tt
 
 no_zero : (ts : List NameTerm) → All IsSoundTerm ts → Any (λ t. t.factor ≡ pos 0) ts → ⊥
 no_zero ts h a = let sound : IsSoundTerm a.1 = subst IsSoundTerm a.3 (h a.0 a.1 a.2) in sound.0 a.4
@@ -294,4 +239,4 @@ add_read name s named names once sound near =
     let none : HasNothing (line_of form) → ⊥ = λ h. nothing_lacks name s sound (subst HasNothing same h) in
     let apart : HasRepeat (line_of form) → ⊥ = λ h. once (subst HasRepeat same h) in
     subst (λ (l : Line). IsRead (text_of l) l) same
-    (form_read form (proper s sound) (in_range s sound) none apart (λ b. near (subst IsBeyond same b)) (named, names_shape s names))
+    (form_read form (proper s sound) (subst IsInRange (sym same) (in_range s sound)) none apart (λ b. near (subst IsBeyond same b)) (named, names_shape s names))

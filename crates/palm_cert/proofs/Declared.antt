@@ -1,13 +1,13 @@
 -- The lines of variables and constraints: each is read as the variable or the constraint that it was written for.
-use Rattle.std.proofs.Common.{◌≡◌, ◌≢◌, ℕ, zero, suc, ℤ, pos, ◌+◌, ◌+ℤ◌, ◌-ℤ◌, ◌<◌, Bool, true, false, ◌&&◌, cond, List, [], ◌∷◌, length, map, codes, All, AllPairs, inl, inr, refl, sym, ap, ◌∙◌, subst, arith, int_eq}
+use Rattle.std.proofs.Common.{◌≡◌, ◌≢◌, ℕ, zero, suc, ℤ, pos, ◌+◌, ◌+ℤ◌, ◌-ℤ◌, ◌<◌, ◌≤◌, Bool, true, false, ◌&&◌, cond, List, [], ◌∷◌, length, map, codes, All, AllPairs, inl, inr, refl, sym, ap, ◌∙◌, subst, arith, int_eq}
 use Rattle.std.proofs.lemmas.Bool.{cases_lt, false≢true}
 use Rattle.std.proofs.lemmas.Bool.Decides.{Decides-int_eq}
 use Rattle.std.proofs.lemmas.Int.{ints}
 use Rattle.std.proofs.lemmas.List.{length-map}
-use Rattle.std.proofs.lemmas.List.Elements.{All-contains, All-head, All-map, All-tail, All-weaker}
+use Rattle.std.proofs.lemmas.List.Elements.{All-cons, All-contains, All-head, All-map, All-nil, All-tail, All-weaker}
 use Rattle.palm_base.proofs.cited.Members.{member_same, member_unmap}
 use Rattle.palm_book.specs.Book.{AreValues, Contents, BookVar, IsBook, name_of, values_at}
-use Rattle.palm_book.specs.Named.{named, named_target, named_term}
+use Rattle.palm_book.specs.Named.{column_of, named, named_target, named_term}
 use Rattle.palm_book.proofs.cited.Resolving.{scope_names}
 use Rattle.palm_lang.specs.Reply.{ended, is_interval, last_of, var_line}
 use Rattle.palm_model.specs.Constraint.{Distinct, IsWellFormed, scope}
@@ -16,7 +16,7 @@ use Rattle.palm_model.specs.Limits.{IsValue}
 use Rattle.palm_model.specs.Linear.{IsFactor}
 use Rattle.palm_model.specs.Table.{IsRow}
 use Rattle.palm_model.specs.declared.constraint.Con.{Con}
-use Rattle.palm_model.specs.declared.constraint.Con.TheVariants.{CompareVar, CompareConst, Linear, Table, Element, Count, Differ}
+use Rattle.palm_model.specs.declared.constraint.Con.TheVariants.{CompareVar, CompareConst, Linear, Table, Element, Count, Differ, Within}
 use Rattle.palm_model.specs.declared.constraint.Target.{Target}
 use Rattle.palm_model.specs.declared.constraint.Target.TheVariants.{Const, Variable}
 use Rattle.palm_model.specs.declared.constraint.Term.{Term}
@@ -167,6 +167,15 @@ module _ (variables : List BookVar) where
   sound_rows : (vars : List ℕ) (rows : List (List ℤ)) → All (IsRow (length vars)) rows → All (IsRow (length (map (name_of variables) vars))) rows
   sound_rows vars rows h = subst (λ (n : ℕ). All (IsRow n) rows) (sym (length-map vars (name_of variables))) h
 
+  -- a table of one column, of values of the language
+  some_rows : (values : List ℤ) → 0 < length values → 0 < length (column_of values)
+  some_rows values some = omega (arith, some, length-map values (λ (v : ℤ). v ∷ []))
+
+  rows_of_one : (values : List ℤ) → All IsValue values → All (IsRow 1) (column_of values)
+  rows_of_one values each =
+      All-map (IsRow 1) (λ (v : ℤ). v ∷ []) values
+      (All-weaker IsValue (λ (v : ℤ). IsRow 1 (v ∷ [])) (λ v h. (refl, All-cons IsValue v [] h (All-nil IsValue))) values each)
+
   named_sound : (con : Con) → IsWellFormed (length variables) con → IsSoundShape (named variables con)
   named_sound (CompareVar left op right offset) formed = formed.shaped
   named_sound (CompareConst left op value) formed = formed.shaped
@@ -176,6 +185,7 @@ module _ (variables : List BookVar) where
   named_sound (Table vars rows) formed = (some_named (name_of variables) vars formed.some, formed.shaped.0.0, sound_rows vars rows formed.shaped.1)
   named_sound (Element outcome index entries) formed = (formed.shaped.0.0, formed.shaped.1)
   named_sound (Count value vars op target) formed = (some_named (name_of variables) vars formed.shaped.0, formed.shaped.1, sound_target target formed.shaped.2)
+  named_sound (Within var values) formed = (omega arith, some_rows values formed.shaped.some, rows_of_one values formed.shaped.each)
   named_sound (Differ vars) formed =
       let shaped = formed.shaped in
       omega (arith, shaped, length-map vars (name_of variables))
@@ -188,6 +198,10 @@ module _ (variables : List BookVar) where
   few_rows (Linear terms op bound) formed many = many
   few_rows (Count value vars op target) formed many = many
   few_rows (Differ vars) formed many = many
+  few_rows (Within var values) formed many =
+      let few : length values ≤ 256 = formed.shaped.few in
+      let more : 256 < length (column_of values) = many in
+      absurd (omega (arith, few, more, length-map values (λ (v : ℤ). v ∷ [])))
 
   -- it keeps to the limits on how many there may be
   pub named_near : (name : List ℕ) (con : Con) → IsWellFormed (length variables) con → IsBeyond (Add name (named variables con)) → ⊥

@@ -1,7 +1,8 @@
 -- Constraints with other numbers for their variables: what lacks support in one lacks it in the other.
 use Rattle.std.proofs.Common.{◌≡◌, ℕ, suc, ℤ, pos, ◌+ℤ◌, ◌*ℤ◌, Bool, true, false, cond, List, [], ◌∷◌, ◌++◌, length, map, filter, Contains, refl, sym, ap, ◌∙◌, subst, int_eq}
 use Rattle.std.proofs.lemmas.List.{map-append}
-use Rattle.palm_base.proofs.cited.Members.{member_map}
+use Rattle.palm_base.proofs.cited.Members.{member_map, member_same, member_unmap}
+use Rattle.palm_book.specs.Named.{column_of}
 use Rattle.palm_model.specs.Constraint.{scope}
 use Rattle.palm_model.specs.Count.{count_among, target_of, target_scope}
 use Rattle.palm_model.specs.Differ.{differ_parts}
@@ -11,14 +12,14 @@ use Rattle.palm_model.specs.Part.{Holds, parts, scope_of}
 use Rattle.palm_model.specs.Relation.{Stands}
 use Rattle.palm_model.specs.Support.{LacksSupport}
 use Rattle.palm_model.specs.declared.constraint.Con.{Con}
-use Rattle.palm_model.specs.declared.constraint.Con.TheVariants.{CompareVar, CompareConst, Linear, Table, Element, Count, Differ}
+use Rattle.palm_model.specs.declared.constraint.Con.TheVariants.{CompareVar, CompareConst, Linear, Table, Element, Count, Differ, Within}
 use Rattle.palm_model.specs.declared.constraint.Op.{Op}
 use Rattle.palm_model.specs.declared.constraint.Op.TheVariants.{Eq, Ne, Lt, Le, Gt, Ge}
 use Rattle.palm_model.specs.declared.constraint.Target.{Target}
 use Rattle.palm_model.specs.declared.constraint.Target.TheVariants.{Const, Variable}
 use Rattle.palm_model.specs.declared.constraint.Term.{Term}
 use Rattle.palm_model.specs.declared.part.Part.{Part}
-use Rattle.palm_model.specs.declared.part.Part.TheVariants.{CompareVar as CompareVarPart, CompareConst as CompareConstPart, Linear as LinearPart, Table as TablePart, Element as ElementPart, Count as CountPart, Differ as DifferPart}
+use Rattle.palm_model.specs.declared.part.Part.TheVariants.{CompareVar as CompareVarPart, CompareConst as CompareConstPart, Linear as LinearPart, Table as TablePart, Element as ElementPart, Count as CountPart, Differ as DifferPart, Within as WithinPart}
 use Rattle.palm_cert.specs.Moved.{moved, moved_target, moved_term}
 use Rattle.palm_model.proofs.cited.Formed.{part_scope}
 
@@ -36,6 +37,7 @@ module _ (other : ℕ → ℕ) where
   moved_part (ElementPart outcome index entries) = ElementPart (other outcome) (other index) entries
   moved_part (CountPart value vars op target) = CountPart value (map other vars) op (moved_target other target)
   moved_part (DifferPart first second) = DifferPart (other first) (other second)
+  moved_part (WithinPart var values) = TablePart (other var ∷ []) (column_of values)
 
   -- ---- parts and scopes
 
@@ -62,6 +64,7 @@ module _ (other : ℕ → ℕ) where
   parts_moved (Element outcome index entries) = refl
   parts_moved (Count value vars op target) = refl
   parts_moved (Differ vars) = differ_moved vars
+  parts_moved (Within var values) = refl
 
   terms_moved : (terms : List Term) → term_vars (map (moved_term other) terms) ≡ map other (term_vars terms)
   terms_moved terms = map_twice (moved_term other) (λ (t : Term). t.var) terms ∙ sym (map_twice (λ (t : Term). t.var) other terms)
@@ -81,6 +84,7 @@ module _ (other : ℕ → ℕ) where
   part_scope_moved (ElementPart outcome index entries) = refl
   part_scope_moved (CountPart value vars op target) = count_moved vars target
   part_scope_moved (DifferPart first second) = refl
+  part_scope_moved (WithinPart var values) = refl
 
   pub scope_moved : (c : Con) → scope (moved other c) ≡ map other (scope c)
   scope_moved (CompareVar left op right offset) = refl
@@ -90,6 +94,7 @@ module _ (other : ℕ → ℕ) where
   scope_moved (Element outcome index entries) = refl
   scope_moved (Count value vars op target) = count_moved vars target
   scope_moved (Differ vars) = refl
+  scope_moved (Within var values) = refl
 
   -- ---- what holds
 
@@ -110,6 +115,14 @@ module _ (other : ℕ → ℕ) where
   target_same a (Const w) = refl
   target_same a (Variable x) = refl
 
+  -- a row of the table is one of the values
+  column_value : (values : List ℤ) (v : ℤ) → Contains (column_of values) (v ∷ []) → Contains values v
+  column_value values v m =
+      let r = member_unmap (λ (w : ℤ). w ∷ []) values (v ∷ []) m in
+      let row : (r.0 ∷ []) ≡ (v ∷ []) = r.2 in
+      let same : r.0 ≡ v = cc in
+      member_same values r.0 v same r.1
+
   holds_moved : (p : Part) (a : Assignment) → Holds (moved_part p) a → Holds p (λ y. a (other y))
   holds_moved (CompareVarPart left op right offset) a h = h
   holds_moved (CompareConstPart var op value) a h = h
@@ -120,6 +133,7 @@ module _ (other : ℕ → ℕ) where
       subst (λ (z : ℤ). Stands op (pos (count_among (λ y. a (other y)) value vars)) z) (target_same a target)
       (subst (λ (n : ℕ). Stands op (pos n) (target_of a (moved_target other target))) (counted_moved a value vars) h)
   holds_moved (DifferPart first second) a h = h
+  holds_moved (WithinPart var values) a h = column_value values (a (other var)) h
 
   -- what lacks support lacks it under the other numbers too, within domains that have no more of the scope's values
   pub lacks_moved : (d e : Domains) (c : Con) (x : ℕ) (v : ℤ) → ((y : ℕ) (w : ℤ) → Contains (scope c) y → Has e (other y) w → Has d y w) → LacksSupport d c x v → LacksSupport e (moved other c) (other x) v

@@ -7,12 +7,12 @@ use Rattle.std.proofs.lemmas.List.Elements.{Contains-append_left, Contains-appen
 use Rattle.std.proofs.lemmas.Option.{get_or_from_slice_get, none-some, same_Some, slice_get_within}
 use Rattle.palm_base.proofs.cited.Members.{all_members, member_get, member_here, member_nil, member_same, member_tail, member_there, member_unmap}
 use Rattle.palm_book.specs.Book.{BookVar, name_of, values_at}
-use Rattle.palm_book.specs.Named.{Resolves, named, named_target, named_term}
+use Rattle.palm_book.specs.Named.{HasForm, Resolves, column_of, named, named_target, named_term}
 use Rattle.palm_model.specs.Constraint.{scope}
 use Rattle.palm_model.specs.Count.{target_scope}
 use Rattle.palm_model.specs.Linear.{term_vars}
 use Rattle.palm_model.specs.declared.constraint.Con.{Con}
-use Rattle.palm_model.specs.declared.constraint.Con.TheVariants.{CompareVar as CompareVarCon, CompareConst as CompareConstCon, Linear as LinearCon, Table as TableCon, Element as ElementCon, Count as CountCon, Differ as DifferCon}
+use Rattle.palm_model.specs.declared.constraint.Con.TheVariants.{CompareVar as CompareVarCon, CompareConst as CompareConstCon, Linear as LinearCon, Table as TableCon, Element as ElementCon, Count as CountCon, Differ as DifferCon, Within as WithinCon}
 use Rattle.palm_model.specs.declared.constraint.Target.{Target}
 use Rattle.palm_model.specs.declared.constraint.Target.TheVariants.{Const, Variable}
 use Rattle.palm_model.specs.declared.constraint.Term.{Term}
@@ -119,6 +119,18 @@ module _ (variables : List BookVar) where
         ∙ ap (λ (t : NameTarget). Count value (map (name_of variables) vars) op t)
         (target_named target (λ y m. same y (Contains-append_right vars (target_scope target) y m)))
     named_moved (DifferCon vars) same = ap (λ (names : List (List ℕ)). Differ names) (vars_named vars same)
+    named_moved (WithinCon var values) same = ap (λ (name : List ℕ). Table (name ∷ []) (column_of values)) (same var (member_here var []))
+
+  -- a line says it by a form of its own
+  moved_form : (other : ℕ → ℕ) (c : Con) → HasForm (moved other c)
+  moved_form other (CompareVarCon left op right offset) = tt
+  moved_form other (CompareConstCon left op value) = tt
+  moved_form other (LinearCon terms op bound) = tt
+  moved_form other (TableCon vars rows) = tt
+  moved_form other (ElementCon outcome index entries) = tt
+  moved_form other (CountCon value vars op target) = tt
+  moved_form other (DifferCon vars) = tt
+  moved_form other (WithinCon var values) = tt
 
   pub resolved : (xs : List ℕ) (c : Con) → ((y : ℕ) → Contains (scope c) y → Contains xs y) → Resolves (entries xs) (named variables c) (moved (place_in xs) c)
   resolved xs c used = record {
@@ -127,5 +139,6 @@ module _ (variables : List BookVar) where
         (all_members (λ (y : ℕ). y < length (entries xs)) (map (place_in xs) (scope c)) (λ y m.
         let r = member_unmap (place_in xs) (scope c) y m in
         subst (λ (z : ℕ). z < length (entries xs)) r.2 (place_declared xs r.0 (used r.0 r.1))));
+    has_form = moved_form (place_in xs) c;
     says = named_moved (entries xs) (place_in xs) c (λ y m. place_name xs y (used y m));
   }

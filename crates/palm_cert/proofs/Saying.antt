@@ -7,13 +7,12 @@ use Rattle.palm_claim.specs.Statement.{IsStepNumber, Says, conflict_claim_pieces
 use Rattle.palm_claim.specs.declared.statement.Statement.TheVariants.{ConflictClaim, Step, ValueClaim}
 use Rattle.palm_claim.specs.declared.verdict.Claim.TheVariants.{Gone, Conflict}
 use Rattle.palm_model.specs.Limits.{IsValue}
-use Rattle.palm_read.specs.Bounds.{a_value}
+use Rattle.palm_read.specs.Bounds.{IsWithin, a_value}
 use Rattle.palm_read.specs.Name.{IsNameText}
 use Rattle.palm_read.specs.Piece.{Natural}
 use Rattle.palm_read.specs.Words.{spaced}
 use Rattle.palm_read.proofs.cited.Layouts.{Words, lays_natural, words_keyword, words_name, words_none, words_number, words_plain, words_short, words_spell, words_weaker}
 use Rattle.palm_read.proofs.cited.PrintedParts.{lays_value}
-use Rattle.palm_read.proofs.cited.Ranges.{IsWithin}
 use Rattle.palm_cert.specs.Certificate.{claim_words, from_words, step_words}
 
 pub value_within : (v : ℤ) → IsValue v → IsWithin (a_value v)

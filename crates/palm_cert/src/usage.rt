@@ -32,7 +32,7 @@ fn is_over(con: &Con, var: Var) -> bool
 {
     match con {
         Con::CompareVar { left, right, .. } => left.0 == var.0 || right.0 == var.0,
-        Con::CompareConst { left, .. } => left.0 == var.0,
+        Con::CompareConst { left: only, .. } | Con::Within { var: only, .. } => only.0 == var.0,
         Con::Linear { terms, .. } => has_term(terms.as_slice(), var),
         Con::Table { vars, .. } | Con::Differ { vars } => has_var(vars.as_slice(), var),
         Con::Element { outcome, index, .. } => outcome.0 == var.0 || index.0 == var.0,

@@ -263,7 +263,7 @@ leads_on d Header none = (at_stage d Declaring, refl)
 leads_on d (Variable name domain) none = (with_variable d name (values_in domain), refl)
 leads_on d (Constraint name shape) none =
     let r = constraint_with d.book.variables shape (named_all d.book.variables (names_of shape) (λ a. none.1.0 (inr a))) in
-    (with_constraint d name r.0, (r.0, record { declared = r.1; says = r.2 }, refl))
+    (with_constraint d name r.0, (r.0, record { declared = r.1; has_form = r.3; says = r.2 }, refl))
 leads_on d (Step name value by reasons) none =
     let p = pair_with d.book.variables name value (settled (declared_known d.book.variables name value) (λ n. none.1.0 (inl n))) in
     (with_step d p.0, (p.0, p.1, refl))

@@ -1,5 +1,5 @@
 -- The verdict on a text: the first line that has a cause, with its first cause, or that it is accepted.
-use Rattle.std.specs.Prelude.{◌≡◌, ℕ, ◌+◌, ◌<◌, ◌≤◌, ◌⊎◌, List, [], ◌∷◌, length, Any, ⊤}
+use Rattle.std.specs.Prelude.{◌≡◌, ℕ, ◌+◌, ◌<◌, ◌≤◌, ◌⊎◌, List, [], ◌∷◌, length, Any}
 use Rattle.palm_base.specs.First.{IsFirst, IsNone}
 use Rattle.palm_base.specs.declared.terms.Pair.{Pair}
 use Rattle.palm_book.specs.Book.{Contents, HasConstraint, HasVariable}

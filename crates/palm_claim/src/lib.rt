@@ -1,5 +1,5 @@
 //! Certificates: what their lines say, when a step is right and a claim is reached, what the verdict on a text is, and
-//! the laws of verdicts. It has no code but the types.
+//! the laws of verdicts. It has no code but the types and the copy of a claim.
 #![tactic(auto)]
 
 mod laws;

@@ -1,4 +1,6 @@
 //! What a certificate claims, and the verdict on it.
+ghost use Rattle.std.specs.Prelude.{◌≡◌};
+
 use palm_base::{Pair, Var};
 use palm_book::Book;
 
@@ -9,6 +11,18 @@ pub enum Claim {
     Gone(Pair),
     /// They are a conflict, in whose greatest closed domains the variable has no value.
     Conflict(Var),
+}
+
+impl Claim {
+    /// The claim again.
+    pub fn copy(&self) -> Claim
+        ensures { result ≡ self.now }
+    {
+        match self {
+            Claim::Gone(pair) => Claim::Gone(pair.copy()),
+            Claim::Conflict(var) => Claim::Conflict(*var),
+        }
+    }
 }
 
 /// What an accepted certificate has proved.

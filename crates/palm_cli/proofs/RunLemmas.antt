@@ -2,8 +2,7 @@
 use Rattle.std.proofs.Common.{◌≡◌, ℕ, ◌+◌, ◌-◌, ◌<◌, ◌≤◌, ◌⊎◌, inl, inr, List, [], ◌∷◌, ◌++◌, map, flat_map, take, drop, length, All, Option, Some, None, Ok, Err, false, get_or, Global, String, string_bytes, refl, sym, ap, ◌∙◌, subst, arith, append_assoc, append-nil, length-append, min, zero, suc}
 use Rattle.std.proofs.lemmas.List.{take_all, length-take, take-append-drop}
 use Rattle.std.proofs.Math.Seq.{take-append-add}
-use Rattle.std.proofs.lemmas.List.Elements.{All-nil, All-cons, All-append, All-head, All-tail}
-use Rattle.palm_base.proofs.cited.Members.{Known, nat_known}
+use Rattle.std.proofs.lemmas.List.Elements.{All-nil, All-append, All-head}
 use Rattle.palm_base.specs.Streams.{SinkState, Consumes, Rose}
 use Rattle.palm_base.proofs.cited.StreamLemmas.{consumes_nothing, consumes_both, appended_both}
 use Rattle.palm_lang.proofs.cited.Writes.{stopped_in_second}
@@ -11,15 +10,15 @@ use Rattle.palm_lang.specs.Reply.{ended}
 use Rattle.palm_lang.specs.declared.stop.WriteStop.{WriteStop as Stop}
 use Rattle.palm_lang.specs.declared.stop.WriteStop.TheVariants as stops
 use Rattle.palm_session.specs.State.{SessionState, fresh}
-use Rattle.palm_read.specs.Lines.{HasNoFeed, Cuts, AreLines, last_line, without_return}
+use Rattle.palm_read.proofs.cited.Cutting.{text_lines}
+use Rattle.palm_read.specs.Lines.{HasNoFeed, AreLines, last_line, without_return}
 use Rattle.palm_session.specs.Replies.{Run, AreAnswered, GoesOn, Ends, all, until}
 use Rattle.palm_session.specs.Feeding.{View, FeedsOn, FeedsEnd, FeedsPart, FinishesAll, FinishesPart}
-use Rattle.palm_session.proofs.cited.FeedLemmas.{feeds_more, feeds_more_end, feeds_more_part, feeds_none, part_nothing, run_append, run_then, map_more, map_append}
+use Rattle.palm_session.proofs.cited.FeedLemmas.{feeds_more, feeds_more_end, feeds_more_part, feeds_none, part_nothing, run_append, run_then, map_more}
 use Rattle.palm_session.proofs.cited.LawsOfTexts.{last_known}
 use Rattle.palm_session.proofs.cited.Asked.{run_of}
 use Rattle.palm_session.proofs.cited.Keeping.{feeds_long, feeds_long_end, feeds_long_part, finishes_long, finishes_long_part}
 use Rattle.palm_session.specs.declared.limits.TheConstants.{MOST_KEPT_BYTES}
-use Rattle.std.proofs.lemmas.Grind.{flat_map-append}
 use Rattle.palm_cli.specs.Commands.{Streams, IsCalm, FailsToWrite, RunsAll, RunsPart, HasEnd, StopsInTime, IsWhole, IsCut, Runs, HasNoFault, TakesAnswerable, TakesTooMuch, first_bytes}
 use Rattle.palm_cli.specs.Serving.{IsFresh, FinishesStatus, FeedsStatus, ReadsPiece, ReadsEnd, PumpsFault, PumpsPiece, Pumps}
 use Rattle.palm_cli.proofs.Endings.{no_end}
@@ -282,64 +281,6 @@ module _ (guides orders : List ℕ) where
   last_runs before mid now taken session Usage s le e f = f
   last_runs before mid now taken session ReadFault s le e f = absurd f
   last_runs before mid now taken session TooLong s le e f = absurd f
-
-  -- a byte before the first line of a text
-  cut_onto : (b : ℕ) (bytes : List ℕ) (lines : List (List ℕ)) (rest : List ℕ) → (b ≡ 10 → ⊥) → Cuts bytes lines rest → (ls : List (List ℕ)) × (r : List ℕ) × Cuts (b ∷ bytes) ls r
-  cut_onto b bytes [] rest other c = (
-    [],
-    b ∷ rest,
-    record {
-      whole = ap (λ (z : List ℕ). b ∷ z) c.whole;
-      unbroken = All-nil HasNoFeed;
-      unfinished = All-cons (λ x. x ≡ 10 → ⊥) b rest other c.unfinished;
-    },
-  )
-  cut_onto b bytes (l ∷ ls) rest other c = (
-    (b ∷ l) ∷ ls,
-    rest,
-    record {
-      whole = ap (λ (z : List ℕ). b ∷ z) c.whole;
-      unbroken = All-cons HasNoFeed (b ∷ l) ls (All-cons (λ x. x ≡ 10 → ⊥) b l other (All-head HasNoFeed l ls c.unbroken)) (All-tail HasNoFeed l ls c.unbroken);
-      unfinished = c.unfinished;
-    },
-  )
-
-  cut_more : (b : ℕ) (bytes : List ℕ) → ((lines : List (List ℕ)) × (rest : List ℕ) × Cuts bytes lines rest) → Known (b ≡ 10) → (lines : List (List ℕ)) × (rest : List ℕ) × Cuts (b ∷ bytes) lines rest
-  cut_more b bytes c (inl feed) = (
-    [] ∷ c.0,
-    c.1,
-    record {
-      whole = ap (λ (x : ℕ). x ∷ bytes) feed ∙ ap (λ (z : List ℕ). 10 ∷ z) c.2.whole;
-      unbroken = All-cons HasNoFeed [] c.0 (All-nil (λ x. x ≡ 10 → ⊥)) c.2.unbroken;
-      unfinished = c.2.unfinished;
-    },
-  )
-  cut_more b bytes c (inr other) = cut_onto b bytes c.0 c.1 other c.2
-
-  -- any text can be cut into lines
-  pub cut_of : (text : List ℕ) → (lines : List (List ℕ)) × (rest : List ℕ) × Cuts text lines rest
-  cut_of [] = ([], [], record { whole = refl; unbroken = All-nil HasNoFeed; unfinished = All-nil (λ b. b ≡ 10 → ⊥) })
-  cut_of (b ∷ bytes) = cut_more b bytes (cut_of bytes) (nat_known b 10)
-
-  -- the lines of a text whose first lines are known
-  text_lines : (text : List ℕ) (lines : List (List ℕ)) (rest : List ℕ) → text ≡ flat_map ended lines ++ rest → All HasNoFeed lines
-      → (others : List (List ℕ)) × AreLines text (map without_return lines ++ others)
-  text_lines text lines rest whole unbroken =
-      let c = cut_of rest in (
-        map without_return c.0 ++ last_line c.1,
-        record {
-          ended_lines = lines ++ c.0;
-          rest = c.1;
-          cuts = record {
-            whole = whole ∙ ap (λ (z : List ℕ). flat_map ended lines ++ z) c.2.whole ∙ sym (append_assoc (flat_map ended lines) (flat_map ended c.0) c.1)
-                ∙ ap (λ (z : List ℕ). z ++ c.1) (sym (flat_map-append ended lines c.0));
-            unbroken = All-append HasNoFeed lines c.0 unbroken c.2.unbroken;
-            unfinished = c.2.unfinished;
-          };
-          all = sym (append_assoc (map without_return lines) (map without_return c.0) (last_line c.1))
-              ∙ ap (λ (z : List (List ℕ)). z ++ last_line c.1) (sym (map_append lines c.0));
-        },
-      )
 
   whole_end : (n : ℕ) (text rest : List ℕ) (lines : List (List ℕ)) → take n text ≡ flat_map ended lines ++ rest → text ≡ flat_map ended lines ++ (rest ++ drop n text)
   whole_end n text rest lines e =

@@ -257,6 +257,17 @@ module _ (s : Slab Node) (first count : ℕ) (chain : List ℕ) (line : IsLine s
       let e : place + 1 ≡ suc place = omega arith in
       sym is ∙ line.follows place key k line_at (subst (λ p. slice_get chain p ≡ Some k) e at)
 
+-- the chain is that of all nodes with the same marks and links
+pub line_on : (s t : Slab Node) (first count : ℕ) (chain : List ℕ) → marks_of t ≡ marks_of s → nexts_of t ≡ nexts_of s → IsLine s first count chain → IsLine t first count chain
+line_on s t first count chain marks nexts line = record {
+  long = line.long;
+  starts = line.starts;
+  follows = λ i k j at there. ap (λ q. q k) nexts ∙ line.follows i k j at there;
+  once = line.once;
+  marked = λ k m. ap (λ q. q k) marks ∙ line.marked k m;
+  whole = λ k m. line.whole k (sym (ap (λ q. q k) marks) ∙ m);
+}
+
 -- where nothing is marked the chain is empty
 pub no_line : (s : Slab Node) (first : ℕ) → ((k : ℕ) → marks_of s k ≡ false) → IsLine s first 0 []
 no_line s first none = record {

@@ -5,7 +5,7 @@ use Rattle.std.proofs.lemmas.List.{take_more, take_all}
 use Rattle.std.proofs.lemmas.List.Elements.{Contains-append_left, Contains-push}
 use Rattle.palm_base.proofs.cited.Members.{member_nil, member_cases, member_here, member_there, member_same, member_single, member_take, member_take_more}
 use Rattle.palm_model.specs.Constraint.{Distinct}
-use Rattle.palm_explain.specs.Graph.{AreOnce, Graph, HasForgotten, HasLinked, HasMarked, IsAmongFirst, IsAntecedent, IsKey, IsSameNode, IsTailed, Link}
+use Rattle.palm_explain.specs.Graph.{AreOnce, Graph, HasForgotten, HasLinked, HasMarked, IsAmongFirst, IsAntecedent, IsDependent, IsKey, IsSameNode, IsTailed, Link}
 use Rattle.palm_explain.proofs.Graphs.{link_same}
 
 pub same_then : (l m n : Link) → IsSameNode l m → IsSameNode m n → IsSameNode l n
@@ -234,44 +234,36 @@ antecedent_back g h Gone c k forgotten antecedent = was (g k) refl
         let same = link_same h k m.0 antecedent.0 m.1 antecedent.1 in
         (l, e, subst (λ cs. Contains cs c) (ap (λ (z : Link). z.antecedents) (sym same) ∙ m.2.antecedents) antecedent.2)
 
--- what is forgotten from a place on
-abbrev pub IsGoneFrom : Graph → (ℕ → Bool) → List ℕ → ℕ → ℕ → ℕ → Type 0
-IsGoneFrom g marks log i k d = Contains (drop i log) d × (marks d ≡ true) × (marks k ≡ false) × IsAntecedent g k d
+-- where dependents alone are forgotten it matters of them alone what is gone
+pub forgotten_among : (g h : Graph) (Gone Same : ℕ → ℕ → Type 0) → ((k d : ℕ) → IsDependent g d k → Gone k d → Same k d) → ((k d : ℕ) → IsDependent g d k → Same k d → Gone k d) → HasForgotten g h Gone → HasForgotten g h Same
+forgotten_among g h Gone Same to back forgotten = record {
+  none = forgotten.none;
+  some = λ k l at.
+      let m = forgotten.some k l at in
+      (m.0, m.1, m.2, λ d q. let a = m.3 d q in (a.0, λ s. a.1 (back k d (l, at, a.0) s)), λ d q free. m.4 d q (λ gone. free (to k d (l, at, q) gone)));
+  once = forgotten.once;
+}
 
-module _ (g h f : Graph) (marks now : ℕ → Bool) (log : List ℕ) (place next key : ℕ) (rest_is : drop place log ≡ key ∷ drop next log) (same : now ≡ marks)
-    (forgotten : HasForgotten g h (IsGoneFrom g marks log next)) where
-  from_later : (k d : ℕ) → IsGoneFrom g marks log next k d → IsGoneFrom g marks log place k d
-  from_later k d m = (subst (λ l. Contains l d) (sym rest_is) (member_there key (drop next log) d m.0), m.1, m.2, m.3)
+-- the marked ones are gone at the antecedents of the first so many of the chain
+abbrev pub IsGoneTo : Graph → (ℕ → Bool) → List ℕ → ℕ → ℕ → ℕ → Type 0
+IsGoneTo g marks chain i k d = (marks d ≡ true) × (marks k ≡ false) × ((e : ℕ) × Contains (take i chain) e × IsAntecedent g k e)
 
-  from_cases : (k d : ℕ) → IsGoneFrom g marks log place k d → (key ≡ d) ⊎ IsGoneFrom g marks log next k d
-  from_cases k d m = elim (member_cases key (drop next log) d (subst (λ l. Contains l d) rest_is m.0)) [
-    | inl e ↦ inl e
-    | inr n ↦ inr (n, m.1, m.2, m.3)
-  ]
+pub gone_none : (g : Graph) (marks : ℕ → Bool) (chain : List ℕ) (k d : ℕ) → IsGoneTo g marks chain 0 k d → ⊥
+gone_none g marks chain k d m = member_nil m.2.0 m.2.1
 
-  -- the marked one at the place is forgotten too
-  pub gone_next : now key ≡ true → HasForgotten h f (λ k d. (key ≡ d) × (now k ≡ false) × IsAntecedent h k key) → HasForgotten g f (IsGoneFrom g marks log place)
-  gone_next is more =
-      let Next : ℕ → ℕ → Type 0 = λ k d. (key ≡ d) × (now k ≡ false) × IsAntecedent h k key in
-      forgotten_then g h f (IsGoneFrom g marks log next) Next (IsGoneFrom g marks log place) from_later
-      (λ k d n. (
-        member_same (drop place log) key d n.0 (subst (λ l. Contains l key) (sym rest_is) (member_here key (drop next log))),
-        subst (λ z. marks z ≡ true) n.0 (sym (ap (λ m. m key) same) ∙ is),
-        sym (ap (λ m. m k) same) ∙ n.1,
-        subst (λ z. IsAntecedent g k z) n.0 (antecedent_back g h (IsGoneFrom g marks log next) k key forgotten n.2),
+module _ (g h f : Graph) (marks now : ℕ → Bool) (chain : List ℕ) (i key : ℕ) (lt : i < length chain) (at : key ≡ get_or chain i key) (same : now ≡ marks) (forgotten : HasForgotten g h (IsGoneTo g marks chain i)) where
+  -- and at those of one more
+  pub gone_next : HasForgotten h f (λ k d. (now d ≡ true) × (now k ≡ false) × IsAntecedent h k key) → HasForgotten g f (IsGoneTo g marks chain (i + 1))
+  gone_next more =
+      forgotten_then g h f (IsGoneTo g marks chain i) (λ k d. (now d ≡ true) × (now k ≡ false) × IsAntecedent h k key) (IsGoneTo g marks chain (i + 1))
+      (λ k d m. (m.0, m.1, (m.2.0, more_left chain i key m.2.0 lt at m.2.1, m.2.2)))
+      (λ k d m. (
+        sym (ap (λ q. q d) same) ∙ m.0,
+        sym (ap (λ q. q k) same) ∙ m.1,
+        (key, more_last chain i key key lt at refl, antecedent_back g h (IsGoneTo g marks chain i) k key forgotten m.2),
       ))
-      (λ k d m. elim (from_cases k d m) [
-        | inl e ↦ inr (e, ap (λ q. q k) same ∙ m.2, antecedent_on g h (IsGoneFrom g marks log next) k key forgotten (subst (λ z. IsAntecedent g k z) (sym e) m.3))
-        | inr n ↦ inl n
+      (λ k d m. elim (member_take_more chain i key m.2.0 lt at m.2.1) [
+        | inl p ↦ inl (m.0, m.1, (m.2.0, p, m.2.2))
+        | inr e ↦ inr (ap (λ q. q d) same ∙ m.0, ap (λ q. q k) same ∙ m.1, antecedent_on g h (IsGoneTo g marks chain i) k key forgotten (subst (λ z. IsAntecedent g k z) (sym e) m.2.2))
       ])
       forgotten more
-
-  -- one without a mark is not
-  pub gone_same : now key ≡ false → HasForgotten g h (IsGoneFrom g marks log place)
-  gone_same is =
-      forgotten_like g h (IsGoneFrom g marks log next) (IsGoneFrom g marks log place) from_later
-      (λ k d m. elim (from_cases k d m) [
-        | inl e ↦ absurd (false≢true (sym is ∙ ap (λ q. q key) same ∙ ap marks e ∙ m.1))
-        | inr n ↦ n
-      ])
-      forgotten

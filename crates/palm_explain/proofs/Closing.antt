@@ -50,7 +50,7 @@ same_rest x y xs ys e = cc
 pub same_at : {X : Type 0} (xs ys : List X) (i : ℕ) (x : X) → drop i xs ≡ drop i ys → slice_get ys i ≡ Some x → slice_get xs i ≡ Some x
 same_at xs ys i x same at = first_dropped xs i x (drop (suc i) ys) (same ∙ drop_first ys i x at)
 
-same_after : {X : Type 0} (xs ys : List X) (i : ℕ) (x : X) → drop i xs ≡ drop i ys → slice_get ys i ≡ Some x → drop (suc i) xs ≡ drop (suc i) ys
+pub same_after : {X : Type 0} (xs ys : List X) (i : ℕ) (x : X) → drop i xs ≡ drop i ys → slice_get ys i ≡ Some x → drop (suc i) xs ≡ drop (suc i) ys
 same_after xs ys i x same at =
     same_rest x x (drop (suc i) xs) (drop (suc i) ys) (sym (drop_first xs i x (same_at xs ys i x same at)) ∙ same ∙ drop_first ys i x at)
 
@@ -67,7 +67,7 @@ pub record IsClosing (g : Graph) (marks : ℕ → Bool) (old : List ℕ) (f : Gr
   pub later : (k : ℕ) → Contains (drop place old) k → (f k ≡ g k) × (now k ≡ marks k)
   pub none : (k : ℕ) → g k ≡ None → (f k ≡ None) × (now k ≡ false)
 
-kept_all : (marks : ℕ → Bool) (xs : List ℕ) → ((k : ℕ) → Contains xs k → marks k ≡ false) → kept_of marks xs ≡ xs
+pub kept_all : (marks : ℕ → Bool) (xs : List ℕ) → ((k : ℕ) → Contains xs k → marks k ≡ false) → kept_of marks xs ≡ xs
 kept_all marks [] none = refl
 kept_all marks (x ∷ xs) none =
     ap (λ b. cond (not b) (x ∷ kept_of marks xs) (kept_of marks xs)) (none x (member_here x xs)) ∙ ap (λ l. x ∷ l) (kept_all marks xs (λ k m. none k (member_there x xs k m)))

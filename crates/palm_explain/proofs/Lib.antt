@@ -3,6 +3,8 @@ mod Changes
 pub mod cited
 mod ClosedUp
 mod Closing
+mod Counting
+mod Dropping
 mod Entered
 mod Going
 mod Graphs
@@ -18,6 +20,7 @@ mod RowKeys
 mod Stores
 mod Taking
 mod ThreadKeys
+mod Unmarked
 mod Visits
 mod Walks
 mod Writes

@@ -149,36 +149,6 @@ threaded_forgot t u g Out cid key threaded is formed fewer keep once others = re
   once = once_with t u cid threaded.once once others;
 }
 
--- the constraint's own, and the marked ones from a place of the log on
-abbrev pub IsOutFrom : Graph → Cid → (ℕ → Bool) → List ℕ → ℕ → ℕ → Type 0
-IsOutFrom g cid marks log i k = IsBy g cid k ⊎ (Contains (drop i log) k × (marks k ≡ true))
-
-none_dropped : (xs : List ℕ) (k : ℕ) → Contains (drop (length xs) xs) k → ⊥
-none_dropped [] k m = member_nil k m
-none_dropped (x ∷ xs) k m = none_dropped xs k m
-
-pub threaded_end : (t : Threads) (g : Graph) (cid : Cid) (marks : ℕ → Bool) (log : List ℕ) (end : ℕ) → end ≡ length log → AreThreaded t g (IsBy g cid) → AreThreaded t g (IsOutFrom g cid marks log end)
-threaded_end t g cid marks log end is =
-    threaded_like t g (IsBy g cid) (IsOutFrom g cid marks log end) (λ k by. inl by) (λ k o. elim o [
-      | inl by ↦ by
-      | inr m ↦ absurd (none_dropped log k (subst (λ i. Contains (drop i log) k) is m.0))
-    ])
-
--- the one before the place is out too, where it is marked
-pub threaded_from : (t : Threads) (g : Graph) (cid : Cid) (marks : ℕ → Bool) (log : List ℕ) (place next key : ℕ) (Now : ℕ → Type 0) → drop place log ≡ key ∷ drop next log
-    → ((k : ℕ) → Now k → IsOutFrom g cid marks log next k ⊎ ((key ≡ k) × (marks k ≡ true))) → ((k : ℕ) → IsOutFrom g cid marks log next k ⊎ ((key ≡ k) × (marks k ≡ true)) → Now k)
-    → AreThreaded t g Now → AreThreaded t g (IsOutFrom g cid marks log place)
-threaded_from t g cid marks log place next key Now rest_is to back =
-    threaded_like t g Now (IsOutFrom g cid marks log place)
-    (λ k now. elim (to k now) [
-      | inl o ↦ elim o [ inl by ↦ inl by | inr m ↦ inr (subst (λ l. Contains l k) (sym rest_is) (member_there key (drop next log) k m.0), m.1) ]
-      | inr e ↦ inr (subst (λ l. Contains l k) (sym rest_is) (member_same (key ∷ drop next log) key k e.0 (member_here key (drop next log))), e.1)
-    ])
-    (λ k o. elim o [
-      | inl by ↦ back k (inl (inl by))
-      | inr m ↦ elim (member_cases key (drop next log) k (subst (λ l. Contains l k) rest_is m.0)) [ inl e ↦ back k (inr (e, m.1)) | inr n ↦ back k (inl (inr (n, m.1))) ]
-    ])
-
 -- what was taken is all that the constraint removed
 pub taken_sound : (t : Threads) (g : Graph) (cid : Cid) (own : List ℕ) → AreThreaded t g (λ k. ⊥) → own ≡ thread_of t cid → (k : ℕ) → Contains own k → IsBy g cid k
 taken_sound t g cid own threaded is k m = (threaded.sound cid k (subst (λ l. Contains l k) is m)).0

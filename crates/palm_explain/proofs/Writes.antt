@@ -1,6 +1,6 @@
 -- What a write to one node changes, and what it does not.
-use Rattle.std.proofs.Common.{◌≡◌, ◌≢◌, ℕ, ◌-◌, Bool, false, cond, List, [], ◌∷◌, ◌++◌, length, Option, Some, None, is_some, IsSome, Contains, slice_get, ◌⊎◌, inl, inr, refl, sym, ap, ◌∙◌, subst, arith}
-use Rattle.std.proofs.lemmas.Bool.{cases_eq}
+use Rattle.std.proofs.Common.{◌≡◌, ◌≢◌, ℕ, ◌-◌, Bool, false, true, not, cond, List, [], ◌∷◌, ◌++◌, length, Option, Some, None, is_some, IsSome, Contains, slice_get, ◌⊎◌, inl, inr, refl, sym, ap, ◌∙◌, subst, arith}
+use Rattle.std.proofs.lemmas.Bool.{cases_Bool, cases_eq, false≢true}
 use Rattle.std.proofs.lemmas.List.Elements.{Contains-append_left, Contains-push, Contains-push_cases}
 use Rattle.std.proofs.lemmas.List.{length-append}
 use Rattle.std.proofs.lemmas.List.Sums.{sum_by-set}
@@ -10,8 +10,10 @@ use Rattle.palm_base.proofs.cited.Members.{member_get, member_here, member_same,
 use Rattle.palm_model.specs.Constraint.{Distinct}
 use Rattle.palm_explain.specs.declared.node.Node.{Node}
 use Rattle.palm_explain.specs.Graph.{HasForgotten, HasLinked, IsKey, IsMoved, IsReady, IsReadyAt, IsSameNode, IsTailed, IsTakenOut, KeepsRoom, Link, graph_of, has_mark, link_of, marks_of, said}
+use Rattle.palm_explain.specs.Lost.{kept_of}
 use Rattle.palm_explain.proofs.Entered.{place_last}
 use Rattle.palm_explain.proofs.Graphs.{link_same, some_same}
+use Rattle.palm_explain.proofs.Unmarked.{distinct_filter, kept_member, member_kept}
 
 pub none_some : {X : Type 0} {x : X} → None ≡ Some x → ⊥
 none_some e = cc
@@ -115,10 +117,8 @@ module _ (s t : Slab Node) (k : ℕ) (n v : Node) (at : get s k ≡ Some n) (the
     | inr differs ↦ subst (λ (z : Link). P z.dependents) (link_same (graph_of t) j l m (ap link_of (others j differs) ∙ is) has) p
   ]
 
-  pub forgets : (key : ℕ) → ((d : ℕ) → Contains v.dependents.items d → Contains n.dependents.items d × (key ≡ d → ⊥)) → ((d : ℕ) → Contains n.dependents.items d → (key ≡ d → ⊥) → Contains v.dependents.items d)
-      → (Distinct n.dependents.items → Distinct v.dependents.items)
-      → (marks : ℕ → Bool) → marks k ≡ false → HasForgotten (graph_of s) (graph_of t) (λ j d. (k ≡ j) × (key ≡ d) × (marks j ≡ false))
-  forgets key fewer keep once marks free_mark = record {
+  pub drops : (marks : ℕ → Bool) → marks k ≡ false → v.dependents.items ≡ kept_of marks n.dependents.items → HasForgotten (graph_of s) (graph_of t) (λ j d. (k ≡ j) × (marks d ≡ true) × (marks j ≡ false))
+  drops marks free_mark kept = record {
     none = vacant;
     some = λ j l is. elim (cases_eq j k) [
       | inl e ↦
@@ -126,12 +126,17 @@ module _ (s t : Slab Node) (k : ℕ) (n v : Node) (at : get s k ≡ Some n) (the
             r.0,
             subst (λ i. graph_of t i ≡ Some r.0) (sym e) r.1,
             r.2,
-            λ d m. let f = fewer d (subst (λ ds. Contains ds d) r.3 m) in (subst (λ ds. Contains ds d) (sym r.4) f.0, λ gone. f.1 gone.1),
-            λ d m free. subst (λ ds. Contains ds d) (sym r.3) (keep d (subst (λ ds. Contains ds d) r.4 m) (λ same. free (sym e, same, ap marks e ∙ free_mark))),
+            λ d m.
+                let f = kept_member marks n.dependents.items d (subst (λ ds. Contains ds d) (r.3 ∙ kept) m) in
+                (subst (λ ds. Contains ds d) (sym r.4) f.0, λ gone. false≢true (sym f.1 ∙ gone.1)),
+            λ d m free. elim (cases_Bool (marks d)) [
+              | inl is ↦ absurd (free (sym e, is, ap marks e ∙ free_mark))
+              | inr off ↦ subst (λ ds. Contains ds d) (sym (r.3 ∙ kept)) (member_kept marks n.dependents.items d (subst (λ ds. Contains ds d) r.4 m) off)
+            ],
           )
       | inr differs ↦ (l, ap link_of (others j differs) ∙ is, itself l, λ d m. (m, λ gone. differs (sym gone.0)), λ d m free. m)
     ];
-    once = dependents_by Distinct once;
+    once = dependents_by Distinct (λ once. subst Distinct (sym kept) (distinct_filter (λ j. not (marks j)) n.dependents.items once));
   }
 
   pub links : (key : ℕ) → ((d : ℕ) → Contains v.dependents.items d → Contains n.dependents.items d ⊎ (key ≡ d)) → ((d : ℕ) → Contains n.dependents.items d ⊎ (key ≡ d) → Contains v.dependents.items d)

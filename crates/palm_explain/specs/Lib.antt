@@ -1,4 +1,5 @@
 pub mod Chain
+pub mod Counts
 pub mod Explanations
 pub mod Graph
 pub mod Lost

@@ -1,8 +1,15 @@
-//! Lists of dependents that lost removals leave. Later removals fill them again, so that memory is asked for once.
+//! Lists of dependents that lost removals leave. Later removals fill them again, so that memory is asked for less often. A few
+//! short ones are kept, whatever is lost, so that what is kept is bounded.
 ghost use Rattle.std.specs.Prelude.{◌≡◌, []};
 
 use palm_base::NoMemory;
 use std::alloc::{AllocFailed, Global};
+
+/// The most lists that are kept.
+const MOST: usize = 1024;
+
+/// The most keys for which a kept list has room.
+const LONGEST: usize = 16;
 
 /// The lists of dependents of lost removals.
 #[derive(Debug, Drop)]
@@ -18,9 +25,11 @@ impl Emptied {
         }
     }
 
-    /// Makes room for so many lists more.
+    /// Makes room for so many lists more, as far as they are kept.
     pub(crate) fn make_room(&mut self, more: usize) -> Result<(), NoMemory> {
-        self.lists.reserve(more)?;
+        if self.lists.len() < MOST {
+            self.lists.reserve(more.min(MOST))?;
+        }
         Ok(())
     }
 
@@ -37,9 +46,10 @@ impl Emptied {
         }
     }
 
-    /// Keeps a list, where there is room for it.
+    /// Keeps a list, where it is short and there is room for it.
     pub(crate) fn keep(&mut self, list: Vec<usize>) {
-        if self.lists.len() < self.lists.capacity() {
+        let count = self.lists.len();
+        if count < MOST && count < self.lists.capacity() && list.capacity() <= LONGEST {
             self.lists.push_reserved(list);
         }
     }

@@ -1,5 +1,5 @@
 //! Lists that have each key once.
-ghost use Rattle.std.specs.Prelude.{◌≡◌, ℕ, Contains, MatchOption, Some, slice_get};
+ghost use Rattle.std.specs.Prelude.{◌≡◌, ℕ, true, Contains, MatchOption, Some, slice_get};
 ghost use Rattle.palm_model.specs.Constraint.{Distinct};
 
 /// The last place of a key. (Out of line: beside its caller's loop it takes three times the instructions.)
@@ -17,14 +17,27 @@ fn last_place(keys: &[usize], key: usize) -> Option<usize>
     None
 }
 
-/// Takes a key out. It is looked for from the end, where a withdrawal mostly finds what it loses; the others keep their order.
-pub(crate) fn take_out(keys: &mut Vec<usize>, key: usize)
+/// Whether the key stands at the place.
+fn has_at(keys: &[usize], place: usize, key: usize) -> bool
+    ensures { result ≡ true → slice_get keys.now place ≡ Some key }
+{
+    place < keys.len() && keys[place] == key
+}
+
+/// Takes a key out, which most likely stands at the place. The last one then stands there instead, if it is another one.
+/// Answers which one it is.
+pub(crate) fn take_out(keys: &mut Vec<usize>, key: usize, at: usize) -> Option<usize>
     requires { Distinct keys.old.items }
     ensures gone { (k : ℕ) → Contains keys.new.items k → Contains keys.old.items k × (key ≡ k → ⊥) }
     ensures stay { (k : ℕ) → Contains keys.old.items k → (key ≡ k → ⊥) → Contains keys.new.items k }
     ensures once { Distinct keys.new.items }
 {
+    if has_at(keys, at, key) {
+        keys.swap_remove(at);
+        return keys.get(at).copied();
+    }
     if let Some(place) = last_place(keys, key) {
         keys.remove(place);
     }
+    None
 }

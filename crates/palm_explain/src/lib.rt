@@ -4,6 +4,7 @@
 mod cids;
 mod emptied;
 mod entering;
+mod forgetting;
 mod keys;
 mod laws;
 mod marking;

@@ -1,11 +1,11 @@
 //! The nodes of the graph: what is kept of each removal.
-ghost use Rattle.std.specs.Prelude.{◌≡◌, ◌≢◌, ℕ, false, [], ◌∷◌, OnOk};
+ghost use Rattle.std.specs.Prelude.{◌≡◌, ◌≢◌, ℕ, [], ◌∷◌, OnOk};
 ghost use Rattle.slab.specs.Slab.{get};
 ghost use Rattle.palm_base.specs.Order.{same_cid};
 ghost use Rattle.palm_explain.specs.Chain.{nexts_of};
-ghost use Rattle.palm_explain.specs.Graph.{AreOnce, HasForgotten, HasLinked, IsKey, IsMoved, IsReadyAt, KeepsRoom, graph_of, marks_of};
+ghost use Rattle.palm_explain.specs.Counts.{IsCountedAt, counts_of};
+ghost use Rattle.palm_explain.specs.Graph.{HasLinked, IsKey, IsMoved, IsReadyAt, KeepsRoom, graph_of, marks_of};
 
-use crate::keys::take_out;
 use palm_base::{Cid, NoMemory, Pair};
 use slab::Slab;
 use std::alloc::AllocError;
@@ -25,6 +25,10 @@ pub(crate) struct Node {
     pub(crate) mark: bool,
     /// The key of the removal behind this one in the chain of those that a withdrawal loses, while it is on its way.
     pub(crate) next: usize,
+    /// How many dependents a withdrawal loses, while it is on its way, or more.
+    pub(crate) lost: usize,
+    /// Where the key most likely stands in the thread of its constraint.
+    pub(crate) at: usize,
 }
 
 /// The nodes under their keys.
@@ -101,16 +105,46 @@ pub(crate) fn add_dependent(nodes: &mut Nodes, antecedent: usize, key: usize)
     }
 }
 
-/// Takes a dependent of a removal out, unless the removal is marked.
-pub(crate) fn forget_dependent(nodes: &mut Nodes, antecedent: usize, key: usize)
-    requires key { IsKey (graph_of nodes.old) antecedent }
-    requires once { AreOnce (graph_of nodes.old) }
-    ensures forgotten { HasForgotten (graph_of nodes.old) (graph_of nodes.new)
-        (λ k d. (antecedent ≡ k) × (key ≡ d) × (marks_of nodes.old k ≡ false)) }
-    ensures marks { marks_of nodes.new ≡ marks_of nodes.old }
+/// One more, as far as can be counted.
+fn one_more(count: usize) -> usize
+    ensures { IsCountedAt count result }
 {
-    let node = &mut nodes[antecedent];
-    if !node.mark {
-        take_out(&mut node.dependents, key);
+    if count < usize::MAX {
+        return count + 1;
+    }
+    count
+}
+
+/// Counts one more lost dependent of a removal.
+pub(crate) fn count_dependent(nodes: &mut Nodes, key: usize)
+    requires { IsKey (graph_of nodes.old) key }
+    ensures graph { graph_of nodes.new ≡ graph_of nodes.old }
+    ensures marks { marks_of nodes.new ≡ marks_of nodes.old }
+    ensures nexts { nexts_of nodes.new ≡ nexts_of nodes.old }
+    ensures counted { IsCountedAt (counts_of nodes.old key) (counts_of nodes.new key) }
+    ensures others { (k : ℕ) → k ≢ key → counts_of nodes.new k ≡ counts_of nodes.old k }
+{
+    let node = &mut nodes[key];
+    node.lost = one_more(node.lost);
+}
+
+/// Notes where the key of a removal stands in the thread of its constraint.
+pub(crate) fn set_at(nodes: &mut Nodes, key: usize, at: usize)
+    ensures graph { graph_of nodes.new ≡ graph_of nodes.old }
+    ensures marks { marks_of nodes.new ≡ marks_of nodes.old }
+    ensures nexts { nexts_of nodes.new ≡ nexts_of nodes.old }
+{
+    if nodes.contains(key) {
+        nodes[key].at = at;
+    }
+}
+
+/// Whether the removal under a key is marked.
+pub(crate) fn is_marked(nodes: &Nodes, key: usize) -> bool
+    ensures { result ≡ marks_of nodes.now key }
+{
+    match nodes.get(key) {
+        Some(node) => node.mark,
+        None => false,
     }
 }

@@ -10,12 +10,13 @@ ghost use Rattle.palm_explain.specs.Explanations.{IsLinked, LacksExactly, NamesO
 
 use crate::emptied::Emptied;
 use crate::entering::{antecedents_of, link, make_room};
+use crate::forgetting::{count_lost, forget_marked, forget_threads};
 use crate::marking::mark_lost;
 use crate::node::{Node, Nodes};
 use crate::rows::{Row, key_of, put_key};
 use crate::threads::Threads;
 use crate::walking::{cids_of, rests_on};
-use crate::withdrawing::{close_up, forget_marked, forget_threads, put_back};
+use crate::withdrawing::{close_up, put_back};
 use indexmap::IndexSet;
 use palm_base::{Cid, CidList, NoMemory, Pair, Value, Var};
 use palm_domain::DomainStore;
@@ -96,7 +97,7 @@ impl ExplainStore {
             &antecedents,
             key,
         )?;
-        self.threads.push(&by, key)?;
+        let at = self.threads.push(&by, key)?;
         link(&mut self.nodes, &antecedents, key);
         self.nodes.insert_reserved(Node {
             pair,
@@ -106,6 +107,8 @@ impl ExplainStore {
             place,
             mark: false,
             next: 0,
+            lost: 0,
+            at,
         });
         self.log.push_reserved(key);
         Ok(())
@@ -221,8 +224,9 @@ impl ExplainStore {
         let first = own.first().copied().unwrap_or(0);
         let count = mark_lost(&mut self.nodes, log, &own);
         let start = put_back(&self.nodes, log, first, count, store, &mut self.restored);
-        forget_threads(&self.nodes, &mut self.threads, log, start, &cid);
-        forget_marked(&mut self.nodes, log, start);
+        forget_threads(&mut self.nodes, &mut self.threads, first, count, &cid);
+        count_lost(&mut self.nodes, log, first, count);
+        forget_marked(&mut self.nodes, log, first, count);
         close_up(&mut self.nodes, &mut self.log, &mut self.emptied, start);
     }
 

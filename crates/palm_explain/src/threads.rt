@@ -69,8 +69,8 @@ impl Threads {
         }
     }
 
-    /// Adds a key to the thread of a constraint; without memory all threads stay.
-    pub(crate) fn push(&mut self, cid: &Cid, key: usize) -> Result<(), NoMemory>
+    /// Adds a key to the thread of a constraint, and answers its place there; without memory all threads stay.
+    pub(crate) fn push(&mut self, cid: &Cid, key: usize) -> Result<usize, NoMemory>
         requires { AreFormedThreads self.old }
         ensures formed { AreFormedThreads self.new }
         ensures added { OnOk result (thread_of self.new cid.now ≡ thread_of self.old cid.now ++ key ∷ []) }
@@ -79,8 +79,10 @@ impl Threads {
     {
         let place = self.place_of(cid)?;
         self.near = place;
-        self.threads[place].keys.push(key)?;
-        Ok(())
+        let keys = &mut self.threads[place].keys;
+        let at = keys.len();
+        keys.push(key)?;
+        Ok(at)
     }
 
     /// Takes the whole thread of a constraint.
@@ -116,8 +118,9 @@ impl Threads {
         }
     }
 
-    /// Takes a key out of the thread of a constraint.
-    pub(crate) fn forget(&mut self, cid: &Cid, key: usize)
+    /// Takes a key out of the thread of a constraint, where it most likely stands at the place. Answers the key that stands
+    /// there instead, if there is one.
+    pub(crate) fn forget(&mut self, cid: &Cid, key: usize, at: usize) -> Option<usize>
         requires formed { AreFormedThreads self.old }
         requires once { Distinct (thread_of self.old cid.now) }
         ensures formed { AreFormedThreads self.new }
@@ -128,7 +131,8 @@ impl Threads {
     {
         if let Some(place) = self.find(cid) {
             self.near = place;
-            take_out(&mut self.threads[place].keys, key);
+            return take_out(&mut self.threads[place].keys, key, at);
         }
+        None
     }
 }

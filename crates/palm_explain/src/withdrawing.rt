@@ -1,22 +1,19 @@
 //! How a withdrawal puts back and takes out what it loses, and closes up the log.
 ghost use Rattle.std.specs.Prelude.{◌≡◌, ◌≢◌, ◌⊎◌, ◌↔◌, ℕ, ◌+◌, ◌<◌, ◌≤◌, List, true, false, Some, ◌∷◌, [], length, nat_eq, All, Contains, slice_get, slice_set};
 ghost use Rattle.indexmap.specs.IndexSet.{insert_key, spare};
-ghost use Rattle.palm_base.specs.declared.terms.Cid.{Cid as CidTerm};
 ghost use Rattle.palm_domain.specs.Rows.{Ascends, IsDeclared, IsPresent, initial_of, present_of};
 ghost use Rattle.palm_model.specs.Constraint.{Distinct};
 ghost use Rattle.palm_model.specs.Event.{vars_of};
 ghost use Rattle.palm_model.specs.Log.{log_pairs};
 ghost use Rattle.palm_explain.specs.Chain.{IsLine};
 ghost use Rattle.palm_explain.specs.Explanations.{LacksExactly};
-ghost use Rattle.palm_explain.specs.Graph.{AreOnce, HasClosedUp, HasForgotten, HasNoMark, IsBy, IsAntecedent, IsGraph, IsKey, IsMoved, IsPlaced, IsTakenOut, Link, graph_of, log_of, marks_of};
+ghost use Rattle.palm_explain.specs.Graph.{HasClosedUp, HasNoMark, IsGraph, IsKey, IsMoved, IsPlaced, IsTakenOut, Link, graph_of, log_of, marks_of};
 ghost use Rattle.palm_explain.specs.Lost.{HasBack, lost_of};
-ghost use Rattle.palm_explain.specs.Threads.{AreFormedThreads, AreThreaded, thread_of};
 
 use crate::emptied::Emptied;
-use crate::node::{Node, Nodes, forget_dependent, is_by, set_place};
-use crate::threads::Threads;
+use crate::node::{Node, Nodes, set_place};
 use indexmap::IndexSet;
-use palm_base::{Cid, Var};
+use palm_base::Var;
 use palm_domain::DomainStore;
 
 /// Puts the pair of each removal of the chain back, and notes its variable. Answers the first of their places in the log, or
@@ -78,67 +75,6 @@ fn note(restored: &mut IndexSet<Var>, var: Var)
     ensures room { spare restored.old ≤ spare restored.new + 1 }
 {
     restored.insert(var).unwrap();
-}
-
-/// Takes the marked removals, none of which stands before the start, out of the threads of their constraints, but for the
-/// constraint whose thread was taken whole. The last of them comes first, since a thread is in the order of the log.
-pub(crate) fn forget_threads(
-    nodes: &Nodes,
-    threads: &mut Threads,
-    log: &[usize],
-    start: usize,
-    cid: &Cid,
-)
-    requires places { IsPlaced (graph_of nodes.now) log.now }
-    requires earliest { (k : ℕ) (l : Link) → marks_of nodes.now k ≡ true → graph_of nodes.now k ≡ Some l → start ≤ l.place }
-    requires formed { AreFormedThreads threads.old }
-    requires once { (c : CidTerm) → Distinct (thread_of threads.old c) }
-    ensures formed { AreFormedThreads threads.new }
-    ensures forgotten { AreThreaded threads.old (graph_of nodes.now) (IsBy (graph_of nodes.now) cid.now)
-        → AreThreaded threads.new (graph_of nodes.now) (λ k. IsBy (graph_of nodes.now) cid.now k ⊎ (marks_of nodes.now k ≡ true)) }
-{
-    let mut place = log.len();
-    while place > start {
-        place -= 1;
-        let key = log[place];
-        let node = &nodes[key];
-        if node.mark && !is_by(node, cid) {
-            threads.forget(&node.by, key);
-        }
-    }
-}
-
-/// Takes a marked removal out of the dependents of its antecedents that are not marked.
-fn forget(nodes: &mut Nodes, key: usize)
-    requires key { IsKey (graph_of nodes.old) key }
-    requires keys { (c : ℕ) → IsAntecedent (graph_of nodes.old) c key → IsKey (graph_of nodes.old) c }
-    requires once { AreOnce (graph_of nodes.old) }
-    ensures forgotten { HasForgotten (graph_of nodes.old) (graph_of nodes.new)
-        (λ k d. (key ≡ d) × (marks_of nodes.old k ≡ false) × IsAntecedent (graph_of nodes.old) k key) }
-    ensures marks { marks_of nodes.new ≡ marks_of nodes.old }
-{
-    for index in 0..nodes[key].antecedents.len() {
-        let antecedent = nodes[key].antecedents[index];
-        forget_dependent(nodes, antecedent, key);
-    }
-}
-
-/// Takes the marked removals, none of which stands before the start, out of the dependents of the others. The last of them comes
-/// first: mostly it is the last dependent.
-pub(crate) fn forget_marked(nodes: &mut Nodes, log: &[usize], start: usize)
-    requires graph { IsGraph (graph_of nodes.old) log.now }
-    requires earliest { (k : ℕ) (l : Link) → marks_of nodes.old k ≡ true → graph_of nodes.old k ≡ Some l → start ≤ l.place }
-    ensures forgotten { HasForgotten (graph_of nodes.old) (graph_of nodes.new)
-        (λ k d. (marks_of nodes.old d ≡ true) × (marks_of nodes.old k ≡ false) × IsAntecedent (graph_of nodes.old) k d) }
-    ensures marks { marks_of nodes.new ≡ marks_of nodes.old }
-{
-    let mut place = log.len();
-    while place > start {
-        place -= 1;
-        if nodes[log[place]].mark {
-            forget(nodes, log[place]);
-        }
-    }
 }
 
 /// Moves the removal to a place, where no mark stands at it, and takes it out of the nodes otherwise. Answers

@@ -6,7 +6,7 @@ ghost use Rattle.palm_model.specs.Constraint.{IsWellFormed, scope};
 ghost use Rattle.palm_model.specs.Domains.{Has};
 ghost use Rattle.palm_model.specs.Support.{IsSupported, LacksSupport};
 
-use filter_compare::CompareFilter;
+use filter_compare::{CompareFilter, WithinFilter};
 use filter_differ::DifferFilter;
 use filter_element::ElementFilter;
 use filter_linear::LinearFilter;
@@ -33,6 +33,8 @@ pub enum Kind {
     Count(OccurFilter),
     /// Variables that are pairwise different.
     Differ(DifferFilter),
+    /// A variable that has one of some values.
+    Within(WithinFilter),
 }
 
 impl Kind {
@@ -50,6 +52,7 @@ impl Kind {
             Con::Element { .. } => Kind::Element(ElementFilter::new(alloc, con)?),
             Con::Count { .. } => Kind::Count(OccurFilter::new(alloc, con)?),
             Con::Differ { .. } => Kind::Differ(DifferFilter::new(alloc, con)?),
+            Con::Within { .. } => Kind::Within(WithinFilter::new(alloc, con)?),
         })
     }
 }
@@ -65,6 +68,7 @@ impl Filter for Kind {
             Kind::Element(filter) => filter.scope(),
             Kind::Count(filter) => filter.scope(),
             Kind::Differ(filter) => filter.scope(),
+            Kind::Within(filter) => filter.scope(),
         }
     }
 
@@ -76,6 +80,7 @@ impl Filter for Kind {
             Kind::Element(filter) => supported_apart(filter, store, pair),
             Kind::Count(filter) => supported_apart(filter, store, pair),
             Kind::Differ(filter) => supported_apart(filter, store, pair),
+            Kind::Within(filter) => supported_apart(filter, store, pair),
         }
     }
 
@@ -87,6 +92,7 @@ impl Filter for Kind {
             Kind::Element(filter) => filter.reason(store, pair, out),
             Kind::Count(filter) => filter.reason(store, pair, out),
             Kind::Differ(filter) => filter.reason(store, pair, out),
+            Kind::Within(filter) => filter.reason(store, pair, out),
         }
     }
 }

@@ -1,8 +1,8 @@
--- Ascending values are an interval where the last is as far from the first as there are values between them.
-use Rattle.std.proofs.Common.{◌≡◌, ℕ, zero, suc, ℤ, pos, negsuc, ◌+◌, ◌-◌, ◌<◌, ◌≤◌, ◌+ℤ◌, ◌-ℤ◌, ◌<ℤ◌, ◌≤ℤ◌, Bool, true, false, cond, ◌&&◌, eqb, List, [], ◌∷◌, length, get_or, Contains, ⊎_elim, inl, inr, refl, sym, ap, ◌∙◌, true≢false, arith}
+-- Values are an interval where each is one more than the one before it: ascending ones, where they are all from the first to
+-- the last.
+use Rattle.std.proofs.Common.{◌≡◌, ℕ, zero, suc, ℤ, pos, negsuc, ◌+◌, ◌-◌, ◌<◌, ◌+ℤ◌, ◌-ℤ◌, ◌<ℤ◌, ◌≤ℤ◌, Bool, true, false, cond, ◌&&◌, List, [], ◌∷◌, length, get_or, Contains, inl, inr, refl, sym, ap, ◌∙◌, true≢false, arith}
 use Rattle.std.specs.Ordering.{int_eq}
-use Rattle.std.specs.Int.RustNames.{unsigned_abs}
-use Rattle.std.proofs.lemmas.Bool.{cases_eq, eq-eqb, ne_eqb, false_from_ne_true}
+use Rattle.std.proofs.lemmas.Bool.{false_from_ne_true}
 use Rattle.std.proofs.lemmas.Bool.Decides.{Decides-int_eq}
 use Rattle.std.proofs.lemmas.Int.{ints}
 use Rattle.std.proofs.lemmas.List.Elements.{All-contains}
@@ -19,13 +19,6 @@ above v w h = by (w -ℤ v) refl
     by (pos n) e = (n, omega (arith, ints), omega (arith, ints))
     by (negsuc n) e = absurd (omega (arith, ints))
 
--- a test of two numbers, and of both with one more
-same_test : (m n k : ℕ) → k ≡ m + 1 → eqb m n ≡ eqb k (suc n)
-same_test m n k e = ⊎_elim
-    (λ (q : m ≡ n). eq-eqb m n q ∙ sym (eq-eqb k (suc n) (omega arith)))
-    (λ q. ne_eqb m n q ∙ sym (ne_eqb k (suc n) (λ f. q (omega arith))))
-    (cases_eq m n)
-
 last_at : (v : ℤ) (vs : List ℤ) (d : ℤ) (k : ℕ) → k ≡ length vs → get_or (v ∷ vs) k d ≡ last_of v vs
 last_at v [] d k e = rw e refl
 last_at v (w ∷ ws) d k e = rw e (last_at w ws d (length ws) refl)
@@ -34,11 +27,9 @@ last_at v (w ∷ ws) d k e = rw e (last_at w ws d (length ws) refl)
 record Spans (v : ℤ) (vs : List ℤ) : Type 0 where
   far : ℕ
   last : last_of v vs ≡ v +ℤ pos far
-  enough : length vs ≤ far
-  tested : is_interval (v ∷ vs) ≡ eqb far (length vs)
 
 spans : (v : ℤ) (vs : List ℤ) → Ascends (v ∷ vs) → Spans v vs
-spans v [] h = record { far = 0; last = omega (arith, ints); enough = omega arith; tested = refl }
+spans v [] h = record { far = 0; last = omega (arith, ints) }
 spans v (w ∷ ws) h =
     let rest = spans w ws h.1 in
     let step = above v w (h.0 0 w (omega arith)) in
@@ -48,20 +39,20 @@ spans v (w ∷ ws) h =
     further v w ws rest step = record {
       far = step.0 + rest.far;
       last = let e = step.2 in let l = rest.last in omega (arith, ints);
-      enough = let s = step.1 in let e = rest.enough in omega arith;
-      tested = ⊎_elim
-          (λ (one : step.0 ≡ 1). ap (λ b. b && is_interval (w ∷ ws)) ((Decides-int_eq w (v +ℤ pos 1)).1 (let e = step.2 in omega (arith, ints))) ∙ rest.tested ∙ same_test rest.far (length ws) (step.0 + rest.far) (omega arith))
-          (λ more. ap (λ b. b && is_interval (w ∷ ws)) (false_from_ne_true (int_eq w (v +ℤ pos 1)) (λ q. more (let e = (Decides-int_eq w (v +ℤ pos 1)).0 q in let f = step.2 in omega (arith, ints)))) ∙ sym (ne_eqb (step.0 + rest.far) (length (w ∷ ws)) (λ e. more (let s = step.1 in let g = rest.enough in omega arith))))
-          (cases_eq step.0 1);
     }
 
-pub interval_by_ends : (values : List ℤ) (first last : ℤ) → Ascends values → 0 < length values → first ≡ get_or values 0 first → last ≡ get_or values (length values - 1) last → eqb (unsigned_abs (last -ℤ first) + 1) (length values) ≡ is_interval values
-interval_by_ends [] first last up some is_first is_last = absurd (omega arith)
-interval_by_ends (v ∷ vs) first last up some is_first is_last =
-    let s = spans v vs up in
-    let ends : last ≡ last_of v vs = is_last ∙ last_at v vs last (length (v ∷ vs) - 1) (omega arith) in
-    let far : last -ℤ first ≡ pos s.far = let l = s.last in omega (arith, ints) in
-    ap (λ z. eqb (unsigned_abs z + 1) (length (v ∷ vs))) far ∙ sym (same_test s.far (length vs) (s.far + 1) refl) ∙ sym s.tested
+-- ---- one value after another
+
+-- where the next value is one more, the rest decides
+pub interval_step : (v : ℤ) (others : List ℤ) (w : ℤ) → 0 < length others → w ≡ get_or others 0 w → w ≡ v +ℤ pos 1 → is_interval others ≡ is_interval (v ∷ others)
+interval_step v [] w some is next = absurd (omega arith)
+interval_step v (u ∷ us) w some is next = sym (ap (λ b. b && is_interval (u ∷ us)) ((Decides-int_eq u (v +ℤ pos 1)).1 (sym is ∙ next)))
+
+-- where it is not, the values are no interval
+pub interval_broken : (v : ℤ) (others : List ℤ) (w : ℤ) → 0 < length others → w ≡ get_or others 0 w → (w ≡ v +ℤ pos 1 → ⊥) → false ≡ is_interval (v ∷ others)
+interval_broken v [] w some is gap = absurd (omega arith)
+interval_broken v (u ∷ us) w some is gap =
+    sym (ap (λ b. b && is_interval (u ∷ us)) (false_from_ne_true (int_eq u (v +ℤ pos 1)) (λ q. gap (is ∙ (Decides-int_eq u (v +ℤ pos 1)).0 q))))
 
 -- the text of an interval, by its ends
 pub interval_text : (values : List ℤ) (first last : ℤ) → is_interval values ≡ true → first ≡ get_or values 0 first → last ≡ get_or values (length values - 1) last → range_text first last ≡ values_text values

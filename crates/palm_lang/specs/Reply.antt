@@ -5,6 +5,7 @@ use Rattle.std.specs.Ordering.{int_eq}
 use Rattle.std.specs.Fmt.{signed_decimal}
 use Rattle.palm_base.specs.declared.terms.Pair.{Pair}
 use Rattle.palm_model.specs.declared.constraint.Con.{Con}
+use Rattle.palm_model.specs.declared.constraint.Con.TheVariants.{Within}
 use Rattle.palm_book.specs.Named.{named}
 use Rattle.palm_book.specs.Book.{BookVar, Contents, name_of}
 use Rattle.palm_read.specs.Domain.{range_text, set_text}
@@ -81,9 +82,18 @@ values_text (v ∷ vs) = if is_interval (v ∷ vs) then range_text v (last_of v 
 abbrev pub var_line : List ℕ → List ℤ → List ℕ
 var_line name values = ended (spaced (codes "var" ∷ name ∷ values_text values ∷ []))
 
+-- a constraint as a line says it
+abbrev pub said_text : List BookVar → Con → List ℕ
+said_text variables con = spaced (shape_words (named variables con))
+
+-- NAME "in" DOMAIN
+abbrev pub within_text : List ℕ → List ℤ → List ℕ
+within_text name values = spaced (name ∷ codes "in" ∷ values_text values ∷ [])
+
 -- the text of a constraint
 abbrev pub con_text : List BookVar → Con → List ℕ
-con_text variables con = spaced (shape_words (named variables con))
+con_text variables (Within var values) = within_text (name_of variables var) values
+con_text variables con = said_text variables con
 
 abbrev pub state_word : Bool → List ℕ
 state_word true = codes "active"

@@ -17,7 +17,7 @@ pub use explained::{
 pub use formed::{comparisons_with_a_value_are_formed, well_formed_constraints_are_formed};
 pub use greatest::{greatest_domains_are_unique, greatest_domains_exist, greatest_domains_fall};
 pub use minimal::{
-    blocks_outside_a_cause_are_left_out, conflicts_grow, minimal_sets_are_unique,
+    blocks_outside_a_core_are_left_out, conflicts_grow, minimal_sets_are_unique,
     minimal_sets_are_within, minimal_sets_exist, minimal_sets_have_the_property,
     no_member_can_be_left_out,
 };

@@ -62,13 +62,13 @@ pub fn minimal_sets_are_unique()
 
 /// Where some of the constraints before a block and of those left behind it have the property, the walk leaves out each
 /// constraint of the block.
-pub fn blocks_outside_a_cause_are_left_out()
-    ensures conflict { (initial : Domains) (earlier block later left cause : List Active)
+pub fn blocks_outside_a_core_are_left_out()
+    ensures conflict { (initial : Domains) (earlier block later left core : List Active)
         → WalkLeaves (AreConflict initial) (earlier ++ block) later left
-        → ((a : Active) → Contains cause a → Contains (earlier ++ left) a) → AreConflict initial cause
+        → ((a : Active) → Contains core a → Contains (earlier ++ left) a) → AreConflict initial core
         → WalkLeaves (AreConflict initial) earlier (block ++ later) left }
-    ensures explanation { (initial : Domains) (pair : Pair) (earlier block later left cause : List Active)
+    ensures explanation { (initial : Domains) (pair : Pair) (earlier block later left core : List Active)
         → WalkLeaves (DoExplain initial pair) (earlier ++ block) later left
-        → ((a : Active) → Contains cause a → Contains (earlier ++ left) a) → DoExplain initial pair cause
+        → ((a : Active) → Contains core a → Contains (earlier ++ left) a) → DoExplain initial pair core
         → WalkLeaves (DoExplain initial pair) earlier (block ++ later) left }
 {}

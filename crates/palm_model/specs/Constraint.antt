@@ -7,9 +7,10 @@ use Rattle.palm_model.specs.Table.{IsTableShaped}
 use Rattle.palm_model.specs.Element.{IsElementShaped, element_scope}
 use Rattle.palm_model.specs.Count.{IsCountShaped, count_scope}
 use Rattle.palm_model.specs.Differ.{IsDifferShaped}
+use Rattle.palm_model.specs.Within.{IsWithinShaped}
 use Rattle.palm_model.specs.Limits.{IsValue}
 use Rattle.palm_model.specs.declared.constraint.Con.{Con}
-use Rattle.palm_model.specs.declared.constraint.Con.TheVariants.{CompareVar, CompareConst, Linear, Table, Element, Count, Differ}
+use Rattle.palm_model.specs.declared.constraint.Con.TheVariants.{CompareVar, CompareConst, Linear, Table, Element, Count, Differ, Within}
 use Rattle.palm_model.specs.declared.limits.TheConstants.{MOST_SCOPE}
 
 -- the variables of a constraint, in the order of its text
@@ -21,6 +22,7 @@ scope (Table vars rows) = vars
 scope (Element outcome index entries) = element_scope outcome index
 scope (Count value vars op target) = count_scope vars target
 scope (Differ vars) = vars
+scope (Within var values) = var ∷ []
 
 -- no member stands twice
 abbrev pub Distinct : List ℕ → Type 0
@@ -36,6 +38,7 @@ IsShaped (Table vars rows) = IsTableShaped vars rows
 IsShaped (Element outcome index entries) = IsElementShaped entries
 IsShaped (Count value vars op target) = IsCountShaped value vars target
 IsShaped (Differ vars) = IsDifferShaped vars
+IsShaped (Within var values) = IsWithinShaped values
 
 -- a constraint that means something over the first so many variables, whatever its numbers and however long its lists
 pub record IsFormed (variables : ℕ) (c : Con) : Type 0 where

@@ -19,3 +19,4 @@ pub mod State
 pub mod Support
 pub mod Table
 pub mod Trial
+pub mod Within

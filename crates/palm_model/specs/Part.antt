@@ -7,10 +7,11 @@ use Rattle.palm_model.specs.Table.{HoldsTable}
 use Rattle.palm_model.specs.Element.{HoldsElement, element_scope}
 use Rattle.palm_model.specs.Count.{HoldsCount, count_scope}
 use Rattle.palm_model.specs.Differ.{HoldsDiffer, differ_parts}
+use Rattle.palm_model.specs.Within.{HoldsWithin}
 use Rattle.palm_model.specs.declared.constraint.Con.{Con}
-use Rattle.palm_model.specs.declared.constraint.Con.TheVariants.{CompareVar, CompareConst, Linear, Table, Element, Count, Differ}
+use Rattle.palm_model.specs.declared.constraint.Con.TheVariants.{CompareVar, CompareConst, Linear, Table, Element, Count, Differ, Within}
 use Rattle.palm_model.specs.declared.part.Part.{Part}
-use Rattle.palm_model.specs.declared.part.Part.TheVariants.{CompareVar as CompareVarPart, CompareConst as CompareConstPart, Linear as LinearPart, Table as TablePart, Element as ElementPart, Count as CountPart, Differ as DifferPart}
+use Rattle.palm_model.specs.declared.part.Part.TheVariants.{CompareVar as CompareVarPart, CompareConst as CompareConstPart, Linear as LinearPart, Table as TablePart, Element as ElementPart, Count as CountPart, Differ as DifferPart, Within as WithinPart}
 
 -- the variables of a part
 abbrev pub scope_of : Part → List ℕ
@@ -21,6 +22,7 @@ scope_of (TablePart vars rows) = vars
 scope_of (ElementPart outcome index entries) = element_scope outcome index
 scope_of (CountPart value vars op target) = count_scope vars target
 scope_of (DifferPart first second) = first ∷ second ∷ []
+scope_of (WithinPart var values) = var ∷ []
 
 -- the assignment satisfies the part
 abbrev pub Holds : Part → Assignment → Type 0
@@ -31,6 +33,7 @@ Holds (TablePart vars rows) a = HoldsTable vars rows a
 Holds (ElementPart outcome index entries) a = HoldsElement outcome index entries a
 Holds (CountPart value vars op target) a = HoldsCount value vars op target a
 Holds (DifferPart first second) a = HoldsDiffer first second a
+Holds (WithinPart var values) a = HoldsWithin var values a
 
 -- the parts of a constraint
 abbrev pub parts : Con → List Part
@@ -41,6 +44,7 @@ parts (Table vars rows) = TablePart vars rows ∷ []
 parts (Element outcome index entries) = ElementPart outcome index entries ∷ []
 parts (Count value vars op target) = CountPart value vars op target ∷ []
 parts (Differ vars) = differ_parts vars
+parts (Within var values) = WithinPart var values ∷ []
 
 -- the assignment satisfies every part of the constraint
 abbrev pub Satisfies : Assignment → Con → Type 0

@@ -12,7 +12,7 @@ use Rattle.palm_model.specs.Count.{count_reason}
 use Rattle.palm_model.specs.Differ.{differ_reason}
 use Rattle.palm_model.specs.Support.{LacksSupport}
 use Rattle.palm_model.specs.declared.constraint.Con.{Con}
-use Rattle.palm_model.specs.declared.constraint.Con.TheVariants.{CompareVar, CompareConst, Linear, Table, Element, Count, Differ}
+use Rattle.palm_model.specs.declared.constraint.Con.TheVariants.{CompareVar, CompareConst, Linear, Table, Element, Count, Differ, Within}
 
 -- the reason for which the constraint takes v of x out, by the declared and the present values
 abbrev pub reason : Domains → Domains → Con → ℕ → ℤ → List Pair
@@ -23,6 +23,7 @@ reason initial present (Table vars rows) x v = table_reason initial present vars
 reason initial present (Element outcome index entries) x v = element_reason initial outcome index entries x v
 reason initial present (Count value vars op target) x v = count_reason initial present value vars op target x v
 reason initial present (Differ vars) x v = differ_reason initial present vars x v
+reason initial present (Within var values) x v = []
 
 -- none of the variables has an empty domain
 abbrev pub AreFilled : Domains → List ℕ → Type 0

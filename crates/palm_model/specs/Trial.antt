@@ -8,7 +8,7 @@ use Rattle.palm_model.specs.Closure.{IsClosedFor}
 use Rattle.palm_model.specs.declared.constraint.Con.{Con}
 use Rattle.palm_model.specs.declared.limits.TheConstants.{MOST_SCOPE}
 use Rattle.palm_model.specs.declared.part.Part.{Part}
-use Rattle.palm_model.specs.declared.part.Part.TheVariants.{CompareVar as CompareVarPart, CompareConst as CompareConstPart, Linear as LinearPart, Table as TablePart, Element as ElementPart, Count as CountPart, Differ as DifferPart}
+use Rattle.palm_model.specs.declared.part.Part.TheVariants.{CompareVar as CompareVarPart, CompareConst as CompareConstPart, Linear as LinearPart, Table as TablePart, Element as ElementPart, Count as CountPart, Differ as DifferPart, Within as WithinPart}
 
 -- the assignment that gives each variable the value at its place
 abbrev pub listed : List ℤ → Assignment
@@ -48,6 +48,7 @@ IsSmall (TablePart vars rows) = ⊤
 IsSmall (ElementPart outcome index entries) = ⊤
 IsSmall (CountPart value vars op target) = ⊤
 IsSmall (DifferPart first second) = ⊤
+IsSmall (WithinPart var values) = ⊤
 
 -- the part is over the first so many variables, and its sums are small
 pub record IsTriable (variables : ℕ) (p : Part) : Type 0 where

@@ -88,4 +88,9 @@ pub enum Con {
     Differ {
         vars: VarList,
     },
+    /// The value of the variable is one of the values.
+    Within {
+        var: Var,
+        values: ValueList,
+    },
 }

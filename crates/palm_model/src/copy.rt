@@ -41,6 +41,7 @@ pub fn copy_of(alloc: Global, con: &Con) -> Result<Con, NoMemory>
             target,
         } => copy_count(alloc, value, vars, op, target),
         Con::Differ { vars } => copy_differ(alloc, vars),
+        Con::Within { var, values } => copy_within(alloc, var, values),
     }
 }
 
@@ -100,5 +101,14 @@ fn copy_differ(alloc: Global, vars: &VarList) -> Result<Con, NoMemory>
 {
     Ok(Con::Differ {
         vars: VarList::from_slice(alloc, vars.as_slice())?,
+    })
+}
+
+fn copy_within(alloc: Global, var: &Var, values: &ValueList) -> Result<Con, NoMemory>
+    ensures { IfOk result (λ copy. copy ≡ Con.Within var.now values.now) }
+{
+    Ok(Con::Within {
+        var: *var,
+        values: ValueList::from_slice(alloc, values.as_slice())?,
     })
 }

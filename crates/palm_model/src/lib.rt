@@ -17,8 +17,8 @@ pub use copy::copy_of;
 pub use greatest::scratch;
 pub use laws::limits_are_these_numbers;
 pub use limits::{
-    GREATEST_BOUND, GREATEST_FACTOR, GREATEST_OFFSET, GREATEST_PRODUCT, GREATEST_VALUE, MOST_ROWS,
-    MOST_SCOPE,
+    GREATEST_BOUND, GREATEST_FACTOR, GREATEST_OFFSET, GREATEST_PRODUCT, GREATEST_VALUE,
+    MOST_LISTED, MOST_ROWS, MOST_SCOPE,
 };
 pub use part::{Part, PartList};
 pub use parts::parts_of;

@@ -3,6 +3,9 @@
 /// The most variables of a constraint.
 pub const MOST_SCOPE: usize = 16;
 
+/// The most values that a constraint on one variable may list.
+pub const MOST_LISTED: usize = 256;
+
 /// The most rows of a table, and the most entries of a list that `element` looks up.
 pub const MOST_ROWS: usize = 256;
 

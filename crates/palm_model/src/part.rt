@@ -47,6 +47,11 @@ pub enum Part {
         first: Var,
         second: Var,
     },
+    /// The value of the variable is one of the values.
+    Within {
+        var: Var,
+        values: ValueList,
+    },
 }
 
 /// The parts of a constraint.

@@ -67,6 +67,7 @@ fn push_parts(alloc: Global, list: &mut PartList, con: &Con) -> Result<(), NoMem
             target,
         } => push_count(alloc, list, value, vars, op, target),
         Con::Differ { vars } => push_differ(list, vars.as_slice()),
+        Con::Within { var, values } => push_within(alloc, list, var, values),
     }
 }
 
@@ -221,6 +222,20 @@ fn push_differ_part(list: &mut PartList, first: &Var, second: &Var) -> Result<()
     })
 }
 
+fn push_within(
+    alloc: Global,
+    list: &mut PartList,
+    var: &Var,
+    values: &ValueList,
+) -> Result<(), NoMemory>
+    ensures { OnOk result (list.new ≡ list.old ++ Part.Within var.now values.now ∷ []) }
+{
+    list.push(Part::Within {
+        var: *var,
+        values: ValueList::from_slice(alloc, values.as_slice())?,
+    })
+}
+
 /// The variables of a part, in the order of its constraint's text.
 pub(crate) fn variables_of(alloc: Global, part: &Part) -> Result<VarList, NoMemory>
     ensures { IfOk result (λ list. list ≡ scope_of part.now) }
@@ -233,6 +248,7 @@ pub(crate) fn variables_of(alloc: Global, part: &Part) -> Result<VarList, NoMemo
         Part::Element { outcome, index, .. } => two_variables(alloc, outcome, index),
         Part::Count { vars, target, .. } => counted_variables(alloc, vars, target),
         Part::Differ { first, second } => two_variables(alloc, first, second),
+        Part::Within { var, .. } => one_variable(alloc, var),
     }
 }
 

@@ -43,6 +43,10 @@ pub(crate) fn is_satisfied(part: &Part, values: &[Value]) -> bool
             target,
         } => meets_count(values, value, vars, *op, target),
         Part::Differ { first, second } => number_at(values, first) != number_at(values, second),
+        Part::Within {
+            var,
+            values: members,
+        } => is_one_of(values, var, members),
     }
 }
 
@@ -190,4 +194,12 @@ fn count_among(values: &[Value], value: &Value, vars: &[Var]) -> usize
         }
     }
     count
+}
+
+/// Whether the value of the variable is one of the members.
+fn is_one_of(values: &[Value], var: &Var, members: &ValueList) -> bool
+    requires { var.now < length values.now }
+    ensures { Tells result (Holds (Part.Within var.now members.now) (listed values.now)) }
+{
+    members.as_slice().contains(&values[var.0 as usize])
 }

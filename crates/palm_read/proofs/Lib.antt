@@ -1,9 +1,11 @@
-pub mod cited
+pub mod Canonical
 pub mod DomainValues
 pub mod HeldLemmas
 pub mod Items
 pub mod LongestTokens
-pub mod ReadBack
+pub mod PrintedForms
+pub mod Ranges
 pub mod Refusals
 pub mod ShapeForms
 pub mod Twice
+pub mod cited

@@ -1,6 +1,5 @@
 -- Lemmas that other crates cite.
 pub mod Begins
-pub mod Canonical
 pub mod Cutting
 pub mod Front
 pub mod KnownLimits
@@ -9,9 +8,8 @@ pub mod LineForms
 pub mod Many
 pub mod Parsing
 pub mod PlainTokens
-pub mod PrintedForms
 pub mod PrintedParts
-pub mod Ranges
+pub mod ReadBack
 pub mod Sets
 pub mod SoundLines
 pub mod TokenLemmas

@@ -1,55 +1,54 @@
--- The limits of the language: which numbers a form may have, and of the line that it says, which lists may not be empty,
--- which names may not stand twice, and how many of each there may be.
-use Rattle.std.specs.Prelude.{◌≡◌, ℕ, pos, ◌<◌, ◌<ℤ◌, ◌≤ℤ◌, List, [], ◌∷◌, ◌++◌, ◌⊎◌, length, map, All, Any, Contains, option_to_list}
-use Rattle.palm_model.specs.declared.limits.TheConstants.{MOST_SCOPE}
-use Rattle.palm_read.specs.Bounds.{Bounded, a_value, from_one_to}
+-- The limits of the language on a line: which numbers it may have, which lists may not be empty, which names may not stand
+-- twice, and how many of each there may be. And the numbers of a form as they are written.
+use Rattle.std.specs.Prelude.{◌≡◌, ℕ, pos, ◌<◌, ◌<ℤ◌, List, [], ◌∷◌, ◌++◌, ◌⊎◌, length, map, All, Any, Contains, option_to_list, ⊤}
+use Rattle.palm_model.specs.Limits.{IsUpTo, IsValue}
+use Rattle.palm_model.specs.declared.limits.TheConstants.{GREATEST_BOUND, GREATEST_FACTOR, GREATEST_OFFSET, MOST_SCOPE}
+use Rattle.palm_read.specs.Bounds.{Bounded, IsFromOneTo, a_value, from_one_to}
 use Rattle.palm_read.specs.Comparison.{offset_numbers, compare_const_numbers}
-use Rattle.palm_read.specs.Count.{count_numbers, line_target_names}
+use Rattle.palm_read.specs.Count.{IsSoundTarget, count_numbers, line_target_names}
 use Rattle.palm_read.specs.Domain.{domain_numbers, IsLarge}
 use Rattle.palm_read.specs.Element.{element_numbers, HasManyEntries}
 use Rattle.palm_read.specs.Form.{ShapeForm, CompareVarForm, CompareConstForm, LinearForm, TableForm, ElementForm, CountForm, DifferForm, Form, DeclareForm, AddForm, WhyForm, MinimalForm, StepForm, SolveDbtForm, SolveRepairForm, CertForm, GuideForm, OrderForm, DropGuideForm, DropOrderForm}
 use Rattle.palm_read.specs.Linear.{linear_numbers}
 use Rattle.palm_read.specs.Table.{table_numbers, HasManyTableRows}
 use Rattle.palm_read.specs.declared.limits.TheConstants.{GREATEST_NUMBER, GREATEST_TABU, NO_BUDGET}
+use Rattle.palm_read.specs.declared.line.DomainText.{DomainText}
 use Rattle.palm_read.specs.declared.line.DomainText.TheVariants.{Range, Set}
 use Rattle.palm_read.specs.declared.line.Line.{Line}
-use Rattle.palm_read.specs.declared.line.Line.TheVariants.{Var, Add}
+use Rattle.palm_read.specs.declared.line.Line.TheVariants.{Var, Add, Why, Minimal, Step, SolveDbt, SolveRepair, Cert, Guide, Order, DropGuide, DropOrder}
 use Rattle.palm_read.specs.declared.line.Shape.{Shape}
 use Rattle.palm_read.specs.declared.line.Shape.TheVariants.{CompareVar, CompareConst, Linear, Table, Element, Count, Differ}
 
--- the numbers of a constraint
-abbrev pub shape_numbers : ShapeForm → List Bounded
-shape_numbers (CompareVarForm left op right offset) = offset_numbers offset
-shape_numbers (CompareConstForm left op value) = compare_const_numbers value
-shape_numbers (LinearForm terms op bound) = linear_numbers terms bound
-shape_numbers (TableForm vars rows) = table_numbers rows
-shape_numbers (ElementForm outcome index entries) = element_numbers entries
-shape_numbers (CountForm value vars op target) = count_numbers value target
-shape_numbers (DifferForm vars) = []
+-- the values of a domain are values of the language
+abbrev pub IsDomainInRange : DomainText → Type 0
+IsDomainInRange (Range low high) = IsValue low × IsValue high
+IsDomainInRange (Set values) = All IsValue values
 
--- the numbers of a form
-abbrev pub numbers : Form → List Bounded
-numbers (DeclareForm name domain) = domain_numbers domain
-numbers (AddForm name shape) = shape_numbers shape
-numbers (WhyForm name value) = a_value value ∷ []
-numbers (MinimalForm name value) = a_value value ∷ []
-numbers (CertForm name value) = a_value value ∷ []
-numbers (StepForm number) = from_one_to GREATEST_NUMBER number ∷ []
-numbers (SolveDbtForm budget) = map (from_one_to NO_BUDGET) (option_to_list budget)
-numbers (SolveRepairForm tabu budget) = from_one_to GREATEST_TABU tabu ∷ from_one_to NO_BUDGET budget ∷ []
-numbers (GuideForm number) = from_one_to GREATEST_NUMBER number ∷ []
-numbers (OrderForm number) = from_one_to GREATEST_NUMBER number ∷ []
-numbers (DropGuideForm number) = from_one_to GREATEST_NUMBER number ∷ []
-numbers (DropOrderForm number) = from_one_to GREATEST_NUMBER number ∷ []
-numbers _ = []
+-- each number of a constraint is within its bounds
+abbrev pub IsShapeInRange : Shape → Type 0
+IsShapeInRange (CompareVar left op right offset) = IsUpTo GREATEST_OFFSET offset
+IsShapeInRange (CompareConst left op value) = IsValue value
+IsShapeInRange (Linear terms op bound) = All (λ t. IsUpTo GREATEST_FACTOR t.factor) terms × IsUpTo GREATEST_BOUND bound
+IsShapeInRange (Table vars rows) = All (All IsValue) rows
+IsShapeInRange (Element outcome index entries) = All IsValue entries
+IsShapeInRange (Count value vars op target) = IsValue value × IsSoundTarget target
+IsShapeInRange (Differ vars) = ⊤
 
--- each number of the form is within its bounds
-abbrev pub IsInRange : Form → Type 0
-IsInRange form = All (λ b. (b.least ≤ℤ b.number) × (b.number ≤ℤ b.greatest)) (numbers form)
-
--- some number of the form is below its least or above its greatest
-abbrev pub IsOutOfRange : Form → Type 0
-IsOutOfRange form = Any (λ b. (b.number <ℤ b.least) ⊎ (b.greatest <ℤ b.number)) (numbers form)
+-- each number of the line is within its bounds
+abbrev pub IsInRange : Line → Type 0
+IsInRange (Var name domain) = IsDomainInRange domain
+IsInRange (Add name shape) = IsShapeInRange shape
+IsInRange (Why name value) = IsValue value
+IsInRange (Minimal name value) = IsValue value
+IsInRange (Cert name value) = IsValue value
+IsInRange (Step number) = IsFromOneTo GREATEST_NUMBER number
+IsInRange (SolveDbt budget) = IsFromOneTo NO_BUDGET budget
+IsInRange (SolveRepair tabu budget) = IsFromOneTo GREATEST_TABU tabu × IsFromOneTo NO_BUDGET budget
+IsInRange (Guide number) = IsFromOneTo GREATEST_NUMBER number
+IsInRange (Order number) = IsFromOneTo GREATEST_NUMBER number
+IsInRange (DropGuide number) = IsFromOneTo GREATEST_NUMBER number
+IsInRange (DropOrder number) = IsFromOneTo GREATEST_NUMBER number
+IsInRange _ = ⊤
 
 -- a domain, a table or a list of entries has nothing in it, or a coefficient is 0
 abbrev pub HasNothing : Line → Type 0
@@ -91,3 +90,31 @@ abbrev pub IsBeyond : Line → Type 0
 IsBeyond (Var name domain) = IsLarge domain
 IsBeyond (Add name shape) = (MOST_SCOPE < length (names_of shape)) ⊎ HasManyRows shape
 IsBeyond _ = ⊥
+
+-- ---- as it is written
+
+-- the numbers of a constraint
+abbrev pub shape_numbers : ShapeForm → List Bounded
+shape_numbers (CompareVarForm left op right offset) = offset_numbers offset
+shape_numbers (CompareConstForm left op value) = compare_const_numbers value
+shape_numbers (LinearForm terms op bound) = linear_numbers terms bound
+shape_numbers (TableForm vars rows) = table_numbers rows
+shape_numbers (ElementForm outcome index entries) = element_numbers entries
+shape_numbers (CountForm value vars op target) = count_numbers value target
+shape_numbers (DifferForm vars) = []
+
+-- the numbers of a form
+abbrev pub numbers : Form → List Bounded
+numbers (DeclareForm name domain) = domain_numbers domain
+numbers (AddForm name shape) = shape_numbers shape
+numbers (WhyForm name value) = a_value value ∷ []
+numbers (MinimalForm name value) = a_value value ∷ []
+numbers (CertForm name value) = a_value value ∷ []
+numbers (StepForm number) = from_one_to GREATEST_NUMBER number ∷ []
+numbers (SolveDbtForm budget) = map (from_one_to NO_BUDGET) (option_to_list budget)
+numbers (SolveRepairForm tabu budget) = from_one_to GREATEST_TABU tabu ∷ from_one_to NO_BUDGET budget ∷ []
+numbers (GuideForm number) = from_one_to GREATEST_NUMBER number ∷ []
+numbers (OrderForm number) = from_one_to GREATEST_NUMBER number ∷ []
+numbers (DropGuideForm number) = from_one_to GREATEST_NUMBER number ∷ []
+numbers (DropOrderForm number) = from_one_to GREATEST_NUMBER number ∷ []
+numbers _ = []

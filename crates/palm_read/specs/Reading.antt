@@ -8,7 +8,7 @@ use Rattle.palm_read.specs.Domain.{domain_of, count_in}
 use Rattle.palm_read.specs.Element.{element_shape}
 use Rattle.palm_read.specs.Form.{ShapeForm, CompareVarForm, CompareConstForm, LinearForm, TableForm, ElementForm, CountForm, DifferForm, Form, DeclareForm, AddForm, RelaxForm, EnforceForm, RetractForm, DomainsForm, DomainOfForm, ListForm, LogForm, WhyForm, ConflictForm, MinimalConflictForm, MinimalForm, PauseForm, ResumeForm, StepForm, SolveDbtForm, SolveRepairForm, CertForm, CertConflictForm, GuideForm, GuideNoneForm, OrderForm, OrderNoneForm, DropGuideForm, DropOrderForm, QuitForm}
 use Rattle.palm_read.specs.Grammar.{IsForm}
-use Rattle.palm_read.specs.Limits.{IsInRange, IsOutOfRange, HasNothing, HasRepeat}
+use Rattle.palm_read.specs.Limits.{IsInRange, HasNothing, HasRepeat}
 use Rattle.palm_read.specs.Linear.{linear_shape}
 use Rattle.palm_read.specs.Table.{table_shape}
 use Rattle.palm_read.specs.Token.{tokens_of}
@@ -32,7 +32,7 @@ abbrev pub budget_of : Option ℤ → ℕ
 budget_of None = NO_BUDGET
 budget_of (Some z) = count_in z
 
--- what the form says, where its numbers are in range
+-- what the form says
 abbrev pub line_of : Form → Line
 line_of (DeclareForm name domain) = Var name (domain_of domain)
 line_of (AddForm name shape) = Add name (shape_of shape)
@@ -62,10 +62,10 @@ line_of (DropGuideForm number) = DropGuide (count_in number)
 line_of (DropOrderForm number) = DropOrder (count_in number)
 line_of QuitForm = Quit
 
--- the bytes are a comment, or of a form whose numbers are in range, that has nothing empty and no name twice
+-- the bytes are a comment, or of a form that says a line whose numbers are in range, that has nothing empty and no name twice
 pub data IsRead : List ℕ → Line → Type 0 where
   a_comment : {bytes : List ℕ} → IsComment bytes → IsRead bytes Comment
-  a_form : {bytes : List ℕ} {line : Line} → (form : Form) → IsPlain bytes → IsForm (tokens_of bytes) form → IsInRange form → (HasNothing (line_of form) → ⊥) → (HasRepeat (line_of form) → ⊥) → line ≡ line_of form → IsRead bytes line
+  a_form : {bytes : List ℕ} {line : Line} → (form : Form) → IsPlain bytes → IsForm (tokens_of bytes) form → IsInRange (line_of form) → (HasNothing (line_of form) → ⊥) → (HasRepeat (line_of form) → ⊥) → line ≡ line_of form → IsRead bytes line
 
 -- the line is too long, or is no comment and has a byte that may not stand in it
 pub record HasBadBytes (bytes : List ℕ) : Type 0 where
@@ -76,10 +76,10 @@ pub record HasBadBytes (bytes : List ℕ) : Type 0 where
 abbrev pub IsRefusedBy : List ℕ → LineError → Type 0
 IsRefusedBy bytes Bytes = HasBadBytes bytes
 IsRefusedBy bytes NoForm = IsPlain bytes × ((form : Form) → IsForm (tokens_of bytes) form → ⊥)
-IsRefusedBy bytes OutOfRange = IsPlain bytes × (form : Form) × IsForm (tokens_of bytes) form × IsOutOfRange form
-IsRefusedBy bytes Empty = IsPlain bytes × (form : Form) × IsForm (tokens_of bytes) form × IsInRange form × HasNothing (line_of form)
+IsRefusedBy bytes OutOfRange = IsPlain bytes × (form : Form) × IsForm (tokens_of bytes) form × (IsInRange (line_of form) → ⊥)
+IsRefusedBy bytes Empty = IsPlain bytes × (form : Form) × IsForm (tokens_of bytes) form × IsInRange (line_of form) × HasNothing (line_of form)
 IsRefusedBy bytes Repeated =
-    IsPlain bytes × (form : Form) × IsForm (tokens_of bytes) form × IsInRange form × (HasNothing (line_of form) → ⊥) × HasRepeat (line_of form)
+    IsPlain bytes × (form : Form) × IsForm (tokens_of bytes) form × IsInRange (line_of form) × (HasNothing (line_of form) → ⊥) × HasRepeat (line_of form)
 IsRefusedBy bytes NoMemory = ⊤
 
 -- what reading answers: the line, or the first refusal, unless memory ran out

@@ -3,6 +3,7 @@
 ghost use Rattle.std.specs.Prelude.{◌≡◌, ◌≢◌, ◌⊎◌, ◌↔◌, ◌≤ℤ◌, ℕ, ℤ, pos, true, Some, List, [], All, Any, Contains, drop, flat_map, map};
 ghost use Rattle.palm_base.specs.Ascending.{Ascends};
 ghost use Rattle.palm_read.specs.declared.tokens.Token.{Token};
+ghost use Rattle.palm_read.specs.Bounds.{IsOutside, IsWithin};
 ghost use Rattle.palm_read.specs.Bytes.{is_plain};
 ghost use Rattle.palm_read.specs.Domain.{Interval, Members, domain_of, set_of, values_in};
 ghost use Rattle.palm_read.specs.declared.line.Line.{Line};
@@ -10,10 +11,10 @@ ghost use Rattle.palm_read.specs.declared.parse.LineError.{LineError};
 ghost use Rattle.palm_read.specs.declared.parse.LineError.TheVariants.{NoMemory};
 ghost use Rattle.palm_read.specs.Form.{Form};
 ghost use Rattle.palm_read.specs.Grammar.{IsForm};
-ghost use Rattle.palm_read.specs.Limits.{IsBeyond};
+ghost use Rattle.palm_read.specs.Limits.{IsBeyond, IsInRange, numbers};
 ghost use Rattle.palm_read.specs.Lines.{AreLines, ended};
 ghost use Rattle.palm_read.specs.Linear.{TermForm, term_of};
-ghost use Rattle.palm_read.specs.Reading.{IsRead, IsRefusedBy};
+ghost use Rattle.palm_read.specs.Reading.{IsRead, IsRefusedBy, line_of};
 ghost use Rattle.palm_read.specs.Text.{text_of};
 ghost use Rattle.palm_read.specs.Token.{Lexeme, IsFirstToken, IsLongest, IsNoToken, lexeme_of};
 ghost use Rattle.palm_read.specs.declared.limits.TheConstants.{GREATEST_NUMBER, GREATEST_TABU, MOST_LINE_BYTES, MOST_NAME_BYTES, MOST_VALUES, NO_BUDGET};
@@ -55,6 +56,13 @@ pub fn set_of_what_is_written()
 pub fn range_of_all_between()
     ensures { (low high v : ℤ) → low ≤ℤ high
         → Contains (values_in (domain_of (Interval low high))) v ↔ ((low ≤ℤ v) × (v ≤ℤ high)) }
+{}
+
+/// Numbers are in range as they are written: where each number of the form is from its least to its greatest, and not where
+/// one is below the least or above the greatest.
+pub fn in_range_as_written()
+    ensures within { (form : Form) → IsInRange (line_of form) ↔ All IsWithin (numbers form) }
+    ensures outside { (form : Form) → (IsInRange (line_of form) → ⊥) ↔ Any IsOutside (numbers form) }
 {}
 
 /// What a line lacks is lacking as it is written: a set in braces is empty where no value is, and a coefficient is 0 where

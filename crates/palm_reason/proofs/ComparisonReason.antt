@@ -1,23 +1,20 @@
--- The reason of a comparison: the declared values of the other variable that would fit, and none at all against a value.
-use Rattle.std.proofs.Common.{◌≡◌, ℕ, ℤ, ◌+ℤ◌, true, cond, [], ◌∷◌, Contains, refl, sym, ◌∙◌, subst}
-use Rattle.palm_base.proofs.cited.Members.{member_nil, member_here, member_there, member_single, member_same}
+-- The reason of a comparison of two variables: the declared values of the other variable that would fit.
+use Rattle.std.proofs.Common.{◌≡◌, ℕ, ℤ, ◌+ℤ◌, true, cond, [], ◌∷◌, refl, sym, subst}
+use Rattle.palm_base.proofs.cited.Members.{member_here, member_there, member_same}
 use Rattle.palm_model.specs.Comparison.{comparison_reason, fitting_left, fitting_right}
 use Rattle.palm_model.specs.Constraint.{Distinct}
-use Rattle.palm_model.specs.Domains.{Domains, Has, without}
+use Rattle.palm_model.specs.Domains.{Domains, Has}
 use Rattle.palm_model.specs.Reason.{IsReason}
 use Rattle.palm_model.specs.Relation.{is_standing}
 use Rattle.palm_model.specs.Removed.{pairs_of}
 use Rattle.palm_model.specs.Support.{LacksSupport}
 use Rattle.palm_model.specs.declared.constraint.Con.{Con}
-use Rattle.palm_model.specs.declared.constraint.Con.TheVariants.{CompareVar, CompareConst}
+use Rattle.palm_model.specs.declared.constraint.Con.TheVariants.{CompareVar}
 use Rattle.palm_model.specs.declared.constraint.Op.{Op}
 use Rattle.palm_model.specs.declared.part.Part.{Part}
-use Rattle.palm_model.specs.declared.part.Part.TheVariants.{CompareVar as CompareVarPart, CompareConst as CompareConstPart}
+use Rattle.palm_model.specs.declared.part.Part.TheVariants.{CompareVar as CompareVarPart}
 use Rattle.palm_model.proofs.cited.Standing.{stands_from_test, test_from_stands}
-use Rattle.palm_model.proofs.cited.Supports.{lacking_by_part, part_unsupported}
 use Rattle.palm_reason.proofs.cited.TwoVariables.{lacking_over, of_two, turned, by_variable, other_right}
-
--- ---- two variables
 
 module _ (initial present : Domains) (left : ℕ) (op : Op) (right : ℕ) (offset v : ℤ) where
   abbrev con : Con
@@ -50,22 +47,3 @@ module _ (initial present : Domains) (left : ℕ) (op : Op) (right : ℕ) (offse
       by_variable left right x (λ b. IsReason initial present con x v (cond b of_right of_left)) (lacking_over present con x v lacks)
       (λ e. subst (λ z. Has present z v → LacksSupport present con z v → IsReason initial present con z v of_right) (sym e) (left_right apart) has lacks)
       (λ e. subst (λ z. Has present z v → LacksSupport present con z v → IsReason initial present con z v of_left) (sym e) (right_right apart) has lacks)
-
--- ---- a variable and a value: nothing but the value itself matters
-
-pub choice_right : (initial present : Domains) (var : ℕ) (op : Op) (value : ℤ) (x : ℕ) (v : ℤ) → Has present x v → LacksSupport present (CompareConst var op value) x v → IsReason initial present (CompareConst var op value) x v []
-choice_right initial present var op value x v has lacks =
-    let con : Con = CompareConst var op value in
-    let part : Part = CompareConstPart var op value in
-    let over : Contains (var ∷ []) x = lacking_over present con x v lacks in
-    record {
-      removed = λ p m. absurd (member_nil p m);
-      others = λ p m. absurd (member_nil p m);
-      lacks = lacking_by_part (without initial []) con part x v refl over (λ s.
-          part_unsupported present con part x v refl lacks (record {
-            assignment = s.assignment;
-            within = λ z m. subst (λ y. Has present y (s.assignment y)) (sym (member_single var x over) ∙ member_single var z m) (subst (λ u. Has present x u) (sym s.gives) has);
-            gives = s.gives;
-            holds = s.holds;
-          }));
-    }

@@ -1,3 +1,4 @@
 pub mod cited
 pub mod ComparisonReason
+pub mod OneVariable
 pub mod TableReason

@@ -27,10 +27,10 @@ some_empty s None none b e f = cc
 some_empty s (Some x) at b e f = (x, at)
 
 -- the conflict of the only empty variable
-pub conflict_of : (s : SessionState) (o : Option ℕ) (names : List Cid) → TellsEmpty s o → IfSome o (λ x. (y : ℕ) → IsEmptyAt (present s.engine) y → y ≡ x) → (b : Bool) → is_some o ≡ not b → b ≡ false
-    → ((x : ℕ) → IsEmptyAt (present s.engine) x → IsKeptConflict s.engine x names) → HasConflict s names
-conflict_of s None names none only b e f kept = cc
-conflict_of s (Some x) names at only b e f kept = record { var = x; empty = at; lowest = λ y h. omega (arith, only y h); is = kept x at }
+pub conflict_of : (s : SessionState) (o : Option ℕ) (cids : List Cid) → TellsEmpty s o → IfSome o (λ x. (y : ℕ) → IsEmptyAt (present s.engine) y → y ≡ x) → (b : Bool) → is_some o ≡ not b → b ≡ false
+    → ((x : ℕ) → IsEmptyAt (present s.engine) x → IsKeptConflict s.engine x cids) → HasConflict s cids
+conflict_of s None cids none only b e f kept = cc
+conflict_of s (Some x) cids at only b e f kept = record { var = x; empty = at; lowest = λ y h. omega (arith, only y h); is = kept x at }
 
 -- the only empty variable is the lowest
 pub only_empty : (s : SessionState) (x : ℕ) → IsEmptyAt (present s.engine) x → ((y : ℕ) → IsEmptyAt (present s.engine) y → y ≡ x) → IsLowestEmpty s x

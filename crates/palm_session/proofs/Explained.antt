@@ -35,10 +35,10 @@ module _ (s : SessionState) (x : ℕ) (v : ℤ) where
   pub tells_present : Has s.engine.initial x v → (Contains (log_pairs s.engine.log) pair → ⊥) → SaysWhy s (present s.engine) x v (fixed_text Present)
   tells_present declared unlogged = inl (has_without s.engine.initial (log_pairs s.engine.log) x v declared unlogged, refl)
 
-  pub tells_because : (names : List Cid) → Contains (log_pairs s.engine.log) pair → IsListOf (NamesOfPair s.engine.log pair) names
-      → SaysWhy s (present s.engine) x v (users_text s.book Because names)
-  tells_because names logged list =
-      inr (λ has. (without_has s.engine.initial (log_pairs s.engine.log) x v has).1 logged, names, list, refl)
+  pub tells_because : (cids : List Cid) → Contains (log_pairs s.engine.log) pair → IsListOf (NamesOfPair s.engine.log pair) cids
+      → SaysWhy s (present s.engine) x v (users_text s.book Because cids)
+  tells_because cids logged list =
+      inr (λ has. (without_has s.engine.initial (log_pairs s.engine.log) x v has).1 logged, cids, list, refl)
 
   pub certifies_present : Has s.engine.initial x v → (Contains (log_pairs s.engine.log) pair → ⊥) → SaysCert s (present s.engine) pair (fixed_text Present)
   certifies_present declared unlogged = inl (has_without s.engine.initial (log_pairs s.engine.log) x v declared unlogged, refl)

@@ -131,9 +131,9 @@ printed_domains s is awake none = present_domains s is awake (λ empty. none ((c
 
 -- ---- explanations
 
--- the names in the explanation of a pair
-pub explanation_names : (s : SessionState) → IsHeld s → (p : Pair) → (names : List Cid) × IsListOf (NamesOfPair s.engine.log p) names
-explanation_names s is p =
+-- the ids in the explanation of a pair
+pub explanation_cids : (s : SessionState) → IsHeld s → (p : Pair) → (cids : List Cid) × IsListOf (NamesOfPair s.engine.log p) cids
+explanation_cids s is p =
     let log = s.engine.log in
     elim (pair_known (log_pairs log) p) [
       | inl m ↦
@@ -159,56 +159,56 @@ explanation_names s is p =
     ]
 
 -- they are active constraints of the book
-pub explanation_active : (s : SessionState) → IsHeld s → (p : Pair) (names : List Cid) → IsListOf (NamesOfPair s.engine.log p) names → (c : Cid) → Contains names c → IsActive (active_of s.book) c
-explanation_active s is p names list c m =
+pub explanation_active : (s : SessionState) → IsHeld s → (p : Pair) (cids : List Cid) → IsListOf (NamesOfPair s.engine.log p) cids → (c : Cid) → Contains cids c → IsActive (active_of s.book) c
+explanation_active s is p cids list c m =
     let n = list.sound c m in
     subst (λ (l : List Active). IsActive l c) is.active (cids_active s.engine.initial s.engine.active s.engine.log c is.valid.founded n.removal n.logged n.names)
 
 -- and explain a declared pair that is not present
-pub explanation_explains : (s : SessionState) → IsHeld s → (x : ℕ) (v : ℤ) (names : List Cid) → Has (initial_of s.book) x v → (Has (present s.engine) x v → ⊥)
-    → IsListOf (NamesOfPair s.engine.log (pair_of x v)) names → Explains (initial_of s.book) (Named (active_of s.book) (Contains names)) x v
-explanation_explains s is x v names has missing list =
+pub explanation_explains : (s : SessionState) → IsHeld s → (x : ℕ) (v : ℤ) (cids : List Cid) → Has (initial_of s.book) x v → (Has (present s.engine) x v → ⊥)
+    → IsListOf (NamesOfPair s.engine.log (pair_of x v)) cids → Explains (initial_of s.book) (Named (active_of s.book) (Contains cids)) x v
+explanation_explains s is x v cids has missing list =
     let log = s.engine.log in
     let initial = s.engine.initial in
     let active = s.engine.active in
     let declared : Has initial x v = subst (λ (d : Domains). Has d x v) (sym is.initial) has in
     let r = logged log (pair_of x v) (gone_member initial (log_pairs log) x v declared missing) in
     let own = removal_explained initial active log r.0 is.valid.founded r.1 in
-    let more = explains_more initial (Named active (λ c. Names log c r.0)) (Named active (Contains names)) r.0.pair.var r.0.pair.value
+    let more = explains_more initial (Named active (λ c. Names log c r.0)) (Named active (Contains cids)) r.0.pair.var r.0.pair.value
     (λ c n. record {
       owner = n.owner;
       posted = n.posted;
       is = n.is;
       named = list.whole n.owner.cid (record { removal = r.0; logged = r.1; is = r.2; names = n.named });
     }) own in
-    let here : Explains initial (Named active (Contains names)) x v = subst (λ (p : Pair). Explains initial (Named active (Contains names)) p.var p.value) r.2 more in
-    subst (λ (d : Domains). Explains d (Named (active_of s.book) (Contains names)) x v) is.initial
-    (subst (λ (l : List Active). Explains initial (Named l (Contains names)) x v) is.active here)
+    let here : Explains initial (Named active (Contains cids)) x v = subst (λ (p : Pair). Explains initial (Named active (Contains cids)) p.var p.value) r.2 more in
+    subst (λ (d : Domains). Explains d (Named (active_of s.book) (Contains cids)) x v) is.initial
+    (subst (λ (l : List Active). Explains initial (Named l (Contains cids)) x v) is.active here)
 
 -- ---- conflicts
 
 -- the kept conflict names active constraints of the book
-pub conflict_names_active : (s : SessionState) → IsHeld s → (names : List Cid) → HasConflict s names → (c : Cid) → Contains names c → IsActive (active_of s.book) c
-conflict_names_active s is names conflict c m =
+pub conflict_cids_active : (s : SessionState) → IsHeld s → (cids : List Cid) → HasConflict s cids → (c : Cid) → Contains cids c → IsActive (active_of s.book) c
+conflict_cids_active s is cids conflict c m =
     subst (λ (l : List Active). IsActive l c) is.active (conflict_active s.engine is.valid conflict.var c (conflict.is.sound c m))
 
 -- and these are a conflict
-pub conflict_conflicts : (s : SessionState) → IsHeld s → (names : List Cid) → HasConflict s names → IsConflict (initial_of s.book) (Named (active_of s.book) (Contains names))
-conflict_conflicts s is names conflict =
+pub conflict_conflicts : (s : SessionState) → IsHeld s → (cids : List Cid) → HasConflict s cids → IsConflict (initial_of s.book) (Named (active_of s.book) (Contains cids))
+conflict_conflicts s is cids conflict =
     let initial = s.engine.initial in
     let active = s.engine.active in
     let kept = kept_conflict s.engine is.valid conflict.var conflict.empty in
-    let here : IsConflict initial (Named active (Contains names)) = (
+    let here : IsConflict initial (Named active (Contains cids)) = (
       kept.0,
       kept.1,
-      λ v. explains_more initial (Named active (InConflict s.engine conflict.var)) (Named active (Contains names)) kept.0 v
+      λ v. explains_more initial (Named active (InConflict s.engine conflict.var)) (Named active (Contains cids)) kept.0 v
           (λ c n. record { owner = n.owner; posted = n.posted; is = n.is; named = conflict.is.whole n.owner.cid n.named }) (kept.2 v),
     ) in
-    subst (λ (d : Domains). IsConflict d (Named (active_of s.book) (Contains names))) is.initial
-    (subst (λ (l : List Active). IsConflict initial (Named l (Contains names))) is.active here)
+    subst (λ (d : Domains). IsConflict d (Named (active_of s.book) (Contains cids))) is.initial
+    (subst (λ (l : List Active). IsConflict initial (Named l (Contains cids))) is.active here)
 
 -- where a domain is empty, there is one
-pub conflict_exists : (s : SessionState) → IsHeld s → HasEmpty (present s.engine) → (names : List Cid) × HasConflict s names
+pub conflict_exists : (s : SessionState) → IsHeld s → HasEmpty (present s.engine) → (cids : List Cid) × HasConflict s cids
 conflict_exists s is empty =
     let x = lowest_empty (present s.engine) empty in
     let l = conflict_listed s.engine is.valid x.0 in

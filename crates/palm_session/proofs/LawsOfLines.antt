@@ -2,14 +2,13 @@
 use Rattle.std.proofs.Common.{◌≡◌, ℕ, ◌<◌, List, length, inl, inr, refl, sym, subst}
 use Rattle.palm_base.proofs.cited.Members.{Known, known_like}
 use Rattle.palm_read.specs.Form.{Form, SolveRepairForm}
-use Rattle.palm_read.specs.Reader.Checks.{HasLineInRange}
+use Rattle.palm_read.specs.Limits.{IsInRange}
 use Rattle.palm_read.specs.Reading.{IsRead, IsRefusedBy, a_comment, a_form, line_of}
 use Rattle.palm_read.specs.declared.limits.TheConstants.{MOST_LINE_BYTES}
 use Rattle.palm_read.specs.declared.line.Line.{Line}
 use Rattle.palm_read.specs.declared.line.Line.TheVariants.{Quit, SolveRepair}
 use Rattle.palm_read.specs.declared.parse.LineError.TheVariants.{Bytes, NoMemory}
 use Rattle.palm_read.proofs.cited.Parsing.{one_reading, read_not_refused, each_answered, long_refused}
-use Rattle.palm_read.proofs.cited.Ranges.{same_form, line_in}
 
 is_quit : (line : Line) → Known (line ≡ Quit)
 is_quit Quit = inl refl
@@ -20,13 +19,13 @@ abbrev pub GivesTabu : Line → Type 0
 GivesTabu (SolveRepair tabu budget) = 0 < tabu
 GivesTabu _ = Unit {0}
 
-form_tabu : (form : Form) → HasLineInRange (line_of form) → GivesTabu (line_of form)
-form_tabu (SolveRepairForm tabu budget) h = h.0
+form_tabu : (form : Form) → IsInRange (line_of form) → GivesTabu (line_of form)
+form_tabu (SolveRepairForm tabu budget) h = h.0.0
 form_tabu _ h = tt
 
 pub tabu_read : (bytes : List ℕ) (line : Line) → IsRead bytes line → GivesTabu line
 tabu_read bytes line (a_comment c) = tt
-tabu_read bytes line (a_form form p f r none once e) = subst GivesTabu (sym e) (form_tabu form (subst (λ g. HasLineInRange (line_of g)) (same_form form r) (line_in form r)))
+tabu_read bytes line (a_form form p f r none once e) = subst GivesTabu (sym e) (form_tabu form r)
 
 -- whether the bytes say `quit`
 pub quit_known : (bytes : List ℕ) → Known (IsRead bytes Quit)

@@ -24,22 +24,22 @@ use Rattle.palm_session.proofs.cited.LawsOfAnswers.{query_same}
 use Rattle.palm_session.proofs.Users.{minimal_active}
 
 module _ (book : Contents) where
-  pub minimal_explains : (pair : Pair) (names : List Cid) → IsMinimalExplanation (initial_of book) (active_of book) pair names → IsExplanation book names pair.var pair.value
-  minimal_explains pair names minimal =
+  pub minimal_explains : (pair : Pair) (cids : List Cid) → IsMinimalExplanation (initial_of book) (active_of book) pair cids → IsExplanation book cids pair.var pair.value
+  minimal_explains pair cids minimal =
       let P = DoExplain (initial_of book) pair in
       record {
-        active = minimal_active P (active_of book) names minimal;
-        explains = explains_more (initial_of book) (Contains (cons_of minimal.left)) (Named (active_of book) (Contains names)) pair.var pair.value
-            (minimal_named P (active_of book) names minimal) (minimal_holds P (active_of book) names minimal);
+        active = minimal_active P (active_of book) cids minimal;
+        explains = explains_more (initial_of book) (Contains (cons_of minimal.left)) (Named (active_of book) (Contains cids)) pair.var pair.value
+            (minimal_named P (active_of book) cids minimal) (minimal_holds P (active_of book) cids minimal);
       }
 
-  pub minimal_conflicts : (names : List Cid) → IsMinimalConflict (initial_of book) (active_of book) names → IsConflictOf book names
-  minimal_conflicts names minimal =
+  pub minimal_conflicts : (cids : List Cid) → IsMinimalConflict (initial_of book) (active_of book) cids → IsConflictOf book cids
+  minimal_conflicts cids minimal =
       let P = AreConflict (initial_of book) in
       record {
-        active = minimal_active P (active_of book) names minimal;
-        conflicts = conflict_more (initial_of book) (Contains (cons_of minimal.left)) (Named (active_of book) (Contains names))
-            (minimal_named P (active_of book) names minimal) (minimal_holds P (active_of book) names minimal);
+        active = minimal_active P (active_of book) cids minimal;
+        conflicts = conflict_more (initial_of book) (Contains (cons_of minimal.left)) (Named (active_of book) (Contains cids))
+            (minimal_named P (active_of book) cids minimal) (minimal_holds P (active_of book) cids minimal);
       }
 
 asked_minimal : (s : SessionState) (name : List ℕ) (value : ℤ) (pair : Pair) (reply : List ℕ) (t : SessionState) → IsPair s.book.variables name value pair → Accepts s (Ask (Minimal pair)) reply t

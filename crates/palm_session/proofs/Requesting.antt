@@ -67,7 +67,7 @@ request_exists s Comment none = (NothingAsked, refl)
 request_exists s (Var name domain) none = (Declare name domain, refl)
 request_exists s (AddLine name shape) none =
     let r = constraint_with s.book.variables shape (all_named s (names_of shape) none.1.0) in
-    let says : Resolves s.book.variables shape r.0 = record { declared = r.1; says = r.2 } in
+    let says : Resolves s.book.variables shape r.0 = record { declared = r.1; has_form = r.3; says = r.2 } in
     (Add name r.0, (r.0, says, refl))
 request_exists s (RelaxLine name) none = let p = place_exists s name none.1.1.0 in (Relax p.0, (p.0, p.1, refl))
 request_exists s (EnforceLine name) none = let p = place_exists s name none.1.1.0 in (Enforce p.0, (p.0, p.1, refl))
@@ -127,7 +127,7 @@ module _ (s : SessionState) (is : IsHeld s) where
   request_once Comment a b x y = x ∙ sym y
   request_once (Var name domain) a b x y = x ∙ sym y
   request_once (AddLine name shape) a b x y =
-      let same : x.0 ≡ y.0 = constraint_once s.book.variables is.book.different_variables x.0 y.0 x.1.declared y.1.declared (x.1.says ∙ sym y.1.says) in
+      let same : x.0 ≡ y.0 = constraint_once s.book.variables is.book.different_variables x.0 y.0 x.1.declared y.1.declared x.1.has_form y.1.has_form (x.1.says ∙ sym y.1.says) in
       x.2 ∙ ap (λ (con : Con). Add name con) same ∙ sym y.2
   request_once (RelaxLine name) a b x y = named_once name Relax a b x y
   request_once (EnforceLine name) a b x y = named_once name Enforce a b x y

@@ -20,16 +20,16 @@ use Rattle.palm_session.specs.Told.ToldWhy.{why_paused, why_contradiction, why_p
 use Rattle.palm_session.specs.Told.ToldConflict.{conflict_paused, conflict_none, conflict_named}
 use Rattle.palm_session.proofs.cited.LawsOfAnswers.{awake_for, query_same}
 use Rattle.palm_session.proofs.Requesting.{declared_value}
-use Rattle.palm_session.proofs.LawsOfDomains.{printed_domains, explanation_active, explanation_explains, conflict_names_active, conflict_conflicts}
+use Rattle.palm_session.proofs.LawsOfDomains.{printed_domains, explanation_active, explanation_explains, conflict_cids_active, conflict_conflicts}
 use Rattle.palm_session.proofs.cited.LawsOfStates.{domains_once}
 
-explanation : (s : SessionState) → IsState s → s.paused ≡ false → (IsContradiction s → ⊥) → (d : Domains) (x : ℕ) (value : ℤ) (names : List Cid) → AreDomains s d → Has (initial_of s.book) x value → (Has d x value → ⊥)
-    → IsListOf (NamesOfPair s.engine.log (pair_of x value)) names → IsExplanation s.book names x value
-explanation s is awake none d x value names are has missing list =
+explanation : (s : SessionState) → IsState s → s.paused ≡ false → (IsContradiction s → ⊥) → (d : Domains) (x : ℕ) (value : ℤ) (cids : List Cid) → AreDomains s d → Has (initial_of s.book) x value → (Has d x value → ⊥)
+    → IsListOf (NamesOfPair s.engine.log (pair_of x value)) cids → IsExplanation s.book cids x value
+explanation s is awake none d x value cids are has missing list =
     let same = domains_once s d _ are (printed_domains s is awake none) in
     record {
-      active = λ c m. explanation_active s is.held (pair_of x value) names list c m;
-      explains = explanation_explains s is.held x value names has (λ m. missing (subst (λ (z : Domains). Has z x value) (sym same) m)) list;
+      active = λ c m. explanation_active s is.held (pair_of x value) cids list c m;
+      explains = explanation_explains s is.held x value cids has (λ m. missing (subst (λ (z : Domains). Has z x value) (sym same) m)) list;
     }
 
 says_why : (s : SessionState) → IsState s → s.paused ≡ false → (IsContradiction s → ⊥) → (name : List ℕ) (value : ℤ) (reply : List ℕ) (d : Domains) (x : ℕ) → AreDomains s d → (x < length s.book.variables) → (name_of s.book.variables x ≡ name)
@@ -58,7 +58,7 @@ told_why s name value request reply t is a h =
 says_conflict : (s : SessionState) → IsState s → (d : Domains) (reply : List ℕ) → SaysConflict s d reply → ToldConflict s.book reply
 says_conflict s is d reply (inl p) = conflict_none p.1
 says_conflict s is d reply (inr p) = conflict_named p.1 (record {
-  active = λ c m. conflict_names_active s is.held p.1 p.2 c m;
+  active = λ c m. conflict_cids_active s is.held p.1 p.2 c m;
   conflicts = conflict_conflicts s is.held p.1 p.2;
 }) p.3
 

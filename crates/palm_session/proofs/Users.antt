@@ -1,4 +1,4 @@
--- The names that explanations, conflicts and the log hold are users' constraints of the book, and their pairs are declared.
+-- The ids that explanations, conflicts and the log hold are users' constraints of the book, and their pairs are declared.
 use Rattle.std.proofs.Common.{◌≡◌, ◌<◌, ℕ, List, [], ◌∷◌, ◌++◌, length, All, Contains, inl, inr, refl, ap, ◌∙◌, subst}
 use Rattle.std.proofs.lemmas.List.{length-map}
 use Rattle.palm_base.specs.declared.terms.Pair.{Pair}
@@ -19,7 +19,7 @@ use Rattle.palm_session.specs.State.{SessionState, IsHeld}
 use Rattle.palm_session.specs.Answers.{HasConflict}
 use Rattle.palm_session.specs.Logged.{IsLogged, AreLogged}
 use Rattle.palm_session.proofs.ActiveLists.{active_member}
-use Rattle.palm_session.proofs.LawsOfDomains.{explanation_active, conflict_names_active}
+use Rattle.palm_session.proofs.LawsOfDomains.{explanation_active, conflict_cids_active}
 use Rattle.palm_laws.proofs.cited.Reducing.{left_within}
 use Rattle.palm_model.specs.Minimal.{IsMinimal}
 
@@ -29,11 +29,11 @@ active_user book c active =
     let e : User r.0.number ≡ c = ap (λ (a : Active). a.cid) r.3 ∙ active.named in
     subst (IsUser book) e (any_member (λ (d : BookCon). d.number ≡ r.0.number) book.constraints r.0 r.1 refl)
 
-pub explanation_users : (s : SessionState) → IsHeld s → (p : Pair) (names : List Cid) → IsListOf (NamesOfPair s.engine.log p) names → All (IsUser s.book) names
-explanation_users s is p names list = all_members (IsUser s.book) names (λ c m. active_user s.book c (explanation_active s is p names list c m))
+pub explanation_users : (s : SessionState) → IsHeld s → (p : Pair) (cids : List Cid) → IsListOf (NamesOfPair s.engine.log p) cids → All (IsUser s.book) cids
+explanation_users s is p cids list = all_members (IsUser s.book) cids (λ c m. active_user s.book c (explanation_active s is p cids list c m))
 
-pub conflict_users : (s : SessionState) → IsHeld s → (names : List Cid) → HasConflict s names → All (IsUser s.book) names
-conflict_users s is names conflict = all_members (IsUser s.book) names (λ c m. active_user s.book c (conflict_names_active s is names conflict c m))
+pub conflict_users : (s : SessionState) → IsHeld s → (cids : List Cid) → HasConflict s cids → All (IsUser s.book) cids
+conflict_users s is cids conflict = all_members (IsUser s.book) cids (λ c m. active_user s.book c (conflict_cids_active s is cids conflict c m))
 
 -- ---- what the log holds is in the book
 
@@ -63,11 +63,11 @@ are_logged s is = all_members (IsLogged s.book) s.engine.log (is_logged s is)
 
 -- ---- minimal sets
 
--- the names of a minimal set are those of active constraints
-pub minimal_active : (P : List Active → Type 0) (active : List Active) (names : List Cid) → IsMinimal P active names → (c : Cid) → Contains names c → IsActive active c
-minimal_active P active names minimal c m =
+-- the ids of a minimal set are those of active constraints
+pub minimal_active : (P : List Active → Type 0) (active : List Active) (cids : List Cid) → IsMinimal P active cids → (c : Cid) → Contains cids c → IsActive active c
+minimal_active P active cids minimal c m =
     let a = member_unmap (λ (a : Active). a.cid) minimal.left c (subst (λ (l : List Cid). Contains l c) minimal.named m) in
     record { owner = a.0; posted = left_within P [] active minimal.left minimal.walk a.0 a.1; named = a.2 }
 
-pub minimal_users : (book : Contents) (P : List Active → Type 0) (names : List Cid) → IsMinimal P (active_of book) names → All (IsUser book) names
-minimal_users book P names minimal = all_members (IsUser book) names (λ c m. active_user book c (minimal_active P (active_of book) names minimal c m))
+pub minimal_users : (book : Contents) (P : List Active → Type 0) (cids : List Cid) → IsMinimal P (active_of book) cids → All (IsUser book) cids
+minimal_users book P cids minimal = all_members (IsUser book) cids (λ c m. active_user book c (minimal_active P (active_of book) cids minimal c m))

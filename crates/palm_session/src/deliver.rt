@@ -82,19 +82,6 @@ fn write_users<K: Sink>(
     write_line!(out, buffer, print_names(book, lead, users))
 }
 
-/// The same claim.
-fn copy_of(claim: &Claim) -> Claim
-    ensures { result ≡ claim.now }
-{
-    match claim {
-        Claim::Gone(Pair { var, value }) => Claim::Gone(Pair {
-            var: Var(var.0),
-            value: Value(value.0),
-        }),
-        Claim::Conflict(var) => Claim::Conflict(Var(var.0)),
-    }
-}
-
 /// Writes the certificate of a claim.
 fn write_certificate<G: Guide, O: Order, K: Sink>(
     desk: &Desk<G, O>,
@@ -105,13 +92,7 @@ fn write_certificate<G: Guide, O: Order, K: Sink>(
     requires holds { CanClaim desk.now.state.engine claim.now }
     ensures { Writes (K.state out.old) (K.state out.new) (certificate_text desk.now.state.book desk.now.state.engine.log claim.now) result }
 {
-    write_cert(
-        desk.alloc(),
-        desk.engine(),
-        desk.book(),
-        copy_of(claim),
-        out,
-    )
+    write_cert(desk.alloc(), desk.engine(), desk.book(), claim.copy(), out)
 }
 
 /// Writes a value for each variable.

@@ -11,9 +11,8 @@ use crate::reply::Reply;
 use crate::request::Request;
 use palm_agenda::Order;
 use palm_base::NoMemory;
-use palm_book::values_in;
 use palm_guide::Guide;
-use palm_lang::{DomainText, Fixed, Name};
+use palm_lang::{DomainText, Fixed, Name, values_in};
 use palm_model::Con;
 
 /// Nothing is left but to say this.

@@ -142,5 +142,7 @@ fn the_engine_and_the_slow_way_agree(rt: HostRuntime) -> Result<(), Fail> {
         Sample::Differ,
     ];
     assert!(rt; agrees_in_every_order(alloc, &fourth)?);
+    let fifth = [Sample::Within, Sample::Table, Sample::Less(Z, Y)];
+    assert!(rt; agrees_in_every_order(alloc, &fifth)?);
     Ok(())
 }

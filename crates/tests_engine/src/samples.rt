@@ -30,6 +30,8 @@ pub enum Sample {
     Count,
     /// The first three variables differ.
     Differ,
+    /// The second variable is -4, 2, 3 or 9.
+    Within,
 }
 
 /// `left op right`, where these are two of the variables.
@@ -132,6 +134,16 @@ fn differ(alloc: Global) -> Result<Con, NoMemory>
     })
 }
 
+/// `y in {-4,2,3,9}`
+fn within(alloc: Global) -> Result<Con, NoMemory>
+    ensures { IfOk result (IsWellFormed 4) }
+{
+    Ok(Con::Within {
+        var: Var(1),
+        values: ValueList::from_slice(alloc, &[Value(-4), Value(2), Value(3), Value(9)])?,
+    })
+}
+
 /// The constraint that the sample means, where it is one.
 pub fn con_of(alloc: Global, sample: &Sample) -> Result<Option<Con>, NoMemory>
     ensures { IfOk result (λ found. IfSome found (IsWellFormed 4)) }
@@ -146,6 +158,7 @@ pub fn con_of(alloc: Global, sample: &Sample) -> Result<Option<Con>, NoMemory>
         Sample::Element => Some(element(alloc)?),
         Sample::Count => Some(count(alloc)?),
         Sample::Differ => Some(differ(alloc)?),
+        Sample::Within => Some(within(alloc)?),
     })
 }
 

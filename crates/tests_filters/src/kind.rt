@@ -1,10 +1,10 @@
 //! Filters made from constraints: asked for support, and for reasons.
-ghost use Rattle.std.specs.Prelude.{◌≡◌, ◌∷◌, [], length, IfOk};
+ghost use Rattle.std.specs.Prelude.{◌≡◌, ◌∷◌, [], length, negsuc, pos, IfOk};
 ghost use Rattle.palm_model.specs.Constraint.{IsWellFormed};
-ghost use Rattle.palm_model.specs.declared.constraint.Con.TheVariants.{Differ};
+ghost use Rattle.palm_model.specs.declared.constraint.Con.TheVariants.{Differ, Within};
 
 use crate::testing::{Question, answers, declare_two, is_reason, is_supported, pair, take_out_all};
-use palm_base::{NoMemory, Pair, Var, VarList};
+use palm_base::{NoMemory, Pair, Value, ValueList, Var, VarList};
 use palm_domain::DomainStore;
 use palm_filter::Filter;
 use palm_kind::Kind;
@@ -102,14 +102,41 @@ fn differ_decides(alloc: Global, store: &DomainStore) -> Result<bool, NoMemory>
     decides_all(alloc, store, differ, &cases)
 }
 
-/// What two constraints decide over x of 1 to 3 and y with the value 1 of 1 to 3.
+/// `x in {-4,2,9}`
+fn within(alloc: Global) -> Result<Con, NoMemory>
+    ensures { IfOk result (λ con. con ≡ Within 0 (negsuc 3 ∷ pos 2 ∷ pos 9 ∷ [])) }
+{
+    Ok(Con::Within {
+        var: Var(0),
+        values: ValueList::from_slice(alloc, &[Value(-4), Value(2), Value(9)])?,
+    })
+}
+
+/// Whether `x in {-4,2,9}` supports 2, and takes 1 and 3 out without reasons.
+fn within_decides(alloc: Global, store: &DomainStore) -> Result<bool, NoMemory>
+    requires { length store.now ≡ 2 }
+{
+    let within = within(alloc)?;
+    let kind = Kind::from_con(alloc, &within)?;
+    Ok(
+        is_supported(&kind, store, &x(2))
+            && is_reason(alloc, &kind, store, &x(1), &[])?
+            && is_reason(alloc, &kind, store, &x(3), &[])?,
+    )
+}
+
+/// What three constraints decide over x of 1 to 3 and y with the value 1 of 1 to 3.
 struct Decided;
 
 impl Question for Decided {
     fn is_answered(&self, alloc: Global, store: &mut DomainStore) -> Result<bool, NoMemory> {
         declare_two(store)?;
         take_out_all(store, &[y(2), y(3)]);
-        Ok(less_decides(alloc, store)? && differ_decides(alloc, store)?)
+        Ok(
+            less_decides(alloc, store)?
+                && differ_decides(alloc, store)?
+                && within_decides(alloc, store)?,
+        )
     }
 }
 

@@ -9,6 +9,7 @@ use palm_lang::{
     Book, Fixed, Lead, Name, Refusal, print_con, print_domain, print_entry, print_fixed,
     print_found, print_names, print_ran, print_refusal, print_removal, print_spent, print_var,
 };
+use palm_model::Con;
 use std::alloc::Global;
 use std::test::Fail;
 
@@ -126,6 +127,43 @@ impl Question for Constraints {
 #[test]
 fn prints_constraints_of_a_book(rt: HostRuntime) -> Result<(), Fail> {
     assert!(rt; ask(rt.alloc(), &Constraints)?);
+    Ok(())
+}
+
+/// Prints that the first variable has one of the values.
+fn print_within(
+    alloc: Global,
+    book: &Book,
+    values: &[Value],
+    out: &mut Vec<u8>,
+) -> Result<(), NoMemory>
+    requires { length book.now.variables ≡ 2 }
+{
+    let within = Con::Within {
+        var: Var(0),
+        values: ValueList::from_slice(alloc, values)?,
+    };
+    print_con(book, &within, out)?;
+    out.push(b'\n')?;
+    Ok(())
+}
+
+/// That a variable has one of some values, all from the first to the last or not.
+struct Withins;
+
+impl Question for Withins {
+    fn is_answered(&self, alloc: Global, book: &mut Book) -> Result<bool, NoMemory> {
+        declare_two(alloc, book)?;
+        let mut out = Vec::new(alloc);
+        print_within(alloc, book, &[Value(-1), Value(0), Value(1)], &mut out)?;
+        print_within(alloc, book, &[Value(1), Value(3)], &mut out)?;
+        Ok(out.as_slice() == b"x in -1..1\nx in {1,3}\n".as_slice())
+    }
+}
+
+#[test]
+fn prints_a_domain_in_a_constraint(rt: HostRuntime) -> Result<(), Fail> {
+    assert!(rt; ask(rt.alloc(), &Withins)?);
     Ok(())
 }
 

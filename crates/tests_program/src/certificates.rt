@@ -157,50 +157,41 @@ fn a_certificate_is_accepted(rt: HostRuntime) -> Result<(), Fail> {
     Ok(())
 }
 
-/// The number of a line, what stands in its place, and how the certificate is refused.
-const CHANGED: &[(usize, &str, &str)] = &[
-    (1, "palm-cert 9", "refused 1 C1\n"),
-    (2, "var x 1..257", "refused 2 C6\n"),
-    (4, "add a : x = x", "refused 4 C1\n"),
-    (4, "add a : x = q", "refused 4 C2\n"),
-    (5, "add a : y != 2", "refused 5 C2\n"),
-    (6, "step y 3 by d", "refused 6 C4\n"),
-    (6, "step y 9 by d", "refused 6 C2\n"),
-    (6, "step y two by d", "refused 6 C1\n"),
-    (6, "step y 2 by a", "refused 6 C4\n"),
-    (7, "step x 2 by a", "refused 7 C4\n"),
-    (7, "step x 2 by a from 2", "refused 7 C3\n"),
-    (7, "step x 2 by a from 0", "refused 7 C1\n"),
-    (8, "claim x 3", "refused 8 C5\n"),
-    (8, "claim conflict y", "refused 8 C5\n"),
-    (9, "end\nstep y 2 by d", "refused 10 C1\n"),
-];
-
-#[test]
-fn a_certificate_with_one_line_changed_is_refused(rt: HostRuntime) -> Result<(), Fail> {
-    for (number, line, output) in CHANGED {
-        assert!(rt; are_refused(rt.alloc(), 9, *number, line, "", output)?);
-    }
-    Ok(())
-}
-
-/// How many lines are left, what stands behind them, and how that is refused.
-const CUT: &[(usize, &str, &str)] = &[
-    (0, "", "refused 1 C5\n"),
-    (7, "", "refused 8 C5\n"),
-    (8, "", "refused 9 C5\n"),
-    (6, "step x 2 by", "refused 7 C1\n"),
+/// A certificate that is cut or changed: how many of its lines stay, the number of the line that says something else and
+/// what it says (0 where none does), what stands behind them, and how it is refused.
+const CHANGED: &[(usize, usize, &str, &str, &str)] = &[
+    (9, 1, "palm-cert 9", "", "refused 1 C1\n"),
+    (9, 4, "add a : x = x", "", "refused 4 C1\n"),
+    (9, 4, "add a : x = q", "", "refused 4 C2\n"),
+    (9, 5, "add a : y != 2", "", "refused 5 C2\n"),
+    (9, 6, "step y 2 by a", "", "refused 6 C4\n"),
+    (9, 7, "step x 2 by a", "", "refused 7 C4\n"),
+    (9, 7, "step x 2 by a from 2", "", "refused 7 C3\n"),
+    (9, 7, "step x 2 by a from 0", "", "refused 7 C1\n"),
+    (6, 0, "", "step x 2 by", "refused 7 C1\n"),
+    (9, 8, "claim conflict y", "", "refused 8 C5\n"),
+    (8, 0, "", "", "refused 9 C5\n"),
+    (9, 0, "", "step y 2 by d\n", "refused 10 C1\n"),
+    (9, 2, "var x 1..257", "", "refused 2 C6\n"),
+    (9, 6, "step y 3 by d", "", "refused 6 C4\n"),
+    (9, 6, "step y 9 by d", "", "refused 6 C2\n"),
+    (9, 6, "step y two by d", "", "refused 6 C1\n"),
+    (9, 8, "claim x 3", "", "refused 8 C5\n"),
+    (0, 0, "", "", "refused 1 C5\n"),
+    (7, 0, "", "", "refused 8 C5\n"),
     (
         5,
+        0,
+        "",
         "step x 2 by a from 1\nstep y 2 by d\nclaim x 2\nend\n",
         "refused 6 C3\n",
     ),
 ];
 
 #[test]
-fn a_certificate_that_is_cut_or_exchanged_is_refused(rt: HostRuntime) -> Result<(), Fail> {
-    for (lines, end, output) in CUT {
-        assert!(rt; are_refused(rt.alloc(), *lines, 0, "", end, output)?);
+fn a_changed_certificate_is_refused(rt: HostRuntime) -> Result<(), Fail> {
+    for (lines, number, line, end, output) in CHANGED {
+        assert!(rt; are_refused(rt.alloc(), *lines, *number, line, end, output)?);
     }
     Ok(())
 }

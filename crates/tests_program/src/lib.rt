@@ -11,6 +11,8 @@ mod changes;
 #[cfg(test)]
 mod limits;
 #[cfg(test)]
+mod lines;
+#[cfg(test)]
 mod objects;
 #[cfg(test)]
 mod reasons;

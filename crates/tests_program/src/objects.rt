@@ -4,7 +4,9 @@ ghost use Rattle.palm_base.specs.Memory.{sink_state};
 use crate::sessions::answers_with;
 use crate::words::{no_guides, no_orders, words_of};
 use palm_agenda::{LastOrder, Order, RotateOrder};
-use palm_base::{ByteList, Cid, Failed, NoMemory, Pair, Sink, SteadySink, SteadySource, Var};
+use palm_base::{
+    ByteList, Cid, Failed, NoMemory, Pair, Sink, SteadySink, SteadySource, Value, Var,
+};
 use palm_cli::{Status, top};
 use palm_guide::{FirstGuide, Guide, ViewRow};
 use std::alloc::Global;
@@ -158,8 +160,50 @@ fn an_order_is_told_what_ran(rt: HostRuntime) -> Result<(), Fail> {
     Ok(())
 }
 
+/// Answers the same at each decision.
+#[derive(Drop)]
+struct Stubborn {
+    answer: Option<Pair>,
+}
+
+impl Guide for Stubborn {
+    ghost use Rattle.std.specs.Prelude.{◌≡◌, []};
+
+    ghost state = { λ guide. [] };
+
+    ghost answers = { λ guide view answer after. after ≡ [] };
+
+    ghost hears = { λ guide conflict after. after ≡ [] };
+
+    fn pick(&mut self, _view: &[ViewRow]) -> Option<Pair> {
+        self.answer
+    }
+
+    fn learned(&mut self, _conflict: &[Var]) {}
+}
+
+/// Whether a search finds what it finds without a guide, where one is chosen that always answers this.
+fn finds_the_same(alloc: Global, answer: Option<Pair>) -> Result<bool, NoMemory> {
+    let text = b"var x 1..3\nvar y 1..3\nadd a : x < y\nguide 1\nsolve dbt\n";
+    let replies = "ok\nok\nok\nok\nfound x=1 y=2\n";
+    let mut guides = Vec::new(alloc);
+    guides.push(Stubborn { answer })?;
+    answers_with(alloc, text, replies, 7, guides, no_orders(alloc))
+}
+
 #[test]
-fn an_index_out_of_range_counts_as_the_first(rt: HostRuntime) -> Result<(), Fail> {
+fn an_unlawful_answer_counts_for_nothing(rt: HostRuntime) -> Result<(), Fail> {
+    let unknown = Pair {
+        var: Var(4_000_000_000),
+        value: Value(1),
+    };
+    let undeclared = Pair {
+        var: Var(0),
+        value: Value(9),
+    };
+    assert!(rt; finds_the_same(rt.alloc(), None)?);
+    assert!(rt; finds_the_same(rt.alloc(), Some(unknown))?);
+    assert!(rt; finds_the_same(rt.alloc(), Some(undeclared))?);
     assert!(rt; has_log(rt.alloc(), Beyond, PLAIN)?);
     Ok(())
 }

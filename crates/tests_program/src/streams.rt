@@ -18,10 +18,32 @@ const TEXT: &str = "var x 1..3\nvar y 1..3\nadd a : x < y\ndomains\n";
 /// Its replies, of 27 bytes.
 const REPLIES: &str = "ok\nok\nok\nx: 1 2\ny: 2 3\nend\n";
 
-/// Whether `run` ends so on the session, read in pieces of 11 bytes and written in pieces of so many, where the listed calls
-/// of the source and of the sink fail, and writes this.
+/// A certificate that x is not 2.
+const CERTIFICATE: &str = "palm-cert 1\nvar x 1..3\nvar y 1..3\nadd a : x = y\nadd d : y != 2\n\
+    step y 2 by d\nstep x 2 by a from 1\nclaim x 2\nend\n";
+
+/// What is asked for: a command by its word, and its input.
+#[derive(Clone, Copy)]
+struct Asked {
+    word: &'static str,
+    input: &'static str,
+}
+
+const RUN: Asked = Asked {
+    word: "run",
+    input: TEXT,
+};
+
+const CHECK: Asked = Asked {
+    word: "check",
+    input: CERTIFICATE,
+};
+
+/// Whether the command ends so, read in pieces of 11 bytes and written in pieces of so many, where the listed calls of the
+/// source and of the sink fail, and writes this.
 fn ends(
     alloc: Global,
+    asked: Asked,
     reads: &[u64],
     writes: &[u64],
     piece: usize,
@@ -32,8 +54,8 @@ fn ends(
 {
     let reads = CallList::from_slice(alloc, reads)?;
     let writes = CallList::from_slice(alloc, writes)?;
-    let bytes = ByteList::from_slice(alloc, TEXT.as_bytes())?;
-    let words = words_of(alloc, &["run"])?;
+    let bytes = ByteList::from_slice(alloc, asked.input.as_bytes())?;
+    let words = words_of(alloc, &[asked.word])?;
     let mut source = MemorySource::new(bytes, 11, reads);
     let mut sink = MemorySink::new(alloc, piece, writes);
     sink.reserve(64)?;
@@ -48,21 +70,32 @@ fn ends(
     Ok(ended == status && sink.bytes() == output)
 }
 
-/// The read that fails, what was written before it, and how `run` ends; the session takes four reads, and a fifth finds its
-/// end.
-const FAILING_READS: &[(u64, &str, Status)] = &[
-    (1, "", Status::ReadFault),
-    (2, "ok\n", Status::ReadFault),
-    (3, "ok\nok\n", Status::ReadFault),
-    (4, "ok\nok\n", Status::ReadFault),
-    (5, REPLIES, Status::ReadFault),
-    (6, REPLIES, Status::Done),
+/// What is asked for, the read that fails, what was written before it, and how the command ends; the session takes four
+/// reads, and a fifth finds its end.
+const FAILING_READS: &[(Asked, u64, &str, Status)] = &[
+    (RUN, 1, "", Status::ReadFault),
+    (RUN, 2, "ok\n", Status::ReadFault),
+    (RUN, 3, "ok\nok\n", Status::ReadFault),
+    (RUN, 4, "ok\nok\n", Status::ReadFault),
+    (RUN, 5, REPLIES, Status::ReadFault),
+    (RUN, 6, REPLIES, Status::Done),
+    (CHECK, 1, "", Status::ReadFault),
 ];
 
 #[test]
-fn a_failing_read_ends_the_run(rt: HostRuntime) -> Result<(), Fail> {
-    for (call, output, status) in FAILING_READS {
-        assert!(rt; ends(rt.alloc(), &[*call], &[], 7, *status, output.as_bytes())?);
+fn a_failing_read_ends_the_command(rt: HostRuntime) -> Result<(), Fail> {
+    for (asked, call, output, status) in FAILING_READS {
+        assert!(rt;
+            ends(
+                rt.alloc(),
+                *asked,
+                &[*call],
+                &[],
+                7,
+                *status,
+                output.as_bytes()
+            )?
+        );
     }
     Ok(())
 }
@@ -72,13 +105,14 @@ fn a_failing_write_ends_the_run(rt: HostRuntime) -> Result<(), Fail> {
     let mut call = 1;
     for (written, _) in REPLIES.as_bytes().iter().enumerate() {
         let front = &REPLIES.as_bytes()[..written];
-        assert!(rt; ends(rt.alloc(), &[], &[call], 1, Status::WriteFault, front)?);
+        assert!(rt; ends(rt.alloc(), RUN, &[], &[call], 1, Status::WriteFault, front)?);
         call = call.saturating_add(1);
     }
     assert_eq!(rt; call, 28);
     assert!(rt;
         ends(
             rt.alloc(),
+            RUN,
             &[],
             &[call],
             1,

@@ -1,7 +1,7 @@
 -- What an agenda keeps, after each of its calls.
 use Rattle.std.proofs.Common.{◌≡◌, ℕ, ◌+◌, ◌<◌, ◌≤◌, Bool, true, false, not, ◌||◌, if◌then◌else◌, List, [], ◌∷◌, map, reverse, length, get_or, set, take, slice_get, insert, remove, Contains, All, Option, None, Some, zero, suc, ◌⊎◌, ◌↔◌, inl, inr, refl, sym, ap, ◌∙◌, subst, arith, nat_eq, nat_lt, lt-ltb, le-ltb, IfNone, eq-eqb, eqb-true, length-set}
 use Rattle.std.specs.Option.{MatchOption}
-use Rattle.std.proofs.lemmas.Bool.{cases_Bool, false≢true}
+use Rattle.std.proofs.lemmas.Bool.{cases_Bool, cases_lt, false≢true}
 use Rattle.std.proofs.lemmas.List.{get_or-map, length-map, length-replicate, nil_from_length, take_all}
 use Rattle.std.proofs.lemmas.List.Edits.{length-insert, length-remove}
 use Rattle.std.proofs.lemmas.List.Folds.{list_any_more}
@@ -19,7 +19,7 @@ use Rattle.palm_events.proofs.cited.States.{without_cid_rises}
 use Rattle.palm_agenda.specs.Flags.{FlagRow, IsFirst, count_raised, flagged}
 use Rattle.palm_agenda.specs.Cids.{Roomy, cids_at}
 use Rattle.palm_agenda.specs.Agenda.{Connected, HasMarks, IsConnected, IsFormed, IsMarked, Takes, index_within, IsOver, HasPlace, connected_cids, marked_whole, marked_where, changed_at, changed_among, mark_others, is_over, unmarked, with_connected, without_connected}
-use Rattle.palm_agenda.specs.Kept.{IsAgenda}
+use Rattle.palm_agenda.specs.Kept.{IsAgenda, IsShown}
 use Rattle.palm_agenda.specs.Places.{is_place, mark_places}
 use Rattle.palm_agenda.specs.declared.connection.Places.{Places}
 use Rattle.palm_agenda.specs.declared.connection.Places.TheVariants.{Own, Others}
@@ -176,15 +176,24 @@ pub given_none : {X P Q : Type 0} (r : Option X) → P → Q → IfNone r (P × 
 given_none None p q = (p, q)
 given_none (Some x) p q = tt
 
--- the id at the answered index
-pub chosen_within : (cids : List Cid) (answer index : ℕ) (d cid : Cid) → answer < length cids → index ≡ answer → d ≡ get_or cids index d → cid ≡ d → slice_get cids (index_within answer (length cids)) ≡ Some cid
-chosen_within cids answer index d cid lt is item same =
-    ap (slice_get cids) (if_true (nat_lt answer (length cids)) answer 0 (lt-ltb answer (length cids) lt) ∙ sym is) ∙ slice_get-get_or cids index d (omega (arith, is)) ∙ ap Some (sym item ∙ sym same)
+-- the answered index, and 0 where it is out of range
+pub index_in : (answer count : ℕ) → answer < count → answer ≡ index_within answer count
+index_in answer count lt = sym (if_true (nat_lt answer count) answer 0 (lt-ltb answer count lt))
 
-pub chosen_first : (cids : List Cid) (answer index : ℕ) (d cid : Cid) → length cids ≤ answer → (cids ≡ [] → ⊥) → index ≡ 0 → d ≡ get_or cids index d → cid ≡ d → slice_get cids (index_within answer (length cids)) ≡ Some cid
-chosen_first [] answer index d cid past some is item same = absurd (some refl)
-chosen_first (c ∷ cids) answer index d cid past some is item same =
-    ap (slice_get (c ∷ cids)) (if_false (nat_lt answer (length (c ∷ cids))) answer 0 (le-ltb answer (length (c ∷ cids)) past) ∙ sym is) ∙ slice_get-get_or (c ∷ cids) index d (omega (arith, is)) ∙ ap Some (sym item ∙ sym same)
+pub index_out : (answer count : ℕ) → count ≤ answer → 0 ≡ index_within answer count
+index_out answer count past = sym (if_false (nat_lt answer count) answer 0 (le-ltb answer count past))
+
+pub index_lower : (cids : List Cid) (answer : ℕ) → (cids ≡ [] → ⊥) → index_within answer (length cids) < length cids
+index_lower [] answer some = absurd (some refl)
+index_lower (c ∷ cids) answer some = elim (cases_lt answer (length (c ∷ cids))) [
+  | inl lt ↦ omega (arith, index_in answer (length (c ∷ cids)) lt, lt)
+  | inr past ↦ omega (arith, index_out answer (length (c ∷ cids)) past)
+]
+
+-- what is shown already
+pub shown_already : (noted : Bool) (shown pending : List Cid) → IsShown noted shown pending → noted ≡ true → shown ≡ pending
+shown_already true shown pending is e = is
+shown_already false shown pending is e = absurd (false≢true e)
 
 -- the answered id is handed out
 pub answered_taken : (connected : List Connected) (over : List Roomy) (flags now : List Bool) (shown : ℕ) (kept : IsAgenda connected over flags shown) (cids looked : List Cid) → cids ≡ flagged (connected_cids connected) flags → looked ≡ cids

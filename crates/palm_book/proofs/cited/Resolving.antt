@@ -5,7 +5,7 @@ use Rattle.palm_model.specs.Constraint.{scope}
 use Rattle.palm_model.specs.Count.{target_scope}
 use Rattle.palm_model.specs.Linear.{term_vars}
 use Rattle.palm_model.specs.declared.constraint.Con.{Con}
-use Rattle.palm_model.specs.declared.constraint.Con.TheVariants.{CompareVar as CompareVarCon, CompareConst as CompareConstCon, Linear as LinearCon, Table as TableCon, Element as ElementCon, Count as CountCon, Differ as DifferCon}
+use Rattle.palm_model.specs.declared.constraint.Con.TheVariants.{CompareVar as CompareVarCon, CompareConst as CompareConstCon, Linear as LinearCon, Table as TableCon, Element as ElementCon, Count as CountCon, Differ as DifferCon, Within as WithinCon}
 use Rattle.palm_model.specs.declared.constraint.Op.{Op}
 use Rattle.palm_model.specs.declared.constraint.Target.{Target}
 use Rattle.palm_model.specs.declared.constraint.Target.TheVariants.{Const, Variable}
@@ -25,6 +25,7 @@ pub resolves_linear : (variables : List BookVar) (terms : List NameTerm) (list :
     → Resolves variables (Linear terms op bound) (LinearCon list op bound)
 resolves_linear variables terms list op bound declared says = record {
   declared = All-map (λ x. x < length variables) (λ (t : Term). t.var) list declared;
+  has_form = tt;
   says = ap (λ (z : List NameTerm). Linear z op bound) says;
 }
 
@@ -34,6 +35,7 @@ pub resolves_count : (variables : List BookVar) (value : ℤ) (names : List (Lis
     → Resolves variables (Count value names op target) (CountCon value vars op chosen)
 resolves_count variables value names vars op target chosen declared says target_declared target_says = record {
   declared = All-append (λ x. x < length variables) vars (target_scope chosen) declared target_declared;
+  has_form = tt;
   says = ap (λ (z : List (List ℕ)). Count value z op (named_target variables chosen)) says ∙ ap (λ (z : NameTarget). Count value names op z) target_says;
 }
 
@@ -61,6 +63,7 @@ scope_names variables (CountCon value vars op target) =
     ap (λ (z : List (List ℕ)). map (name_of variables) vars ++ z) (target_names variables target)
     ∙ sym (map_both (name_of variables) vars (target_scope target))
 scope_names variables (DifferCon vars) = refl
+scope_names variables (WithinCon var values) = refl
 
 -- ---- where a constraint says what a shape says, each name of the shape names a variable
 

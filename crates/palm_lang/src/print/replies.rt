@@ -5,13 +5,13 @@ ghost use Rattle.std.specs.Prelude.{◌≡◌, ◌<◌, ◌++◌, [], All, codes
 ghost use Rattle.std.specs.Fmt.{signed_decimal};
 ghost use Rattle.palm_book.specs.Book.{number_name, user_name, HasNumber, IsUser};
 ghost use Rattle.palm_lang.specs.Print.{Puts};
-ghost use Rattle.palm_lang.specs.Reply.{ended, fixed_word, refusal_words, ran_text, domain_line, is_interval, values_text, var_line, entry_line, pair_text, reasons_text, removal_line, lead_word, names_line, assigned_text, found_line, spent_line};
+ghost use Rattle.palm_lang.specs.Reply.{ended, fixed_word, refusal_words, ran_text, domain_line, var_line, entry_line, pair_text, reasons_text, removal_line, lead_word, names_line, assigned_text, found_line, spent_line};
 ghost use Rattle.palm_read.specs.Words.{after_spaces};
 ghost use Rattle.palm_model.specs.Constraint.{scope};
 ghost use Rattle.palm_model.specs.Domains.{Ascends};
 
 use crate::print::cons::put_con;
-use crate::print::lists::{put_range, put_set};
+use crate::print::domains::put_values;
 use crate::print::words::{
     put_int, put_name, put_spaced_name, put_spaced_value, put_text, put_value,
 };
@@ -114,30 +114,6 @@ pub(crate) fn put_domain(name: &Name, values: &[Value], out: &mut Vec<u8>) -> Re
     put_text(":", out)?;
     put_spaced_values(values, out)?;
     put_text("\n", out)
-}
-
-/// Whether ascending values are all from the first to the last.
-fn is_interval(values: &[Value]) -> bool
-    requires ascending { Ascends values.now }
-    requires some { 0 < length values.now }
-    ensures { result ≡ is_interval values.now }
-{
-    let first = &values[0];
-    let last = &values[values.len() - 1];
-    last.0.abs_diff(first.0) as usize + 1 == values.len()
-}
-
-/// `LO..HI` where ascending values are all from LO to HI, and else `{v,v}`
-fn put_values(values: &[Value], out: &mut Vec<u8>) -> Result<(), NoMemory>
-    requires ascending { Ascends values.now }
-    requires some { 0 < length values.now }
-    ensures { Puts out.old.items out.new.items (values_text values.now) result }
-{
-    if is_interval(values) {
-        put_range(&values[0], &values[values.len() - 1], out)
-    } else {
-        put_set(values, out)
-    }
 }
 
 /// `var NAME DOMAIN`

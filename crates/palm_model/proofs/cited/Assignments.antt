@@ -15,7 +15,7 @@ use Rattle.palm_model.specs.declared.constraint.Target.{Target}
 use Rattle.palm_model.specs.declared.constraint.Target.TheVariants.{Const, Variable}
 use Rattle.palm_model.specs.declared.constraint.Term.{Term}
 use Rattle.palm_model.specs.declared.part.Part.{Part}
-use Rattle.palm_model.specs.declared.part.Part.TheVariants.{CompareVar as CompareVarPart, CompareConst as CompareConstPart, Linear as LinearPart, Table as TablePart, Element as ElementPart, Count as CountPart, Differ as DifferPart}
+use Rattle.palm_model.specs.declared.part.Part.TheVariants.{CompareVar as CompareVarPart, CompareConst as CompareConstPart, Linear as LinearPart, Table as TablePart, Element as ElementPart, Count as CountPart, Differ as DifferPart, Within as WithinPart}
 
 -- two assignments give the variables of the scope the same values
 abbrev pub Agree : List ℕ → Assignment → Assignment → Type 0
@@ -55,6 +55,7 @@ holds_agree (CountPart value vars op target) a b same h =
     stands_agree op (pos (count_among a value vars)) (pos (count_among b value vars)) (target_of a target) (target_of b target)
     (ap pos (counts_agree a b value vars (λ x m. same x (Contains-append_left vars (target_scope target) x m))))
     (target_agree a b target (λ x m. same x (Contains-append_right vars (target_scope target) x m))) h
+holds_agree (WithinPart var values) a b same h = subst (Contains values) (same var (member_here var [])) h
 holds_agree (DifferPart first second) a b same h = λ e. h (same first (member_here first (second ∷ [])) ∙ e ∙ sym (same second (member_there first (second ∷ []) second (member_here second []))))
 
 below_known : (m n : ℤ) → Known (m <ℤ n)
@@ -92,3 +93,4 @@ holds_known (TablePart vars rows) a = member_known (list_known int_known) rows (
 holds_known (ElementPart outcome index entries) a = entry_known entries (a index) (a outcome)
 holds_known (CountPart value vars op target) a = stands_known op (pos (count_among a value vars)) (target_of a target)
 holds_known (DifferPart first second) a = known_not (int_known (a first) (a second))
+holds_known (WithinPart var values) a = member_known int_known values (a var)

@@ -9,12 +9,12 @@ use Rattle.palm_model.specs.Linear.{linear_parts}
 use Rattle.palm_model.specs.Differ.{differ_parts}
 use Rattle.palm_model.specs.Trial.{IsSmall, IsTriable}
 use Rattle.palm_model.specs.declared.constraint.Con.{Con}
-use Rattle.palm_model.specs.declared.constraint.Con.TheVariants.{CompareVar, CompareConst, Linear, Table, Element, Count, Differ}
+use Rattle.palm_model.specs.declared.constraint.Con.TheVariants.{CompareVar, CompareConst, Linear, Table, Element, Count, Differ, Within}
 use Rattle.palm_model.specs.declared.constraint.Op.{Op}
 use Rattle.palm_model.specs.declared.constraint.Op.TheVariants.{Eq, Ne, Lt, Le, Gt, Ge}
 use Rattle.palm_model.specs.declared.constraint.Term.{Term}
 use Rattle.palm_model.specs.declared.part.Part.{Part}
-use Rattle.palm_model.specs.declared.part.Part.TheVariants.{CompareVar as CompareVarPart, CompareConst as CompareConstPart, Linear as LinearPart, Table as TablePart, Element as ElementPart, Count as CountPart, Differ as DifferPart}
+use Rattle.palm_model.specs.declared.part.Part.TheVariants.{CompareVar as CompareVarPart, CompareConst as CompareConstPart, Linear as LinearPart, Table as TablePart, Element as ElementPart, Count as CountPart, Differ as DifferPart, Within as WithinPart}
 
 -- ---- the parts of a sum and of a difference
 
@@ -54,6 +54,7 @@ part_scope (Linear terms op bound) p x m h = let r = sum_part terms op bound p m
 part_scope (Table vars rows) p x m h = single_scope _ p x m h
 part_scope (Element outcome index entries) p x m h = single_scope _ p x m h
 part_scope (Count value vars op target) p x m h = single_scope _ p x m h
+part_scope (Within var values) p x m h = single_scope _ p x m h
 part_scope (Differ vars) p x m h =
     let r = differ_part vars p m in
     pair_member vars r.0 r.1 x r.2 r.3 (subst (λ q. Contains (scope_of q) x) (sym r.4) h)
@@ -76,6 +77,7 @@ part_variable (Linear terms op bound) p lt m =
 part_variable (Table vars rows) p lt m = only_part _ p m lt
 part_variable (Element outcome index entries) p lt m = only_part _ p m lt
 part_variable (Count value vars op target) p lt m = only_part _ p m lt
+part_variable (Within var values) p lt m = only_part _ p m lt
 part_variable (Differ vars) p lt m =
     let r = differ_part vars p m in
     subst (λ q. (x : ℕ) × Contains (scope_of q) x) r.4 (r.0, member_here r.0 (r.1 ∷ []))
@@ -117,6 +119,7 @@ variable_part n (Table vars rows) x formed m = (TablePart vars rows, member_here
 variable_part n (Element outcome index entries) x formed m = (ElementPart outcome index entries, member_here (ElementPart outcome index entries) [], m)
 variable_part n (Count value vars op target) x formed m = (CountPart value vars op target, member_here (CountPart value vars op target) [], m)
 variable_part n (Differ vars) x formed m = differ_over vars x formed.shaped m
+variable_part n (Within var values) x formed m = (WithinPart var values, member_here (WithinPart var values) [], m)
 
 -- ---- their sums are small
 
@@ -133,6 +136,7 @@ part_small (Linear terms op bound) p few h m =
 part_small (Table vars rows) p few h m = single_small _ p m tt
 part_small (Element outcome index entries) p few h m = single_small _ p m tt
 part_small (Count value vars op target) p few h m = single_small _ p m tt
+part_small (Within var values) p few h m = single_small _ p m tt
 part_small (Differ vars) p few h m = let r = differ_part vars p m in subst IsSmall r.4 tt
 
 -- ---- formed and well formed

@@ -3,8 +3,9 @@
 use Rattle.std.proofs.Common.{◌≡◌, ◌≢◌, ℕ, zero, suc, ◌+◌, ◌-◌, ◌<◌, true, false, cond, nat_eq, List, [], ◌∷◌, ◌++◌, length, get_or, take, drop, map, flat_map, All, Contains, inl, inr, refl, sym, ap, ◌∙◌, subst, append_assoc, append-nil, arith}
 use Rattle.std.specs.Prelude.{slice_range}
 use Rattle.std.proofs.lemmas.Bool.{false≢true, ne_eqb}
-use Rattle.std.proofs.lemmas.List.{drop_all, length-drop}
-use Rattle.std.proofs.lemmas.List.Elements.{All-nil, All-cons, All-head, All-tail, All-contains, All-weaker, Contains-append_right}
+use Rattle.std.proofs.lemmas.List.{drop_all, length-drop, map-append}
+use Rattle.std.proofs.lemmas.Grind.{flat_map-append}
+use Rattle.std.proofs.lemmas.List.Elements.{All-nil, All-cons, All-append, All-head, All-tail, All-contains, All-weaker, Contains-append_right}
 use Rattle.palm_base.proofs.cited.Members.{nat_known, member_here}
 use Rattle.palm_read.specs.Bytes.{is_plain}
 use Rattle.palm_read.specs.Lines.{ended, HasNoFeed, Cuts, without_return, last_line, AreLines, IsNextFeed, IsNextLine}
@@ -103,6 +104,26 @@ pub has_lines : (text : List ℕ) → (lines : List (List ℕ)) × AreLines text
 has_lines text =
     let r = has_cut text in
     (map without_return r.0 ++ last_line r.1, record { ended_lines = r.0; rest = r.1; cuts = r.2; all = refl })
+
+-- the lines of a text whose first ones are known, each with its line feed
+pub text_lines : (text : List ℕ) (lines : List (List ℕ)) (rest : List ℕ) → text ≡ flat_map ended lines ++ rest → All HasNoFeed lines
+    → (others : List (List ℕ)) × AreLines text (map without_return lines ++ others)
+text_lines text lines rest whole unbroken =
+    let c = has_cut rest in (
+      map without_return c.0 ++ last_line c.1,
+      record {
+        ended_lines = lines ++ c.0;
+        rest = c.1;
+        cuts = record {
+          whole = whole ∙ ap (λ (z : List ℕ). flat_map ended lines ++ z) c.2.whole ∙ sym (append_assoc (flat_map ended lines) (flat_map ended c.0) c.1)
+              ∙ ap (λ (z : List ℕ). z ++ c.1) (sym (flat_map-append ended lines c.0));
+          unbroken = All-append HasNoFeed lines c.0 unbroken c.2.unbroken;
+          unfinished = c.2.unfinished;
+        };
+        all = sym (append_assoc (map without_return lines) (map without_return c.0) (last_line c.1))
+            ∙ ap (λ (z : List (List ℕ)). z ++ last_line c.1) (sym (map-append without_return lines c.0));
+      },
+    )
 
 -- ---- the first line of a text
 

@@ -14,13 +14,13 @@ use Rattle.palm_read.specs.Token.{tokens_of}
 use Rattle.palm_read.specs.Form.{Form}
 use Rattle.palm_read.specs.Grammar.{IsForm}
 use Rattle.palm_read.specs.Limits.{IsInRange, HasNothing, HasRepeat}
-use Rattle.palm_read.specs.Reader.Checks.{HasLineInRange, PassesChecks}
+use Rattle.palm_read.specs.Reader.Checks.{PassesChecks}
 use Rattle.palm_read.specs.Reading.{line_of, IsRead, a_comment, a_form, HasBadBytes, IsRefusedBy, IsReadAs}
 use Rattle.palm_read.specs.Reader.Lines.{form_at}
 use Rattle.palm_read.specs.Reader.Held.{HoldsAll, GivesAll, held_line}
 use Rattle.palm_read.proofs.cited.TokenLemmas.{drop-blanks}
 use Rattle.palm_read.proofs.cited.LineForms.{form_takes, form_again, one_form}
-use Rattle.palm_read.proofs.cited.Ranges.{same_form, line_in, in_line, range_decided, out_not_in}
+use Rattle.palm_read.proofs.Ranges.{same_form, line_in, in_line, range_decided}
 use Rattle.palm_read.proofs.Refusals.{nothing_decided, repeat_decided}
 
 -- ---- the first byte behind the blanks
@@ -61,7 +61,7 @@ formless bytes error short says none plain odd (inr is) = subst (IsRefusedBy byt
 
 pub answered : (bytes : List ℕ) (line : Line) (result : Result Line LineError) → IsPlain bytes → HoldsAll held_line line (form_at (tokens_of bytes)) → PassesChecks line result → IsReadAs bytes result
 answered bytes line (Ok kept) plain h k =
-    let range = in_line h.form (subst HasLineInRange h.is k.1) in
+    let range = in_line h.form (subst IsInRange h.is k.1) in
     let same : line ≡ line_of h.form = h.is ∙ ap line_of (same_form h.form range) in
     a_form h.form plain (form_takes (tokens_of bytes) h.form h.read) range
     (λ n. k.2 (subst HasNothing (sym same) n))
@@ -69,15 +69,15 @@ answered bytes line (Ok kept) plain h k =
     (k.0 ∙ same)
 answered bytes line (Err OutOfRange) plain h k =
     elim (range_decided h.form) [
-      | inl range ↦ absurd (k (subst HasLineInRange (sym h.is) (line_in h.form range)))
+      | inl range ↦ absurd (k (subst IsInRange (sym h.is) (line_in h.form range)))
       | inr out ↦ (plain, h.form, form_takes (tokens_of bytes) h.form h.read, out)
     ]
 answered bytes line (Err Empty) plain h k =
-    let range = in_line h.form (subst HasLineInRange h.is k.0) in
+    let range = in_line h.form (subst IsInRange h.is k.0) in
     let same : line ≡ line_of h.form = h.is ∙ ap line_of (same_form h.form range) in
     (plain, h.form, form_takes (tokens_of bytes) h.form h.read, range, subst HasNothing same k.1)
 answered bytes line (Err Repeated) plain h k =
-    let range = in_line h.form (subst HasLineInRange h.is k.0) in
+    let range = in_line h.form (subst IsInRange h.is k.0) in
     let same : line ≡ line_of h.form = h.is ∙ ap line_of (same_form h.form range) in
     (plain, h.form, form_takes (tokens_of bytes) h.form h.read, range, λ n. k.1 (subst HasNothing (sym same) n), subst HasRepeat same k.2)
 answered bytes line (Err NoMemory) plain h k = tt
@@ -88,6 +88,9 @@ answered bytes line (Err NoForm) plain h k = absurd k
 
 comment_not_plain : (bytes : List ℕ) → IsComment bytes → IsPlain bytes → ⊥
 comment_not_plain bytes c p = false≢true (sym p.says ∙ c.note)
+
+abbrev RangeIn : Form → Type 0
+RangeIn form = IsInRange (line_of form)
 
 abbrev NothingIn : Form → Type 0
 NothingIn form = HasNothing (line_of form)
@@ -113,7 +116,7 @@ read_not_refused bytes line Repeated (a_comment c) r = absurd (comment_not_plain
 read_not_refused bytes line NoMemory (a_comment c) r = refl
 read_not_refused bytes line Bytes (a_form f p h i n t e) r = absurd (r.not_plain p)
 read_not_refused bytes line NoForm (a_form f p h i n t e) r = absurd (r.1 f h)
-read_not_refused bytes line OutOfRange (a_form f p h i n t e) r = absurd (out_not_in r.1 r.3 (subst IsInRange (same_forms bytes f r.1 h r.2) i))
+read_not_refused bytes line OutOfRange (a_form f p h i n t e) r = absurd (r.3 (subst RangeIn (same_forms bytes f r.1 h r.2) i))
 read_not_refused bytes line Empty (a_form f p h i n t e) r = absurd (n (subst NothingIn (same_forms bytes r.1 f r.2 h) r.4))
 read_not_refused bytes line Repeated (a_form f p h i n t e) r = absurd (t (subst RepeatIn (same_forms bytes r.1 f r.2 h) r.5))
 read_not_refused bytes line NoMemory (a_form f p h i n t e) r = refl
@@ -134,18 +137,18 @@ one_refusal bytes NoForm NoMemory r s m n = absurd (n refl)
 one_refusal bytes OutOfRange Bytes r s m n = absurd (s.not_plain r.0)
 one_refusal bytes OutOfRange NoForm r s m n = absurd (s.1 r.1 r.2)
 one_refusal bytes OutOfRange OutOfRange r s m n = refl
-one_refusal bytes OutOfRange Empty r s m n = absurd (out_not_in r.1 r.3 (subst IsInRange (same_forms bytes s.1 r.1 s.2 r.2) s.3))
-one_refusal bytes OutOfRange Repeated r s m n = absurd (out_not_in r.1 r.3 (subst IsInRange (same_forms bytes s.1 r.1 s.2 r.2) s.3))
+one_refusal bytes OutOfRange Empty r s m n = absurd (r.3 (subst RangeIn (same_forms bytes s.1 r.1 s.2 r.2) s.3))
+one_refusal bytes OutOfRange Repeated r s m n = absurd (r.3 (subst RangeIn (same_forms bytes s.1 r.1 s.2 r.2) s.3))
 one_refusal bytes OutOfRange NoMemory r s m n = absurd (n refl)
 one_refusal bytes Empty Bytes r s m n = absurd (s.not_plain r.0)
 one_refusal bytes Empty NoForm r s m n = absurd (s.1 r.1 r.2)
-one_refusal bytes Empty OutOfRange r s m n = absurd (out_not_in s.1 s.3 (subst IsInRange (same_forms bytes r.1 s.1 r.2 s.2) r.3))
+one_refusal bytes Empty OutOfRange r s m n = absurd (s.3 (subst RangeIn (same_forms bytes r.1 s.1 r.2 s.2) r.3))
 one_refusal bytes Empty Empty r s m n = refl
 one_refusal bytes Empty Repeated r s m n = absurd (s.4 (subst NothingIn (same_forms bytes r.1 s.1 r.2 s.2) r.4))
 one_refusal bytes Empty NoMemory r s m n = absurd (n refl)
 one_refusal bytes Repeated Bytes r s m n = absurd (s.not_plain r.0)
 one_refusal bytes Repeated NoForm r s m n = absurd (s.1 r.1 r.2)
-one_refusal bytes Repeated OutOfRange r s m n = absurd (out_not_in s.1 s.3 (subst IsInRange (same_forms bytes r.1 s.1 r.2 s.2) r.3))
+one_refusal bytes Repeated OutOfRange r s m n = absurd (s.3 (subst RangeIn (same_forms bytes r.1 s.1 r.2 s.2) r.3))
 one_refusal bytes Repeated Empty r s m n = absurd (r.4 (subst NothingIn (same_forms bytes s.1 r.1 s.2 r.2) s.4))
 one_refusal bytes Repeated Repeated r s m n = refl
 one_refusal bytes Repeated NoMemory r s m n = absurd (n refl)

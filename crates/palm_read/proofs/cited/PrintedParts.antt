@@ -14,13 +14,13 @@ use Rattle.palm_read.specs.Count.{TargetForm, Number, Variable, target_pieces, t
 use Rattle.palm_read.specs.Domain.{Interval, Members, domain_pieces, count_in, range_text, set_text}
 use Rattle.palm_read.specs.Linear.{TermForm, linear_unsigned_term, linear_first_term, linear_later_term, linear_terms, signed, term_of, linear_product_text, linear_first_text, linear_later_words, linear_terms_words}
 use Rattle.palm_read.specs.Piece.{Piece, Named, Mark, Integer, Natural, word, Spells, listed, in_parentheses}
-use Rattle.palm_read.specs.Bounds.{a_value, up_to, from_one_to}
+use Rattle.palm_read.specs.Bounds.{IsWithin, a_value, up_to, from_one_to}
 use Rattle.palm_read.specs.Words.{with_commas, row_text}
-use Rattle.palm_read.proofs.cited.Ranges.{IsWithin, term_numbers, a_bound}
+use Rattle.palm_read.proofs.Ranges.{term_numbers, a_bound}
 use Rattle.palm_read.proofs.Refusals.{any_here, any_there}
 use Rattle.palm_read.proofs.cited.SoundLines.{IsWordy, name_text}
 use Rattle.palm_read.proofs.cited.Layouts.{Whatever, NoDigit, NoWord, apart_no_word, Lays, lays_nothing, lays_join, lays_weaker, lays_name, lays_mark, lays_pair, lays_natural, lays_count, IsBelow, lays_integer, Words, words_none, words_next, words_weaker, words_name, words_mark, words_number}
-use Rattle.palm_read.proofs.cited.Canonical.{canonical_offset, canonical_factor, canonical_term, AreWithin, within_left, within_right}
+use Rattle.palm_read.proofs.Canonical.{canonical_offset, canonical_factor, canonical_term, AreWithin, within_left, within_right}
 
 -- ---- the names of a form that was read are names
 

@@ -16,19 +16,14 @@ use Rattle.palm_read.specs.Linear.{TermForm, term_of, IsSoundTerm}
 use Rattle.palm_read.specs.Grammar.{shape_pieces, IsForm, IsProperShape}
 use Rattle.palm_read.specs.Name.{IsName, IsNameText}
 use Rattle.palm_read.specs.Piece.{Piece, Keyword, Named, Mark, word, Spells}
-use Rattle.palm_read.specs.Count.{line_target, IsSoundTarget}
 use Rattle.palm_read.specs.Reading.{shape_of, line_of, IsRead, IsReadAs, a_comment, a_form}
-use Rattle.palm_read.specs.Limits.{HasNothing, HasRepeat}
-use Rattle.palm_read.specs.Reader.Checks.{HasDomainInRange, HasTargetInRange, HasShapeInRange, HasLineInRange}
+use Rattle.palm_read.specs.Limits.{HasNothing, HasRepeat, IsDomainInRange, IsInRange, IsShapeInRange}
 use Rattle.palm_read.specs.Sound.{IsSoundShape, IsSound}
 use Rattle.palm_read.specs.declared.line.NameTerm.{NameTerm}
-use Rattle.palm_read.specs.declared.line.NameTarget.{NameTarget}
-use Rattle.palm_read.specs.declared.line.NameTarget.TheVariants.{Const as ConstTarget, Variable as VariableTarget}
 use Rattle.palm_read.specs.declared.line.Line.{Line}
 use Rattle.palm_read.specs.declared.parse.LineError.{LineError}
 use Rattle.palm_read.proofs.cited.TokenLemmas.{take-prefix_len}
 use Rattle.palm_read.proofs.cited.Sets.{Rises, rises_set}
-use Rattle.palm_read.proofs.cited.Ranges.{same_form, line_in}
 use Rattle.palm_read.proofs.Refusals.{any_here, any_there}
 
 -- ---- a name that is read is a letter and what goes on a word
@@ -92,7 +87,7 @@ ascends : (vs : List ℤ) → Rises vs → Ascends vs
 ascends [] r = tt
 ascends (v ∷ vs) r = (all_above v vs r.0, ascends vs r.1)
 
-sound_domain : (name : List ℕ) (d : DomainForm) → HasDomainInRange (domain_of d) → (HasNothing (line_of (DeclareForm name d)) → ⊥) → IsSoundDomain (domain_of d)
+sound_domain : (name : List ℕ) (d : DomainForm) → IsDomainInRange (domain_of d) → (HasNothing (line_of (DeclareForm name d)) → ⊥) → IsSoundDomain (domain_of d)
 sound_domain name (Interval low high) h none = (h.0, h.1, by_lt_z high low (λ l. absurd (none l)) (λ l. l))
 sound_domain name (Members vs) h none = (some_length (set_of vs) none, ascends (set_of vs) (rises_set vs), h)
 
@@ -104,10 +99,6 @@ sound_terms (t ∷ ts) h none =
     All-cons IsSoundTerm t ts (λ e. none (any_here (λ u. u.factor ≡ pos 0) t ts e), All-head (λ u. IsUpTo 100000 u.factor) t ts h)
     (sound_terms ts (All-tail (λ u. IsUpTo 100000 u.factor) t ts h) (λ a. none (any_there (λ u. u.factor ≡ pos 0) t ts a)))
 
-sound_target : (t : NameTarget) → HasTargetInRange t → IsSoundTarget t
-sound_target (ConstTarget value) h = h
-sound_target (VariableTarget name) h = tt
-
 sound_rows : (n : ℕ) (rows : List (List ℤ)) → All (All IsValue) rows → All (λ row. length row ≡ n) rows → All (IsRow n) rows
 sound_rows n [] h l = All-nil (IsRow n)
 sound_rows n (row ∷ rows) h l =
@@ -118,18 +109,18 @@ some_terms : (ts : List TermForm) → 0 < length ts → 0 < length (map term_of 
 some_terms [] h = h
 some_terms (t ∷ ts) h = omega arith
 
-sound_shape : (name : List ℕ) (s : ShapeForm) → HasShapeInRange (shape_of s) → IsProperShape s → (HasNothing (line_of (AddForm name s)) → ⊥) → IsSoundShape (shape_of s)
+sound_shape : (name : List ℕ) (s : ShapeForm) → IsShapeInRange (shape_of s) → IsProperShape s → (HasNothing (line_of (AddForm name s)) → ⊥) → IsSoundShape (shape_of s)
 sound_shape name (CompareVarForm left op right k) h p none = h
 sound_shape name (CompareConstForm left op v) h p none = h
 sound_shape name (LinearForm ts op b) h p none = (some_terms ts p.0, sound_terms (map term_of ts) h.0 none, p.1, h.1)
 sound_shape name (TableForm vars rows) h p none = (p.0, some_length rows none, sound_rows (length vars) rows h p.1)
 sound_shape name (ElementForm outcome index entries) h p none = (some_length entries none, h)
-sound_shape name (CountForm v vars op t) h p none = (p, h.0, sound_target (line_target t) h.1)
+sound_shape name (CountForm v vars op t) h p none = (p, h.0, h.1)
 sound_shape name (DifferForm vars) h p none = p
 
 -- ---- lines
 
-sound_form : (bytes : List ℕ) (form : Form) → IsForm (tokens_of bytes) form → HasLineInRange (line_of form) → (HasNothing (line_of form) → ⊥) → (HasRepeat (line_of form) → ⊥) → IsSound (line_of form)
+sound_form : (bytes : List ℕ) (form : Form) → IsForm (tokens_of bytes) form → IsInRange (line_of form) → (HasNothing (line_of form) → ⊥) → (HasRepeat (line_of form) → ⊥) → IsSound (line_of form)
 sound_form bytes (DeclareForm name domain) f h none once =
     (named_text (tokens_of bytes) (codes "var") name (domain_pieces domain) (wordy_tokens bytes) f.spells, sound_domain name domain h none)
 sound_form bytes (AddForm name shape) f h none once =
@@ -139,8 +130,7 @@ sound_form bytes _ f h none once = tt
 pub read_sound : (bytes : List ℕ) (line : Line) → IsRead bytes line → IsSound line
 read_sound bytes line (a_comment c) = tt
 read_sound bytes line (a_form form p f r none once e) =
-    subst IsSound (sym e)
-    (sound_form bytes form f (subst (λ g. HasLineInRange (line_of g)) (same_form form r) (line_in form r)) none once)
+    subst IsSound (sym e) (sound_form bytes form f r none once)
 
 pub sound_answer : (bytes : List ℕ) (result : Result Line LineError) → IsReadAs bytes result → IfOk result IsSound
 sound_answer bytes (Ok line) r = read_sound bytes line r

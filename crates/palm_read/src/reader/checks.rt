@@ -1,36 +1,39 @@
 //! Whether the numbers of a line are within their ranges, and whether nothing is missing in it.
-ghost use Rattle.std.specs.Prelude.{◌<◌, All};
+ghost use Rattle.std.specs.Prelude.{All};
 ghost use Rattle.palm_base.specs.Tells.{Tells};
-ghost use Rattle.palm_read.specs.Limits.{HasNothing};
-ghost use Rattle.palm_read.specs.Reader.Checks.{HasDomainInRange, HasTargetInRange, HasShapeInRange, HasLineInRange};
+ghost use Rattle.palm_read.specs.Bounds.{IsFromOneTo};
+ghost use Rattle.palm_read.specs.Count.{IsSoundTarget};
+ghost use Rattle.palm_read.specs.Limits.{HasNothing, IsDomainInRange, IsInRange, IsShapeInRange};
 ghost use Rattle.palm_model.specs.Limits.{IsUpTo, IsValue};
 
+use crate::limits::{GREATEST_NUMBER, GREATEST_TABU, NO_BUDGET};
 use crate::line::{DomainText, Line, NameTarget, NameTerm, Shape};
 use palm_base::Value;
 use palm_model::{GREATEST_BOUND, GREATEST_FACTOR, GREATEST_OFFSET, GREATEST_VALUE};
 
 /// Whether each number of the line is within its range.
 pub fn is_in_range(line: &Line) -> bool
-    ensures { Tells result (HasLineInRange line.now) }
+    ensures { Tells result (IsInRange line.now) }
 {
     match line {
         Line::Var { domain, .. } => is_domain_in_range(domain),
         Line::Add { shape, .. } => is_shape_in_range(shape),
         Line::Why { value, .. } | Line::Minimal { value, .. } | Line::Cert { value, .. } =>
             is_value(value),
-        Line::Step(number) => *number > 0,
-        Line::SolveDbt { budget } => *budget > 0,
-        Line::SolveRepair { tabu, budget } => *tabu > 0 && *budget > 0,
+        Line::Step(number) => is_from_one_to(GREATEST_NUMBER, *number),
+        Line::SolveDbt { budget } => is_from_one_to(NO_BUDGET, *budget),
+        Line::SolveRepair { tabu, budget } => is_from_one_to(GREATEST_TABU, u64::from(*tabu))
+            && is_from_one_to(NO_BUDGET, *budget),
         Line::Guide(number)
         | Line::Order(number)
         | Line::DropGuide(number)
-        | Line::DropOrder(number) => *number > 0,
+        | Line::DropOrder(number) => is_from_one_to(GREATEST_NUMBER, u64::from(*number)),
         _ => true,
     }
 }
 
 fn is_domain_in_range(domain: &DomainText) -> bool
-    ensures { Tells result (HasDomainInRange domain.now) }
+    ensures { Tells result (IsDomainInRange domain.now) }
 {
     match domain {
         DomainText::Range { low, high } => is_value(low) && is_value(high),
@@ -39,7 +42,7 @@ fn is_domain_in_range(domain: &DomainText) -> bool
 }
 
 fn is_shape_in_range(shape: &Shape) -> bool
-    ensures { Tells result (HasShapeInRange shape.now) }
+    ensures { Tells result (IsShapeInRange shape.now) }
 {
     match shape {
         Shape::CompareVar { offset, .. } => is_up_to(
@@ -57,7 +60,7 @@ fn is_shape_in_range(shape: &Shape) -> bool
 }
 
 fn is_target_in_range(target: &NameTarget) -> bool
-    ensures { Tells result (HasTargetInRange target.now) }
+    ensures { Tells result (IsSoundTarget target.now) }
 {
     match target {
         NameTarget::Const(value) => is_value(value),
@@ -88,6 +91,13 @@ fn is_up_to(most: u64, number: i64) -> bool
     ensures { Tells result (IsUpTo most number) }
 {
     number.unsigned_abs() <= most
+}
+
+/// Whether a number is counted from 1 and at most so great.
+fn is_from_one_to(most: u64, number: u64) -> bool
+    ensures { Tells result (IsFromOneTo most number) }
+{
+    0 < number && number <= most
 }
 
 /// Whether nothing stands where something has to, or a coefficient is 0.

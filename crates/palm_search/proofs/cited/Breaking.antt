@@ -1,5 +1,5 @@
 -- What is left after a run, whether it ended or was broken off.
-use Rattle.std.proofs.Common.{◌≡◌, ℕ, Bool, None, List, [], refl, sym, subst}
+use Rattle.std.proofs.Common.{◌≡◌, ℕ, Bool, List, [], refl, sym, subst}
 use Rattle.std.specs.Prelude.{Result, Ok, OnOk}
 use Rattle.palm_base.specs.declared.terms.Cid.TheVariants.{Decide}
 use Rattle.palm_model.specs.State.{EngineState, IsValid}
@@ -7,9 +7,7 @@ use Rattle.palm_events.specs.Along.{IsStill}
 use Rattle.palm_events.specs.Reasons.{ReasonsAreRight}
 use Rattle.palm_events.proofs.cited.Valid.{withdraws_valid}
 use Rattle.palm_model.specs.Event.{WithdrawsAll}
-use Rattle.palm_engine.specs.Engine.{View, HasSettled}
 use Rattle.palm_engine.specs.Settling.{Filters}
-use Rattle.palm_engine.specs.declared.settle.Settle.{Settle}
 use Rattle.palm_engine.proofs.cited.Settled.{filters_valid}
 use Rattle.palm_search.specs.declared.turn.Turn.{Turn}
 use Rattle.palm_search.specs.Kept.{HasOnlyUsers}
@@ -89,14 +87,6 @@ broken_at_end guided ordered budget s turns end last n t run withdraws filters =
   middle = n;
   withdraws = withdraws;
   filters = filters;
-}
-
-pub searches_whole : (guided ordered : Bool) (budget : ℕ) (s : EngineState) (turns : List Turn) (end : SearchEnd) (last : SearchState) (answer : Settle) (n t : View) → SearchRun guided ordered budget s turns end last
-    → WithdrawsAll last.engine (search_cids last.engine.active) n.state → HasSettled None ordered answer n t → Searches guided ordered budget s turns end t.state
-searches_whole guided ordered budget s turns end last answer n t run withdraws settled = record {
-  last = last;
-  run = run;
-  closes = record { middle = n.state; withdraws = withdraws; revisions = settled.revisions; fits = settled.fits; settles = settled.settles };
 }
 
 pub searches_leaves : {T E : Type 0} → ReasonsAreRight → (guided ordered : Bool) (budget : ℕ) (s : EngineState) (turns : List Turn) (end : SearchEnd) (t : EngineState) (after : SearchView) (answer : T) → HasOnlyUsers s → IsValid s

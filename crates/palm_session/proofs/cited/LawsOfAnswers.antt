@@ -53,7 +53,7 @@ use Rattle.palm_session.specs.declared.limits.TheConstants.{MOST_KEPT_BYTES}
 use Rattle.palm_session.proofs.cited.LawsOfChanges.{IsOther, IsWithout}
 use Rattle.palm_session.proofs.HeldObjects.{listed}
 use Rattle.palm_session.proofs.Requesting.{admits, request_exists, request_once, variable_known}
-use Rattle.palm_session.proofs.LawsOfDomains.{empty_domains, explanation_names, conflict_exists, lowest_empty}
+use Rattle.palm_session.proofs.LawsOfDomains.{empty_domains, explanation_cids, conflict_exists, lowest_empty}
 use Rattle.palm_book.proofs.cited.Naming.{some_known, name_known}
 use Rattle.palm_read.proofs.cited.KnownLimits.{known_either, most_known, beyond_known}
 use Rattle.palm_session.proofs.LawsOfLines.{long_bytes, long_unread, tabu_read}
@@ -136,7 +136,7 @@ why_exists : (t : SessionState) → IsState t → (d : Domains) (x : ℕ) (value
 why_exists t is d x value = elim (member_known int_known (values_of d x) value) [
   | inl has ↦ (fixed_text Present, inl (has, refl))
   | inr missing ↦
-      let l = explanation_names t is.held (pair_of x value) in
+      let l = explanation_cids t is.held (pair_of x value) in
       (users_text t.book Because l.0, inr (missing, l.0, l.1, refl))
 ]
 
@@ -402,39 +402,39 @@ why_same t d x value a b (inl p) (inl q) = p.1 ∙ sym q.1
 why_same t d x value a b (inl p) (inr q) = absurd (q.0 p.0)
 why_same t d x value a b (inr p) (inl q) = absurd (p.0 q.0)
 why_same t d x value a b (inr p) (inr q) =
-    let names : p.1 ≡ q.1 = listed_once (NamesOfPair t.engine.log (pair_of x value)) p.1 q.1 p.2 q.2 in
-    p.3 ∙ ap (λ (z : List Cid). users_text t.book Because z) names ∙ sym q.3
+    let cids : p.1 ≡ q.1 = listed_once (NamesOfPair t.engine.log (pair_of x value)) p.1 q.1 p.2 q.2 in
+    p.3 ∙ ap (λ (z : List Cid). users_text t.book Because z) cids ∙ sym q.3
 
 -- there is one kept conflict of the lowest empty variable
-conflict_names_same : (t : SessionState) (names others : List Cid) → HasConflict t names → HasConflict t others → names ≡ others
-conflict_names_same t names others one other =
+conflict_cids_same : (t : SessionState) (cids others : List Cid) → HasConflict t cids → HasConflict t others → cids ≡ others
+conflict_cids_same t cids others one other =
     let below : one.var ≤ other.var = one.lowest other.var other.empty in
     let above : other.var ≤ one.var = other.lowest one.var one.empty in
     let same : other.var ≡ one.var = omega (arith, below, above) in
-    listed_once (InConflict t.engine one.var) names others one.is (subst (λ (x : ℕ). IsListOf (InConflict t.engine x) others) same other.is)
+    listed_once (InConflict t.engine one.var) cids others one.is (subst (λ (x : ℕ). IsListOf (InConflict t.engine x) others) same other.is)
 
 conflict_same : (t : SessionState) (d : Domains) (a b : List ℕ) → SaysConflict t d a → SaysConflict t d b → a ≡ b
 conflict_same t d a b (inl p) (inl q) = p.1 ∙ sym q.1
 conflict_same t d a b (inl p) (inr q) = absurd (false≢true (sym p.0 ∙ q.0))
 conflict_same t d a b (inr p) (inl q) = absurd (false≢true (sym q.0 ∙ p.0))
 conflict_same t d a b (inr p) (inr q) =
-    p.3 ∙ ap (λ (z : List Cid). users_text t.book ConflictLead z) (conflict_names_same t p.1 q.1 p.2 q.2) ∙ sym q.3
+    p.3 ∙ ap (λ (z : List Cid). users_text t.book ConflictLead z) (conflict_cids_same t p.1 q.1 p.2 q.2) ∙ sym q.3
 
 minimal_same : (book : Contents) (pair : Pair) (a b : List ℕ) → SaysMinimal book pair a → SaysMinimal book pair b → a ≡ b
 minimal_same book pair a b (inl p) (inl q) = p.1 ∙ sym q.1
 minimal_same book pair a b (inl p) (inr q) = absurd (p.0 q.1.holds)
 minimal_same book pair a b (inr p) (inl q) = absurd (q.0 p.1.holds)
 minimal_same book pair a b (inr p) (inr q) =
-    let names : p.0 ≡ q.0 = minimal_one (DoExplain (initial_of book) pair) (active_of book) p.0 q.0 p.1 q.1 in
-    p.2 ∙ ap (λ (z : List Cid). users_text book Because z) names ∙ sym q.2
+    let cids : p.0 ≡ q.0 = minimal_one (DoExplain (initial_of book) pair) (active_of book) p.0 q.0 p.1 q.1 in
+    p.2 ∙ ap (λ (z : List Cid). users_text book Because z) cids ∙ sym q.2
 
 minimal_conflict_same : (book : Contents) (a b : List ℕ) → SaysMinimalConflict book a → SaysMinimalConflict book b → a ≡ b
 minimal_conflict_same book a b (inl p) (inl q) = p.1 ∙ sym q.1
 minimal_conflict_same book a b (inl p) (inr q) = absurd (p.0 q.1.holds)
 minimal_conflict_same book a b (inr p) (inl q) = absurd (q.0 p.1.holds)
 minimal_conflict_same book a b (inr p) (inr q) =
-    let names : p.0 ≡ q.0 = minimal_one (AreConflict (initial_of book)) (active_of book) p.0 q.0 p.1 q.1 in
-    p.2 ∙ ap (λ (z : List Cid). users_text book ConflictLead z) names ∙ sym q.2
+    let cids : p.0 ≡ q.0 = minimal_one (AreConflict (initial_of book)) (active_of book) p.0 q.0 p.1 q.1 in
+    p.2 ∙ ap (λ (z : List Cid). users_text book ConflictLead z) cids ∙ sym q.2
 
 cert_same : (t : SessionState) (d : Domains) (pair : Pair) (a b : List ℕ) → SaysCert t d pair a → SaysCert t d pair b → a ≡ b
 cert_same t d pair a b (inl p) (inl q) = p.1 ∙ sym q.1

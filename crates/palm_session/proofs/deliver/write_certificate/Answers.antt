@@ -6,5 +6,5 @@ use Rattle.palm_session.proofs.deliver.write_certificate.Goals as goal
 
 pub returns : goal.returns
 returns g c =
-    writes_text _ _ _ _ _ (same_certificate _ _ _ _ _ _ c.book.ensures (ap (λ (s : EngineState). s.log) c.engine.ensures.state) c.copy_of.ensures)
+    writes_text _ _ _ _ _ (same_certificate _ _ _ _ _ _ c.book.ensures (ap (λ (s : EngineState). s.log) c.engine.ensures.state) c.copy.ensures)
     c.write_cert.ensures.text

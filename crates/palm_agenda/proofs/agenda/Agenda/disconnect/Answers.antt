@@ -6,36 +6,38 @@ use Rattle.palm_agenda.proofs.agenda.Agenda.disconnect.Goals as goal
 
 pub remove-requires : goal.remove-requires
 remove-requires c =
-    let within = place_within c.self.inside.connections.items c.self.invariant.formed.rising c.args.cid c.place_of-place.result
+    let within = place_within c.self.inside.connections.items c.self.invariant.0.formed.rising c.args.cid c.place_of-place.result
     (parted_in c.deref.result.now c.self.inside.connections.items c.args.cid c.place_of-place.result c.deref.ensures.value c.place_of-place.ensures)
     (subst (λ (w : Waiting). IsConnected w.connected c.args.cid) (sym c.self.view_is) c.requires) in
-    let same = c.self.invariant.flag_each in
+    let same = c.self.invariant.0.flag_each in
     omega arith
 
 pub remove_over-requires : goal.remove_over-requires
 remove_over-requires c =
-    scope_within c.self.inside.connections.items c.self.inside.over.items c.self.inside.pending.flags _ c.args.cid c.place_of-place.result c.remove-connection.result c.self.invariant
+    scope_within c.self.inside.connections.items c.self.inside.over.items c.self.inside.pending.flags _ c.args.cid c.place_of-place.result c.remove-connection.result c.self.invariant.0
     (parted_in c.deref.result.now c.self.inside.connections.items c.args.cid c.place_of-place.result c.deref.ensures.value c.place_of-place.ensures)
     (subst (λ (w : Waiting). IsConnected w.connected c.args.cid) (sym c.self.view_is) c.requires) c.remove-connection.ensures.value c.scope.result.now c.scope.ensures
 
 pub invariant_of-self : goal.invariant_of-self
-invariant_of-self c =
-    disconnected_after c.self.inside.connections.items c.self.inside.over.items c.self.inside.pending.flags _ c.args.cid c.place_of-place.result c.remove-connection.result c.self.invariant
-    (parted_in c.deref.result.now c.self.inside.connections.items c.args.cid c.place_of-place.result c.deref.ensures.value c.place_of-place.ensures)
-    (subst (λ (w : Waiting). IsConnected w.connected c.args.cid) (sym c.self.view_is) c.requires) c.remove-connection.ensures.value
-    c.remove-connection.new.self.items c.remove_over.new.over.items c.remove.new.self.flags c.scope.result.now c.remove-connection.ensures.items c.scope.ensures c.remove_over.ensures c.remove.ensures
+invariant_of-self c = (
+  disconnected_after c.self.inside.connections.items c.self.inside.over.items c.self.inside.pending.flags _ c.args.cid c.place_of-place.result c.remove-connection.result c.self.invariant.0
+      (parted_in c.deref.result.now c.self.inside.connections.items c.args.cid c.place_of-place.result c.deref.ensures.value c.place_of-place.ensures)
+      (subst (λ (w : Waiting). IsConnected w.connected c.args.cid) (sym c.self.view_is) c.requires) c.remove-connection.ensures.value
+      c.remove-connection.new.self.items c.remove_over.new.over.items c.remove.new.self.flags c.scope.result.now c.remove-connection.ensures.items c.scope.ensures c.remove_over.ensures c.remove.ensures,
+  tt,
+)
 
 pub returns-clause-connected : goal.returns-clause-connected
 returns-clause-connected c =
     rw (c.remove-connection.ensures.items, ← c.self.view_is)
-    (removed_is c.self.inside.connections.items c.self.inside.over.items c.self.inside.pending.flags _ c.args.cid c.place_of-place.result c.remove-connection.result c.self.invariant
+    (removed_is c.self.inside.connections.items c.self.inside.over.items c.self.inside.pending.flags _ c.args.cid c.place_of-place.result c.remove-connection.result c.self.invariant.0
     (parted_in c.deref.result.now c.self.inside.connections.items c.args.cid c.place_of-place.result c.deref.ensures.value c.place_of-place.ensures)
     (subst (λ (w : Waiting). IsConnected w.connected c.args.cid) (sym c.self.view_is) c.requires) c.remove-connection.ensures.value)
 
 pub returns-clause-pending : goal.returns-clause-pending
 returns-clause-pending c =
     rw (← c.self.view_is)
-    (pending_without c.self.inside.connections.items c.self.inside.over.items c.self.inside.pending.flags _ c.args.cid c.place_of-place.result c.remove-connection.result c.self.invariant
+    (pending_without c.self.inside.connections.items c.self.inside.over.items c.self.inside.pending.flags _ c.args.cid c.place_of-place.result c.remove-connection.result c.self.invariant.0
     (parted_in c.deref.result.now c.self.inside.connections.items c.args.cid c.place_of-place.result c.deref.ensures.value c.place_of-place.ensures)
     (subst (λ (w : Waiting). IsConnected w.connected c.args.cid) (sym c.self.view_is) c.requires) c.remove-connection.ensures.value
     c.remove-connection.new.self.items c.remove.new.self.flags c.remove-connection.ensures.items c.remove.ensures)

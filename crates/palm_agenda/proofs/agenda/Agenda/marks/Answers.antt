@@ -7,7 +7,7 @@ use Rattle.palm_agenda.proofs.agenda.Agenda.marks.Goals.{After-marks}
 
 found : (c : After-marks) (d : Connected) → Contains c.args.self.now.connected d → d.cid ≡ c.args.cid → c.index.result.now ≡ d
 found c d m named =
-    marks_here c.self.inside.connections.items c.args.cid c.place_near-place.result c.self.invariant.formed.rising
+    marks_here c.self.inside.connections.items c.args.cid c.place_near-place.result c.self.invariant.0.formed.rising
     (parted_in c.deref.result.now c.self.inside.connections.items c.args.cid c.place_near-place.result c.deref.ensures.value c.place_near-place.ensures)
     c.index.result.now c.index.ensures d (subst (λ (w : Waiting). Contains w.connected d) (sym c.self.view_is) m) named
 

@@ -8,22 +8,24 @@ use Rattle.palm_agenda.proofs.agenda.Agenda.take_first.Goals as goal
 pub returns-in_err-place-clause-none : goal.returns-in_err-place-clause-none
 returns-in_err-place-clause-none c =
     given_none _
-    (subst (λ (w : Waiting). w.pending ≡ []) c.self.view_is (none_pending c.self.inside.connections.items c.self.inside.over.items c.self.inside.pending.flags _ c.self.invariant c.in_err-place.ensures.0))
+    (subst (λ (w : Waiting). w.pending ≡ []) c.self.view_is (none_pending c.self.inside.connections.items c.self.inside.over.items c.self.inside.pending.flags _ c.self.invariant.0 c.in_err-place.ensures.0))
     (ap (λ (f : FlagRow). record { connected = c.self.inside.connections.items; pending = flagged (connected_cids c.self.inside.connections.items) f.flags }) c.in_err-place.ensures.1 ∙ c.self.view_is)
 
 pub cid_at-requires : goal.cid_at-requires
 cid_at-requires c =
     let within = slice_get_within c.self.inside.pending.flags c.in_ok-place.place true c.in_ok-place.ensures.0.raised in
-    let same = c.self.invariant.flag_each in
+    let same = c.self.invariant.0.flag_each in
     let many = ap (λ (ds : List Connected). length ds) c.deref.ensures.value in
     omega arith
 
 pub invariant_of-self-2 : goal.invariant_of-self-2
-invariant_of-self-2 c =
-    set_after c.self.inside.connections.items c.self.inside.over.items c.self.inside.pending.flags c.lower_first.new.self.flags _ _ c.in_ok-place.place false c.self.invariant c.in_ok-place.ensures.1 (omega arith)
+invariant_of-self-2 c = (
+  set_after c.self.inside.connections.items c.self.inside.over.items c.self.inside.pending.flags c.lower_first.new.self.flags _ _ c.in_ok-place.place false c.self.invariant.0 c.in_ok-place.ensures.1 (omega arith),
+  tt,
+)
 
 pub returns-clause-some : goal.returns-clause-some
 returns-clause-some c =
     rw (← c.self.view_is)
-    (first_taken c.self.inside.connections.items c.self.inside.over.items c.self.inside.pending.flags c.lower_first.new.self.flags _ c.self.invariant c.in_ok-place.place c.in_ok-place.ensures.0 c.in_ok-place.ensures.1
+    (first_taken c.self.inside.connections.items c.self.inside.over.items c.self.inside.pending.flags c.lower_first.new.self.flags _ c.self.invariant.0 c.in_ok-place.place c.in_ok-place.ensures.0 c.in_ok-place.ensures.1
     c.deref.result.now c.deref.ensures.value c.cid_at.result c.cid_at.ensures)

@@ -56,8 +56,8 @@ returns-in_err-make_room-clause-err c =
     on_err c.from_residual-in_err-make_room.result _
     (view_same c.self.inside.nodes c.make_room.new.nodes c.self.inside.log.items c.make_room.new.log.items c.self.inside.restored.keys c.make_room.new.restored.keys c.args.self.now c.make_room.ensures.graph c.make_room.ensures.log c.make_room.ensures.restored c.self.view_is)
 
-pub invariant_of-self-in_err-push : goal.invariant_of-self-in_err-push
-invariant_of-self-in_err-push c =
+pub invariant_of-self-in_err-at : goal.invariant_of-self-in_err-at
+invariant_of-self-in_err-at c =
     let s = c.self.inside.nodes in
     let keys = c.self.inside.log.items in
     let rows = kept_with_rows s keys c.self.inside.rows.items c.put_key.new.rows.items (spare c.self.inside.restored) c.args.pair c.self.invariant.kept (rw (← c.self.view_is) at c.requires.fresh) c.put_key.ensures.formed c.put_key.ensures.others in
@@ -65,12 +65,12 @@ invariant_of-self-in_err-push c =
     let more = kept_like s c.make_room.new.nodes keys c.put_key.new.rows.items (spare c.self.inside.restored) spares rows c.make_room.ensures.graph c.make_room.ensures.marks (le_trans c.self.invariant.kept.room c.make_room.ensures.grows) in
     record {
       kept = subst (λ ks. IsStored c.make_room.new.nodes ks c.put_key.new.rows.items spares) (sym c.make_room.ensures.log) more;
-      threaded = threaded_same c.self.inside.threads c.push.new.self (graph_of s) (graph_of c.make_room.new.nodes) _ c.self.invariant.threaded c.push.ensures.formed c.in_err-push.ensures.err c.make_room.ensures.graph;
+      threaded = threaded_same c.self.inside.threads c.push.new.self (graph_of s) (graph_of c.make_room.new.nodes) _ c.self.invariant.threaded c.push.ensures.formed c.in_err-at.ensures.err c.make_room.ensures.graph;
     }
 
-pub returns-in_err-push-clause-err : goal.returns-in_err-push-clause-err
-returns-in_err-push-clause-err c =
-    on_err c.from_residual-in_err-push.result _
+pub returns-in_err-at-clause-err : goal.returns-in_err-at-clause-err
+returns-in_err-at-clause-err c =
+    on_err c.from_residual-in_err-at.result _
     (view_same c.self.inside.nodes c.make_room.new.nodes c.self.inside.log.items c.make_room.new.log.items c.self.inside.restored.keys c.make_room.new.restored.keys c.args.self.now c.make_room.ensures.graph c.make_room.ensures.log c.make_room.ensures.restored c.self.view_is)
 
 pub link-requires-clause-keys : goal.link-requires-clause-keys
@@ -91,7 +91,7 @@ invariant_of-self-2 c =
     let t = c.link.new.nodes in
     let u = c.insert_reserved.new.self in
     let key = c.vacant_key-key.result in
-    let n : Node = record { pair = c.args.pair; by = c.args.by; antecedents = c.in_ok-antecedents.antecedents; dependents = c.take.result; place = c.len-place.result; mark = false; next = 0 } in
+    let n : Node = record { pair = c.args.pair; by = c.args.by; antecedents = c.in_ok-antecedents.antecedents; dependents = c.take.result; place = c.len-place.result; mark = false; next = 0; lost = 0; at = c.in_ok-at.at } in
     let place : c.len-place.result ≡ length keys = c.len-place.ensures ∙ c.self.inside.log.ok.0 in
     let same : c.insert_reserved.result ≡ key = c.insert_reserved.ensures.key ∙ c.link.ensures.room.vacant_key ∙ c.make_room.ensures.vacant_key ∙ sym c.vacant_key-key.ensures.value in
     let linked : HasLinked (graph_of s) (graph_of t) n.antecedents.items key =
@@ -104,7 +104,7 @@ invariant_of-self-2 c =
       kept = subst (λ ks. IsStored u ks c.put_key.new.rows.items spares) (sym pushed)
           (kept_entered s t u keys c.put_key.new.rows.items spares key n c.args.reasons.now more (rw (← c.self.view_is) at c.requires.fresh) (rw (← c.self.view_is) at c.requires.earlier) c.in_ok-antecedents.ensures.reasons c.in_ok-antecedents.ensures.keys c.in_ok-put_key.ensures.there linked (c.link.ensures.marks ∙ c.make_room.ensures.marks) free updates c.take.ensures place refl wide);
       threaded = threaded_entered s t u keys c.put_key.new.rows.items spares key n c.args.reasons.now more (rw (← c.self.view_is) at c.requires.fresh) (rw (← c.self.view_is) at c.requires.earlier) c.in_ok-antecedents.ensures.reasons c.in_ok-antecedents.ensures.keys c.in_ok-put_key.ensures.there linked (c.link.ensures.marks ∙ c.make_room.ensures.marks) free updates c.take.ensures place refl wide
-          c.self.inside.threads c.push.new.self c.self.invariant.threaded c.push.ensures.formed c.in_ok-push.ensures.added c.push.ensures.others;
+          c.self.inside.threads c.push.new.self c.self.invariant.threaded c.push.ensures.formed c.in_ok-at.ensures.added c.push.ensures.others;
     }
 
 pub returns-clause-ok : goal.returns-clause-ok
@@ -117,7 +117,7 @@ returns-clause-ok c =
     let t = c.link.new.nodes in
     let u = c.insert_reserved.new.self in
     let key = c.vacant_key-key.result in
-    let n : Node = record { pair = c.args.pair; by = c.args.by; antecedents = c.in_ok-antecedents.antecedents; dependents = c.take.result; place = c.len-place.result; mark = false; next = 0 } in
+    let n : Node = record { pair = c.args.pair; by = c.args.by; antecedents = c.in_ok-antecedents.antecedents; dependents = c.take.result; place = c.len-place.result; mark = false; next = 0; lost = 0; at = c.in_ok-at.at } in
     let place : c.len-place.result ≡ length keys = c.len-place.ensures ∙ c.self.inside.log.ok.0 in
     let same : c.insert_reserved.result ≡ key = c.insert_reserved.ensures.key ∙ c.link.ensures.room.vacant_key ∙ c.make_room.ensures.vacant_key ∙ sym c.vacant_key-key.ensures.value in
     let linked : HasLinked (graph_of s) (graph_of t) n.antecedents.items key =

@@ -10,6 +10,7 @@ use Rattle.palm_explain.specs.Lost.{lost_of}
 use Rattle.palm_explain.specs.Threads.{AreThreaded}
 use Rattle.palm_explain.proofs.Chains.{mark_key}
 use Rattle.palm_explain.proofs.ClosedUp.{forgotten_earliest, forgotten_placed}
+use Rattle.palm_explain.proofs.Dropping.{forgotten_on}
 use Rattle.palm_explain.proofs.Stores.{kept_withdrawn, lacks_withdrawn, loses_withdrawn, threaded_withdrawn, vars_withdrawn}
 use Rattle.palm_explain.proofs.ThreadKeys.{taken_sound, taken_whole, threaded_taken}
 use Rattle.palm_explain.proofs.store.ExplainStore.withdraw.Goals as goal
@@ -20,21 +21,22 @@ mark_lost-count-requires-clause-own c k m =
     let by = taken_sound c.self.inside.threads (graph_of c.self.inside.nodes) c.args.cid c.deref-2.result.now c.self.invariant.threaded is k m in
     (by.0, by.1)
 
-pub forget_threads-requires-clause-places : goal.forget_threads-requires-clause-places
-forget_threads-requires-clause-places c =
-    rw (← c.as_slice-log.ensures.value) at (subst (λ g. IsPlaced g c.self.inside.log.items) (sym c.mark_lost-count.ensures.graph) c.self.invariant.kept.graph.places)
-
 pub forget_threads-requires-clause-once : goal.forget_threads-requires-clause-once
 forget_threads-requires-clause-once c =
     let taken = threaded_taken c.self.inside.threads c.take-own.new.self (graph_of c.self.inside.nodes) c.args.cid c.self.invariant.threaded c.take-own.ensures.formed c.take-own.ensures.none c.take-own.ensures.others in taken.once
 
+pub count_lost-requires-clause-graph : goal.count_lost-requires-clause-graph
+count_lost-requires-clause-graph c =
+    rw (← c.as_slice-log.ensures.value) at (subst (λ g. IsGraph g c.self.inside.log.items) (sym (c.forget_threads.ensures.graph ∙ c.mark_lost-count.ensures.graph)) c.self.invariant.kept.graph)
+
 pub forget_marked-requires-clause-graph : goal.forget_marked-requires-clause-graph
-forget_marked-requires-clause-graph c = rw (← c.as_slice-log.ensures.value) at (subst (λ g. IsGraph g c.self.inside.log.items) (sym c.mark_lost-count.ensures.graph) c.self.invariant.kept.graph)
+forget_marked-requires-clause-graph c =
+    rw (← c.as_slice-log.ensures.value) at (subst (λ g. IsGraph g c.self.inside.log.items) (sym (c.count_lost.ensures.graph ∙ c.forget_threads.ensures.graph ∙ c.mark_lost-count.ensures.graph)) c.self.invariant.kept.graph)
 
 pub close_up-requires-clause-places : goal.close_up-requires-clause-places
 close_up-requires-clause-places c =
     forgotten_placed (graph_of c.mark_lost-count.new.nodes) (graph_of c.forget_marked.new.nodes) c.self.inside.log.items _
-    (subst (λ g. IsPlaced g c.self.inside.log.items) (sym c.mark_lost-count.ensures.graph) c.self.invariant.kept.graph.places) c.forget_marked.ensures.forgotten
+    (subst (λ g. IsPlaced g c.self.inside.log.items) (sym c.mark_lost-count.ensures.graph) c.self.invariant.kept.graph.places) (forgotten_on c.mark_lost-count.new.nodes c.count_lost.new.nodes c.forget_marked.new.nodes (c.count_lost.ensures.graph ∙ c.forget_threads.ensures.graph) (c.count_lost.ensures.marks ∙ c.forget_threads.ensures.marks) c.forget_marked.ensures.forgotten)
 
 pub close_up-requires-clause-within : goal.close_up-requires-clause-within
 close_up-requires-clause-within c = rw c.as_slice-log.ensures.value at c.put_back-start.ensures.within
@@ -42,8 +44,8 @@ close_up-requires-clause-within c = rw c.as_slice-log.ensures.value at c.put_bac
 pub close_up-requires-clause-earliest : goal.close_up-requires-clause-earliest
 close_up-requires-clause-earliest c k m mark at =
     let s = c.mark_lost-count.new.nodes in
-    let marked : marks_of s k ≡ true = sym (ap (λ q. q k) c.forget_marked.ensures.marks) ∙ mark in
-    forgotten_earliest (graph_of s) (graph_of c.forget_marked.new.nodes) _ c.put_back-start.result k m c.forget_marked.ensures.forgotten (λ l is. c.put_back-start.ensures.earliest k l marked is) (mark_key s k marked) at
+    let marked : marks_of s k ≡ true = sym (ap (λ q. q k) (c.forget_marked.ensures.marks ∙ c.count_lost.ensures.marks ∙ c.forget_threads.ensures.marks)) ∙ mark in
+    forgotten_earliest (graph_of s) (graph_of c.forget_marked.new.nodes) _ c.put_back-start.result k m (forgotten_on c.mark_lost-count.new.nodes c.count_lost.new.nodes c.forget_marked.new.nodes (c.count_lost.ensures.graph ∙ c.forget_threads.ensures.graph) (c.count_lost.ensures.marks ∙ c.forget_threads.ensures.marks) c.forget_marked.ensures.forgotten) (λ l is. c.put_back-start.ensures.earliest k l marked is) (mark_key s k marked) at
 
 pub invariant_of-self : goal.invariant_of-self
 invariant_of-self c =
@@ -56,10 +58,10 @@ invariant_of-self c =
     let forgot = c.forget_threads.ensures.forgotten (subst (λ g. AreThreaded c.take-own.new.self g (IsBy g c.args.cid)) (sym graph) taken) in
     record {
       kept = kept_withdrawn c.self.inside.nodes c.mark_lost-count.new.nodes c.forget_marked.new.nodes c.close_up.new.nodes c.self.inside.log.items c.close_up.new.log.items c.self.inside.rows.items (spare c.self.inside.restored) (spare c.put_back-start.new.restored) c.args.cid c.self.invariant.kept
-          c.mark_lost-count.ensures.graph told c.forget_marked.ensures.forgotten c.forget_marked.ensures.marks c.close_up.ensures.closed c.close_up.ensures.unmarked
+          c.mark_lost-count.ensures.graph told (forgotten_on c.mark_lost-count.new.nodes c.count_lost.new.nodes c.forget_marked.new.nodes (c.count_lost.ensures.graph ∙ c.forget_threads.ensures.graph) (c.count_lost.ensures.marks ∙ c.forget_threads.ensures.marks) c.forget_marked.ensures.forgotten) (c.forget_marked.ensures.marks ∙ c.count_lost.ensures.marks ∙ c.forget_threads.ensures.marks) c.close_up.ensures.closed c.close_up.ensures.unmarked
           (rw c.as_slice-log.ensures.value at c.put_back-start.ensures.room);
       threaded = threaded_withdrawn c.self.inside.nodes c.mark_lost-count.new.nodes c.forget_marked.new.nodes c.close_up.new.nodes c.self.inside.log.items c.close_up.new.log.items c.self.inside.rows.items (spare c.self.inside.restored) (spare c.put_back-start.new.restored) c.args.cid c.self.invariant.kept
-          c.mark_lost-count.ensures.graph told c.forget_marked.ensures.forgotten c.forget_marked.ensures.marks c.close_up.ensures.closed c.close_up.ensures.unmarked
+          c.mark_lost-count.ensures.graph told (forgotten_on c.mark_lost-count.new.nodes c.count_lost.new.nodes c.forget_marked.new.nodes (c.count_lost.ensures.graph ∙ c.forget_threads.ensures.graph) (c.count_lost.ensures.marks ∙ c.forget_threads.ensures.marks) c.forget_marked.ensures.forgotten) (c.forget_marked.ensures.marks ∙ c.count_lost.ensures.marks ∙ c.forget_threads.ensures.marks) c.close_up.ensures.closed c.close_up.ensures.unmarked
           (rw c.as_slice-log.ensures.value at c.put_back-start.ensures.room)
           c.forget_threads.new.threads (subst (λ g. AreThreaded c.forget_threads.new.threads g (λ k. IsBy g c.args.cid k ⊎ (marks_of c.mark_lost-count.new.nodes k ≡ true))) graph forgot);
     }
@@ -72,7 +74,7 @@ returns-clause-loses c =
     (taken_whole c.self.inside.threads (graph_of c.self.inside.nodes) c.args.cid c.deref-2.result.now c.self.invariant.threaded is)) in
     subst (λ (v : Explanations). Loses v.log (c.args.cid ∷ []) v.log (log_of (graph_of c.close_up.new.nodes) c.close_up.new.log.items)) c.self.view_is
     (loses_withdrawn c.self.inside.nodes c.mark_lost-count.new.nodes c.forget_marked.new.nodes c.close_up.new.nodes c.self.inside.log.items c.close_up.new.log.items c.self.inside.rows.items (spare c.self.inside.restored) (spare c.put_back-start.new.restored) c.args.cid c.self.invariant.kept
-    c.mark_lost-count.ensures.graph told c.forget_marked.ensures.forgotten c.forget_marked.ensures.marks c.close_up.ensures.closed c.close_up.ensures.unmarked
+    c.mark_lost-count.ensures.graph told (forgotten_on c.mark_lost-count.new.nodes c.count_lost.new.nodes c.forget_marked.new.nodes (c.count_lost.ensures.graph ∙ c.forget_threads.ensures.graph) (c.count_lost.ensures.marks ∙ c.forget_threads.ensures.marks) c.forget_marked.ensures.forgotten) (c.forget_marked.ensures.marks ∙ c.count_lost.ensures.marks ∙ c.forget_threads.ensures.marks) c.close_up.ensures.closed c.close_up.ensures.unmarked
     (rw c.as_slice-log.ensures.value at c.put_back-start.ensures.room))
 
 pub returns-clause-lacks : goal.returns-clause-lacks
@@ -82,7 +84,7 @@ returns-clause-lacks c =
     rw c.as_slice-log.ensures.value at (c.mark_lost-count.ensures.told c.args.cid (taken_sound c.self.inside.threads (graph_of c.self.inside.nodes) c.args.cid c.deref-2.result.now c.self.invariant.threaded is)
     (taken_whole c.self.inside.threads (graph_of c.self.inside.nodes) c.args.cid c.deref-2.result.now c.self.invariant.threaded is)) in
     lacks_withdrawn c.self.inside.nodes c.mark_lost-count.new.nodes c.forget_marked.new.nodes c.close_up.new.nodes c.self.inside.log.items c.close_up.new.log.items c.self.inside.rows.items (spare c.self.inside.restored) (spare c.put_back-start.new.restored) c.args.cid c.self.invariant.kept
-    c.mark_lost-count.ensures.graph told c.forget_marked.ensures.forgotten c.forget_marked.ensures.marks c.close_up.ensures.closed c.close_up.ensures.unmarked
+    c.mark_lost-count.ensures.graph told (forgotten_on c.mark_lost-count.new.nodes c.count_lost.new.nodes c.forget_marked.new.nodes (c.count_lost.ensures.graph ∙ c.forget_threads.ensures.graph) (c.count_lost.ensures.marks ∙ c.forget_threads.ensures.marks) c.forget_marked.ensures.forgotten) (c.forget_marked.ensures.marks ∙ c.count_lost.ensures.marks ∙ c.forget_threads.ensures.marks) c.close_up.ensures.closed c.close_up.ensures.unmarked
     (rw c.as_slice-log.ensures.value at c.put_back-start.ensures.room)
     c.args.store.now c.put_back-start.new.store (rw (← c.self.view_is) at c.requires.lacks) (rw c.as_slice-log.ensures.value at c.put_back-start.ensures.back) c.put_back-start.ensures.ascend.1 c.put_back-start.ensures.ascend.0
 
@@ -102,5 +104,5 @@ returns-clause-restored c x =
     subst (λ (v : Explanations). (Contains keys x → Contains (vars_of (lost_pairs v.log (log_of (graph_of c.close_up.new.nodes) c.close_up.new.log.items))) x)
     × (Contains (vars_of (lost_pairs v.log (log_of (graph_of c.close_up.new.nodes) c.close_up.new.log.items))) x → Contains keys x)) c.self.view_is
     (vars_withdrawn c.self.inside.nodes c.mark_lost-count.new.nodes c.forget_marked.new.nodes c.close_up.new.nodes c.self.inside.log.items c.close_up.new.log.items c.self.inside.rows.items (spare c.self.inside.restored) (spare c.put_back-start.new.restored) c.args.cid c.self.invariant.kept
-    c.mark_lost-count.ensures.graph told c.forget_marked.ensures.forgotten c.forget_marked.ensures.marks c.close_up.ensures.closed c.close_up.ensures.unmarked
+    c.mark_lost-count.ensures.graph told (forgotten_on c.mark_lost-count.new.nodes c.count_lost.new.nodes c.forget_marked.new.nodes (c.count_lost.ensures.graph ∙ c.forget_threads.ensures.graph) (c.count_lost.ensures.marks ∙ c.forget_threads.ensures.marks) c.forget_marked.ensures.forgotten) (c.forget_marked.ensures.marks ∙ c.count_lost.ensures.marks ∙ c.forget_threads.ensures.marks) c.close_up.ensures.closed c.close_up.ensures.unmarked
     (rw c.as_slice-log.ensures.value at c.put_back-start.ensures.room) keys x (λ m. elim (noted.0 m) [ inl none ↦ absurd (member_nil x none) | inr n ↦ n ], λ m. noted.1 (inr m)))

@@ -51,10 +51,7 @@ returns-in-Some-clause-others c d differs =
     let thread : Thread = record { keys = c.take_out.new.keys } in
     set_others t.cids.items t.threads.items c.in-Some.place c.args.cid.now thread d c.in-Some.ensures differs
 
-pub returns-in_default-clause-gone : goal.returns-in_default-clause-gone
-returns-in_default-clause-gone c k m =
+pub returns-clause-gone : goal.returns-clause-gone
+returns-clause-gone c k m =
     let t = c.args.self.now in
     absurd (member_nil k (subst (λ l. Contains l k) (none_there t.cids.items t.threads.items c.args.cid.now c.in_default.ensures) m))
-
-pub returns-in_default-clause-once : goal.returns-in_default-clause-once
-returns-in_default-clause-once c = c.requires.once

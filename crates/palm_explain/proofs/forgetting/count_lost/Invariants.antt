@@ -1,0 +1,19 @@
+use Rattle.std.proofs.Common.{◌≡◌, ℕ, ◌-◌, List, Some, slice_get}
+use Rattle.palm_explain.specs.Chain.{IsLine, nexts_of}
+use Rattle.palm_explain.specs.Counts.{counts_of}
+use Rattle.palm_explain.specs.Graph.{graph_of, marks_of}
+use Rattle.palm_explain.proofs.Counting.{IsCountedTo}
+use Rattle.palm_explain.proofs.forgetting.count_lost.Given as goal
+
+-- the removals of the chain below the place are counted
+abbrev pub invariant-loop-place : goal.invariant-loop-place
+invariant-loop-place l = record {
+  graph : graph_of l.nodes ≡ graph_of l.fn.nodes;
+  marks : marks_of l.nodes ≡ marks_of l.fn.nodes;
+  nexts : nexts_of l.nodes ≡ nexts_of l.fn.nodes;
+  cursor : (chain : List ℕ) → IsLine l.fn.nodes l.first l.count chain → (k : ℕ) → slice_get chain l.place ≡ Some k → l.key ≡ k;
+  counted : (chain : List ℕ) → IsLine l.fn.nodes l.first l.count chain → IsCountedTo (graph_of l.fn.nodes) (counts_of l.nodes) chain l.place;
+}
+
+abbrev pub decreases-loop-place : goal.decreases-loop-place
+decreases-loop-place l = l.count - l.place

@@ -1,0 +1,219 @@
+//! How a withdrawal takes what it loses out of the lists of what stays. It goes along the chain of lost removals, and passes over
+//! no list that has none of them: how many of them a list of dependents has is counted first, and the list is then passed once.
+ghost use Rattle.std.specs.Prelude.{◌≡◌, ◌⊎◌, ℕ, ◌+◌, ◌<◌, ◌≤◌, List, Some, true, false, [], ◌∷◌, ◌++◌, length, filter, take, slice_get, slice_set, Contains};
+ghost use Rattle.palm_base.specs.declared.terms.Cid.{Cid as CidTerm};
+ghost use Rattle.palm_model.specs.Constraint.{Distinct};
+ghost use Rattle.palm_explain.specs.Chain.{IsLine, nexts_of};
+ghost use Rattle.palm_explain.specs.Counts.{AreCounted, HasCounted, counts_of};
+ghost use Rattle.palm_explain.specs.Graph.{HasForgotten, IsAntecedent, IsBy, IsGraph, IsKey, graph_of, marks_of};
+ghost use Rattle.palm_explain.specs.Lost.{kept_of};
+ghost use Rattle.palm_explain.specs.Threads.{AreFormedThreads, AreThreaded, thread_of};
+
+use crate::node::{Nodes, count_dependent, is_by, is_marked, set_at};
+use crate::threads::Threads;
+use palm_base::Cid;
+use std::mem;
+
+/// Takes a removal out of the thread of its constraint, unless that is the one whose thread was taken whole.
+fn forget_thread(nodes: &mut Nodes, threads: &mut Threads, key: usize, cid: &Cid)
+    requires key { IsKey (graph_of nodes.old) key }
+    requires formed { AreFormedThreads threads.old }
+    requires once { (c : CidTerm) → Distinct (thread_of threads.old c) }
+    ensures graph { graph_of nodes.new ≡ graph_of nodes.old }
+    ensures marks { marks_of nodes.new ≡ marks_of nodes.old }
+    ensures nexts { nexts_of nodes.new ≡ nexts_of nodes.old }
+    ensures formed { AreFormedThreads threads.new }
+    ensures once { (c : CidTerm) → Distinct (thread_of threads.new c) }
+    ensures forgotten { (out : List ℕ) → AreThreaded threads.old (graph_of nodes.old) (λ k. IsBy (graph_of nodes.old) cid.now k ⊎ Contains out k)
+        → AreThreaded threads.new (graph_of nodes.old) (λ k. IsBy (graph_of nodes.old) cid.now k ⊎ Contains (out ++ key ∷ []) k) }
+{
+    let node = &nodes[key];
+    if is_by(node, cid) {
+        return;
+    }
+    let at = node.at;
+    if let Some(other) = threads.forget(&node.by, key, at) {
+        set_at(nodes, other, at);
+    }
+}
+
+/// Takes the removals of the chain out of the threads of their constraints, but for the one whose thread was taken whole.
+pub(crate) fn forget_threads(
+    nodes: &mut Nodes,
+    threads: &mut Threads,
+    first: usize,
+    count: usize,
+    cid: &Cid,
+)
+    requires line { (chain : List ℕ) × IsLine nodes.old first count chain }
+    requires formed { AreFormedThreads threads.old }
+    requires once { (c : CidTerm) → Distinct (thread_of threads.old c) }
+    ensures graph { graph_of nodes.new ≡ graph_of nodes.old }
+    ensures marks { marks_of nodes.new ≡ marks_of nodes.old }
+    ensures line { (chain : List ℕ) × IsLine nodes.new first count chain }
+    ensures formed { AreFormedThreads threads.new }
+    ensures forgotten { AreThreaded threads.old (graph_of nodes.old) (IsBy (graph_of nodes.old) cid.now)
+        → AreThreaded threads.new (graph_of nodes.old) (λ k. IsBy (graph_of nodes.old) cid.now k ⊎ (marks_of nodes.old k ≡ true)) }
+{
+    let mut key = first;
+    let mut place = 0;
+    while place < count {
+        forget_thread(nodes, threads, key, cid);
+        key = nodes[key].next;
+        place += 1;
+    }
+}
+
+/// Counts a lost removal at each of its antecedents.
+fn count_at(nodes: &mut Nodes, key: usize)
+    requires key { IsKey (graph_of nodes.old) key }
+    requires keys { (c : ℕ) → IsAntecedent (graph_of nodes.old) c key → IsKey (graph_of nodes.old) c }
+    ensures graph { graph_of nodes.new ≡ graph_of nodes.old }
+    ensures marks { marks_of nodes.new ≡ marks_of nodes.old }
+    ensures nexts { nexts_of nodes.new ≡ nexts_of nodes.old }
+    ensures counted { HasCounted (counts_of nodes.old) (counts_of nodes.new) (λ c. IsAntecedent (graph_of nodes.old) c key) }
+{
+    for index in 0..nodes[key].antecedents.len() {
+        let antecedent = nodes[key].antecedents[index];
+        count_dependent(nodes, antecedent);
+    }
+}
+
+/// Counts the removals of the chain at their antecedents.
+pub(crate) fn count_lost(nodes: &mut Nodes, log: &[usize], first: usize, count: usize)
+    requires graph { IsGraph (graph_of nodes.old) log.now }
+    requires line { (chain : List ℕ) × IsLine nodes.old first count chain }
+    ensures graph { graph_of nodes.new ≡ graph_of nodes.old }
+    ensures marks { marks_of nodes.new ≡ marks_of nodes.old }
+    ensures line { (chain : List ℕ) × IsLine nodes.new first count chain }
+    ensures counted { AreCounted nodes.new }
+{
+    let mut key = first;
+    let mut place = 0;
+    while place < count {
+        count_at(nodes, key);
+        key = nodes[key].next;
+        place += 1;
+    }
+}
+
+/// The first place at which a marked one may stand, where so many are marked, or fewer.
+fn place_of_lost(nodes: &Nodes, keys: &[usize], lost: usize) -> usize
+    requires { length (filter (marks_of nodes.now) keys.now) ≤ lost }
+    ensures within { result ≤ length keys.now }
+    ensures before { filter (marks_of nodes.now) (take result keys.now) ≡ [] }
+{
+    let mut place = keys.len();
+    let mut left = lost;
+    while place > 0 && left > 0 {
+        place -= 1;
+        if is_marked(nodes, keys[place]) {
+            left -= 1;
+        }
+    }
+    place
+}
+
+/// Moves the key at the place to the end of those that are kept, unless it is marked. Answers the end of those for the next one.
+fn keep_at(nodes: &Nodes, keys: &mut Vec<usize>, place: usize, end: usize) -> usize
+    requires within { place < length keys.old.items }
+    requires behind { end ≤ place }
+    ensures out { (k : ℕ) → slice_get keys.old.items place ≡ Some k → marks_of nodes.now k ≡ true → (keys.new.items ≡ keys.old.items) × (result ≡ end) }
+    ensures moved { (k : ℕ) → slice_get keys.old.items place ≡ Some k → marks_of nodes.now k ≡ false
+        → (keys.new.items ≡ slice_set keys.old.items end k) × (result ≡ end + 1) }
+{
+    let key = keys[place];
+    if is_marked(nodes, key) {
+        return end;
+    }
+    keys[end] = key;
+    end + 1
+}
+
+/// Takes the marked ones out, where so many are marked, or fewer. The others keep their order.
+fn keep_unmarked(nodes: &Nodes, keys: &mut Vec<usize>, lost: usize)
+    requires { length (filter (marks_of nodes.now) keys.old.items) ≤ lost }
+    ensures { keys.new.items ≡ kept_of (marks_of nodes.now) keys.old.items }
+{
+    let start = place_of_lost(nodes, keys, lost);
+    let mut end = start;
+    for place in start..keys.len() {
+        end = keep_at(nodes, keys, place, end);
+    }
+    keys.truncate(end);
+}
+
+/// Takes the marked dependents of a removal that is not marked out.
+fn drop_dependents(nodes: &mut Nodes, key: usize)
+    requires key { IsKey (graph_of nodes.old) key }
+    requires unmarked { marks_of nodes.old key ≡ false }
+    requires counted { AreCounted nodes.old }
+    ensures forgotten { HasForgotten (graph_of nodes.old) (graph_of nodes.new)
+        (λ k d. (key ≡ k) × (marks_of nodes.old d ≡ true) × (marks_of nodes.old k ≡ false)) }
+    ensures marks { marks_of nodes.new ≡ marks_of nodes.old }
+    ensures nexts { nexts_of nodes.new ≡ nexts_of nodes.old }
+    ensures counted { AreCounted nodes.new }
+{
+    let none = Vec::new(*nodes[key].dependents.allocator());
+    let node = &mut nodes[key];
+    let lost = node.lost;
+    node.lost = 0;
+    let mut dependents = mem::replace(&mut node.dependents, none);
+    keep_unmarked(nodes, &mut dependents, lost);
+    nodes[key].dependents = dependents;
+}
+
+/// Takes the marked dependents of a removal out, unless it is marked. Where they are out already none of them is counted.
+fn forget_dependents(nodes: &mut Nodes, key: usize)
+    requires key { IsKey (graph_of nodes.old) key }
+    requires counted { AreCounted nodes.old }
+    ensures forgotten { HasForgotten (graph_of nodes.old) (graph_of nodes.new)
+        (λ k d. (key ≡ k) × (marks_of nodes.old d ≡ true) × (marks_of nodes.old k ≡ false)) }
+    ensures marks { marks_of nodes.new ≡ marks_of nodes.old }
+    ensures nexts { nexts_of nodes.new ≡ nexts_of nodes.old }
+    ensures counted { AreCounted nodes.new }
+{
+    if is_marked(nodes, key) {
+        return;
+    }
+    let lost = nodes[key].lost;
+    if lost == 0 {
+        return;
+    }
+    drop_dependents(nodes, key);
+}
+
+/// Takes the marked dependents of the antecedents of a removal out, but for antecedents that are marked.
+fn forget(nodes: &mut Nodes, key: usize)
+    requires key { IsKey (graph_of nodes.old) key }
+    requires keys { (c : ℕ) → IsAntecedent (graph_of nodes.old) c key → IsKey (graph_of nodes.old) c }
+    requires counted { AreCounted nodes.old }
+    ensures forgotten { HasForgotten (graph_of nodes.old) (graph_of nodes.new)
+        (λ k d. (marks_of nodes.old d ≡ true) × (marks_of nodes.old k ≡ false) × IsAntecedent (graph_of nodes.old) k key) }
+    ensures marks { marks_of nodes.new ≡ marks_of nodes.old }
+    ensures nexts { nexts_of nodes.new ≡ nexts_of nodes.old }
+    ensures counted { AreCounted nodes.new }
+{
+    for index in 0..nodes[key].antecedents.len() {
+        let antecedent = nodes[key].antecedents[index];
+        forget_dependents(nodes, antecedent);
+    }
+}
+
+/// Takes the removals of the chain, which are the marked ones, out of the dependents of the others.
+pub(crate) fn forget_marked(nodes: &mut Nodes, log: &[usize], first: usize, count: usize)
+    requires graph { IsGraph (graph_of nodes.old) log.now }
+    requires line { (chain : List ℕ) × IsLine nodes.old first count chain }
+    requires counted { AreCounted nodes.old }
+    ensures forgotten { HasForgotten (graph_of nodes.old) (graph_of nodes.new)
+        (λ k d. (marks_of nodes.old d ≡ true) × (marks_of nodes.old k ≡ false) × IsAntecedent (graph_of nodes.old) k d) }
+    ensures marks { marks_of nodes.new ≡ marks_of nodes.old }
+{
+    let mut key = first;
+    let mut place = 0;
+    while place < count {
+        forget(nodes, key);
+        key = nodes[key].next;
+        place += 1;
+    }
+}
