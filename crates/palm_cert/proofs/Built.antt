@@ -2,7 +2,7 @@
 use Rattle.std.proofs.Common.{◌∙◌, ◌≡◌, ℕ, ℤ, pos, negsuc, suc, ◌<◌, Bool, true, false, Some, List, [], ◌∷◌, ◌++◌, length, map, flat_map, codes, All, refl, sym, ap, subst, arith}
 use Rattle.std.specs.Prelude.{Any, ◌<ℤ◌}
 use Rattle.std.proofs.lemmas.Int.{ints}
-use Rattle.std.proofs.lemmas.List.Elements.{All-nil, All-cons, All-head, All-tail, All-weaker, recursion_from_All}
+use Rattle.std.proofs.lemmas.List.Elements.{All-head, All-tail, All-weaker, recursion_from_All}
 use Rattle.palm_base.specs.Ascending.{Ascends}
 use Rattle.palm_model.specs.Limits.{IsUpTo, IsValue}
 use Rattle.palm_model.specs.Table.{IsRow}
@@ -27,6 +27,7 @@ use Rattle.palm_read.specs.declared.line.NameTarget.TheVariants.{Const as ConstT
 use Rattle.palm_read.specs.declared.line.NameTerm.{NameTerm}
 use Rattle.palm_read.specs.declared.line.Shape.{Shape}
 use Rattle.palm_read.specs.declared.line.Shape.TheVariants.{CompareVar, CompareConst, Linear, Table, Element, Count, Differ}
+use Rattle.palm_read.proofs.cited.AllOfBoth.{all_left, all_right}
 use Rattle.palm_read.proofs.cited.PrintedParts.{HasNames}
 use Rattle.palm_read.proofs.cited.ReadBack.{form_read}
 use Rattle.palm_read.proofs.cited.Sets.{Rises, member_set, rises_set, same_rising, set_member}
@@ -204,14 +205,6 @@ names_terms (t ∷ ts) h =
     first_name (minus_of t.factor) (size_of t.factor) t.name (later_pieces (map term_form ts)) (All-head IsNameText t.name (map (λ (u : NameTerm). u.name) ts) h)
     (later_names ts (All-tail IsNameText t.name (map (λ (u : NameTerm). u.name) ts) h))
 
-all_left : (xs ys : List (List ℕ)) → All IsNameText (xs ++ ys) → All IsNameText xs
-all_left [] ys h = All-nil IsNameText
-all_left (x ∷ xs) ys h = All-cons IsNameText x xs (All-head IsNameText x (xs ++ ys) h) (all_left xs ys (All-tail IsNameText x (xs ++ ys) h))
-
-all_right : (xs ys : List (List ℕ)) → All IsNameText (xs ++ ys) → All IsNameText ys
-all_right [] ys h = h
-all_right (x ∷ xs) ys h = all_right xs ys (All-tail IsNameText x (xs ++ ys) h)
-
 names_target : (t : NameTarget) → All IsNameText (line_target_names t) → HasNames (target_pieces (target_form t))
 names_target (ConstTarget w) h = tt
 names_target (VariableTarget name) h = (All-head IsNameText name [] h, tt)
@@ -227,8 +220,8 @@ names_shape (Table vars rows) h =
 names_shape (Element outcome index entries) h =
     (All-head IsNameText outcome (index ∷ []) h, (All-head IsNameText index [] (All-tail IsNameText outcome (index ∷ []) h), names_row entries))
 names_shape (Count value vars op target) h =
-    names_both (map Named vars) (Mark (op_text op) ∷ target_pieces (target_form target)) (names_named vars (all_left vars (line_target_names target) h))
-    (names_target target (all_right vars (line_target_names target) h))
+    names_both (map Named vars) (Mark (op_text op) ∷ target_pieces (target_form target)) (names_named vars (all_left IsNameText vars (line_target_names target) h))
+    (names_target target (all_right IsNameText vars (line_target_names target) h))
 names_shape (Differ vars) h = names_named vars h
 
 -- a constraint with a name reads back

@@ -25,7 +25,8 @@ use Rattle.palm_cert.specs.Readable.{IsDeclaredBy}
 use Rattle.palm_cert.specs.SameClaim.{names_of_constraints, shapes_of}
 use Rattle.palm_cert.proofs.Before.{Before, before_from, before_split}
 use Rattle.palm_cert.proofs.Passing.{Reads, no_cause, plain_read, reads_line, reads_none, reads_then}
-use Rattle.palm_cert.proofs.Renumbering.{entries, entry, named_moved, place_in, place_name, resolved}
+use Rattle.palm_cert.proofs.Moving.{named_moved}
+use Rattle.palm_cert.proofs.Renumbering.{entries, entry, place_in, place_name, resolved}
 
 -- the variables and constraints of a certificate: some of the book's, in its order, with all variables of the constraints
 pub record AreDeclared (book : Contents) (us : List ℕ) (cs : List BookCon) : Type 0 where

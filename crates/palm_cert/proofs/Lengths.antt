@@ -96,4 +96,4 @@ are_step_numbers variables steps reasons few values apart declared =
     all_members IsStepNumber (numbers_of steps reasons) (λ k m.
     let q = numbers_member 1 steps reasons k m in
     let lt = slice_get_within (log_pairs steps) (k - 1) q.pair q.at in
-    (q.from, omega (arith, q.from, lt, short, many, few, length-range_with_len 0 (length variables))))
+    (omega (arith, q.from), omega (arith, q.from, lt, short, many, few, length-range_with_len 0 (length variables))))

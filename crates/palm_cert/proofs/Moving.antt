@@ -1,8 +1,10 @@
--- Constraints with other numbers for their variables: what lacks support in one lacks it in the other.
+-- Constraints with other numbers for their variables: what lacks support in one lacks it in the other, and both say the same.
 use Rattle.std.proofs.Common.{◌≡◌, ℕ, suc, ℤ, pos, ◌+ℤ◌, ◌*ℤ◌, Bool, true, false, cond, List, [], ◌∷◌, ◌++◌, length, map, filter, Contains, refl, sym, ap, ◌∙◌, subst, int_eq}
 use Rattle.std.proofs.lemmas.List.{map-append}
-use Rattle.palm_base.proofs.cited.Members.{member_map, member_same, member_unmap}
-use Rattle.palm_book.specs.Named.{column_of}
+use Rattle.std.proofs.lemmas.List.Elements.{Contains-append_left, Contains-append_right}
+use Rattle.palm_base.proofs.cited.Members.{member_here, member_map, member_same, member_there, member_unmap}
+use Rattle.palm_book.specs.Book.{BookVar, name_of}
+use Rattle.palm_book.specs.Named.{HasForm, column_of, named, named_target, named_term}
 use Rattle.palm_model.specs.Constraint.{scope}
 use Rattle.palm_model.specs.Count.{count_among, target_of, target_scope}
 use Rattle.palm_model.specs.Differ.{differ_parts}
@@ -20,6 +22,10 @@ use Rattle.palm_model.specs.declared.constraint.Target.TheVariants.{Const, Varia
 use Rattle.palm_model.specs.declared.constraint.Term.{Term}
 use Rattle.palm_model.specs.declared.part.Part.{Part}
 use Rattle.palm_model.specs.declared.part.Part.TheVariants.{CompareVar as CompareVarPart, CompareConst as CompareConstPart, Linear as LinearPart, Table as TablePart, Element as ElementPart, Count as CountPart, Differ as DifferPart, Within as WithinPart}
+use Rattle.palm_read.specs.declared.line.NameTarget.{NameTarget}
+use Rattle.palm_read.specs.declared.line.NameTarget.TheVariants.{Variable as VariableTarget}
+use Rattle.palm_read.specs.declared.line.NameTerm.{NameTerm}
+use Rattle.palm_read.specs.declared.line.Shape.TheVariants.{CompareVar as CompareVarShape, CompareConst as CompareConstShape, Linear as LinearShape, Table as TableShape, Element as ElementShape, Count as CountShape, Differ as DifferShape}
 use Rattle.palm_cert.specs.Moved.{moved, moved_target, moved_term}
 use Rattle.palm_model.proofs.cited.Formed.{part_scope}
 
@@ -57,14 +63,9 @@ module _ (other : ℕ → ℕ) where
       ∙ sym (map-append moved_part (map (DifferPart x) xs) (differ_parts xs))
 
   parts_moved : (c : Con) → parts (moved other c) ≡ map moved_part (parts c)
-  parts_moved (CompareVar left op right offset) = refl
-  parts_moved (CompareConst left op value) = refl
   parts_moved (Linear terms op bound) = linear_moved terms op bound
-  parts_moved (Table vars rows) = refl
-  parts_moved (Element outcome index entries) = refl
-  parts_moved (Count value vars op target) = refl
   parts_moved (Differ vars) = differ_moved vars
-  parts_moved (Within var values) = refl
+  parts_moved _ = refl
 
   terms_moved : (terms : List Term) → term_vars (map (moved_term other) terms) ≡ map other (term_vars terms)
   terms_moved terms = map_twice (moved_term other) (λ (t : Term). t.var) terms ∙ sym (map_twice (λ (t : Term). t.var) other terms)
@@ -77,24 +78,14 @@ module _ (other : ℕ → ℕ) where
   count_moved vars target = ap (λ (xs : List ℕ). map other vars ++ xs) (target_moved target) ∙ sym (map-append other vars (target_scope target))
 
   part_scope_moved : (p : Part) → scope_of (moved_part p) ≡ map other (scope_of p)
-  part_scope_moved (CompareVarPart left op right offset) = refl
-  part_scope_moved (CompareConstPart var op value) = refl
   part_scope_moved (LinearPart terms op bound) = terms_moved terms
-  part_scope_moved (TablePart vars rows) = refl
-  part_scope_moved (ElementPart outcome index entries) = refl
   part_scope_moved (CountPart value vars op target) = count_moved vars target
-  part_scope_moved (DifferPart first second) = refl
-  part_scope_moved (WithinPart var values) = refl
+  part_scope_moved _ = refl
 
   pub scope_moved : (c : Con) → scope (moved other c) ≡ map other (scope c)
-  scope_moved (CompareVar left op right offset) = refl
-  scope_moved (CompareConst left op value) = refl
   scope_moved (Linear terms op bound) = terms_moved terms
-  scope_moved (Table vars rows) = refl
-  scope_moved (Element outcome index entries) = refl
   scope_moved (Count value vars op target) = count_moved vars target
-  scope_moved (Differ vars) = refl
-  scope_moved (Within var values) = refl
+  scope_moved _ = refl
 
   -- ---- what holds
 
@@ -124,16 +115,13 @@ module _ (other : ℕ → ℕ) where
       member_same values r.0 v same r.1
 
   holds_moved : (p : Part) (a : Assignment) → Holds (moved_part p) a → Holds p (λ y. a (other y))
-  holds_moved (CompareVarPart left op right offset) a h = h
-  holds_moved (CompareConstPart var op value) a h = h
   holds_moved (LinearPart terms op bound) a h = subst (λ (z : ℤ). Stands op z bound) (total_moved a terms) h
   holds_moved (TablePart vars rows) a h = subst (λ (row : List ℤ). Contains rows row) (map_twice other a vars) h
-  holds_moved (ElementPart outcome index entries) a h = h
   holds_moved (CountPart value vars op target) a h =
       subst (λ (z : ℤ). Stands op (pos (count_among (λ y. a (other y)) value vars)) z) (target_same a target)
       (subst (λ (n : ℕ). Stands op (pos n) (target_of a (moved_target other target))) (counted_moved a value vars) h)
-  holds_moved (DifferPart first second) a h = h
   holds_moved (WithinPart var values) a h = column_value values (a (other var)) h
+  holds_moved _ a h = h
 
   -- what lacks support lacks it under the other numbers too, within domains that have no more of the scope's values
   pub lacks_moved : (d e : Domains) (c : Con) (x : ℕ) (v : ℤ) → ((y : ℕ) (w : ℤ) → Contains (scope c) y → Has e (other y) w → Has d y w) → LacksSupport d c x v → LacksSupport e (moved other c) (other x) v
@@ -149,3 +137,45 @@ module _ (other : ℕ → ℕ) where
       holds = holds_moved l.part s.assignment s.holds;
     });
   }
+
+-- a constraint with the other numbers says the same, of other variables with the same names
+module _ (variables more : List BookVar) (other : ℕ → ℕ) where
+  vars_named : (ys : List ℕ) → ((y : ℕ) → Contains ys y → name_of more (other y) ≡ name_of variables y) → map (name_of more) (map other ys) ≡ map (name_of variables) ys
+  vars_named [] same = refl
+  vars_named (y ∷ ys) same =
+      ap (λ (name : List ℕ). name ∷ map (name_of more) (map other ys)) (same y (member_here y ys))
+      ∙ ap (λ (names : List (List ℕ)). name_of variables y ∷ names) (vars_named ys (λ z m. same z (member_there y ys z m)))
+
+  terms_named : (ts : List Term) → ((y : ℕ) → Contains (term_vars ts) y → name_of more (other y) ≡ name_of variables y) → map (named_term more) (map (moved_term other) ts) ≡ map (named_term variables) ts
+  terms_named [] same = refl
+  terms_named (t ∷ ts) same =
+      let build : List ℕ → NameTerm = λ name. record { factor = t.factor; name = name } in
+      ap (λ (name : List ℕ). build name ∷ map (named_term more) (map (moved_term other) ts)) (same t.var (member_here t.var (term_vars ts)))
+      ∙ ap (λ (terms : List NameTerm). named_term variables t ∷ terms) (terms_named ts (λ z m. same z (member_there t.var (term_vars ts) z m)))
+
+  target_named : (target : Target) → ((y : ℕ) → Contains (target_scope target) y → name_of more (other y) ≡ name_of variables y) → named_target more (moved_target other target) ≡ named_target variables target
+  target_named (Const w) same = refl
+  target_named (Variable x) same = ap VariableTarget (same x (member_here x []))
+
+  pub named_moved : (c : Con) → ((y : ℕ) → Contains (scope c) y → name_of more (other y) ≡ name_of variables y) → named more (moved other c) ≡ named variables c
+  named_moved (CompareVar left op right offset) same =
+      ap (λ (name : List ℕ). CompareVarShape name op (name_of more (other right)) offset) (same left (member_here left (right ∷ [])))
+      ∙ ap (λ (name : List ℕ). CompareVarShape (name_of variables left) op name offset) (same right (member_there left (right ∷ []) right (member_here right [])))
+  named_moved (CompareConst left op value) same = ap (λ (name : List ℕ). CompareConstShape name op value) (same left (member_here left []))
+  named_moved (Linear terms op bound) same = ap (λ (ts : List NameTerm). LinearShape ts op bound) (terms_named terms same)
+  named_moved (Table vars rows) same = ap (λ (names : List (List ℕ)). TableShape names rows) (vars_named vars same)
+  named_moved (Element outcome index entries) same =
+      ap (λ (name : List ℕ). ElementShape name (name_of more (other index)) entries) (same outcome (member_here outcome (index ∷ [])))
+      ∙ ap (λ (name : List ℕ). ElementShape (name_of variables outcome) name entries) (same index (member_there outcome (index ∷ []) index (member_here index [])))
+  named_moved (Count value vars op target) same =
+      ap (λ (names : List (List ℕ)). CountShape value names op (named_target more (moved_target other target)))
+      (vars_named vars (λ y m. same y (Contains-append_left vars (target_scope target) y m)))
+      ∙ ap (λ (t : NameTarget). CountShape value (map (name_of variables) vars) op t)
+      (target_named target (λ y m. same y (Contains-append_right vars (target_scope target) y m)))
+  named_moved (Differ vars) same = ap (λ (names : List (List ℕ)). DifferShape names) (vars_named vars same)
+  named_moved (Within var values) same = ap (λ (name : List ℕ). TableShape (name ∷ []) (column_of values)) (same var (member_here var []))
+
+-- and a line says it by a form of its own
+pub moved_form : (other : ℕ → ℕ) (c : Con) → HasForm (moved other c)
+moved_form other (Within var values) = tt
+moved_form other _ = tt

@@ -3,25 +3,15 @@ use Rattle.std.proofs.Common.{◌≡◌, ◌≢◌, ℕ, zero, suc, ◌<◌, Boo
 use Rattle.std.specs.Prelude.{slice_get}
 use Rattle.std.proofs.lemmas.Bool.{false≢true}
 use Rattle.std.proofs.lemmas.List.{get_or-map, length-map}
-use Rattle.std.proofs.lemmas.List.Elements.{Contains-append_left, Contains-append_right, Contains-get_or}
+use Rattle.std.proofs.lemmas.List.Elements.{Contains-get_or}
 use Rattle.std.proofs.lemmas.Option.{get_or_from_slice_get, none-some, same_Some, slice_get_within}
-use Rattle.palm_base.proofs.cited.Members.{all_members, member_get, member_here, member_nil, member_same, member_tail, member_there, member_unmap}
+use Rattle.palm_base.proofs.cited.Members.{all_members, member_get, member_nil, member_same, member_tail, member_unmap}
 use Rattle.palm_book.specs.Book.{BookVar, name_of, values_at}
-use Rattle.palm_book.specs.Named.{HasForm, Resolves, column_of, named, named_target, named_term}
+use Rattle.palm_book.specs.Named.{Resolves, named}
 use Rattle.palm_model.specs.Constraint.{scope}
-use Rattle.palm_model.specs.Count.{target_scope}
-use Rattle.palm_model.specs.Linear.{term_vars}
 use Rattle.palm_model.specs.declared.constraint.Con.{Con}
-use Rattle.palm_model.specs.declared.constraint.Con.TheVariants.{CompareVar as CompareVarCon, CompareConst as CompareConstCon, Linear as LinearCon, Table as TableCon, Element as ElementCon, Count as CountCon, Differ as DifferCon, Within as WithinCon}
-use Rattle.palm_model.specs.declared.constraint.Target.{Target}
-use Rattle.palm_model.specs.declared.constraint.Target.TheVariants.{Const, Variable}
-use Rattle.palm_model.specs.declared.constraint.Term.{Term}
-use Rattle.palm_read.specs.declared.line.NameTarget.{NameTarget}
-use Rattle.palm_read.specs.declared.line.NameTarget.TheVariants.{Variable as VariableTarget}
-use Rattle.palm_read.specs.declared.line.NameTerm.{NameTerm}
-use Rattle.palm_read.specs.declared.line.Shape.TheVariants.{CompareVar, CompareConst, Linear, Table, Element, Count, Differ}
-use Rattle.palm_cert.specs.Moved.{moved, moved_target, moved_term}
-use Rattle.palm_cert.proofs.Moving.{scope_moved}
+use Rattle.palm_cert.specs.Moved.{moved}
+use Rattle.palm_cert.proofs.Moving.{moved_form, named_moved, scope_moved}
 
 -- the place of a variable among some
 abbrev pub place_in : List ℕ → ℕ → ℕ
@@ -83,55 +73,7 @@ module _ (variables : List BookVar) where
     pub place_values : values_at (entries xs) (place_in xs x) ≡ values_at variables x
     place_values = ap (λ (e : BookVar). e.values) (get_or_from_slice_get (entries xs) (place_in xs x) (entry x) (record { name = []; values = [] }) entry_placed)
 
-  -- ---- a constraint with the other numbers says the same
-
-  module _ (more : List BookVar) (other : ℕ → ℕ) where
-    vars_named : (ys : List ℕ) → ((y : ℕ) → Contains ys y → name_of more (other y) ≡ name_of variables y) → map (name_of more) (map other ys) ≡ map (name_of variables) ys
-    vars_named [] same = refl
-    vars_named (y ∷ ys) same =
-        ap (λ (name : List ℕ). name ∷ map (name_of more) (map other ys)) (same y (member_here y ys))
-        ∙ ap (λ (names : List (List ℕ)). name_of variables y ∷ names) (vars_named ys (λ z m. same z (member_there y ys z m)))
-
-    terms_named : (ts : List Term) → ((y : ℕ) → Contains (term_vars ts) y → name_of more (other y) ≡ name_of variables y) → map (named_term more) (map (moved_term other) ts) ≡ map (named_term variables) ts
-    terms_named [] same = refl
-    terms_named (t ∷ ts) same =
-        let build : List ℕ → NameTerm = λ name. record { factor = t.factor; name = name } in
-        ap (λ (name : List ℕ). build name ∷ map (named_term more) (map (moved_term other) ts)) (same t.var (member_here t.var (term_vars ts)))
-        ∙ ap (λ (terms : List NameTerm). named_term variables t ∷ terms) (terms_named ts (λ z m. same z (member_there t.var (term_vars ts) z m)))
-
-    target_named : (target : Target) → ((y : ℕ) → Contains (target_scope target) y → name_of more (other y) ≡ name_of variables y) → named_target more (moved_target other target) ≡ named_target variables target
-    target_named (Const w) same = refl
-    target_named (Variable x) same = ap VariableTarget (same x (member_here x []))
-
-    pub named_moved : (c : Con) → ((y : ℕ) → Contains (scope c) y → name_of more (other y) ≡ name_of variables y) → named more (moved other c) ≡ named variables c
-    named_moved (CompareVarCon left op right offset) same =
-        ap (λ (name : List ℕ). CompareVar name op (name_of more (other right)) offset) (same left (member_here left (right ∷ [])))
-        ∙ ap (λ (name : List ℕ). CompareVar (name_of variables left) op name offset) (same right (member_there left (right ∷ []) right (member_here right [])))
-    named_moved (CompareConstCon left op value) same = ap (λ (name : List ℕ). CompareConst name op value) (same left (member_here left []))
-    named_moved (LinearCon terms op bound) same = ap (λ (ts : List NameTerm). Linear ts op bound) (terms_named terms same)
-    named_moved (TableCon vars rows) same = ap (λ (names : List (List ℕ)). Table names rows) (vars_named vars same)
-    named_moved (ElementCon outcome index entries) same =
-        ap (λ (name : List ℕ). Element name (name_of more (other index)) entries) (same outcome (member_here outcome (index ∷ [])))
-        ∙ ap (λ (name : List ℕ). Element (name_of variables outcome) name entries) (same index (member_there outcome (index ∷ []) index (member_here index [])))
-    named_moved (CountCon value vars op target) same =
-        ap (λ (names : List (List ℕ)). Count value names op (named_target more (moved_target other target)))
-        (vars_named vars (λ y m. same y (Contains-append_left vars (target_scope target) y m)))
-        ∙ ap (λ (t : NameTarget). Count value (map (name_of variables) vars) op t)
-        (target_named target (λ y m. same y (Contains-append_right vars (target_scope target) y m)))
-    named_moved (DifferCon vars) same = ap (λ (names : List (List ℕ)). Differ names) (vars_named vars same)
-    named_moved (WithinCon var values) same = ap (λ (name : List ℕ). Table (name ∷ []) (column_of values)) (same var (member_here var []))
-
-  -- a line says it by a form of its own
-  moved_form : (other : ℕ → ℕ) (c : Con) → HasForm (moved other c)
-  moved_form other (CompareVarCon left op right offset) = tt
-  moved_form other (CompareConstCon left op value) = tt
-  moved_form other (LinearCon terms op bound) = tt
-  moved_form other (TableCon vars rows) = tt
-  moved_form other (ElementCon outcome index entries) = tt
-  moved_form other (CountCon value vars op target) = tt
-  moved_form other (DifferCon vars) = tt
-  moved_form other (WithinCon var values) = tt
-
+  -- a constraint with the other numbers says the same
   pub resolved : (xs : List ℕ) (c : Con) → ((y : ℕ) → Contains (scope c) y → Contains xs y) → Resolves (entries xs) (named variables c) (moved (place_in xs) c)
   resolved xs c used = record {
     declared =
@@ -140,5 +82,5 @@ module _ (variables : List BookVar) where
         let r = member_unmap (place_in xs) (scope c) y m in
         subst (λ (z : ℕ). z < length (entries xs)) r.2 (place_declared xs r.0 (used r.0 r.1))));
     has_form = moved_form (place_in xs) c;
-    says = named_moved (entries xs) (place_in xs) c (λ y m. place_name xs y (used y m));
+    says = named_moved variables (entries xs) (place_in xs) c (λ y m. place_name xs y (used y m));
   }

@@ -78,7 +78,8 @@ reasons_early proved reasons early late =
 
 pub reasons_fit : (proved : List Pair) (reasons : List ℕ) → All IsStepNumber reasons → All (λ k. k ≤ length proved) reasons → All (λ k. (1 ≤ k) × (k ≤ length proved)) reasons
 reasons_fit proved reasons range early = all_members (λ k. (1 ≤ k) × (k ≤ length proved)) reasons (λ k m.
-    let one : 1 ≤ k = (All-contains IsStepNumber reasons k range m).0 in
+    let some = (All-contains IsStepNumber reasons k range m).0 in
+    let one : 1 ≤ k = omega (arith, some) in
     let most : k ≤ length proved = All-contains (λ j. j ≤ length proved) reasons k early m in
     (one, most))
 

@@ -1,7 +1,8 @@
 -- What a line of a certificate says. Comments, variables and constraints are written as in a session; the other forms are
 -- those of this file.
-use Rattle.std.specs.Prelude.{◌≡◌, ℕ, ℤ, ◌≤◌, ◌^◌, ◌<◌, List, [], ◌∷◌, map, All, codes, ⊤}
+use Rattle.std.specs.Prelude.{◌≡◌, ℕ, ℤ, List, [], ◌∷◌, map, All, codes, ⊤}
 use Rattle.palm_model.specs.Limits.{IsValue}
+use Rattle.palm_read.specs.Bounds.{IsFromOneTo}
 use Rattle.palm_read.specs.Bytes.{IsComment, IsPlain}
 use Rattle.palm_read.specs.Piece.{Piece, Keyword, Named, Integer, Natural, Spells, word, sign}
 use Rattle.palm_read.specs.Reading.{IsRead}
@@ -41,9 +42,9 @@ IsSpelled tokens (ConflictClaim name) = Spells tokens (conflict_claim_pieces nam
 IsSpelled tokens End = Spells tokens (Keyword (codes "end") ∷ [])
 IsSpelled tokens _ = ⊥
 
--- a number that may stand behind `from`
+-- a number that may stand behind `from`: one of 32 bits
 abbrev pub IsStepNumber : ℕ → Type 0
-IsStepNumber k = (1 ≤ k) × (k < 2 ^ 32)
+IsStepNumber k = IsFromOneTo 4294967295 k
 
 -- the numbers of the statement are in their ranges
 abbrev pub AreInRange : Statement → Type 0

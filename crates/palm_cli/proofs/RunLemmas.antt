@@ -13,6 +13,7 @@ use Rattle.palm_session.specs.State.{SessionState, fresh}
 use Rattle.palm_read.proofs.cited.Cutting.{text_lines}
 use Rattle.palm_read.specs.Lines.{HasNoFeed, AreLines, last_line, without_return}
 use Rattle.palm_session.specs.Replies.{Run, AreAnswered, GoesOn, Ends, all, until}
+use Rattle.palm_session.specs.Objects.{HeldObjects}
 use Rattle.palm_session.specs.Feeding.{View, FeedsOn, FeedsEnd, FeedsPart, FinishesAll, FinishesPart}
 use Rattle.palm_session.proofs.cited.FeedLemmas.{feeds_more, feeds_more_end, feeds_more_part, feeds_none, part_nothing, run_append, run_then, map_more}
 use Rattle.palm_session.proofs.cited.LawsOfTexts.{last_known}
@@ -28,7 +29,7 @@ use Rattle.palm_cli.specs.declared.status.Status.{Status}
 use Rattle.palm_cli.specs.declared.status.Status.TheVariants.{Done, Refused, Usage, ReadFault, WriteFault, NoMemory, TooLong}
 
 -- the text: what was taken without a fault, of which the session was fed what can be answered
-pub record Served (guides orders : List ℕ) (before now : Streams) (taken : ℕ) (session : View) : Type 0 where
+pub record Served {G O : Type 0} (guides orders : List ℕ) (before now : Streams) (taken : ℕ) (session : View G O) : Type 0 where
   pub text : List ℕ
   pub rest : List ℕ
   pub long : length text ≡ taken
@@ -54,9 +55,9 @@ module _ (guides orders : List ℕ) where
   calm_still : (before : Streams) → IsCalm before before
   calm_still before = record { read = refl; write = refl }
 
-  pub served_start : (before : Streams) (session : View) → session ≡ record { state = fresh guides orders; checks = 0; unfinished = []; over = false } → Served guides orders before before 0 session
-  served_start before session e =
-      subst (λ (v : View). Served guides orders before before 0 v) (sym e)
+  pub served_start : {G O : Type 0} (before : Streams) (session : View G O) → session ≡ record { state = fresh guides orders; checks = 0; objects = session.objects; unfinished = []; over = false } → Served guides orders before before 0 session
+  served_start {G = G} {O = O} before session e =
+      subst (λ (v : View G O). Served guides orders before before 0 v) (sym e)
       (record {
         text = [];
         rest = [];
@@ -90,19 +91,19 @@ module _ (guides orders : List ℕ) where
   takes_more_nothing a b c x p q = subst (λ (z : List ℕ). Consumes a c z) (append-nil x) (consumes_both a b c x [] p q)
 
   -- what was fed is all that was taken
-  whole_feeds : (before now : Streams) (taken : ℕ) (session : View) (s : Served guides orders before now taken session) → taken ≤ MOST_INPUT_BYTES
+  whole_feeds : {G O : Type 0} (before now : Streams) (taken : ℕ) (session : View G O) (s : Served guides orders before now taken session) → taken ≤ MOST_INPUT_BYTES
       → FeedsOn (fresh guides orders) s.text before.sink.written now.sink.written s.rest session.state s.asked
   whole_feeds before now taken session s le =
       subst (λ (z : List ℕ). FeedsOn (fresh guides orders) z before.sink.written now.sink.written s.rest session.state s.asked) (whole_text s.text taken s.long le) s.feeds
 
-  served_unended : (before now : Streams) (taken : ℕ) (session : View) (s : Served guides orders before now taken session) → taken ≤ MOST_INPUT_BYTES → HasEnd s.text → ⊥
+  served_unended : {G O : Type 0} (before now : Streams) (taken : ℕ) (session : View G O) (s : Served guides orders before now taken session) → taken ≤ MOST_INPUT_BYTES → HasEnd s.text → ⊥
   served_unended before now taken session s le =
       no_end (fresh guides orders) session.state s.text s.rest before.sink.written now.sink.written s.asked (whole_feeds before now taken session s le)
 
   same_written : (a b : SinkState) (was : Option (List ℕ)) (text rest : List ℕ) (t : SessionState) (n : ℕ) → a ≡ b → FeedsOn (fresh guides orders) text was b.written rest t n → FeedsOn (fresh guides orders) text was a.written rest t n
   same_written a b was text rest t n e f = subst (λ (k : SinkState). FeedsOn (fresh guides orders) text was k.written rest t n) (sym e) f
 
-  fault_runs : (before mid now : Streams) (taken : ℕ) (session : View) → Served guides orders before mid taken session → taken ≤ MOST_INPUT_BYTES
+  fault_runs : {G O : Type 0} (before mid now : Streams) (taken : ℕ) (session : View G O) → Served guides orders before mid taken session → taken ≤ MOST_INPUT_BYTES
       → PumpsFault mid now ReadFault → Runs guides orders before now ReadFault
   fault_runs before mid now taken session s le f = (
     record {
@@ -137,7 +138,7 @@ module _ (guides orders : List ℕ) where
       ap (λ (z : List ℕ). x ∷ z) (take_fewer a b xs) ∙ ap (λ (k : ℕ). take k (x ∷ xs)) m
 
   -- a piece was read into the front of a buffer, and its first bytes were fed
-  pub pumped : (session : View) (room n m : ℕ) (buffer : List ℕ) (before now : Streams) (later : View) (end : Option Status)
+  pub pumped : {G O : Type 0} (session : View G O) (room n m : ℕ) (buffer : List ℕ) (before now : Streams) (later : View G O) (end : Option Status)
       → m ≡ min n room → (n ≡ 0 → ⊥) → n ≤ length buffer → n ≤ PIECE → Consumes before.source.left now.source.left (take n buffer)
       → now.source.faults ≡ before.source.faults → FeedsStatus session (take m buffer) before.sink now.sink later end
       → PumpsPiece session room before later now end
@@ -147,7 +148,7 @@ module _ (guides orders : List ℕ) where
     feeds = subst (λ (z : List ℕ). FeedsStatus session z before.sink now.sink later end) (ap (λ (k : ℕ). take k buffer) is ∙ sym (take_fewer room n buffer)) f;
   }
 
-  pub pumped_on : (session : View) (room n m : ℕ) (buffer : List ℕ) (before now : Streams) (later : View)
+  pub pumped_on : {G O : Type 0} (session : View G O) (room n m : ℕ) (buffer : List ℕ) (before now : Streams) (later : View G O)
       → m ≡ min n room → (n ≡ 0 → ⊥) → n ≤ length buffer → n ≤ PIECE → Consumes before.source.left now.source.left (take n buffer)
       → now.source.faults ≡ before.source.faults → FeedsStatus session (take m buffer) before.sink now.sink later None
       → Pumps session room before later now (Ok n)
@@ -165,7 +166,7 @@ module _ (guides orders : List ℕ) where
   calm_more before mid now c read write = record { read = read ∙ c.read; write = write ∙ c.write }
 
   -- one more piece was read and fed
-  pub served_more : (before mid now : Streams) (taken : ℕ) (session later : View) → Served guides orders before mid taken session → taken ≤ MOST_INPUT_BYTES
+  pub served_more : {G O : Type 0} (before mid now : Streams) (taken : ℕ) (session later : View G O) → Served guides orders before mid taken session → taken ≤ MOST_INPUT_BYTES
       → (p : PumpsPiece session (MOST_INPUT_BYTES - taken) mid later now None) → Served guides orders before now (taken + length p.piece) later
   served_more before mid now taken session later s le p =
       let fed : List ℕ = take (MOST_INPUT_BYTES - taken) p.piece in
@@ -184,12 +185,12 @@ module _ (guides orders : List ℕ) where
         calm = calm_more before mid now s.calm p.reads.calm p.feeds.0;
       }
 
-  pub served_count : (before mid now : Streams) (taken count : ℕ) (session later : View) → Served guides orders before mid taken session → taken ≤ MOST_INPUT_BYTES
+  pub served_count : {G O : Type 0} (before mid now : Streams) (taken count : ℕ) (session later : View G O) → Served guides orders before mid taken session → taken ≤ MOST_INPUT_BYTES
       → Pumps session (MOST_INPUT_BYTES - taken) mid later now (Ok count) → Served guides orders before now (taken + count) later
   served_count before mid now taken count session later s le p =
       subst (λ (n : ℕ). Served guides orders before now (taken + n) later) (sym p.1) (served_more before mid now taken session later s le p.0)
 
-  pub served_over : (before now : Streams) (taken : ℕ) (session : View) → Served guides orders before now taken session → MOST_INPUT_BYTES < taken → Runs guides orders before now TooLong
+  pub served_over : {G O : Type 0} (before now : Streams) (taken : ℕ) (session : View G O) → Served guides orders before now taken session → MOST_INPUT_BYTES < taken → Runs guides orders before now TooLong
   served_over before now taken session s over = (
     s.calm,
     record {
@@ -219,7 +220,7 @@ module _ (guides orders : List ℕ) where
   answered_lines lines [] on (inr ends) = all (All-append GoesOn lines [] on (All-nil GoesOn))
   answered_lines lines (b ∷ bs) on (inr ends) = until lines [] (without_return (b ∷ bs)) on (All-head Ends (without_return (b ∷ bs)) [] ends) refl
 
-  finish_done : (before mid now : Streams) (taken : ℕ) (session : View) (t : SessionState) (n : ℕ) → Served guides orders before mid taken session → taken ≤ MOST_INPUT_BYTES
+  finish_done : {G O : Type 0} (before mid now : Streams) (taken : ℕ) (session : View G O) (t : SessionState) (n : ℕ) → Served guides orders before mid taken session → taken ≤ MOST_INPUT_BYTES
       → ReadsEnd mid.source now.source → FinishesAll session.state session.unfinished mid.sink.written now.sink.written t n → RunsAll guides orders before now
   finish_done before mid now taken session t n s le e short =
       let fs = whole_feeds before mid taken session s le in
@@ -242,7 +243,7 @@ module _ (guides orders : List ℕ) where
         written = appended_both before.sink.written mid.sink.written now.sink.written fs.replies f.replies fs.written f.written;
       }
 
-  finish_part : {stop : Stop} (before mid now : Streams) (taken : ℕ) (session : View) → Served guides orders before mid taken session → taken ≤ MOST_INPUT_BYTES → ReadsEnd mid.source now.source
+  finish_part : {G O : Type 0} {stop : Stop} (before mid now : Streams) (taken : ℕ) (session : View G O) → Served guides orders before mid taken session → taken ≤ MOST_INPUT_BYTES → ReadsEnd mid.source now.source
       → FinishesPart stop session.state session.unfinished mid.sink.written now.sink.written → RunsPart stop guides orders before now
   finish_part before mid now taken session s le e short =
       let fs = whole_feeds before mid taken session s le in
@@ -272,7 +273,7 @@ module _ (guides orders : List ℕ) where
   fails_more before mid now c read rose = record { read = read ∙ c.read; write = rose_after before.sink.faults mid.sink.faults now.sink.faults c.write rose }
 
   -- the end of the source was reached
-  last_runs : (before mid now : Streams) (taken : ℕ) (session : View) (status : Status) → Served guides orders before mid taken session → taken ≤ MOST_INPUT_BYTES
+  last_runs : {G O : Type 0} (before mid now : Streams) (taken : ℕ) (session : View G O) (status : Status) → Served guides orders before mid taken session → taken ≤ MOST_INPUT_BYTES
       → ReadsEnd mid.source now.source → FinishesStatus session mid.sink now.sink status → Runs guides orders before now status
   last_runs before mid now taken session Done s le e f = (calm_more before mid now s.calm e.calm f.0, finish_done before mid now taken session f.1.0 f.1.1 s le e f.1.2)
   last_runs before mid now taken session WriteFault s le e f = (fails_more before mid now s.calm e.calm f.0, finish_part before mid now taken session s le e f.1)
@@ -308,7 +309,7 @@ module _ (guides orders : List ℕ) where
         written = e.written;
       }
 
-  more_part : {stop : Stop} (before mid now : Streams) (taken : ℕ) (session : View) (piece : List ℕ) → Served guides orders before mid taken session → taken ≤ MOST_INPUT_BYTES
+  more_part : {G O : Type 0} {stop : Stop} (before mid now : Streams) (taken : ℕ) (session : View G O) (piece : List ℕ) → Served guides orders before mid taken session → taken ≤ MOST_INPUT_BYTES
       → ReadsPiece mid.source now.source piece
       → FeedsPart stop session.state (session.unfinished ++ take (MOST_INPUT_BYTES - taken) piece) mid.sink.written now.sink.written → RunsPart stop guides orders before now
   more_part {stop} before mid now taken session piece s le r f =
@@ -322,7 +323,7 @@ module _ (guides orders : List ℕ) where
             (feeds_more_part (fresh guides orders) session.state (first_bytes s.text) fed s.rest before.sink.written mid.sink.written now.sink.written s.asked s.feeds long));
       }
 
-  more_end : (before mid now : Streams) (taken : ℕ) (session later : View) (piece : List ℕ) (n : ℕ) → Served guides orders before mid taken session → taken ≤ MOST_INPUT_BYTES
+  more_end : {G O : Type 0} (before mid now : Streams) (taken : ℕ) (session later : View G O) (piece : List ℕ) (n : ℕ) → Served guides orders before mid taken session → taken ≤ MOST_INPUT_BYTES
       → ReadsPiece mid.source now.source piece
       → FeedsEnd session.state (session.unfinished ++ take (MOST_INPUT_BYTES - taken) piece) mid.sink.written now.sink.written later.state n → RunsAll guides orders before now
   more_end before mid now taken session later piece n s le r f =
@@ -333,7 +334,7 @@ module _ (guides orders : List ℕ) where
       (feeds_long_end session.state session.unfinished s.rest (take (MOST_INPUT_BYTES - taken) piece) mid.sink.written now.sink.written s.kept s.feeds.unfinished later.state n f)))
 
   -- feeding a piece ended the run
-  piece_runs : (before mid now : Streams) (taken : ℕ) (session later : View) (status : Status) (piece : List ℕ) → Served guides orders before mid taken session → taken ≤ MOST_INPUT_BYTES
+  piece_runs : {G O : Type 0} (before mid now : Streams) (taken : ℕ) (session later : View G O) (status : Status) (piece : List ℕ) → Served guides orders before mid taken session → taken ≤ MOST_INPUT_BYTES
       → ReadsPiece mid.source now.source piece → FeedsStatus session (take (MOST_INPUT_BYTES - taken) piece) mid.sink now.sink later (Some status) → Runs guides orders before now status
   piece_runs before mid now taken session later Done piece s le r f = (calm_more before mid now s.calm r.calm f.0, more_end before mid now taken session later piece f.1.0 s le r f.1.1)
   piece_runs before mid now taken session later WriteFault piece s le r f = (fails_more before mid now s.calm r.calm f.0, more_part before mid now taken session piece s le r f.1)
@@ -344,7 +345,7 @@ module _ (guides orders : List ℕ) where
   piece_runs before mid now taken session later TooLong piece s le r f = absurd f
 
   -- a read ended the run
-  pub pump_runs : (before mid now : Streams) (taken : ℕ) (session later : View) (status : Status) → Served guides orders before mid taken session → taken ≤ MOST_INPUT_BYTES
+  pub pump_runs : {G O : Type 0} (before mid now : Streams) (taken : ℕ) (session later : View G O) (status : Status) → Served guides orders before mid taken session → taken ≤ MOST_INPUT_BYTES
       → Pumps session (MOST_INPUT_BYTES - taken) mid later now (Err status) → Runs guides orders before now status
   pump_runs before mid now taken session later status s le (inl fault) =
       subst (λ (x : Status). Runs guides orders before now x) (sym fault.fault)
@@ -390,10 +391,11 @@ module _ (guides orders : List ℕ) where
   cut_status before after TooLong r much none = tt
 
 -- a session that was just made is fresh
-pub made_fresh : (guides orders : List ℕ) (session : View) → session ≡ record { state = fresh guides orders; checks = 0; unfinished = []; over = false } → IsFresh session
-made_fresh guides orders session e = subst IsFresh (sym e) refl
+pub made_fresh : {G O : Type 0} (guides orders : List ℕ) (objects : HeldObjects G O) (session : View G O) → session ≡ record { state = fresh guides orders; checks = 0; objects = objects; unfinished = []; over = false } → IsFresh session
+made_fresh {G = G} {O = O} guides orders objects session e = subst (λ (v : View G O). IsFresh v) (sym e) refl
 
 -- and has the numbers of the objects that were handed in
-pub made_runs : (guides orders : List ℕ) (session : View) (before after : Streams) (status : Status) → session ≡ record { state = fresh guides orders; checks = 0; unfinished = []; over = false }
+pub made_runs : {G O : Type 0} (guides orders : List ℕ) (objects : HeldObjects G O) (session : View G O) (before after : Streams) (status : Status)
+    → session ≡ record { state = fresh guides orders; checks = 0; objects = objects; unfinished = []; over = false }
     → Runs session.state.guides session.state.orders before after status → Runs guides orders before after status
-made_runs guides orders session before after status e r = subst (λ (v : View). Runs v.state.guides v.state.orders before after status) e r
+made_runs {G = G} {O = O} guides orders objects session before after status e r = subst (λ (v : View G O). Runs v.state.guides v.state.orders before after status) e r

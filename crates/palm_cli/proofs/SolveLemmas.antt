@@ -180,7 +180,7 @@ part_solved s m lines a b was now x one two = record {
 
 -- ---- the two feeds
 
-pub taken : (session mid : View) (text : List ℕ) (lines : List (List ℕ)) (was now : Option (List ℕ)) (n : ℕ) (going : Going) → session.unfinished ≡ [] → IsTextOf lines text
+pub taken : {G O : Type 0} (session mid : View G O) (text : List ℕ) (lines : List (List ℕ)) (was now : Option (List ℕ)) (n : ℕ) (going : Going) → session.unfinished ≡ [] → IsTextOf lines text
     → Feeds session text was now mid n (Ok going) → TakesLines session.state lines was now mid.unfinished mid.state × (mid.over ≡ false)
 taken session mid text lines was now n More none is f = (
   takes_lines session.state mid.state lines was now mid.unfinished n is.inner
@@ -195,7 +195,7 @@ solve_is : (text : List ℕ) → text ≡ ended solve_line → IsTextOf (solve_l
 solve_is text e = record { whole = e ∙ sym (append-nil (ended solve_line)); inner = solve_text_is }
 
 -- both were taken
-pub solved_after : {T : Type 0} (x : T) (session mid later : View) (text solve : List ℕ) (lines : List (List ℕ)) (a b : Option (List ℕ)) (before after : SinkState) (n m : ℕ) (g h : Going)
+pub solved_after : {G O : Type 0} {T : Type 0} (x : T) (session mid later : View G O) (text solve : List ℕ) (lines : List (List ℕ)) (a b : Option (List ℕ)) (before after : SinkState) (n m : ℕ) (g h : Going)
     → session.unfinished ≡ [] → IsTextOf lines text → solve ≡ ended solve_line → Feeds session text a b mid n (Ok g) → after.faults ≡ before.faults
     → Feeds mid solve before.written after.written later m (Ok h) → SolvesAfter {T = T} session lines before after later (Ok x)
 solved_after x session mid later text solve lines a b before after n m g h none is e f calm k =
@@ -204,7 +204,7 @@ solved_after x session mid later text solve lines a b before after n m g h none 
     (calm, solved session.state mid.state later.state lines a b before.written after.written mid.unfinished later.unfinished one.0 two.0, two.0.none, two.1)
 
 -- the second was not taken whole
-pub stopped_after : (T : Type 0) (session mid later last : View) (text solve : List ℕ) (lines : List (List ℕ)) (a b : Option (List ℕ)) (before after : SinkState) (n m : ℕ) (g : Going) (stop : Stop)
+pub stopped_after : {G O : Type 0} (T : Type 0) (session mid later last : View G O) (text solve : List ℕ) (lines : List (List ℕ)) (a b : Option (List ℕ)) (before after : SinkState) (n m : ℕ) (g : Going) (stop : Stop)
     → IsState session.state → session.unfinished ≡ [] → IsTextOf lines text → solve ≡ ended solve_line → Feeds session text a b mid n (Ok g) → HasStopCause before.faults after.faults stop
     → Feeds mid solve before.written after.written later m (Err stop) → SolvesAfter {T = T} session lines before after last (Err stop)
 stopped_after T session mid later last text solve lines a b before after n m g stop state none is e f cause k =
@@ -215,13 +215,13 @@ stopped_after T session mid later last text solve lines a b before after n m g s
     (subst (λ (z : List ℕ). FeedsPart stop mid.state z before.written after.written) there k.0) in
     by_stop T session before after last stop lines cause (part_solved session.state mid.state lines a b before.written after.written mid.unfinished one.0 two)
   where
-    by_stop : (T : Type 0) (session : View) (before after : SinkState) (last : View) (stop : Stop) (lines : List (List ℕ)) → HasStopCause before.faults after.faults stop
+    by_stop : {G O : Type 0} (T : Type 0) (session : View G O) (before after : SinkState) (last : View G O) (stop : Stop) (lines : List (List ℕ)) → HasStopCause before.faults after.faults stop
         → SolvesPart stop session.state lines before.written after.written → SolvesAfter {T = T} session lines before after last (Err stop)
     by_stop T session before after last WriteFault lines cause p = (cause.1, p)
     by_stop T session before after last NoMemory lines cause p = (cause, p)
 
 -- the first was not taken whole, to a sink that never fails
-pub stopped_before : (T : Type 0) (session last : View) (lines : List (List ℕ)) (sink : SinkState) (stop : Stop) → IsState session.state → HasStopCause 0 0 stop
+pub stopped_before : {G O : Type 0} (T : Type 0) (session last : View G O) (lines : List (List ℕ)) (sink : SinkState) (stop : Stop) → IsState session.state → HasStopCause 0 0 stop
     → SolvesAfter {T = T} session lines sink sink last (Err stop)
 stopped_before T session last lines sink WriteFault is cause = absurd (omega (arith, cause.1))
 stopped_before T session last lines sink NoMemory is cause = (refl, unsolved session.state lines sink.written is)

@@ -26,6 +26,7 @@ use Rattle.palm_cli.specs.declared.limits.TheConstants.{MOST_QUEENS}
 use Rattle.palm_cli.specs.declared.status.Status.TheVariants.{WriteFault, NoMemory}
 use Rattle.palm_lang.specs.declared.stop.WriteStop.{WriteStop as Stop}
 use Rattle.palm_lang.specs.declared.stop.WriteStop.TheVariants as stops
+use Rattle.palm_session.specs.Objects.{HeldObjects}
 use Rattle.palm_session.specs.Feeding.{View}
 
 abbrev start : SessionState
@@ -38,8 +39,22 @@ started = fresh_is [] []
 pub keeps_state : (s t : SessionState) (lines : List (List ℕ)) (was now : Option (List ℕ)) → IsState s → Solves s lines was now t → IsState t
 keeps_state s t lines was now is one = answers_keep one.between solve_line one.reply t (run_keeps s lines one.replies one.between is one.run) one.answers
 
-pub fresh_state : (session : View) → session ≡ record { state = start; checks = 0; unfinished = []; over = false } → IsState session.state
-fresh_state session e = subst (λ (v : View). IsState v.state) (sym e) started
+pub fresh_state : {G O : Type 0} (session : View G O) → session ≡ record { state = start; checks = 0; objects = session.objects; unfinished = []; over = false } → IsState session.state
+fresh_state {G = G} {O = O} session e = subst (λ (v : View G O). IsState v.state) (sym e) started
+
+module _ {G O : Type 0} (objects : HeldObjects G O) (session : View G O) (made : session ≡ record { state = start; checks = 0; objects = objects; unfinished = []; over = false }) where
+  pub starts : session.state ≡ start
+  starts = ap (λ (v : View G O). v.state) made
+
+  pub starts_whole : session.unfinished ≡ []
+  starts_whole = ap (λ (v : View G O). v.unfinished) made
+
+  pub starts_open : session.over ≡ false
+  starts_open = ap (λ (v : View G O). v.over) made
+
+  -- whatever its objects are
+  pub own_objects : session ≡ record { state = start; checks = 0; objects = session.objects; unfinished = []; over = false }
+  own_objects = subst (λ (v : View G O). v ≡ record { state = start; checks = 0; objects = v.objects; unfinished = []; over = false }) (sym made) refl
 
 -- ---- there is a summary, however far it was told
 
@@ -171,7 +186,7 @@ pub stops_heading : (size : ℕ) (before after : SinkState) (text : List ℕ) �
 stops_heading size before after text is rose f = fails_heading size before after rose (subst (λ (z : List ℕ). AppendedProperFront before.written after.written z) is f)
 
 -- the first step stopped
-pub first_stops : (T U : Type 0) (size : ℕ) (before mid after : SinkState) (session later : View) (e : Stop) → session.state ≡ start → mid.faults ≡ before.faults
+pub first_stops : {G O : Type 0} (T U : Type 0) (size : ℕ) (before mid after : SinkState) (session later : View G O) (e : Stop) → session.state ≡ start → mid.faults ≡ before.faults
     → Appended before.written mid.written (heading size) → SolvesAfter {T = T} session (posing_lines size) mid after later (Err e) → WritesSummary size before after (status_of {T = U} (Err e))
 first_stops T U size before mid after session later stops.WriteFault is calm h p =
     let t = told_first size before.written mid.written after.written h (subst (λ (s : SessionState). SolvesPart stops.WriteFault s (posing_lines size) mid.written after.written) is p.1) in
@@ -181,7 +196,7 @@ first_stops T U size before mid after session later stops.NoMemory is calm h p =
     (p.0 ∙ calm, t.summary, t.is, t.written)
 
 -- the second step stopped, or did not
-pub second_ends : {T U : Type 0} (x : T) (size : ℕ) (before mid then after : SinkState) (session first last : View) (r : Result U Stop) → session.state ≡ start → mid.faults ≡ before.faults
+pub second_ends : {G O : Type 0} {T U : Type 0} (x : T) (size : ℕ) (before mid then after : SinkState) (session first last : View G O) (r : Result U Stop) → session.state ≡ start → mid.faults ≡ before.faults
     → Appended before.written mid.written (heading size) → SolvesAfter {T = T} session (posing_lines size) mid then first (Ok x)
     → SolvesAfter {T = U} first (easing_lines size) then after last r → WritesSummary size before after (status_of r)
 second_ends x size before mid then after session first last (Ok y) is calm h one two =

@@ -10,11 +10,11 @@ use Rattle.palm_cli.specs.declared.status.Status.{Status}
 use Rattle.palm_cli.specs.declared.status.Status.TheVariants.{Done, ReadFault, WriteFault, NoMemory}
 
 -- a session that was just made
-abbrev pub IsFresh : View → Type 0
-IsFresh session = session ≡ record { state = fresh session.state.guides session.state.orders; checks = 0; unfinished = []; over = false }
+abbrev pub IsFresh : {G O : Type 0} → View G O → Type 0
+IsFresh session = session ≡ record { state = fresh session.state.guides session.state.orders; checks = 0; objects = session.objects; unfinished = []; over = false }
 
 -- what feeding a piece does, by the status of the run if it ends there
-abbrev pub FeedsStatus : View → List ℕ → SinkState → SinkState → View → Option Status → Type 0
+abbrev pub FeedsStatus : {G O : Type 0} → View G O → List ℕ → SinkState → SinkState → View G O → Option Status → Type 0
 FeedsStatus session piece before after later None =
     (after.faults ≡ before.faults) × ((asked : ℕ) × KeepsRest session.state (session.unfinished ++ piece) before.written after.written later.unfinished later.state asked)
     × (later.over ≡ false)
@@ -27,7 +27,7 @@ FeedsStatus session piece before after later (Some NoMemory) =
 FeedsStatus session piece before after later (Some _) = ⊥
 
 -- what finishing does, by the status of the run
-abbrev pub FinishesStatus : View → SinkState → SinkState → Status → Type 0
+abbrev pub FinishesStatus : {G O : Type 0} → View G O → SinkState → SinkState → Status → Type 0
 FinishesStatus session before after Done =
     (after.faults ≡ before.faults) × ((state : SessionState) × (asked : ℕ) × FinishesAll session.state session.unfinished before.written after.written state asked)
 FinishesStatus session before after WriteFault =
@@ -57,18 +57,18 @@ pub record PumpsFault (before after : Streams) (status : Status) : Type 0 where
   pub sink : after.sink ≡ before.sink
 
 -- the end was read, and a last line answered
-pub record PumpsLast (session : View) (before after : Streams) (status : Status) : Type 0 where
+pub record PumpsLast {G O : Type 0} (session : View G O) (before after : Streams) (status : Status) : Type 0 where
   pub reads : ReadsEnd before.source after.source
   pub finishes : FinishesStatus session before.sink after.sink status
 
 -- one piece was read, and the lines that its first bytes complete, as many as there is room for, were answered
-pub record PumpsPiece (session : View) (room : ℕ) (before : Streams) (later : View) (after : Streams) (end : Option Status) : Type 0 where
+pub record PumpsPiece {G O : Type 0} (session : View G O) (room : ℕ) (before : Streams) (later : View G O) (after : Streams) (end : Option Status) : Type 0 where
   pub piece : List ℕ
   pub reads : ReadsPiece before.source after.source piece
   pub feeds : FeedsStatus session (take room piece) before.sink after.sink later end
 
 -- what one read and the answers to its lines do: the number of bytes that were read, or how the run ends there
-abbrev pub Pumps : View → ℕ → Streams → View → Streams → Result ℕ Status → Type 0
+abbrev pub Pumps : {G O : Type 0} → View G O → ℕ → Streams → View G O → Streams → Result ℕ Status → Type 0
 Pumps session room before later after (Ok count) =
     (pumps : PumpsPiece session room before later after None) × (count ≡ length pumps.piece)
 Pumps session room before later after (Err status) =

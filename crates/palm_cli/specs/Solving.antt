@@ -43,7 +43,7 @@ pub record SolvesPart (stop : Stop) (before : SessionState) (lines : List (List 
   pub written : AppendedUntil stop was now reply
 
 -- the same by the answer of the step
-abbrev pub SolvesAfter : {T : Type 0} → View → List (List ℕ) → SinkState → SinkState → View → Result T Stop → Type 0
+abbrev pub SolvesAfter : {G O T : Type 0} → View G O → List (List ℕ) → SinkState → SinkState → View G O → Result T Stop → Type 0
 SolvesAfter session lines before after later (Ok _) =
     (after.faults ≡ before.faults) × Solves session.state lines before.written after.written later.state × (later.unfinished ≡ []) × (later.over ≡ false)
 SolvesAfter session lines before after later (Err WriteFault) =

@@ -73,7 +73,7 @@ fn summarize<K: Sink, L: Ledger>(
 ) -> Result<(), Stop>
     requires some { 1 ≤ size }
     requires few { size ≤ MOST_QUEENS }
-    requires fresh { session.old ≡ record { state = fresh [] []; checks = 0; unfinished = []; over = false } }
+    requires fresh { session.old ≡ record { state = fresh [] []; checks = 0; objects = session.old.objects; unfinished = []; over = false } }
     ensures { WritesSummary size (K.state sink.old) (K.state sink.new) (status_of result) }
 {
     let heading = heading_text(alloc, size)?;

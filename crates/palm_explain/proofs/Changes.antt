@@ -1,11 +1,11 @@
 -- Changes of the graph and of its marks, one after another.
-use Rattle.std.proofs.Common.{◌≡◌, ◌≢◌, ℕ, ◌+◌, ◌<◌, ◌≤◌, Bool, true, false, List, [], ◌∷◌, ◌++◌, length, get_or, take, drop, Option, Some, None, Contains, ◌⊎◌, inl, inr, refl, sym, ap, ◌∙◌, subst, arith}
+use Rattle.std.proofs.Common.{◌≡◌, ◌≢◌, ℕ, ◌+◌, ◌<◌, ◌≤◌, Bool, true, false, List, [], ◌∷◌, ◌++◌, length, get_or, take, Option, Some, None, Contains, ◌⊎◌, inl, inr, refl, sym, ap, ◌∙◌, subst, arith}
 use Rattle.std.proofs.lemmas.Bool.{cases_eq, false≢true}
 use Rattle.std.proofs.lemmas.List.{take_more, take_all}
 use Rattle.std.proofs.lemmas.List.Elements.{Contains-append_left, Contains-push}
-use Rattle.palm_base.proofs.cited.Members.{member_nil, member_cases, member_here, member_there, member_same, member_single, member_take, member_take_more}
+use Rattle.palm_base.proofs.cited.Members.{member_nil, member_same, member_single, member_take, member_take_more}
 use Rattle.palm_model.specs.Constraint.{Distinct}
-use Rattle.palm_explain.specs.Graph.{AreOnce, Graph, HasForgotten, HasLinked, HasMarked, IsAmongFirst, IsAntecedent, IsDependent, IsKey, IsSameNode, IsTailed, Link}
+use Rattle.palm_explain.specs.Graph.{Graph, HasForgotten, HasLinked, HasMarked, IsAmongFirst, IsAntecedent, IsDependent, IsKey, IsSameNode, Link}
 use Rattle.palm_explain.proofs.Graphs.{link_same}
 
 pub same_then : (l m n : Link) → IsSameNode l m → IsSameNode m n → IsSameNode l n
@@ -23,13 +23,6 @@ pub more_last : {X : Type 0} (xs : List X) (i : ℕ) (x y : X) → i < length xs
 more_last xs i x y lt at e = member_same (take (i + 1) xs) x y e (subst (λ ys. Contains ys x) (sym (take_more xs i x lt ∙ ap (λ z. take i xs ++ z ∷ []) (sym at))) (Contains-push (take i xs) x))
 
 -- ---- links
-
-pub linked_none : (g : Graph) (key : ℕ) → HasLinked g g [] key
-linked_none g key = record {
-  none = λ k e. e;
-  some = λ k l at. (l, at, same_itself l, λ d m. inl m, λ d m. elim m [ inl o ↦ o | inr e ↦ absurd (member_nil k e.1) ]);
-  once = λ k l m at has tailed. subst (λ (z : Link). IsTailed key z.dependents) (link_same g k l m at has) tailed;
-}
 
 pub linked_next : (g h f : Graph) (antecedents : List ℕ) (i c key : ℕ) → i < length antecedents → c ≡ get_or antecedents i c → HasLinked g h (take i antecedents) key → HasLinked h f (c ∷ []) key → HasLinked g f (take (i + 1) antecedents) key
 linked_next g h f antecedents i c key lt at one two = record {
@@ -54,9 +47,6 @@ linked_next g h f antecedents i c key lt at one two = record {
       );
   once = λ k l n is has tailed. let m = one.some k l is in two.once k m.0 n m.1 has (one.once k l m.0 is m.1 tailed);
 }
-
-pub linked_all : (g h : Graph) (antecedents : List ℕ) (i key : ℕ) → length antecedents ≤ i → HasLinked g h (take i antecedents) key → HasLinked g h antecedents key
-linked_all g h antecedents i key le linked = subst (λ cs. HasLinked g h cs key) (take_all i antecedents le) linked
 
 -- a key stays one
 pub linked_key : (g h : Graph) (antecedents : List ℕ) (key k : ℕ) → HasLinked g h antecedents key → IsKey g k → IsKey h k
@@ -98,17 +88,6 @@ forgotten_like g h Gone Same to back forgotten = record {
       (m.0, m.1, m.2, λ d q. let a = m.3 d q in (a.0, λ s. a.1 (back k d s)), λ d q free. m.4 d q (λ gone. free (to k d gone)));
   once = forgotten.once;
 }
-
--- no dependent stands twice afterwards
-pub forgotten_once : (g h : Graph) (Gone : ℕ → ℕ → Type 0) → AreOnce g → HasForgotten g h Gone → AreOnce h
-forgotten_once g h Gone once forgotten k m has = was (g k) refl
-  where
-    none_some : {x : Link} → None ≡ Some x → ⊥
-    none_some e = cc
-
-    was : (o : Option Link) → g k ≡ o → Distinct m.dependents
-    was (Some l) at = forgotten.once k l m at has (once k l at)
-    was None at = absurd (none_some (sym (forgotten.none k at) ∙ has))
 
 -- ---- marks
 

@@ -1,25 +1,22 @@
 -- What a withdrawal finds along the chain, against what stands in the log.
-use Rattle.std.proofs.Common.{◌≡◌, ℕ, ◌≤◌, List, length, filter, take, Some, Contains, slice_get, ◌⊎◌, inl, inr, sym, ap, ◌∙◌, subst, arith, nat_eq}
-use Rattle.std.proofs.lemmas.List.{length-map}
-use Rattle.indexmap.specs.IndexSet.{insert_all}
+use Rattle.std.proofs.Common.{◌≡◌, ℕ, ◌≤◌, List, length, take, Some, Contains, slice_get, inl, inr, sym, ap, ◌∙◌, subst, arith}
 use Rattle.slab.specs.Slab.{Slab}
 use Rattle.palm_base.specs.declared.terms.Pair.{Pair}
-use Rattle.palm_base.proofs.cited.Members.{member_filter, member_same}
+use Rattle.palm_base.proofs.cited.Members.{member_same}
 use Rattle.palm_domain.specs.Rows.{Row, IsDeclared, IsPresent, initial_of}
 use Rattle.palm_model.specs.Domains.{values_of}
-use Rattle.palm_model.specs.Event.{vars_of}
 use Rattle.palm_model.specs.Log.{Removal, log_pairs}
 use Rattle.palm_model.proofs.cited.Without.{without_has}
 use Rattle.palm_explain.specs.declared.node.Node.{Node}
 use Rattle.palm_explain.specs.Chain.{IsLine}
 use Rattle.palm_explain.specs.Explanations.{LacksExactly}
 use Rattle.palm_explain.specs.Graph.{IsGraph, Link, graph_of, log_of, marks_of, removal_at}
-use Rattle.palm_explain.specs.Lost.{HasBack, lost_of}
+use Rattle.palm_explain.specs.Lost.{lost_of}
 use Rattle.palm_explain.proofs.Chains.{mark_key, once_short}
 use Rattle.palm_explain.proofs.Closing.{taken_place}
 use Rattle.palm_explain.proofs.Graphs.{key_member, key_pair, pair_is, removal_is}
 use Rattle.palm_explain.proofs.Keeping.{vars_more}
-use Rattle.palm_explain.proofs.PuttingBack.{IsBackBelow, entry_lost, lost_entry, lost_few, member_noted, noted_member}
+use Rattle.palm_explain.proofs.PuttingBack.{IsAllBack, IsBackBelow, entry_lost, lost_entry}
 
 module _ (s : Slab Node) (first count : ℕ) (chain keys : List ℕ) (line : IsLine s first count chain) (graph : IsGraph (graph_of s) keys) where
   line_logged : (k : ℕ) → Contains chain k → Contains keys k
@@ -39,34 +36,25 @@ module _ (s : Slab Node) (first count : ℕ) (chain keys : List ℕ) (line : IsL
       let e = lost_entry (graph_of s) (marks_of s) keys p m in
       member_same (lost_of (graph_of s) (marks_of s) chain) (removal_at (graph_of s) e.0).pair p e.2 (entry_lost (graph_of s) (marks_of s) chain e.0 (line.whole e.0 e.3) e.3)
 
-  pub line_fewer : length (lost_of (graph_of s) (marks_of s) chain) ≤ length (lost_of (graph_of s) (marks_of s) keys)
-  line_fewer =
-      let few = lost_few (graph_of s) (marks_of s) chain in
-      let short = once_short chain (filter (marks_of s) keys) line.once (λ k m. member_filter (marks_of s) keys k (line_logged k m) (line.marked k m)) in
-      let long = length-map (filter (marks_of s) keys) (λ k. (removal_at (graph_of s) k).pair) in omega (arith, few, short, long)
-
-  pub line_back : (before now : List Row) → HasBack before now (lost_of (graph_of s) (marks_of s) chain) → HasBack before now (lost_of (graph_of s) (marks_of s) keys)
-  line_back before now back = record {
-    initial = back.initial;
-    sound = λ x v h. elim (back.sound x v h) [ inl k ↦ inl k | inr m ↦ inr (line_pairs (record { var = x; value = v }) m) ];
-    others = back.others;
-    back = λ p m. back.back p (pairs_line p m);
-  }
-
-  pub line_noted : (old now : List ℕ) → now ≡ insert_all nat_eq old (vars_of (lost_of (graph_of s) (marks_of s) chain)) → (x : ℕ)
-      → (Contains now x → Contains old x ⊎ Contains (vars_of (lost_of (graph_of s) (marks_of s) keys)) x) × (Contains old x ⊎ Contains (vars_of (lost_of (graph_of s) (marks_of s) keys)) x → Contains now x)
-  line_noted old now noted x =
+  pub line_all : (before now : List Row) (old vars : List ℕ) → IsAllBack (graph_of s) (marks_of s) chain before now old vars → IsAllBack (graph_of s) (marks_of s) keys before now old vars
+  line_all before now old vars is =
       let some = lost_of (graph_of s) (marks_of s) chain in
-      let all = lost_of (graph_of s) (marks_of s) keys in (
-        λ m. elim (noted_member old (vars_of some) x (subst (λ l. Contains l x) noted m)) [ inl o ↦ inl o | inr n ↦ inr (vars_more some all line_pairs x n) ],
-        λ m. subst (λ l. Contains l x) (sym noted) (member_noted old (vars_of some) x (elim m [ inl o ↦ inl o | inr n ↦ inr (vars_more all some pairs_line x n) ])),
-      )
+      let all = lost_of (graph_of s) (marks_of s) keys in record {
+        back = record {
+          initial = is.back.initial;
+          sound = λ x v h. elim (is.back.sound x v h) [ inl k ↦ inl k | inr m ↦ inr (line_pairs (record { var = x; value = v }) m) ];
+          others = is.back.others;
+          back = λ p m. is.back.back p (pairs_line p m);
+        };
+        noted = λ x m. elim (is.noted x m) [ inl o ↦ inl o | inr n ↦ inr (vars_more some all line_pairs x n) ];
+        all = λ x m. is.all x (elim m [ inl o ↦ inl o | inr n ↦ inr (vars_more all some pairs_line x n) ]);
+      }
 
   -- the pair of the removal at a place of the chain is still out
-  pub line_out : (before now : List Row) (old noted : List ℕ) (total room place key : ℕ) (l : Link) → LacksExactly before (log_pairs (log_of (graph_of s) keys))
-      → IsBackBelow (graph_of s) (marks_of s) chain total before now old noted room place → slice_get chain place ≡ Some key → graph_of s key ≡ Some l
+  pub line_out : (before now : List Row) (old noted : List ℕ) (place key : ℕ) (l : Link) → LacksExactly before (log_pairs (log_of (graph_of s) keys))
+      → IsBackBelow (graph_of s) (marks_of s) chain before now old noted place → slice_get chain place ≡ Some key → graph_of s key ≡ Some l
       → IsDeclared now l.pair.var l.pair.value × (IsPresent now l.pair.var l.pair.value → ⊥)
-  line_out before now old noted total room place key l lacks below here at =
+  line_out before now old noted place key l lacks below here at =
       let g = graph_of s in
       let in_log : Contains (log_pairs (log_of g keys)) l.pair = subst (λ p. Contains (log_pairs (log_of g keys)) p) (pair_is g key l at) (key_pair g keys key graph.places (l, at)) in (
         subst (λ lists. Contains (values_of lists l.pair.var) l.pair.value) (sym below.back.initial) (lacks.declared l.pair in_log),

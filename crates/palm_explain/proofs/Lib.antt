@@ -6,12 +6,14 @@ mod Closing
 mod Counting
 mod Dropping
 mod Entered
+mod Flags
 mod Going
 mod Graphs
 mod Keeping
 mod Linked
 mod Marks
 mod Naming
+mod Noted
 mod Once
 mod PuttingBack
 mod Reading

@@ -83,10 +83,6 @@ reasons_from log earlier (s ∷ rest) old new linked r m p k = elim (member_case
       (λ q j. new q (member_there s rest q j)) linked.1 r n p k
 ]
 
--- each reason is the pair of a removal
-pub reasons_logged : (log : List Removal) → IsLinked log → (r : Removal) → Contains log r → (p : Pair) → Contains r.reasons p → Contains (log_pairs log) p
-reasons_logged log linked r m p k = reasons_from log [] log (λ s n. absurd (member_nil s n)) (λ s n. n) linked r m p k
-
 -- ---- what a withdrawal leaves
 
 -- the removals that are left of the earlier ones

@@ -1,22 +1,15 @@
 -- Pairs that come back, one place after another, and the variables that are noted.
-use Rattle.std.proofs.Common.{◌≡◌, ℕ, zero, suc, ◌+◌, ◌<◌, ◌≤◌, Bool, true, false, not, cond, List, [], ◌∷◌, ◌++◌, length, map, filter, take, drop, slice_get, Contains, Some, ◌⊎◌, inl, inr, refl, sym, ap, ◌∙◌, subst, arith, nat_eq, eqb-true, eq-eqb}
-use Rattle.std.specs.List.{list_any}
-use Rattle.indexmap.specs.IndexSet.{insert_all, insert_key}
-use Rattle.std.proofs.lemmas.Bool.{false≢true}
-use Rattle.std.proofs.lemmas.List.{map-append, length-append, length-map, length-take-le, take_all}
+use Rattle.std.proofs.Common.{◌≡◌, ℕ, zero, suc, ◌+◌, ◌≤◌, Bool, true, not, cond, List, [], ◌∷◌, ◌++◌, length, map, filter, take, drop, slice_get, Contains, Some, ◌⊎◌, inl, inr, refl, sym, ap, ◌∙◌, subst, arith}
+use Rattle.std.proofs.lemmas.List.{map-append, length-map, take_all}
 use Rattle.std.proofs.lemmas.List.Elements.{filter-append, Contains-append_left, Contains-append_right, Contains-append_cases, Contains-push, Contains-push_cases}
 use Rattle.std.proofs.lemmas.List.Filters.{length-filter_both}
-use Rattle.std.proofs.lemmas.List.Sums.{fold-append}
 use Rattle.palm_base.specs.declared.terms.Pair.{Pair}
-use Rattle.palm_base.proofs.cited.Members.{member_nil, member_here, member_there, member_cases, member_same, member_map, member_unmap, filter_member, member_filter, nat_known, int_known}
+use Rattle.palm_base.proofs.cited.Members.{member_nil, member_here, member_cases, member_same, member_map, member_unmap, filter_member, member_filter, nat_known, int_known}
 use Rattle.palm_domain.specs.Rows.{Row, GainsPair, IsPresent, initial_of}
-use Rattle.palm_model.specs.Constraint.{Distinct}
 use Rattle.palm_model.specs.Event.{vars_of}
 use Rattle.palm_model.proofs.cited.Without.{pair_of}
-use Rattle.palm_model.proofs.cited.Supports.{any_member, member_any}
 use Rattle.palm_explain.specs.Graph.{Graph, log_of, removal_at}
 use Rattle.palm_explain.specs.Lost.{HasBack, kept_of, lost_at, lost_of}
-use Rattle.palm_explain.proofs.Once.{distinct_push}
 
 -- ---- lost pairs
 
@@ -52,9 +45,6 @@ kept_and_lost g lost es =
     let a = length-map (filter lost es) (λ k. (removal_at g k).pair) in
     let b = length-filter_both lost (λ k. not (lost k)) (λ k. refl) es in omega (arith, a, b)
 
-pub lost_few : (g : Graph) (lost : ℕ → Bool) (es : List ℕ) → length (lost_of g lost es) ≤ length es
-lost_few g lost es = let a = kept_and_lost g lost es in omega (arith, a)
-
 pub taken_one : {X : Type 0} (xs : List X) (i : ℕ) (x : X) → slice_get xs i ≡ Some x → take 1 (drop i xs) ≡ x ∷ []
 taken_one [] i x at = cc
 taken_one (y ∷ xs) zero x at = let f : y ≡ x = cc in ap (λ z. z ∷ []) f
@@ -63,10 +53,6 @@ taken_one (y ∷ xs) (suc i) x at = taken_one xs i x at
 -- the pair at a place is lost, or none there is
 pub lost_here : (g : Graph) (lost : ℕ → Bool) (es : List ℕ) (i k : ℕ) → slice_get es i ≡ Some k → lost k ≡ true → lost_at g lost es i ≡ (removal_at g k).pair ∷ []
 lost_here g lost es i k at is =
-    ap (lost_of g lost) (taken_one es i k at) ∙ ap (λ b. map (λ j. (removal_at g j).pair) (cond b (k ∷ []) [])) is
-
-pub none_lost_here : (g : Graph) (lost : ℕ → Bool) (es : List ℕ) (i k : ℕ) → slice_get es i ≡ Some k → lost k ≡ false → lost_at g lost es i ≡ []
-none_lost_here g lost es i k at is =
     ap (lost_of g lost) (taken_one es i k at) ∙ ap (λ b. map (λ j. (removal_at g j).pair) (cond b (k ∷ []) [])) is
 
 -- ---- pairs that are back
@@ -107,81 +93,48 @@ back_then before middle after ps qs one two = record {
 
 -- ---- below a place
 
--- the lost pairs of the places below this one are back, their variables are noted, and there is room for the others
-pub record IsBackBelow (g : Graph) (lost : ℕ → Bool) (es : List ℕ) (total : ℕ) (before now : List Row) (old keys : List ℕ) (spare place : ℕ) : Type 0 where
+-- the lost pairs of the places below this one are back, and their variables are noted
+pub record IsBackBelow (g : Graph) (lost : ℕ → Bool) (es : List ℕ) (before now : List Row) (old vars : List ℕ) (place : ℕ) : Type 0 where
   pub back : HasBack before now (lost_of g lost (take place es))
-  pub noted : keys ≡ insert_all nat_eq old (vars_of (lost_of g lost (take place es)))
-  pub room : total ≤ spare + length (lost_of g lost (take place es))
+  pub noted : (x : ℕ) → Contains vars x → Contains old x ⊎ Contains (vars_of (lost_of g lost (take place es))) x
+  pub all : (x : ℕ) → Contains old x ⊎ Contains (vars_of (lost_of g lost (take place es))) x → Contains vars x
 
-pub back_below_next : (g : Graph) (lost : ℕ → Bool) (es : List ℕ) (total : ℕ) (before middle now : List Row) (old keys later : List ℕ) (room spare place : ℕ)
-    → IsBackBelow g lost es total before middle old keys room place → HasBack middle now (lost_at g lost es place) → later ≡ insert_all nat_eq keys (vars_of (lost_at g lost es place))
-    → room ≤ spare + length (lost_at g lost es place) → IsBackBelow g lost es total before now old later spare (place + 1)
-back_below_next g lost es total before middle now old keys later room spare place below back noted fits =
-    let next = lost_next g lost es place in
+pub back_below_none : (g : Graph) (lost : ℕ → Bool) (es : List ℕ) (before : List Row) (old : List ℕ) → IsBackBelow g lost es before before old old 0
+back_below_none g lost es before old = record {
+  back = back_none before;
+  noted = λ x m. inl m;
+  all = λ x m. elim m [ inl o ↦ o | inr none ↦ absurd (member_nil x none) ];
+}
+
+pub back_below_next : (g : Graph) (lost : ℕ → Bool) (es : List ℕ) (before middle now : List Row) (old vars later : List ℕ) (p : Pair) (place : ℕ)
+    → lost_at g lost es place ≡ p ∷ [] → IsBackBelow g lost es before middle old vars place → HasBack middle now (p ∷ [])
+    → ((x : ℕ) → (Contains later x → Contains vars x ⊎ (p.var ≡ x)) × (Contains vars x ⊎ (p.var ≡ x) → Contains later x)) → IsBackBelow g lost es before now old later (place + 1)
+back_below_next g lost es before middle now old vars later p place is below back noted =
     let some = lost_of g lost (take place es) in
-    let here = lost_at g lost es place in record {
-      back = subst (λ l. HasBack before now l) (sym next) (back_then before middle now some here below.back back);
-      noted = noted ∙ ap (λ l. insert_all nat_eq l (vars_of here)) below.noted ∙ sym (fold-append (insert_key nat_eq) old (vars_of some) (vars_of here))
-          ∙ ap (λ l. insert_all nat_eq old l) (sym (map-append (λ (p : Pair). p.var) some here)) ∙ ap (λ l. insert_all nat_eq old (vars_of l)) (sym next);
-      room =
-          let more = length-append some here in
-          let all = ap length next in omega (arith, below.room, fits, more, all);
+    let next : lost_of g lost (take (place + 1) es) ≡ some ++ p ∷ [] = lost_next g lost es place ∙ ap (λ l. some ++ l) is in
+    let more : vars_of (lost_of g lost (take (place + 1) es)) ≡ vars_of some ++ p.var ∷ [] = ap vars_of next ∙ map-append (λ (q : Pair). q.var) some (p ∷ []) in record {
+      back = subst (λ l. HasBack before now l) (sym next) (back_then before middle now some (p ∷ []) below.back back);
+      noted = λ x m. elim ((noted x).0 m) [
+        | inl o ↦ elim (below.noted x o) [ inl q ↦ inl q | inr q ↦ inr (subst (λ l. Contains l x) (sym more) (Contains-append_left (vars_of some) (p.var ∷ []) x q)) ]
+        | inr e ↦ inr (subst (λ l. Contains l x) (sym more) (member_same (vars_of some ++ p.var ∷ []) p.var x e (Contains-push (vars_of some) p.var)))
+      ];
+      all = λ x m. (noted x).1 (elim m [
+        | inl o ↦ inl (below.all x (inl o))
+        | inr q ↦ elim (Contains-push_cases (vars_of some) p.var x (subst (λ l. Contains l x) more q)) [ inl o ↦ inl (below.all x (inr o)) | inr e ↦ inr e ]
+      ]);
     }
 
--- past the last place all lost pairs are back
-pub back_below_all : (g : Graph) (lost : ℕ → Bool) (es : List ℕ) (total : ℕ) (before now : List Row) (old keys : List ℕ) (room place : ℕ) → IsBackBelow g lost es total before now old keys room place → length es ≤ place → HasBack before now (lost_of g lost es)
-back_below_all g lost es total before now old keys room place below le = subst (λ l. HasBack before now (lost_of g lost l)) (take_all place es le) below.back
+-- past the last place all lost pairs are back, and all their variables noted
+pub record IsAllBack (g : Graph) (lost : ℕ → Bool) (es : List ℕ) (before now : List Row) (old vars : List ℕ) : Type 0 where
+  pub back : HasBack before now (lost_of g lost es)
+  pub noted : (x : ℕ) → Contains vars x → Contains old x ⊎ Contains (vars_of (lost_of g lost es)) x
+  pub all : (x : ℕ) → Contains old x ⊎ Contains (vars_of (lost_of g lost es)) x → Contains vars x
 
--- there is room for one more
-pub back_below_room : (g : Graph) (lost : ℕ → Bool) (es : List ℕ) (total : ℕ) (before now : List Row) (old keys : List ℕ) (room place : ℕ) → IsBackBelow g lost es total before now old keys room place → length es ≤ total → place < length es → 0 < room
-back_below_room g lost es total before now old keys room place below all lt =
-    let few = lost_few g lost (take place es) in
-    let short = length-take-le place es (omega arith) in omega (arith, below.room, few, short, all, lt)
-
--- ---- noted variables
-
-any_same : (k : ℕ) (ks : List ℕ) → list_any (nat_eq k) ks ≡ true → Contains ks k
-any_same k ks h = let r = any_member (nat_eq k) ks h in member_same ks r.0 k (sym (eqb-true k r.0 r.2)) r.1
-
-insert_cases : (ks : List ℕ) (k : ℕ) (b : Bool) → list_any (nat_eq k) ks ≡ b → (insert_key nat_eq ks k ≡ ks) × Contains ks k ⊎ (insert_key nat_eq ks k ≡ ks ++ k ∷ []) × (Contains ks k → ⊥)
-insert_cases ks k true e = inl (ap (λ c. cond c ks (ks ++ k ∷ [])) e, any_same k ks e)
-insert_cases ks k false e = inr (ap (λ c. cond c ks (ks ++ k ∷ [])) e, λ m. false≢true (sym e ∙ member_any (nat_eq k) ks k m (eq-eqb k k refl)))
-
-distinct_inserted : (ks : List ℕ) (k : ℕ) → Distinct ks → Distinct (insert_key nat_eq ks k)
-distinct_inserted ks k once = elim (insert_cases ks k (list_any (nat_eq k) ks) refl) [
-  | inl r ↦ subst Distinct (sym r.0) once
-  | inr r ↦ subst Distinct (sym r.0) (distinct_push ks k once r.1)
-]
-
-pub distinct_noted : (ks vars : List ℕ) → Distinct ks → Distinct (insert_all nat_eq ks vars)
-distinct_noted ks [] once = once
-distinct_noted ks (k ∷ vars) once = distinct_noted (insert_key nat_eq ks k) vars (distinct_inserted ks k once)
-
-inserted_member : (ks : List ℕ) (k x : ℕ) → Contains (insert_key nat_eq ks k) x → Contains ks x ⊎ (k ≡ x)
-inserted_member ks k x m = elim (insert_cases ks k (list_any (nat_eq k) ks) refl) [
-  | inl r ↦ inl (subst (λ l. Contains l x) r.0 m)
-  | inr r ↦ Contains-push_cases ks k x (subst (λ l. Contains l x) r.0 m)
-]
-
-member_inserted : (ks : List ℕ) (k x : ℕ) → Contains ks x ⊎ (k ≡ x) → Contains (insert_key nat_eq ks k) x
-member_inserted ks k x m = elim (insert_cases ks k (list_any (nat_eq k) ks) refl) [
-  | inl r ↦ subst (λ l. Contains l x) (sym r.0) (elim m [ inl n ↦ n | inr e ↦ member_same ks k x e r.1 ])
-  | inr r ↦ subst (λ l. Contains l x) (sym r.0) (elim m [ inl n ↦ Contains-append_left ks (k ∷ []) x n | inr e ↦ member_same (ks ++ k ∷ []) k x e (Contains-push ks k) ])
-]
-
-pub noted_member : (ks vars : List ℕ) (x : ℕ) → Contains (insert_all nat_eq ks vars) x → Contains ks x ⊎ Contains vars x
-noted_member ks [] x m = inl m
-noted_member ks (k ∷ vars) x m = elim (noted_member (insert_key nat_eq ks k) vars x m) [
-  | inl n ↦ elim (inserted_member ks k x n) [ inl j ↦ inl j | inr e ↦ inr (member_same (k ∷ vars) k x e (member_here k vars)) ]
-  | inr n ↦ inr (member_there k vars x n)
-]
-
-pub member_noted : (ks vars : List ℕ) (x : ℕ) → Contains ks x ⊎ Contains vars x → Contains (insert_all nat_eq ks vars) x
-member_noted ks [] x m = elim m [ inl n ↦ n | inr n ↦ absurd (member_nil x n) ]
-member_noted ks (k ∷ vars) x m = elim m [
-  | inl n ↦ member_noted (insert_key nat_eq ks k) vars x (inl (member_inserted ks k x (inl n)))
-  | inr n ↦ elim (member_cases k vars x n) [
-    | inl e ↦ member_noted (insert_key nat_eq ks k) vars x (inl (member_inserted ks k x (inr e)))
-    | inr j ↦ member_noted (insert_key nat_eq ks k) vars x (inr j)
-  ]
-]
+pub back_below_all : (g : Graph) (lost : ℕ → Bool) (es : List ℕ) (before now : List Row) (old vars : List ℕ) (place : ℕ) → IsBackBelow g lost es before now old vars place → length es ≤ place
+    → IsAllBack g lost es before now old vars
+back_below_all g lost es before now old vars place below le =
+    let all = take_all place es le in record {
+      back = subst (λ l. HasBack before now (lost_of g lost l)) all below.back;
+      noted = subst (λ l. (x : ℕ) → Contains vars x → Contains old x ⊎ Contains (vars_of (lost_of g lost l)) x) all below.noted;
+      all = subst (λ l. (x : ℕ) → Contains old x ⊎ Contains (vars_of (lost_of g lost l)) x → Contains vars x) all below.all;
+    }

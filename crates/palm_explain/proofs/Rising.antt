@@ -1,20 +1,13 @@
 -- Lists of ids that rise, put together.
-use Rattle.std.proofs.Common.{◌≡◌, ℕ, ◌+◌, ◌<◌, List, [], ◌∷◌, ◌++◌, length, get_or, take, Contains, ◌⊎◌, inl, inr, refl, sym, ap, ◌∙◌, subst}
+use Rattle.std.proofs.Common.{◌≡◌, ℕ, ◌+◌, ◌<◌, List, [], ◌∷◌, ◌++◌, length, get_or, take, inl, inr, refl, sym, ap, ◌∙◌, subst}
 use Rattle.std.specs.List.{insert}
 use Rattle.std.proofs.lemmas.List.{take_more}
 use Rattle.std.proofs.lemmas.List.Elements.{Contains-append_left, Contains-append_right, Contains-append_cases}
 use Rattle.palm_base.specs.Order.{BelongsAt, Rises, with_cid}
 use Rattle.palm_base.specs.declared.terms.Cid.{Cid}
-use Rattle.palm_base.proofs.cited.Members.{member_nil, member_here, member_same, member_single}
+use Rattle.palm_base.proofs.cited.Members.{member_here, member_same, member_single}
 use Rattle.palm_base.proofs.cited.RisingLists.{member_with_cid, put_rising, with_cid_cases, with_cid_here, with_cid_rises}
 use Rattle.palm_explain.specs.Merging.{IsMerged}
-
-pub merged_none : (cids : List Cid) → Rises cids → IsMerged cids [] cids
-merged_none cids rises = record { rising = rises; sound = λ c m. inl m; first = λ c m. m; second = λ c m. absurd (member_nil c m) }
-
--- an id that is there
-pub merged_there : (cids : List Cid) (t : Cid) → Rises cids → Contains cids t → IsMerged cids (t ∷ []) cids
-merged_there cids t rises there = record { rising = rises; sound = λ c m. inl m; first = λ c m. m; second = λ c m. member_same cids t c (member_single t c m) there }
 
 -- an id that is put at its place
 pub merged_put : (cids : List Cid) (t : Cid) (i : ℕ) → Rises cids → BelongsAt (λ c. c) cids i t → IsMerged cids (t ∷ []) (insert cids i t)

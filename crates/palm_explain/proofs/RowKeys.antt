@@ -8,7 +8,7 @@ use Rattle.std.proofs.lemmas.Int.{ints}
 use Rattle.std.proofs.lemmas.Bool.{cases_Bool, cases_lt}
 use Rattle.std.proofs.lemmas.Bool.Decides.{Decides-int_eq}
 use Rattle.std.proofs.lemmas.List.Elements.{All-contains, Contains-push_cases}
-use Rattle.palm_base.proofs.cited.Members.{member_nil, member_here, member_there, member_cases, member_same, all_members, nat_known}
+use Rattle.palm_base.proofs.cited.Members.{member_here, member_there, member_cases, member_same, all_members}
 use Rattle.palm_base.specs.declared.terms.Pair.{Pair}
 use Rattle.palm_base.specs.Ascending.{Ascends}
 use Rattle.palm_domain.proofs.cited.Ascending.{get_or-rises}
@@ -168,9 +168,6 @@ between_in values t (Err k) i e a within h =
 
 -- ---- rows
 
-row_found : (rows : List Row) (x : ℕ) (r : Row) → slice_get rows x ≡ Some r → (v : ℤ) → row_key (slice_get rows x) v ≡ key_in r.values.items r.keys.items v
-row_found rows x r at v = ap (λ o. row_key o v) at
-
 pushed_key : (rows : List Row) (r : Row) → ((v : ℤ) → key_in r.values.items r.keys.items v ≡ None) → (x : ℕ) (v : ℤ) → row_key (slice_get (rows ++ r ∷ []) x) v ≡ row_key (slice_get rows x) v
 pushed_key [] r none zero v = none v
 pushed_key [] r none (suc x) v = refl
@@ -187,43 +184,3 @@ pushed_formed rows r formed one =
       | inl o ↦ All-contains IsFormedRow rows s formed o
       | inr e ↦ subst IsFormedRow e one
     ])
-
-set_here : (rows : List Row) (x : ℕ) (r : Row) → x < length rows → slice_get (set rows x r) x ≡ Some r
-set_here [] x r lt = absurd (omega (arith, lt))
-set_here (s ∷ rows) zero r lt = refl
-set_here (s ∷ rows) (suc x) r lt = set_here rows x r (omega (arith, lt))
-
-set_there : (rows : List Row) (x y : ℕ) (r : Row) → (y ≡ x → ⊥) → slice_get (set rows x r) y ≡ slice_get rows y
-set_there [] x y r n = refl
-set_there (s ∷ rows) zero zero r n = absurd (n refl)
-set_there (s ∷ rows) zero (suc y) r n = refl
-set_there (s ∷ rows) (suc x) zero r n = refl
-set_there (s ∷ rows) (suc x) (suc y) r n = set_there rows x y r (λ e. n (ap suc e))
-
-set_members : (rows : List Row) (x : ℕ) (r s : Row) → Contains (set rows x r) s → Contains rows s ⊎ (r ≡ s)
-set_members [] x r s m = absurd (member_nil s m)
-set_members (q ∷ rows) zero r s m = elim (member_cases r rows s m) [ inl e ↦ inr e | inr k ↦ inl (member_there q rows s k) ]
-set_members (q ∷ rows) (suc x) r s m = elim (member_cases q (set rows x r) s m) [
-  | inl e ↦ inl (member_same (q ∷ rows) q s e (member_here q rows))
-  | inr k ↦ elim (set_members rows x r s k) [ inl o ↦ inl (member_there q rows s o) | inr e ↦ inr e ]
-]
-
-pub set_formed : (rows : List Row) (x : ℕ) (r : Row) → AreFormedRows rows → IsFormedRow r → AreFormedRows (set rows x r)
-set_formed rows x r formed one =
-    all_members IsFormedRow (set rows x r) (λ s m. elim (set_members rows x r s m) [
-      | inl o ↦ All-contains IsFormedRow rows s formed o
-      | inr e ↦ subst IsFormedRow e one
-    ])
-
--- another key in the row of a variable
-pub set_row_found : (rows : List Row) (p : Pair) (r : Row) (key : ℕ) → p.var < length rows → key_in r.values.items r.keys.items p.value ≡ Some key → key_at (set rows p.var r) p ≡ Some key
-set_row_found rows p r key lt found = ap (λ o. row_key o p.value) (set_here rows p.var r lt) ∙ found
-
-pub set_row_other : (rows : List Row) (p : Pair) (s r : Row) → slice_get rows p.var ≡ Some s → p.var < length rows
-    → ((v : ℤ) → (v ≡ p.value → ⊥) → key_in r.values.items r.keys.items v ≡ key_in s.values.items s.keys.items v) → (q : Pair) → (q ≡ p → ⊥) → key_at (set rows p.var r) q ≡ key_at rows q
-set_row_other rows p s r at lt others q n = elim (nat_known q.var p.var) [
-  | inr differs ↦ ap (λ o. row_key o q.value) (set_there rows p.var q.var r differs)
-  | inl e ↦
-      let differs : q.value ≡ p.value → ⊥ = λ f. n (λ i. record { var = e i; value = f i }) in
-      ap (λ x. row_key (slice_get (set rows p.var r) x) q.value) e ∙ ap (λ o. row_key o q.value) (set_here rows p.var r lt) ∙ others q.value differs ∙ sym (ap (λ o. row_key o q.value) at) ∙ sym (ap (λ x. row_key (slice_get rows x) q.value) e)
-]

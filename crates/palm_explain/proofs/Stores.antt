@@ -18,6 +18,7 @@ use Rattle.palm_explain.specs.declared.threads.Threads.{Threads}
 use Rattle.palm_explain.specs.Explanations.{IsLink, IsLinked, LacksExactly}
 use Rattle.palm_explain.specs.Graph.{AreFound, HasClosedUp, HasForgotten, HasLinked, HasNoMark, IsBy, IsAntecedent, IsGraph, IsStored, IsKey, Link, graph_of, has_mark, link_of, log_of, marks_of, pair_at}
 use Rattle.palm_explain.specs.Lost.{AreTold, HasBack, kept_of, lost_of}
+use Rattle.palm_explain.specs.Restored.{KeepsKeys}
 use Rattle.palm_explain.specs.Rows.{AreFormedRows, key_at}
 use Rattle.palm_explain.specs.Threads.{AreFormedThreads, AreThreaded, thread_of}
 use Rattle.palm_explain.proofs.ClosedUp.{IsGone, left_found, left_graph, left_log, left_threaded}
@@ -46,6 +47,17 @@ kept_with_rows nodes keys rows later spare p kept fresh formed others = record {
   found = λ k l at.
       let g = graph_of nodes in
       others l.pair (λ e. fresh (member_same (log_pairs (log_of g keys)) (pair_at g k) p (pair_is g k l at ∙ e) (key_pair g keys k kept.graph.places (l, at)))) ∙ kept.found k l at;
+  room = kept.room;
+}
+
+-- rows with the same keys
+pub kept_with_keys : (nodes : Slab Node) (keys : List ℕ) (rows later : List Row) (spare : ℕ) → IsStored nodes keys rows spare → KeepsKeys rows later → IsStored nodes keys later spare
+kept_with_keys nodes keys rows later spare kept same = record {
+  linked = kept.linked;
+  graph = kept.graph;
+  unmarked = kept.unmarked;
+  formed = same.formed kept.formed;
+  found = λ k l at. same.keys l.pair ∙ kept.found k l at;
   room = kept.room;
 }
 
@@ -147,7 +159,7 @@ module _ (s m t u : Slab Node) (keys left : List ℕ) (rows : List Row) (spare l
     (graph : graph_of m ≡ graph_of s) (told : AreTold (graph_of s) keys cid (marks_of m))
     (forgotten : HasForgotten (graph_of m) (graph_of t) (λ k d. (marks_of m d ≡ true) × (marks_of m k ≡ false) × IsAntecedent (graph_of m) k d)) (marks : marks_of t ≡ marks_of m)
     (closed : HasClosedUp (graph_of t) (marks_of t) keys (graph_of u) left) (unmarked : HasNoMark u)
-    (room : length keys ≤ later + length (lost_of (graph_of m) (marks_of m) keys)) where
+    (room : length keys ≤ later) where
   gone : HasForgotten (graph_of s) (graph_of t) (IsGone (graph_of s) (marks_of m))
   gone = subst (λ g. HasForgotten g (graph_of t) (IsGone g (marks_of m))) graph forgotten
 

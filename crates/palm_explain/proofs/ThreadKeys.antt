@@ -1,11 +1,11 @@
 -- The threads of constraints: one is found by its id, changed at its place, and put in where there is none.
-use Rattle.std.proofs.Common.{◌≡◌, ℕ, zero, suc, ◌≤◌, ◌<◌, Bool, true, false, cond, List, [], ◌∷◌, length, drop, set, get_or, slice_get, Contains, Some, ◌⊎◌, inl, inr, refl, sym, ap, ◌∙◌, subst, arith}
+use Rattle.std.proofs.Common.{◌≡◌, ℕ, zero, suc, ◌≤◌, ◌<◌, true, false, cond, List, [], ◌∷◌, length, set, get_or, slice_get, Contains, Some, ◌⊎◌, inl, inr, refl, sym, ap, ◌∙◌, subst, arith}
 use Rattle.std.specs.List.{insert}
 use Rattle.std.proofs.lemmas.Bool.{cases_Bool}
 use Rattle.std.proofs.lemmas.Option.{slice_get_within, slice_get-get_or}
 use Rattle.std.proofs.lemmas.List.Elements.{All-contains}
 use Rattle.palm_base.specs.declared.terms.Cid.{Cid}
-use Rattle.palm_base.proofs.cited.Members.{member_cases, member_get, member_here, member_nil, member_same, member_there}
+use Rattle.palm_base.proofs.cited.Members.{member_get, member_here, member_nil, member_same, member_there}
 use Rattle.palm_model.specs.Constraint.{Distinct}
 use Rattle.palm_base.specs.Order.{Rises, cid_before, same_cid}
 use Rattle.palm_base.proofs.cited.CidOrder.{cid_known, cid_same, not_before_itself, same_cid_itself}
@@ -157,9 +157,6 @@ pub taken_whole : (t : Threads) (g : Graph) (cid : Cid) (own : List ℕ) → Are
 taken_whole t g cid own threaded is k by = subst (λ l. Contains l k) (sym is) (threaded.whole cid k by (λ never. never))
 
 -- ---- ids and places
-
-pub cid_at : (cids : List Cid) (place : ℕ) (c d : Cid) → place < length cids → d ≡ get_or cids place d → same_cid d c ≡ true → slice_get cids place ≡ Some c
-cid_at cids place c d lt at same = slice_get-get_or cids place d lt ∙ ap Some (sym at ∙ cid_same d c same)
 
 pub insert_at : (cids : List Cid) (i : ℕ) (c : Cid) → i ≤ length cids → slice_get (insert cids i c) i ≡ Some c
 insert_at cids zero c le = refl

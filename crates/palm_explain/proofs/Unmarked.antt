@@ -1,5 +1,5 @@
 -- Lists of which the marked ones are taken out.
-use Rattle.std.proofs.Common.{◌≡◌, ℕ, zero, suc, ◌+◌, ◌<◌, ◌≤◌, Bool, true, false, not, cond, List, [], ◌∷◌, ◌++◌, length, filter, take, drop, set, get_or, slice_get, Some, Contains, inl, inr, refl, sym, ap, ◌∙◌, subst, arith}
+use Rattle.std.proofs.Common.{◌≡◌, ℕ, suc, ◌+◌, ◌<◌, ◌≤◌, Bool, true, false, not, cond, List, [], ◌∷◌, ◌++◌, length, filter, take, drop, set, get_or, slice_get, Some, Contains, inl, inr, refl, sym, ap, ◌∙◌, subst, arith}
 use Rattle.std.proofs.lemmas.Bool.{cases_Bool, false≢true}
 use Rattle.std.proofs.lemmas.Option.{slice_get-get_or, slice_get_within}
 use Rattle.std.proofs.lemmas.List.{append-nil, drop-set-lt, length-append, length-set, take_all, take_more_set}
@@ -7,7 +7,7 @@ use Rattle.std.proofs.lemmas.List.Elements.{filter-append}
 use Rattle.palm_base.proofs.cited.Members.{filter_member, member_filter, member_nil}
 use Rattle.palm_model.specs.Constraint.{Distinct}
 use Rattle.palm_explain.specs.Lost.{kept_of}
-use Rattle.palm_explain.proofs.Closing.{drop_first, kept_all, same_after, same_at}
+use Rattle.palm_explain.proofs.Closing.{kept_all, same_after, same_at}
 use Rattle.palm_explain.proofs.PuttingBack.{take_next, taken_one}
 
 -- one more of a list
@@ -23,10 +23,9 @@ marked_next marks xs i k at is =
     ap (λ l. length (filter marks l)) (taken_more xs i k at) ∙ ap length (filter-append marks (take i xs) (k ∷ [])) ∙ length-append (filter marks (take i xs)) (filter marks (k ∷ []))
     ∙ ap (λ b. length (filter marks (take i xs)) + length (cond b (k ∷ []) [])) is
 
-pub marked_same : (marks : ℕ → Bool) (xs : List ℕ) (i k : ℕ) → slice_get xs i ≡ Some k → length (filter marks (take i xs)) ≤ length (filter marks (take (i + 1) xs))
-marked_same marks xs i k at =
-    let long = ap (λ l. length (filter marks l)) (taken_more xs i k at) ∙ ap length (filter-append marks (take i xs) (k ∷ [])) ∙ length-append (filter marks (take i xs)) (filter marks (k ∷ [])) in
-    omega (arith, long)
+pub kept_less : (marks : ℕ → Bool) (xs : List ℕ) (i k : ℕ) → slice_get xs i ≡ Some k → marks k ≡ true → kept_of marks (take (i + 1) xs) ≡ kept_of marks (take i xs)
+kept_less marks xs i k at is =
+    ap (kept_of marks) (taken_more xs i k at) ∙ filter-append (λ j. not (marks j)) (take i xs) (k ∷ []) ∙ ap (λ b. kept_of marks (take i xs) ++ cond (not b) (k ∷ []) []) is ∙ append-nil (kept_of marks (take i xs))
 
 pub none_long : (xs : List ℕ) → length xs ≤ 0 → xs ≡ []
 none_long [] le = refl

@@ -1,7 +1,6 @@
 -- Where walks begin, and what they have found when they end.
-use Rattle.std.proofs.Common.{◌≡◌, ◌≢◌, ◌∙◌, ℕ, ℤ, zero, suc, ◌<◌, Bool, true, false, List, [], ◌∷◌, length, replicate, Some, Contains, inl, inr, refl, sym, ap, subst, arith}
+use Rattle.std.proofs.Common.{◌≡◌, ◌≢◌, ◌∙◌, ℕ, ℤ, ◌<◌, Bool, true, false, List, [], ◌∷◌, Some, Contains, inl, inr, refl, sym, ap, subst, arith}
 use Rattle.std.proofs.lemmas.Bool.{cases_Bool, cases_eq, false≢true}
-use Rattle.std.proofs.lemmas.Option.{slice_get_within}
 use Rattle.palm_base.specs.Tells.{Tells}
 use Rattle.palm_base.specs.declared.terms.Cid.{Cid}
 use Rattle.palm_base.specs.declared.terms.Pair.{Pair}
@@ -9,7 +8,7 @@ use Rattle.palm_base.proofs.cited.Members.{member_here, member_same, member_sing
 use Rattle.palm_base.specs.Order.{Rises}
 use Rattle.palm_model.specs.Log.{IsListOf, log_pairs}
 use Rattle.palm_explain.specs.Explanations.{NamesOfSome}
-use Rattle.palm_explain.specs.Graph.{AreBefore, Graph, HasMarked, IsBy, IsGraph, IsUnderWay, IsValueKey, Link, NamesAt, is_due, log_of}
+use Rattle.palm_explain.specs.Graph.{AreBefore, Graph, HasMarked, IsBy, IsGraph, IsUnderWay, IsValueKey, Link, NamesAt, log_of}
 use Rattle.palm_explain.specs.Merging.{IsMerged}
 use Rattle.palm_explain.proofs.Graphs.{link_same, names_pair_at, pair_key, pair_named}
 use Rattle.palm_explain.proofs.Marks.{tells_from}
@@ -56,16 +55,8 @@ module _ (g : Graph) (keys : List ℕ) (graph : IsGraph g keys) (x : ℕ) (value
         inr (k.0, noted.more k.0 (some.value, some.among, k.1, k.2), pair_named g keys k.0 q c graph k.1 k.2 some.names);
   }
 
-  pub values_before : AreBefore g due (length keys)
-  values_before k m =
-      let p = value_key k m in
-      (p.2.0, p.2.1, slice_get_within keys p.2.0.place k (graph.places.logged k p.2.0 p.2.1))
-
--- nothing is noted at first
-pub none_due : (n k : ℕ) → is_due (replicate n false) k ≡ false
-none_due zero k = refl
-none_due (suc n) zero = refl
-none_due (suc n) (suc k) = none_due n k
+  pub values_before : (end : ℕ) → ((k : ℕ) (l : Link) → IsValueKey g x values k → g k ≡ Some l → l.place < end) → AreBefore g due end
+  values_before end within k m = let p = value_key k m in (p.2.0, p.2.1, within k p.2.0 p p.2.1)
 
 -- ---- at the end
 

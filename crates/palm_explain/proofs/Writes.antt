@@ -9,7 +9,7 @@ use Rattle.slab.proofs.SlabLemmas.{ContainsKey-within, Updates-with_value}
 use Rattle.palm_base.proofs.cited.Members.{member_get, member_here, member_same, member_single}
 use Rattle.palm_model.specs.Constraint.{Distinct}
 use Rattle.palm_explain.specs.declared.node.Node.{Node}
-use Rattle.palm_explain.specs.Graph.{HasForgotten, HasLinked, IsKey, IsMoved, IsReady, IsReadyAt, IsSameNode, IsTailed, IsTakenOut, KeepsRoom, Link, graph_of, has_mark, link_of, marks_of, said}
+use Rattle.palm_explain.specs.Graph.{HasForgotten, HasLinked, IsKey, IsReady, IsReadyAt, IsSameNode, IsTailed, IsTakenOut, KeepsRoom, Link, graph_of, has_mark, link_of, marks_of, said}
 use Rattle.palm_explain.specs.Lost.{kept_of}
 use Rattle.palm_explain.proofs.Entered.{place_last}
 use Rattle.palm_explain.proofs.Graphs.{link_same, some_same}
@@ -30,9 +30,6 @@ key_node s k key = key_node_at (get s k) key.0 key.1
 
 pub key_there : (s : Slab Node) (k : ℕ) → IsKey (graph_of s) k → ContainsKey s k
 key_there s k key = let n = key_node s k key in subst IsSome (sym n.1) refl
-
-pub node_key : (s : Slab Node) (k : ℕ) (n : Node) → get s k ≡ Some n → IsKey (graph_of s) k
-node_key s k n e = (record { pair = n.pair; by = n.by; antecedents = n.antecedents.items; dependents = n.dependents.items; place = n.place }, ap link_of e)
 
 pub node_there : (s : Slab Node) (k : ℕ) (n : Node) → get s k ≡ Some n → ContainsKey s k
 node_there s k n e = subst IsSome (sym e) refl
@@ -76,12 +73,6 @@ module _ (s : Slab Node) (k : ℕ) (n v : Node) (at : get s k ≡ Some n) where
         capacity = refl;
         vacant_key = refl;
       }
-
-  pub moved_to : (place : ℕ) → link_of (Some v) ≡ link_of (Some (record n { place = place })) → IsMoved (graph_of s) (graph_of (with_value s k v)) k place
-  moved_to place same = record {
-    moved = λ l is. ap link_of here ∙ same ∙ ap (λ (z : Link). Some (record z { place = place })) (node_link s k n l at is);
-    others = λ j differs. ap link_of (elsewhere j differs);
-  }
 
 -- ---- dependents
 

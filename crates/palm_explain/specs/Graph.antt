@@ -218,6 +218,6 @@ pub record IsUnderWay (g : Graph) (keys : List ℕ) (due : ℕ → Bool) (c : Ci
 abbrev pub AreBefore : Graph → (ℕ → Bool) → ℕ → Type 0
 AreBefore g due place = (k : ℕ) → due k ≡ true → (l : Link) × (g k ≡ Some l) × (l.place < place)
 
--- whether the key is noted
+-- whether the place is noted
 abbrev pub is_due : List Bool → ℕ → Bool
-is_due due k = slice_index_or due k false
+is_due due place = slice_index_or due place false

@@ -4,6 +4,8 @@ pub mod Explanations
 pub mod Graph
 pub mod Lost
 pub mod Merging
+pub mod Noted
+pub mod Restored
 pub mod Rows
 pub mod Threads
 pub mod Whole

@@ -9,7 +9,7 @@ use std::alloc::{AllocFailed, Global};
 const MOST: usize = 1024;
 
 /// The most keys for which a kept list has room.
-const LONGEST: usize = 16;
+const LONGEST: usize = 64;
 
 /// The lists of dependents of lost removals.
 #[derive(Debug, Drop)]

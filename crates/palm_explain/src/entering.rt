@@ -1,6 +1,5 @@
 //! How a removal is entered: first all memory, then the links in both directions.
 ghost use Rattle.std.specs.Prelude.{◌≡◌, ℕ, ◌+◌, ◌<◌, ◌≤◌, length, map, Contains, IfOk, OnOk, vec_capacity, vec_len};
-ghost use Rattle.indexmap.specs.IndexSet.{spare};
 ghost use Rattle.slab.specs.Slab.{HasRoomFor};
 ghost use Rattle.palm_base.specs.declared.terms.Pair.{Pair as PairTerm};
 ghost use Rattle.palm_explain.specs.Graph.{AreFound, Graph, HasLinked, IsKey, IsReadyAt, KeepsRoom, graph_of, marks_of, pair_at};
@@ -9,7 +8,6 @@ ghost use Rattle.palm_explain.specs.Rows.{AreFormedRows};
 use crate::emptied::Emptied;
 use crate::node::{Nodes, add_dependent, reserve_dependent};
 use crate::rows::{Row, key_near};
-use indexmap::IndexSet;
 use palm_base::{NoMemory, Pair, Var};
 use std::alloc::{AllocError, AllocFailed, Global};
 
@@ -54,7 +52,7 @@ fn reserve_links(nodes: &mut Nodes, antecedents: &[usize], key: usize) -> Result
 pub(crate) fn make_room(
     nodes: &mut Nodes,
     log: &mut Vec<usize>,
-    restored: &mut IndexSet<Var>,
+    restored: &mut Vec<Var>,
     emptied: &mut Emptied,
     antecedents: &[usize],
     key: usize,
@@ -64,11 +62,11 @@ pub(crate) fn make_room(
     ensures marks { marks_of nodes.new ≡ marks_of nodes.old }
     ensures vacant_key { nodes.new.vacant_key ≡ nodes.old.vacant_key }
     ensures log { log.new.items ≡ log.old.items }
-    ensures restored { restored.new.keys ≡ restored.old.keys }
-    ensures grows { spare restored.old ≤ spare restored.new }
+    ensures restored { restored.new.items ≡ restored.old.items }
+    ensures grows { vec_capacity restored.old ≤ vec_capacity restored.new }
     ensures node { OnOk result (HasRoomFor nodes.new 1) }
     ensures place { OnOk result (vec_len log.new < vec_capacity log.new) }
-    ensures variables { OnOk result (length log.new.items + 1 ≤ spare restored.new) }
+    ensures variables { OnOk result (length log.new.items + 1 ≤ vec_capacity restored.new) }
     ensures ready { OnOk result ((k : ℕ) → Contains antecedents.now k → IsReadyAt nodes.new key k) }
 {
     let count = log.len() + 1;

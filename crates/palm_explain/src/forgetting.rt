@@ -1,6 +1,7 @@
 //! How a withdrawal takes what it loses out of the lists of what stays. It goes along the chain of lost removals, and passes over
-//! no list that has none of them: how many of them a list of dependents has is counted first, and the list is then passed once.
-ghost use Rattle.std.specs.Prelude.{◌≡◌, ◌⊎◌, ℕ, ◌+◌, ◌<◌, ◌≤◌, List, Some, true, false, [], ◌∷◌, ◌++◌, length, filter, take, slice_get, slice_set, Contains};
+//! no list that has none of them: how many of them a list of dependents has is counted first, and the list is then passed once,
+//! from its end. Mostly they stand last, and are cut off.
+ghost use Rattle.std.specs.Prelude.{◌≡◌, ◌⊎◌, ℕ, ◌+◌, ◌-◌, ◌<◌, ◌≤◌, List, Some, true, false, [], ◌∷◌, ◌++◌, length, filter, take, slice_get, slice_set, Contains};
 ghost use Rattle.palm_base.specs.declared.terms.Cid.{Cid as CidTerm};
 ghost use Rattle.palm_model.specs.Constraint.{Distinct};
 ghost use Rattle.palm_explain.specs.Chain.{IsLine, nexts_of};
@@ -97,6 +98,25 @@ pub(crate) fn count_lost(nodes: &mut Nodes, log: &[usize], first: usize, count: 
     }
 }
 
+/// The end of the keys without the marked ones that stand last, where so many are marked, or fewer.
+fn end_of_kept(nodes: &Nodes, keys: &[usize], lost: usize) -> usize
+    requires { length (filter (marks_of nodes.now) keys.now) ≤ lost }
+    ensures within { result ≤ length keys.now }
+    ensures kept { kept_of (marks_of nodes.now) (take result keys.now) ≡ kept_of (marks_of nodes.now) keys.now }
+    ensures left { length (filter (marks_of nodes.now) (take result keys.now)) + (length keys.now - result) ≤ lost }
+{
+    let mut end = keys.len();
+    let mut left = lost;
+    while end > 0 && left > 0 {
+        if !is_marked(nodes, keys[end - 1]) {
+            return end;
+        }
+        end -= 1;
+        left -= 1;
+    }
+    end
+}
+
 /// The first place at which a marked one may stand, where so many are marked, or fewer.
 fn place_of_lost(nodes: &Nodes, keys: &[usize], lost: usize) -> usize
     requires { length (filter (marks_of nodes.now) keys.now) ≤ lost }
@@ -143,7 +163,27 @@ fn keep_unmarked(nodes: &Nodes, keys: &mut Vec<usize>, lost: usize)
     keys.truncate(end);
 }
 
-/// Takes the marked dependents of a removal that is not marked out.
+/// Takes the marked dependents of a removal that is not marked out, wherever they stand among the others.
+fn drop_among(nodes: &mut Nodes, key: usize)
+    requires key { IsKey (graph_of nodes.old) key }
+    requires unmarked { marks_of nodes.old key ≡ false }
+    requires counted { AreCounted nodes.old }
+    ensures forgotten { HasForgotten (graph_of nodes.old) (graph_of nodes.new)
+        (λ k d. (key ≡ k) × (marks_of nodes.old d ≡ true) × (marks_of nodes.old k ≡ false)) }
+    ensures marks { marks_of nodes.new ≡ marks_of nodes.old }
+    ensures nexts { nexts_of nodes.new ≡ nexts_of nodes.old }
+    ensures counted { AreCounted nodes.new }
+{
+    let node = &mut nodes[key];
+    let lost = node.lost;
+    node.lost = 0;
+    let none = Vec::new(*node.dependents.allocator());
+    let mut dependents = mem::replace(&mut node.dependents, none);
+    keep_unmarked(nodes, &mut dependents, lost);
+    nodes[key].dependents = dependents;
+}
+
+/// Takes the marked dependents of a removal that is not marked out. Mostly all of them stand last, and are cut off.
 fn drop_dependents(nodes: &mut Nodes, key: usize)
     requires key { IsKey (graph_of nodes.old) key }
     requires unmarked { marks_of nodes.old key ≡ false }
@@ -154,13 +194,15 @@ fn drop_dependents(nodes: &mut Nodes, key: usize)
     ensures nexts { nexts_of nodes.new ≡ nexts_of nodes.old }
     ensures counted { AreCounted nodes.new }
 {
-    let none = Vec::new(*nodes[key].dependents.allocator());
+    let node = &nodes[key];
+    let kept = end_of_kept(nodes, &node.dependents, node.lost);
+    if node.dependents.len() - kept < node.lost {
+        drop_among(nodes, key);
+        return;
+    }
     let node = &mut nodes[key];
-    let lost = node.lost;
     node.lost = 0;
-    let mut dependents = mem::replace(&mut node.dependents, none);
-    keep_unmarked(nodes, &mut dependents, lost);
-    nodes[key].dependents = dependents;
+    node.dependents.truncate(kept);
 }
 
 /// Takes the marked dependents of a removal out, unless it is marked. Where they are out already none of them is counted.
@@ -173,11 +215,11 @@ fn forget_dependents(nodes: &mut Nodes, key: usize)
     ensures nexts { nexts_of nodes.new ≡ nexts_of nodes.old }
     ensures counted { AreCounted nodes.new }
 {
-    if is_marked(nodes, key) {
+    let node = &nodes[key];
+    if node.mark {
         return;
     }
-    let lost = nodes[key].lost;
-    if lost == 0 {
+    if node.lost == 0 {
         return;
     }
     drop_dependents(nodes, key);

@@ -1,9 +1,10 @@
 //! The keys of removed pairs, in a row for each variable, so that none is looked up by hashing.
-ghost use Rattle.std.specs.Prelude.{◌≡◌, ℤ, ◌<◌, ◌≤◌, true, None, Some, length, slice_index_or, OnOk};
+ghost use Rattle.std.specs.Prelude.{◌≡◌, ◌≢◌, ℕ, ℤ, ◌<◌, ◌≤◌, true, false, None, Some, length, slice_index_or, OnOk};
 ghost use Rattle.palm_base.specs.declared.terms.Pair.{Pair as PairTerm};
+ghost use Rattle.palm_explain.specs.Restored.{KeepsKeys, flag_at};
 ghost use Rattle.palm_explain.specs.Rows.{AreFormedRows, IsFormedRow, key_at, key_in};
 
-use palm_base::{NoMemory, Pair, Value};
+use palm_base::{NoMemory, Pair, Value, Var};
 use std::alloc::{AllocError, AllocFailed, Global};
 
 /// The values that a variable lost at some time, ascending, and beside each the key of its last removal.
@@ -11,16 +12,20 @@ use std::alloc::{AllocError, AllocFailed, Global};
 pub(crate) struct Row {
     values: Vec<Value>,
     keys: Vec<usize>,
+    /// Stands while the last withdrawal has the variable among those of which it put values back.
+    restored: bool,
 }
 
 impl Row {
     fn new(alloc: Global) -> Row
         ensures formed { IsFormedRow result }
         ensures none { (v : ℤ) → key_in result.values.items result.keys.items v ≡ None }
+        ensures flag { result.restored ≡ false }
     {
         Row {
             values: Vec::new(alloc),
             keys: Vec::new(alloc),
+            restored: false,
         }
     }
 
@@ -58,6 +63,7 @@ impl Row {
         ensures there { OnOk result (key_in self.new.values.items self.new.keys.items value ≡ Some key) }
         ensures others { (v : ℤ) → (v ≡ value → ⊥)
             → key_in self.new.values.items self.new.keys.items v ≡ key_in self.old.values.items self.old.keys.items v }
+        ensures flag { self.new.restored ≡ self.old.restored }
     {
         match self.values.binary_search(&value) {
             Ok(place) => self.keys[place] = key,
@@ -95,6 +101,7 @@ fn reach(rows: &mut Vec<Row>, variables: usize) -> Result<(), NoMemory>
     requires { AreFormedRows rows.old.items }
     ensures formed { AreFormedRows rows.new.items }
     ensures same { (p : PairTerm) → key_at rows.new.items p ≡ key_at rows.old.items p }
+    ensures flags { (x : ℕ) → flag_at rows.new.items x ≡ flag_at rows.old.items x }
     ensures reached { OnOk result (variables ≤ length rows.new.items) }
 {
     while rows.len() < variables {
@@ -110,9 +117,28 @@ pub(crate) fn put_key(rows: &mut Vec<Row>, pair: &Pair, key: usize) -> Result<()
     ensures formed { AreFormedRows rows.new.items }
     ensures there { OnOk result (key_at rows.new.items pair.now ≡ Some key) }
     ensures others { (p : PairTerm) → (p ≡ pair.now → ⊥) → key_at rows.new.items p ≡ key_at rows.old.items p }
+    ensures flags { (x : ℕ) → flag_at rows.new.items x ≡ flag_at rows.old.items x }
 {
     let place = pair.var.0 as usize;
     reach(rows, place + 1)?;
     let row = &mut rows[place];
     row.put(pair.value, key)
+}
+
+/// Whether the flag of a variable stands.
+pub(crate) fn is_flagged(rows: &[Row], var: Var) -> bool
+    requires { var < length rows.now }
+    ensures { result ≡ flag_at rows.now var }
+{
+    rows[var.0 as usize].restored
+}
+
+/// Sets the flag of a variable, or clears it.
+pub(crate) fn set_flag(rows: &mut Vec<Row>, var: Var, flag: bool)
+    requires { var < length rows.old.items }
+    ensures keys { KeepsKeys rows.old.items rows.new.items }
+    ensures flagged { flag_at rows.new.items var ≡ flag }
+    ensures others { (x : ℕ) → x ≢ var → flag_at rows.new.items x ≡ flag_at rows.old.items x }
+{
+    rows[var.0 as usize].restored = flag;
 }

@@ -1,6 +1,5 @@
 //! The log of removals, with what each of them rests on.
-ghost use Rattle.std.specs.Prelude.{◌≡◌, ◌↔◌, ℕ, ℤ, ◌<◌, ◌≤◌, Some, [], ◌∷◌, ◌++◌, length, slice_get, Contains, MatchOption, OnOk, OnErr};
-ghost use Rattle.indexmap.specs.IndexSet.{spare};
+ghost use Rattle.std.specs.Prelude.{◌≡◌, ◌↔◌, ℕ, ℤ, ◌<◌, ◌≤◌, Some, [], ◌∷◌, ◌++◌, length, slice_get, Contains, MatchOption, OnOk, OnErr, vec_len};
 ghost use Rattle.palm_base.specs.Tells.{Tells};
 ghost use Rattle.palm_domain.specs.Rows.{initial_of};
 ghost use Rattle.palm_model.specs.Constraint.{Distinct};
@@ -16,8 +15,7 @@ use crate::node::{Node, Nodes};
 use crate::rows::{Row, key_of, put_key};
 use crate::threads::Threads;
 use crate::walking::{cids_of, rests_on};
-use crate::withdrawing::{close_up, put_back};
-use indexmap::IndexSet;
+use crate::withdrawing::{close_up, empty_out, put_back};
 use palm_base::{Cid, CidList, NoMemory, Pair, Value, Var};
 use palm_domain::DomainStore;
 use slab::Slab;
@@ -35,31 +33,21 @@ pub struct ExplainStore {
     rows: Vec<Row>,
     threads: Threads,
     /// The variables of which the last withdrawal put values back.
-    restored: IndexSet<Var>,
+    restored: Vec<Var>,
     emptied: Emptied,
 }
 
 impl Model for ExplainStore {
-    ghost use Rattle.indexmap.specs.IndexSet.{spare};
+    ghost use Rattle.std.specs.Prelude.{vec_capacity};
     ghost use Rattle.palm_explain.specs.Explanations.{Explanations};
     ghost use Rattle.palm_explain.specs.Graph.{graph_of, log_of};
     ghost use Rattle.palm_explain.specs.Whole.{IsWhole};
 
     ghost Value = { Explanations };
 
-    ghost view = { λ s. record { log = log_of (graph_of s.nodes) s.log.items; restored = s.restored.keys } };
+    ghost view = { λ s. record { log = log_of (graph_of s.nodes) s.log.items; restored = s.restored.items } };
 
-    ghost invariant = { λ s. IsWhole s.nodes s.log.items s.rows.items (spare s.restored) s.threads };
-}
-
-/// Empties a set. One that is empty already is not cleared again, which would pass over all its room.
-fn empty_out(vars: &mut IndexSet<Var>)
-    ensures empty { vars.new.keys ≡ [] }
-    ensures room { spare vars.old ≤ spare vars.new }
-{
-    if !vars.is_empty() {
-        vars.clear();
-    }
+    ghost invariant = { λ s. IsWhole s.nodes s.log.items s.rows.items s.restored.items (vec_capacity s.restored) s.threads };
 }
 
 impl ExplainStore {
@@ -72,7 +60,7 @@ impl ExplainStore {
             log: Vec::new(alloc),
             rows: Vec::new(alloc),
             threads: Threads::new(alloc),
-            restored: IndexSet::new(alloc),
+            restored: Vec::new(alloc),
             emptied: Emptied::new(alloc),
         }
     }
@@ -122,12 +110,22 @@ impl ExplainStore {
         self.log.len()
     }
 
+    /// The node of the removal at a place.
+    fn node_at(&self, place: usize) -> &Node
+        requires { place < length self.now.log }
+        ensures pair { slice_get (log_pairs self.now.log) place ≡ Some result.now.pair }
+        ensures by { slice_get (log_bys self.now.log) place ≡ Some result.now.by }
+        ensures reasons { length (reasons_of self.now.log place) ≡ vec_len result.now.antecedents }
+    {
+        &self.nodes[self.log[place]]
+    }
+
     /// The pair of the removal at a place.
     pub fn pair_at(&self, place: usize) -> Pair
         requires { place < length self.now.log }
         ensures { slice_get (log_pairs self.now.log) place ≡ Some result }
     {
-        self.nodes[self.log[place]].pair
+        self.node_at(place).pair
     }
 
     /// The constraint that made the removal at a place.
@@ -135,7 +133,7 @@ impl ExplainStore {
         requires { place < length self.now.log }
         ensures { slice_get (log_bys self.now.log) place ≡ Some result }
     {
-        self.nodes[self.log[place]].by
+        self.node_at(place).by
     }
 
     /// How many reasons the removal at a place has.
@@ -143,7 +141,7 @@ impl ExplainStore {
         requires { place < length self.now.log }
         ensures { result ≡ length (reasons_of self.now.log place) }
     {
-        self.nodes[self.log[place]].antecedents.len()
+        self.node_at(place).antecedents.len()
     }
 
     /// A reason of the removal at a place.
@@ -218,12 +216,20 @@ impl ExplainStore {
         ensures once { Distinct self.new.restored }
         ensures restored { (x : ℕ) → Contains self.new.restored x ↔ Contains (vars_of (lost_pairs self.old.log self.new.log)) x }
     {
-        empty_out(&mut self.restored);
+        empty_out(&mut self.rows, &mut self.restored);
         let log = self.log.as_slice();
         let own = self.threads.take(&cid);
         let first = own.first().copied().unwrap_or(0);
         let count = mark_lost(&mut self.nodes, log, &own);
-        let start = put_back(&self.nodes, log, first, count, store, &mut self.restored);
+        let start = put_back(
+            &self.nodes,
+            log,
+            first,
+            count,
+            store,
+            &mut self.rows,
+            &mut self.restored,
+        );
         forget_threads(&mut self.nodes, &mut self.threads, first, count, &cid);
         count_lost(&mut self.nodes, log, first, count);
         forget_marked(&mut self.nodes, log, first, count);

@@ -1,3 +1,2 @@
 pub mod cited
-pub mod IntervalLemmas
 pub mod PrintLemmas

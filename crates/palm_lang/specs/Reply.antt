@@ -1,14 +1,13 @@
 -- The texts of replies: each is a line with its line feed.
-use Rattle.std.specs.Prelude.{ℕ, ℤ, pos, ◌+ℤ◌, ◌≤ℤ◌, Contains, Bool, true, false, ◌&&◌, Option, Some, None, List, [], ◌∷◌, ◌++◌, map, flat_map, zip, slice_get, option_to_list, codes, decimal, if◌then◌else◌}
+use Rattle.std.specs.Prelude.{ℕ, ℤ, Bool, true, false, Option, Some, None, List, [], ◌∷◌, ◌++◌, map, flat_map, zip, slice_get, option_to_list, codes, decimal}
 use Rattle.std.specs.List.{join_by}
-use Rattle.std.specs.Ordering.{int_eq}
 use Rattle.std.specs.Fmt.{signed_decimal}
 use Rattle.palm_base.specs.declared.terms.Pair.{Pair}
 use Rattle.palm_model.specs.declared.constraint.Con.{Con}
 use Rattle.palm_model.specs.declared.constraint.Con.TheVariants.{Within}
 use Rattle.palm_book.specs.Named.{named}
 use Rattle.palm_book.specs.Book.{BookVar, Contents, name_of}
-use Rattle.palm_read.specs.Domain.{range_text, set_text}
+use Rattle.palm_read.specs.Interval.{values_text}
 pub use Rattle.palm_read.specs.Lines.{ended}
 use Rattle.palm_read.specs.Text.{shape_words}
 use Rattle.palm_read.specs.Words.{spaced}
@@ -57,26 +56,6 @@ ran_text revisions = ended (codes "ran " ++ decimal revisions)
 -- a variable's values: NAME: v v v
 abbrev pub domain_line : List ℕ → List ℤ → List ℕ
 domain_line name values = ended (name ++ codes ":" ++ flat_map (λ v. codes " " ++ signed_decimal v) values)
-
--- each value is one more than the one before it
-abbrev pub is_interval : List ℤ → Bool
-is_interval [] = false
-is_interval (v ∷ []) = true
-is_interval (v ∷ w ∷ ws) = int_eq w (v +ℤ pos 1) && is_interval (w ∷ ws)
-
--- the last value behind a first one
-abbrev pub last_of : ℤ → List ℤ → ℤ
-last_of v [] = v
-last_of v (w ∷ ws) = last_of w ws
-
--- all whole numbers from the first value to the last are among the values
-abbrev pub HasAllBetween : ℤ → List ℤ → Type 0
-HasAllBetween v vs = (w : ℤ) → v ≤ℤ w → w ≤ℤ last_of v vs → Contains (v ∷ vs) w
-
--- ascending values: LO..HI where they are all from LO to HI, and else {v,v}
-abbrev pub values_text : List ℤ → List ℕ
-values_text [] = set_text []
-values_text (v ∷ vs) = if is_interval (v ∷ vs) then range_text v (last_of v vs) else set_text (v ∷ vs)
 
 -- a variable as `list` shows it
 abbrev pub var_line : List ℕ → List ℤ → List ℕ

@@ -2,7 +2,6 @@
 //! what a certificate claims stand below and are passed on.
 #![tactic(auto)]
 
-pub mod laws;
 mod print;
 mod reply;
 mod stop;

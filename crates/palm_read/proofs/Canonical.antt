@@ -3,6 +3,7 @@ use Rattle.std.proofs.Common.{◌≡◌, ℕ, ℤ, zero, suc, ◌<◌, Bool, tru
 use Rattle.std.specs.List.{AllByRecursion}
 use Rattle.std.specs.Prelude.{◌==◌, if◌then◌else◌}
 use Rattle.std.proofs.lemmas.Bool.Decides.{Decides-eqb}
+use Rattle.std.proofs.lemmas.List.Elements.{All-from_recursion, recursion_from_All}
 use Rattle.palm_read.specs.Comparison.{OffsetForm, NoOffset, Plus, Minus, offset_of}
 use Rattle.palm_read.specs.Domain.{DomainForm, Interval, Members, set_of, count_in}
 use Rattle.palm_read.specs.Form.{ShapeForm, CompareVarForm, LinearForm, Form, DeclareForm, AddForm, SolveDbtForm}
@@ -16,6 +17,7 @@ use Rattle.palm_read.specs.declared.line.Line.TheVariants.{Var, Add, SolveDbt}
 use Rattle.palm_read.specs.declared.line.Shape.TheVariants.{CompareVar, Linear}
 use Rattle.palm_read.specs.declared.line.NameTerm.{NameTerm}
 use Rattle.palm_read.specs.declared.line.DomainText.TheVariants.{Set}
+use Rattle.palm_read.proofs.cited.AllOfBoth.{all_left, all_right}
 use Rattle.palm_read.proofs.cited.Sets.{contains_here, contains_there, rises_set, same_rising, set_member, member_set}
 
 -- a set is printed ascending and without repeats
@@ -131,12 +133,10 @@ abbrev pub AreWithin : List Bounded → Type 0
 AreWithin bs = AllByRecursion IsWithin bs
 
 pub within_left : (xs ys : List Bounded) → AreWithin (xs ++ ys) → AreWithin xs
-within_left [] ys w = tt
-within_left (x ∷ xs) ys w = (w.0, within_left xs ys w.1)
+within_left xs ys w = recursion_from_All IsWithin xs (all_left IsWithin xs ys (All-from_recursion IsWithin (xs ++ ys) w))
 
 pub within_right : (xs ys : List Bounded) → AreWithin (xs ++ ys) → AreWithin ys
-within_right [] ys w = w
-within_right (x ∷ xs) ys w = within_right xs ys w.1
+within_right xs ys w = recursion_from_All IsWithin ys (all_right IsWithin xs ys (All-from_recursion IsWithin (xs ++ ys) w))
 
 value_at : (vs : List ℤ) (z : ℤ) → AreWithin (map a_value vs) → (k : ℕ) → k < length vs → get_or vs k z ≡ z → IsWithin (a_value z)
 value_at [] z w k l e = absurd (omega arith)

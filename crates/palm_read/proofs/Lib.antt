@@ -1,6 +1,7 @@
 pub mod Canonical
 pub mod DomainValues
 pub mod HeldLemmas
+pub mod IntervalLemmas
 pub mod Items
 pub mod LongestTokens
 pub mod PrintedForms

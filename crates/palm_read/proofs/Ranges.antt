@@ -1,10 +1,11 @@
 -- Numbers in their ranges: a line in range is held as it is written, and whether it is in range is seen from what is held.
-use Rattle.std.proofs.Common.{◌≡◌, ℕ, ℤ, pos, negsuc, neg_ℤ, suc, ◌<◌, ◌≤◌, ◌≤ℤ◌, Bool, true, false, min, Option, Some, None, List, [], ◌∷◌, ◌++◌, map, option_map, get_or, All, refl, sym, ap, subst, arith, inl, inr, ◌⊎◌, unwrap_or}
+use Rattle.std.proofs.Common.{◌≡◌, ℕ, ℤ, pos, negsuc, neg_ℤ, suc, ◌<◌, ◌≤◌, ◌≤ℤ◌, Bool, true, false, min, Option, Some, None, List, [], ◌∷◌, map, option_map, All, refl, sym, ap, subst, arith, inl, inr, ◌⊎◌, unwrap_or}
 use Rattle.std.specs.Prelude.{Any, option_to_list}
-use Rattle.std.specs.List.{flat_map, Contains}
+use Rattle.std.specs.List.{flat_map}
 use Rattle.std.proofs.lemmas.Int.{ints, by_lt_z}
 use Rattle.std.proofs.lemmas.Bool.{cases_lt, le-leb, lt-leb}
-use Rattle.std.proofs.lemmas.List.Elements.{All-nil, All-cons, All-head, All-tail, All-append, All-contains, Contains-get_or}
+use Rattle.std.proofs.lemmas.List.Elements.{All-nil, All-cons, All-head, All-tail, All-append, All-contains}
+use Rattle.palm_base.proofs.cited.Members.{all_members}
 use Rattle.palm_model.specs.Limits.{IsUpTo, IsValue}
 use Rattle.palm_read.specs.Bounds.{Bounded, IsFromOneTo, IsOutside, IsWithin, a_value, up_to, from_one_to}
 use Rattle.palm_read.specs.Comparison.{offset_numbers, OffsetForm, NoOffset, Plus, Minus, offset_of}
@@ -16,6 +17,7 @@ use Rattle.palm_read.specs.Linear.{TermForm, signed, term_of}
 use Rattle.palm_read.specs.Reading.{shape_of, line_of}
 use Rattle.palm_read.specs.declared.limits.TheConstants.{NO_BUDGET}
 use Rattle.palm_read.specs.Reader.Held.{held, counted, held_value, held_domain, held_offset, held_term, held_target, held_shape, held_form, held_line}
+use Rattle.palm_read.proofs.cited.AllOfBoth.{all_left, all_right}
 use Rattle.palm_read.proofs.cited.Sets.{set_member, member_set}
 
 -- ---- a number is within its bounds or outside
@@ -118,9 +120,6 @@ in_values [] h = All-nil IsWithin
 in_values (v ∷ vs) h =
     All-cons IsWithin (a_value v) (map a_value vs) (in_value v (All-head IsValue (held_value v) (map held_value vs) h)) (in_values vs (All-tail IsValue (held_value v) (map held_value vs) h))
 
-all_members : {X : Type 0} (P : X → Type 0) (xs : List X) → ((x : X) → Contains xs x → P x) → All P xs
-all_members P xs h = λ k d l. h (get_or xs k d) (Contains-get_or xs k d l)
-
 set_in : (vs : List ℤ) → All IsValue vs → All IsValue (set_of vs)
 set_in vs h = all_members IsValue (set_of vs) (λ x c. All-contains IsValue vs x h (set_member vs x c))
 
@@ -129,15 +128,6 @@ in_set vs h = all_members IsValue vs (λ x c. All-contains IsValue (set_of vs) x
 
 -- ---- rows
 
-append_left : (xs ys : List Bounded) → All IsWithin (xs ++ ys) → All IsWithin xs
-append_left [] ys w = All-nil IsWithin
-append_left (x ∷ xs) ys w =
-    All-cons IsWithin x xs (All-head IsWithin x (xs ++ ys) w) (append_left xs ys (All-tail IsWithin x (xs ++ ys) w))
-
-append_right : (xs ys : List Bounded) → All IsWithin (xs ++ ys) → All IsWithin ys
-append_right [] ys w = w
-append_right (x ∷ xs) ys w = append_right xs ys (All-tail IsWithin x (xs ++ ys) w)
-
 same_rows : (rows : List (List ℤ)) → All (All IsValue) rows → map (map held_value) rows ≡ rows
 same_rows [] h = refl
 same_rows (r ∷ rs) h = rw (same_values r (All-head (All IsValue) r rs h), same_rows rs (All-tail (All IsValue) r rs h)) refl
@@ -145,8 +135,8 @@ same_rows (r ∷ rs) h = rw (same_values r (All-head (All IsValue) r rs h), same
 rows_in : (rows : List (List ℤ)) → All IsWithin (flat_map (map a_value) rows) → All (All IsValue) rows
 rows_in [] w = All-nil (All IsValue)
 rows_in (r ∷ rs) w =
-    All-cons (All IsValue) r rs (values_in r (append_left (map a_value r) (flat_map (map a_value) rs) w))
-    (rows_in rs (append_right (map a_value r) (flat_map (map a_value) rs) w))
+    All-cons (All IsValue) r rs (values_in r (all_left IsWithin (map a_value r) (flat_map (map a_value) rs) w))
+    (rows_in rs (all_right IsWithin (map a_value r) (flat_map (map a_value) rs) w))
 
 in_rows : (rows : List (List ℤ)) → All (All IsValue) (map (map held_value) rows) → All IsWithin (flat_map (map a_value) rows)
 in_rows [] h = All-nil IsWithin
@@ -186,8 +176,8 @@ same_terms (t ∷ ts) h =
 terms_in : (ts : List TermForm) → All IsWithin (flat_map term_numbers ts) → All (λ t. IsUpTo 100000 t.factor) (map term_of ts)
 terms_in [] w = All-nil (λ t. IsUpTo 100000 t.factor)
 terms_in (t ∷ ts) w =
-    let here = append_left (term_numbers t) (flat_map term_numbers ts) w in
-    let there = append_right (term_numbers t) (flat_map term_numbers ts) w in
+    let here = all_left IsWithin (term_numbers t) (flat_map term_numbers ts) w in
+    let there = all_right IsWithin (term_numbers t) (flat_map term_numbers ts) w in
     All-cons (λ t. IsUpTo 100000 t.factor) (term_of t) (map term_of ts) (factor_in t.minus t.factor here) (terms_in ts there)
 
 in_terms : (ts : List TermForm) → All (λ t. IsUpTo 100000 t.factor) (map term_of (map held_term ts)) → All IsWithin (flat_map term_numbers ts)
@@ -246,8 +236,8 @@ shape_in : (s : ShapeForm) → All IsWithin (shape_numbers s) → IsShapeInRange
 shape_in (CompareVarForm left op right k) w = offset_in k w
 shape_in (CompareConstForm left op v) w = value_in v (one_number (a_value v) w)
 shape_in (LinearForm ts op b) w =
-    let bound = one_number (a_bound b) (append_right (flat_map term_numbers ts) (a_bound b ∷ []) w) in
-    (terms_in ts (append_left (flat_map term_numbers ts) (a_bound b ∷ []) w), record { above = bound.0; below = bound.1 })
+    let bound = one_number (a_bound b) (all_right IsWithin (flat_map term_numbers ts) (a_bound b ∷ []) w) in
+    (terms_in ts (all_left IsWithin (flat_map term_numbers ts) (a_bound b ∷ []) w), record { above = bound.0; below = bound.1 })
 shape_in (TableForm vars rows) w = rows_in rows w
 shape_in (ElementForm outcome index entries) w = values_in entries w
 shape_in (CountForm v vars op t) w =

@@ -1,6 +1,8 @@
 -- Lemmas that other crates cite.
+pub mod AllOfBoth
 pub mod Begins
 pub mod Cutting
+pub mod DomainsWith
 pub mod Front
 pub mod KnownLimits
 pub mod Layouts

@@ -7,6 +7,7 @@ pub mod Domain
 pub mod Element
 pub mod Form
 pub mod Grammar
+pub mod Interval
 pub mod Limits
 pub mod Linear
 pub mod Lines

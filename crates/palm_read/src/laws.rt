@@ -1,16 +1,18 @@
 //! Laws of the language. A text has lines in one way, a token is the longest that fits, a domain has the values that it
-//! writes, no line has two forms, two readings or two refusals, and a line that is printed reads back as it was.
-ghost use Rattle.std.specs.Prelude.{◌≡◌, ◌≢◌, ◌⊎◌, ◌↔◌, ◌≤ℤ◌, ℕ, ℤ, pos, true, Some, List, [], All, Any, Contains, drop, flat_map, map};
+//! writes, values are printed as one interval where they have no gap, no line has two forms, two readings or two refusals,
+//! and a line that is printed reads back as it was.
+ghost use Rattle.std.specs.Prelude.{◌≡◌, ◌≢◌, ◌⊎◌, ◌↔◌, ◌≤ℤ◌, ℕ, ℤ, pos, true, Some, List, [], ◌∷◌, All, Any, Contains, drop, flat_map, map};
 ghost use Rattle.palm_base.specs.Ascending.{Ascends};
 ghost use Rattle.palm_read.specs.declared.tokens.Token.{Token};
 ghost use Rattle.palm_read.specs.Bounds.{IsOutside, IsWithin};
 ghost use Rattle.palm_read.specs.Bytes.{is_plain};
-ghost use Rattle.palm_read.specs.Domain.{Interval, Members, domain_of, set_of, values_in};
+ghost use Rattle.palm_read.specs.Domain.{Interval, Members, domain_of, range_text, set_of, set_text, values_in};
 ghost use Rattle.palm_read.specs.declared.line.Line.{Line};
 ghost use Rattle.palm_read.specs.declared.parse.LineError.{LineError};
 ghost use Rattle.palm_read.specs.declared.parse.LineError.TheVariants.{NoMemory};
 ghost use Rattle.palm_read.specs.Form.{Form};
 ghost use Rattle.palm_read.specs.Grammar.{IsForm};
+ghost use Rattle.palm_read.specs.Interval.{HasAllBetween, domain_with, last_of, values_text};
 ghost use Rattle.palm_read.specs.Limits.{IsBeyond, IsInRange, numbers};
 ghost use Rattle.palm_read.specs.Lines.{AreLines, ended};
 ghost use Rattle.palm_read.specs.Linear.{TermForm, term_of};
@@ -56,6 +58,14 @@ pub fn set_of_what_is_written()
 pub fn range_of_all_between()
     ensures { (low high v : ℤ) → low ≤ℤ high
         → Contains (values_in (domain_of (Interval low high))) v ↔ ((low ≤ℤ v) × (v ≤ℤ high)) }
+{}
+
+/// Ascending values print as `LO..HI` exactly where they are all whole numbers from the first to the last, and else in
+/// braces. The domain that is printed has these values.
+pub fn interval_printed_as_one()
+    ensures interval { (v : ℤ) (vs : List ℤ) → Ascends (v ∷ vs) → HasAllBetween v vs → values_text (v ∷ vs) ≡ range_text v (last_of v vs) }
+    ensures set { (v : ℤ) (vs : List ℤ) → Ascends (v ∷ vs) → (HasAllBetween v vs → ⊥) → values_text (v ∷ vs) ≡ set_text (v ∷ vs) }
+    ensures same { (values : List ℤ) → values_in (domain_with values) ≡ values }
 {}
 
 /// Numbers are in range as they are written: where each number of the form is from its least to its greatest, and not where

@@ -2,6 +2,7 @@
 #![tactic(auto)]
 
 mod amounts;
+mod interval;
 pub mod laws;
 mod limits;
 mod line;
@@ -12,6 +13,7 @@ mod scan;
 mod tokens;
 
 pub use amounts::beyond;
+pub use interval::is_interval;
 pub use limits::{
     GREATEST_NUMBER, GREATEST_TABU, MOST_LINE_BYTES, MOST_NAME_BYTES, MOST_VALUES, NO_BUDGET,
 };

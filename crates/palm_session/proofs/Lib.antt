@@ -15,6 +15,8 @@ pub mod HeldObjects
 pub mod LawsOfDomains
 pub mod LawsOfLines
 pub mod Least
+pub mod Led
+pub mod LedTexts
 pub mod Logging
 pub mod Made
 pub mod OneEmpty

@@ -4,7 +4,7 @@ use Rattle.std.proofs.lemmas.List.{get_or-set_same, get_or-set_other, length-set
 use Rattle.std.proofs.lemmas.Option.{slice_get_within, get_or_from_slice_get, slice_get_read}
 use Rattle.palm_base.specs.Tells.{Tells}
 use Rattle.palm_base.proofs.cited.Members.{nat_known, member_nil, member_here, member_there, member_cases, member_same}
-use Rattle.palm_session.specs.Objects.{ObjectsView, numbered, numbered_from, without_number, chosen_without, numbers_from, number_at, objects_at, ArePlaces}
+use Rattle.palm_session.specs.Objects.{ObjectsView, LendsChosen, numbered, numbered_from, without_number, chosen_without, without_object, numbers_from, numbers_of, number_at, objects_at, all_placed, object_at, with_object, chosen_object, ArePlaces}
 
 -- ---- all of them
 
@@ -112,8 +112,8 @@ there_within k places m =
     omega (arith, lt, t.number)
 
 -- what is seen, by its parts
-seen : (ns ms : List ℕ) (a b : Option ℕ) → ns ≡ ms → a ≡ b → ◌≡◌ {A = ObjectsView} (record { numbers = ns; chosen = a }) (record { numbers = ms; chosen = b })
-seen ns ms a b e f = cc
+seen : {X : Type 0} (ps qs : List (Option X)) (a b : Option ℕ) → ps ≡ qs → a ≡ b → ◌≡◌ {A = ObjectsView X} (record { places = ps; chosen = a }) (record { places = qs; chosen = b })
+seen ps qs a b e f = cc
 
 some_number : {X : Type 0} (c : ℕ) (o : Option X) → is_some (number_at c o) ≡ is_some o
 some_number c None = refl
@@ -126,40 +126,73 @@ first_kept (p ∷ places) zero None first same = refl
 first_kept (p ∷ places) zero (Some x) first same = cc
 first_kept (p ∷ places) (suc c) w first same = first
 
-module _ {X : Type 0} (places : List (Option X)) (c : ℕ) (v : ObjectsView) (is : ArePlaces places c) (view : objects_at places c ≡ v) where
-  numbers_seen : numbers_from 0 places ≡ v.numbers
-  numbers_seen = ap (λ (w : ObjectsView). w.numbers) view
+-- ---- the chosen object
+
+module _ {X : Type 0} where
+  object_there : (c : ℕ) (places : List (Option X)) (o : Option X) → get_or places c None ≡ o → object_at (number_at c o) places ≡ o
+  object_there c places None at = refl
+  object_there c places (Some x) at = at
+
+  -- nothing where there is nothing
+  none_set : (places : List (Option X)) (c : ℕ) → get_or places c None ≡ None → set places c None ≡ places
+  none_set [] c at = refl
+  none_set (p ∷ places) zero at = ap (λ (q : Option X). q ∷ places) (sym at)
+  none_set (p ∷ places) (suc c) at = ap (λ (ps : List (Option X)). p ∷ ps) (none_set places c at)
+
+  lent_places : (places : List (Option X)) (c : ℕ) (o w : Option X) → get_or places c None ≡ o → is_some w ≡ is_some o → set places c w ≡ with_object (number_at c o) w places
+  lent_places places c None None at same = none_set places c at
+  lent_places places c None (Some x) at same = cc
+  lent_places places c (Some y) w at same = refl
+
+module _ {X : Type 0} (places : List (Option X)) (c : ℕ) (v : ObjectsView X) (is : ArePlaces places c) (view : objects_at places c ≡ v) where
+  numbers_seen : numbers_from 0 places ≡ numbers_of v.places
+  numbers_seen = ap (λ (w : ObjectsView X). numbers_of w.places) view
 
   chosen_seen : number_at c (get_or places c None) ≡ v.chosen
-  chosen_seen = ap (λ (w : ObjectsView). w.chosen) view
+  chosen_seen = ap (λ (w : ObjectsView X). w.chosen) view
 
   -- what was read at the chosen place stands there, whatever the default
   stands : (u : Option X) → u ≡ get_or places c u → get_or places c None ≡ u
   stands u there = get_or_from_slice_get places c u None (slice_get_read places (length places) c u refl is.within there)
 
   -- an object that is there may be chosen
-  pub may_choose : (k : ℕ) → Contains v.numbers k → ArePlaces places k
+  pub may_choose : (k : ℕ) → Contains (numbers_of v.places) k → ArePlaces places k
   may_choose k there = record { first = is.first; within = there_within k places (subst (λ (ns : List ℕ). Contains ns k) (sym numbers_seen) there) }
 
-  pub chosen_objects : (k : ℕ) → Contains v.numbers k → objects_at places k ≡ record { numbers = v.numbers; chosen = Some k }
+  pub chosen_objects : (k : ℕ) → Contains (numbers_of v.places) k → objects_at places k ≡ record { places = v.places; chosen = Some k }
   chosen_objects k there =
       let t = numbered_there 0 k places (subst (λ (ns : List ℕ). Contains ns k) (sym numbers_seen) there) in
       let same : t.place ≡ k = omega (arith, t.number) in
       let at : get_or places k None ≡ Some t.object = subst (λ (i : ℕ). get_or places i None ≡ Some t.object) same (get_or_from_slice_get places t.place (Some t.object) None t.at) in
-      seen (numbers_from 0 places) v.numbers (number_at k (get_or places k None)) (Some k) numbers_seen (ap (number_at k) at)
+      seen places v.places (number_at k (get_or places k None)) (Some k) (ap (λ (w : ObjectsView X). w.places) view) (ap (number_at k) at)
 
-  -- the object at the chosen place is changed
-  pub settled_objects : (u w : Option X) → u ≡ get_or places c u → is_some w ≡ is_some u → objects_at (set places c w) c ≡ v
+  -- the object at the chosen place is lent
+  pub settled_objects : (u w : Option X) → u ≡ get_or places c u → is_some w ≡ is_some u → LendsChosen v (objects_at (set places c w) c)
   settled_objects u w there same =
       let e : is_some w ≡ is_some (get_or places c None) = same ∙ ap (λ (o : Option X). is_some o) (sym (stands u there)) in
       let at : get_or (set places c w) c None ≡ w = get_or-set_same places c w None is.within in
-      let chosen : number_at c (get_or (set places c w) c None) ≡ v.chosen = ap (number_at c) at ∙ alike_at c (get_or places c None) w e ∙ chosen_seen in
-      seen (numbers_from 0 (set places c w)) v.numbers (number_at c (get_or (set places c w) c None)) v.chosen (alike_numbered 0 places c w e ∙ numbers_seen) chosen
+      let last : object_at (number_at c (get_or (set places c w) c None)) (set places c w) ≡ w = object_there c (set places c w) (get_or (set places c w) c None) refl ∙ at in
+      let lends : LendsChosen (objects_at places c) (objects_at (set places c w) c) = record {
+        numbers = alike_numbered 0 places c w e;
+        chosen = ap (number_at c) at ∙ alike_at c (get_or places c None) w e;
+        places = lent_places places c (get_or places c None) w refl e
+            ∙ ap (λ (o : Option X). with_object (number_at c (get_or places c None)) o places) (sym last);
+      } in
+      subst (λ (z : ObjectsView X). LendsChosen z (objects_at (set places c w) c)) view lends
 
   -- whether one is chosen is told by its place
   pub chosen_told : (u : Option X) → u ≡ get_or places c u → is_some v.chosen ≡ is_some u
   chosen_told u there =
       ap (λ (o : Option ℕ). is_some o) (sym chosen_seen) ∙ some_number c (get_or places c None) ∙ ap (λ (o : Option X). is_some o) (stands u there)
+
+  -- the chosen object is what was read there
+  pub chosen_first : (u : Option X) → u ≡ get_or places c u → chosen_object v ≡ u
+  chosen_first u there =
+      ap (λ (z : ObjectsView X). chosen_object z) (sym view) ∙ object_there c places (get_or places c None) refl ∙ stands u there
+
+  -- and after the call what was given back
+  pub chosen_last : (w : Option X) → chosen_object (objects_at (set places c w) c) ≡ w
+  chosen_last w = object_there c (set places c w) (get_or (set places c w) c None) refl ∙ get_or-set_same places c w None is.within
 
   -- the places are as before but for the object at the chosen one
   pub settled_places : (u w : Option X) → u ≡ get_or places c u → is_some w ≡ is_some u → ArePlaces (set places c w) c
@@ -168,32 +201,35 @@ module _ {X : Type 0} (places : List (Option X)) (c : ℕ) (v : ObjectsView) (is
       record { first = first_kept places c w is.first (same ∙ ap (λ (o : Option X). is_some o) (sym (stands u there))); within = omega (arith, long, is.within) }
 
   -- the object with a number is dropped
-  pub dropped_objects : (k : ℕ) → objects_at (set places k None) c ≡ record { numbers = without_number k v.numbers; chosen = chosen_without k v.chosen }
+  pub dropped_objects : (k : ℕ) → objects_at (set places k None) c ≡ without_object k v
   dropped_objects k =
-      seen (numbers_from 0 (set places k None)) (without_number k v.numbers) (number_at c (get_or (set places k None) c None)) (chosen_without k v.chosen)
-      (none_numbered 0 k places k (omega arith) ∙ ap (λ (ns : List ℕ). without_number k ns) numbers_seen)
+      seen (set places k None) (set v.places k None) (number_at c (get_or (set places k None) c None)) (chosen_without k v.chosen)
+      (ap (λ (w : ObjectsView X). set w.places k None) view)
       (none_chosen places k c is.within ∙ ap (λ (o : Option ℕ). chosen_without k o) chosen_seen)
 
--- whether there is an object is told by its place
-module _ {X : Type 0} (places : List (Option X)) (c : ℕ) (v : ObjectsView) (view : objects_at places c ≡ v) (k : ℕ) where
-  there_seen : Contains v.numbers k → Contains (numbers_from 0 places) k
-  there_seen there = subst (λ (w : ObjectsView). Contains w.numbers k) (sym view) there
+  pub dropped_numbers : (k : ℕ) → numbers_of (set places k None) ≡ without_number k (numbers_of v.places)
+  dropped_numbers k = none_numbered 0 k places k (omega arith) ∙ ap (λ (ns : List ℕ). without_number k ns) numbers_seen
 
-  pub beyond_absent : length places ≤ k → Contains v.numbers k → ⊥
+-- whether there is an object is told by its place
+module _ {X : Type 0} (places : List (Option X)) (c : ℕ) (v : ObjectsView X) (view : objects_at places c ≡ v) (k : ℕ) where
+  there_seen : Contains (numbers_of v.places) k → Contains (numbers_from 0 places) k
+  there_seen there = subst (λ (w : ObjectsView X). Contains (numbers_of w.places) k) (sym view) there
+
+  pub beyond_absent : length places ≤ k → Contains (numbers_of v.places) k → ⊥
   beyond_absent beyond there = omega (arith, beyond, there_within k places (there_seen there))
 
-  empty_absent : get_or places k None ≡ None → Contains v.numbers k → ⊥
+  empty_absent : get_or places k None ≡ None → Contains (numbers_of v.places) k → ⊥
   empty_absent none there =
       let t = numbered_there 0 k places (there_seen there) in
       let same : t.place ≡ k = omega (arith, t.number) in
       let at : get_or places k None ≡ Some t.object = subst (λ (i : ℕ). get_or places i None ≡ Some t.object) same (get_or_from_slice_get places t.place (Some t.object) None t.at) in
       cc
 
-  pub told_there : (o : Option X) (b : Bool) → k < length places → o ≡ get_or places k o → b ≡ is_some o → Tells b (Contains v.numbers k)
-  told_there None b lt at e = subst (λ (t : Bool). Tells t (Contains v.numbers k)) (sym e) (empty_absent (sym at))
+  pub told_there : (o : Option X) (b : Bool) → k < length places → o ≡ get_or places k o → b ≡ is_some o → Tells b (Contains (numbers_of v.places) k)
+  told_there None b lt at e = subst (λ (t : Bool). Tells t (Contains (numbers_of v.places) k)) (sym e) (empty_absent (sym at))
   told_there (Some x) b lt at e =
       let there = there_numbered 0 k places k x (omega arith) (slice_get_read places (length places) k (Some x) refl lt at) in
-      subst (λ (t : Bool). Tells t (Contains v.numbers k)) (sym e) (subst (λ (w : ObjectsView). Contains w.numbers k) view there)
+      subst (λ (t : Bool). Tells t (Contains (numbers_of v.places) k)) (sym e) (subst (λ (w : ObjectsView X). Contains (numbers_of w.places) k) view there)
 
 -- ---- all of them
 
@@ -201,17 +237,14 @@ module _ {X : Type 0} (places : List (Option X)) (xs : List X) (is : places ≡ 
   pub all_places : ArePlaces places 0
   all_places = record { first = ap (λ (ps : List (Option X)). get_or ps 0 None) is; within = subst (λ (ps : List (Option X)). 0 < length ps) (sym is) (omega arith) }
 
-  pub all_objects : objects_at places 0 ≡ record { numbers = numbered (length xs); chosen = None }
-  all_objects =
-      let first : number_at 0 (get_or places 0 None) ≡ None = ap (λ (ps : List (Option X)). number_at 0 (get_or ps 0 None)) is in
-      seen (numbers_from 0 places) (numbered (length xs)) (number_at 0 (get_or places 0 None)) None
-      (ap (λ (ps : List (Option X)). numbers_from 0 ps) is ∙ all_numbered 1 xs) first
+  pub all_objects : objects_at places 0 ≡ all_placed xs
+  all_objects = ap (λ (ps : List (Option X)). objects_at ps 0) is
 
 -- where none is still to come, all of them are in their places
 pub all_in_places : {X : Type 0} (places : List (Option X)) (more xs : List X) (n : ℕ) → places ++ map Some more ≡ None ∷ map Some xs → n ≡ 0 → n ≡ length more → places ≡ None ∷ map Some xs
 all_in_places places [] xs n e zero_left long = sym (append-nil places) ∙ e
 all_in_places places (x ∷ more) xs n e zero_left long = absurd (omega (arith, zero_left, long))
 
--- the same, of a list whose length is kept beside it
-pub all_seen : {X : Type 0} (places : List (Option X)) (xs : List X) (n : ℕ) → n ≡ length xs → places ≡ None ∷ map Some xs → objects_at places 0 ≡ record { numbers = numbered n; chosen = None }
-all_seen places xs n long is = all_objects places xs is ∙ seen (numbered (length xs)) (numbered n) None None (ap numbered (sym long)) refl
+-- their numbers
+pub placed_numbers : {X : Type 0} (xs : List X) (n : ℕ) → n ≡ length xs → numbers_of (all_placed xs).places ≡ numbered n
+placed_numbers xs n long = all_numbered 1 xs ∙ ap numbered (sym long)

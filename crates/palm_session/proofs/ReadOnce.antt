@@ -20,3 +20,7 @@ no_refusal error refusal some none = let e : refusal_of NoMemory ≡ Some refusa
 -- a line that cannot be read does not end a session
 pub goes_on_refused : (bytes : List ℕ) (error : LineError) (refusal : Refusal) → IsRefusedBy bytes error → refusal_of error ≡ Some refusal → GoesOn bytes
 goes_on_refused bytes error refusal q some ends = no_refusal error refusal some (read_not_refused bytes Quit error ends q)
+
+-- a line that was read is not refused
+pub read_or_refused : (bytes : List ℕ) (line : Line) (error : LineError) (refusal : Refusal) → IsRead bytes line → IsRefusedBy bytes error → refusal_of error ≡ Some refusal → ⊥
+read_or_refused bytes line error refusal read q some = no_refusal error refusal some (read_not_refused bytes line error read q)

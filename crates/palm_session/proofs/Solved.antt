@@ -17,8 +17,8 @@ use Rattle.palm_lang.specs.declared.reply.Lead.TheVariants.{NoSolution as NoSolu
 use Rattle.palm_session.specs.declared.reply.Reply.TheVariants.{Found as FoundReply, Users, Spent as SpentReply}
 use Rattle.palm_session.specs.declared.request.Procedure.{Procedure}
 use Rattle.palm_session.specs.declared.request.Procedure.TheVariants.{Dbt, Repair}
-use Rattle.palm_session.specs.Effects.{SearchesIn, SearchesByDbt, SearchesByRepair}
-use Rattle.palm_session.specs.Objects.{ObjectsView}
+use Rattle.palm_session.specs.Effects.{SearchesIn, SearchesByDbt, SearchesByRepair, with_search}
+use Rattle.palm_session.specs.Objects.{ObjectsView, LendsChosen}
 use Rattle.palm_session.specs.Serving.{DeskView, desk_of, HasRepairedIn, HasRun, HasSearched}
 use Rattle.palm_session.specs.State.{SessionState, IsHeld}
 use Rattle.palm_session.proofs.Searching.{has_end, found_length, none_active}
@@ -75,13 +75,18 @@ pub repair_searches : (s : SessionState) (tabu budget : ℕ) (turns : List Turn)
 repair_searches s tabu budget turns e answer h =
     let searches : SearchesByRepair s tabu budget turns (end_of answer) (Some h.dropped) e = record { count = h.dropped; repairs = h.repairs; told = refl } in searches
 
+-- lent objects have the same numbers
+pub lent_state : {G O : Type 0} (book : Contents) (engine after : View) (accepted : ℕ) (paused : Bool) (guides others : ObjectsView G) (orders more : ObjectsView O) (search done : SearchView)
+    → LendsChosen guides others → LendsChosen orders more
+    → (desk_of book after accepted paused others more done).state ≡ with_search (desk_of book engine accepted paused guides orders search).state done.journal after.state
+lent_state book engine after accepted paused guides others orders more search done one two =
+    rw (one.numbers, one.chosen, two.numbers, two.chosen) refl
+
 -- with what a desk holds
-pub searched_desk : (book : Contents) (engine after : View) (accepted : ℕ) (paused : Bool) (guides orders others more : ObjectsView) (search done : SearchView) (d : DeskView) (by : Procedure) (end : SearchEnd) (dropped : Option ℕ)
-    → desk_of book engine accepted paused guides orders search ≡ d → others ≡ guides → more ≡ orders
+pub searched_desk : {G O : Type 0} (book : Contents) (engine after : View) (accepted : ℕ) (paused : Bool) (guides others : ObjectsView G) (orders more : ObjectsView O) (search done : SearchView) (d : DeskView G O) (by : Procedure) (end : SearchEnd) (dropped : Option ℕ)
+    → desk_of book engine accepted paused guides orders search ≡ d → LendsChosen guides others → LendsChosen orders more
     → SearchesIn (desk_of book engine accepted paused guides orders search).state by done.journal end dropped after.state
     → HasRun d.state by end dropped (desk_of book after accepted paused others more done).state
-searched_desk book engine after accepted paused guides orders others more search done d by end dropped is same_guides same_orders searches =
-    subst (λ (z : DeskView). HasRun z.state by end dropped (desk_of book after accepted paused others more done).state) is
-    (subst (λ (a : ObjectsView). HasRun (desk_of book engine accepted paused guides orders search).state by end dropped (desk_of book after accepted paused a more done).state) (sym same_guides)
-    (subst (λ (a : ObjectsView). HasRun (desk_of book engine accepted paused guides orders search).state by end dropped (desk_of book after accepted paused guides a done).state) (sym same_orders)
-    (record { turns = done.journal; engine = after.state; searches = searches; after = refl })))
+searched_desk {G = G} {O = O} book engine after accepted paused guides others orders more search done d by end dropped is one two searches =
+    subst (λ (z : DeskView G O). HasRun z.state by end dropped (desk_of book after accepted paused others more done).state) is
+    (record { turns = done.journal; engine = after.state; searches = searches; after = lent_state book engine after accepted paused guides others orders more search done one two })

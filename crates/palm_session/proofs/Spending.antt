@@ -3,7 +3,7 @@ use Rattle.std.proofs.Common.{◌≡◌, ℕ, ◌+◌, ◌-◌, ◌≤◌, inl, 
 use Rattle.palm_session.specs.Serving.{DeskView, Spends}
 
 -- one after another
-pub spends_more : (a b c : DeskView) (i j k : ℕ) → Spends a b i j → Spends b c j k → Spends a c i k
+pub spends_more : {G O : Type 0} (a b c : DeskView G O) (i j k : ℕ) → Spends a b i j → Spends b c j k → Spends a c i k
 spends_more a b c i j k one two = record {
   later = omega (arith, one.later, two.later);
   checks = elim one.checks [

@@ -1,6 +1,7 @@
 -- What feeding bytes to a session does.
 use Rattle.std.specs.Prelude.{◌≡◌, ℕ, Bool, true, false, List, [], ◌∷◌, ◌++◌, ◌⊎◌, All, map, flat_map, ◌≤◌, ◌+◌, min, take, drop, length, Option, Result, Ok, Err}
 use Rattle.palm_base.specs.Streams.{Appended}
+use Rattle.palm_session.specs.Objects.{HeldObjects}
 use Rattle.palm_session.specs.Serving.{DeskView}
 use Rattle.palm_session.specs.State.{SessionState, IsState}
 use Rattle.palm_session.specs.Answers.{Answers}
@@ -20,20 +21,21 @@ pub record IsUnfinished (bytes : List ℕ) : Type 0 where
   pub few : length bytes ≤ MOST_KEPT_BYTES
   pub unbroken : HasNoFeed bytes
 
--- what is seen of a session: what it holds, how often its engine has asked for support, the bytes that it keeps of an
--- unfinished line, and whether it is over
-pub record View : Type 0 where
+-- what is seen of a session: what it holds, how often its engine has asked for support, the objects themselves, the bytes that
+-- it keeps of an unfinished line, and whether it is over
+pub record View (G O : Type 0) : Type 0 where
   pub state : SessionState
   pub checks : ℕ
+  pub objects : HeldObjects G O
   pub unfinished : List ℕ
   pub over : Bool
 
 -- what is seen of the parts of a session
-abbrev pub view_of : DeskView → List ℕ → Bool → View
-view_of desk unfinished over = record { state = desk.state; checks = desk.checks; unfinished = unfinished; over = over }
+abbrev pub view_of : {G O : Type 0} → DeskView G O → List ℕ → Bool → View G O
+view_of desk unfinished over = record { state = desk.state; checks = desk.checks; objects = desk.objects; unfinished = unfinished; over = over }
 
 -- what holds of a session at every moment
-pub record IsSession (v : View) : Type 0 where
+pub record IsSession {G O : Type 0} (v : View G O) : Type 0 where
   pub unfinished : IsUnfinished v.unfinished
   pub state : v.over ≡ false → IsState v.state
   pub counted : v.checks ≤ LAST_COUNT
@@ -112,13 +114,13 @@ pub record KeepsRest (before : SessionState) (text : List ℕ) (was now : Option
   pub kept : unfinished ≡ take MOST_KEPT_BYTES rest
 
 -- what feeding answers, before it is noted whether the session is over
-abbrev pub FeedsText : SessionState → List ℕ → Option (List ℕ) → Option (List ℕ) → View → ℕ → Result Going Stop → Type 0
+abbrev pub FeedsText : {G O : Type 0} → SessionState → List ℕ → Option (List ℕ) → Option (List ℕ) → View G O → ℕ → Result Going Stop → Type 0
 FeedsText before text was now after asked (Ok More) = KeepsRest before text was now after.unfinished after.state asked
 FeedsText before text was now after asked (Ok Quit) = FeedsEnd before text was now after.state asked
 FeedsText before text was now after asked (Err stop) = FeedsPart stop before text was now
 
 -- what feeding answers, while support is asked for so often
-abbrev pub Feeds : View → List ℕ → Option (List ℕ) → Option (List ℕ) → View → ℕ → Result Going Stop → Type 0
+abbrev pub Feeds : {G O : Type 0} → View G O → List ℕ → Option (List ℕ) → Option (List ℕ) → View G O → ℕ → Result Going Stop → Type 0
 Feeds before piece was now after asked (Ok More) =
     KeepsRest before.state (before.unfinished ++ piece) was now after.unfinished after.state asked × (after.over ≡ false)
 Feeds before piece was now after asked (Ok Quit) = FeedsEnd before.state (before.unfinished ++ piece) was now after.state asked × (after.over ≡ true)
@@ -144,9 +146,9 @@ FinishesTo before line was now after asked (Ok _) = FinishesAll before line was 
 FinishesTo before line was now after asked (Err stop) = FinishesPart stop before line was now
 
 -- what finishing answers, while support is asked for so often
-abbrev pub Finishes : {T : Type 0} → View → Option (List ℕ) → Option (List ℕ) → View → ℕ → Result T Stop → Type 0
+abbrev pub Finishes : {G O T : Type 0} → View G O → Option (List ℕ) → Option (List ℕ) → View G O → ℕ → Result T Stop → Type 0
 Finishes before was now after asked result = FinishesTo before.state before.unfinished was now after.state asked result × (after.over ≡ true)
 
 -- how the engine's count of questions rose while support was asked for so often
-abbrev pub RaisesChecks : View → View → ℕ → Type 0
+abbrev pub RaisesChecks : {G O : Type 0} → View G O → View G O → ℕ → Type 0
 RaisesChecks before after asked = after.checks ≡ min (before.checks + asked) LAST_COUNT

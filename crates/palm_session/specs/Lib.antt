@@ -2,6 +2,7 @@ pub mod Answers
 pub mod Asking
 pub mod Effects
 pub mod Feeding
+pub mod Led
 pub mod Logged
 pub mod Objects
 pub mod Refusals

@@ -13,7 +13,7 @@ use Rattle.palm_repair.specs.declared.answer.RepairAnswer.{RepairAnswer}
 use Rattle.palm_book.specs.Book.{Contents}
 use Rattle.palm_lang.specs.Reply.{fixed_text}
 use Rattle.palm_lang.specs.declared.reply.Fixed.TheVariants.{Done, Bye}
-use Rattle.palm_session.specs.Objects.{ObjectsView}
+use Rattle.palm_session.specs.Objects.{ObjectsView, HeldObjects, numbers_of}
 use Rattle.palm_session.specs.State.{SessionState, fresh}
 use Rattle.palm_session.specs.declared.going.Going.{Going}
 use Rattle.palm_session.specs.declared.going.Going.TheVariants.{More, Quit}
@@ -32,15 +32,16 @@ use Rattle.palm_session.specs.Answers.{Accepts, Contradicts, IsAnswer, Says, Wai
 use Rattle.palm_session.specs.ReplyText.{reply_text, ReplyFits}
 use Rattle.palm_session.specs.Requests.{CanAsk, HasTabu}
 
--- what a desk holds, and how often its engine has asked for support
-pub record DeskView : Type 0 where
+-- what a desk holds, how often its engine has asked for support, and the objects themselves
+pub record DeskView (G O : Type 0) : Type 0 where
   pub state : SessionState
   pub checks : ℕ
+  pub objects : HeldObjects G O
 
 -- what is seen of the parts of a desk
-abbrev pub desk_of : Contents → View → ℕ → Bool → ObjectsView → ObjectsView → SearchView → DeskView
+abbrev pub desk_of : {G O : Type 0} → Contents → View → ℕ → Bool → ObjectsView G → ObjectsView O → SearchView → DeskView G O
 desk_of book engine accepted paused guides orders search = record {
-  state = record (fresh guides.numbers orders.numbers) {
+  state = record (fresh (numbers_of guides.places) (numbers_of orders.places)) {
     book = book;
     accepted = accepted;
     paused = paused;
@@ -50,12 +51,13 @@ desk_of book engine accepted paused guides orders search = record {
     engine = engine.state;
   };
   checks = engine.checks;
+  objects = record { guides = guides; orders = orders };
 }
 
 -- ---- questions
 
 -- both counts of questions stay, or rise by as much, unless the engine's stands at its end
-pub record Spends (before after : DeskView) (was now : ℕ) : Type 0 where
+pub record Spends {G O : Type 0} (before after : DeskView G O) (was now : ℕ) : Type 0 where
   pub later : was ≤ now
   pub checks : ((now ≡ was) × (after.checks ≡ before.checks)) ⊎ (after.checks ≡ min (before.checks + (now - was)) LAST_COUNT)
 

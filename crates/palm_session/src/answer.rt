@@ -1,9 +1,12 @@
 //! Answering one line.
 ghost use Rattle.std.specs.Prelude.{◌-◌, IfOk, OnOk};
+ghost use Rattle.palm_engine.specs.Following.{OrderFollows};
 ghost use Rattle.palm_lang.specs.Writing.{IsCounted};
+ghost use Rattle.palm_search.specs.Following.{GuideFollows};
 ghost use Rattle.palm_session.specs.Answers.{Answers};
 ghost use Rattle.palm_session.specs.Asking.{Asks};
 ghost use Rattle.palm_session.specs.Feeding.{AnswersTo, Decides};
+ghost use Rattle.palm_session.specs.Led.{LineLeads};
 ghost use Rattle.palm_session.specs.ReplyText.{reply_text, IsRefusal, ReplyFits};
 ghost use Rattle.palm_session.specs.Serving.{Spends};
 ghost use Rattle.palm_session.specs.State.{IsState};
@@ -32,6 +35,7 @@ impl<G: Guide, O: Order> Desk<G, O> {
         requires { IsState self.old.state }
         ensures counted { IsCounted (K.state out.old).faults (K.state out.new).faults result }
         ensures answers { AnswersTo self.old.state line.now (K.state out.old).written (K.state out.new).written self.new.state (steps.new - steps.old) result }
+        ensures led { OnOk result (LineLeads (GuideFollows G.answers G.hears G.state) (OrderFollows O.answers O.hears O.state) self.old.state line.now self.old.objects self.new.state self.new.objects) }
         ensures spends { Spends self.old self.new steps.old steps.new }
         ensures state { OnOk result (IsState self.new.state) }
     {
@@ -52,6 +56,7 @@ impl<G: Guide, O: Order> Desk<G, O> {
     ) -> Result<(Reply, Going), NoMemory>
         requires { IsState self.old.state }
         ensures answers { IfOk result (λ r. Answers self.old.state line.now (reply_text self.new.state r.0) self.new.state) }
+        ensures led { OnOk result (LineLeads (GuideFollows G.answers G.hears G.state) (OrderFollows O.answers O.hears O.state) self.old.state line.now self.old.objects self.new.state self.new.objects) }
         ensures asks { OnOk result (Asks self.old.state line.now self.new.state (steps.new - steps.old)) }
         ensures spends { Spends self.old self.new steps.old steps.new }
         ensures going { IfOk result (λ r. Decides r.1 line.now) }

@@ -4,15 +4,19 @@ ghost use Rattle.palm_base.specs.Tells.{Tells};
 ghost use Rattle.palm_book.specs.Book.{AreValues, user_at};
 ghost use Rattle.palm_book.specs.declared.book.BookCon.{BookCon as BookConTerm};
 ghost use Rattle.palm_engine.specs.Engine.{KeepsCounts};
+ghost use Rattle.palm_engine.specs.Following.{OrderFollows};
 ghost use Rattle.palm_model.specs.Event.{Declares, Posts, Withdraws};
 ghost use Rattle.palm_model.specs.Log.{IsActive};
 ghost use Rattle.palm_model.specs.State.{EngineState, IsValid};
 ghost use Rattle.palm_read.specs.Name.{IsNameText};
+ghost use Rattle.palm_search.specs.Following.{GuideFollows};
 ghost use Rattle.palm_session.specs.Effects.{WithdrawsActive, next_constraint, with_active_at, with_constraint, with_engine, with_variable, without_constraint, without_guide, without_order};
+ghost use Rattle.palm_session.specs.Led.{FiltersBy, SearchesOn, objects_after};
 ghost use Rattle.palm_session.specs.Requests.{CanAdd, StandsAt};
 ghost use Rattle.palm_session.specs.Serving.{HasRepairedIn, HasRun, Ran, Spends};
 ghost use Rattle.palm_session.specs.State.{HasVariable, IsHeld};
 ghost use Rattle.palm_session.specs.declared.request.Procedure.TheVariants as Procedure;
+ghost use Rattle.palm_session.specs.declared.request.Request.TheVariants as Request;
 
 use crate::objects::{Objects, repair_by, settle_by, solve_by};
 use palm_agenda::Order;
@@ -47,7 +51,7 @@ impl<G: Guide, O: Order> Model for Desk<G, O> {
     ghost use Rattle.palm_model.specs.State.{IsValid};
     ghost use Rattle.palm_session.specs.Serving.{DeskView, desk_of};
 
-    ghost Value = { DeskView };
+    ghost Value = { DeskView G O };
 
     ghost view = { λ d. desk_of d.book d.engine d.accepted d.paused d.guides d.orders d.search };
 
@@ -56,12 +60,16 @@ impl<G: Guide, O: Order> Model for Desk<G, O> {
 
 impl<G: Guide, O: Order> Desk<G, O> {
     ghost use Rattle.std.specs.Prelude.{vec_len};
-    ghost use Rattle.palm_session.specs.Objects.{numbered};
+    ghost use Rattle.palm_session.specs.Objects.{all_placed, numbered};
     ghost use Rattle.palm_session.specs.State.{fresh};
 
     /// Nothing declared, nothing added, and none of these guides and orders chosen.
     pub(crate) fn new(alloc: Global, guides: Vec<G>, orders: Vec<O>) -> Result<Desk<G, O>, NoMemory>
-        ensures { IfOk result (λ d. d ≡ record { state = fresh (numbered (vec_len guides)) (numbered (vec_len orders)); checks = 0 }) }
+        ensures { IfOk result (λ d. d ≡ record {
+          state = fresh (numbered (vec_len guides)) (numbered (vec_len orders));
+          checks = 0;
+          objects = record { guides = all_placed guides.items; orders = all_placed orders.items };
+        }) }
     {
         let guides = Objects::new(alloc, guides)?;
         let orders = Objects::new(alloc, orders)?;
@@ -142,6 +150,7 @@ impl<G: Guide, O: Order> Desk<G, O> {
         requires room { MOST_VARIABLES ≤ length self.old.state.book.variables → ⊥ }
         ensures ok { OnOk result ((e : EngineState) × Declares self.old.state.engine values e × (self.new.state ≡ with_engine (with_variable self.old.state name values) e)) }
         ensures checks { self.new.checks ≡ self.old.checks }
+        ensures objects { self.new.objects ≡ self.old.objects }
     {
         self.engine.add_variable(values.as_slice())?;
         self.book.add_variable(name, values)?;
@@ -155,6 +164,7 @@ impl<G: Guide, O: Order> Desk<G, O> {
         ensures ok { OnOk result ((e : EngineState) × Posts self.old.state.engine (user_at (next_constraint self.old.state name con)) e
             × (self.new.state ≡ with_engine (with_constraint self.old.state name con) e)) }
         ensures checks { self.new.checks ≡ self.old.checks }
+        ensures objects { self.new.objects ≡ self.old.objects }
     {
         let number = self.accepted + 1;
         self.engine.post(number, Kind::from_con(self.alloc, &con)?)?;
@@ -175,6 +185,7 @@ impl<G: Guide, O: Order> Desk<G, O> {
         ensures relaxes { (c : BookConTerm) → slice_get self.old.state.book.constraints place ≡ Some c → (e : EngineState)
             × Withdraws self.old.state.engine (Cid.User c.number) e × (self.new.state ≡ with_engine (with_active_at self.old.state place false) e) }
         ensures checks { self.new.checks ≡ self.old.checks }
+        ensures objects { self.new.objects ≡ self.old.objects }
     {
         let number = self.book.constraint(place).number;
         self.engine.withdraw(Cid::User(number));
@@ -188,6 +199,7 @@ impl<G: Guide, O: Order> Desk<G, O> {
         ensures enforces { OnOk result ((c : BookConTerm) → slice_get self.old.state.book.constraints place ≡ Some c → (e : EngineState)
             × Posts self.old.state.engine (user_at c) e × (self.new.state ≡ with_engine (with_active_at self.old.state place true) e)) }
         ensures checks { self.new.checks ≡ self.old.checks }
+        ensures objects { self.new.objects ≡ self.old.objects }
     {
         let entry = self.book.constraint(place);
         let kind = Kind::from_con(self.alloc, &entry.con)?;
@@ -203,6 +215,7 @@ impl<G: Guide, O: Order> Desk<G, O> {
         ensures retracts { (c : BookConTerm) → slice_get self.old.state.book.constraints place ≡ Some c → (e : EngineState)
             × WithdrawsActive self.old.state.engine c e × (self.new.state ≡ with_engine (without_constraint self.old.state place) e) }
         ensures checks { self.new.checks ≡ self.old.checks }
+        ensures objects { self.new.objects ≡ self.old.objects }
     {
         withdraw_active(&mut self.engine, self.book.constraint(place));
         self.book.remove(place);
@@ -212,6 +225,7 @@ impl<G: Guide, O: Order> Desk<G, O> {
     pub(crate) fn set_paused(&mut self, paused: bool)
         ensures state { self.new.state ≡ record self.old.state { paused = paused } }
         ensures checks { self.new.checks ≡ self.old.checks }
+        ensures objects { self.new.objects ≡ self.old.objects }
     {
         self.paused = paused;
     }
@@ -221,6 +235,7 @@ impl<G: Guide, O: Order> Desk<G, O> {
         requires { IfSome chosen (Contains self.old.state.guides) }
         ensures state { self.new.state ≡ record self.old.state { guide = chosen } }
         ensures checks { self.new.checks ≡ self.old.checks }
+        ensures objects { self.new.objects ≡ objects_after (Request.ChooseGuide chosen) self.old.objects }
     {
         match chosen {
             Some(number) => self.guides.choose(number),
@@ -233,6 +248,7 @@ impl<G: Guide, O: Order> Desk<G, O> {
         requires { Contains self.old.state.guides number }
         ensures state { self.new.state ≡ without_guide self.old.state number }
         ensures checks { self.new.checks ≡ self.old.checks }
+        ensures objects { self.new.objects ≡ objects_after (Request.DropGuide number) self.old.objects }
     {
         self.guides.remove(number);
     }
@@ -242,6 +258,7 @@ impl<G: Guide, O: Order> Desk<G, O> {
         requires { IfSome chosen (Contains self.old.state.orders) }
         ensures state { self.new.state ≡ record self.old.state { order = chosen } }
         ensures checks { self.new.checks ≡ self.old.checks }
+        ensures objects { self.new.objects ≡ objects_after (Request.ChooseOrder chosen) self.old.objects }
     {
         match chosen {
             Some(number) => self.orders.choose(number),
@@ -254,6 +271,7 @@ impl<G: Guide, O: Order> Desk<G, O> {
         requires { Contains self.old.state.orders number }
         ensures state { self.new.state ≡ without_order self.old.state number }
         ensures checks { self.new.checks ≡ self.old.checks }
+        ensures objects { self.new.objects ≡ objects_after (Request.DropOrder number) self.old.objects }
     {
         self.orders.remove(number);
     }
@@ -266,6 +284,7 @@ impl<G: Guide, O: Order> Desk<G, O> {
         steps: &mut Steps<L>,
     ) -> Result<u64, NoMemory>
         ensures ran { IfOk result (λ told. Ran self.old.state limit told self.new.state (steps.new - steps.old)) }
+        ensures led { OnOk result (FiltersBy (OrderFollows O.answers O.hears O.state) limit self.old.state.engine self.old.objects self.new.state.engine self.new.objects) }
         ensures spends { Spends self.old self.new steps.old steps.new }
     {
         settle_by(&mut self.engine, &mut self.orders, limit, steps)?;
@@ -281,6 +300,7 @@ impl<G: Guide, O: Order> Desk<G, O> {
     ) -> Result<Answer, NoMemory>
         requires { IsHeld self.old.state }
         ensures searched { IfOk result (λ answer. HasRun self.old.state (Procedure.Dbt budget) answer None self.new.state) }
+        ensures led { OnOk result (SearchesOn (GuideFollows G.answers G.hears G.state) (OrderFollows O.answers O.hears O.state) (Procedure.Dbt budget) self.old.state self.old.objects self.new.state self.new.objects) }
         ensures spends { Spends self.old self.new steps.old steps.new }
     {
         self.search = Search::begin(self.alloc);
@@ -305,6 +325,7 @@ impl<G: Guide, O: Order> Desk<G, O> {
         requires held { IsHeld self.old.state }
         requires some { 0 < tabu }
         ensures searched { IfOk result (λ answer. HasRepairedIn self.old.state tabu budget answer self.new.state) }
+        ensures led { OnOk result (SearchesOn (GuideFollows G.answers G.hears G.state) (OrderFollows O.answers O.hears O.state) (Procedure.Repair tabu budget) self.old.state self.old.objects self.new.state self.new.objects) }
         ensures spends { Spends self.old self.new steps.old steps.new }
     {
         self.search = Search::begin(self.alloc);

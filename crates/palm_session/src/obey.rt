@@ -1,5 +1,6 @@
 //! What requests change, and what is left of them then: an arm each.
-ghost use Rattle.std.specs.Prelude.{◌≡◌, ◌<◌, true, false, Contains, IfOk, IfSome, length};
+ghost use Rattle.std.specs.Prelude.{◌≡◌, ◌<◌, true, false, Contains, IfOk, IfSome, OnOk, length};
+ghost use Rattle.palm_session.specs.Led.{objects_after};
 ghost use Rattle.palm_session.specs.Requests.{Admits, CanAdd, CanDeclare, StandsAt};
 ghost use Rattle.palm_session.specs.Serving.{Obeys};
 ghost use Rattle.palm_session.specs.State.{IsHeld};
@@ -29,6 +30,7 @@ impl<G: Guide, O: Order> Desk<G, O> {
         requires admitted { Admits self.old.state request }
         ensures obeys { IfOk result (Obeys self.old.state request self.new.state) }
         ensures checks { self.new.checks ≡ self.old.checks }
+        ensures objects { OnOk result (self.new.objects ≡ objects_after request self.old.objects) }
     {
         match request {
             Request::Nothing => Ok(say(Reply::Nothing)),
@@ -56,6 +58,7 @@ impl<G: Guide, O: Order> Desk<G, O> {
         requires can { CanDeclare self.old.state name domain }
         ensures obeys { IfOk result (Obeys self.old.state (Request.Declare name domain) self.new.state) }
         ensures checks { self.new.checks ≡ self.old.checks }
+        ensures objects { self.new.objects ≡ self.old.objects }
     {
         let values = values_in(self.alloc(), domain)?;
         self.declare(name, values)?;
@@ -68,6 +71,7 @@ impl<G: Guide, O: Order> Desk<G, O> {
         requires can { CanAdd self.old.state name con }
         ensures obeys { IfOk result (Obeys self.old.state (Request.Add name con) self.new.state) }
         ensures checks { self.new.checks ≡ self.old.checks }
+        ensures objects { self.new.objects ≡ self.old.objects }
     {
         self.add(name, con)?;
         Ok(Remainder::Filter)
@@ -79,6 +83,7 @@ impl<G: Guide, O: Order> Desk<G, O> {
         requires can { StandsAt self.old.state place true }
         ensures obeys { Obeys self.old.state (Request.Relax place) self.new.state result }
         ensures checks { self.new.checks ≡ self.old.checks }
+        ensures objects { self.new.objects ≡ self.old.objects }
     {
         self.relax(place);
         Remainder::Filter
@@ -90,6 +95,7 @@ impl<G: Guide, O: Order> Desk<G, O> {
         requires can { StandsAt self.old.state place false }
         ensures obeys { IfOk result (Obeys self.old.state (Request.Enforce place) self.new.state) }
         ensures checks { self.new.checks ≡ self.old.checks }
+        ensures objects { self.new.objects ≡ self.old.objects }
     {
         self.enforce(place)?;
         Ok(Remainder::Filter)
@@ -101,6 +107,7 @@ impl<G: Guide, O: Order> Desk<G, O> {
         requires can { place < length self.old.state.book.constraints }
         ensures obeys { Obeys self.old.state (Request.Retract place) self.new.state result }
         ensures checks { self.new.checks ≡ self.old.checks }
+        ensures objects { self.new.objects ≡ self.old.objects }
     {
         self.retract(place);
         Remainder::Filter
@@ -110,6 +117,7 @@ impl<G: Guide, O: Order> Desk<G, O> {
     fn obey_pause(&mut self) -> Remainder
         ensures obeys { Obeys self.old.state Request.Pause self.new.state result }
         ensures checks { self.new.checks ≡ self.old.checks }
+        ensures objects { self.new.objects ≡ self.old.objects }
     {
         self.set_paused(true);
         say(Reply::Word(Fixed::Done))
@@ -119,6 +127,7 @@ impl<G: Guide, O: Order> Desk<G, O> {
     fn obey_resume(&mut self) -> Remainder
         ensures obeys { Obeys self.old.state Request.Resume self.new.state result }
         ensures checks { self.new.checks ≡ self.old.checks }
+        ensures objects { self.new.objects ≡ self.old.objects }
     {
         self.set_paused(false);
         Remainder::Filter
@@ -129,6 +138,7 @@ impl<G: Guide, O: Order> Desk<G, O> {
         requires can { IfSome chosen (Contains self.old.state.guides) }
         ensures obeys { Obeys self.old.state (Request.ChooseGuide chosen) self.new.state result }
         ensures checks { self.new.checks ≡ self.old.checks }
+        ensures objects { self.new.objects ≡ objects_after (Request.ChooseGuide chosen) self.old.objects }
     {
         self.choose_guide(chosen);
         say(Reply::Word(Fixed::Done))
@@ -139,6 +149,7 @@ impl<G: Guide, O: Order> Desk<G, O> {
         requires can { Contains self.old.state.guides number }
         ensures obeys { Obeys self.old.state (Request.DropGuide number) self.new.state result }
         ensures checks { self.new.checks ≡ self.old.checks }
+        ensures objects { self.new.objects ≡ objects_after (Request.DropGuide number) self.old.objects }
     {
         self.drop_guide(number);
         say(Reply::Word(Fixed::Done))
@@ -149,6 +160,7 @@ impl<G: Guide, O: Order> Desk<G, O> {
         requires can { IfSome chosen (Contains self.old.state.orders) }
         ensures obeys { Obeys self.old.state (Request.ChooseOrder chosen) self.new.state result }
         ensures checks { self.new.checks ≡ self.old.checks }
+        ensures objects { self.new.objects ≡ objects_after (Request.ChooseOrder chosen) self.old.objects }
     {
         self.choose_order(chosen);
         say(Reply::Word(Fixed::Done))
@@ -159,6 +171,7 @@ impl<G: Guide, O: Order> Desk<G, O> {
         requires can { Contains self.old.state.orders number }
         ensures obeys { Obeys self.old.state (Request.DropOrder number) self.new.state result }
         ensures checks { self.new.checks ≡ self.old.checks }
+        ensures objects { self.new.objects ≡ objects_after (Request.DropOrder number) self.old.objects }
     {
         self.drop_order(number);
         say(Reply::Word(Fixed::Done))

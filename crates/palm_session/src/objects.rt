@@ -1,13 +1,17 @@
 //! Objects that the caller handed in, and what is done by those that are chosen.
-ghost use Rattle.std.specs.Prelude.{◌≡◌, ◌+◌, ◌-◌, ◌<◌, ◌≤◌, [], Contains, IfOk, None, Some, is_some, min, vec_len};
+ghost use Rattle.std.specs.Prelude.{◌≡◌, ◌+◌, ◌-◌, ◌<◌, ◌≤◌, [], Contains, IfOk, None, OnOk, Some, is_some, min};
 ghost use Rattle.palm_base.specs.Tells.{Tells};
 ghost use Rattle.palm_base.specs.declared.limits.TheConstants.{LAST_COUNT};
 ghost use Rattle.palm_engine.specs.Engine.{HasAsked, HasSettled};
+ghost use Rattle.palm_engine.specs.Following.{OrderFollows};
 ghost use Rattle.palm_model.specs.State.{IsValid};
 ghost use Rattle.palm_repair.specs.Answers.{HasRepaired};
+ghost use Rattle.palm_repair.specs.Following.{HasRepairedBy};
+ghost use Rattle.palm_search.specs.Following.{GuideFollows, SearchesBy};
 ghost use Rattle.palm_search.specs.Kept.{HasOnlyUsers};
 ghost use Rattle.palm_search.specs.Search.{Searches};
-ghost use Rattle.palm_session.specs.Objects.{numbered, without_number, chosen_without};
+ghost use Rattle.palm_session.specs.Led.{SettlesBy};
+ghost use Rattle.palm_session.specs.Objects.{LendsChosen, all_placed, chosen_object, numbers_of, without_number, without_object};
 
 use palm_agenda::Order;
 use palm_base::{NoMemory, Steps};
@@ -32,7 +36,7 @@ pub(crate) struct Objects<T: Drop> {
 impl<T: Drop> Model for Objects<T> {
     ghost use Rattle.palm_session.specs.Objects.{ArePlaces, ObjectsView, objects_at};
 
-    ghost Value = { ObjectsView };
+    ghost Value = { ObjectsView T };
 
     ghost view = { λ o. objects_at o.places.items o.chosen };
 
@@ -42,7 +46,7 @@ impl<T: Drop> Model for Objects<T> {
 impl<T: Drop> Objects<T> {
     /// All of these objects, none chosen.
     pub(crate) fn new(alloc: Global, objects: Vec<T>) -> Result<Objects<T>, NoMemory>
-        ensures { IfOk result (λ o. o ≡ record { numbers = numbered (vec_len objects); chosen = None }) }
+        ensures { IfOk result (λ o. o ≡ all_placed objects.items) }
     {
         let mut places = Vec::new(alloc);
         places.push(None)?;
@@ -54,7 +58,7 @@ impl<T: Drop> Objects<T> {
 
     /// Whether there is an object with a number.
     pub(crate) fn has(&self, number: u32) -> bool
-        ensures { Tells result (Contains self.now.numbers number) }
+        ensures { Tells result (Contains (numbers_of self.now.places) number) }
     {
         match self.places.get(number as usize) {
             Some(object) => object.is_some(),
@@ -64,7 +68,7 @@ impl<T: Drop> Objects<T> {
 
     /// Chooses the object with a number.
     pub(crate) fn choose(&mut self, number: u32)
-        requires { Contains self.old.numbers number }
+        requires { Contains (numbers_of self.old.places) number }
         ensures { self.new ≡ record self.old { chosen = Some number } }
     {
         self.chosen = number as usize;
@@ -79,8 +83,9 @@ impl<T: Drop> Objects<T> {
 
     /// Drops the object with a number. Where it was chosen, the default is back.
     pub(crate) fn remove(&mut self, number: u32)
-        requires { Contains self.old.numbers number }
-        ensures { self.new ≡ record { numbers = without_number number self.old.numbers; chosen = chosen_without number self.old.chosen } }
+        requires { Contains (numbers_of self.old.places) number }
+        ensures objects { self.new ≡ without_object number self.old }
+        ensures numbers { numbers_of self.new.places ≡ without_number number (numbers_of self.old.places) }
     {
         self.places[number as usize] = None;
     }
@@ -94,9 +99,10 @@ pub(crate) fn settle_by<O: Order, L: Ledger>(
     steps: &mut Steps<L>,
 ) -> Result<Settle, NoMemory>
     ensures ok { IfOk result (λ answer. HasSettled limit (is_some orders.old.chosen) answer engine.old engine.new) }
+    ensures led { OnOk result (SettlesBy (OrderFollows O.answers O.hears O.state) limit (chosen_object orders.old) (chosen_object orders.new) engine.old.state engine.new.state) }
     ensures asked { HasAsked engine.old.state engine.new.state steps.old steps.new }
     ensures checks { engine.new.checks ≡ min (engine.old.checks + (steps.new - steps.old)) LAST_COUNT }
-    ensures orders { orders.new ≡ orders.old }
+    ensures orders { LendsChosen orders.old orders.new }
     ensures valid { IsValid engine.new.state }
 {
     let place = orders.chosen;
@@ -116,10 +122,12 @@ pub(crate) fn solve_by<G: Guide, O: Order, L: Ledger>(
     requires fresh { search.old ≡ record { decisions = []; journal = [] } }
     requires users { HasOnlyUsers engine.old.state }
     ensures ok { IfOk result (λ answer. Searches (is_some guides.old.chosen) (is_some orders.old.chosen) budget engine.old.state search.new.journal answer engine.new.state) }
+    ensures led { IfOk result (λ answer. SearchesBy (GuideFollows G.answers G.hears G.state) (OrderFollows O.answers O.hears O.state) (chosen_object guides.old) (chosen_object guides.new) (chosen_object orders.old) (chosen_object orders.new)
+        budget engine.old.state search.new.journal answer engine.new.state) }
     ensures later { steps.old ≤ steps.new }
     ensures checks { engine.new.checks ≡ min (engine.old.checks + (steps.new - steps.old)) LAST_COUNT }
-    ensures guides { guides.new ≡ guides.old }
-    ensures orders { orders.new ≡ orders.old }
+    ensures guides { LendsChosen guides.old guides.new }
+    ensures orders { LendsChosen orders.old orders.new }
     ensures valid { IsValid engine.new.state }
 {
     let guide = guides.chosen;
@@ -150,10 +158,12 @@ pub(crate) fn repair_by<G: Guide, O: Order, L: Ledger>(
     requires users { HasOnlyUsers engine.old.state }
     requires some { 0 < tabu }
     ensures ok { IfOk result (HasRepaired (is_some guides.old.chosen) (is_some orders.old.chosen) tabu budget engine.old.state search.new.journal engine.new.state) }
+    ensures led { IfOk result (HasRepairedBy (GuideFollows G.answers G.hears G.state) (OrderFollows O.answers O.hears O.state) (chosen_object guides.old) (chosen_object guides.new) (chosen_object orders.old) (chosen_object orders.new)
+        tabu budget engine.old.state search.new.journal engine.new.state) }
     ensures later { steps.old ≤ steps.new }
     ensures checks { engine.new.checks ≡ min (engine.old.checks + (steps.new - steps.old)) LAST_COUNT }
-    ensures guides { guides.new ≡ guides.old }
-    ensures orders { orders.new ≡ orders.old }
+    ensures guides { LendsChosen guides.old guides.new }
+    ensures orders { LendsChosen orders.old orders.new }
     ensures valid { IsValid engine.new.state }
 {
     let chosen_guide = guides.chosen;

@@ -1,5 +1,8 @@
 //! Requests that were admitted, from the tables of what is withheld to their replies.
-ghost use Rattle.std.specs.Prelude.{◌≡◌, ◌-◌, IfOk};
+ghost use Rattle.std.specs.Prelude.{◌≡◌, ◌-◌, IfOk, OnOk};
+ghost use Rattle.palm_engine.specs.Following.{OrderFollows};
+ghost use Rattle.palm_search.specs.Following.{GuideFollows};
+ghost use Rattle.palm_session.specs.Led.{TakesLead};
 ghost use Rattle.palm_session.specs.Requests.{Admits};
 ghost use Rattle.palm_session.specs.Serving.{CanSay, IsSaid, Spends, Takes};
 ghost use Rattle.palm_session.specs.State.{IsState};
@@ -27,6 +30,7 @@ impl<G: Guide, O: Order> Desk<G, O> {
         requires state { IsState self.old.state }
         requires admitted { Admits self.old.state request }
         ensures takes { IfOk result (Takes self.old.state request self.new.state (steps.new - steps.old)) }
+        ensures led { OnOk result (TakesLead (GuideFollows G.answers G.hears G.state) (OrderFollows O.answers O.hears O.state) self.old.state request self.old.objects self.new.state self.new.objects) }
         ensures spends { Spends self.old self.new steps.old steps.new }
     {
         if self.waits(&request) {

@@ -1,7 +1,10 @@
 //! Sessions: bytes in, in any pieces; lines cut out of them; replies out.
 ghost use Rattle.std.specs.Prelude.{◌≡◌, ◌-◌, ◌≤◌, ◌++◌, [], true, false, IfOk, OnOk, take};
+ghost use Rattle.palm_engine.specs.Following.{OrderFollows};
 ghost use Rattle.palm_lang.specs.Writing.{IsCounted};
+ghost use Rattle.palm_search.specs.Following.{GuideFollows};
 ghost use Rattle.palm_session.specs.Feeding.{AnswersLines, Feeds, FeedsText, Finishes, FinishesTo, IsUnfinished, RaisesChecks};
+ghost use Rattle.palm_session.specs.Led.{FeedsLead, LastLeads};
 ghost use Rattle.palm_read.specs.Lines.{HasNoFeed};
 ghost use Rattle.palm_session.specs.Serving.{Spends};
 ghost use Rattle.palm_session.specs.State.{IsState};
@@ -34,7 +37,7 @@ pub struct Session<G: Guide, O: Order> {
 impl<G: Guide, O: Order> Model for Session<G, O> {
     ghost use Rattle.palm_session.specs.Feeding.{IsSession, View, view_of};
 
-    ghost Value = { View };
+    ghost Value = { View G O };
 
     ghost view = { λ s. view_of s.desk s.unfinished.items s.over };
 
@@ -43,7 +46,7 @@ impl<G: Guide, O: Order> Model for Session<G, O> {
 
 impl<G: Guide, O: Order> Session<G, O> {
     ghost use Rattle.std.specs.Prelude.{[], vec_len};
-    ghost use Rattle.palm_session.specs.Objects.{numbered};
+    ghost use Rattle.palm_session.specs.Objects.{all_placed, numbered};
     ghost use Rattle.palm_session.specs.State.{fresh};
 
     /// A fresh session, with these guides and orders, each numbered from 1, of which none is chosen.
@@ -51,6 +54,7 @@ impl<G: Guide, O: Order> Session<G, O> {
         ensures { IfOk result (λ s. s ≡ record {
           state = fresh (numbered (vec_len guides)) (numbered (vec_len orders));
           checks = 0;
+          objects = record { guides = all_placed guides.items; orders = all_placed orders.items };
           unfinished = [];
           over = false;
         }) }
@@ -105,6 +109,7 @@ impl<G: Guide, O: Order> Session<G, O> {
         requires { self.old.over ≡ false }
         ensures counted { IsCounted (K.state out.old).faults (K.state out.new).faults result }
         ensures feeds { Feeds self.old piece.now (K.state out.old).written (K.state out.new).written self.new (steps.new - steps.old) result }
+        ensures led { IfOk result (FeedsLead (GuideFollows G.answers G.hears G.state) (OrderFollows O.answers O.hears O.state) self.old.state (self.old.unfinished ++ piece.now) self.old.objects self.new.state self.new.objects) }
         ensures checks { OnOk result (RaisesChecks self.old self.new (steps.new - steps.old)) }
         ensures later { steps.old ≤ steps.new }
     {
@@ -123,6 +128,7 @@ impl<G: Guide, O: Order> Session<G, O> {
         requires { self.old.over ≡ false }
         ensures counted { IsCounted (K.state out.old).faults (K.state out.new).faults result }
         ensures finishes { Finishes self.old (K.state out.old).written (K.state out.new).written self.new (steps.new - steps.old) result }
+        ensures led { OnOk result (LastLeads (GuideFollows G.answers G.hears G.state) (OrderFollows O.answers O.hears O.state) self.old.state self.old.unfinished self.old.objects self.new.state self.new.objects) }
         ensures checks { OnOk result (RaisesChecks self.old self.new (steps.new - steps.old)) }
         ensures later { steps.old ≤ steps.new }
     {
@@ -148,6 +154,7 @@ impl<G: Guide, O: Order> Session<G, O> {
         requires state { IsState self.old.state }
         ensures counted { IsCounted (K.state out.old).faults (K.state out.new).faults result }
         ensures feeds { FeedsText self.old.state (self.old.unfinished ++ piece.now) (K.state out.old).written (K.state out.new).written self.new (steps.new - steps.old) result }
+        ensures led { IfOk result (FeedsLead (GuideFollows G.answers G.hears G.state) (OrderFollows O.answers O.hears O.state) self.old.state (self.old.unfinished ++ piece.now) self.old.objects self.new.state self.new.objects) }
         ensures checks { RaisesChecks self.old self.new (steps.new - steps.old) }
         ensures later { steps.old ≤ steps.new }
         ensures state { OnOk result (IsState self.new.state) }
@@ -183,6 +190,7 @@ impl<G: Guide, O: Order> Session<G, O> {
         requires state { IsState self.old.state }
         ensures counted { IsCounted (K.state out.old).faults (K.state out.new).faults result }
         ensures feeds { FeedsText self.old.state text.now (K.state out.old).written (K.state out.new).written self.new (steps.new - steps.old) result }
+        ensures led { IfOk result (FeedsLead (GuideFollows G.answers G.hears G.state) (OrderFollows O.answers O.hears O.state) self.old.state text.now self.old.objects self.new.state self.new.objects) }
         ensures checks { RaisesChecks self.old self.new (steps.new - steps.old) }
         ensures later { steps.old ≤ steps.new }
         ensures state { OnOk result (IsState self.new.state) }
@@ -210,6 +218,7 @@ fn answer_lines<G: Guide, O: Order, K: Sink, L: Ledger>(
     requires { IsState desk.old.state }
     ensures counted { IsCounted (K.state out.old).faults (K.state out.new).faults result }
     ensures answers { AnswersLines desk.old.state text.now (K.state out.old).written (K.state out.new).written desk.new.state (steps.new - steps.old) result }
+    ensures led { IfOk result (λ r. FeedsLead (GuideFollows G.answers G.hears G.state) (OrderFollows O.answers O.hears O.state) desk.old.state text.now desk.old.objects desk.new.state desk.new.objects r.0) }
     ensures spends { Spends desk.old desk.new steps.old steps.new }
     ensures state { OnOk result (IsState desk.new.state) }
 {
@@ -249,6 +258,7 @@ fn answer_last<G: Guide, O: Order, K: Sink, L: Ledger>(
     requires { IsState desk.old.state }
     ensures counted { IsCounted (K.state out.old).faults (K.state out.new).faults result }
     ensures answers { FinishesTo desk.old.state line.now (K.state out.old).written (K.state out.new).written desk.new.state (steps.new - steps.old) result }
+    ensures led { OnOk result (LastLeads (GuideFollows G.answers G.hears G.state) (OrderFollows O.answers O.hears O.state) desk.old.state line.now desk.old.objects desk.new.state desk.new.objects) }
     ensures spends { Spends desk.old desk.new steps.old steps.new }
 {
     if line.is_empty() {

@@ -1,6 +1,9 @@
 //! What follows a change: filtering, so many revisions, or a search.
 ghost use Rattle.std.specs.Prelude.{◌≡◌, ◌-◌, ◌<◌, IfOk, OnOk};
+ghost use Rattle.palm_engine.specs.Following.{OrderFollows};
+ghost use Rattle.palm_search.specs.Following.{GuideFollows};
 ghost use Rattle.palm_session.specs.Effects.{unless_paused};
+ghost use Rattle.palm_session.specs.Led.{FiltersBy, LeadsOn, SearchesOn, next_left};
 ghost use Rattle.palm_session.specs.Serving.{CanDo, Followed, HasSearched, IsDone, RanAll, Spends};
 ghost use Rattle.palm_session.specs.State.{IsHeld};
 ghost use Rattle.palm_session.specs.Requests.{HasTabu};
@@ -28,6 +31,7 @@ impl<G: Guide, O: Order> Desk<G, O> {
         requires held { IsHeld self.old.state }
         requires can { CanDo remainder }
         ensures done { IfOk result (IsDone self.old.state remainder self.new.state (steps.new - steps.old)) }
+        ensures led { OnOk result (LeadsOn (GuideFollows G.answers G.hears G.state) (OrderFollows O.answers O.hears O.state) (next_left self.old.state remainder) self.old.state self.old.objects self.new.state self.new.objects) }
         ensures spends { Spends self.old self.new steps.old steps.new }
     {
         match remainder {
@@ -45,6 +49,7 @@ impl<G: Guide, O: Order> Desk<G, O> {
     /// Filters, unless filtering waits.
     fn filter<L: Ledger>(&mut self, steps: &mut Steps<L>) -> Result<(), NoMemory>
         ensures followed { OnOk result (Followed self.old.state (unless_paused self.old.state) self.new.state (steps.new - steps.old)) }
+        ensures led { OnOk result (LeadsOn (GuideFollows G.answers G.hears G.state) (OrderFollows O.answers O.hears O.state) (unless_paused self.old.state) self.old.state self.old.objects self.new.state self.new.objects) }
         ensures spends { Spends self.old self.new steps.old steps.new }
     {
         if self.is_paused() {
@@ -57,6 +62,7 @@ impl<G: Guide, O: Order> Desk<G, O> {
     /// Runs so many revisions at most, and answers how many ran.
     fn run<L: Ledger>(&mut self, count: u64, steps: &mut Steps<L>) -> Result<u64, NoMemory>
         ensures ran { IfOk result (λ told. RanAll self.old.state count told self.new.state (steps.new - steps.old)) }
+        ensures led { OnOk result (FiltersBy (OrderFollows O.answers O.hears O.state) (Some count) self.old.state.engine self.old.objects self.new.state.engine self.new.objects) }
         ensures spends { Spends self.old self.new steps.old steps.new }
     {
         self.settle(Some(count), steps)
@@ -67,6 +73,7 @@ impl<G: Guide, O: Order> Desk<G, O> {
         requires held { IsHeld self.old.state }
         requires some { HasTabu by }
         ensures searched { IfOk result (λ reply. HasSearched self.old.state by reply self.new.state) }
+        ensures led { OnOk result (SearchesOn (GuideFollows G.answers G.hears G.state) (OrderFollows O.answers O.hears O.state) by self.old.state self.old.objects self.new.state self.new.objects) }
         ensures spends { Spends self.old self.new steps.old steps.new }
     {
         match by {
@@ -83,6 +90,7 @@ impl<G: Guide, O: Order> Desk<G, O> {
     ) -> Result<Reply, NoMemory>
         requires { IsHeld self.old.state }
         ensures searched { IfOk result (λ reply. HasSearched self.old.state (Procedure.Dbt budget) reply self.new.state) }
+        ensures led { OnOk result (SearchesOn (GuideFollows G.answers G.hears G.state) (OrderFollows O.answers O.hears O.state) (Procedure.Dbt budget) self.old.state self.old.objects self.new.state self.new.objects) }
         ensures spends { Spends self.old self.new steps.old steps.new }
     {
         match self.search_by_dbt(budget, steps)? {
@@ -108,6 +116,7 @@ impl<G: Guide, O: Order> Desk<G, O> {
         requires held { IsHeld self.old.state }
         requires some { 0 < tabu }
         ensures searched { IfOk result (λ reply. HasSearched self.old.state (Procedure.Repair tabu budget) reply self.new.state) }
+        ensures led { OnOk result (SearchesOn (GuideFollows G.answers G.hears G.state) (OrderFollows O.answers O.hears O.state) (Procedure.Repair tabu budget) self.old.state self.old.objects self.new.state self.new.objects) }
         ensures spends { Spends self.old self.new steps.old steps.new }
     {
         match self.search_by_repair(tabu, budget, steps)? {

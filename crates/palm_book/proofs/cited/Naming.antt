@@ -1,9 +1,9 @@
 -- Which names are known, and that a shape whose names are all known says one constraint, and no other.
-use Rattle.std.proofs.Common.{◌≡◌, ◌≢◌, ℕ, ◌<◌, ℤ, List, [], ◌∷◌, ◌++◌, length, map, All, Any, AllPairs, inl, inr, refl, sym, ap, ◌∙◌, arith}
+use Rattle.std.proofs.Common.{◌≡◌, ◌≢◌, ℕ, ◌<◌, ℤ, List, [], ◌∷◌, length, map, All, Any, AllPairs, inl, inr, refl, sym, ap, ◌∙◌, arith}
 use Rattle.std.proofs.lemmas.Bool.{cases_lt}
 use Rattle.std.proofs.lemmas.List.{get_or_default}
-use Rattle.std.proofs.lemmas.List.Elements.{All-nil, All-cons, All-head, All-tail, All-append, All-contains, Contains-append_left, Contains-append_right}
-use Rattle.palm_base.proofs.cited.Members.{Known, all_members, any_known, list_known, nat_known}
+use Rattle.std.proofs.lemmas.List.Elements.{All-nil, All-cons, All-head, All-tail, All-append}
+use Rattle.palm_base.proofs.cited.Members.{Known, any_known, list_known, nat_known}
 use Rattle.palm_model.specs.Constraint.{scope}
 use Rattle.palm_model.specs.Count.{target_scope}
 use Rattle.palm_model.specs.Linear.{term_vars}
@@ -13,6 +13,7 @@ use Rattle.palm_model.specs.declared.constraint.Target.{Target}
 use Rattle.palm_model.specs.declared.constraint.Target.TheVariants.{Const, Variable}
 use Rattle.palm_model.specs.declared.constraint.Term.{Term}
 use Rattle.palm_book.specs.Book.{BookVar, name_of}
+use Rattle.palm_read.proofs.cited.AllOfBoth.{all_left, all_right}
 use Rattle.palm_read.specs.Limits.{names_of}
 use Rattle.palm_read.specs.Count.{line_target_names}
 use Rattle.palm_book.specs.Named.{named, named_term, named_target, HasForm}
@@ -34,14 +35,6 @@ some_known P xs known = elim (any_known P xs (λ x m. known x)) [
 -- a variable has the name, or none has
 pub name_known : {X : Type 0} (f : X → List ℕ) (xs : List X) (name : List ℕ) → Known (Any (λ x. f x ≡ name) xs)
 name_known f xs name = some_known (λ x. f x ≡ name) xs (λ x. list_known nat_known (f x) name)
-
--- ---- the parts of a list that all its members share
-
-all_left : {X : Type 0} (P : X → Type 0) (xs ys : List X) → All P (xs ++ ys) → All P xs
-all_left P xs ys h = all_members P xs (λ x m. All-contains P (xs ++ ys) x h (Contains-append_left xs ys x m))
-
-pub all_right : {X : Type 0} (P : X → Type 0) (xs ys : List X) → All P (xs ++ ys) → All P ys
-all_right P xs ys h = all_members P ys (λ x m. All-contains P (xs ++ ys) x h (Contains-append_right xs ys x m))
 
 -- ---- variables by name
 

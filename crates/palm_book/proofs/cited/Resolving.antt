@@ -5,7 +5,7 @@ use Rattle.palm_model.specs.Constraint.{scope}
 use Rattle.palm_model.specs.Count.{target_scope}
 use Rattle.palm_model.specs.Linear.{term_vars}
 use Rattle.palm_model.specs.declared.constraint.Con.{Con}
-use Rattle.palm_model.specs.declared.constraint.Con.TheVariants.{CompareVar as CompareVarCon, CompareConst as CompareConstCon, Linear as LinearCon, Table as TableCon, Element as ElementCon, Count as CountCon, Differ as DifferCon, Within as WithinCon}
+use Rattle.palm_model.specs.declared.constraint.Con.TheVariants.{Linear as LinearCon, Count as CountCon}
 use Rattle.palm_model.specs.declared.constraint.Op.{Op}
 use Rattle.palm_model.specs.declared.constraint.Target.{Target}
 use Rattle.palm_model.specs.declared.constraint.Target.TheVariants.{Const, Variable}
@@ -54,16 +54,11 @@ map_both f [] ys = refl
 map_both f (x ∷ xs) ys = ap (λ (z : List (List ℕ)). f x ∷ z) (map_both f xs ys)
 
 pub scope_names : (variables : List BookVar) (con : Con) → names_of (named variables con) ≡ map (name_of variables) (scope con)
-scope_names variables (CompareVarCon left op right offset) = refl
-scope_names variables (CompareConstCon left op value) = refl
 scope_names variables (LinearCon terms op bound) = term_names variables terms
-scope_names variables (TableCon vars rows) = refl
-scope_names variables (ElementCon outcome index entries) = refl
 scope_names variables (CountCon value vars op target) =
     ap (λ (z : List (List ℕ)). map (name_of variables) vars ++ z) (target_names variables target)
     ∙ sym (map_both (name_of variables) vars (target_scope target))
-scope_names variables (DifferCon vars) = refl
-scope_names variables (WithinCon var values) = refl
+scope_names variables _ = refl
 
 -- ---- where a constraint says what a shape says, each name of the shape names a variable
 

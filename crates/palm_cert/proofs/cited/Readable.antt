@@ -11,6 +11,7 @@ use Rattle.palm_base.proofs.cited.Members.{filter_member, member_cases, member_n
 use Rattle.palm_book.specs.Book.{Contents, BookVar, IsBook, active_of, initial_of, name_of, number_name, user_at, user_name, values_at}
 use Rattle.palm_book.specs.declared.book.BookCon.{BookCon}
 use Rattle.palm_book.proofs.cited.Any.{any_cases, any_member, any_none}
+use Rattle.palm_book.proofs.cited.WellFormed.{named_near}
 use Rattle.palm_claim.specs.Statement.{Says, header}
 use Rattle.palm_claim.specs.declared.statement.Statement.TheVariants.{End, Header, Step}
 use Rattle.palm_claim.specs.declared.verdict.Claim.{Claim}
@@ -31,7 +32,7 @@ use Rattle.palm_cert.specs.Certificate.{asked, claim_words, claimed, is_asked, n
 use Rattle.palm_cert.specs.Needs.{CanClaim}
 use Rattle.palm_cert.specs.Readable.{AreReadable, claim_statement}
 use Rattle.palm_events.specs.Scoped.{HasScopedReasons}
-use Rattle.palm_cert.proofs.Declared.{are_values, name_text, named_near, named_read, variable_says}
+use Rattle.palm_cert.proofs.Declared.{are_values, name_text, named_read, variable_says}
 use Rattle.palm_cert.proofs.Lengths.{are_step_numbers, numbers_few, over_few, over_member, pairs_over, within_book}
 use Rattle.palm_cert.proofs.Links.{Apart, linked_apart, pair_logged, pair_removal}
 use Rattle.palm_cert.proofs.Needed.{right_linked, steps_founded}

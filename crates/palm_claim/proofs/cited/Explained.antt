@@ -46,7 +46,8 @@ pub reason_member : (proved : List Pair) (reasons : List ℕ) → All IsStepNumb
 reason_member proved reasons range early p m =
     let u = member_unmap (pair_at proved) reasons p m in
     let k = u.0 in
-    let one : 1 ≤ k = (All-contains IsStepNumber reasons k range u.1).0 in
+    let some = (All-contains IsStepNumber reasons k range u.1).0 in
+    let one : 1 ≤ k = omega (arith, some) in
     let most : k ≤ length proved = elim (cases_lt (length proved) k) [
       | inl late ↦ absurd (early (any_member (λ j. length proved < j) reasons k u.1 late))
       | inr h ↦ h

@@ -1,5 +1,5 @@
 -- The forms that only certificates have: the reader reads just the tokens of one, and none of them is a form of a session.
-use Rattle.std.proofs.Common.{◌≡◌, ℕ, ℤ, pos, ◌-ℤ◌, ◌≤ℤ◌, ◌<◌, ◌≤◌, nat_le, int_lt, true, not, Option, Some, None, List, [], ◌∷◌, ◌++◌, map, All, codes, refl, sym, ap, ◌∙◌, subst, arith, inl, inr}
+use Rattle.std.proofs.Common.{◌≡◌, ℕ, ℤ, pos, ◌-ℤ◌, ◌≤ℤ◌, ◌≤◌, nat_le, int_lt, true, not, Option, Some, None, List, [], ◌∷◌, ◌++◌, map, All, codes, refl, sym, ap, ◌∙◌, subst, arith, inl, inr}
 use Rattle.std.specs.List.{flat_map}
 use Rattle.std.proofs.lemmas.Bool.{and_parts, and_from, leb-true, le-leb}
 use Rattle.std.proofs.lemmas.Int.{ints}
@@ -55,15 +55,12 @@ step_number_from : (k : ℕ) → is_step_number k ≡ true → IsStepNumber k
 step_number_from k e =
     let a = and_parts (nat_le 1 k) (nat_le k 4294967295) e in
     let one : 1 ≤ k = leb-true 1 k a.0 in
-    let most : k ≤ 4294967295 = leb-true k 4294967295 a.1 in
-    let below : k < 4294967296 = omega (arith, most) in
-    (one, below)
+    (omega (arith, one), leb-true k 4294967295 a.1)
 
 step_number_to : (k : ℕ) → IsStepNumber k → is_step_number k ≡ true
 step_number_to k is =
-    let below : k < 4294967296 = is.1 in
-    let most : k ≤ 4294967295 = omega (arith, below) in
-    and_from (nat_le 1 k) (nat_le k 4294967295) (le-leb 1 k is.0) (le-leb k 4294967295 most)
+    let some = is.0 in
+    and_from (nat_le 1 k) (nat_le k 4294967295) (le-leb 1 k (omega (arith, some))) (le-leb k 4294967295 is.1)
 
 -- ---- numbers of steps
 

@@ -9,21 +9,11 @@ ghost use Rattle.palm_read.specs.Domain.{domain_text};
 ghost use Rattle.palm_read.specs.Text.{shape_words, text_of};
 ghost use Rattle.palm_read.specs.Words.{spaced};
 
-use crate::print::lists::{put_range, put_set};
+use crate::print::domains::put_domain;
 use crate::print::shapes::put_shape;
 use crate::print::words::{put_name, put_spaced_int, put_spaced_name, put_spaced_value, put_text};
 use palm_base::{NoMemory, Value};
 use palm_read::{DomainText, Line, NO_BUDGET, Name, Shape};
-
-/// A domain as a line writes it.
-fn put_domain(domain: &DomainText, out: &mut Vec<u8>) -> Result<(), NoMemory>
-    ensures { Puts out.old.items out.new.items (domain_text domain.now) result }
-{
-    match domain {
-        DomainText::Range { low, high } => put_range(low, high, out),
-        DomainText::Set(values) => put_set(values.as_slice(), out),
-    }
-}
 
 /// `var NAME DOMAIN`
 fn put_declaration(name: &Name, domain: &DomainText, out: &mut Vec<u8>) -> Result<(), NoMemory>

@@ -18,6 +18,7 @@ use Rattle.palm_read.specs.Bounds.{IsWithin, a_value, up_to, from_one_to}
 use Rattle.palm_read.specs.Words.{with_commas, row_text}
 use Rattle.palm_read.proofs.Ranges.{term_numbers, a_bound}
 use Rattle.palm_read.proofs.Refusals.{any_here, any_there}
+use Rattle.palm_read.proofs.cited.AllOfBoth.{all_right}
 use Rattle.palm_read.proofs.cited.SoundLines.{IsWordy, name_text}
 use Rattle.palm_read.proofs.cited.Layouts.{Whatever, NoDigit, NoWord, apart_no_word, Lays, lays_nothing, lays_join, lays_weaker, lays_name, lays_mark, lays_pair, lays_natural, lays_count, IsBelow, lays_integer, Words, words_none, words_next, words_weaker, words_name, words_mark, words_number}
 use Rattle.palm_read.proofs.Canonical.{canonical_offset, canonical_factor, canonical_term, AreWithin, within_left, within_right}
@@ -29,16 +30,12 @@ HasNames [] = ⊤
 HasNames (Named name ∷ ps) = IsNameText name × HasNames ps
 HasNames (_ ∷ ps) = HasNames ps
 
-all_right : (xs ys : List Lexeme) → All IsWordy (xs ++ ys) → All IsWordy ys
-all_right [] ys h = h
-all_right (x ∷ xs) ys h = all_right xs ys (All-tail IsWordy x (xs ++ ys) h)
-
 pub has_names : (ps : List Piece) (tokens : List Lexeme) → All IsWordy tokens → Spells tokens ps → HasNames ps
 has_names [] tokens wordy s = tt
 has_names (Named name ∷ ps) tokens wordy s =
     let all : All IsWordy (word name ∷ s.1) = subst (All IsWordy) (s.2 ∙ ap (λ l. l ++ s.1) s.3.0) wordy in
     (name_text name (All-head IsWordy (word name) s.1 all refl) s.3.1, has_names ps s.1 (All-tail IsWordy (word name) s.1 all) s.4)
-has_names (p ∷ ps) tokens wordy s = has_names ps s.1 (all_right s.0 s.1 (subst (All IsWordy) s.2 wordy)) s.4
+has_names (p ∷ ps) tokens wordy s = has_names ps s.1 (all_right IsWordy s.0 s.1 (subst (All IsWordy) s.2 wordy)) s.4
 
 pub names_left : (ps qs : List Piece) → HasNames (ps ++ qs) → HasNames ps
 names_left [] qs h = tt

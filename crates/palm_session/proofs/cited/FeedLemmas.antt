@@ -54,7 +54,7 @@ pub map_append : (xs ys : List (List ℕ)) → map without_return (xs ++ ys) ≡
 map_append [] ys = refl
 map_append (x ∷ xs) ys = ap (λ (z : List (List ℕ)). without_return x ∷ z) (map_append xs ys)
 
-whole_append : (text more rest : List ℕ) (xs ys : List (List ℕ)) (mid : List ℕ) → text ≡ flat_map ended xs ++ mid → mid ++ more ≡ flat_map ended ys ++ rest
+pub whole_append : (text more rest : List ℕ) (xs ys : List (List ℕ)) (mid : List ℕ) → text ≡ flat_map ended xs ++ mid → mid ++ more ≡ flat_map ended ys ++ rest
     → text ++ more ≡ flat_map ended (xs ++ ys) ++ rest
 whole_append text more rest xs ys mid e f =
     ap (λ (z : List ℕ). z ++ more) e ∙ append_assoc (flat_map ended xs) mid more ∙ ap (λ (z : List ℕ). flat_map ended xs ++ z) f
@@ -88,7 +88,7 @@ answered_append s m t text more rest xs ys mid a b one two = record {
 }
 
 -- a text that begins with one line
-line_whole : (line rest : List ℕ) → ended line ++ rest ≡ flat_map ended (line ∷ []) ++ rest
+pub line_whole : (line rest : List ℕ) → ended line ++ rest ≡ flat_map ended (line ∷ []) ++ rest
 line_whole line rest = ap (λ (z : List ℕ). z ++ rest) (sym (append-nil (ended line)))
 
 -- the next line of a text was answered
@@ -201,7 +201,7 @@ feeds_part s m text from end was mid now a so f one = record {
 pub feeds_on : (s m : SessionState) (text rest : List ℕ) (was now : Option (List ℕ)) (a : ℕ) → SoFar s text was now rest m a → HasNoFeed rest → FeedsOn s text was now rest m a
 feeds_on s m text rest was now a so none = record { lines = so.lines; replies = so.replies; answered = so.answered; unfinished = none; goes_on = so.goes_on; written = so.written }
 
-goes_on_append : (xs ys : List (List ℕ)) → All GoesOn (map without_return xs) → All GoesOn (map without_return ys) → All GoesOn (map without_return (xs ++ ys))
+pub goes_on_append : (xs ys : List (List ℕ)) → All GoesOn (map without_return xs) → All GoesOn (map without_return ys) → All GoesOn (map without_return (xs ++ ys))
 goes_on_append xs ys a b = subst (λ (ls : List (List ℕ)). All GoesOn ls) (sym (map_append xs ys)) (All-append GoesOn (map without_return xs) (map without_return ys) a b)
 
 keeps_on_append : (xs ys : List (List ℕ)) → All GoesOn xs → KeepsOn ys → KeepsOn (xs ++ ys)

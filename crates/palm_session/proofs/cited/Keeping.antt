@@ -21,7 +21,7 @@ use Rattle.palm_session.specs.declared.going.Going.TheVariants.{More, Quit}
 use Rattle.palm_lang.specs.declared.stop.WriteStop.{WriteStop as Stop}
 use Rattle.palm_lang.specs.declared.stop.WriteStop.TheVariants.{NoMemory}
 use Rattle.palm_session.proofs.cited.FeedLemmas.{one_line, feeds_on, feeds_more, feeds_more_end, feeds_more_part, so_far_none}
-use Rattle.palm_book.proofs.cited.Naming.{all_right}
+use Rattle.palm_read.proofs.cited.AllOfBoth.{all_right}
 use Rattle.palm_session.proofs.cited.LawsOfAnswers.{has_answer, first_bytes_decide, first_bytes_read, same_first_bytes, same_first_bytes_read, kept_more}
 
 abbrev kept_of : List ℕ → List ℕ
@@ -29,7 +29,7 @@ kept_of line = take MOST_KEPT_BYTES line
 
 -- ---- what is kept of a line
 
-no_feed_both : (xs ys : List ℕ) → HasNoFeed xs → HasNoFeed ys → HasNoFeed (xs ++ ys)
+pub no_feed_both : (xs ys : List ℕ) → HasNoFeed xs → HasNoFeed ys → HasNoFeed (xs ++ ys)
 no_feed_both xs ys a b = All-append (λ (b : ℕ). b ≡ 10 → ⊥) xs ys a b
 
 no_feed_back : (xs ys : List ℕ) → HasNoFeed (xs ++ ys) → HasNoFeed ys
@@ -95,7 +95,7 @@ asks_long s t x y n e (asks_settling settling few) =
       log = settling.log;
     }) few
 
-line_long : (s t : SessionState) (line : List ℕ) (was now : Option (List ℕ)) (going : Going) (n : ℕ)
+pub line_long : (s t : SessionState) (line : List ℕ) (was now : Option (List ℕ)) (going : Going) (n : ℕ)
     → AnswersLine s (without_return (take MOST_KEPT_BYTES line)) was now going t n → AnswersLine s (without_return line) was now going t n
 line_long s t line was now going n a = record {
   reply = a.reply;
@@ -328,24 +328,24 @@ module _ (s : SessionState) (kept rest : List ℕ) (was now : Option (List ℕ))
 -- ---- a piece that completes the line whose first bytes are kept
 
 module _ (s : SessionState) (kept piece : List ℕ) (end : ℕ) (none : HasNoFeed kept) (feed : IsNextFeed piece 0 end) where
-  abbrev part : List ℕ
+  abbrev pub part : List ℕ
   part = take end piece
 
   part_is : slice_range piece 0 end ≡ part
   part_is = let n : end - 0 ≡ end = omega arith in ap (λ (k : ℕ). take k piece) n
 
-  abbrev first : List ℕ
+  abbrev pub first : List ℕ
   first = kept ++ part
 
-  abbrev others : List ℕ
+  abbrev pub others : List ℕ
   others = drop (end + 1) piece
 
-  completes : kept ++ piece ≡ ended first ++ others
+  pub completes : kept ++ piece ≡ ended first ++ others
   completes =
       ap (λ (z : List ℕ). kept ++ z) (feed.line ∙ ap (λ (z : List ℕ). ended z ++ others) part_is) ∙ sym (append_assoc kept (ended part) others)
       ∙ ap (λ (z : List ℕ). z ++ others) (sym (append_assoc kept part (10 ∷ [])))
 
-  unbroken_first : All HasNoFeed (first ∷ [])
+  pub unbroken_first : All HasNoFeed (first ∷ [])
   unbroken_first = All-cons HasNoFeed first [] (no_feed_both kept part none (subst HasNoFeed part_is feed.unbroken)) (All-nil HasNoFeed)
 
   one_served : (t : SessionState) (reply : List ℕ) (n : ℕ) → Answers s (without_return first) reply t → Asks s (without_return first) t n
@@ -410,7 +410,7 @@ module _ (s : SessionState) (kept piece : List ℕ) (end : ℕ) (none : HasNoFee
         written = a.written;
       })
 
-  first_then : (m : SessionState) (was mid now : Option (List ℕ)) (after : View) (n k : ℕ) (result : Result Going Stop)
+  first_then : {G O : Type 0} (m : SessionState) (was mid now : Option (List ℕ)) (after : View G O) (n k : ℕ) (result : Result Going Stop)
       → AnswersLine s (without_return (take MOST_KEPT_BYTES first)) was mid More m n → FeedsText m others mid now after k result → FeedsText s (kept ++ piece) was now after (n + k) result
   first_then m was mid now after n k (Ok More) one f = record {
     rest = f.rest;
@@ -425,7 +425,7 @@ module _ (s : SessionState) (kept piece : List ℕ) (end : ℕ) (none : HasNoFee
       subst (λ (z : List ℕ). FeedsPart stop s z was now) (sym completes)
       (feeds_more_part s m (ended first) others [] was mid now n (first_on m was mid n one) f)
 
-  pub first_more : (m : SessionState) (was mid now : Option (List ℕ)) (after : View) (n k i : ℕ) (result : Result Going Stop) → n + k ≡ i
+  pub first_more : {G O : Type 0} (m : SessionState) (was mid now : Option (List ℕ)) (after : View G O) (n k i : ℕ) (result : Result Going Stop) → n + k ≡ i
       → AnswersLine s (without_return (take MOST_KEPT_BYTES first)) was mid More m n → FeedsText m others mid now after k result → FeedsText s (kept ++ piece) was now after i result
   first_more m was mid now after n k i result e one f = subst (λ (j : ℕ). FeedsText s (kept ++ piece) was now after j result) e (first_then m was mid now after n k result one f)
 

@@ -1,9 +1,8 @@
-use Rattle.std.proofs.Common.{◌∙◌, List, ℕ, ap, subst}
+use Rattle.std.proofs.Common.{◌∙◌, List, ℕ, subst}
 use Rattle.std.proofs.lemmas.Result.{err_from_is_err_and}
 use Rattle.palm_base.specs.Streams.{Appended}
-use Rattle.palm_session.specs.Feeding.{View}
 use Rattle.palm_cli.proofs.InnerLines.{all_posing, all_easing}
-use Rattle.palm_cli.proofs.SummaryLemmas.{wants, stops_heading, first_stops, second_ends, fresh_state, keeps_state}
+use Rattle.palm_cli.proofs.SummaryLemmas.{wants, stops_heading, first_stops, second_ends, fresh_state, keeps_state, starts, starts_open, starts_whole}
 use Rattle.palm_cli.specs.Generator.{posing_lines, easing_lines}
 use Rattle.palm_cli.proofs.generator.summarize.Goals as goal
 
@@ -31,10 +30,10 @@ pub returns-in-Err : goal.returns-in-Err
 returns-in-Err g c = stops_heading c.args.size _ _ _ (c.as_bytes.ensures.value ∙ c.in_ok-heading.ensures) c.in-Err.ensures.cause.failed c.in-Err.ensures.bytes
 
 pub solve_after-requires-clause-going : goal.solve_after-requires-clause-going
-solve_after-requires-clause-going g c = ap (λ (v : View). v.over) c.requires.fresh
+solve_after-requires-clause-going g c = starts_open _ _ c.requires.fresh
 
 pub solve_after-requires-clause-whole : goal.solve_after-requires-clause-whole
-solve_after-requires-clause-whole g c = ap (λ (v : View). v.unfinished) c.requires.fresh
+solve_after-requires-clause-whole g c = starts_whole _ _ c.requires.fresh
 
 pub solve_after-requires-clause-text : goal.solve_after-requires-clause-text
 solve_after-requires-clause-text g c = (posing_lines c.args.size, record { whole = c.as_bytes-first.ensures.value ∙ c.in_ok-posing.ensures; inner = all_posing c.args.size c.requires.few })
@@ -48,7 +47,7 @@ returns-in_err-solve_after g c =
     let heading = subst (λ (z : List ℕ). Appended (g.K.Sink.state c.args.sink.now).written (g.K.Sink.state c.write_all.new.sink).written z) (c.as_bytes.ensures.value ∙ c.in_ok-heading.ensures) c.in-Ok.ensures.bytes in
     rw (p.1, p.2)
     (first_stops (Unit {0}) (Unit {0}) c.args.size (g.K.Sink.state c.args.sink.now) (g.K.Sink.state c.write_all.new.sink) (g.K.Sink.state c.solve_after.new.sink) c.args.session.now c.solve_after.new.session c.in_err-solve_after.field-0.0
-    (ap (λ (v : View). v.state) c.requires.fresh) c.in-Ok.ensures.cause.ok heading (c.in_err-solve_after.ensures (posing_lines c.args.size) (record { whole = c.as_bytes-first.ensures.value ∙ c.in_ok-posing.ensures; inner = all_posing c.args.size c.requires.few })))
+    (starts _ _ c.requires.fresh) c.in-Ok.ensures.cause.ok heading (c.in_err-solve_after.ensures (posing_lines c.args.size) (record { whole = c.as_bytes-first.ensures.value ∙ c.in_ok-posing.ensures; inner = all_posing c.args.size c.requires.few })))
 
 pub solve_after-requires-2-clause-going : goal.solve_after-requires-2-clause-going
 solve_after-requires-2-clause-going g c = (c.in_ok-solve_after.ensures (posing_lines c.args.size) (record { whole = c.as_bytes-first.ensures.value ∙ c.in_ok-posing.ensures; inner = all_posing c.args.size c.requires.few })).3
@@ -66,7 +65,7 @@ pub returns : goal.returns
 returns g c =
     let heading = subst (λ (z : List ℕ). Appended (g.K.Sink.state c.args.sink.now).written (g.K.Sink.state c.write_all.new.sink).written z) (c.as_bytes.ensures.value ∙ c.in_ok-heading.ensures) c.in-Ok.ensures.bytes in
     second_ends c.in_ok-solve_after.field-0 c.args.size (g.K.Sink.state c.args.sink.now) (g.K.Sink.state c.write_all.new.sink) (g.K.Sink.state c.solve_after.new.sink) (g.K.Sink.state c.solve_after-2.new.sink)
-    c.args.session.now c.solve_after.new.session c.solve_after-2.new.session c.solve_after-2.result (ap (λ (v : View). v.state) c.requires.fresh) c.in-Ok.ensures.cause.ok heading
+    c.args.session.now c.solve_after.new.session c.solve_after-2.new.session c.solve_after-2.result (starts _ _ c.requires.fresh) c.in-Ok.ensures.cause.ok heading
     (c.in_ok-solve_after.ensures (posing_lines c.args.size) (record { whole = c.as_bytes-first.ensures.value ∙ c.in_ok-posing.ensures; inner = all_posing c.args.size c.requires.few })) (c.solve_after-2.ensures (easing_lines c.args.size) (record { whole = c.as_bytes-second.ensures.value ∙ c.in_ok-easing.ensures; inner = all_easing c.args.size }))
 
 pub solve_after-requires-clause-state : goal.solve_after-requires-clause-state

@@ -8,7 +8,7 @@ pub returns-in_default-new : goal.returns-in_default-new
 returns-in_default-new g c = want_at_once _ _ _
 
 pub serve-requires-clause-fresh : goal.serve-requires-clause-fresh
-serve-requires-clause-fresh g c = made_fresh _ _ _ c.in-Ok-new.ensures
+serve-requires-clause-fresh g c = made_fresh _ _ _ _ c.in-Ok-new.ensures
 
 pub returns : goal.returns
-returns g c = made_runs _ _ _ _ _ _ c.in-Ok-new.ensures c.serve.ensures
+returns g c = made_runs _ _ _ _ _ _ _ c.in-Ok-new.ensures c.serve.ensures

@@ -1,8 +1,8 @@
 use Rattle.std.proofs.Common.{◌≡◌, ◌<◌, ◌∙◌, get_or, length, refl, sym, ap, subst, arith}
 use Rattle.std.proofs.lemmas.Option.{get_or_from_slice_get}
-use Rattle.palm_explain.specs.Chain.{next_or, nexts_of}
+use Rattle.palm_explain.specs.Chain.{next_or}
 use Rattle.palm_explain.specs.Counts.{HasCounted, counts_of}
-use Rattle.palm_explain.specs.Graph.{IsAntecedent, IsGraph, IsKey, graph_of, marks_of}
+use Rattle.palm_explain.specs.Graph.{IsAntecedent, IsGraph, IsKey, graph_of}
 use Rattle.palm_explain.proofs.Chains.{line_at, line_marked, line_next, line_on, mark_key}
 use Rattle.palm_explain.proofs.Counting.{IsCountedTo, counted_all, counted_next, counted_start}
 use Rattle.palm_explain.proofs.Graphs.{antecedent_key}

@@ -1,4 +1,4 @@
-use Rattle.std.proofs.Common.{◌∙◌, length, arith}
+use Rattle.std.proofs.Common.{arith}
 use Rattle.palm_explain.specs.Graph.{marks_of}
 use Rattle.palm_explain.proofs.Unmarked.{keeping_all, keeping_start, keeping_step}
 use Rattle.palm_explain.proofs.forgetting.keep_unmarked.Goals as goal

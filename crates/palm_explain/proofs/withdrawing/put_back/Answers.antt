@@ -1,26 +1,29 @@
-use Rattle.std.proofs.Common.{◌≡◌, ◌<◌, ◌∷◌, [], Some, nat_eq, get_or, length, take, inl, inr, refl, sym, ap, ◌∙◌, subst, arith, Contains}
+use Rattle.std.proofs.Common.{◌≡◌, ◌<◌, ◌∷◌, [], Some, get_or, length, take, inl, inr, refl, sym, ap, ◌∙◌, subst, arith, Contains}
 use Rattle.std.proofs.Math.Nat.{min-le_left, min-le_right}
 use Rattle.std.proofs.lemmas.List.{take_all}
 use Rattle.std.proofs.lemmas.Option.{get_or_from_slice_get}
-use Rattle.indexmap.specs.IndexSet.{insert_all, spare}
 use Rattle.palm_base.proofs.cited.Members.{member_nil, member_take_more}
-use Rattle.palm_model.specs.Constraint.{Distinct}
-use Rattle.palm_model.specs.Event.{vars_of}
 use Rattle.palm_model.specs.Log.{Removal}
 use Rattle.palm_explain.specs.Chain.{next_or}
 use Rattle.palm_explain.specs.Graph.{Link, graph_of, link_of, marks_of, said}
-use Rattle.palm_explain.specs.Lost.{HasBack, lost_at, lost_of}
+use Rattle.palm_explain.specs.Lost.{lost_at}
 use Rattle.palm_explain.proofs.Chains.{line_at, line_marked, line_next, mark_key}
-use Rattle.palm_explain.proofs.Going.{line_back, line_fewer, line_noted, line_out, line_short}
+use Rattle.palm_explain.proofs.Flags.{key_within, keys_same, keys_then}
+use Rattle.palm_explain.proofs.Going.{line_all, line_out, line_short}
 use Rattle.palm_explain.proofs.Graphs.{link_same, removal_is}
-use Rattle.palm_explain.proofs.PuttingBack.{back_below_all, back_below_next, back_below_room, back_none, distinct_noted, lost_here}
+use Rattle.palm_explain.proofs.PuttingBack.{back_below_all, back_below_next, back_below_none, lost_here}
 use Rattle.palm_explain.proofs.Writes.{key_there}
 use Rattle.palm_explain.proofs.withdrawing.put_back.Goals as goal
 
 pub loop-place-init : goal.loop-place-init
 loop-place-init c = record {
   cursor = λ chain line. line.starts;
-  below = λ chain line. record { back = back_none c.args.store.now; noted = refl; room = let r = c.requires.room in omega (arith, r) };
+  below = λ chain line. back_below_none (graph_of c.args.nodes.now) (marks_of c.args.nodes.now) chain c.args.store.now c.args.restored.now.items;
+  keys = keys_same c.args.rows.now.items;
+  flags = c.requires.flags;
+  once = λ once. once;
+  few = omega arith;
+  room = refl;
   within = omega arith;
   earliest = λ chain line k m t at. absurd (member_nil k t);
 }
@@ -40,7 +43,7 @@ put_back_pair-requires-clause-declared c =
     let line = c.requires.line.1 in
     let key = c.loop-place.key in
     let n = c.index-node.result.now in
-    (line_out s c.args.first c.args.count chain c.args.log.now line c.requires.graph c.args.store.now c.loop-place.store c.args.restored.now.keys c.loop-place.restored.keys (length c.args.log.now) (spare c.loop-place.restored) c.loop-place.place key (said n)
+    (line_out s c.args.first c.args.count chain c.args.log.now line c.requires.graph c.args.store.now c.loop-place.store c.args.restored.now.items c.loop-place.restored.items c.loop-place.place key (said n)
     c.requires.lacks (c.loop-place.invariant.below chain line) (line_at s c.args.first c.args.count chain line c.loop-place.place key c.loop-place-test.true (c.loop-place.invariant.cursor chain line)) (ap link_of c.index-node.ensures)).0
 
 pub put_back_pair-requires-clause-out : goal.put_back_pair-requires-clause-out
@@ -50,17 +53,26 @@ put_back_pair-requires-clause-out c =
     let line = c.requires.line.1 in
     let key = c.loop-place.key in
     let n = c.index-node.result.now in
-    (line_out s c.args.first c.args.count chain c.args.log.now line c.requires.graph c.args.store.now c.loop-place.store c.args.restored.now.keys c.loop-place.restored.keys (length c.args.log.now) (spare c.loop-place.restored) c.loop-place.place key (said n)
+    (line_out s c.args.first c.args.count chain c.args.log.now line c.requires.graph c.args.store.now c.loop-place.store c.args.restored.now.items c.loop-place.restored.items c.loop-place.place key (said n)
     c.requires.lacks (c.loop-place.invariant.below chain line) (line_at s c.args.first c.args.count chain line c.loop-place.place key c.loop-place-test.true (c.loop-place.invariant.cursor chain line)) (ap link_of c.index-node.ensures)).1
+
+pub put_back_pair-requires-clause-row : goal.put_back_pair-requires-clause-row
+put_back_pair-requires-clause-row c =
+    let n = c.index-node.result.now in
+    let lt = key_within c.args.rows.now.items n.pair c.loop-place.key (c.requires.found c.loop-place.key (said n) (ap link_of c.index-node.ensures)) in
+    subst (λ k. n.pair.var < k) (sym c.loop-place.invariant.keys.long) lt
+
+pub put_back_pair-requires-clause-flags : goal.put_back_pair-requires-clause-flags
+put_back_pair-requires-clause-flags c = c.loop-place.invariant.flags
 
 pub put_back_pair-requires-clause-room : goal.put_back_pair-requires-clause-room
 put_back_pair-requires-clause-room c =
-    let s = c.args.nodes.now in
     let chain = c.requires.line.0 in
     let line = c.requires.line.1 in
     let long = line.long in
-    back_below_room (graph_of s) (marks_of s) chain (length c.args.log.now) c.args.store.now c.loop-place.store c.args.restored.now.keys c.loop-place.restored.keys (spare c.loop-place.restored) c.loop-place.place
-    (c.loop-place.invariant.below chain line) (line_short s c.args.first c.args.count chain c.args.log.now line c.requires.graph) (omega (arith, c.loop-place-test.true, long))
+    let short = line_short c.args.nodes.now c.args.first c.args.count chain c.args.log.now line c.requires.graph in
+    let few = c.loop-place.invariant.few in
+    let room = c.loop-place.invariant.room in omega (arith, c.loop-place-test.true, long, short, few, room, c.requires.room)
 
 pub loop-place-preserved : goal.loop-place-preserved
 loop-place-preserved c =
@@ -73,17 +85,20 @@ loop-place-preserved c =
     let node = ap link_of c.index-node.ensures in
     let left = min-le_left c.loop-place.start n.place in
     let right = min-le_right c.loop-place.start n.place in
-    let is = c.min-start.ensures in record {
+    let is = c.min-start.ensures in
+    let put = c.put_back_pair.ensures in record {
       cursor = λ chain line. line_next s c.args.first c.args.count chain line place key c.loop-place-test.true (c.loop-place.invariant.cursor chain line) n.next (ap next_or c.index-node.ensures);
       below = λ chain line.
           let at = line_at s c.args.first c.args.count chain line place key c.loop-place-test.true (c.loop-place.invariant.cursor chain line) in
           let mark = line_marked s c.args.first c.args.count chain line place key c.loop-place-test.true (c.loop-place.invariant.cursor chain line) in
           let here : lost_at g marks chain place ≡ n.pair ∷ [] = lost_here g marks chain place key at mark ∙ ap (λ (r : Removal). r.pair ∷ []) (removal_is g key (said n) node) in
-          let one = ap length here in
-          let room = c.put_back_pair.ensures.room in
-          back_below_next g marks chain (length c.args.log.now) c.args.store.now c.loop-place.store c.put_back_pair.new.store c.args.restored.now.keys c.loop-place.restored.keys c.put_back_pair.new.restored.keys
-          (spare c.loop-place.restored) (spare c.put_back_pair.new.restored) place (c.loop-place.invariant.below chain line) (subst (λ l. HasBack c.loop-place.store c.put_back_pair.new.store l) (sym here) c.put_back_pair.ensures.back)
-          (c.put_back_pair.ensures.noted ∙ ap (λ l. insert_all nat_eq c.loop-place.restored.keys (vars_of l)) (sym here)) (omega (arith, room, one));
+          back_below_next g marks chain c.args.store.now c.loop-place.store c.put_back_pair.new.store c.args.restored.now.items c.loop-place.restored.items c.put_back_pair.new.restored.items n.pair place here
+          (c.loop-place.invariant.below chain line) put.back put.noted;
+      keys = keys_then c.args.rows.now.items c.loop-place.rows.items c.put_back_pair.new.rows.items c.loop-place.invariant.keys put.keys;
+      flags = put.flags;
+      once = λ once. put.once (c.loop-place.invariant.once once);
+      few = let few = c.loop-place.invariant.few in let more = put.room.1 in omega (arith, few, more);
+      room = put.room.0 ∙ c.loop-place.invariant.room;
       within = let w = c.loop-place.invariant.within in omega (arith, left, w, is);
       earliest = λ chain line k m t there.
           let long = line.long in
@@ -102,17 +117,12 @@ returns-clause-back c =
     let chain = c.requires.line.0 in
     let line = c.requires.line.1 in
     let long = line.long in
-    line_back s c.args.first c.args.count chain c.args.log.now line c.requires.graph c.args.store.now c.loop-place.store
-    (back_below_all (graph_of s) (marks_of s) chain (length c.args.log.now) c.args.store.now c.loop-place.store c.args.restored.now.keys c.loop-place.restored.keys (spare c.loop-place.restored) c.loop-place.place
-    (c.loop-place.invariant.below chain line) (omega (arith, c.loop-place-test.false, long)))
+    (line_all s c.args.first c.args.count chain c.args.log.now line c.requires.graph c.args.store.now c.loop-place.store c.args.restored.now.items c.loop-place.restored.items
+    (back_below_all (graph_of s) (marks_of s) chain c.args.store.now c.loop-place.store c.args.restored.now.items c.loop-place.restored.items c.loop-place.place
+    (c.loop-place.invariant.below chain line) (omega (arith, c.loop-place-test.false, long)))).back
 
 pub returns-clause-once : goal.returns-clause-once
-returns-clause-once c once =
-    let s = c.args.nodes.now in
-    let chain = c.requires.line.0 in
-    let line = c.requires.line.1 in
-    subst Distinct (sym (c.loop-place.invariant.below chain line).noted)
-    (distinct_noted c.args.restored.now.keys (vars_of (lost_of (graph_of s) (marks_of s) (take c.loop-place.place chain))) once)
+returns-clause-once c = c.loop-place.invariant.once
 
 pub returns-clause-noted : goal.returns-clause-noted
 returns-clause-noted c x =
@@ -120,20 +130,11 @@ returns-clause-noted c x =
     let chain = c.requires.line.0 in
     let line = c.requires.line.1 in
     let long = line.long in
-    let all : take c.loop-place.place chain ≡ chain = take_all c.loop-place.place chain (omega (arith, c.loop-place-test.false, long)) in
-    line_noted s c.args.first c.args.count chain c.args.log.now line c.requires.graph c.args.restored.now.keys c.loop-place.restored.keys
-    ((c.loop-place.invariant.below chain line).noted ∙ ap (λ l. insert_all nat_eq c.args.restored.now.keys (vars_of (lost_of (graph_of s) (marks_of s) l))) all) x
-
-pub returns-clause-room : goal.returns-clause-room
-returns-clause-room c =
-    let s = c.args.nodes.now in
-    let chain = c.requires.line.0 in
-    let line = c.requires.line.1 in
-    let long = line.long in
-    let all : take c.loop-place.place chain ≡ chain = take_all c.loop-place.place chain (omega (arith, c.loop-place-test.false, long)) in
-    let same = ap (λ l. length (lost_of (graph_of s) (marks_of s) l)) all in
-    let room = (c.loop-place.invariant.below chain line).room in
-    let few = line_fewer s c.args.first c.args.count chain c.args.log.now line c.requires.graph in omega (arith, room, same, few)
+    let all =
+    line_all s c.args.first c.args.count chain c.args.log.now line c.requires.graph c.args.store.now c.loop-place.store c.args.restored.now.items c.loop-place.restored.items
+    (back_below_all (graph_of s) (marks_of s) chain c.args.store.now c.loop-place.store c.args.restored.now.items c.loop-place.restored.items c.loop-place.place
+    (c.loop-place.invariant.below chain line) (omega (arith, c.loop-place-test.false, long))) in
+    (all.noted x, all.all x)
 
 pub returns-clause-earliest : goal.returns-clause-earliest
 returns-clause-earliest c k m mark at =

@@ -1,6 +1,6 @@
 use Rattle.std.proofs.Common.{arith}
-use Rattle.palm_session.proofs.Heard.{has_repaired}
-use Rattle.palm_session.proofs.Places.{chosen_told, settled_objects, settled_places}
+use Rattle.palm_session.proofs.Heard.{has_repaired, repairs_by}
+use Rattle.palm_session.proofs.Places.{chosen_first, chosen_last, chosen_told, settled_objects, settled_places}
 use Rattle.palm_session.proofs.objects.repair_by.Goals as goal
 
 pub returns-clause-guides : goal.returns-clause-guides
@@ -29,3 +29,15 @@ pub returns-clause-ok : goal.returns-clause-ok
 returns-clause-ok g c =
     rw (chosen_told c.guides.inside.places.items c.guides.inside.chosen c.args.guides.now c.guides.invariant c.guides.view_is c.index_mut.result.now c.index_mut.ensures.value)
     (rw (chosen_told c.orders.inside.places.items c.orders.inside.chosen c.args.orders.now c.orders.invariant c.orders.view_is c.index_mut-2.result.now c.index_mut-2.ensures.value) (has_repaired _ _ _ _ _ _ _ _ _ _ _ c.repair.result c.repair.ensures.ok))
+
+pub returns-clause-led : goal.returns-clause-led
+returns-clause-led g c =
+    let gs = c.guides.inside in
+    let os = c.orders.inside in
+    let guide = c.repair.new.guide in
+    let order = c.repair.new.order in
+    repairs_by _ _ c.index_mut.result.now guide _ _ c.index_mut-2.result.now order _ _
+    (chosen_first gs.places.items gs.chosen c.args.guides.now c.guides.invariant c.guides.view_is c.index_mut.result.now c.index_mut.ensures.value)
+    (chosen_last gs.places.items gs.chosen c.args.guides.now c.guides.invariant c.guides.view_is guide)
+    (chosen_first os.places.items os.chosen c.args.orders.now c.orders.invariant c.orders.view_is c.index_mut-2.result.now c.index_mut-2.ensures.value)
+    (chosen_last os.places.items os.chosen c.args.orders.now c.orders.invariant c.orders.view_is order) _ _ _ _ _ c.repair.result c.repair.ensures.ok

@@ -1,10 +1,11 @@
-use Rattle.std.proofs.Common.{◌≡◌, ◌∙◌, ◌+◌, ◌++◌, ◌∷◌, [], ◌≤◌, Some, None, Contains, length, false, refl, sym, ap, subst}
+use Rattle.std.proofs.Common.{◌≡◌, ◌∙◌, ◌+◌, ◌++◌, ◌∷◌, [], ◌≤◌, Some, None, Contains, length, vec_capacity, false, refl, sym, ap, subst}
 use Rattle.std.proofs.Math.Nat.{le_trans}
-use Rattle.indexmap.specs.IndexSet.{spare}
 use Rattle.slab.specs.Slab.{Updates, get}
 use Rattle.palm_explain.specs.declared.node.Node.{Node}
 use Rattle.palm_explain.specs.Explanations.{Explanations}
 use Rattle.palm_explain.specs.Graph.{AreFound, HasLinked, IsStored, IsKey, graph_of, log_of}
+use Rattle.palm_explain.specs.Restored.{AreFlagged}
+use Rattle.palm_explain.proofs.Flags.{flags_like}
 use Rattle.palm_explain.proofs.Graphs.{pair_key}
 use Rattle.palm_explain.proofs.Reading.{on_err, view_same}
 use Rattle.palm_explain.proofs.Stores.{kept_entered, kept_like, kept_with_rows, log_entered, threaded_entered}
@@ -15,14 +16,14 @@ pub invariant_of-self : goal.invariant_of-self
 invariant_of-self c =
     let s = c.self.inside.nodes in
     let keys = c.self.inside.log.items in
-    let rows = kept_with_rows s keys c.self.inside.rows.items c.put_key.new.rows.items (spare c.self.inside.restored) c.args.pair c.self.invariant.kept (rw (← c.self.view_is) at c.requires.fresh) c.put_key.ensures.formed c.put_key.ensures.others in
-    record { kept = rows; threaded = c.self.invariant.threaded }
+    let rows = kept_with_rows s keys c.self.inside.rows.items c.put_key.new.rows.items (vec_capacity c.self.inside.restored) c.args.pair c.self.invariant.kept (rw (← c.self.view_is) at c.requires.fresh) c.put_key.ensures.formed c.put_key.ensures.others in
+    record { kept = rows; threaded = c.self.invariant.threaded; flagged = flags_like c.self.inside.rows.items c.self.inside.restored.items c.self.invariant.flagged c.put_key.new.rows.items c.put_key.ensures.flags }
 
 pub antecedents_of-requires-clause-found : goal.antecedents_of-requires-clause-found
 antecedents_of-requires-clause-found c =
     let s = c.self.inside.nodes in
     let keys = c.self.inside.log.items in
-    let rows = kept_with_rows s keys c.self.inside.rows.items c.put_key.new.rows.items (spare c.self.inside.restored) c.args.pair c.self.invariant.kept (rw (← c.self.view_is) at c.requires.fresh) c.put_key.ensures.formed c.put_key.ensures.others in
+    let rows = kept_with_rows s keys c.self.inside.rows.items c.put_key.new.rows.items (vec_capacity c.self.inside.restored) c.args.pair c.self.invariant.kept (rw (← c.self.view_is) at c.requires.fresh) c.put_key.ensures.formed c.put_key.ensures.others in
     subst (λ rs. AreFound rs (graph_of s)) (sym c.deref.ensures.value) rows.found
 
 pub antecedents_of-requires-clause-removed : goal.antecedents_of-requires-clause-removed
@@ -33,8 +34,8 @@ pub invariant_of-self-in_err-antecedents : goal.invariant_of-self-in_err-anteced
 invariant_of-self-in_err-antecedents c =
     let s = c.self.inside.nodes in
     let keys = c.self.inside.log.items in
-    let rows = kept_with_rows s keys c.self.inside.rows.items c.put_key.new.rows.items (spare c.self.inside.restored) c.args.pair c.self.invariant.kept (rw (← c.self.view_is) at c.requires.fresh) c.put_key.ensures.formed c.put_key.ensures.others in
-    record { kept = rows; threaded = c.self.invariant.threaded }
+    let rows = kept_with_rows s keys c.self.inside.rows.items c.put_key.new.rows.items (vec_capacity c.self.inside.restored) c.args.pair c.self.invariant.kept (rw (← c.self.view_is) at c.requires.fresh) c.put_key.ensures.formed c.put_key.ensures.others in
+    record { kept = rows; threaded = c.self.invariant.threaded; flagged = flags_like c.self.inside.rows.items c.self.inside.restored.items c.self.invariant.flagged c.put_key.new.rows.items c.put_key.ensures.flags }
 
 pub make_room-requires : goal.make_room-requires
 make_room-requires c k m = c.in_ok-antecedents.ensures.keys k (subst (λ l. Contains l k) c.deref-2.ensures.value m)
@@ -43,35 +44,37 @@ pub invariant_of-self-in_err-make_room : goal.invariant_of-self-in_err-make_room
 invariant_of-self-in_err-make_room c =
     let s = c.self.inside.nodes in
     let keys = c.self.inside.log.items in
-    let rows = kept_with_rows s keys c.self.inside.rows.items c.put_key.new.rows.items (spare c.self.inside.restored) c.args.pair c.self.invariant.kept (rw (← c.self.view_is) at c.requires.fresh) c.put_key.ensures.formed c.put_key.ensures.others in
-    let spares = spare c.make_room.new.restored in
-    let more = kept_like s c.make_room.new.nodes keys c.put_key.new.rows.items (spare c.self.inside.restored) spares rows c.make_room.ensures.graph c.make_room.ensures.marks (le_trans c.self.invariant.kept.room c.make_room.ensures.grows) in
+    let rows = kept_with_rows s keys c.self.inside.rows.items c.put_key.new.rows.items (vec_capacity c.self.inside.restored) c.args.pair c.self.invariant.kept (rw (← c.self.view_is) at c.requires.fresh) c.put_key.ensures.formed c.put_key.ensures.others in
+    let spares = vec_capacity c.make_room.new.restored in
+    let more = kept_like s c.make_room.new.nodes keys c.put_key.new.rows.items (vec_capacity c.self.inside.restored) spares rows c.make_room.ensures.graph c.make_room.ensures.marks (le_trans c.self.invariant.kept.room c.make_room.ensures.grows) in
     record {
       kept = subst (λ ks. IsStored c.make_room.new.nodes ks c.put_key.new.rows.items spares) (sym c.make_room.ensures.log) more;
       threaded = threaded_same c.self.inside.threads c.self.inside.threads (graph_of s) (graph_of c.make_room.new.nodes) _ c.self.invariant.threaded c.self.invariant.threaded.formed (λ q. refl) c.make_room.ensures.graph;
+      flagged = subst (AreFlagged c.put_key.new.rows.items) (sym c.make_room.ensures.restored) (flags_like c.self.inside.rows.items c.self.inside.restored.items c.self.invariant.flagged c.put_key.new.rows.items c.put_key.ensures.flags);
     }
 
 pub returns-in_err-make_room-clause-err : goal.returns-in_err-make_room-clause-err
 returns-in_err-make_room-clause-err c =
     on_err c.from_residual-in_err-make_room.result _
-    (view_same c.self.inside.nodes c.make_room.new.nodes c.self.inside.log.items c.make_room.new.log.items c.self.inside.restored.keys c.make_room.new.restored.keys c.args.self.now c.make_room.ensures.graph c.make_room.ensures.log c.make_room.ensures.restored c.self.view_is)
+    (view_same c.self.inside.nodes c.make_room.new.nodes c.self.inside.log.items c.make_room.new.log.items c.self.inside.restored.items c.make_room.new.restored.items c.args.self.now c.make_room.ensures.graph c.make_room.ensures.log c.make_room.ensures.restored c.self.view_is)
 
 pub invariant_of-self-in_err-at : goal.invariant_of-self-in_err-at
 invariant_of-self-in_err-at c =
     let s = c.self.inside.nodes in
     let keys = c.self.inside.log.items in
-    let rows = kept_with_rows s keys c.self.inside.rows.items c.put_key.new.rows.items (spare c.self.inside.restored) c.args.pair c.self.invariant.kept (rw (← c.self.view_is) at c.requires.fresh) c.put_key.ensures.formed c.put_key.ensures.others in
-    let spares = spare c.make_room.new.restored in
-    let more = kept_like s c.make_room.new.nodes keys c.put_key.new.rows.items (spare c.self.inside.restored) spares rows c.make_room.ensures.graph c.make_room.ensures.marks (le_trans c.self.invariant.kept.room c.make_room.ensures.grows) in
+    let rows = kept_with_rows s keys c.self.inside.rows.items c.put_key.new.rows.items (vec_capacity c.self.inside.restored) c.args.pair c.self.invariant.kept (rw (← c.self.view_is) at c.requires.fresh) c.put_key.ensures.formed c.put_key.ensures.others in
+    let spares = vec_capacity c.make_room.new.restored in
+    let more = kept_like s c.make_room.new.nodes keys c.put_key.new.rows.items (vec_capacity c.self.inside.restored) spares rows c.make_room.ensures.graph c.make_room.ensures.marks (le_trans c.self.invariant.kept.room c.make_room.ensures.grows) in
     record {
       kept = subst (λ ks. IsStored c.make_room.new.nodes ks c.put_key.new.rows.items spares) (sym c.make_room.ensures.log) more;
       threaded = threaded_same c.self.inside.threads c.push.new.self (graph_of s) (graph_of c.make_room.new.nodes) _ c.self.invariant.threaded c.push.ensures.formed c.in_err-at.ensures.err c.make_room.ensures.graph;
+      flagged = subst (AreFlagged c.put_key.new.rows.items) (sym c.make_room.ensures.restored) (flags_like c.self.inside.rows.items c.self.inside.restored.items c.self.invariant.flagged c.put_key.new.rows.items c.put_key.ensures.flags);
     }
 
 pub returns-in_err-at-clause-err : goal.returns-in_err-at-clause-err
 returns-in_err-at-clause-err c =
     on_err c.from_residual-in_err-at.result _
-    (view_same c.self.inside.nodes c.make_room.new.nodes c.self.inside.log.items c.make_room.new.log.items c.self.inside.restored.keys c.make_room.new.restored.keys c.args.self.now c.make_room.ensures.graph c.make_room.ensures.log c.make_room.ensures.restored c.self.view_is)
+    (view_same c.self.inside.nodes c.make_room.new.nodes c.self.inside.log.items c.make_room.new.log.items c.self.inside.restored.items c.make_room.new.restored.items c.args.self.now c.make_room.ensures.graph c.make_room.ensures.log c.make_room.ensures.restored c.self.view_is)
 
 pub link-requires-clause-keys : goal.link-requires-clause-keys
 link-requires-clause-keys c k m =
@@ -85,9 +88,9 @@ pub invariant_of-self-2 : goal.invariant_of-self-2
 invariant_of-self-2 c =
     let s = c.self.inside.nodes in
     let keys = c.self.inside.log.items in
-    let rows = kept_with_rows s keys c.self.inside.rows.items c.put_key.new.rows.items (spare c.self.inside.restored) c.args.pair c.self.invariant.kept (rw (← c.self.view_is) at c.requires.fresh) c.put_key.ensures.formed c.put_key.ensures.others in
-    let spares = spare c.make_room.new.restored in
-    let more = kept_like s s keys c.put_key.new.rows.items (spare c.self.inside.restored) spares rows refl refl (le_trans c.self.invariant.kept.room c.make_room.ensures.grows) in
+    let rows = kept_with_rows s keys c.self.inside.rows.items c.put_key.new.rows.items (vec_capacity c.self.inside.restored) c.args.pair c.self.invariant.kept (rw (← c.self.view_is) at c.requires.fresh) c.put_key.ensures.formed c.put_key.ensures.others in
+    let spares = vec_capacity c.make_room.new.restored in
+    let more = kept_like s s keys c.put_key.new.rows.items (vec_capacity c.self.inside.restored) spares rows refl refl (le_trans c.self.invariant.kept.room c.make_room.ensures.grows) in
     let t = c.link.new.nodes in
     let u = c.insert_reserved.new.self in
     let key = c.vacant_key-key.result in
@@ -105,15 +108,16 @@ invariant_of-self-2 c =
           (kept_entered s t u keys c.put_key.new.rows.items spares key n c.args.reasons.now more (rw (← c.self.view_is) at c.requires.fresh) (rw (← c.self.view_is) at c.requires.earlier) c.in_ok-antecedents.ensures.reasons c.in_ok-antecedents.ensures.keys c.in_ok-put_key.ensures.there linked (c.link.ensures.marks ∙ c.make_room.ensures.marks) free updates c.take.ensures place refl wide);
       threaded = threaded_entered s t u keys c.put_key.new.rows.items spares key n c.args.reasons.now more (rw (← c.self.view_is) at c.requires.fresh) (rw (← c.self.view_is) at c.requires.earlier) c.in_ok-antecedents.ensures.reasons c.in_ok-antecedents.ensures.keys c.in_ok-put_key.ensures.there linked (c.link.ensures.marks ∙ c.make_room.ensures.marks) free updates c.take.ensures place refl wide
           c.self.inside.threads c.push.new.self c.self.invariant.threaded c.push.ensures.formed c.in_ok-at.ensures.added c.push.ensures.others;
+      flagged = subst (AreFlagged c.put_key.new.rows.items) (sym c.make_room.ensures.restored) (flags_like c.self.inside.rows.items c.self.inside.restored.items c.self.invariant.flagged c.put_key.new.rows.items c.put_key.ensures.flags);
     }
 
 pub returns-clause-ok : goal.returns-clause-ok
 returns-clause-ok c =
     let s = c.self.inside.nodes in
     let keys = c.self.inside.log.items in
-    let rows = kept_with_rows s keys c.self.inside.rows.items c.put_key.new.rows.items (spare c.self.inside.restored) c.args.pair c.self.invariant.kept (rw (← c.self.view_is) at c.requires.fresh) c.put_key.ensures.formed c.put_key.ensures.others in
-    let spares = spare c.make_room.new.restored in
-    let more = kept_like s s keys c.put_key.new.rows.items (spare c.self.inside.restored) spares rows refl refl (le_trans c.self.invariant.kept.room c.make_room.ensures.grows) in
+    let rows = kept_with_rows s keys c.self.inside.rows.items c.put_key.new.rows.items (vec_capacity c.self.inside.restored) c.args.pair c.self.invariant.kept (rw (← c.self.view_is) at c.requires.fresh) c.put_key.ensures.formed c.put_key.ensures.others in
+    let spares = vec_capacity c.make_room.new.restored in
+    let more = kept_like s s keys c.put_key.new.rows.items (vec_capacity c.self.inside.restored) spares rows refl refl (le_trans c.self.invariant.kept.room c.make_room.ensures.grows) in
     let t = c.link.new.nodes in
     let u = c.insert_reserved.new.self in
     let key = c.vacant_key-key.result in

@@ -1,5 +1,4 @@
-use Rattle.std.proofs.Common.{◌≡◌, ◌⊎◌, true, ◌∷◌, [], inl, inr, sym, ap, ◌∙◌, subst, Contains}
-use Rattle.indexmap.specs.IndexSet.{spare}
+use Rattle.std.proofs.Common.{◌≡◌, ◌⊎◌, true, ◌∷◌, [], length, vec_capacity, inl, inr, sym, ap, ◌∙◌, subst, arith, Contains}
 use Rattle.palm_base.proofs.cited.Members.{member_nil}
 use Rattle.palm_model.specs.Constraint.{Distinct}
 use Rattle.palm_model.specs.Event.{lost_pairs, vars_of}
@@ -11,7 +10,8 @@ use Rattle.palm_explain.specs.Threads.{AreThreaded}
 use Rattle.palm_explain.proofs.Chains.{mark_key}
 use Rattle.palm_explain.proofs.ClosedUp.{forgotten_earliest, forgotten_placed}
 use Rattle.palm_explain.proofs.Dropping.{forgotten_on}
-use Rattle.palm_explain.proofs.Stores.{kept_withdrawn, lacks_withdrawn, loses_withdrawn, threaded_withdrawn, vars_withdrawn}
+use Rattle.palm_explain.proofs.Flags.{keys_then}
+use Rattle.palm_explain.proofs.Stores.{kept_with_keys, kept_withdrawn, lacks_withdrawn, loses_withdrawn, threaded_withdrawn, vars_withdrawn}
 use Rattle.palm_explain.proofs.ThreadKeys.{taken_sound, taken_whole, threaded_taken}
 use Rattle.palm_explain.proofs.store.ExplainStore.withdraw.Goals as goal
 
@@ -24,6 +24,16 @@ mark_lost-count-requires-clause-own c k m =
 pub forget_threads-requires-clause-once : goal.forget_threads-requires-clause-once
 forget_threads-requires-clause-once c =
     let taken = threaded_taken c.self.inside.threads c.take-own.new.self (graph_of c.self.inside.nodes) c.args.cid c.self.invariant.threaded c.take-own.ensures.formed c.take-own.ensures.none c.take-own.ensures.others in taken.once
+
+pub put_back-start-requires-clause-found : goal.put_back-start-requires-clause-found
+put_back-start-requires-clause-found c k l at =
+    c.empty_out.ensures.keys.keys l.pair ∙ c.self.invariant.kept.found k l (sym (ap (λ g. g k) c.mark_lost-count.ensures.graph) ∙ at)
+
+pub put_back-start-requires-clause-room : goal.put_back-start-requires-clause-room
+put_back-start-requires-clause-room c =
+    let none = ap length c.empty_out.ensures.empty in
+    let long = ap length c.as_slice-log.ensures.value in
+    let ok = c.empty_out.new.vars.ok.0 in omega (arith, none, long, ok, c.self.invariant.kept.room, c.empty_out.ensures.room)
 
 pub count_lost-requires-clause-graph : goal.count_lost-requires-clause-graph
 count_lost-requires-clause-graph c =
@@ -57,13 +67,16 @@ invariant_of-self c =
     let taken = threaded_taken c.self.inside.threads c.take-own.new.self (graph_of c.self.inside.nodes) c.args.cid c.self.invariant.threaded c.take-own.ensures.formed c.take-own.ensures.none c.take-own.ensures.others in
     let forgot = c.forget_threads.ensures.forgotten (subst (λ g. AreThreaded c.take-own.new.self g (IsBy g c.args.cid)) (sym graph) taken) in
     record {
-      kept = kept_withdrawn c.self.inside.nodes c.mark_lost-count.new.nodes c.forget_marked.new.nodes c.close_up.new.nodes c.self.inside.log.items c.close_up.new.log.items c.self.inside.rows.items (spare c.self.inside.restored) (spare c.put_back-start.new.restored) c.args.cid c.self.invariant.kept
+      kept = kept_with_keys c.close_up.new.nodes c.close_up.new.log.items c.self.inside.rows.items c.put_back-start.new.rows.items (vec_capacity c.put_back-start.new.restored)
+          (kept_withdrawn c.self.inside.nodes c.mark_lost-count.new.nodes c.forget_marked.new.nodes c.close_up.new.nodes c.self.inside.log.items c.close_up.new.log.items c.self.inside.rows.items (vec_capacity c.self.inside.restored) (vec_capacity c.put_back-start.new.restored) c.args.cid c.self.invariant.kept
           c.mark_lost-count.ensures.graph told (forgotten_on c.mark_lost-count.new.nodes c.count_lost.new.nodes c.forget_marked.new.nodes (c.count_lost.ensures.graph ∙ c.forget_threads.ensures.graph) (c.count_lost.ensures.marks ∙ c.forget_threads.ensures.marks) c.forget_marked.ensures.forgotten) (c.forget_marked.ensures.marks ∙ c.count_lost.ensures.marks ∙ c.forget_threads.ensures.marks) c.close_up.ensures.closed c.close_up.ensures.unmarked
-          (rw c.as_slice-log.ensures.value at c.put_back-start.ensures.room);
-      threaded = threaded_withdrawn c.self.inside.nodes c.mark_lost-count.new.nodes c.forget_marked.new.nodes c.close_up.new.nodes c.self.inside.log.items c.close_up.new.log.items c.self.inside.rows.items (spare c.self.inside.restored) (spare c.put_back-start.new.restored) c.args.cid c.self.invariant.kept
+          (omega (arith, c.self.invariant.kept.room, c.empty_out.ensures.room, c.put_back-start.ensures.room)))
+          (keys_then c.self.inside.rows.items c.empty_out.new.rows.items c.put_back-start.new.rows.items c.empty_out.ensures.keys c.put_back-start.ensures.keys);
+      threaded = threaded_withdrawn c.self.inside.nodes c.mark_lost-count.new.nodes c.forget_marked.new.nodes c.close_up.new.nodes c.self.inside.log.items c.close_up.new.log.items c.self.inside.rows.items (vec_capacity c.self.inside.restored) (vec_capacity c.put_back-start.new.restored) c.args.cid c.self.invariant.kept
           c.mark_lost-count.ensures.graph told (forgotten_on c.mark_lost-count.new.nodes c.count_lost.new.nodes c.forget_marked.new.nodes (c.count_lost.ensures.graph ∙ c.forget_threads.ensures.graph) (c.count_lost.ensures.marks ∙ c.forget_threads.ensures.marks) c.forget_marked.ensures.forgotten) (c.forget_marked.ensures.marks ∙ c.count_lost.ensures.marks ∙ c.forget_threads.ensures.marks) c.close_up.ensures.closed c.close_up.ensures.unmarked
-          (rw c.as_slice-log.ensures.value at c.put_back-start.ensures.room)
+          (omega (arith, c.self.invariant.kept.room, c.empty_out.ensures.room, c.put_back-start.ensures.room))
           c.forget_threads.new.threads (subst (λ g. AreThreaded c.forget_threads.new.threads g (λ k. IsBy g c.args.cid k ⊎ (marks_of c.mark_lost-count.new.nodes k ≡ true))) graph forgot);
+      flagged = c.put_back-start.ensures.flags;
     }
 
 pub returns-clause-loses : goal.returns-clause-loses
@@ -73,9 +86,9 @@ returns-clause-loses c =
     rw c.as_slice-log.ensures.value at (c.mark_lost-count.ensures.told c.args.cid (taken_sound c.self.inside.threads (graph_of c.self.inside.nodes) c.args.cid c.deref-2.result.now c.self.invariant.threaded is)
     (taken_whole c.self.inside.threads (graph_of c.self.inside.nodes) c.args.cid c.deref-2.result.now c.self.invariant.threaded is)) in
     subst (λ (v : Explanations). Loses v.log (c.args.cid ∷ []) v.log (log_of (graph_of c.close_up.new.nodes) c.close_up.new.log.items)) c.self.view_is
-    (loses_withdrawn c.self.inside.nodes c.mark_lost-count.new.nodes c.forget_marked.new.nodes c.close_up.new.nodes c.self.inside.log.items c.close_up.new.log.items c.self.inside.rows.items (spare c.self.inside.restored) (spare c.put_back-start.new.restored) c.args.cid c.self.invariant.kept
+    (loses_withdrawn c.self.inside.nodes c.mark_lost-count.new.nodes c.forget_marked.new.nodes c.close_up.new.nodes c.self.inside.log.items c.close_up.new.log.items c.self.inside.rows.items (vec_capacity c.self.inside.restored) (vec_capacity c.put_back-start.new.restored) c.args.cid c.self.invariant.kept
     c.mark_lost-count.ensures.graph told (forgotten_on c.mark_lost-count.new.nodes c.count_lost.new.nodes c.forget_marked.new.nodes (c.count_lost.ensures.graph ∙ c.forget_threads.ensures.graph) (c.count_lost.ensures.marks ∙ c.forget_threads.ensures.marks) c.forget_marked.ensures.forgotten) (c.forget_marked.ensures.marks ∙ c.count_lost.ensures.marks ∙ c.forget_threads.ensures.marks) c.close_up.ensures.closed c.close_up.ensures.unmarked
-    (rw c.as_slice-log.ensures.value at c.put_back-start.ensures.room))
+    (omega (arith, c.self.invariant.kept.room, c.empty_out.ensures.room, c.put_back-start.ensures.room)))
 
 pub returns-clause-lacks : goal.returns-clause-lacks
 returns-clause-lacks c =
@@ -83,9 +96,9 @@ returns-clause-lacks c =
     let told =
     rw c.as_slice-log.ensures.value at (c.mark_lost-count.ensures.told c.args.cid (taken_sound c.self.inside.threads (graph_of c.self.inside.nodes) c.args.cid c.deref-2.result.now c.self.invariant.threaded is)
     (taken_whole c.self.inside.threads (graph_of c.self.inside.nodes) c.args.cid c.deref-2.result.now c.self.invariant.threaded is)) in
-    lacks_withdrawn c.self.inside.nodes c.mark_lost-count.new.nodes c.forget_marked.new.nodes c.close_up.new.nodes c.self.inside.log.items c.close_up.new.log.items c.self.inside.rows.items (spare c.self.inside.restored) (spare c.put_back-start.new.restored) c.args.cid c.self.invariant.kept
+    lacks_withdrawn c.self.inside.nodes c.mark_lost-count.new.nodes c.forget_marked.new.nodes c.close_up.new.nodes c.self.inside.log.items c.close_up.new.log.items c.self.inside.rows.items (vec_capacity c.self.inside.restored) (vec_capacity c.put_back-start.new.restored) c.args.cid c.self.invariant.kept
     c.mark_lost-count.ensures.graph told (forgotten_on c.mark_lost-count.new.nodes c.count_lost.new.nodes c.forget_marked.new.nodes (c.count_lost.ensures.graph ∙ c.forget_threads.ensures.graph) (c.count_lost.ensures.marks ∙ c.forget_threads.ensures.marks) c.forget_marked.ensures.forgotten) (c.forget_marked.ensures.marks ∙ c.count_lost.ensures.marks ∙ c.forget_threads.ensures.marks) c.close_up.ensures.closed c.close_up.ensures.unmarked
-    (rw c.as_slice-log.ensures.value at c.put_back-start.ensures.room)
+    (omega (arith, c.self.invariant.kept.room, c.empty_out.ensures.room, c.put_back-start.ensures.room))
     c.args.store.now c.put_back-start.new.store (rw (← c.self.view_is) at c.requires.lacks) (rw c.as_slice-log.ensures.value at c.put_back-start.ensures.back) c.put_back-start.ensures.ascend.1 c.put_back-start.ensures.ascend.0
 
 pub returns-clause-once : goal.returns-clause-once
@@ -94,15 +107,15 @@ returns-clause-once c = c.put_back-start.ensures.once (subst Distinct (sym c.emp
 pub returns-clause-restored : goal.returns-clause-restored
 returns-clause-restored c x =
     let vars = vars_of (lost_of (graph_of c.mark_lost-count.new.nodes) (marks_of c.mark_lost-count.new.nodes) c.self.inside.log.items) in
-    let noted : (Contains c.put_back-start.new.restored.keys x → Contains [] x ⊎ Contains vars x) × (Contains [] x ⊎ Contains vars x → Contains c.put_back-start.new.restored.keys x) =
+    let noted : (Contains c.put_back-start.new.restored.items x → Contains [] x ⊎ Contains vars x) × (Contains [] x ⊎ Contains vars x → Contains c.put_back-start.new.restored.items x) =
     rw (c.as_slice-log.ensures.value, c.empty_out.ensures.empty) at (c.put_back-start.ensures.noted x) in
-    let keys = c.put_back-start.new.restored.keys in
+    let keys = c.put_back-start.new.restored.items in
     let is = c.deref-2.ensures.value ∙ c.take-own.ensures.taken in
     let told =
     rw c.as_slice-log.ensures.value at (c.mark_lost-count.ensures.told c.args.cid (taken_sound c.self.inside.threads (graph_of c.self.inside.nodes) c.args.cid c.deref-2.result.now c.self.invariant.threaded is)
     (taken_whole c.self.inside.threads (graph_of c.self.inside.nodes) c.args.cid c.deref-2.result.now c.self.invariant.threaded is)) in
     subst (λ (v : Explanations). (Contains keys x → Contains (vars_of (lost_pairs v.log (log_of (graph_of c.close_up.new.nodes) c.close_up.new.log.items))) x)
     × (Contains (vars_of (lost_pairs v.log (log_of (graph_of c.close_up.new.nodes) c.close_up.new.log.items))) x → Contains keys x)) c.self.view_is
-    (vars_withdrawn c.self.inside.nodes c.mark_lost-count.new.nodes c.forget_marked.new.nodes c.close_up.new.nodes c.self.inside.log.items c.close_up.new.log.items c.self.inside.rows.items (spare c.self.inside.restored) (spare c.put_back-start.new.restored) c.args.cid c.self.invariant.kept
+    (vars_withdrawn c.self.inside.nodes c.mark_lost-count.new.nodes c.forget_marked.new.nodes c.close_up.new.nodes c.self.inside.log.items c.close_up.new.log.items c.self.inside.rows.items (vec_capacity c.self.inside.restored) (vec_capacity c.put_back-start.new.restored) c.args.cid c.self.invariant.kept
     c.mark_lost-count.ensures.graph told (forgotten_on c.mark_lost-count.new.nodes c.count_lost.new.nodes c.forget_marked.new.nodes (c.count_lost.ensures.graph ∙ c.forget_threads.ensures.graph) (c.count_lost.ensures.marks ∙ c.forget_threads.ensures.marks) c.forget_marked.ensures.forgotten) (c.forget_marked.ensures.marks ∙ c.count_lost.ensures.marks ∙ c.forget_threads.ensures.marks) c.close_up.ensures.closed c.close_up.ensures.unmarked
-    (rw c.as_slice-log.ensures.value at c.put_back-start.ensures.room) keys x (λ m. elim (noted.0 m) [ inl none ↦ absurd (member_nil x none) | inr n ↦ n ], λ m. noted.1 (inr m)))
+    (omega (arith, c.self.invariant.kept.room, c.empty_out.ensures.room, c.put_back-start.ensures.room)) keys x (λ m. elim (noted.0 m) [ inl none ↦ absurd (member_nil x none) | inr n ↦ n ], λ m. noted.1 (inr m)))

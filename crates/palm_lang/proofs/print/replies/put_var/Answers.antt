@@ -1,6 +1,6 @@
 use Rattle.std.proofs.Common.{◌++◌, [], append_assoc, codes, ap, refl}
 use Rattle.std.proofs.lemmas.List.{append-nil}
-use Rattle.palm_lang.specs.Reply.{values_text}
+use Rattle.palm_read.specs.Interval.{values_text}
 use Rattle.palm_lang.proofs.PrintLemmas.{Keeps-more, Puts-kept, Puts-more}
 use Rattle.palm_lang.proofs.print.replies.put_var.Goals as goal
 

@@ -1,13 +1,24 @@
-use Rattle.std.proofs.Common.{◌-◌}
-use Rattle.std.proofs.lemmas.Result.{IfOk-weaker}
+use Rattle.std.proofs.Common.{◌-◌, Option}
+use Rattle.std.proofs.lemmas.Result.{IfOk-weaker, on_ok_weaker}
+use Rattle.palm_engine.specs.Following.{Hearing, OrderFollows}
+use Rattle.palm_search.specs.Following.{GuideFollows, Moment}
 use Rattle.palm_session.specs.Answers.{Answers, refused}
 use Rattle.palm_session.specs.Asking.{Asks}
 use Rattle.palm_session.specs.Feeding.{Decides}
 use Rattle.palm_session.specs.ReplyText.{reply_text, IsRefusal}
 use Rattle.palm_session.specs.Serving.{Takes}
 use Rattle.palm_session.proofs.Deciding.{answers_refusal, decides_refusal, decides_refused, decides_taken, on_ok, takes_answers, takes_asks}
+use Rattle.palm_session.proofs.Led.{line_led, misread_led, refused_led}
 use Rattle.palm_session.proofs.cited.LawsOfAnswers.{read_admits}
+use Rattle.palm_session.proofs.desk.Desk.decide.Given as given
 use Rattle.palm_session.proofs.desk.Desk.decide.Goals as goal
+
+-- the guide's own relations, and the order's
+abbrev guiding : (g : given.Over) → Moment → Option g.row.G.Denot → Option g.row.G.Denot → Type 0
+guiding g = GuideFollows g.G.Guide.answers g.G.Guide.hears g.G.Guide.state
+
+abbrev ordering : (g : given.Over) → Hearing → Option g.row.O.Denot → Option g.row.O.Denot → Type 0
+ordering g = OrderFollows g.O.Order.answers g.O.Order.hears g.O.Order.state
 
 pub take-requires-clause-admitted : goal.take-requires-clause-admitted
 take-requires-clause-admitted g c =
@@ -61,3 +72,19 @@ pub returns-in-Err-clause-going : goal.returns-in-Err-clause-going
 returns-in-Err-clause-going g c =
     IfOk-weaker c.misread.result (IsRefusal c.in-Err.error) (λ r. Decides r.1 c.args.line.now)
     (decides_refusal c.args.line.now c.in-Err.error c.in-Err.ensures.read) c.misread.ensures
+
+pub returns-in-Ok-2-clause-led : goal.returns-in-Ok-2-clause-led
+returns-in-Ok-2-clause-led g c =
+    let s = c.args.self.now in
+    let t = c.take.new.self in
+    let admitted = rw c.in-Ok-2.is at c.in_ok-request-in-Ok.ensures in
+    on_ok_weaker c.take.result (line_led (guiding g) (ordering g) s.state c.args.line.now s.objects c.in-Ok.line c.in-Ok-2.request t.state t.objects c.in-Ok.ensures.read admitted) c.take.ensures.led
+
+pub returns-in-Err-2-clause-led : goal.returns-in-Err-2-clause-led
+returns-in-Err-2-clause-led g c =
+    let first = rw c.in-Err-2.is at c.in_ok-request-in-Ok.ensures in
+    refused_led (guiding g) (ordering g) c.args.self.now.state c.args.line.now c.args.self.now.objects c.in-Ok.line c.in-Err-2.refusal c.in-Ok.ensures.read first
+
+pub returns-in-Err-clause-led : goal.returns-in-Err-clause-led
+returns-in-Err-clause-led g c =
+    misread_led (guiding g) (ordering g) c.args.self.now.state c.args.line.now c.args.self.now.objects c.in-Err.error c.misread.result c.in-Err.ensures.read c.misread.ensures

@@ -10,8 +10,8 @@ use Rattle.palm_session.proofs.desk.Desk.enforce.Goals as goal
 
 pub post-requires-clause-inactive : goal.post-requires-clause-inactive
 post-requires-clause-inactive g c =
-    let held = subst (λ (d : DeskView). IsHeld d.state) (sym c.self.view_is) c.requires.held in
-    let stands = subst (λ (d : DeskView). StandsAt d.state c.args.place false) (sym c.self.view_is) c.requires.relaxed in
+    let held = subst (λ (d : DeskView g.row.G.Denot g.row.O.Denot). IsHeld d.state) (sym c.self.view_is) c.requires.held in
+    let stands = subst (λ (d : DeskView g.row.G.Denot g.row.O.Denot). StandsAt d.state c.args.place false) (sym c.self.view_is) c.requires.relaxed in
     let at = c.constraint-entry.ensures.at in
     stands_inactive _ held _ _ at (stands_as _ _ _ _ stands at)
 
@@ -20,7 +20,7 @@ set_active-requires g c = slice_get_within _ _ _ c.constraint-entry.ensures.at
 
 pub constraint-entry-requires : goal.constraint-entry-requires
 constraint-entry-requires g c =
-    let stands = subst (λ (d : DeskView). StandsAt d.state c.args.place false) (sym c.self.view_is) c.requires.relaxed in
+    let stands = subst (λ (d : DeskView g.row.G.Denot g.row.O.Denot). StandsAt d.state c.args.place false) (sym c.self.view_is) c.requires.relaxed in
     slice_get_within _ _ _ stands.at
 
 pub from_con-requires : goal.from_con-requires
@@ -28,7 +28,7 @@ from_con-requires g c = (length c.self.inside.book.variables, c.constraint-entry
 
 pub post-requires-clause-declared : goal.post-requires-clause-declared
 post-requires-clause-declared g c =
-    let held = subst (λ (d : DeskView). IsHeld d.state) (sym c.self.view_is) c.requires.held in
+    let held = subst (λ (d : DeskView g.row.G.Denot g.row.O.Denot). IsHeld d.state) (sym c.self.view_is) c.requires.held in
     let long : length c.self.inside.engine.state.initial ≡ length c.self.inside.book.variables = ap length held.initial ∙ length-map _ _ in
     rw c.in_ok-kind.ensures (subst (λ (n : ℕ). All (λ x. x < n) (scope c.constraint-entry.result.now.con)) (sym long) c.constraint-entry.ensures.formed.declared)
 

@@ -8,8 +8,8 @@ use Rattle.palm_session.proofs.desk.Desk.relax.Goals as goal
 
 pub withdraw-requires : goal.withdraw-requires
 withdraw-requires g c =
-    let held = subst (λ (d : DeskView). IsHeld d.state) (sym c.self.view_is) c.requires.held in
-    let stands = subst (λ (d : DeskView). StandsAt d.state c.args.place true) (sym c.self.view_is) c.requires.active in
+    let held = subst (λ (d : DeskView g.row.G.Denot g.row.O.Denot). IsHeld d.state) (sym c.self.view_is) c.requires.held in
+    let stands = subst (λ (d : DeskView g.row.G.Denot g.row.O.Denot). StandsAt d.state c.args.place true) (sym c.self.view_is) c.requires.active in
     let at = c.constraint.ensures.at in
     stands_active _ held _ _ at (stands_as _ _ _ _ stands at)
 

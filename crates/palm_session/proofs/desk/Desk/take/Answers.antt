@@ -1,8 +1,19 @@
-use Rattle.std.proofs.Common.{arith}
+use Rattle.std.proofs.Common.{Option, arith}
 use Rattle.palm_base.proofs.cited.Telling.{tells_false, tells_true}
+use Rattle.palm_engine.specs.Following.{Hearing, OrderFollows}
+use Rattle.palm_search.specs.Following.{GuideFollows, Moment}
+use Rattle.palm_session.proofs.Led.{takes_led, waits_led}
 use Rattle.palm_session.proofs.Taking.{can_do, can_say, contradicts_of, done_state, goes_on, has_done, quiet_of, takes_contradiction, takes_own, takes_paused}
 use Rattle.palm_session.proofs.cited.LawsOfChanges.{changes_keep}
+use Rattle.palm_session.proofs.desk.Desk.take.Given as given
 use Rattle.palm_session.proofs.desk.Desk.take.Goals as goal
+
+-- the guide's own relations, and the order's
+abbrev guiding : (g : given.Over) → Moment → Option g.row.G.Denot → Option g.row.G.Denot → Type 0
+guiding g = GuideFollows g.G.Guide.answers g.G.Guide.hears g.G.Guide.state
+
+abbrev ordering : (g : given.Over) → Hearing → Option g.row.O.Denot → Option g.row.O.Denot → Type 0
+ordering g = OrderFollows g.O.Order.answers g.O.Order.hears g.O.Order.state
 
 pub returns-then-waits-clause-takes : goal.returns-then-waits-clause-takes
 returns-then-waits-clause-takes g c =
@@ -66,3 +77,17 @@ returns-clause-takes g c =
     let quiet = quiet_of t request c.is_contradictable-is_told.result c.contradicts.result c.is_contradictable-is_told.ensures c.contradicts.ensures c.if-contradicts.false in
     takes_own s request t _ _ c.requires.state c.requires.admitted goes done quiet _ c.after-going.result
     (goes_on s request m _ c.after-going.result obeys c.after-going.ensures.quit c.after-going.ensures.more) c.in_ok-say.ensures
+
+pub returns-then-waits-clause-led : goal.returns-then-waits-clause-led
+returns-then-waits-clause-led g c =
+    waits_led (guiding g) (ordering g) c.args.self.now.state c.args.request c.args.self.now.objects (tells_true _ c.waits.result c.waits.ensures c.if-waits.true)
+
+pub returns-then-contradicts-clause-led : goal.returns-then-contradicts-clause-led
+returns-then-contradicts-clause-led g c =
+    takes_led (guiding g) (ordering g) c.args.self.now.state c.args.request c.args.self.now.objects c.obey.new.self.state _ c.obey.new.self.objects _ _ (tells_false _ c.waits.result c.waits.ensures c.if-waits.false)
+    c.in_ok-remainder.ensures.obeys c.in_ok-remainder.ensures.objects c.in_ok-own.ensures.led
+
+pub returns-clause-led : goal.returns-clause-led
+returns-clause-led g c =
+    takes_led (guiding g) (ordering g) c.args.self.now.state c.args.request c.args.self.now.objects c.obey.new.self.state _ c.obey.new.self.objects _ _ (tells_false _ c.waits.result c.waits.ensures c.if-waits.false)
+    c.in_ok-remainder.ensures.obeys c.in_ok-remainder.ensures.objects c.in_ok-own.ensures.led

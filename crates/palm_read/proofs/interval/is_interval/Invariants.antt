@@ -1,6 +1,6 @@
 use Rattle.std.proofs.Common.{◌≡◌, length}
-use Rattle.palm_lang.specs.Reply.{is_interval}
-use Rattle.palm_lang.proofs.print.domains.is_interval.Given as goal
+use Rattle.palm_read.specs.Interval.{is_interval}
+use Rattle.palm_read.proofs.interval.is_interval.Given as goal
 
 -- what is left is an interval where all is one
 abbrev pub invariant-loop-rest : goal.invariant-loop-rest

@@ -1,15 +1,15 @@
--- Values are an interval where each is one more than the one before it: ascending ones, where they are all from the first to
--- the last.
-use Rattle.std.proofs.Common.{◌≡◌, ℕ, zero, suc, ℤ, pos, negsuc, ◌+◌, ◌-◌, ◌<◌, ◌+ℤ◌, ◌-ℤ◌, ◌<ℤ◌, ◌≤ℤ◌, Bool, true, false, cond, ◌&&◌, List, [], ◌∷◌, length, get_or, Contains, inl, inr, refl, sym, ap, ◌∙◌, true≢false, arith}
-use Rattle.std.specs.Ordering.{int_eq}
+-- Ascending values are an interval where they are all whole numbers from the first to the last.
+use Rattle.std.proofs.Common.{◌≡◌, ℕ, zero, suc, ℤ, pos, negsuc, ◌+◌, ◌<◌, ◌+ℤ◌, ◌-ℤ◌, ◌<ℤ◌, ◌≤ℤ◌, true, cond, ◌&&◌, List, [], ◌∷◌, Contains, inl, inr, refl, ap, ◌∙◌, arith}
 use Rattle.std.proofs.lemmas.Bool.{false_from_ne_true}
 use Rattle.std.proofs.lemmas.Bool.Decides.{Decides-int_eq}
 use Rattle.std.proofs.lemmas.Int.{ints}
 use Rattle.std.proofs.lemmas.List.Elements.{All-contains}
+use Rattle.palm_read.proofs.cited.DomainsWith.{next_value}
 use Rattle.palm_read.proofs.cited.Sets.{contains_cases, contains_there}
-use Rattle.palm_lang.specs.Reply.{is_interval, last_of, values_text, HasAllBetween}
-use Rattle.palm_read.specs.Domain.{range_text, set_text}
-use Rattle.palm_model.specs.Domains.{Ascends}
+use Rattle.palm_read.specs.Interval.{HasAllBetween, is_interval, last_of, values_text}
+use Rattle.palm_read.specs.Domain.{domain_text, range_text, set_text}
+use Rattle.palm_base.specs.Ascending.{Ascends}
+use Rattle.palm_read.specs.declared.line.DomainText.TheVariants.{Range, Set}
 
 -- how far the greater of two numbers is from the other
 above : (v w : ℤ) → v <ℤ w → (n : ℕ) × (0 < n) × (w ≡ v +ℤ pos n)
@@ -18,10 +18,6 @@ above v w h = by (w -ℤ v) refl
     by : (z : ℤ) → w -ℤ v ≡ z → (n : ℕ) × (0 < n) × (w ≡ v +ℤ pos n)
     by (pos n) e = (n, omega (arith, ints), omega (arith, ints))
     by (negsuc n) e = absurd (omega (arith, ints))
-
-last_at : (v : ℤ) (vs : List ℤ) (d : ℤ) (k : ℕ) → k ≡ length vs → get_or (v ∷ vs) k d ≡ last_of v vs
-last_at v [] d k e = rw e refl
-last_at v (w ∷ ws) d k e = rw e (last_at w ws d (length ws) refl)
 
 -- how far the last value is from the first
 record Spans (v : ℤ) (vs : List ℤ) : Type 0 where
@@ -41,27 +37,7 @@ spans v (w ∷ ws) h =
       last = let e = step.2 in let l = rest.last in omega (arith, ints);
     }
 
--- ---- one value after another
-
--- where the next value is one more, the rest decides
-pub interval_step : (v : ℤ) (others : List ℤ) (w : ℤ) → 0 < length others → w ≡ get_or others 0 w → w ≡ v +ℤ pos 1 → is_interval others ≡ is_interval (v ∷ others)
-interval_step v [] w some is next = absurd (omega arith)
-interval_step v (u ∷ us) w some is next = sym (ap (λ b. b && is_interval (u ∷ us)) ((Decides-int_eq u (v +ℤ pos 1)).1 (sym is ∙ next)))
-
--- where it is not, the values are no interval
-pub interval_broken : (v : ℤ) (others : List ℤ) (w : ℤ) → 0 < length others → w ≡ get_or others 0 w → (w ≡ v +ℤ pos 1 → ⊥) → false ≡ is_interval (v ∷ others)
-interval_broken v [] w some is gap = absurd (omega arith)
-interval_broken v (u ∷ us) w some is gap =
-    sym (ap (λ b. b && is_interval (u ∷ us)) (false_from_ne_true (int_eq u (v +ℤ pos 1)) (λ q. gap (is ∙ (Decides-int_eq u (v +ℤ pos 1)).0 q))))
-
--- the text of an interval, by its ends
-pub interval_text : (values : List ℤ) (first last : ℤ) → is_interval values ≡ true → first ≡ get_or values 0 first → last ≡ get_or values (length values - 1) last → range_text first last ≡ values_text values
-interval_text [] first last tested is_first is_last = absurd (true≢false (sym tested))
-interval_text (v ∷ vs) first last tested is_first is_last =
-    let ends : last ≡ last_of v vs = is_last ∙ last_at v vs last (length (v ∷ vs) - 1) (omega arith) in
-    rw tested (ap (λ z. range_text z last) is_first ∙ ap (λ z. range_text v z) ends)
-
--- ---- the test tells the values that are all whole numbers from the first to the last
+-- ---- the test tells them
 
 head_least : (w z : ℤ) (ws : List ℤ) → Ascends (w ∷ ws) → Contains (w ∷ ws) z → w ≤ℤ z
 head_least w z ws up c =
@@ -93,10 +69,6 @@ all_tested v (w ∷ ws) up all =
     let next = next_is v w ws up.1 step (all (v +ℤ pos 1) (omega (arith, ints)) reach) in
     ap (λ b. b && is_interval (w ∷ ws)) ((Decides-int_eq w (v +ℤ pos 1)).1 next) ∙ all_tested w ws up.1 (rest_between v w ws step all)
 
-both : (p q : Bool) → p && q ≡ true → (p ≡ true) × (q ≡ true)
-both true q e = (refl, e)
-both false q e = cc
-
 -- a number from the first on is the first, or from the next one on
 beside : (v w : ℤ) (ws : List ℤ) (z : ℤ) → w ≡ v +ℤ pos 1 → v ≤ℤ z → (w ≤ℤ z → Contains (w ∷ ws) z) → (far : ℤ) → z -ℤ v ≡ far → Contains (v ∷ w ∷ ws) z
 beside v w ws z next low rest (pos zero) e = let is : v ≡ z = omega (arith, ints, e) in (0, omega arith, is)
@@ -106,12 +78,12 @@ beside v w ws z next low rest (negsuc k) e = absurd (omega (arith, ints, e, low)
 pub tested_all : (v : ℤ) (vs : List ℤ) → is_interval (v ∷ vs) ≡ true → HasAllBetween v vs
 tested_all v [] t z low high = let is : v ≡ z = omega (arith, ints, low, high) in (0, omega arith, is)
 tested_all v (w ∷ ws) t z low high =
-    let tests = both (int_eq w (v +ℤ pos 1)) (is_interval (w ∷ ws)) t in
-    beside v w ws z ((Decides-int_eq w (v +ℤ pos 1)).0 tests.0) low (λ above. tested_all w ws tests.1 z above high) (z -ℤ v) refl
+    let tests = next_value v w ws t in
+    beside v w ws z tests.0 low (λ above. tested_all w ws tests.1 z above high) (z -ℤ v) refl
 
 pub printed_interval : (v : ℤ) (vs : List ℤ) → Ascends (v ∷ vs) → HasAllBetween v vs → values_text (v ∷ vs) ≡ range_text v (last_of v vs)
-printed_interval v vs up all = ap (λ b. cond b (range_text v (last_of v vs)) (set_text (v ∷ vs))) (all_tested v vs up all)
+printed_interval v vs up all = ap (λ b. domain_text (cond b (Range v (last_of v vs)) (Set (v ∷ vs)))) (all_tested v vs up all)
 
 pub printed_set : (v : ℤ) (vs : List ℤ) → Ascends (v ∷ vs) → (HasAllBetween v vs → ⊥) → values_text (v ∷ vs) ≡ set_text (v ∷ vs)
 printed_set v vs up gap =
-    ap (λ b. cond b (range_text v (last_of v vs)) (set_text (v ∷ vs))) (false_from_ne_true (is_interval (v ∷ vs)) (λ q. gap (tested_all v vs q)))
+    ap (λ b. domain_text (cond b (Range v (last_of v vs)) (Set (v ∷ vs)))) (false_from_ne_true (is_interval (v ∷ vs)) (λ q. gap (tested_all v vs q)))

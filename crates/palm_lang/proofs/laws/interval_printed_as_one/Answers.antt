@@ -1,8 +1,0 @@
-use Rattle.palm_lang.proofs.IntervalLemmas.{printed_interval, printed_set}
-use Rattle.palm_lang.proofs.laws.interval_printed_as_one.Goals as goal
-
-pub returns-clause-interval : goal.returns-clause-interval
-returns-clause-interval c = printed_interval
-
-pub returns-clause-set : goal.returns-clause-set
-returns-clause-set c = printed_set
