@@ -1,5 +1,5 @@
 -- The order of the ids of constraints, and lists in this order.
-use Rattle.std.specs.Prelude.{◌≡◌, ℕ, ◌≤◌, ⊤, Bool, true, false, ◌&&◌, ◌||◌, List, [], ◌∷◌, ◌++◌, length, filter, All, Contains, IsSomeAnd, nat_eq, nat_lt, int_lt, slice_get}
+use Rattle.std.specs.Prelude.{◌≡◌, ℕ, zero, suc, ◌≤◌, ⊤, Bool, true, false, ◌&&◌, ◌||◌, List, [], ◌∷◌, ◌++◌, length, filter, All, Contains, IsSomeAnd, IfSome, nat_eq, nat_lt, int_lt, slice_get}
 use Rattle.std.specs.List.{AllWithin}
 use Rattle.std.specs.Ordering.{int_eq}
 use Rattle.palm_base.specs.declared.terms.Pair.{Pair}
@@ -58,6 +58,15 @@ pub record IsPartedAt {X : Type 0} (test : X → Bool) (xs : List X) (place : �
 -- what stands at the place has the id
 abbrev pub StandsAt : {X : Type 0} → (X → Cid) → List X → ℕ → Cid → Type 0
 StandsAt id xs place cid = IsSomeAnd (slice_get xs place) (λ x. id x ≡ cid)
+
+-- the place is the first, or what stands before it comes before the id
+abbrev pub StandsBehind : {X : Type 0} → (X → Cid) → List X → ℕ → Cid → Type 0
+StandsBehind id xs zero cid = ⊤
+StandsBehind id xs (suc before) cid = IsSomeAnd (slice_get xs before) (λ x. cid_before (id x) cid ≡ true)
+
+-- what stands at the place, if something does, does not come before the id
+abbrev pub StandsInFront : {X : Type 0} → (X → Cid) → List X → ℕ → Cid → Type 0
+StandsInFront id xs place cid = IfSome (slice_get xs place) (λ x. cid_before (id x) cid ≡ false)
 
 -- nothing has the id, and what has it would stand at the place
 pub record BelongsAt {X : Type 0} (id : X → Cid) (xs : List X) (place : ℕ) (cid : Cid) : Type 0 where

@@ -1,5 +1,5 @@
 -- What a read and a write do to a stream: to its bytes, where the stream tells them, and to its count of faults.
-use Rattle.std.specs.Prelude.{◌≡◌, ℕ, ◌<◌, ◌≤◌, List, [], ◌++◌, length, take, ⊤, Option, None, Some, Result, MatchResult, OnOk, OnErr}
+use Rattle.std.specs.Prelude.{◌≡◌, ℕ, ◌<◌, ◌≤◌, Bool, false, List, [], ◌++◌, length, take, ⊤, Option, None, Some, Result, MatchResult, OnOk, OnErr}
 use Rattle.palm_base.specs.Counts.{one_more}
 
 -- a source: the bytes that are left, where it tells them, and how many faults there were
@@ -7,16 +7,20 @@ pub record SourceState : Type 0 where
   pub left : Option (List ℕ)
   pub faults : ℕ
 
--- a sink: the bytes that were written, where it tells them, and how many faults there were
+-- a sink: the bytes that were written, where it tells them, how many faults there were, which sink it is, and whether a
+-- failure left something of the sink's own behind the bytes
 pub record SinkState : Type 0 where
   pub written : Option (List ℕ)
   pub faults : ℕ
+  pub home : ℕ
+  pub torn : Bool
 
 abbrev pub source : Option (List ℕ) → ℕ → SourceState
 source left faults = record { left = left; faults = faults }
 
+-- a sink that writes the bytes as they are, and nothing of its own
 abbrev pub sink : Option (List ℕ) → ℕ → SinkState
-sink written faults = record { written = written; faults = faults }
+sink written faults = record { written = written; faults = faults; home = 0; torn = false }
 
 -- a sink that tells nothing of its bytes
 abbrev pub silent_sink : ℕ → SinkState
@@ -60,6 +64,11 @@ abbrev pub Writes : {E : Type 0} → SinkState → SinkState → List ℕ → Re
 Writes before now piece result =
     MatchResult result (λ n. (0 < n) × (n ≤ length piece) × Appended before.written now.written (take n piece))
     (λ _. Appended before.written now.written [])
+
+-- it is the same sink, and where the answer is good, nothing of its own was left behind the bytes that was not before
+pub record Stands {T E : Type 0} (before now : SinkState) (result : Result T E) : Type 0 where
+  pub same : now.home ≡ before.home
+  pub ok : OnOk result (now.torn ≡ before.torn)
 
 -- a proper front of the text was written: something of it was not
 pub record AppendedProperFront (before now : Option (List ℕ)) (text : List ℕ) : Type 0 where

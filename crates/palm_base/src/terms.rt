@@ -107,7 +107,11 @@ impl Cid {
     {
         match (self, other) {
             (Cid::User(first), Cid::User(second)) => first < second,
-            _ => self < other,
+            (Cid::Decide(first), Cid::Decide(second)) => first.0 < second.0,
+            (Cid::Not(first), Cid::Not(second)) => first < second,
+            (Cid::User(_), _) => false,
+            (_, Cid::Decide(_)) => false,
+            _ => true,
         }
     }
 }

@@ -1,9 +1,10 @@
 -- Lists by rising id: where an id stands, and what one more id leaves.
-use Rattle.std.proofs.Common.{◌≡◌, ℕ, zero, suc, ◌<◌, Bool, true, false, List, [], ◌∷◌, map, length, get_or, slice_get, insert, filter, Contains, Option, Some, None, ◌⊎◌, inl, inr, refl, sym, ap, ◌∙◌, subst, arith}
-use Rattle.std.specs.Prelude.{IsSomeAnd}
-use Rattle.std.proofs.lemmas.Bool.{cases_Bool, false≢true}
+use Rattle.std.proofs.Common.{◌≡◌, ℕ, zero, suc, ◌<◌, ◌≤◌, Bool, true, false, List, [], ◌∷◌, map, length, get_or, slice_get, insert, filter, Contains, Option, Some, None, ◌⊎◌, inl, inr, refl, sym, ap, ◌∙◌, subst, arith}
+use Rattle.std.specs.Prelude.{IfSome, IsSomeAnd}
+use Rattle.std.proofs.lemmas.Bool.{cases_Bool, cases_lt, false≢true}
+use Rattle.std.proofs.lemmas.Option.{get_or_from_slice_get, slice_get-get_or, slice_get_within}
 use Rattle.std.proofs.lemmas.List.Elements.{All-contains, Contains-get_or, Contains-append_left, Contains-append_right, Contains-append_cases}
-use Rattle.palm_base.specs.Order.{BelongsAt, IsPartedAt, Rises, StandsAt, cid_before, same_cid, with_cid}
+use Rattle.palm_base.specs.Order.{BelongsAt, IsPartedAt, Rises, StandsAt, StandsBehind, StandsInFront, cid_before, same_cid, with_cid}
 use Rattle.palm_base.specs.Tells.{Tells}
 use Rattle.palm_base.specs.declared.terms.Cid.{Cid}
 use Rattle.palm_base.proofs.cited.CidOrder.{before_then, cid_order, cid_same, not_before_itself, rises_append, same_cid_itself}
@@ -36,6 +37,44 @@ pub parted_there : {X : Type 0} (id : X → Cid) (xs : List X) → Rises (map id
 parted_there id xs rises cid place there =
     let r = stands_item id cid (slice_get xs place) there in
     parted_where id cid_before rising xs (sorted_keys id xs rises) cid place r.0 r.1 r.2
+
+some_item : {X : Type 0} (P : X → Type 0) (o : Option X) → IsSomeAnd o P → (x : X) × (o ≡ Some x) × P x
+some_item P None h = absurd h
+some_item P (Some x) h = (x, refl, h)
+
+-- where the item before the place comes before the id, and the one at it does not, the ids are parted
+pub parted_between : {X : Type 0} (id : X → Cid) (xs : List X) → Rises (map id xs) → (cid : Cid) (place : ℕ) → StandsBehind id xs place cid → StandsInFront id xs place cid → IsPartedAt (λ x. cid_before (id x) cid) xs place
+parted_between {X} id xs rises cid place behind front = record {
+  within = bound place behind;
+  before = λ k d ge lt. passes place behind k d lt;
+  after = λ k d ge lt. fails k d ge lt;
+}
+  where
+    bound : (place : ℕ) → StandsBehind id xs place cid → place ≤ length xs
+    bound zero h = omega arith
+    bound (suc n) h = let r = some_item (λ x. cid_before (id x) cid ≡ true) (slice_get xs n) h in let w = slice_get_within xs n r.0 r.1 in omega (arith, w)
+
+    passes : (place : ℕ) → StandsBehind id xs place cid → (k : ℕ) (d : X) → k < place → cid_before (id (get_or xs k d)) cid ≡ true
+    passes zero h k d lt = absurd (omega arith)
+    passes (suc n) h k d lt =
+        let r = some_item (λ x. cid_before (id x) cid ≡ true) (slice_get xs n) h in
+        let last : cid_before (id (get_or xs n d)) cid ≡ true = subst (λ x. cid_before (id x) cid ≡ true) (sym (get_or_from_slice_get xs n r.0 d r.1)) r.2 in
+        elim (cases_lt k n) [
+          | inl l ↦ rising.through (id (get_or xs k d)) (id (get_or xs n d)) cid (keys_rise id xs rises k n d l (slice_get_within xs n r.0 r.1)) last
+          | inr ge ↦ let e : n ≡ k = omega arith in subst (λ j. cid_before (id (get_or xs j d)) cid ≡ true) e last
+        ]
+
+    first : (d : X) → place < length xs → cid_before (id (get_or xs place d)) cid ≡ false
+    first d lt = subst (λ o. IfSome o (λ x. cid_before (id x) cid ≡ false)) (slice_get-get_or xs place d lt) front
+
+    fails : (k : ℕ) (d : X) → place ≤ k → k < length xs → cid_before (id (get_or xs k d)) cid ≡ false
+    fails k d ge lt = elim (cases_lt place k) [
+      | inl l ↦ elim (cases_Bool (cid_before (id (get_or xs k d)) cid)) [
+        | inl t ↦ absurd (false≢true (sym (first d (omega arith)) ∙ rising.through (id (get_or xs place d)) (id (get_or xs k d)) cid (keys_rise id xs rises place k d l lt) t))
+        | inr f ↦ f
+      ]
+      | inr le ↦ let e : place ≡ k = omega arith in subst (λ j. cid_before (id (get_or xs j d)) cid ≡ false) e (first d (omega arith))
+    ]
 
 -- where no item under the id stands at the place, there is none
 pub belongs_there : {X : Type 0} (id : X → Cid) (xs : List X) → Rises (map id xs) → (cid : Cid) (place : ℕ) → IsPartedAt (λ x. cid_before (id x) cid) xs place → (StandsAt id xs place cid → ⊥) → BelongsAt id xs place cid

@@ -7,6 +7,8 @@ abbrev pub invariant-loop-rest : goal.invariant-loop-rest
 invariant-loop-rest g l =
     (front : List ℕ) × (l.text ≡ front ++ l.rest)
     × ((g.K.Sink.state l.sink).faults ≡ (g.K.Sink.state l.initial.sink).faults)
+    × ((g.K.Sink.state l.sink).home ≡ (g.K.Sink.state l.initial.sink).home)
+    × ((g.K.Sink.state l.sink).torn ≡ (g.K.Sink.state l.initial.sink).torn)
     × Appended (g.K.Sink.state l.initial.sink).written (g.K.Sink.state l.sink).written front
 
 abbrev pub decreases-loop-rest : goal.decreases-loop-rest
