@@ -8,6 +8,7 @@ mod retrying;
 use crate::retrying::Retrying;
 use palm_agenda::{LastOrder, Order, RotateOrder};
 use palm_base::{NoMemory, StdSink, StdSource};
+use palm_book::MOST_VARIABLES;
 use palm_cli::{Status, top};
 use palm_guide::{FirstGuide, Guide, MostConflicts, SmallestGuide};
 use std::alloc::Global;
@@ -15,9 +16,6 @@ use std::env;
 use std::io::ErrorKind;
 use std::process::ExitCode;
 use std::rt::Env;
-
-/// How many variables the guide keeps a number for that counts conflicts.
-const COUNTED_VARIABLES: u32 = 64;
 
 /// The words after the program's name, or `None` for want of memory. Words that are no text count as none at all, so
 /// that the usage line answers them.
@@ -40,7 +38,7 @@ fn run(rt: &HostRuntime, words: &[String]) -> Result<Status, NoMemory> {
     let mut guides: Vec<Box<dyn Guide>> = Vec::new(alloc);
     guides.push(Box::new(alloc, FirstGuide::new())?)?;
     guides.push(Box::new(alloc, SmallestGuide::new())?)?;
-    guides.push(Box::new(alloc, MostConflicts::new(alloc, COUNTED_VARIABLES)?)?)?;
+    guides.push(Box::new(alloc, MostConflicts::new(alloc, MOST_VARIABLES as u32)?)?)?;
     let mut orders: Vec<Box<dyn Order>> = Vec::new(alloc);
     orders.push(Box::new(alloc, LastOrder::new())?)?;
     orders.push(Box::new(alloc, RotateOrder::new())?)?;

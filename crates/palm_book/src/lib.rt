@@ -11,5 +11,8 @@ mod resolve;
 pub use book::{Book, BookCon};
 pub use domains::values_in;
 pub use laws::{active_constraints_rise, limits_are_these_numbers};
-pub use limits::{MOST_ADDED, MOST_CONSTRAINTS, MOST_VARIABLES};
+pub use limits::{
+    MOST_ADDED, MOST_CONSTRAINTS, MOST_CONSTRAINTS_IN_ONE, MOST_VARIABLES, MOST_VARIABLES_IN_ONE,
+    most_constraints, most_variables,
+};
 pub use resolve::Unresolved;

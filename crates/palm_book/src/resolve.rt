@@ -2,16 +2,18 @@
 ghost use Rattle.std.specs.Prelude.{◌≡◌, ◌<◌, [], ◌∷◌, ◌++◌, All, Any, IfOk, IsErrOf, length, map};
 ghost use Rattle.palm_model.specs.Count.{target_scope};
 ghost use Rattle.palm_read.specs.Count.{line_target_names};
-ghost use Rattle.palm_read.specs.Limits.{names_of};
+ghost use Rattle.palm_read.specs.Domain.{IsLarge};
+ghost use Rattle.palm_read.specs.Limits.{HasManyRows, names_of};
 ghost use Rattle.palm_book.specs.Book.{name_of};
 ghost use Rattle.palm_book.specs.Named.{named_target, named_term, IsUnknownName, Resolves};
 ghost use Rattle.palm_book.specs.declared.resolve.Unresolved.TheVariants as Unresolved;
 ghost use Rattle.palm_read.specs.declared.line.Shape.TheVariants as Shape;
 
 use crate::book::Book;
+use crate::domains::written_out;
 use palm_base::{NoMemory, Value, ValueList, Var, VarList};
 use palm_model::{Con, Op, RowList, Target, Term, TermList};
-use palm_read::{Name, NameList, NameTarget, NameTerm, NameTermList, Shape};
+use palm_read::{DomainText, Name, NameList, NameTarget, NameTerm, NameTermList, Shape, is_large};
 use std::alloc::Global;
 use thiserror::Error;
 
@@ -21,6 +23,9 @@ pub enum Unresolved {
     /// A name in it names no variable.
     #[error("unknown variable")]
     UnknownName,
+    /// Its names are known, and its domain has more values than it may have.
+    #[error("too many values")]
+    TooLarge,
     /// No memory for the constraint.
     #[error("out of memory")]
     NoMemory,
@@ -35,11 +40,12 @@ impl From<NoMemory> for Unresolved {
 }
 
 impl Book {
-    /// The constraint that a shape says of the variables, or that one of its names is unknown. Each name is looked up
-    /// once.
+    /// The constraint that a shape says of the variables, or that one of its names is unknown, or else that its domain has
+    /// too many values. Each name is looked up once, and a domain that is too large is not written out.
     pub fn resolve(&self, alloc: Global, shape: Shape) -> Result<Con, Unresolved>
         ensures says { IfOk result (Resolves self.now.variables shape) }
         ensures unknown { IsErrOf result Unresolved.UnknownName → Any (IsUnknownName self.now.variables) (names_of shape) }
+        ensures large { IsErrOf result Unresolved.TooLarge → HasManyRows shape × (Any (IsUnknownName self.now.variables) (names_of shape) → ⊥) }
     {
         match shape {
             Shape::CompareVar {
@@ -63,6 +69,7 @@ impl Book {
                 target,
             } => self.count(alloc, value, &vars, op, &target),
             Shape::Differ { vars } => self.differ(alloc, &vars),
+            Shape::Within { var, domain } => self.within(alloc, &var, domain),
         }
     }
 
@@ -75,6 +82,7 @@ impl Book {
     ) -> Result<Con, Unresolved>
         ensures says { IfOk result (Resolves self.now.variables (Shape.CompareVar left.now op right.now offset.now)) }
         ensures unknown { IsErrOf result Unresolved.UnknownName → Any (IsUnknownName self.now.variables) (left.now ∷ right.now ∷ []) }
+        ensures small { IsErrOf result Unresolved.TooLarge → ⊥ }
     {
         Ok(Con::CompareVar {
             left: self.var_of(left)?,
@@ -87,6 +95,7 @@ impl Book {
     fn compare_const(&self, left: &Name, op: Op, value: Value) -> Result<Con, Unresolved>
         ensures says { IfOk result (Resolves self.now.variables (Shape.CompareConst left.now op value)) }
         ensures unknown { IsErrOf result Unresolved.UnknownName → Any (IsUnknownName self.now.variables) (left.now ∷ []) }
+        ensures small { IsErrOf result Unresolved.TooLarge → ⊥ }
     {
         Ok(Con::CompareConst {
             left: self.var_of(left)?,
@@ -104,6 +113,7 @@ impl Book {
     ) -> Result<Con, Unresolved>
         ensures says { IfOk result (Resolves self.now.variables (Shape.Linear terms.now op bound.now)) }
         ensures unknown { IsErrOf result Unresolved.UnknownName → Any (λ t. IsUnknownName self.now.variables t.name) terms.now }
+        ensures small { IsErrOf result Unresolved.TooLarge → ⊥ }
     {
         Ok(Con::Linear {
             terms: self.terms_of(alloc, terms.as_slice())?,
@@ -115,6 +125,7 @@ impl Book {
     fn table(&self, alloc: Global, vars: &NameList, rows: RowList) -> Result<Con, Unresolved>
         ensures says { IfOk result (Resolves self.now.variables (Shape.Table vars.now rows)) }
         ensures unknown { IsErrOf result Unresolved.UnknownName → Any (IsUnknownName self.now.variables) vars.now }
+        ensures small { IsErrOf result Unresolved.TooLarge → ⊥ }
     {
         Ok(Con::Table {
             vars: self.vars_of(alloc, vars.as_slice())?,
@@ -125,6 +136,7 @@ impl Book {
     fn element(&self, outcome: &Name, index: &Name, entries: ValueList) -> Result<Con, Unresolved>
         ensures says { IfOk result (Resolves self.now.variables (Shape.Element outcome.now index.now entries)) }
         ensures unknown { IsErrOf result Unresolved.UnknownName → Any (IsUnknownName self.now.variables) (outcome.now ∷ index.now ∷ []) }
+        ensures small { IsErrOf result Unresolved.TooLarge → ⊥ }
     {
         Ok(Con::Element {
             outcome: self.var_of(outcome)?,
@@ -143,6 +155,7 @@ impl Book {
     ) -> Result<Con, Unresolved>
         ensures says { IfOk result (Resolves self.now.variables (Shape.Count value vars.now op target.now)) }
         ensures unknown { IsErrOf result Unresolved.UnknownName → Any (IsUnknownName self.now.variables) (vars.now ++ line_target_names target.now) }
+        ensures small { IsErrOf result Unresolved.TooLarge → ⊥ }
     {
         Ok(Con::Count {
             value,
@@ -155,10 +168,24 @@ impl Book {
     fn differ(&self, alloc: Global, vars: &NameList) -> Result<Con, Unresolved>
         ensures says { IfOk result (Resolves self.now.variables (Shape.Differ vars.now)) }
         ensures unknown { IsErrOf result Unresolved.UnknownName → Any (IsUnknownName self.now.variables) vars.now }
+        ensures small { IsErrOf result Unresolved.TooLarge → ⊥ }
     {
         Ok(Con::Differ {
             vars: self.vars_of(alloc, vars.as_slice())?,
         })
+    }
+
+    fn within(&self, alloc: Global, var: &Name, domain: DomainText) -> Result<Con, Unresolved>
+        ensures says { IfOk result (Resolves self.now.variables (Shape.Within var.now domain)) }
+        ensures unknown { IsErrOf result Unresolved.UnknownName → Any (IsUnknownName self.now.variables) (var.now ∷ []) }
+        ensures large { IsErrOf result Unresolved.TooLarge → IsLarge domain × (Any (IsUnknownName self.now.variables) (var.now ∷ []) → ⊥) }
+    {
+        let var = self.var_of(var)?;
+        if is_large(&domain) {
+            return Err(Unresolved::TooLarge);
+        }
+        let values = written_out(alloc, domain)?;
+        Ok(Con::Within { var, values })
     }
 
     /// The variable with the name.
@@ -166,6 +193,7 @@ impl Book {
         ensures declared { IfOk result (λ x. x < length self.now.variables) }
         ensures named { IfOk result (λ x. name_of self.now.variables x ≡ name.now) }
         ensures unknown { IsErrOf result Unresolved.UnknownName → IsUnknownName self.now.variables name.now }
+        ensures small { IsErrOf result Unresolved.TooLarge → ⊥ }
     {
         match self.variable_named(name) {
             Some(var) => Ok(var),
@@ -178,6 +206,7 @@ impl Book {
         ensures declared { IfOk result (All (λ x. x < length self.now.variables)) }
         ensures named { IfOk result (λ vars. map (name_of self.now.variables) vars ≡ names.now) }
         ensures unknown { IsErrOf result Unresolved.UnknownName → Any (IsUnknownName self.now.variables) names.now }
+        ensures small { IsErrOf result Unresolved.TooLarge → ⊥ }
     {
         let mut vars = VarList::new(alloc);
         for name in names {
@@ -191,6 +220,7 @@ impl Book {
         ensures declared { IfOk result (All (λ t. t.var < length self.now.variables)) }
         ensures named { IfOk result (λ list. map (named_term self.now.variables) list ≡ terms.now) }
         ensures unknown { IsErrOf result Unresolved.UnknownName → Any (λ t. IsUnknownName self.now.variables t.name) terms.now }
+        ensures small { IsErrOf result Unresolved.TooLarge → ⊥ }
     {
         let mut list = TermList::new(alloc);
         for term in terms {
@@ -207,6 +237,7 @@ impl Book {
         ensures declared { IfOk result (λ chosen. All (λ x. x < length self.now.variables) (target_scope chosen)) }
         ensures named { IfOk result (λ chosen. named_target self.now.variables chosen ≡ target.now) }
         ensures unknown { IsErrOf result Unresolved.UnknownName → Any (IsUnknownName self.now.variables) (line_target_names target.now) }
+        ensures small { IsErrOf result Unresolved.TooLarge → ⊥ }
     {
         Ok(match target {
             NameTarget::Const(value) => Target::Const(*value),

@@ -1,5 +1,5 @@
 -- Lines with names, numbers and lists within the limits: their texts read as these lines.
-use Rattle.std.proofs.Common.{◌∙◌, ◌≡◌, ℕ, ℤ, pos, negsuc, suc, ◌<◌, Bool, true, false, Some, List, [], ◌∷◌, ◌++◌, length, map, flat_map, codes, All, refl, sym, ap, subst, arith}
+use Rattle.std.proofs.Common.{◌≡◌, ℕ, ℤ, pos, negsuc, suc, ◌<◌, Bool, true, false, Some, List, [], ◌∷◌, ◌++◌, length, map, flat_map, codes, All, refl, sym, ap, subst, arith}
 use Rattle.std.specs.Prelude.{Any, ◌<ℤ◌}
 use Rattle.std.proofs.lemmas.Int.{ints}
 use Rattle.std.proofs.lemmas.List.Elements.{All-head, All-tail, All-weaker, recursion_from_All}
@@ -8,11 +8,12 @@ use Rattle.palm_model.specs.Limits.{IsUpTo, IsValue}
 use Rattle.palm_model.specs.Table.{IsRow}
 use Rattle.palm_read.specs.Comparison.{OffsetForm, Plus, Minus, offset_of, offset_pieces}
 use Rattle.palm_read.specs.Count.{TargetForm, Number, Variable, line_target, line_target_names, target_pieces}
-use Rattle.palm_read.specs.Domain.{DomainForm, Interval, Members, IsLarge, IsSoundDomain, domain_pieces, set_of}
-use Rattle.palm_read.specs.Form.{ShapeForm, CompareVarForm, CompareConstForm, LinearForm, TableForm, ElementForm, CountForm, DifferForm, DeclareForm, AddForm}
+use Rattle.palm_read.specs.Domain.{DomainForm, Interval, Members, IsLarge, IsSoundDomain, domain_of, domain_pieces, set_of}
+use Rattle.palm_read.specs.Form.{ShapeForm, CompareVarForm, CompareConstForm, LinearForm, TableForm, ElementForm, CountForm, DifferForm, WithinForm, DeclareForm, AddForm}
 use Rattle.palm_read.specs.Grammar.{IsProperShape, shape_pieces}
-use Rattle.palm_read.specs.Limits.{HasNothing, HasRepeat, IsBeyond, IsInRange, IsShapeInRange, Repeats, names_of}
+use Rattle.palm_read.specs.Limits.{HasNothing, HasNoValue, HasRepeat, IsBeyond, IsDomainInRange, IsInRange, IsShapeInRange, Repeats, names_of}
 use Rattle.palm_read.specs.Linear.{TermForm, IsSoundTerm, linear_first_term, linear_later_term, linear_terms, linear_unsigned_term, signed, term_of}
+use Rattle.palm_read.specs.Modes.{Allows}
 use Rattle.palm_read.specs.Name.{IsNameText}
 use Rattle.palm_read.specs.Piece.{Piece, Named, Mark, Integer, in_parentheses, listed, op_text}
 use Rattle.palm_read.specs.Reading.{IsRead, line_of, shape_of}
@@ -26,7 +27,8 @@ use Rattle.palm_read.specs.declared.line.NameTarget.{NameTarget}
 use Rattle.palm_read.specs.declared.line.NameTarget.TheVariants.{Const as ConstTarget, Variable as VariableTarget}
 use Rattle.palm_read.specs.declared.line.NameTerm.{NameTerm}
 use Rattle.palm_read.specs.declared.line.Shape.{Shape}
-use Rattle.palm_read.specs.declared.line.Shape.TheVariants.{CompareVar, CompareConst, Linear, Table, Element, Count, Differ}
+use Rattle.palm_read.specs.declared.line.Shape.TheVariants.{CompareVar, CompareConst, Linear, Table, Element, Count, Differ, Within}
+use Rattle.palm_read.specs.declared.mode.Mode.TheVariants.{Two}
 use Rattle.palm_read.proofs.cited.AllOfBoth.{all_left, all_right}
 use Rattle.palm_read.proofs.cited.PrintedParts.{HasNames}
 use Rattle.palm_read.proofs.cited.ReadBack.{form_read}
@@ -71,17 +73,30 @@ rises (v ∷ vs) h = (recursion_from_All (λ w. v <ℤ w) vs h.0, rises vs h.1)
 pub set_same : (vs : List ℤ) → Ascends vs → set_of vs ≡ vs
 set_same vs h = same_rising (set_of vs) vs (rises_set vs) (rises vs h) (set_member vs) (member_set vs)
 
+-- the form of a domain, and that it says the domain
+abbrev domain_form : DomainText → DomainForm
+domain_form (Range low high) = Interval low high
+domain_form (Set vs) = Members vs
+
+domain_same : (d : DomainText) → IsSoundDomain d → domain_of (domain_form d) ≡ d
+domain_same (Range low high) h = refl
+domain_same (Set vs) h = ap Set (set_same vs h.1)
+
+domain_in_range : (d : DomainText) → IsSoundDomain d → IsDomainInRange d
+domain_in_range (Range low high) h = (h.0, h.1)
+domain_in_range (Set vs) h = h.2
+
+some_value : (d : DomainText) → IsSoundDomain d → HasNoValue d → ⊥
+some_value (Range low high) h less = absurd (omega (arith, ints, less, h.2))
+some_value (Set vs) h none = absurd (omega (arith, h.0, ap length none))
+
 -- a name with values reads back
-pub var_read : (name : List ℕ) (domain : DomainText) → IsNameText name → IsSoundDomain domain → (IsLarge domain → ⊥) → IsRead (text_of (Var name domain)) (Var name domain)
-var_read name (Range low high) named sound near =
-    form_read (DeclareForm name (Interval low high)) tt (sound.0, sound.1) (λ less. absurd (omega (arith, ints, less, sound.2))) (λ h. h) near (named, tt)
-var_read name (Set vs) named sound near =
-    let same = set_same vs sound.1 in
-    let many : IsLarge (Set (set_of vs)) → ⊥ = λ h. near (subst (λ (ws : List ℤ). 256 < length ws) same h) in
-    let none : set_of vs ≡ [] → ⊥ = λ e. absurd (omega (arith, sound.0, ap length (sym same ∙ e))) in
-    let range = subst (All IsValue) (sym same) sound.2 in
-    subst (λ (ws : List ℤ). IsRead (text_of (Var name (Set ws))) (Var name (Set ws))) same
-    (form_read (DeclareForm name (Members vs)) tt range none (λ h. h) many (named, names_domain (Members vs)))
+pub var_read : (name : List ℕ) (domain : DomainText) → IsNameText name → IsSoundDomain domain → (IsLarge domain → ⊥) → IsRead Two (text_of (Var name domain)) (Var name domain)
+var_read name domain named sound near =
+    let same = domain_same domain sound in
+    subst (λ (d : DomainText). IsRead Two (text_of (Var name d)) (Var name d)) same
+    (form_read Two (DeclareForm name (domain_form domain)) tt tt (subst IsDomainInRange (sym same) (domain_in_range domain sound))
+    (λ none. some_value domain sound (subst HasNoValue same none)) (λ h. h) (λ large. near (subst IsLarge same large)) (named, names_domain (domain_form domain)))
 
 -- ---- the form of a constraint
 
@@ -112,6 +127,7 @@ shape_form (Table vars rows) = TableForm vars rows
 shape_form (Element outcome index entries) = ElementForm outcome index entries
 shape_form (Count value vars op target) = CountForm value vars op (target_form target)
 shape_form (Differ vars) = DifferForm vars
+shape_form (Within var domain) = WithinForm var (domain_form domain)
 
 -- ---- it says the constraint
 
@@ -131,14 +147,22 @@ target_same : (t : NameTarget) → line_target (target_form t) ≡ t
 target_same (ConstTarget w) = refl
 target_same (VariableTarget name) = refl
 
-shape_same : (s : Shape) → shape_of (shape_form s) ≡ s
-shape_same (CompareVar left op right offset) = ap (λ (z : ℤ). CompareVar left op right z) (offset_same offset)
-shape_same (CompareConst left op value) = refl
-shape_same (Linear terms op bound) = ap (λ (ts : List NameTerm). Linear ts op bound) (terms_same terms)
-shape_same (Table vars rows) = refl
-shape_same (Element outcome index entries) = refl
-shape_same (Count value vars op target) = ap (λ (t : NameTarget). Count value vars op t) (target_same target)
-shape_same (Differ vars) = refl
+shape_same : (s : Shape) → IsSoundShape s → shape_of (shape_form s) ≡ s
+shape_same (CompareVar left op right offset) h = ap (λ (z : ℤ). CompareVar left op right z) (offset_same offset)
+shape_same (CompareConst left op value) h = refl
+shape_same (Linear terms op bound) h = ap (λ (ts : List NameTerm). Linear ts op bound) (terms_same terms)
+shape_same (Table vars rows) h = refl
+shape_same (Element outcome index entries) h = refl
+shape_same (Count value vars op target) h = ap (λ (t : NameTarget). Count value vars op t) (target_same target)
+shape_same (Differ vars) h = refl
+shape_same (Within var domain) h = ap (λ (d : DomainText). Within var d) (domain_same domain h)
+
+-- ---- version 2 allows it
+
+allowed : (name : List ℕ) (s : Shape) → Allows Two (Add name s)
+allowed name (Within var domain) = refl
+allowed name (CompareVar left op right offset) = tt
+allowed name _ = tt
 
 -- ---- it is a form within the limits
 
@@ -157,6 +181,7 @@ proper (Table vars rows) h = (h.0, row_lengths (length vars) rows h.2)
 proper (Element outcome index entries) h = tt
 proper (Count value vars op target) h = h.0
 proper (Differ vars) h = h
+proper (Within var domain) h = tt
 
 in_range : (s : Shape) → IsSoundShape s → IsShapeInRange s
 in_range (CompareVar left op right offset) h = h
@@ -166,6 +191,7 @@ in_range (Table vars rows) h = All-weaker (IsRow (length vars)) (All IsValue) (�
 in_range (Element outcome index entries) h = h.1
 in_range (Count value vars op target) h = (h.1, h.2)
 in_range (Differ vars) h = tt
+in_range (Within var domain) h = domain_in_range domain h
 
 no_zero : (ts : List NameTerm) → All IsSoundTerm ts → Any (λ t. t.factor ≡ pos 0) ts → ⊥
 no_zero ts h a = let sound : IsSoundTerm a.1 = subst IsSoundTerm a.3 (h a.0 a.1 a.2) in sound.0 a.4
@@ -174,6 +200,7 @@ nothing_lacks : (name : List ℕ) (s : Shape) → IsSoundShape s → HasNothing 
 nothing_lacks name (Linear terms op bound) h lacks = no_zero terms h.1 lacks
 nothing_lacks name (Table vars rows) h lacks = absurd (omega (arith, h.1, ap length lacks))
 nothing_lacks name (Element outcome index entries) h lacks = absurd (omega (arith, h.0, ap length lacks))
+nothing_lacks name (Within var domain) h lacks = some_value domain h lacks
 nothing_lacks name _ h lacks = lacks
 
 -- ---- its names are names
@@ -223,13 +250,14 @@ names_shape (Count value vars op target) h =
     names_both (map Named vars) (Mark (op_text op) ∷ target_pieces (target_form target)) (names_named vars (all_left IsNameText vars (line_target_names target) h))
     (names_target target (all_right IsNameText vars (line_target_names target) h))
 names_shape (Differ vars) h = names_named vars h
+names_shape (Within var domain) h = (All-head IsNameText var [] h, names_domain (domain_form domain))
 
 -- a constraint with a name reads back
-pub add_read : (name : List ℕ) (s : Shape) → IsNameText name → All IsNameText (names_of s) → (Repeats (names_of s) → ⊥) → IsSoundShape s → (IsBeyond (Add name s) → ⊥) → IsRead (text_of (Add name s)) (Add name s)
+pub add_read : (name : List ℕ) (s : Shape) → IsNameText name → All IsNameText (names_of s) → (Repeats (names_of s) → ⊥) → IsSoundShape s → (IsBeyond (Add name s) → ⊥) → IsRead Two (text_of (Add name s)) (Add name s)
 add_read name s named names once sound near =
     let form = AddForm name (shape_form s) in
-    let same : line_of form ≡ Add name s = ap (λ (t : Shape). Add name t) (shape_same s) in
+    let same : line_of form ≡ Add name s = ap (λ (t : Shape). Add name t) (shape_same s sound) in
     let none : HasNothing (line_of form) → ⊥ = λ h. nothing_lacks name s sound (subst HasNothing same h) in
     let apart : HasRepeat (line_of form) → ⊥ = λ h. once (subst HasRepeat same h) in
-    subst (λ (l : Line). IsRead (text_of l) l) same
-    (form_read form (proper s sound) (subst IsInRange (sym same) (in_range s sound)) none apart (λ b. near (subst IsBeyond same b)) (named, names_shape s names))
+    subst (λ (l : Line). IsRead Two (text_of l) l) same
+    (form_read Two form (proper s sound) (allowed name (shape_of (shape_form s))) (subst IsInRange (sym same) (in_range s sound)) none apart (λ b. near (subst IsBeyond same b)) (named, names_shape s names))

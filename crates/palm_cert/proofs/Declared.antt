@@ -16,6 +16,7 @@ use Rattle.palm_read.specs.Name.{IsNameText}
 use Rattle.palm_read.specs.Reading.{IsRead}
 use Rattle.palm_read.specs.Text.{text_of}
 use Rattle.palm_read.specs.declared.line.Line.TheVariants.{Add, Var}
+use Rattle.palm_read.specs.declared.mode.Mode.TheVariants.{Two}
 use Rattle.palm_cert.proofs.Built.{add_read, var_read}
 use Rattle.palm_cert.specs.Readable.{IsDeclaredBy}
 
@@ -71,7 +72,7 @@ module _ (variables : List BookVar) where
       (All-map IsNameText (name_of variables) (scope con) (All-weaker (λ (x : ℕ). x < length variables) (λ (x : ℕ). IsNameText (name_of variables x)) (λ x lt. name_text variables x names lt) (scope con) formed.declared))
 
   -- and its line is read as the constraint
-  pub named_read : (name : List ℕ) (con : Con) → IsNameText name → All (λ e. IsNameText e.name) variables → AllPairs (λ e f. e.name ≢ f.name) variables → IsWellFormed (length variables) con → IsRead (text_of (Add name (named variables con))) (Add name (named variables con))
+  pub named_read : (name : List ℕ) (con : Con) → IsNameText name → All (λ e. IsNameText e.name) variables → AllPairs (λ e f. e.name ≢ f.name) variables → IsWellFormed (length variables) con → IsRead Two (text_of (Add name (named variables con))) (Add name (named variables con))
   named_read name con text names different formed =
       add_read name (named variables con) text (named_names con names formed)
       (λ r. no_repeat variables (scope con) different formed.declared formed.distinct (subst Repeats (scope_names variables con) r))

@@ -6,6 +6,7 @@ use Rattle.palm_base.proofs.cited.Members.{member_here, member_map, member_nil, 
 use Rattle.palm_book.specs.Book.{Contents, BookVar, HasConstraint, HasVariable, name_of}
 use Rattle.palm_book.specs.Named.{named}
 use Rattle.palm_book.specs.declared.book.BookCon.{BookCon}
+use Rattle.palm_book.specs.declared.limits.TheConstants.{MOST_VARIABLES, MOST_CONSTRAINTS}
 use Rattle.palm_book.proofs.cited.Any.{member_any}
 use Rattle.palm_book.proofs.cited.Resolving.{known}
 use Rattle.palm_claim.specs.Draft.{Draft, IsOpen, MayStand, blank}
@@ -33,10 +34,10 @@ pub record AreDeclared (book : Contents) (us : List ℕ) (cs : List BookCon) : T
   pub variables : (x : ℕ) → Contains us x → x < length book.variables
   pub rises : AllPairs (λ x y. x < y) us
   pub apart : AllPairs (λ e f. e.name ≢ f.name) book.variables
-  pub few : length us ≤ 64
+  pub few : length us ≤ MOST_VARIABLES
   pub constraints : (c : BookCon) → Contains cs c → Contains book.constraints c
   pub differ : Before (λ c d. c.name ≢ d.name) cs
-  pub few_constraints : length cs ≤ 256
+  pub few_constraints : length cs ≤ MOST_CONSTRAINTS
   pub scopes : (c : BookCon) → Contains cs c → (x : ℕ) → Contains (scope c.con) x → Contains us x
 
 -- ---- stages
@@ -87,7 +88,7 @@ module _ (book : Contents) (us : List ℕ) (cs : List BookCon) (are : AreDeclare
       let below = before_split (λ (i j : ℕ). i < j) earlier x later rises y.0 y.1 in
       are.apart y.0 x (record { name = []; values = [] }) below (are.variables x here) (ap (λ (e : BookVar). e.name) y.2 ∙ a.2)
 
-  variable_room : (earlier : List ℕ) (x : ℕ) (later : List ℕ) → us ≡ earlier ++ x ∷ later → 64 ≤ length (entries book.variables earlier) → ⊥
+  variable_room : (earlier : List ℕ) (x : ℕ) (later : List ℕ) → us ≡ earlier ++ x ∷ later → MOST_VARIABLES ≤ length (entries book.variables earlier) → ⊥
   variable_room earlier x later split full =
       absurd (omega (arith, full, length-map earlier (entry book.variables), length-append earlier (x ∷ later), ap (λ (zs : List ℕ). length zs) split, are.few))
 
@@ -168,7 +169,7 @@ module _ (book : Contents) (us : List ℕ) (cs : List BookCon) (are : AreDeclare
       let b = member_unmap (λ (d : BookCon). d.name) earlier a.0.name n in
       before_split (λ (d e : BookCon). d.name ≢ e.name) earlier c later (subst (λ (l : List BookCon). Before (λ (d e : BookCon). d.name ≢ e.name) l) split are.differ) b.0 b.1 (b.2 ∙ a.2)
 
-  constraint_room : (earlier : List BookCon) (c : BookCon) (later acc : List BookCon) → cs ≡ earlier ++ c ∷ later → Lists earlier acc → 256 ≤ length acc → ⊥
+  constraint_room : (earlier : List BookCon) (c : BookCon) (later acc : List BookCon) → cs ≡ earlier ++ c ∷ later → Lists earlier acc → MOST_CONSTRAINTS ≤ length acc → ⊥
   constraint_room earlier c later acc split lists full =
       let name : BookCon → List ℕ = λ d. d.name in
       let same = ap (λ (ns : List (List ℕ)). length ns) lists.names in

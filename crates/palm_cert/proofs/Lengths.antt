@@ -9,6 +9,7 @@ use Rattle.std.proofs.lemmas.Option.{slice_get_within}
 use Rattle.palm_base.specs.declared.terms.Pair.{Pair}
 use Rattle.palm_base.proofs.cited.Members.{all_members, filter_member, member_flat_map, member_here, member_map, member_nil, member_place, member_remove, member_same, member_there}
 use Rattle.palm_book.specs.Book.{AreValues, BookVar, values_at}
+use Rattle.palm_book.specs.declared.limits.TheConstants.{MOST_VARIABLES}
 use Rattle.palm_claim.specs.Statement.{IsStepNumber}
 use Rattle.palm_model.specs.Log.{Removal, log_pairs}
 use Rattle.palm_cert.specs.Certificate.{is_asked, numbers_from, numbers_of, pairs_with}
@@ -87,7 +88,7 @@ numbers_few steps reasons qs apart inside =
     omega (arith, numbers_length 1 steps reasons, short)
 
 -- steps over the variables of a book have step numbers
-pub are_step_numbers : (variables : List BookVar) (steps : List Removal) (reasons : List Pair) → length variables ≤ 64 → All (λ e. AreValues e.values) variables → Apart (log_pairs steps)
+pub are_step_numbers : (variables : List BookVar) (steps : List Removal) (reasons : List Pair) → length variables ≤ MOST_VARIABLES → All (λ e. AreValues e.values) variables → Apart (log_pairs steps)
     → ((p : Pair) → Contains (log_pairs steps) p → Contains (values_at variables p.var) p.value) → All IsStepNumber (numbers_of steps reasons)
 are_step_numbers variables steps reasons few values apart declared =
     let whole = pairs_over variables (all_of variables) in

@@ -2,9 +2,9 @@
 use Rattle.std.proofs.Common.{◌≡◌, ℕ, suc, ℤ, pos, ◌+ℤ◌, ◌*ℤ◌, Bool, true, false, cond, List, [], ◌∷◌, ◌++◌, length, map, filter, Contains, refl, sym, ap, ◌∙◌, subst, int_eq}
 use Rattle.std.proofs.lemmas.List.{map-append}
 use Rattle.std.proofs.lemmas.List.Elements.{Contains-append_left, Contains-append_right}
-use Rattle.palm_base.proofs.cited.Members.{member_here, member_map, member_same, member_there, member_unmap}
+use Rattle.palm_base.proofs.cited.Members.{member_here, member_map, member_there}
 use Rattle.palm_book.specs.Book.{BookVar, name_of}
-use Rattle.palm_book.specs.Named.{HasForm, column_of, named, named_target, named_term}
+use Rattle.palm_book.specs.Named.{named, named_target, named_term}
 use Rattle.palm_model.specs.Constraint.{scope}
 use Rattle.palm_model.specs.Count.{count_among, target_of, target_scope}
 use Rattle.palm_model.specs.Differ.{differ_parts}
@@ -22,10 +22,11 @@ use Rattle.palm_model.specs.declared.constraint.Target.TheVariants.{Const, Varia
 use Rattle.palm_model.specs.declared.constraint.Term.{Term}
 use Rattle.palm_model.specs.declared.part.Part.{Part}
 use Rattle.palm_model.specs.declared.part.Part.TheVariants.{CompareVar as CompareVarPart, CompareConst as CompareConstPart, Linear as LinearPart, Table as TablePart, Element as ElementPart, Count as CountPart, Differ as DifferPart, Within as WithinPart}
+use Rattle.palm_read.specs.Interval.{domain_with}
 use Rattle.palm_read.specs.declared.line.NameTarget.{NameTarget}
 use Rattle.palm_read.specs.declared.line.NameTarget.TheVariants.{Variable as VariableTarget}
 use Rattle.palm_read.specs.declared.line.NameTerm.{NameTerm}
-use Rattle.palm_read.specs.declared.line.Shape.TheVariants.{CompareVar as CompareVarShape, CompareConst as CompareConstShape, Linear as LinearShape, Table as TableShape, Element as ElementShape, Count as CountShape, Differ as DifferShape}
+use Rattle.palm_read.specs.declared.line.Shape.TheVariants.{CompareVar as CompareVarShape, CompareConst as CompareConstShape, Linear as LinearShape, Table as TableShape, Element as ElementShape, Count as CountShape, Differ as DifferShape, Within as WithinShape}
 use Rattle.palm_cert.specs.Moved.{moved, moved_target, moved_term}
 use Rattle.palm_model.proofs.cited.Formed.{part_scope}
 
@@ -43,7 +44,7 @@ module _ (other : ℕ → ℕ) where
   moved_part (ElementPart outcome index entries) = ElementPart (other outcome) (other index) entries
   moved_part (CountPart value vars op target) = CountPart value (map other vars) op (moved_target other target)
   moved_part (DifferPart first second) = DifferPart (other first) (other second)
-  moved_part (WithinPart var values) = TablePart (other var ∷ []) (column_of values)
+  moved_part (WithinPart var values) = WithinPart (other var) values
 
   -- ---- parts and scopes
 
@@ -106,21 +107,12 @@ module _ (other : ℕ → ℕ) where
   target_same a (Const w) = refl
   target_same a (Variable x) = refl
 
-  -- a row of the table is one of the values
-  column_value : (values : List ℤ) (v : ℤ) → Contains (column_of values) (v ∷ []) → Contains values v
-  column_value values v m =
-      let r = member_unmap (λ (w : ℤ). w ∷ []) values (v ∷ []) m in
-      let row : (r.0 ∷ []) ≡ (v ∷ []) = r.2 in
-      let same : r.0 ≡ v = cc in
-      member_same values r.0 v same r.1
-
   holds_moved : (p : Part) (a : Assignment) → Holds (moved_part p) a → Holds p (λ y. a (other y))
   holds_moved (LinearPart terms op bound) a h = subst (λ (z : ℤ). Stands op z bound) (total_moved a terms) h
   holds_moved (TablePart vars rows) a h = subst (λ (row : List ℤ). Contains rows row) (map_twice other a vars) h
   holds_moved (CountPart value vars op target) a h =
       subst (λ (z : ℤ). Stands op (pos (count_among (λ y. a (other y)) value vars)) z) (target_same a target)
       (subst (λ (n : ℕ). Stands op (pos n) (target_of a (moved_target other target))) (counted_moved a value vars) h)
-  holds_moved (WithinPart var values) a h = column_value values (a (other var)) h
   holds_moved _ a h = h
 
   -- what lacks support lacks it under the other numbers too, within domains that have no more of the scope's values
@@ -173,9 +165,4 @@ module _ (variables more : List BookVar) (other : ℕ → ℕ) where
       ∙ ap (λ (t : NameTarget). CountShape value (map (name_of variables) vars) op t)
       (target_named target (λ y m. same y (Contains-append_right vars (target_scope target) y m)))
   named_moved (Differ vars) same = ap (λ (names : List (List ℕ)). DifferShape names) (vars_named vars same)
-  named_moved (Within var values) same = ap (λ (name : List ℕ). TableShape (name ∷ []) (column_of values)) (same var (member_here var []))
-
--- and a line says it by a form of its own
-pub moved_form : (other : ℕ → ℕ) (c : Con) → HasForm (moved other c)
-moved_form other (Within var values) = tt
-moved_form other _ = tt
+  named_moved (Within var values) same = ap (λ (name : List ℕ). WithinShape name (domain_with values)) (same var (member_here var []))

@@ -18,6 +18,7 @@ use Rattle.palm_read.specs.Lines.{AreLines}
 use Rattle.palm_read.specs.Reading.{IsRead, a_comment, a_form}
 use Rattle.palm_read.specs.declared.line.Line.{Line}
 use Rattle.palm_read.specs.declared.line.Line.TheVariants.{Comment}
+use Rattle.palm_read.specs.declared.mode.Mode.TheVariants.{Two}
 
 -- the lines, all of plain bytes, lead from the one draft to the other
 abbrev pub Runs : Draft → List (List ℕ) → Draft → Type 0
@@ -51,10 +52,10 @@ reads_then d e f first second r s = record {
   runs = runs_then r.lines s.lines d e f r.runs s.runs;
 }
 
--- a line of a session that is no comment
-pub plain_read : (bytes : List ℕ) (line : Line) → (line ≡ Comment → ⊥) → IsRead bytes line → IsPlain bytes
+-- a line of a session of version 2 that is no comment
+pub plain_read : (bytes : List ℕ) (line : Line) → (line ≡ Comment → ⊥) → IsRead Two bytes line → IsPlain bytes
 plain_read bytes _ other (a_comment c) = absurd (other refl)
-plain_read bytes line other (a_form form p h r n t e) = p
+plain_read bytes line other (a_form form p h a r n t e) = p
 
 -- a statement that meets the condition of no cause
 pub no_cause : (d : Draft) (s : Statement) → (Meets d s Malformed → ⊥) → (Meets d s Misdeclared → ⊥) → (Meets d s Beyond → ⊥) → (Meets d s Unproved → ⊥) → (Meets d s NotRight → ⊥) → (Meets d s NotReached → ⊥)

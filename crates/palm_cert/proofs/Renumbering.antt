@@ -8,10 +8,11 @@ use Rattle.std.proofs.lemmas.Option.{get_or_from_slice_get, none-some, same_Some
 use Rattle.palm_base.proofs.cited.Members.{all_members, member_get, member_nil, member_same, member_tail, member_unmap}
 use Rattle.palm_book.specs.Book.{BookVar, name_of, values_at}
 use Rattle.palm_book.specs.Named.{Resolves, named}
+use Rattle.palm_book.proofs.cited.Naming.{named_plain}
 use Rattle.palm_model.specs.Constraint.{scope}
 use Rattle.palm_model.specs.declared.constraint.Con.{Con}
 use Rattle.palm_cert.specs.Moved.{moved}
-use Rattle.palm_cert.proofs.Moving.{moved_form, named_moved, scope_moved}
+use Rattle.palm_cert.proofs.Moving.{named_moved, scope_moved}
 
 -- the place of a variable among some
 abbrev pub place_in : List ℕ → ℕ → ℕ
@@ -81,6 +82,5 @@ module _ (variables : List BookVar) where
         (all_members (λ (y : ℕ). y < length (entries xs)) (map (place_in xs) (scope c)) (λ y m.
         let r = member_unmap (place_in xs) (scope c) y m in
         subst (λ (z : ℕ). z < length (entries xs)) r.2 (place_declared xs r.0 (used r.0 r.1))));
-    has_form = moved_form (place_in xs) c;
-    says = named_moved variables (entries xs) (place_in xs) c (λ y m. place_name xs y (used y m));
+    says = named_moved variables (entries xs) (place_in xs) c (λ y m. place_name xs y (used y m)) ∙ sym (named_plain variables c);
   }

@@ -9,7 +9,7 @@ ghost use Rattle.palm_read.specs.Words.{after_spaces, spaced};
 
 use palm_base::{NoMemory, Pair, Var};
 use palm_lang::{
-    Book, BookCon, Claim, print_said, put_spaced_int, put_spaced_name, put_spaced_value, put_text,
+    Book, BookCon, Claim, print_con, put_spaced_int, put_spaced_name, put_spaced_value, put_text,
 };
 
 /// A space and a number.
@@ -36,7 +36,7 @@ pub fn put_added(book: &Book, entry: &BookCon, out: &mut Vec<u8>) -> Result<(), 
     put_text("add", out)?;
     put_spaced_name(&entry.name, out)?;
     put_text(" : ", out)?;
-    print_said(book, &entry.con, out)?;
+    print_con(book, &entry.con, out)?;
     put_text("\n", out)?;
     Ok(())
 }

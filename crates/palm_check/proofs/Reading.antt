@@ -6,6 +6,7 @@ use Rattle.palm_read.specs.Reading.{IsRead}
 use Rattle.palm_read.specs.Token.{Lexeme, tokens_of}
 use Rattle.palm_read.specs.Reader.Held.{GivesAll, HoldsAll}
 use Rattle.palm_read.specs.declared.line.Line.{Line}
+use Rattle.palm_read.specs.declared.mode.Mode.TheVariants.{Two}
 use Rattle.palm_read.specs.declared.parse.LineError.{LineError}
 use Rattle.palm_read.specs.declared.parse.LineError.TheVariants.{Form as NoForm}
 use Rattle.palm_read.proofs.cited.SoundLines.{read_sound}
@@ -19,7 +20,7 @@ use Rattle.palm_claim.proofs.cited.Saying.{led_says, line_says, line_says_nothin
 use Rattle.palm_check.specs.Kept.{IsBeyondAlone, IsSoundStatement, SaysOrNot}
 use Rattle.palm_check.specs.declared.statements.Reading.{Reading}
 
-pub line_read : (bytes : List ℕ) (line : Line) (o : Option Reading) → IsRead bytes line → option_map (λ (r : Reading). r.statement) o ≡ of_line line → SaysOrNot bytes o
+pub line_read : (bytes : List ℕ) (line : Line) (o : Option Reading) → IsRead Two bytes line → option_map (λ (r : Reading). r.statement) o ≡ of_line line → SaysOrNot bytes o
 line_read bytes line None read e = line_says_nothing bytes line read (sym e)
 line_read bytes line (Some r) read e = line_says bytes line r.statement read (sym e)
 
@@ -46,8 +47,8 @@ phrase_alone bytes s h = spelled_alone (tokens_of bytes) s (phrase_is (tokens_of
 pub said_sound : (bytes : List ℕ) (s : Statement) → Says bytes s → IsSoundStatement s
 said_sound bytes Comment h = tt
 said_sound bytes Header h = tt
-said_sound bytes (Variable name domain) h = read_sound bytes (Var name domain) h
-said_sound bytes (Constraint name shape) h = read_sound bytes (Add name shape) h
+said_sound bytes (Variable name domain) h = read_sound Two bytes (Var name domain) h
+said_sound bytes (Constraint name shape) h = read_sound Two bytes (Add name shape) h
 said_sound bytes (Step name value by reasons) h = h.2.1
 said_sound bytes (ValueClaim name value) h = tt
 said_sound bytes (ConflictClaim name) h = tt

@@ -157,6 +157,7 @@ impl Checker {
         let con = match self.listed.book.resolve(self.alloc, shape) {
             Ok(con) => con,
             Err(Unresolved::UnknownName) => return Ok(Some(Cause::Misdeclared)),
+            Err(Unresolved::TooLarge) => return Ok(Some(Cause::Beyond)),
             Err(Unresolved::NoMemory) => return Err(NoMemory),
         };
         if is_beyond || self.listed.book.constraints() >= MOST_CONSTRAINTS {

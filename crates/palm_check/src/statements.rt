@@ -7,11 +7,12 @@ ghost use Rattle.palm_claim.specs.Reader.{begins_phrase, of_line};
 ghost use Rattle.palm_read.specs.Limits.{IsBeyond};
 ghost use Rattle.palm_read.specs.Reading.{IsRefusedBy};
 ghost use Rattle.palm_read.specs.Token.{tokens_of};
+ghost use Rattle.palm_read.specs.declared.mode.Mode.TheVariants as Mode;
 
 use crate::phrases::{begins_phrase, read_phrase};
 use palm_base::NoMemory;
 use palm_claim::{Stage, Statement};
-use palm_read::{Cursor, Line, LineError, MOST_LINE_BYTES, beyond, parse_tokens};
+use palm_read::{Cursor, Line, LineError, MOST_LINE_BYTES, Mode, beyond, parse_tokens};
 use std::alloc::Global;
 
 /// What a line says, and whether it breaks a limit by itself.
@@ -21,7 +22,8 @@ pub struct Reading {
     pub is_beyond: bool,
 }
 
-/// What the line says, or nothing. Its first word decides by which forms its tokens are read.
+/// What the line says, or nothing. Its first word decides by which forms its tokens are read: those that only certificates
+/// have, or those of version 2.
 pub fn read_statement(alloc: Global, bytes: &[u8]) -> Result<Option<Reading>, NoMemory>
     ensures says { IfOk result (SaysOrNot bytes.now) }
     ensures beyond { IfOk result (λ reading. IfSome reading (λ r. Tells r.is_beyond (IsBeyondAlone r.statement))) }
@@ -30,17 +32,17 @@ pub fn read_statement(alloc: Global, bytes: &[u8]) -> Result<Option<Reading>, No
     if begins_phrase(&cursor) {
         return of_phrase(alloc, bytes, &mut cursor);
     }
-    match parse_tokens(alloc, bytes, &mut cursor) {
+    match parse_tokens(alloc, bytes, &mut cursor, Mode::Two) {
         Ok(line) => Ok(of_line(line)),
         Err(error) => of_refused(bytes, error),
     }
 }
 
-/// What a line says that is refused in a session and has no form that only certificates have: nothing, unless memory ran
-/// out.
+/// What a line says that is refused in a session of version 2 and has no form that only certificates have: nothing,
+/// unless memory ran out.
 fn of_refused(bytes: &[u8], error: LineError) -> Result<Option<Reading>, NoMemory>
     requires begins { begins_phrase (tokens_of bytes.now) ≡ false }
-    requires refused { IsRefusedBy bytes.now error }
+    requires refused { IsRefusedBy Mode.Two bytes.now error }
     ensures says { IfOk result (SaysOrNot bytes.now) }
     ensures beyond { IfOk result (λ reading. IfSome reading (λ r. Tells r.is_beyond (IsBeyondAlone r.statement))) }
 {

@@ -8,6 +8,7 @@ use Rattle.palm_base.proofs.cited.Members.{Known, all_members, any_known, int_kn
 use Rattle.palm_book.specs.Book.{Contents, BookVar, HasConstraint, HasVariable, initial_of}
 use Rattle.palm_book.specs.Named.{IsDeclared, IsPair, IsUnknownName, IsVariable}
 use Rattle.palm_book.specs.declared.book.BookCon.{BookCon}
+use Rattle.palm_book.specs.declared.limits.TheConstants.{MOST_VARIABLES, MOST_CONSTRAINTS}
 use Rattle.palm_book.proofs.cited.Any.{any_member}
 use Rattle.palm_model.specs.Domains.{Domains, values_of, without}
 use Rattle.palm_model.specs.Part.{parts, scope_of}
@@ -123,8 +124,8 @@ pair_with variables name value a =
 -- ---- limits
 
 limits_known : (d : Draft) (s : Statement) → Known (IsBeyondLimits d s)
-limits_known d (Variable name domain) = known_either (beyond_known (Var name domain)) (most_known 64 (length d.book.variables))
-limits_known d (Constraint name shape) = known_either (beyond_known (Add name shape)) (most_known 256 (length d.book.constraints))
+limits_known d (Variable name domain) = known_either (beyond_known (Var name domain)) (most_known MOST_VARIABLES (length d.book.variables))
+limits_known d (Constraint name shape) = known_either (beyond_known (Add name shape)) (most_known MOST_CONSTRAINTS (length d.book.constraints))
 limits_known d Comment = known_never
 limits_known d Header = known_never
 limits_known d (Step name value by reasons) = known_never
@@ -263,7 +264,7 @@ leads_on d Header none = (at_stage d Declaring, refl)
 leads_on d (Variable name domain) none = (with_variable d name (values_in domain), refl)
 leads_on d (Constraint name shape) none =
     let r = constraint_with d.book.variables shape (named_all d.book.variables (names_of shape) (λ a. none.1.0 (inr a))) in
-    (with_constraint d name r.0, (r.0, record { declared = r.1; has_form = r.3; says = r.2 }, refl))
+    (with_constraint d name r.0, (r.0, r.1, refl))
 leads_on d (Step name value by reasons) none =
     let p = pair_with d.book.variables name value (settled (declared_known d.book.variables name value) (λ n. none.1.0 (inl n))) in
     (with_step d p.0, (p.0, p.1, refl))

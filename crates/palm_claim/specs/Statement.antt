@@ -1,5 +1,5 @@
--- What a line of a certificate says. Comments, variables and constraints are written as in a session; the other forms are
--- those of this file.
+-- What a line of a certificate says. Comments, variables and constraints are written as in a session of version 2; the
+-- other forms are those of this file.
 use Rattle.std.specs.Prelude.{◌≡◌, ℕ, ℤ, List, [], ◌∷◌, map, All, codes, ⊤}
 use Rattle.palm_model.specs.Limits.{IsValue}
 use Rattle.palm_read.specs.Bounds.{IsFromOneTo}
@@ -9,6 +9,7 @@ use Rattle.palm_read.specs.Reading.{IsRead}
 use Rattle.palm_read.specs.Token.{Lexeme, tokens_of}
 use Rattle.palm_read.specs.declared.tokens.TokenKind.TheVariants.{Digits}
 use Rattle.palm_read.specs.declared.line.Line.TheVariants.{Var, Add}
+use Rattle.palm_read.specs.declared.mode.Mode.TheVariants.{Two}
 use Rattle.palm_claim.specs.declared.statement.Statement.{Statement}
 use Rattle.palm_claim.specs.declared.statement.Statement.TheVariants.{Comment, Header, Variable, Constraint, Step, ValueClaim, ConflictClaim, End}
 
@@ -55,6 +56,6 @@ AreInRange _ = ⊤
 -- what a line says
 abbrev pub Says : List ℕ → Statement → Type 0
 Says line Comment = IsComment line
-Says line (Variable name domain) = IsRead line (Var name domain)
-Says line (Constraint name shape) = IsRead line (Add name shape)
+Says line (Variable name domain) = IsRead Two line (Var name domain)
+Says line (Constraint name shape) = IsRead Two line (Add name shape)
 Says line statement = IsPlain line × IsSpelled (tokens_of line) statement × AreInRange statement

@@ -11,6 +11,7 @@ use Rattle.palm_read.specs.Form.{Form, QuitForm}
 use Rattle.palm_read.specs.Grammar.{IsForm, pieces}
 use Rattle.palm_read.specs.Piece.{Spells, word}
 use Rattle.palm_read.specs.Reading.{IsRead, a_comment, a_form, line_of}
+use Rattle.palm_read.specs.declared.mode.Mode.TheVariants.{One}
 use Rattle.palm_read.specs.Token.{Lexeme, tokens_of, lexeme_at}
 use Rattle.palm_read.specs.declared.line.Line.{Line}
 use Rattle.palm_read.specs.declared.line.Line.TheVariants.{Quit}
@@ -43,9 +44,9 @@ form_quit : (form : Form) → line_of form ≡ Quit → (b : ℕ) (rest : List �
 form_quit QuitForm e b rest w is = spelled b rest w is.spells
 form_quit _ e b rest w is = cc
 
-read_quit : (bytes : List ℕ) (line : Line) → IsRead bytes line → line ≡ Quit → (b : ℕ) (rest : List ℕ) → bytes ≡ b ∷ rest → is_blank b ≡ false → b ≡ 113
+read_quit : (bytes : List ℕ) (line : Line) → IsRead One bytes line → line ≡ Quit → (b : ℕ) (rest : List ℕ) → bytes ≡ b ∷ rest → is_blank b ≡ false → b ≡ 113
 read_quit bytes line (a_comment c) e b rest is w = cc
-read_quit bytes line (a_form form plain f range some once said) e b rest is w =
+read_quit bytes line (a_form form plain f allowed range some once said) e b rest is w =
     form_quit form (sym said ∙ e) b rest w (subst (λ (z : List ℕ). IsForm (tokens_of z) form) is f)
 
 -- ---- such a line of printed bytes

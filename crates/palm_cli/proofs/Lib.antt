@@ -2,6 +2,7 @@ pub mod CheckLemmas
 pub mod CommandLine
 pub mod Endings
 pub mod InnerLines
+pub mod LeadLemmas
 pub mod NameLemmas
 pub mod QueenLines
 pub mod RunLemmas

@@ -8,11 +8,11 @@ use Rattle.palm_base.proofs.cited.StreamLemmas.{consumes_nothing, consumes_both,
 use Rattle.palm_lang.proofs.cited.Writes.{stopped_in_second}
 use Rattle.palm_lang.specs.Reply.{ended}
 use Rattle.palm_lang.specs.declared.stop.WriteStop.{WriteStop as Stop}
-use Rattle.palm_lang.specs.declared.stop.WriteStop.TheVariants as stops
 use Rattle.palm_session.specs.State.{SessionState, fresh}
 use Rattle.palm_read.proofs.cited.Cutting.{text_lines}
 use Rattle.palm_read.specs.Lines.{HasNoFeed, AreLines, last_line, without_return}
 use Rattle.palm_session.specs.Replies.{Run, AreAnswered, GoesOn, Ends, all, until}
+use Rattle.palm_session.specs.Led.{Guiding, Ordering}
 use Rattle.palm_session.specs.Objects.{HeldObjects}
 use Rattle.palm_session.specs.Feeding.{View, FeedsOn, FeedsEnd, FeedsPart, FinishesAll, FinishesPart}
 use Rattle.palm_session.proofs.cited.FeedLemmas.{feeds_more, feeds_more_end, feeds_more_part, feeds_none, part_nothing, run_append, run_then, map_more}
@@ -21,6 +21,7 @@ use Rattle.palm_session.proofs.cited.Asked.{run_of}
 use Rattle.palm_session.proofs.cited.Keeping.{feeds_long, feeds_long_end, feeds_long_part, finishes_long, finishes_long_part}
 use Rattle.palm_session.specs.declared.limits.TheConstants.{MOST_KEPT_BYTES}
 use Rattle.palm_cli.specs.Commands.{Streams, IsCalm, FailsToWrite, RunsAll, RunsPart, HasEnd, StopsInTime, IsWhole, IsCut, Runs, HasNoFault, TakesAnswerable, TakesTooMuch, first_bytes}
+use Rattle.palm_cli.specs.Led.{PieceLeads}
 use Rattle.palm_cli.specs.Serving.{IsFresh, FinishesStatus, FeedsStatus, ReadsPiece, ReadsEnd, PumpsFault, PumpsPiece, Pumps}
 use Rattle.palm_cli.proofs.Endings.{no_end}
 use Rattle.palm_cli.proofs.Taking.{all_left, rose_after, told_once}
@@ -49,27 +50,26 @@ module _ (guides orders : List ℕ) where
   no_end_nothing : HasEnd [] → ⊥
   no_end_nothing e = no_end (fresh guides orders) (fresh guides orders) [] [] None None 0 (feeds_none (fresh guides orders) None) e
 
-  in_time_nothing : StopsInTime []
+  pub in_time_nothing : StopsInTime []
   in_time_nothing = in_time_whole [] (omega arith) no_end_nothing
 
-  calm_still : (before : Streams) → IsCalm before before
+  pub calm_still : (before : Streams) → IsCalm before before
   calm_still before = record { read = refl; write = refl }
 
-  pub served_start : {G O : Type 0} (before : Streams) (session : View G O) → session ≡ record { state = fresh guides orders; checks = 0; objects = session.objects; unfinished = []; over = false } → Served guides orders before before 0 session
-  served_start {G = G} {O = O} before session e =
-      subst (λ (v : View G O). Served guides orders before before 0 v) (sym e)
-      (record {
-        text = [];
-        rest = [];
-        long = refl;
-        takes = consumes_nothing before.source.left;
-        in_time = in_time_nothing;
-        asked = 0;
-        feeds = feeds_none (fresh guides orders) before.sink.written;
-        kept = refl;
-        going = refl;
-        calm = calm_still before;
-      })
+  unfoldable pub served_fresh : {G O : Type 0} (before : Streams) (objects : HeldObjects G O)
+      → Served guides orders before before 0 (record { state = fresh guides orders; checks = 0; objects = objects; unfinished = []; over = false })
+  served_fresh before objects = record {
+    text = [];
+    rest = [];
+    long = refl;
+    takes = consumes_nothing before.source.left;
+    in_time = in_time_nothing;
+    asked = 0;
+    feeds = feeds_none (fresh guides orders) before.sink.written;
+    kept = refl;
+    going = refl;
+    calm = calm_still before;
+  }
 
   -- nothing was taken and nothing written
   pub want_at_once : (before : Streams) → Runs guides orders before before NoMemory
@@ -84,10 +84,10 @@ module _ (guides orders : List ℕ) where
   )
 
   -- a text in which the session's bytes are all that was taken
-  whole_text : (text : List ℕ) (taken : ℕ) → length text ≡ taken → taken ≤ MOST_INPUT_BYTES → first_bytes text ≡ text
+  pub whole_text : (text : List ℕ) (taken : ℕ) → length text ≡ taken → taken ≤ MOST_INPUT_BYTES → first_bytes text ≡ text
   whole_text text taken e le = take_all MOST_INPUT_BYTES text (omega (arith, e, le))
 
-  takes_more_nothing : (a b c : Option (List ℕ)) (x : List ℕ) → Consumes a b x → Consumes b c [] → Consumes a c x
+  pub takes_more_nothing : (a b c : Option (List ℕ)) (x : List ℕ) → Consumes a b x → Consumes b c [] → Consumes a c x
   takes_more_nothing a b c x p q = subst (λ (z : List ℕ). Consumes a c z) (append-nil x) (consumes_both a b c x [] p q)
 
   -- what was fed is all that was taken
@@ -96,7 +96,7 @@ module _ (guides orders : List ℕ) where
   whole_feeds before now taken session s le =
       subst (λ (z : List ℕ). FeedsOn (fresh guides orders) z before.sink.written now.sink.written s.rest session.state s.asked) (whole_text s.text taken s.long le) s.feeds
 
-  served_unended : {G O : Type 0} (before now : Streams) (taken : ℕ) (session : View G O) (s : Served guides orders before now taken session) → taken ≤ MOST_INPUT_BYTES → HasEnd s.text → ⊥
+  pub served_unended : {G O : Type 0} (before now : Streams) (taken : ℕ) (session : View G O) (s : Served guides orders before now taken session) → taken ≤ MOST_INPUT_BYTES → HasEnd s.text → ⊥
   served_unended before now taken session s le =
       no_end (fresh guides orders) session.state s.text s.rest before.sink.written now.sink.written s.asked (whole_feeds before now taken session s le)
 
@@ -122,7 +122,7 @@ module _ (guides orders : List ℕ) where
   )
 
   -- the bytes that are fed are the first ones of the text
-  fed_text : (text piece : List ℕ) (taken : ℕ) → length text ≡ taken → taken ≤ MOST_INPUT_BYTES
+  pub fed_text : (text piece : List ℕ) (taken : ℕ) → length text ≡ taken → taken ≤ MOST_INPUT_BYTES
       → take MOST_INPUT_BYTES (text ++ piece) ≡ take MOST_INPUT_BYTES text ++ take (MOST_INPUT_BYTES - taken) piece
   fed_text text piece taken e le =
       let m : MOST_INPUT_BYTES ≡ length text + (MOST_INPUT_BYTES - taken) = omega (arith, e, le) in
@@ -138,36 +138,39 @@ module _ (guides orders : List ℕ) where
       ap (λ (z : List ℕ). x ∷ z) (take_fewer a b xs) ∙ ap (λ (k : ℕ). take k (x ∷ xs)) m
 
   -- a piece was read into the front of a buffer, and its first bytes were fed
-  pub pumped : {G O : Type 0} (session : View G O) (room n m : ℕ) (buffer : List ℕ) (before now : Streams) (later : View G O) (end : Option Status)
+  pub pumped : {G O : Type 0} {guiding : Guiding G} {ordering : Ordering O} (session : View G O) (room n m : ℕ) (buffer : List ℕ) (before now : Streams) (later : View G O) (end : Option Status)
       → m ≡ min n room → (n ≡ 0 → ⊥) → n ≤ length buffer → n ≤ PIECE → Consumes before.source.left now.source.left (take n buffer)
       → now.source.faults ≡ before.source.faults → FeedsStatus session (take m buffer) before.sink now.sink later end
-      → PumpsPiece session room before later now end
-  pumped session room n m buffer before now later end is some fits small takes calm f = record {
+      → PieceLeads guiding ordering session (take m buffer) before.sink now.sink later end
+      → PumpsPiece guiding ordering session room before later now end
+  pumped {G = G} {O = O} {guiding = guiding} {ordering = ordering} session room n m buffer before now later end is some fits small takes calm f led = record {
     piece = take n buffer;
     reads = record { takes = takes; some = omega (arith, length-take n buffer, some, fits); small = omega (arith, length-take n buffer, small, fits); calm = calm };
     feeds = subst (λ (z : List ℕ). FeedsStatus session z before.sink now.sink later end) (ap (λ (k : ℕ). take k buffer) is ∙ sym (take_fewer room n buffer)) f;
+    leads = subst (λ (z : List ℕ). PieceLeads guiding ordering session z before.sink now.sink later end) (ap (λ (k : ℕ). take k buffer) is ∙ sym (take_fewer room n buffer)) led;
   }
 
-  pub pumped_on : {G O : Type 0} (session : View G O) (room n m : ℕ) (buffer : List ℕ) (before now : Streams) (later : View G O)
+  pub pumped_on : {G O : Type 0} {guiding : Guiding G} {ordering : Ordering O} (session : View G O) (room n m : ℕ) (buffer : List ℕ) (before now : Streams) (later : View G O)
       → m ≡ min n room → (n ≡ 0 → ⊥) → n ≤ length buffer → n ≤ PIECE → Consumes before.source.left now.source.left (take n buffer)
       → now.source.faults ≡ before.source.faults → FeedsStatus session (take m buffer) before.sink now.sink later None
-      → Pumps session room before later now (Ok n)
+      → PieceLeads guiding ordering session (take m buffer) before.sink now.sink later None
+      → Pumps guiding ordering session room before later now (Ok n)
   unfolding pumped
-  pumped_on session room n m buffer before now later is some fits small takes calm f = (
-    pumped session room n m buffer before now later None is some fits small takes calm f,
+  pumped_on session room n m buffer before now later is some fits small takes calm f led = (
+    pumped session room n m buffer before now later None is some fits small takes calm f led,
     omega (arith, length-take n buffer, fits),
   )
 
   -- what one more piece adds to the text
-  in_time_more : (text piece : List ℕ) → length text ≤ MOST_INPUT_BYTES → (HasEnd text → ⊥) → length piece ≤ PIECE → StopsInTime (text ++ piece)
+  pub in_time_more : (text piece : List ℕ) → length text ≤ MOST_INPUT_BYTES → (HasEnd text → ⊥) → length piece ≤ PIECE → StopsInTime (text ++ piece)
   in_time_more text piece le none small = record { front = text; piece = piece; whole = refl; small = small; within = le; unended = none }
 
-  calm_more : (before mid now : Streams) → IsCalm before mid → now.source.faults ≡ mid.source.faults → now.sink.faults ≡ mid.sink.faults → IsCalm before now
+  pub calm_more : (before mid now : Streams) → IsCalm before mid → now.source.faults ≡ mid.source.faults → now.sink.faults ≡ mid.sink.faults → IsCalm before now
   calm_more before mid now c read write = record { read = read ∙ c.read; write = write ∙ c.write }
 
   -- one more piece was read and fed
-  pub served_more : {G O : Type 0} (before mid now : Streams) (taken : ℕ) (session later : View G O) → Served guides orders before mid taken session → taken ≤ MOST_INPUT_BYTES
-      → (p : PumpsPiece session (MOST_INPUT_BYTES - taken) mid later now None) → Served guides orders before now (taken + length p.piece) later
+  unfoldable pub served_more : {G O : Type 0} {guiding : Guiding G} {ordering : Ordering O} (before mid now : Streams) (taken : ℕ) (session later : View G O) → Served guides orders before mid taken session → taken ≤ MOST_INPUT_BYTES
+      → (p : PumpsPiece guiding ordering session (MOST_INPUT_BYTES - taken) mid later now None) → Served guides orders before now (taken + length p.piece) later
   served_more before mid now taken session later s le p =
       let fed : List ℕ = take (MOST_INPUT_BYTES - taken) p.piece in
       let left = feeds_long session.state session.unfinished s.rest fed mid.sink.written now.sink.written s.kept s.feeds.unfinished later.state p.feeds.1.1.rest p.feeds.1.0 p.feeds.1.1.feeds in
@@ -185,11 +188,6 @@ module _ (guides orders : List ℕ) where
         calm = calm_more before mid now s.calm p.reads.calm p.feeds.0;
       }
 
-  pub served_count : {G O : Type 0} (before mid now : Streams) (taken count : ℕ) (session later : View G O) → Served guides orders before mid taken session → taken ≤ MOST_INPUT_BYTES
-      → Pumps session (MOST_INPUT_BYTES - taken) mid later now (Ok count) → Served guides orders before now (taken + count) later
-  served_count before mid now taken count session later s le p =
-      subst (λ (n : ℕ). Served guides orders before now (taken + n) later) (sym p.1) (served_more before mid now taken session later s le p.0)
-
   pub served_over : {G O : Type 0} (before now : Streams) (taken : ℕ) (session : View G O) → Served guides orders before now taken session → MOST_INPUT_BYTES < taken → Runs guides orders before now TooLong
   served_over before now taken session s over = (
     s.calm,
@@ -206,7 +204,7 @@ module _ (guides orders : List ℕ) where
   )
 
   -- the lines of a text, whole ones and a last one
-  lines_of : (text : List ℕ) (lines : List (List ℕ)) (rest : List ℕ) → text ≡ flat_map ended lines ++ rest → All HasNoFeed lines → HasNoFeed rest
+  pub lines_of : (text : List ℕ) (lines : List (List ℕ)) (rest : List ℕ) → text ≡ flat_map ended lines ++ rest → All HasNoFeed lines → HasNoFeed rest
       → AreLines text (map without_return lines ++ last_line rest)
   lines_of text lines rest whole unbroken unfinished = record {
     ended_lines = lines;
@@ -215,7 +213,7 @@ module _ (guides orders : List ℕ) where
     all = refl;
   }
 
-  answered_lines : (lines : List (List ℕ)) (rest : List ℕ) → All GoesOn lines → All GoesOn (last_line rest) ⊎ All Ends (last_line rest) → AreAnswered (lines ++ last_line rest) (lines ++ last_line rest)
+  pub answered_lines : (lines : List (List ℕ)) (rest : List ℕ) → All GoesOn lines → All GoesOn (last_line rest) ⊎ All Ends (last_line rest) → AreAnswered (lines ++ last_line rest) (lines ++ last_line rest)
   answered_lines lines rest on (inl more) = all (All-append GoesOn lines (last_line rest) on more)
   answered_lines lines [] on (inr ends) = all (All-append GoesOn lines [] on (All-nil GoesOn))
   answered_lines lines (b ∷ bs) on (inr ends) = until lines [] (without_return (b ∷ bs)) on (All-head Ends (without_return (b ∷ bs)) [] ends) refl
@@ -283,7 +281,7 @@ module _ (guides orders : List ℕ) where
   last_runs before mid now taken session ReadFault s le e f = absurd f
   last_runs before mid now taken session TooLong s le e f = absurd f
 
-  whole_end : (n : ℕ) (text rest : List ℕ) (lines : List (List ℕ)) → take n text ≡ flat_map ended lines ++ rest → text ≡ flat_map ended lines ++ (rest ++ drop n text)
+  pub whole_end : (n : ℕ) (text rest : List ℕ) (lines : List (List ℕ)) → take n text ≡ flat_map ended lines ++ rest → text ≡ flat_map ended lines ++ (rest ++ drop n text)
   whole_end n text rest lines e =
       sym (take-append-drop n text) ∙ ap (λ (z : List ℕ). z ++ drop n text) e ∙ append_assoc (flat_map ended lines) rest (drop n text)
 
@@ -345,8 +343,8 @@ module _ (guides orders : List ℕ) where
   piece_runs before mid now taken session later TooLong piece s le r f = absurd f
 
   -- a read ended the run
-  pub pump_runs : {G O : Type 0} (before mid now : Streams) (taken : ℕ) (session later : View G O) (status : Status) → Served guides orders before mid taken session → taken ≤ MOST_INPUT_BYTES
-      → Pumps session (MOST_INPUT_BYTES - taken) mid later now (Err status) → Runs guides orders before now status
+  pub pump_runs : {G O : Type 0} {guiding : Guiding G} {ordering : Ordering O} (before mid now : Streams) (taken : ℕ) (session later : View G O) (status : Status) → Served guides orders before mid taken session → taken ≤ MOST_INPUT_BYTES
+      → Pumps guiding ordering session (MOST_INPUT_BYTES - taken) mid later now (Err status) → Runs guides orders before now status
   pump_runs before mid now taken session later status s le (inl fault) =
       subst (λ (x : Status). Runs guides orders before now x) (sym fault.fault)
       (fault_runs before mid now taken session s le (subst (λ (x : Status). PumpsFault mid now x) fault.fault fault))

@@ -1,5 +1,5 @@
 -- What was asked for, and what was done.
-use Rattle.std.proofs.Common.{ℕ, List, [], Option, Some, None, refl, subst}
+use Rattle.std.proofs.Common.{ℕ, List, Option, Some, None, refl, subst}
 use Rattle.palm_cli.proofs.CheckLemmas.{checks_nothing}
 use Rattle.palm_cli.proofs.RunLemmas.{want_at_once}
 use Rattle.palm_cli.proofs.SummaryLemmas.{wants}

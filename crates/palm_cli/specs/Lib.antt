@@ -1,6 +1,7 @@
 pub mod Checking
 pub mod Commands
 pub mod Generator
+pub mod Led
 pub mod Numbers
 pub mod Serving
 pub mod Solving

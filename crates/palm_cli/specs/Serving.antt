@@ -4,7 +4,9 @@ use Rattle.palm_base.specs.Streams.{SourceState, SinkState, Consumes, IsAtEnd, R
 use Rattle.palm_session.specs.State.{SessionState, fresh}
 use Rattle.palm_lang.specs.declared.stop.WriteStop.TheVariants as stops
 use Rattle.palm_session.specs.Feeding.{View, KeepsRest, FeedsEnd, FeedsPart, FinishesAll, FinishesPart}
+use Rattle.palm_session.specs.Led.{Guiding, Ordering}
 use Rattle.palm_cli.specs.Commands.{Streams}
+use Rattle.palm_cli.specs.Led.{FinishLeads, PieceLeads}
 use Rattle.palm_cli.specs.declared.limits.TheConstants.{PIECE}
 use Rattle.palm_cli.specs.declared.status.Status.{Status}
 use Rattle.palm_cli.specs.declared.status.Status.TheVariants.{Done, ReadFault, WriteFault, NoMemory}
@@ -57,19 +59,21 @@ pub record PumpsFault (before after : Streams) (status : Status) : Type 0 where
   pub sink : after.sink ≡ before.sink
 
 -- the end was read, and a last line answered
-pub record PumpsLast {G O : Type 0} (session : View G O) (before after : Streams) (status : Status) : Type 0 where
+pub record PumpsLast {G O : Type 0} (guiding : Guiding G) (ordering : Ordering O) (session : View G O) (before after : Streams) (status : Status) : Type 0 where
   pub reads : ReadsEnd before.source after.source
   pub finishes : FinishesStatus session before.sink after.sink status
+  pub leads : FinishLeads guiding ordering session before.sink after.sink status
 
 -- one piece was read, and the lines that its first bytes complete, as many as there is room for, were answered
-pub record PumpsPiece {G O : Type 0} (session : View G O) (room : ℕ) (before : Streams) (later : View G O) (after : Streams) (end : Option Status) : Type 0 where
+pub record PumpsPiece {G O : Type 0} (guiding : Guiding G) (ordering : Ordering O) (session : View G O) (room : ℕ) (before : Streams) (later : View G O) (after : Streams) (end : Option Status) : Type 0 where
   pub piece : List ℕ
   pub reads : ReadsPiece before.source after.source piece
   pub feeds : FeedsStatus session (take room piece) before.sink after.sink later end
+  pub leads : PieceLeads guiding ordering session (take room piece) before.sink after.sink later end
 
 -- what one read and the answers to its lines do: the number of bytes that were read, or how the run ends there
-abbrev pub Pumps : {G O : Type 0} → View G O → ℕ → Streams → View G O → Streams → Result ℕ Status → Type 0
-Pumps session room before later after (Ok count) =
-    (pumps : PumpsPiece session room before later after None) × (count ≡ length pumps.piece)
-Pumps session room before later after (Err status) =
-    PumpsFault before after status ⊎ (PumpsLast session before after status ⊎ PumpsPiece session room before later after (Some status))
+abbrev pub Pumps : {G O : Type 0} → Guiding G → Ordering O → View G O → ℕ → Streams → View G O → Streams → Result ℕ Status → Type 0
+Pumps guiding ordering session room before later after (Ok count) =
+    (pumps : PumpsPiece guiding ordering session room before later after None) × (count ≡ length pumps.piece)
+Pumps guiding ordering session room before later after (Err status) =
+    PumpsFault before after status ⊎ (PumpsLast guiding ordering session before after status ⊎ PumpsPiece guiding ordering session room before later after (Some status))

@@ -1,9 +1,12 @@
 //! The one call that the program makes.
 ghost use Rattle.std.specs.Prelude.{ℕ, map, string_bytes, vec_len};
 ghost use Rattle.palm_base.specs.Streams.{Rose};
+ghost use Rattle.palm_engine.specs.Following.{OrderFollows};
+ghost use Rattle.palm_search.specs.Following.{GuideFollows};
 ghost use Rattle.palm_session.specs.Objects.{numbered};
 ghost use Rattle.palm_claim.specs.declared.verdict.Verdict.{Verdict};
 ghost use Rattle.palm_cli.specs.Commands.{Checks, EndsWith, IsCut, IsWhole, Generates, HasNoFault, Obeys, Refuses, Runs, TakesAnswerable, TakesJudged, TakesOver, TakesTooMuch, WritesUsage, streams};
+ghost use Rattle.palm_cli.specs.Led.{ObeysLead, RunsLead, handed_in};
 ghost use Rattle.palm_cli.specs.Words.{IsCheck, IsFit, IsGen, IsNoCommand, IsRun};
 
 use crate::checking::check;
@@ -29,6 +32,11 @@ pub fn top<S: Source, K: Sink, G: Guide, O: Order>(
     // `run` answers the lines of the source one by one, whatever the guides and orders are; every other end has its cause.
     ensures runs { IsRun (map string_bytes words.now) →
         Runs (numbered (vec_len guides)) (numbered (vec_len orders))
+        (streams (S.state source.old) (K.state sink.old)) (streams (S.state source.new) (K.state sink.new)) result }
+    // Where `run` ends by no stop, its lines led the objects under the numbers that they were handed in by, and no others.
+    ensures led { IsRun (map string_bytes words.now) →
+        RunsLead (GuideFollows G.answers G.hears G.state) (OrderFollows O.answers O.hears O.state)
+        (numbered (vec_len guides)) (numbered (vec_len orders)) (handed_in guides.items orders.items)
         (streams (S.state source.old) (K.state sink.old)) (streams (S.state source.new) (K.state sink.new)) result }
     // `check` reads the source to its end, and writes the line of its verdict; every other end has its cause.
     ensures checks { IsCheck (map string_bytes words.now) →
@@ -77,7 +85,10 @@ fn obey<S: Source, K: Sink, G: Guide, O: Order>(
     orders: Vec<O>,
 ) -> Status
     requires { IsFit request }
-    ensures { Obeys (numbered (vec_len guides)) (numbered (vec_len orders)) request
+    ensures obeys { Obeys (numbered (vec_len guides)) (numbered (vec_len orders)) request
+        (streams (S.state source.old) (K.state sink.old)) (streams (S.state source.new) (K.state sink.new)) result }
+    ensures led { ObeysLead (GuideFollows G.answers G.hears G.state) (OrderFollows O.answers O.hears O.state)
+        (numbered (vec_len guides)) (numbered (vec_len orders)) (handed_in guides.items orders.items) request
         (streams (S.state source.old) (K.state sink.old)) (streams (S.state source.new) (K.state sink.new)) result }
 {
     match request {

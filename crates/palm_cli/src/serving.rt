@@ -1,7 +1,10 @@
 //! The command `run`.
 ghost use Rattle.std.specs.Prelude.{◌≡◌, ◌<◌, false, length, vec_len};
+ghost use Rattle.palm_engine.specs.Following.{OrderFollows};
+ghost use Rattle.palm_search.specs.Following.{GuideFollows};
 ghost use Rattle.palm_session.specs.Objects.{numbered};
 ghost use Rattle.palm_cli.specs.Commands.{Runs, streams};
+ghost use Rattle.palm_cli.specs.Led.{FinishLeads, PieceLeads, RunsLead, handed_in};
 ghost use Rattle.palm_cli.specs.Serving.{FeedsStatus, FinishesStatus, IsFresh, Pumps};
 
 use crate::limits::{MOST_INPUT_BYTES, PIECE};
@@ -23,7 +26,10 @@ pub fn run<S: Source, K: Sink, G: Guide, O: Order>(
     guides: Vec<G>,
     orders: Vec<O>,
 ) -> Status
-    ensures { Runs (numbered (vec_len guides)) (numbered (vec_len orders))
+    ensures runs { Runs (numbered (vec_len guides)) (numbered (vec_len orders))
+        (streams (S.state source.old) (K.state sink.old)) (streams (S.state source.new) (K.state sink.new)) result }
+    ensures led { RunsLead (GuideFollows G.answers G.hears G.state) (OrderFollows O.answers O.hears O.state)
+        (numbered (vec_len guides)) (numbered (vec_len orders)) (handed_in guides.items orders.items)
         (streams (S.state source.old) (K.state sink.old)) (streams (S.state source.new) (K.state sink.new)) result }
 {
     run_counted::<S, K, G, O, Brand>(alloc, source, sink, guides, orders, Blank::new(1))
@@ -41,7 +47,10 @@ fn run_counted<S: Source, K: Sink, G: Guide, O: Order, L: Ledger>(
     requires named { blank.name ≡ L.name }
     requires parts { blank.parts ≡ L.parts }
     requires shared { 0 < L.parts }
-    ensures { Runs (numbered (vec_len guides)) (numbered (vec_len orders))
+    ensures runs { Runs (numbered (vec_len guides)) (numbered (vec_len orders))
+        (streams (S.state source.old) (K.state sink.old)) (streams (S.state source.new) (K.state sink.new)) result }
+    ensures led { RunsLead (GuideFollows G.answers G.hears G.state) (OrderFollows O.answers O.hears O.state)
+        (numbered (vec_len guides)) (numbered (vec_len orders)) (handed_in guides.items orders.items)
         (streams (S.state source.old) (K.state sink.old)) (streams (S.state source.new) (K.state sink.new)) result }
 {
     let mut steps = Steps::<L>::start(blank);
@@ -64,7 +73,10 @@ fn serve<S: Source, K: Sink, G: Guide, O: Order, L: Ledger>(
 ) -> Status
     requires fresh { IsFresh session.old }
     requires piece { length buffer.old ≡ PIECE }
-    ensures { Runs session.old.state.guides session.old.state.orders
+    ensures runs { Runs session.old.state.guides session.old.state.orders
+        (streams (S.state source.old) (K.state sink.old)) (streams (S.state source.new) (K.state sink.new)) result }
+    ensures led { RunsLead (GuideFollows G.answers G.hears G.state) (OrderFollows O.answers O.hears O.state)
+        session.old.state.guides session.old.state.orders session.old.objects
         (streams (S.state source.old) (K.state sink.old)) (streams (S.state source.new) (K.state sink.new)) result }
 {
     let mut taken = 0;
@@ -96,7 +108,8 @@ fn pump<S: Source, K: Sink, G: Guide, O: Order, L: Ledger>(
 ) -> Result<usize, Status>
     requires going { session.old.over ≡ false }
     requires piece { length buffer.old ≡ PIECE }
-    ensures { Pumps session.old room (streams (S.state source.old) (K.state sink.old)) session.new (streams (S.state source.new) (K.state sink.new)) result }
+    ensures { Pumps (GuideFollows G.answers G.hears G.state) (OrderFollows O.answers O.hears O.state)
+        session.old room (streams (S.state source.old) (K.state sink.old)) session.new (streams (S.state source.new) (K.state sink.new)) result }
 {
     let count = match source.read(buffer) {
         Ok(count) => count,
@@ -119,7 +132,9 @@ fn feed<K: Sink, G: Guide, O: Order, L: Ledger>(
     steps: &mut Steps<L>,
 ) -> Option<Status>
     requires { session.old.over ≡ false }
-    ensures { FeedsStatus session.old piece.now (K.state sink.old) (K.state sink.new) session.new result }
+    ensures feeds { FeedsStatus session.old piece.now (K.state sink.old) (K.state sink.new) session.new result }
+    ensures led { PieceLeads (GuideFollows G.answers G.hears G.state) (OrderFollows O.answers O.hears O.state)
+        session.old piece.now (K.state sink.old) (K.state sink.new) session.new result }
 {
     match session.feed(piece, sink, steps) {
         Ok(Going::More) => None,
@@ -136,7 +151,9 @@ fn finish<K: Sink, G: Guide, O: Order, L: Ledger>(
     steps: &mut Steps<L>,
 ) -> Status
     requires { session.old.over ≡ false }
-    ensures { FinishesStatus session.old (K.state sink.old) (K.state sink.new) result }
+    ensures finishes { FinishesStatus session.old (K.state sink.old) (K.state sink.new) result }
+    ensures led { FinishLeads (GuideFollows G.answers G.hears G.state) (OrderFollows O.answers O.hears O.state)
+        session.old (K.state sink.old) (K.state sink.new) result }
 {
     match session.finish(sink, steps) {
         Ok(()) => Status::Done,

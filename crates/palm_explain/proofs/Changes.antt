@@ -1,11 +1,11 @@
 -- Changes of the graph and of its marks, one after another.
-use Rattle.std.proofs.Common.{◌≡◌, ◌≢◌, ℕ, ◌+◌, ◌<◌, ◌≤◌, Bool, true, false, List, [], ◌∷◌, ◌++◌, length, get_or, take, Option, Some, None, Contains, ◌⊎◌, inl, inr, refl, sym, ap, ◌∙◌, subst, arith}
+use Rattle.std.proofs.Common.{◌≡◌, ◌≢◌, ℕ, ◌+◌, ◌<◌, ◌≤◌, Bool, true, false, List, [], ◌∷◌, ◌++◌, length, get_or, take, Some, Contains, ◌⊎◌, inl, inr, refl, sym, ap, ◌∙◌, subst, arith}
 use Rattle.std.proofs.lemmas.Bool.{cases_eq, false≢true}
 use Rattle.std.proofs.lemmas.List.{take_more, take_all}
 use Rattle.std.proofs.lemmas.List.Elements.{Contains-append_left, Contains-push}
 use Rattle.palm_base.proofs.cited.Members.{member_nil, member_same, member_single, member_take, member_take_more}
 use Rattle.palm_model.specs.Constraint.{Distinct}
-use Rattle.palm_explain.specs.Graph.{Graph, HasForgotten, HasLinked, HasMarked, IsAmongFirst, IsAntecedent, IsDependent, IsKey, IsSameNode, Link}
+use Rattle.palm_explain.specs.Graph.{Graph, HasForgotten, HasLinked, HasMarked, IsAmongFirst, IsDependent, IsKey, IsSameNode, Link}
 use Rattle.palm_explain.proofs.Graphs.{link_same}
 
 pub same_then : (l m n : Link) → IsSameNode l m → IsSameNode m n → IsSameNode l n
@@ -78,15 +78,6 @@ forgotten_then g h f First Second Gone left right split one two = record {
         λ d q free. n.4 d (m.4 d q (λ p. free (left k d p))) (λ p. free (right k d p)),
       );
   once = λ k l n is has once. let m = one.some k l is in two.once k m.0 n m.1 has (one.once k l m.0 is m.1 once);
-}
-
-pub forgotten_like : (g h : Graph) (Gone Same : ℕ → ℕ → Type 0) → ((k d : ℕ) → Gone k d → Same k d) → ((k d : ℕ) → Same k d → Gone k d) → HasForgotten g h Gone → HasForgotten g h Same
-forgotten_like g h Gone Same to back forgotten = record {
-  none = forgotten.none;
-  some = λ k l at.
-      let m = forgotten.some k l at in
-      (m.0, m.1, m.2, λ d q. let a = m.3 d q in (a.0, λ s. a.1 (back k d s)), λ d q free. m.4 d q (λ gone. free (to k d gone)));
-  once = forgotten.once;
 }
 
 -- ---- marks
@@ -196,23 +187,6 @@ handed_on g old middle new key More cleared others marked never = (
     cleared_still false e = refl
     cleared_still true e = elim (marked.only key e) [ inl o ↦ absurd (false≢true (sym cleared ∙ o)) | inr p ↦ absurd (never p) ]
 
--- antecedents are the same where dependents were forgotten
-pub antecedent_on : (g h : Graph) (Gone : ℕ → ℕ → Type 0) (c k : ℕ) → HasForgotten g h Gone → IsAntecedent g c k → IsAntecedent h c k
-antecedent_on g h Gone c k forgotten antecedent = let m = forgotten.some k antecedent.0 antecedent.1 in (m.0, m.1, subst (λ cs. Contains cs c) (sym m.2.antecedents) antecedent.2)
-
-pub antecedent_back : (g h : Graph) (Gone : ℕ → ℕ → Type 0) (c k : ℕ) → HasForgotten g h Gone → IsAntecedent h c k → IsAntecedent g c k
-antecedent_back g h Gone c k forgotten antecedent = was (g k) refl
-  where
-    none_some : {X : Type 0} {x : X} → None ≡ Some x → ⊥
-    none_some e = cc
-
-    was : (o : Option Link) → g k ≡ o → IsAntecedent g c k
-    was None e = absurd (none_some (sym (forgotten.none k e) ∙ antecedent.1))
-    was (Some l) e =
-        let m = forgotten.some k l e in
-        let same = link_same h k m.0 antecedent.0 m.1 antecedent.1 in
-        (l, e, subst (λ cs. Contains cs c) (ap (λ (z : Link). z.antecedents) (sym same) ∙ m.2.antecedents) antecedent.2)
-
 -- where dependents alone are forgotten it matters of them alone what is gone
 pub forgotten_among : (g h : Graph) (Gone Same : ℕ → ℕ → Type 0) → ((k d : ℕ) → IsDependent g d k → Gone k d → Same k d) → ((k d : ℕ) → IsDependent g d k → Same k d → Gone k d) → HasForgotten g h Gone → HasForgotten g h Same
 forgotten_among g h Gone Same to back forgotten = record {
@@ -222,27 +196,3 @@ forgotten_among g h Gone Same to back forgotten = record {
       (m.0, m.1, m.2, λ d q. let a = m.3 d q in (a.0, λ s. a.1 (back k d (l, at, a.0) s)), λ d q free. m.4 d q (λ gone. free (to k d (l, at, q) gone)));
   once = forgotten.once;
 }
-
--- the marked ones are gone at the antecedents of the first so many of the chain
-abbrev pub IsGoneTo : Graph → (ℕ → Bool) → List ℕ → ℕ → ℕ → ℕ → Type 0
-IsGoneTo g marks chain i k d = (marks d ≡ true) × (marks k ≡ false) × ((e : ℕ) × Contains (take i chain) e × IsAntecedent g k e)
-
-pub gone_none : (g : Graph) (marks : ℕ → Bool) (chain : List ℕ) (k d : ℕ) → IsGoneTo g marks chain 0 k d → ⊥
-gone_none g marks chain k d m = member_nil m.2.0 m.2.1
-
-module _ (g h f : Graph) (marks now : ℕ → Bool) (chain : List ℕ) (i key : ℕ) (lt : i < length chain) (at : key ≡ get_or chain i key) (same : now ≡ marks) (forgotten : HasForgotten g h (IsGoneTo g marks chain i)) where
-  -- and at those of one more
-  pub gone_next : HasForgotten h f (λ k d. (now d ≡ true) × (now k ≡ false) × IsAntecedent h k key) → HasForgotten g f (IsGoneTo g marks chain (i + 1))
-  gone_next more =
-      forgotten_then g h f (IsGoneTo g marks chain i) (λ k d. (now d ≡ true) × (now k ≡ false) × IsAntecedent h k key) (IsGoneTo g marks chain (i + 1))
-      (λ k d m. (m.0, m.1, (m.2.0, more_left chain i key m.2.0 lt at m.2.1, m.2.2)))
-      (λ k d m. (
-        sym (ap (λ q. q d) same) ∙ m.0,
-        sym (ap (λ q. q k) same) ∙ m.1,
-        (key, more_last chain i key key lt at refl, antecedent_back g h (IsGoneTo g marks chain i) k key forgotten m.2),
-      ))
-      (λ k d m. elim (member_take_more chain i key m.2.0 lt at m.2.1) [
-        | inl p ↦ inl (m.0, m.1, (m.2.0, p, m.2.2))
-        | inr e ↦ inr (ap (λ q. q d) same ∙ m.0, ap (λ q. q k) same ∙ m.1, antecedent_on g h (IsGoneTo g marks chain i) k key forgotten (subst (λ z. IsAntecedent g k z) (sym e) m.2.2))
-      ])
-      forgotten more

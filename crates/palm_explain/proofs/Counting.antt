@@ -1,110 +1,210 @@
--- Counts of lost dependents, and what they are enough for.
-use Rattle.std.proofs.Common.{◌≡◌, ◌≢◌, ℕ, ◌+◌, ◌<◌, ◌≤◌, List, [], ◌∷◌, length, filter, get_or, take, Some, Contains, remove, ◌⊎◌, inl, inr, refl, sym, ap, subst, arith}
+-- Counts of lost dependents, the removals that stay and lose some, and what both are enough for.
+use Rattle.std.proofs.Common.{◌≡◌, ◌≢◌, ℕ, ◌+◌, ◌<◌, ◌≤◌, Bool, true, false, List, [], ◌∷◌, ◌++◌, length, filter, get_or, take, Some, Contains, remove, slice_get, ◌⊎◌, inl, inr, refl, sym, ap, ◌∙◌, subst, arith}
 use Rattle.std.proofs.lemmas.Bool.{cases_eq}
 use Rattle.std.proofs.lemmas.List.{take_all}
 use Rattle.std.proofs.lemmas.List.Edits.{length-remove}
+use Rattle.std.proofs.lemmas.List.Elements.{Contains-push_cases}
 use Rattle.std.proofs.lemmas.Option.{slice_get_within}
-use Rattle.slab.specs.Slab.{Slab}
+use Rattle.slab.specs.Slab.{Slab, get, with_value}
 use Rattle.palm_base.proofs.cited.Members.{filter_member, member_known, member_nil, member_place, member_same, member_take_more, nat_known, remove_member}
 use Rattle.palm_model.specs.Constraint.{Distinct}
 use Rattle.palm_explain.specs.declared.node.Node.{Node}
 use Rattle.palm_explain.specs.Chain.{IsLine}
-use Rattle.palm_explain.specs.Counts.{AreCounted, HasCounted, IsCountedAt, count_or, counts_of}
-use Rattle.palm_explain.specs.Graph.{Graph, IsAmongFirst, IsAntecedent, IsGraph, Link, graph_of, link_of, marks_of, said}
+use Rattle.palm_explain.specs.Counts.{AreCounted, AreNoted, HasCounted, HoldsKeys, IsCountedAt, count_or, counts_of, slot_or, slots_of}
+use Rattle.palm_explain.specs.Graph.{Graph, IsAmongFirst, IsAntecedent, IsGraph, IsKey, Link, graph_of, link_of, marks_of, said}
+use Rattle.palm_explain.proofs.Chains.{once_short}
 use Rattle.palm_explain.proofs.Changes.{first_cases}
+use Rattle.palm_explain.proofs.Entered.{place_cases}
+use Rattle.palm_explain.proofs.Graphs.{key_member}
 use Rattle.palm_explain.proofs.Once.{distinct_remove, removed_apart}
 use Rattle.palm_explain.proofs.Unmarked.{distinct_filter, filter_short}
+use Rattle.palm_explain.proofs.Writes.{elsewhere, here, node_mark, same_everywhere, same_graph, same_marks}
 
 -- ---- counted at one after another
 
-pub counted_none : (old : ℕ → ℕ) (More : ℕ → Type 0) → ((k : ℕ) → More k → ⊥) → HasCounted old old More
-counted_none old More never = record { grows = λ k. omega arith; more = λ k m. absurd (never k m) }
+pub counted_none : (old : ℕ → ℕ) (losing : List ℕ) (More : ℕ → Type 0) → ((k : ℕ) → More k → ⊥) → HasCounted old old losing losing More
+counted_none old losing More never = record { grows = λ k. omega arith; stays = λ k m. m; more = λ k m. absurd (never k m) }
 
-pub counted_one : (old new : ℕ → ℕ) (key : ℕ) → IsCountedAt (old key) (new key) → ((k : ℕ) → k ≢ key → new k ≡ old k) → HasCounted old new (λ k. key ≡ k)
-counted_one old new key at others = record {
+pub counted_one : (old new : ℕ → ℕ) (before after : List ℕ) (Stays : ℕ → Type 0) (key : ℕ) → IsCountedAt (old key) (new key) → ((k : ℕ) → k ≢ key → new k ≡ old k) → ((k : ℕ) → Contains before k → Contains after k) → Contains after key
+    → HasCounted old new before after (λ k. Stays k × (key ≡ k))
+counted_one old new before after Stays key at others stays there = record {
   grows = λ k. elim (cases_eq k key) [
     | inl e ↦ subst (λ j. old j ≤ new j) (sym e) at.0
     | inr n ↦ let same = others k n in omega (arith, same)
   ];
-  more = λ k e. subst (λ j. IsCountedAt (old j) (new j)) e at;
+  stays = stays;
+  more = λ k m. (subst (λ j. IsCountedAt (old j) (new j)) m.1 at, member_same after key k m.1 there);
 }
 
-pub counted_then : (old middle new : ℕ → ℕ) (First Second More : ℕ → Type 0) → ((k : ℕ) → More k → First k ⊎ Second k) → HasCounted old middle First → HasCounted middle new Second → HasCounted old new More
-counted_then old middle new First Second More split one two = record {
+pub counted_then : (old middle new : ℕ → ℕ) (before between after : List ℕ) (First Second More : ℕ → Type 0) → ((k : ℕ) → More k → First k ⊎ Second k) → HasCounted old middle before between First → HasCounted middle new between after Second
+    → HasCounted old new before after More
+counted_then old middle new before between after First Second More split one two = record {
   grows = λ k. let a = one.grows k in let b = two.grows k in omega (arith, a, b);
+  stays = λ k m. two.stays k (one.stays k m);
   more = λ k m.
       let a = one.grows k in
-      let b = two.grows k in (
-        omega (arith, a, b),
-        elim (split k m) [
-          | inl p ↦ elim (one.more k p).1 [ inl lt ↦ inl (omega (arith, b, lt)) | inr full ↦ inr (omega (arith, b, full)) ]
-          | inr q ↦ elim (two.more k q).1 [ inl lt ↦ inl (omega (arith, a, lt)) | inr full ↦ inr full ]
-        ],
-      );
+      let b = two.grows k in elim (split k m) [
+        | inl p ↦
+            let c = one.more k p in (
+              (omega (arith, a, b), elim c.0.1 [ inl lt ↦ inl (omega (arith, b, lt)) | inr full ↦ inr (omega (arith, b, full)) ]),
+              two.stays k c.1,
+            )
+        | inr q ↦
+            let c = two.more k q in (
+              (omega (arith, a, b), elim c.0.1 [ inl lt ↦ inl (omega (arith, a, lt)) | inr full ↦ inr full ]),
+              c.1,
+            )
+      ];
 }
 
-pub counted_more : (g : Graph) (key : ℕ) (l : Link) (at : g key ≡ Some l) (old middle new : ℕ → ℕ) (i x : ℕ) → i < length l.antecedents → x ≡ get_or l.antecedents i x → HasCounted old middle (IsAmongFirst i (λ m. m.antecedents) g key)
-    → HasCounted middle new (λ k. x ≡ k) → HasCounted old new (IsAmongFirst (i + 1) (λ m. m.antecedents) g key)
-counted_more g key l at old middle new i x lt is one two =
-    counted_then old middle new (IsAmongFirst i (λ m. m.antecedents) g key) (λ k. x ≡ k) (IsAmongFirst (i + 1) (λ m. m.antecedents) g key) (first_cases (λ m. m.antecedents) g key l at i x lt is) one two
+pub counted_more : (g : Graph) (key : ℕ) (l : Link) (at : g key ≡ Some l) (marks now : ℕ → Bool) (old middle new : ℕ → ℕ) (before between after : List ℕ) (i x : ℕ) → now ≡ marks → i < length l.antecedents → x ≡ get_or l.antecedents i x
+    → HasCounted old middle before between (λ k. (marks k ≡ false) × IsAmongFirst i (λ m. m.antecedents) g key k) → HasCounted middle new between after (λ k. (now k ≡ false) × (x ≡ k))
+    → HasCounted old new before after (λ k. (marks k ≡ false) × IsAmongFirst (i + 1) (λ m. m.antecedents) g key k)
+counted_more g key l at marks now old middle new before between after i x same lt is one two =
+    counted_then old middle new before between after (λ k. (marks k ≡ false) × IsAmongFirst i (λ m. m.antecedents) g key k) (λ k. (now k ≡ false) × (x ≡ k)) (λ k. (marks k ≡ false) × IsAmongFirst (i + 1) (λ m. m.antecedents) g key k)
+    (λ k m. elim (first_cases (λ m. m.antecedents) g key l at i x lt is k m.1) [
+      | inl old ↦ inl (m.0, old)
+      | inr e ↦ inr (ap (λ q. q k) same ∙ m.0, e)
+    ])
+    one two
 
-pub counted_like : (old new : ℕ → ℕ) (More Same : ℕ → Type 0) → ((k : ℕ) → Same k → More k) → HasCounted old new More → HasCounted old new Same
-counted_like old new More Same back counted = record { grows = counted.grows; more = λ k s. counted.more k (back k s) }
+pub counted_like : (old new : ℕ → ℕ) (before after : List ℕ) (More Same : ℕ → Type 0) → ((k : ℕ) → Same k → More k) → HasCounted old new before after More → HasCounted old new before after Same
+counted_like old new before after More Same back counted = record { grows = counted.grows; stays = counted.stays; more = λ k s. counted.more k (back k s) }
+
+-- ---- what is listed
+
+-- nodes that say the same
+pub noted_like : (s t : Slab Node) (losing : List ℕ) → graph_of t ≡ graph_of s → marks_of t ≡ marks_of s → slots_of t ≡ slots_of s → AreNoted s losing → AreNoted t losing
+noted_like s t losing graph marks slots noted = record {
+  stands = λ i k at. ap (λ q. q k) slots ∙ noted.stands i k at;
+  keys = λ k m. subst (λ g. IsKey g k) (sym graph) (noted.keys k m);
+  stay = λ k m. ap (λ q. q k) marks ∙ noted.stay k m;
+}
+
+-- one node is written and says the same
+module _ (s : Slab Node) (k : ℕ) (n v : Node) (at : get s k ≡ Some n) (link : link_of (Some v) ≡ link_of (Some n)) (mark : v.mark ≡ n.mark) (losing : List ℕ) (noted : AreNoted s losing) where
+  pub noted_kept : v.slot ≡ n.slot → AreNoted (with_value s k v) losing
+  noted_kept slot = noted_like s (with_value s k v) losing (same_graph s k n v at link) (same_marks s k n v at mark) (λ i j. same_everywhere s k n v at slot_or slot j i) noted
+
+  -- it is listed behind the others
+  pub noted_pushed : n.mark ≡ false → v.slot ≡ length losing → (slice_get losing n.slot ≡ Some k → ⊥) → AreNoted (with_value s k v) (losing ++ k ∷ [])
+  noted_pushed free slot other = record {
+    stands = λ i j is. elim (place_cases losing k i j is) [
+      | inl old ↦
+          let differs : j ≢ k = λ e.
+          let stood : n.slot ≡ i = sym (ap slot_or at) ∙ ap (slots_of s) (sym e) ∙ noted.stands i j old in
+          other (ap (slice_get losing) stood ∙ old ∙ ap Some e) in
+          ap slot_or (elsewhere s k n v at j differs) ∙ noted.stands i j old
+      | inr last ↦ ap (slots_of (with_value s k v)) (sym last.1) ∙ ap slot_or (here s k n v at) ∙ slot ∙ sym last.0
+    ];
+    keys = λ j m. subst (λ g. IsKey g j) (sym (same_graph s k n v at link)) (elim (Contains-push_cases losing k j m) [
+      | inl old ↦ noted.keys j old
+      | inr e ↦ subst (IsKey (graph_of s)) e (said n, ap link_of at)
+    ]);
+    stay = λ j m. ap (λ q. q j) (same_marks s k n v at mark) ∙ elim (Contains-push_cases losing k j m) [
+      | inl old ↦ noted.stay j old
+      | inr e ↦ ap (marks_of s) (sym e) ∙ node_mark s k n at ∙ free
+    ];
+  }
+
+-- one node is counted once more
+pub counted_write : (s : Slab Node) (k : ℕ) (n v : Node) → get s k ≡ Some n → IsCountedAt n.lost v.lost → (before after : List ℕ) → ((j : ℕ) → Contains before j → Contains after j) → Contains after k
+    → HasCounted (counts_of s) (counts_of (with_value s k v)) before after (λ j. (marks_of s j ≡ false) × (k ≡ j))
+counted_write s k n v at more before after stays there =
+    let t = with_value s k v in
+    let last : IsCountedAt n.lost (counts_of t k) = subst (IsCountedAt n.lost) (sym (ap count_or (here s k n v at))) more in
+    let both : IsCountedAt (counts_of s k) (counts_of t k) = subst (λ i. IsCountedAt i (counts_of t k)) (sym (ap count_or at)) last in
+    counted_one (counts_of s) (counts_of t) before after (λ j. marks_of s j ≡ false) k both (λ j differs. ap count_or (elsewhere s k n v at j differs)) stays there
+
+-- all that is listed has room
+pub noted_fits : (s : Slab Node) (losing : List ℕ) (room : ℕ) → AreNoted s losing → HoldsKeys (graph_of s) room → length losing ≤ room
+noted_fits s losing room noted holds = holds losing (λ i j k a b. sym (noted.stands i k a) ∙ noted.stands j k b) noted.keys
+
+-- a list as long as the log holds all keys
+pub log_holds : (g : Graph) (keys : List ℕ) (room : ℕ) → IsGraph g keys → length keys ≤ room → HoldsKeys g room
+log_holds g keys room graph le ks once are =
+    let short = once_short ks keys once (λ k m. key_member g keys k graph.places (are k m)) in omega (arith, short, le)
+
+pub none_noted : (s : Slab Node) (losing : List ℕ) → losing ≡ [] → AreNoted s losing
+none_noted s losing none = subst (AreNoted s) (sym none) (record {
+  stands = λ i k at. cc;
+  keys = λ k m. absurd (member_nil k m);
+  stay = λ k m. absurd (member_nil k m);
+})
 
 -- ---- along the chain
 
--- of removals of the chain below the place no more rest on one than are counted there
-abbrev pub IsCountedTo : Graph → (ℕ → ℕ) → List ℕ → ℕ → Type 0
-IsCountedTo g counts chain i =
-    (k : ℕ) (xs : List ℕ) → Distinct xs → ((d : ℕ) → Contains xs d → Contains (take i chain) d × IsAntecedent g k d) → (length xs ≤ counts k) ⊎ (18446744073709551615 ≤ counts k)
+-- of removals of the chain below the place no more rest on one that stays than are counted there, and those on which some rest are listed
+pub record IsCountedTo (g : Graph) (marks : ℕ → Bool) (counts : ℕ → ℕ) (losing chain : List ℕ) (i : ℕ) : Type 0 where
+  pub enough : (k : ℕ) (xs : List ℕ) → marks k ≡ false → Distinct xs → ((d : ℕ) → Contains xs d → Contains (take i chain) d × IsAntecedent g k d) → (length xs ≤ counts k) ⊎ (18446744073709551615 ≤ counts k)
+  pub listed : (k d : ℕ) → marks k ≡ false → Contains (take i chain) d → IsAntecedent g k d → Contains losing k
 
 no_member : (xs : List ℕ) → ((d : ℕ) → Contains xs d → ⊥) → xs ≡ []
 no_member [] none = refl
 no_member (x ∷ xs) none = absurd (none x (0, omega arith, refl))
 
-pub counted_start : (g : Graph) (counts : ℕ → ℕ) (chain : List ℕ) → IsCountedTo g counts chain 0
-counted_start g counts chain k xs once sub =
-    let none = no_member xs (λ d m. member_nil d (sub d m).0) in
-    let long = ap length none in inl (omega (arith, long))
+pub counted_start : (g : Graph) (marks : ℕ → Bool) (counts : ℕ → ℕ) (losing chain : List ℕ) → IsCountedTo g marks counts losing chain 0
+counted_start g marks counts losing chain = record {
+  enough = λ k xs free once sub.
+      let none = no_member xs (λ d m. member_nil d (sub d m).0) in
+      let long = ap length none in inl (omega (arith, long));
+  listed = λ k d free m rests. absurd (member_nil d m);
+}
 
-pub counted_next : (g : Graph) (old new : ℕ → ℕ) (chain : List ℕ) (i key : ℕ) → i < length chain → key ≡ get_or chain i key → IsCountedTo g old chain i → HasCounted old new (λ c. IsAntecedent g c key) → IsCountedTo g new chain (i + 1)
-counted_next g old new chain i key lt is to counted k xs once sub = elim (member_known nat_known xs key) [
-  | inl m ↦
-      let at = member_place xs key m in
-      let fewer = remove xs at.0 in
-      let long = length-remove xs at.0 (slice_get_within xs at.0 key at.1) in
-      let more = counted.more k (sub key m).1 in
-      elim (to k fewer (distinct_remove xs at.0 once) (λ d n.
-      let r = sub d (remove_member xs at.0 d n) in (
-        elim (member_take_more chain i key d lt is r.0) [
-          | inl p ↦ p
-          | inr e ↦ absurd (removed_apart xs at.0 key once at.1 (member_same fewer d key (sym e) n))
-        ],
-        r.1,
-      ))) [
-        | inl few ↦ elim more.1 [ inl up ↦ inl (omega (arith, few, up, long)) | inr full ↦ inr full ]
-        | inr full ↦ let up = more.0 in inr (omega (arith, full, up))
-      ]
-  | inr free ↦
-      let grows = counted.grows k in
-      elim (to k xs once (λ d n.
-      let r = sub d n in (
-        elim (member_take_more chain i key d lt is r.0) [ inl p ↦ p | inr e ↦ absurd (free (member_same xs d key (sym e) n)) ],
-        r.1,
-      ))) [ inl few ↦ inl (omega (arith, few, grows)) | inr full ↦ inr (omega (arith, full, grows)) ]
-]
+module _ (g : Graph) (marks : ℕ → Bool) (old new : ℕ → ℕ) (before after chain : List ℕ) (i key : ℕ) (lt : i < length chain) (is : key ≡ get_or chain i key) (to : IsCountedTo g marks old before chain i)
+    (counted : HasCounted old new before after (λ c. (marks c ≡ false) × IsAntecedent g c key)) where
+  next_enough : (k : ℕ) (xs : List ℕ) → marks k ≡ false → Distinct xs → ((d : ℕ) → Contains xs d → Contains (take (i + 1) chain) d × IsAntecedent g k d) → (length xs ≤ new k) ⊎ (18446744073709551615 ≤ new k)
+  next_enough k xs free once sub = elim (member_known nat_known xs key) [
+    | inl m ↦
+        let at = member_place xs key m in
+        let fewer = remove xs at.0 in
+        let long = length-remove xs at.0 (slice_get_within xs at.0 key at.1) in
+        let more = (counted.more k (free, (sub key m).1)).0 in
+        elim (to.enough k fewer free (distinct_remove xs at.0 once) (λ d n.
+        let r = sub d (remove_member xs at.0 d n) in (
+          elim (member_take_more chain i key d lt is r.0) [
+            | inl p ↦ p
+            | inr e ↦ absurd (removed_apart xs at.0 key once at.1 (member_same fewer d key (sym e) n))
+          ],
+          r.1,
+        ))) [
+          | inl few ↦ elim more.1 [ inl up ↦ inl (omega (arith, few, up, long)) | inr full ↦ inr full ]
+          | inr full ↦ let up = more.0 in inr (omega (arith, full, up))
+        ]
+    | inr other ↦
+        let grows = counted.grows k in
+        elim (to.enough k xs free once (λ d n.
+        let r = sub d n in (
+          elim (member_take_more chain i key d lt is r.0) [ inl p ↦ p | inr e ↦ absurd (other (member_same xs d key (sym e) n)) ],
+          r.1,
+        ))) [ inl few ↦ inl (omega (arith, few, grows)) | inr full ↦ inr (omega (arith, full, grows)) ]
+  ]
 
--- past the last one of the chain there are enough everywhere
-pub counted_all : (s : Slab Node) (keys chain : List ℕ) (first count i : ℕ) → IsGraph (graph_of s) keys → IsLine s first count chain → count ≤ i → IsCountedTo (graph_of s) (counts_of s) chain i → AreCounted s
-counted_all s keys chain first count i graph line le to k n at free =
+  next_listed : (k d : ℕ) → marks k ≡ false → Contains (take (i + 1) chain) d → IsAntecedent g k d → Contains after k
+  next_listed k d free m rests = elim (member_take_more chain i key d lt is m) [
+    | inl p ↦ counted.stays k (to.listed k d free p rests)
+    | inr e ↦ (counted.more k (free, subst (IsAntecedent g k) (sym e) rests)).1
+  ]
+
+  pub counted_next : IsCountedTo g marks new after chain (i + 1)
+  counted_next = record { enough = next_enough; listed = next_listed }
+
+-- past the last one of the chain there are enough everywhere, and all are listed that lose one
+all_taken : (s : Slab Node) (chain : List ℕ) (first count i : ℕ) → IsLine s first count chain → count ≤ i → take i chain ≡ chain
+all_taken s chain first count i line le = let long = line.long in take_all i chain (omega (arith, le, long))
+
+pub counted_all : (s : Slab Node) (keys losing chain : List ℕ) (first count i : ℕ) → IsGraph (graph_of s) keys → IsLine s first count chain → count ≤ i → IsCountedTo (graph_of s) (marks_of s) (counts_of s) losing chain i → AreCounted s
+counted_all s keys losing chain first count i graph line le to k n at free =
     let xs = filter (marks_of s) n.dependents.items in
     let node = ap link_of at in
-    let long = line.long in
-    let all : take i chain ≡ chain = take_all i chain (omega (arith, le, long)) in
     let few = filter_short (marks_of s) n.dependents.items in
     let is : counts_of s k ≡ n.lost = ap count_or at in
-    elim (to k xs (distinct_filter (marks_of s) n.dependents.items (graph.once k (said n) node)) (λ d m.
-    let r = filter_member (marks_of s) n.dependents.items d m in (subst (λ l. Contains l d) (sym all) (line.whole d r.1), graph.caused d k (said n, node, r.0)))) [
+    elim (to.enough k xs free (distinct_filter (marks_of s) n.dependents.items (graph.once k (said n) node)) (λ d m.
+    let r = filter_member (marks_of s) n.dependents.items d m in (subst (λ l. Contains l d) (sym (all_taken s chain first count i line le)) (line.whole d r.1), graph.caused d k (said n, node, r.0)))) [
       | inl short ↦ omega (arith, short, is)
       | inr full ↦ omega (arith, full, is, few, n.dependents.ok.0)
     ]
+
+pub listed_all : (s : Slab Node) (counts : ℕ → ℕ) (losing chain : List ℕ) (first count i : ℕ) → IsLine s first count chain → count ≤ i → IsCountedTo (graph_of s) (marks_of s) counts losing chain i
+    → (k d : ℕ) → marks_of s k ≡ false → marks_of s d ≡ true → IsAntecedent (graph_of s) k d → Contains losing k
+listed_all s counts losing chain first count i line le to k d free gone rests = to.listed k d free (subst (λ l. Contains l d) (sym (all_taken s chain first count i line le)) (line.whole d gone)) rests

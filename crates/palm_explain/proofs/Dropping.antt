@@ -3,7 +3,6 @@ use Rattle.std.proofs.Common.{◌≡◌, ◌≢◌, ℕ, Bool, true, false, [], 
 use Rattle.std.proofs.lemmas.Bool.{cases_eq}
 use Rattle.slab.specs.Slab.{Slab, get, with_value}
 use Rattle.palm_explain.specs.declared.node.Node.{Node}
-use Rattle.palm_explain.specs.Chain.{next_or, nexts_of}
 use Rattle.palm_explain.specs.Counts.{AreCounted}
 use Rattle.palm_explain.specs.Graph.{HasForgotten, IsAntecedent, graph_of, has_mark, marks_of}
 use Rattle.palm_explain.specs.Lost.{kept_of}
@@ -24,7 +23,7 @@ module _ (s : Slab Node) (k : ℕ) (n m o : Node) (at : get s k ≡ Some n) (mid
 
 -- one node has other dependents, and the rest is the same
 module _ (s t : Slab Node) (k : ℕ) (n v : Node) (at : get s k ≡ Some n) (last : get t k ≡ Some v) (far : (j : ℕ) → j ≢ k → get t j ≡ get s j)
-    (pair : v.pair ≡ n.pair) (by : v.by ≡ n.by) (antecedents : v.antecedents ≡ n.antecedents) (place : v.place ≡ n.place) (mark : v.mark ≡ n.mark) (next : v.next ≡ n.next) where
+    (pair : v.pair ≡ n.pair) (by : v.by ≡ n.by) (antecedents : v.antecedents ≡ n.antecedents) (place : v.place ≡ n.place) (mark : v.mark ≡ n.mark) where
   same : {X : Type 0} (f : Option Node → X) → f (Some v) ≡ f (Some n) → (j : ℕ) → f (get t j) ≡ f (get s j)
   same f e j = elim (cases_eq j k) [
     | inl q ↦ ap (λ i. f (get t i)) q ∙ ap f last ∙ e ∙ sym (ap f at) ∙ sym (ap (λ i. f (get s i)) q)
@@ -33,9 +32,6 @@ module _ (s t : Slab Node) (k : ℕ) (n v : Node) (at : get s k ≡ Some n) (las
 
   pub dropped_marks : marks_of t ≡ marks_of s
   dropped_marks = λ i j. same has_mark mark j i
-
-  pub dropped_nexts : nexts_of t ≡ nexts_of s
-  dropped_nexts = λ i j. same next_or next j i
 
   pub dropped : marks_of s k ≡ false → v.dependents.items ≡ kept_of (marks_of s) n.dependents.items → HasForgotten (graph_of s) (graph_of t) (λ j d. (k ≡ j) × (marks_of s d ≡ true) × (marks_of s j ≡ false))
   dropped free is = drops s t k n v at last far pair by (ap (λ z. z.items) antecedents) place (marks_of s) free is

@@ -169,6 +169,11 @@ module _ (s m t u : Slab Node) (keys left : List ℕ) (rows : List Row) (spare l
   pub log_left : log_of (graph_of u) left ≡ log_of (graph_of s) (kept_of (marks_of m) keys)
   log_left = left_log (graph_of s) (graph_of t) (graph_of u) keys left cid (marks_of m) kept.graph told gone shut
 
+  pub left_short : length left ≤ length keys
+  left_short =
+      let all = kept_and_lost (graph_of m) (marks_of m) keys in
+      let same = ap length shut.left_is in omega (arith, all, same)
+
   pub kept_withdrawn : IsStored u left rows later
   kept_withdrawn = record {
     linked = subst IsLinked (sym log_left) (kept_linked (graph_of s) cid (marks_of m) keys kept.linked told);
@@ -176,9 +181,7 @@ module _ (s m t u : Slab Node) (keys left : List ℕ) (rows : List Row) (spare l
     unmarked = unmarked;
     formed = kept.formed;
     found = left_found (graph_of s) (graph_of t) (graph_of u) keys left cid (marks_of m) kept.graph told gone shut rows kept.found;
-    room =
-        let all = kept_and_lost (graph_of m) (marks_of m) keys in
-        let same = ap length shut.left_is in omega (arith, all, same, room);
+    room = let short = left_short in omega (arith, short, room);
   }
 
   pub loses_withdrawn : Loses (log_of (graph_of s) keys) (cid ∷ []) (log_of (graph_of s) keys) (log_of (graph_of u) left)

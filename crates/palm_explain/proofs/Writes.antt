@@ -176,13 +176,6 @@ same_said s t k n m graph at there =
     let f = some_same (said m) (said n) e in
     (ap (λ (z : Link). z.antecedents) f, ap (λ (z : Link). z.dependents) f, ap (λ (z : Link). z.place) f, ap (λ (z : Link). z.by) f, ap (λ (z : Link). z.pair) f)
 
--- the antecedents of a node whose dependents were forgotten
-pub forgotten_antecedents : (s t : Slab Node) (Gone : ℕ → ℕ → Type 0) (k : ℕ) (n m : Node) → HasForgotten (graph_of s) (graph_of t) Gone → get s k ≡ Some n → get t k ≡ Some m → m.antecedents.items ≡ n.antecedents.items
-forgotten_antecedents s t Gone k n m forgotten at there =
-    let r = forgotten.some k (said n) (ap link_of at) in
-    let f = link_same (graph_of t) k r.0 (said m) r.1 (ap link_of there) in
-    ap (λ (z : Link). z.antecedents) (sym f) ∙ r.2.antecedents
-
 -- one node is gone
 pub taken_out : (s t : Slab Node) (k : ℕ) → Updates s t k None → IsTakenOut (graph_of s) (graph_of t) (marks_of s) (marks_of t) k
 taken_out s t k updates = record {

@@ -1,20 +1,22 @@
-//! Lists of dependents that lost removals leave. Later removals fill them again, so that memory is asked for less often. A few
-//! short ones are kept, whatever is lost, so that what is kept is bounded.
+//! Lists of dependents that lost removals leave. Later removals fill them again, so that memory is asked for less often. For how
+//! many keys the kept lists have room is counted, so that what is kept is bounded, whatever is lost.
 ghost use Rattle.std.specs.Prelude.{◌≡◌, []};
 
 use palm_base::NoMemory;
 use std::alloc::{AllocFailed, Global};
 
 /// The most lists that are kept.
-const MOST: usize = 1024;
+const MOST_LISTS: usize = 4096;
 
-/// The most keys for which a kept list has room.
-const LONGEST: usize = 64;
+/// The most keys for which the kept lists have room, all together.
+const MOST_KEYS: usize = 131_072;
 
 /// The lists of dependents of lost removals.
 #[derive(Debug, Drop)]
 pub(crate) struct Emptied {
-    lists: Vec<Vec<usize>>,
+    lists: Vec<Vec<u32>>,
+    /// For how many keys the lists have room.
+    keys: usize,
 }
 
 impl Emptied {
@@ -22,23 +24,25 @@ impl Emptied {
     pub(crate) fn new(alloc: Global) -> Emptied {
         Emptied {
             lists: Vec::new(alloc),
+            keys: 0,
         }
     }
 
     /// Makes room for so many lists more, as far as they are kept.
     pub(crate) fn make_room(&mut self, more: usize) -> Result<(), NoMemory> {
-        if self.lists.len() < MOST {
-            self.lists.reserve(more.min(MOST))?;
+        if self.lists.len() < MOST_LISTS {
+            self.lists.reserve(more.min(MOST_LISTS))?;
         }
         Ok(())
     }
 
     /// An empty list: one that was kept, where there is one.
-    pub(crate) fn take(&mut self) -> Vec<usize>
+    pub(crate) fn take(&mut self) -> Vec<u32>
         ensures { result.items ≡ [] }
     {
         match self.lists.pop() {
             Some(mut list) => {
+                self.keys = self.keys.saturating_sub(list.capacity());
                 list.clear();
                 list
             }
@@ -46,10 +50,12 @@ impl Emptied {
         }
     }
 
-    /// Keeps a list, where it is short and there is room for it.
-    pub(crate) fn keep(&mut self, list: Vec<usize>) {
+    /// Keeps a list, where there is room for it.
+    pub(crate) fn keep(&mut self, list: Vec<u32>) {
         let count = self.lists.len();
-        if count < MOST && count < self.lists.capacity() && list.capacity() <= LONGEST {
+        let keys = self.keys.saturating_add(list.capacity());
+        if count < MOST_LISTS && count < self.lists.capacity() && keys <= MOST_KEYS {
+            self.keys = keys;
             self.lists.push_reserved(list);
         }
     }

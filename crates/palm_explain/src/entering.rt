@@ -17,7 +17,7 @@ pub(crate) fn antecedents_of(
     nodes: &Nodes,
     rows: &[Row],
     reasons: &[Pair],
-) -> Result<Vec<usize>, NoMemory>
+) -> Result<Vec<u32>, NoMemory>
     requires formed { AreFormedRows rows.now }
     requires found { AreFound rows.now (graph_of nodes.now) }
     requires removed { (p : PairTerm) → Contains reasons.now p → (k : ℕ) × IsKey (graph_of nodes.now) k × (pair_at (graph_of nodes.now) k ≡ p) }
@@ -33,7 +33,7 @@ pub(crate) fn antecedents_of(
 }
 
 /// Makes room for one more dependent of each of the antecedents.
-fn reserve_links(nodes: &mut Nodes, antecedents: &[usize], key: usize) -> Result<(), NoMemory>
+fn reserve_links(nodes: &mut Nodes, antecedents: &[u32], key: u32) -> Result<(), NoMemory>
     requires { (k : ℕ) → Contains antecedents.now k → IsKey (graph_of nodes.old) k }
     ensures graph { graph_of nodes.new ≡ graph_of nodes.old }
     ensures marks { marks_of nodes.new ≡ marks_of nodes.old }
@@ -47,15 +47,17 @@ fn reserve_links(nodes: &mut Nodes, antecedents: &[usize], key: usize) -> Result
 }
 
 /// Makes room for one more removal: in the log, among the nodes, and among the dependents of each of its antecedents. There is then
-/// also room for as many restored variables, and as many lists of dependents, as there are removals with it.
+/// also room for as many restored variables, as many removals that lose dependents, and as many lists of dependents, as there are
+/// removals with it.
 #[inline(always)]
 pub(crate) fn make_room(
     nodes: &mut Nodes,
-    log: &mut Vec<usize>,
+    log: &mut Vec<u32>,
     restored: &mut Vec<Var>,
+    losing: &mut Vec<u32>,
     emptied: &mut Emptied,
-    antecedents: &[usize],
-    key: usize,
+    antecedents: &[u32],
+    key: u32,
 ) -> Result<(), NoMemory>
     requires { (k : ℕ) → Contains antecedents.now k → IsKey (graph_of nodes.old) k }
     ensures graph { graph_of nodes.new ≡ graph_of nodes.old }
@@ -64,21 +66,25 @@ pub(crate) fn make_room(
     ensures log { log.new.items ≡ log.old.items }
     ensures restored { restored.new.items ≡ restored.old.items }
     ensures grows { vec_capacity restored.old ≤ vec_capacity restored.new }
+    ensures spare { vec_capacity losing.old ≤ vec_capacity losing.new }
     ensures node { OnOk result (HasRoomFor nodes.new 1) }
     ensures place { OnOk result (vec_len log.new < vec_capacity log.new) }
     ensures variables { OnOk result (length log.new.items + 1 ≤ vec_capacity restored.new) }
+    ensures fits { OnOk result (length log.new.items + 1 ≤ vec_capacity losing.new) }
     ensures ready { OnOk result ((k : ℕ) → Contains antecedents.now k → IsReadyAt nodes.new key k) }
 {
     let count = log.len() + 1;
     emptied.make_room(count)?;
     restored.reserve(count)?;
+    losing.clear();
+    losing.reserve(count)?;
     log.reserve(1)?;
     nodes.reserve(1)?;
     reserve_links(nodes, antecedents, key)
 }
 
 /// Makes the removal under the key a dependent of each of the antecedents.
-pub(crate) fn link(nodes: &mut Nodes, antecedents: &[usize], key: usize)
+pub(crate) fn link(nodes: &mut Nodes, antecedents: &[u32], key: u32)
     requires keys { (k : ℕ) → Contains antecedents.now k → IsKey (graph_of nodes.old) k }
     requires ready { (k : ℕ) → Contains antecedents.now k → IsReadyAt nodes.old key k }
     ensures linked { HasLinked (graph_of nodes.old) (graph_of nodes.new) antecedents.now key }

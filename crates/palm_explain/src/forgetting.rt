@@ -1,11 +1,11 @@
-//! How a withdrawal takes what it loses out of the lists of what stays. It goes along the chain of lost removals, and passes over
-//! no list that has none of them: how many of them a list of dependents has is counted first, and the list is then passed once,
-//! from its end. Mostly they stand last, and are cut off.
-ghost use Rattle.std.specs.Prelude.{◌≡◌, ◌⊎◌, ℕ, ◌+◌, ◌-◌, ◌<◌, ◌≤◌, List, Some, true, false, [], ◌∷◌, ◌++◌, length, filter, take, slice_get, slice_set, Contains};
+//! How a withdrawal takes what it loses out of the lists of what stays. Along the chain of lost removals it counts first how many of
+//! them each list of dependents has, and lists the removals that stay and lose some. Then each of their lists is passed once, from
+//! its end, and no other list. Mostly the lost ones stand last, and are cut off.
+ghost use Rattle.std.specs.Prelude.{◌≡◌, ◌⊎◌, ℕ, ◌+◌, ◌-◌, ◌<◌, ◌≤◌, List, Some, true, false, [], ◌∷◌, ◌++◌, length, filter, take, slice_get, slice_set, vec_capacity, Contains};
 ghost use Rattle.palm_base.specs.declared.terms.Cid.{Cid as CidTerm};
 ghost use Rattle.palm_model.specs.Constraint.{Distinct};
 ghost use Rattle.palm_explain.specs.Chain.{IsLine, nexts_of};
-ghost use Rattle.palm_explain.specs.Counts.{AreCounted, HasCounted, counts_of};
+ghost use Rattle.palm_explain.specs.Counts.{AreCounted, AreNoted, HasCounted, HoldsKeys, counts_of};
 ghost use Rattle.palm_explain.specs.Graph.{HasForgotten, IsAntecedent, IsBy, IsGraph, IsKey, graph_of, marks_of};
 ghost use Rattle.palm_explain.specs.Lost.{kept_of};
 ghost use Rattle.palm_explain.specs.Threads.{AreFormedThreads, AreThreaded, thread_of};
@@ -16,7 +16,7 @@ use palm_base::Cid;
 use std::mem;
 
 /// Takes a removal out of the thread of its constraint, unless that is the one whose thread was taken whole.
-fn forget_thread(nodes: &mut Nodes, threads: &mut Threads, key: usize, cid: &Cid)
+fn forget_thread(nodes: &mut Nodes, threads: &mut Threads, key: u32, cid: &Cid)
     requires key { IsKey (graph_of nodes.old) key }
     requires formed { AreFormedThreads threads.old }
     requires once { (c : CidTerm) → Distinct (thread_of threads.old c) }
@@ -28,7 +28,7 @@ fn forget_thread(nodes: &mut Nodes, threads: &mut Threads, key: usize, cid: &Cid
     ensures forgotten { (out : List ℕ) → AreThreaded threads.old (graph_of nodes.old) (λ k. IsBy (graph_of nodes.old) cid.now k ⊎ Contains out k)
         → AreThreaded threads.new (graph_of nodes.old) (λ k. IsBy (graph_of nodes.old) cid.now k ⊎ Contains (out ++ key ∷ []) k) }
 {
-    let node = &nodes[key];
+    let node = &nodes[key as usize];
     if is_by(node, cid) {
         return;
     }
@@ -42,7 +42,7 @@ fn forget_thread(nodes: &mut Nodes, threads: &mut Threads, key: usize, cid: &Cid
 pub(crate) fn forget_threads(
     nodes: &mut Nodes,
     threads: &mut Threads,
-    first: usize,
+    first: u32,
     count: usize,
     cid: &Cid,
 )
@@ -60,46 +60,62 @@ pub(crate) fn forget_threads(
     let mut place = 0;
     while place < count {
         forget_thread(nodes, threads, key, cid);
-        key = nodes[key].next;
+        key = nodes[key as usize].next;
         place += 1;
     }
 }
 
-/// Counts a lost removal at each of its antecedents.
-fn count_at(nodes: &mut Nodes, key: usize)
+/// Counts a lost removal at each of its antecedents that stays, and lists these.
+fn count_at(nodes: &mut Nodes, losing: &mut Vec<u32>, key: u32)
     requires key { IsKey (graph_of nodes.old) key }
     requires keys { (c : ℕ) → IsAntecedent (graph_of nodes.old) c key → IsKey (graph_of nodes.old) c }
+    requires noted { AreNoted nodes.old losing.old.items }
+    requires room { HoldsKeys (graph_of nodes.old) (vec_capacity losing.old) }
     ensures graph { graph_of nodes.new ≡ graph_of nodes.old }
     ensures marks { marks_of nodes.new ≡ marks_of nodes.old }
     ensures nexts { nexts_of nodes.new ≡ nexts_of nodes.old }
-    ensures counted { HasCounted (counts_of nodes.old) (counts_of nodes.new) (λ c. IsAntecedent (graph_of nodes.old) c key) }
+    ensures counted { HasCounted (counts_of nodes.old) (counts_of nodes.new) losing.old.items losing.new.items
+        (λ c. (marks_of nodes.old c ≡ false) × IsAntecedent (graph_of nodes.old) c key) }
+    ensures noted { AreNoted nodes.new losing.new.items }
+    ensures room { vec_capacity losing.new ≡ vec_capacity losing.old }
 {
-    for index in 0..nodes[key].antecedents.len() {
-        let antecedent = nodes[key].antecedents[index];
-        count_dependent(nodes, antecedent);
+    for index in 0..nodes[key as usize].antecedents.len() {
+        let antecedent = nodes[key as usize].antecedents[index];
+        count_dependent(nodes, losing, antecedent);
     }
 }
 
-/// Counts the removals of the chain at their antecedents.
-pub(crate) fn count_lost(nodes: &mut Nodes, log: &[usize], first: usize, count: usize)
+/// Counts the removals of the chain at those of their antecedents that stay, and lists these.
+pub(crate) fn count_lost(
+    nodes: &mut Nodes,
+    losing: &mut Vec<u32>,
+    log: &[u32],
+    first: u32,
+    count: usize,
+)
     requires graph { IsGraph (graph_of nodes.old) log.now }
     requires line { (chain : List ℕ) × IsLine nodes.old first count chain }
+    requires none { losing.old.items ≡ [] }
+    requires room { length log.now ≤ vec_capacity losing.old }
     ensures graph { graph_of nodes.new ≡ graph_of nodes.old }
     ensures marks { marks_of nodes.new ≡ marks_of nodes.old }
-    ensures line { (chain : List ℕ) × IsLine nodes.new first count chain }
     ensures counted { AreCounted nodes.new }
+    ensures noted { AreNoted nodes.new losing.new.items }
+    ensures whole { (k d : ℕ) → marks_of nodes.old k ≡ false → marks_of nodes.old d ≡ true → IsAntecedent (graph_of nodes.old) k d
+        → Contains losing.new.items k }
+    ensures room { vec_capacity losing.new ≡ vec_capacity losing.old }
 {
     let mut key = first;
     let mut place = 0;
     while place < count {
-        count_at(nodes, key);
-        key = nodes[key].next;
+        count_at(nodes, losing, key);
+        key = nodes[key as usize].next;
         place += 1;
     }
 }
 
 /// The end of the keys without the marked ones that stand last, where so many are marked, or fewer.
-fn end_of_kept(nodes: &Nodes, keys: &[usize], lost: usize) -> usize
+fn end_of_kept(nodes: &Nodes, keys: &[u32], lost: usize) -> usize
     requires { length (filter (marks_of nodes.now) keys.now) ≤ lost }
     ensures within { result ≤ length keys.now }
     ensures kept { kept_of (marks_of nodes.now) (take result keys.now) ≡ kept_of (marks_of nodes.now) keys.now }
@@ -118,7 +134,7 @@ fn end_of_kept(nodes: &Nodes, keys: &[usize], lost: usize) -> usize
 }
 
 /// The first place at which a marked one may stand, where so many are marked, or fewer.
-fn place_of_lost(nodes: &Nodes, keys: &[usize], lost: usize) -> usize
+fn place_of_lost(nodes: &Nodes, keys: &[u32], lost: usize) -> usize
     requires { length (filter (marks_of nodes.now) keys.now) ≤ lost }
     ensures within { result ≤ length keys.now }
     ensures before { filter (marks_of nodes.now) (take result keys.now) ≡ [] }
@@ -135,7 +151,7 @@ fn place_of_lost(nodes: &Nodes, keys: &[usize], lost: usize) -> usize
 }
 
 /// Moves the key at the place to the end of those that are kept, unless it is marked. Answers the end of those for the next one.
-fn keep_at(nodes: &Nodes, keys: &mut Vec<usize>, place: usize, end: usize) -> usize
+fn keep_at(nodes: &Nodes, keys: &mut Vec<u32>, place: usize, end: usize) -> usize
     requires within { place < length keys.old.items }
     requires behind { end ≤ place }
     ensures out { (k : ℕ) → slice_get keys.old.items place ≡ Some k → marks_of nodes.now k ≡ true → (keys.new.items ≡ keys.old.items) × (result ≡ end) }
@@ -151,7 +167,7 @@ fn keep_at(nodes: &Nodes, keys: &mut Vec<usize>, place: usize, end: usize) -> us
 }
 
 /// Takes the marked ones out, where so many are marked, or fewer. The others keep their order.
-fn keep_unmarked(nodes: &Nodes, keys: &mut Vec<usize>, lost: usize)
+fn keep_unmarked(nodes: &Nodes, keys: &mut Vec<u32>, lost: usize)
     requires { length (filter (marks_of nodes.now) keys.old.items) ≤ lost }
     ensures { keys.new.items ≡ kept_of (marks_of nodes.now) keys.old.items }
 {
@@ -164,98 +180,57 @@ fn keep_unmarked(nodes: &Nodes, keys: &mut Vec<usize>, lost: usize)
 }
 
 /// Takes the marked dependents of a removal that is not marked out, wherever they stand among the others.
-fn drop_among(nodes: &mut Nodes, key: usize)
+fn drop_among(nodes: &mut Nodes, key: u32)
     requires key { IsKey (graph_of nodes.old) key }
     requires unmarked { marks_of nodes.old key ≡ false }
     requires counted { AreCounted nodes.old }
     ensures forgotten { HasForgotten (graph_of nodes.old) (graph_of nodes.new)
         (λ k d. (key ≡ k) × (marks_of nodes.old d ≡ true) × (marks_of nodes.old k ≡ false)) }
     ensures marks { marks_of nodes.new ≡ marks_of nodes.old }
-    ensures nexts { nexts_of nodes.new ≡ nexts_of nodes.old }
     ensures counted { AreCounted nodes.new }
 {
-    let node = &mut nodes[key];
+    let node = &mut nodes[key as usize];
     let lost = node.lost;
     node.lost = 0;
     let none = Vec::new(*node.dependents.allocator());
     let mut dependents = mem::replace(&mut node.dependents, none);
     keep_unmarked(nodes, &mut dependents, lost);
-    nodes[key].dependents = dependents;
+    nodes[key as usize].dependents = dependents;
 }
 
 /// Takes the marked dependents of a removal that is not marked out. Mostly all of them stand last, and are cut off.
-fn drop_dependents(nodes: &mut Nodes, key: usize)
+fn drop_dependents(nodes: &mut Nodes, key: u32)
     requires key { IsKey (graph_of nodes.old) key }
     requires unmarked { marks_of nodes.old key ≡ false }
     requires counted { AreCounted nodes.old }
     ensures forgotten { HasForgotten (graph_of nodes.old) (graph_of nodes.new)
         (λ k d. (key ≡ k) × (marks_of nodes.old d ≡ true) × (marks_of nodes.old k ≡ false)) }
     ensures marks { marks_of nodes.new ≡ marks_of nodes.old }
-    ensures nexts { nexts_of nodes.new ≡ nexts_of nodes.old }
     ensures counted { AreCounted nodes.new }
 {
-    let node = &nodes[key];
+    let node = &nodes[key as usize];
     let kept = end_of_kept(nodes, &node.dependents, node.lost);
     if node.dependents.len() - kept < node.lost {
         drop_among(nodes, key);
         return;
     }
-    let node = &mut nodes[key];
+    let node = &mut nodes[key as usize];
     node.lost = 0;
     node.dependents.truncate(kept);
 }
 
-/// Takes the marked dependents of a removal out, unless it is marked. Where they are out already none of them is counted.
-fn forget_dependents(nodes: &mut Nodes, key: usize)
-    requires key { IsKey (graph_of nodes.old) key }
-    requires counted { AreCounted nodes.old }
-    ensures forgotten { HasForgotten (graph_of nodes.old) (graph_of nodes.new)
-        (λ k d. (key ≡ k) × (marks_of nodes.old d ≡ true) × (marks_of nodes.old k ≡ false)) }
-    ensures marks { marks_of nodes.new ≡ marks_of nodes.old }
-    ensures nexts { nexts_of nodes.new ≡ nexts_of nodes.old }
-    ensures counted { AreCounted nodes.new }
-{
-    let node = &nodes[key];
-    if node.mark {
-        return;
-    }
-    if node.lost == 0 {
-        return;
-    }
-    drop_dependents(nodes, key);
-}
-
-/// Takes the marked dependents of the antecedents of a removal out, but for antecedents that are marked.
-fn forget(nodes: &mut Nodes, key: usize)
-    requires key { IsKey (graph_of nodes.old) key }
-    requires keys { (c : ℕ) → IsAntecedent (graph_of nodes.old) c key → IsKey (graph_of nodes.old) c }
-    requires counted { AreCounted nodes.old }
-    ensures forgotten { HasForgotten (graph_of nodes.old) (graph_of nodes.new)
-        (λ k d. (marks_of nodes.old d ≡ true) × (marks_of nodes.old k ≡ false) × IsAntecedent (graph_of nodes.old) k key) }
-    ensures marks { marks_of nodes.new ≡ marks_of nodes.old }
-    ensures nexts { nexts_of nodes.new ≡ nexts_of nodes.old }
-    ensures counted { AreCounted nodes.new }
-{
-    for index in 0..nodes[key].antecedents.len() {
-        let antecedent = nodes[key].antecedents[index];
-        forget_dependents(nodes, antecedent);
-    }
-}
-
-/// Takes the removals of the chain, which are the marked ones, out of the dependents of the others.
-pub(crate) fn forget_marked(nodes: &mut Nodes, log: &[usize], first: usize, count: usize)
+/// Takes the marked removals out of the dependents of the others, where all that lose some are listed.
+pub(crate) fn forget_lost(nodes: &mut Nodes, log: &[u32], losing: &[u32])
     requires graph { IsGraph (graph_of nodes.old) log.now }
-    requires line { (chain : List ℕ) × IsLine nodes.old first count chain }
     requires counted { AreCounted nodes.old }
+    requires noted { AreNoted nodes.old losing.now }
+    requires whole { (k d : ℕ) → marks_of nodes.old k ≡ false → marks_of nodes.old d ≡ true → IsAntecedent (graph_of nodes.old) k d
+        → Contains losing.now k }
     ensures forgotten { HasForgotten (graph_of nodes.old) (graph_of nodes.new)
         (λ k d. (marks_of nodes.old d ≡ true) × (marks_of nodes.old k ≡ false) × IsAntecedent (graph_of nodes.old) k d) }
     ensures marks { marks_of nodes.new ≡ marks_of nodes.old }
 {
-    let mut key = first;
-    let mut place = 0;
-    while place < count {
-        forget(nodes, key);
-        key = nodes[key].next;
-        place += 1;
+    for key in losing {
+        drop_dependents(nodes, *key);
     }
 }

@@ -9,7 +9,7 @@ ghost use Rattle.palm_explain.specs.Lost.{AreTold};
 use crate::node::{Nodes, set_mark, set_next};
 
 /// Marks a removal and puts it behind the last one of the chain, unless it is marked.
-fn mark_one(nodes: &mut Nodes, last: &mut usize, key: usize)
+fn mark_one(nodes: &mut Nodes, last: &mut u32, key: u32)
     requires key { IsKey (graph_of nodes.old) key }
     requires last { IsKey (graph_of nodes.old) last.old }
     ensures last { IsKey (graph_of nodes.new) last.new }
@@ -17,7 +17,7 @@ fn mark_one(nodes: &mut Nodes, last: &mut usize, key: usize)
     ensures marked { HasMarked (marks_of nodes.old) (marks_of nodes.new) (λ k. key ≡ k) }
     ensures grown { HasGrown nodes.old nodes.new last.old last.new }
 {
-    if !nodes[key].mark {
+    if !nodes[key as usize].mark {
         set_mark(nodes, key, true);
         set_next(nodes, *last, key);
         *last = key;
@@ -25,7 +25,7 @@ fn mark_one(nodes: &mut Nodes, last: &mut usize, key: usize)
 }
 
 /// Marks each of the removals.
-fn mark_all(nodes: &mut Nodes, last: &mut usize, keys: &[usize])
+fn mark_all(nodes: &mut Nodes, last: &mut u32, keys: &[u32])
     requires keys { (k : ℕ) → Contains keys.now k → IsKey (graph_of nodes.old) k }
     requires last { IsKey (graph_of nodes.old) last.old }
     ensures last { IsKey (graph_of nodes.new) last.new }
@@ -39,7 +39,7 @@ fn mark_all(nodes: &mut Nodes, last: &mut usize, keys: &[usize])
 }
 
 /// Marks the dependents of a removal.
-fn mark_dependents(nodes: &mut Nodes, last: &mut usize, key: usize)
+fn mark_dependents(nodes: &mut Nodes, last: &mut u32, key: u32)
     requires key { IsKey (graph_of nodes.old) key }
     requires keys { (d : ℕ) → IsDependent (graph_of nodes.old) d key → IsKey (graph_of nodes.old) d }
     requires last { IsKey (graph_of nodes.old) last.old }
@@ -48,14 +48,14 @@ fn mark_dependents(nodes: &mut Nodes, last: &mut usize, key: usize)
     ensures marked { HasMarked (marks_of nodes.old) (marks_of nodes.new) (λ d. IsDependent (graph_of nodes.old) d key) }
     ensures grown { HasGrown nodes.old nodes.new last.old last.new }
 {
-    for index in 0..nodes[key].dependents.len() {
-        let dependent = nodes[key].dependents[index];
+    for index in 0..nodes[key as usize].dependents.len() {
+        let dependent = nodes[key as usize].dependents[index];
         mark_one(nodes, last, dependent);
     }
 }
 
 /// Marks what rests on the removals of the chain, which grows meanwhile. Answers how many it has in the end.
-fn spread(nodes: &mut Nodes, last: &mut usize, first: usize, log: &[usize]) -> usize
+fn spread(nodes: &mut Nodes, last: &mut u32, first: u32, log: &[u32]) -> usize
     requires graph { IsGraph (graph_of nodes.old) log.now }
     requires chain { (more : List ℕ) × IsChain (marks_of nodes.old) (nexts_of nodes.old) last.old (first ∷ more) }
     ensures graph { graph_of nodes.new ≡ graph_of nodes.old }
@@ -69,7 +69,7 @@ fn spread(nodes: &mut Nodes, last: &mut usize, first: usize, log: &[usize]) -> u
     let mut place = 0;
     mark_dependents(nodes, last, key);
     while key != *last {
-        key = nodes[key].next;
+        key = nodes[key as usize].next;
         place += 1;
         mark_dependents(nodes, last, key);
     }
@@ -77,7 +77,7 @@ fn spread(nodes: &mut Nodes, last: &mut usize, first: usize, log: &[usize]) -> u
 }
 
 /// Marks exactly the removals that rest on a constraint, where all of its own are given. Answers how many.
-pub(crate) fn mark_lost(nodes: &mut Nodes, log: &[usize], own: &[usize]) -> usize
+pub(crate) fn mark_lost(nodes: &mut Nodes, log: &[u32], own: &[u32]) -> usize
     requires graph { IsGraph (graph_of nodes.old) log.now }
     requires unmarked { HasNoMark nodes.old }
     requires own { (k : ℕ) → Contains own.now k → IsKey (graph_of nodes.old) k }

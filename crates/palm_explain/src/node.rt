@@ -1,11 +1,12 @@
 //! The nodes of the graph: what is kept of each removal.
-ghost use Rattle.std.specs.Prelude.{◌≡◌, ◌≢◌, ℕ, [], ◌∷◌, OnOk};
+ghost use Rattle.std.specs.Prelude.{◌≡◌, ◌≢◌, ℕ, false, [], ◌∷◌, OnOk, vec_capacity};
 ghost use Rattle.slab.specs.Slab.{get};
 ghost use Rattle.palm_base.specs.Order.{same_cid};
 ghost use Rattle.palm_explain.specs.Chain.{nexts_of};
-ghost use Rattle.palm_explain.specs.Counts.{IsCountedAt, counts_of};
+ghost use Rattle.palm_explain.specs.Counts.{AreNoted, HasCounted, HoldsKeys, IsCountedAt, counts_of};
 ghost use Rattle.palm_explain.specs.Graph.{HasLinked, IsKey, IsMoved, IsReadyAt, KeepsRoom, graph_of, marks_of};
 
+use crate::keys::has_at;
 use palm_base::{Cid, NoMemory, Pair};
 use slab::Slab;
 use std::alloc::AllocError;
@@ -16,17 +17,19 @@ pub(crate) struct Node {
     pub(crate) pair: Pair,
     pub(crate) by: Cid,
     /// The keys of the reasons' removals, in the order of the reasons.
-    pub(crate) antecedents: Vec<usize>,
+    pub(crate) antecedents: Vec<u32>,
     /// The keys of the removals that have this one among their antecedents.
-    pub(crate) dependents: Vec<usize>,
+    pub(crate) dependents: Vec<u32>,
     /// The place in the log.
     pub(crate) place: usize,
     /// Stands while a walk is on its way. No mark stands between calls.
     pub(crate) mark: bool,
     /// The key of the removal behind this one in the chain of those that a withdrawal loses, while it is on its way.
-    pub(crate) next: usize,
+    pub(crate) next: u32,
     /// How many dependents a withdrawal loses, while it is on its way, or more.
     pub(crate) lost: usize,
+    /// Where the key stands in the list of those that stay and lose dependents, while a withdrawal is on its way, if it is there.
+    pub(crate) slot: usize,
     /// Where the key most likely stands in the thread of its constraint.
     pub(crate) at: usize,
 }
@@ -42,41 +45,41 @@ pub(crate) fn is_by(node: &Node, cid: &Cid) -> bool
 }
 
 /// Sets the mark of a removal, or clears it.
-pub(crate) fn set_mark(nodes: &mut Nodes, key: usize, mark: bool)
+pub(crate) fn set_mark(nodes: &mut Nodes, key: u32, mark: bool)
     requires { IsKey (graph_of nodes.old) key }
     ensures graph { graph_of nodes.new ≡ graph_of nodes.old }
     ensures nexts { nexts_of nodes.new ≡ nexts_of nodes.old }
     ensures marked { marks_of nodes.new key ≡ mark }
     ensures others { (k : ℕ) → k ≢ key → marks_of nodes.new k ≡ marks_of nodes.old k }
 {
-    nodes[key].mark = mark;
+    nodes[key as usize].mark = mark;
 }
 
 /// Links a removal to the one behind it in the chain.
-pub(crate) fn set_next(nodes: &mut Nodes, key: usize, next: usize)
+pub(crate) fn set_next(nodes: &mut Nodes, key: u32, next: u32)
     requires { IsKey (graph_of nodes.old) key }
     ensures graph { graph_of nodes.new ≡ graph_of nodes.old }
     ensures marks { marks_of nodes.new ≡ marks_of nodes.old }
     ensures linked { nexts_of nodes.new key ≡ next }
     ensures others { (k : ℕ) → k ≢ key → nexts_of nodes.new k ≡ nexts_of nodes.old k }
 {
-    nodes[key].next = next;
+    nodes[key as usize].next = next;
 }
 
 /// Moves a removal to another place of the log.
-pub(crate) fn set_place(nodes: &mut Nodes, key: usize, place: usize)
+pub(crate) fn set_place(nodes: &mut Nodes, key: u32, place: usize)
     requires { IsKey (graph_of nodes.old) key }
     ensures moved { IsMoved (graph_of nodes.old) (graph_of nodes.new) key place }
     ensures marks { marks_of nodes.new ≡ marks_of nodes.old }
 {
-    nodes[key].place = place;
+    nodes[key as usize].place = place;
 }
 
 /// Makes room for one more dependent of a removal.
 pub(crate) fn reserve_dependent(
     nodes: &mut Nodes,
-    antecedent: usize,
-    key: usize,
+    antecedent: u32,
+    key: u32,
 ) -> Result<(), NoMemory>
     requires { IsKey (graph_of nodes.old) antecedent }
     ensures graph { graph_of nodes.new ≡ graph_of nodes.old }
@@ -85,12 +88,12 @@ pub(crate) fn reserve_dependent(
     ensures others { (k : ℕ) → k ≢ antecedent → get nodes.new k ≡ get nodes.old k }
     ensures room { KeepsRoom nodes.old nodes.new }
 {
-    nodes[antecedent].dependents.reserve(1)?;
+    nodes[antecedent as usize].dependents.reserve(1)?;
     Ok(())
 }
 
 /// Adds a dependent of a removal behind the others, unless it is the last.
-pub(crate) fn add_dependent(nodes: &mut Nodes, antecedent: usize, key: usize)
+pub(crate) fn add_dependent(nodes: &mut Nodes, antecedent: u32, key: u32)
     requires key { IsKey (graph_of nodes.old) antecedent }
     requires ready { IsReadyAt nodes.old key antecedent }
     ensures linked { HasLinked (graph_of nodes.old) (graph_of nodes.new) (antecedent ∷ []) key }
@@ -98,7 +101,7 @@ pub(crate) fn add_dependent(nodes: &mut Nodes, antecedent: usize, key: usize)
     ensures ready { (k : ℕ) → IsReadyAt nodes.old key k → IsReadyAt nodes.new key k }
     ensures room { KeepsRoom nodes.old nodes.new }
 {
-    let dependents = &mut nodes[antecedent].dependents;
+    let dependents = &mut nodes[antecedent as usize].dependents;
     match dependents.last() {
         Some(last) if *last == key => {}
         _ => dependents.push_reserved(key),
@@ -115,35 +118,47 @@ fn one_more(count: usize) -> usize
     count
 }
 
-/// Counts one more lost dependent of a removal.
-pub(crate) fn count_dependent(nodes: &mut Nodes, key: usize)
-    requires { IsKey (graph_of nodes.old) key }
+/// Counts one more lost dependent of a removal, unless it is lost itself, and lists it where it is not listed.
+pub(crate) fn count_dependent(nodes: &mut Nodes, losing: &mut Vec<u32>, key: u32)
+    requires key { IsKey (graph_of nodes.old) key }
+    requires noted { AreNoted nodes.old losing.old.items }
+    requires room { HoldsKeys (graph_of nodes.old) (vec_capacity losing.old) }
     ensures graph { graph_of nodes.new ≡ graph_of nodes.old }
     ensures marks { marks_of nodes.new ≡ marks_of nodes.old }
     ensures nexts { nexts_of nodes.new ≡ nexts_of nodes.old }
-    ensures counted { IsCountedAt (counts_of nodes.old key) (counts_of nodes.new key) }
-    ensures others { (k : ℕ) → k ≢ key → counts_of nodes.new k ≡ counts_of nodes.old k }
+    ensures counted { HasCounted (counts_of nodes.old) (counts_of nodes.new) losing.old.items losing.new.items
+        (λ k. (marks_of nodes.old k ≡ false) × (key ≡ k)) }
+    ensures noted { AreNoted nodes.new losing.new.items }
+    ensures room { vec_capacity losing.new ≡ vec_capacity losing.old }
 {
-    let node = &mut nodes[key];
+    let node = &mut nodes[key as usize];
+    if node.mark {
+        return;
+    }
     node.lost = one_more(node.lost);
+    if has_at(losing, node.slot, key) {
+        return;
+    }
+    node.slot = losing.len();
+    losing.push_reserved(key);
 }
 
 /// Notes where the key of a removal stands in the thread of its constraint.
-pub(crate) fn set_at(nodes: &mut Nodes, key: usize, at: usize)
+pub(crate) fn set_at(nodes: &mut Nodes, key: u32, at: usize)
     ensures graph { graph_of nodes.new ≡ graph_of nodes.old }
     ensures marks { marks_of nodes.new ≡ marks_of nodes.old }
     ensures nexts { nexts_of nodes.new ≡ nexts_of nodes.old }
 {
-    if nodes.contains(key) {
-        nodes[key].at = at;
+    if nodes.contains(key as usize) {
+        nodes[key as usize].at = at;
     }
 }
 
 /// Whether the removal under a key is marked.
-pub(crate) fn is_marked(nodes: &Nodes, key: usize) -> bool
+pub(crate) fn is_marked(nodes: &Nodes, key: u32) -> bool
     ensures { result ≡ marks_of nodes.now key }
 {
-    match nodes.get(key) {
+    match nodes.get(key as usize) {
         Some(node) => node.mark,
         None => false,
     }

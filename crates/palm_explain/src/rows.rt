@@ -11,7 +11,7 @@ use std::alloc::{AllocError, AllocFailed, Global};
 #[derive(Debug, Drop)]
 pub(crate) struct Row {
     values: Vec<Value>,
-    keys: Vec<usize>,
+    keys: Vec<u32>,
     /// Stands while the last withdrawal has the variable among those of which it put values back.
     restored: bool,
 }
@@ -38,7 +38,7 @@ impl Row {
     }
 
     /// The key of a value, which is looked for first near a place.
-    fn key_near(&self, value: Value, near: &mut usize) -> Option<usize>
+    fn key_near(&self, value: Value, near: &mut usize) -> Option<u32>
         requires { IsFormedRow self.now }
         ensures { result ≡ key_in self.now.values.items self.now.keys.items value }
     {
@@ -57,7 +57,7 @@ impl Row {
     }
 
     /// Sets the key of a value; without memory nothing changes.
-    fn put(&mut self, value: Value, key: usize) -> Result<(), NoMemory>
+    fn put(&mut self, value: Value, key: u32) -> Result<(), NoMemory>
         requires { IsFormedRow self.old }
         ensures formed { IsFormedRow self.new }
         ensures there { OnOk result (key_in self.new.values.items self.new.keys.items value ≡ Some key) }
@@ -79,7 +79,7 @@ impl Row {
 
 /// The key under which the pair was entered last. Its value is looked for first near a place of the row, and `near` is
 /// then the place behind it: pairs of one variable mostly come with rising values.
-pub(crate) fn key_near(rows: &[Row], pair: &Pair, near: &mut usize) -> Option<usize>
+pub(crate) fn key_near(rows: &[Row], pair: &Pair, near: &mut usize) -> Option<u32>
     requires { AreFormedRows rows.now }
     ensures { result ≡ key_at rows.now pair.now }
 {
@@ -88,7 +88,7 @@ pub(crate) fn key_near(rows: &[Row], pair: &Pair, near: &mut usize) -> Option<us
 }
 
 /// The key under which the pair was entered last.
-pub(crate) fn key_of(rows: &[Row], pair: &Pair) -> Option<usize>
+pub(crate) fn key_of(rows: &[Row], pair: &Pair) -> Option<u32>
     requires { AreFormedRows rows.now }
     ensures { result ≡ key_at rows.now pair.now }
 {
@@ -112,7 +112,7 @@ fn reach(rows: &mut Vec<Row>, variables: usize) -> Result<(), NoMemory>
 }
 
 /// Sets the key of a pair; without memory all keys stay.
-pub(crate) fn put_key(rows: &mut Vec<Row>, pair: &Pair, key: usize) -> Result<(), NoMemory>
+pub(crate) fn put_key(rows: &mut Vec<Row>, pair: &Pair, key: u32) -> Result<(), NoMemory>
     requires { AreFormedRows rows.old.items }
     ensures formed { AreFormedRows rows.new.items }
     ensures there { OnOk result (key_at rows.new.items pair.now ≡ Some key) }

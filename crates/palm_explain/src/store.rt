@@ -9,7 +9,7 @@ ghost use Rattle.palm_explain.specs.Explanations.{IsLinked, LacksExactly, NamesO
 
 use crate::emptied::Emptied;
 use crate::entering::{antecedents_of, link, make_room};
-use crate::forgetting::{count_lost, forget_marked, forget_threads};
+use crate::forgetting::{count_lost, forget_lost, forget_threads};
 use crate::marking::mark_lost;
 use crate::node::{Node, Nodes};
 use crate::rows::{Row, key_of, put_key};
@@ -29,11 +29,13 @@ use std::marker::Model;
 pub struct ExplainStore {
     nodes: Nodes,
     /// The keys of the nodes in the order of the removals.
-    log: Vec<usize>,
+    log: Vec<u32>,
     rows: Vec<Row>,
     threads: Threads,
     /// The variables of which the last withdrawal put values back.
     restored: Vec<Var>,
+    /// The removals that stay and lose dependents, while a withdrawal is on its way.
+    losing: Vec<u32>,
     emptied: Emptied,
 }
 
@@ -47,7 +49,7 @@ impl Model for ExplainStore {
 
     ghost view = { λ s. record { log = log_of (graph_of s.nodes) s.log.items; restored = s.restored.items } };
 
-    ghost invariant = { λ s. IsWhole s.nodes s.log.items s.rows.items s.restored.items (vec_capacity s.restored) s.threads };
+    ghost invariant = { λ s. IsWhole s.nodes s.log.items s.rows.items s.restored.items (vec_capacity s.restored) (vec_capacity s.losing) s.threads };
 }
 
 impl ExplainStore {
@@ -61,6 +63,7 @@ impl ExplainStore {
             rows: Vec::new(alloc),
             threads: Threads::new(alloc),
             restored: Vec::new(alloc),
+            losing: Vec::new(alloc),
             emptied: Emptied::new(alloc),
         }
     }
@@ -72,7 +75,10 @@ impl ExplainStore {
         ensures ok { OnOk result (self.new ≡ record self.old { log = self.old.log ++ record { pair = pair; by = by; reasons = reasons.now } ∷ [] }) }
         ensures err { OnErr result (self.new ≡ self.old) }
     {
-        let key = self.nodes.vacant_key();
+        let key = match u32::try_from(self.nodes.vacant_key()) {
+            Ok(key) => key,
+            Err(_) => return Err(NoMemory),
+        };
         let place = self.log.len();
         put_key(&mut self.rows, &pair, key)?;
         let alloc = *self.log.allocator();
@@ -81,6 +87,7 @@ impl ExplainStore {
             &mut self.nodes,
             &mut self.log,
             &mut self.restored,
+            &mut self.losing,
             &mut self.emptied,
             &antecedents,
             key,
@@ -96,6 +103,7 @@ impl ExplainStore {
             mark: false,
             next: 0,
             lost: 0,
+            slot: 0,
             at,
         });
         self.log.push_reserved(key);
@@ -117,7 +125,7 @@ impl ExplainStore {
         ensures by { slice_get (log_bys self.now.log) place ≡ Some result.now.by }
         ensures reasons { length (reasons_of self.now.log place) ≡ vec_len result.now.antecedents }
     {
-        &self.nodes[self.log[place]]
+        &self.nodes[self.log[place] as usize]
     }
 
     /// The pair of the removal at a place.
@@ -150,8 +158,8 @@ impl ExplainStore {
         requires index { index < length (reasons_of self.now.log place) }
         ensures { slice_get (reasons_of self.now.log place) index ≡ Some result }
     {
-        let antecedent = self.nodes[self.log[place]].antecedents[index];
-        self.nodes[antecedent].pair
+        let antecedent = self.nodes[self.log[place] as usize].antecedents[index];
+        self.nodes[antecedent as usize].pair
     }
 
     /// The place of a pair's removal.
@@ -160,7 +168,7 @@ impl ExplainStore {
             (Contains (log_pairs self.now.log) pair → ⊥)
             (λ place. slice_get (log_pairs self.now.log) place ≡ Some pair) }
     {
-        let node = self.nodes.get(key_of(&self.rows, &pair)?)?;
+        let node = self.nodes.get(key_of(&self.rows, &pair)? as usize)?;
         if node.pair == pair {
             Some(node.place)
         } else {
@@ -231,8 +239,9 @@ impl ExplainStore {
             &mut self.restored,
         );
         forget_threads(&mut self.nodes, &mut self.threads, first, count, &cid);
-        count_lost(&mut self.nodes, log, first, count);
-        forget_marked(&mut self.nodes, log, first, count);
+        self.losing.clear();
+        count_lost(&mut self.nodes, &mut self.losing, log, first, count);
+        forget_lost(&mut self.nodes, log, &self.losing);
         close_up(&mut self.nodes, &mut self.log, &mut self.emptied, start);
     }
 

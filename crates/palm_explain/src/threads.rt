@@ -12,7 +12,7 @@ use std::mem;
 /// The keys of a constraint's removals.
 #[derive(Debug, Drop)]
 pub(crate) struct Thread {
-    keys: Vec<usize>,
+    keys: Vec<u32>,
 }
 
 /// The constraints that removed something at some time, by rising id, and beside each its thread.
@@ -70,7 +70,7 @@ impl Threads {
     }
 
     /// Adds a key to the thread of a constraint, and answers its place there; without memory all threads stay.
-    pub(crate) fn push(&mut self, cid: &Cid, key: usize) -> Result<usize, NoMemory>
+    pub(crate) fn push(&mut self, cid: &Cid, key: u32) -> Result<usize, NoMemory>
         requires { AreFormedThreads self.old }
         ensures formed { AreFormedThreads self.new }
         ensures added { OnOk result (thread_of self.new cid.now ≡ thread_of self.old cid.now ++ key ∷ []) }
@@ -86,7 +86,7 @@ impl Threads {
     }
 
     /// Takes the whole thread of a constraint.
-    pub(crate) fn take(&mut self, cid: &Cid) -> Vec<usize>
+    pub(crate) fn take(&mut self, cid: &Cid) -> Vec<u32>
         requires { AreFormedThreads self.old }
         ensures formed { AreFormedThreads self.new }
         ensures taken { result.items ≡ thread_of self.old cid.now }
@@ -120,7 +120,7 @@ impl Threads {
 
     /// Takes a key out of the thread of a constraint, where it most likely stands at the place. Answers the key that stands
     /// there instead, if there is one.
-    pub(crate) fn forget(&mut self, cid: &Cid, key: usize, at: usize) -> Option<usize>
+    pub(crate) fn forget(&mut self, cid: &Cid, key: u32, at: usize) -> Option<u32>
         requires formed { AreFormedThreads self.old }
         requires once { Distinct (thread_of self.old cid.now) }
         ensures formed { AreFormedThreads self.new }

@@ -18,20 +18,20 @@ use palm_base::{Cid, NoMemory, Pair, Value, Var};
 use std::alloc::{AllocError, Global};
 
 /// Marks the antecedents of a removal.
-fn mark_antecedents(nodes: &mut Nodes, key: usize)
+fn mark_antecedents(nodes: &mut Nodes, key: u32)
     requires keys { (c : ℕ) → IsAntecedent (graph_of nodes.old) c key → IsKey (graph_of nodes.old) c }
     requires key { IsKey (graph_of nodes.old) key }
     ensures graph { graph_of nodes.new ≡ graph_of nodes.old }
     ensures marked { HasMarked (marks_of nodes.old) (marks_of nodes.new) (λ c. IsAntecedent (graph_of nodes.old) c key) }
 {
-    for index in 0..nodes[key].antecedents.len() {
-        let antecedent = nodes[key].antecedents[index];
+    for index in 0..nodes[key as usize].antecedents.len() {
+        let antecedent = nodes[key as usize].antecedents[index];
         set_mark(nodes, antecedent, true);
     }
 }
 
 /// Where the removal has a mark, hands it on to its antecedents, and answers whether the constraint made the removal.
-fn pass_mark(nodes: &mut Nodes, key: usize, cid: &Cid) -> bool
+fn pass_mark(nodes: &mut Nodes, key: u32, cid: &Cid) -> bool
     requires key { IsKey (graph_of nodes.old) key }
     requires keys { (c : ℕ) → IsAntecedent (graph_of nodes.old) c key → IsKey (graph_of nodes.old) c }
     requires before { (c : ℕ) → IsAntecedent (graph_of nodes.old) c key → c ≢ key }
@@ -40,16 +40,16 @@ fn pass_mark(nodes: &mut Nodes, key: usize, cid: &Cid) -> bool
     ensures tells { marks_of nodes.old key ≡ true → Tells result (IsBy (graph_of nodes.old) cid.now key) }
     ensures stays { marks_of nodes.old key ≡ false → (marks_of nodes.new ≡ marks_of nodes.old) × (result ≡ false) }
 {
-    if !nodes[key].mark {
+    if !nodes[key as usize].mark {
         return false;
     }
     set_mark(nodes, key, false);
     mark_antecedents(nodes, key);
-    is_by(&nodes[key], cid)
+    is_by(&nodes[key as usize], cid)
 }
 
 /// Whether the removal rests on the constraint.
-pub(crate) fn rests_on(nodes: &mut Nodes, log: &[usize], key: usize, cid: &Cid) -> bool
+pub(crate) fn rests_on(nodes: &mut Nodes, log: &[u32], key: u32, cid: &Cid) -> bool
     requires linked { IsLinked (log_of (graph_of nodes.old) log.now) }
     requires graph { IsGraph (graph_of nodes.old) log.now }
     requires unmarked { HasNoMark nodes.old }
@@ -58,7 +58,7 @@ pub(crate) fn rests_on(nodes: &mut Nodes, log: &[usize], key: usize, cid: &Cid) 
     ensures unmarked { HasNoMark nodes.new }
     ensures tells { Tells result (NamesAt (graph_of nodes.old) log.now cid.now key) }
 {
-    let mut place = nodes[key].place;
+    let mut place = nodes[key as usize].place;
     set_mark(nodes, key, true);
     let mut rests = pass_mark(nodes, key, cid);
     while place > 0 {
@@ -81,7 +81,7 @@ fn set_due(due: &mut Vec<bool>, place: usize, is: bool)
 }
 
 /// Notes a removal at its place.
-fn note(nodes: &Nodes, key: usize, due: &mut Vec<bool>)
+fn note(nodes: &Nodes, key: u32, due: &mut Vec<bool>)
     requires key { IsKey (graph_of nodes.now) key }
     requires apart { HaveOwnPlaces (graph_of nodes.now) }
     requires long { (l : Link) → graph_of nodes.now key ≡ Some l → l.place < length due.old.items }
@@ -89,7 +89,7 @@ fn note(nodes: &Nodes, key: usize, due: &mut Vec<bool>)
     ensures set { is_noted (graph_of nodes.now) due.new.items key ≡ true }
     ensures others { (k : ℕ) → k ≢ key → is_noted (graph_of nodes.now) due.new.items k ≡ is_noted (graph_of nodes.now) due.old.items k }
 {
-    let place = nodes[key].place;
+    let place = nodes[key as usize].place;
     set_due(due, place, true);
 }
 
@@ -105,7 +105,7 @@ fn last_of(nodes: &Nodes, rows: &[Row], var: Var, values: &[Value]) -> usize
     for value in values {
         let pair = Pair { var, value: *value };
         let key = key_near(rows, &pair, &mut near).unwrap();
-        last = last.max(nodes[key].place);
+        last = last.max(nodes[key as usize].place);
     }
     last
 }
@@ -129,7 +129,7 @@ fn note_values(nodes: &Nodes, rows: &[Row], var: Var, values: &[Value], due: &mu
 }
 
 /// Notes the antecedents of a removal.
-fn note_antecedents(nodes: &Nodes, key: usize, due: &mut Vec<bool>)
+fn note_antecedents(nodes: &Nodes, key: u32, due: &mut Vec<bool>)
     requires key { IsKey (graph_of nodes.now) key }
     requires keys { (c : ℕ) → IsAntecedent (graph_of nodes.now) c key → IsKey (graph_of nodes.now) c }
     requires apart { HaveOwnPlaces (graph_of nodes.now) }
@@ -137,7 +137,7 @@ fn note_antecedents(nodes: &Nodes, key: usize, due: &mut Vec<bool>)
     ensures long { length due.new.items ≡ length due.old.items }
     ensures noted { HasMarked (is_noted (graph_of nodes.now) due.old.items) (is_noted (graph_of nodes.now) due.new.items) (λ c. IsAntecedent (graph_of nodes.now) c key) }
 {
-    let antecedents = nodes[key].antecedents.as_slice();
+    let antecedents = nodes[key as usize].antecedents.as_slice();
     for antecedent in antecedents {
         note(nodes, *antecedent, due);
     }
@@ -146,7 +146,7 @@ fn note_antecedents(nodes: &Nodes, key: usize, due: &mut Vec<bool>)
 /// Where the removal at the place is noted, notes its antecedents in its stead, and adds the id of its constraint.
 fn visit(
     nodes: &Nodes,
-    log: &[usize],
+    log: &[u32],
     place: usize,
     due: &mut Vec<bool>,
     cids: &mut Vec<Cid>,
@@ -171,7 +171,7 @@ fn visit(
     let key = log[place];
     set_due(due, place, false);
     note_antecedents(nodes, key, due);
-    add_cid(cids, near, &nodes[key].by)
+    add_cid(cids, near, &nodes[key as usize].by)
 }
 
 /// The ids of all constraints on which the removals of these values rest, by rising id. It begins at the last of them, and looks at
@@ -179,7 +179,7 @@ fn visit(
 pub(crate) fn cids_of(
     alloc: Global,
     nodes: &Nodes,
-    log: &[usize],
+    log: &[u32],
     rows: &[Row],
     var: Var,
     values: &[Value],

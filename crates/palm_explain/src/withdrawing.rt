@@ -35,8 +35,8 @@ pub(crate) fn empty_out(rows: &mut Vec<Row>, vars: &mut Vec<Var>)
 /// that behind the last one of the log where the chain is empty.
 pub(crate) fn put_back(
     nodes: &Nodes,
-    log: &[usize],
-    first: usize,
+    log: &[u32],
+    first: u32,
     count: usize,
     store: &mut DomainStore,
     rows: &mut Vec<Row>,
@@ -64,7 +64,7 @@ pub(crate) fn put_back(
     let mut place = 0;
     let mut start = log.len();
     while place < count {
-        let node = &nodes[key];
+        let node = &nodes[key as usize];
         put_back_pair(node, store, rows, restored);
         start = start.min(node.place);
         key = node.next;
@@ -114,7 +114,7 @@ fn note(rows: &mut Vec<Row>, restored: &mut Vec<Var>, var: Var)
 /// the place for the next one.
 fn close_up_at(
     nodes: &mut Nodes,
-    log: &mut Vec<usize>,
+    log: &mut Vec<u32>,
     emptied: &mut Emptied,
     place: usize,
     end: usize,
@@ -130,8 +130,8 @@ fn close_up_at(
         × (marks_of nodes.new ≡ marks_of nodes.old) × (log.new.items ≡ slice_set log.old.items end k) × (result ≡ end + 1) }
 {
     let key = log[place];
-    if nodes[key].mark {
-        emptied.keep(nodes.remove(key).dependents);
+    if nodes[key as usize].mark {
+        emptied.keep(nodes.remove(key as usize).dependents);
         return end;
     }
     set_place(nodes, key, end);
@@ -140,7 +140,7 @@ fn close_up_at(
 }
 
 /// Takes the marked removals out, none of which stands before the start, and keeps their lists of dependents; the others keep their order.
-pub(crate) fn close_up(nodes: &mut Nodes, log: &mut Vec<usize>, emptied: &mut Emptied, start: usize)
+pub(crate) fn close_up(nodes: &mut Nodes, log: &mut Vec<u32>, emptied: &mut Emptied, start: usize)
     requires places { IsPlaced (graph_of nodes.old) log.old.items }
     requires within { start ≤ length log.old.items }
     requires earliest { (k : ℕ) (l : Link) → marks_of nodes.old k ≡ true → graph_of nodes.old k ≡ Some l → start ≤ l.place }

@@ -6,9 +6,9 @@ use Rattle.std.specs.Fmt.{signed_decimal}
 use Rattle.std.proofs.lemmas.List.Concat.{flat_map-append}
 use Rattle.palm_lang.specs.Print.{Keeps, Puts}
 use Rattle.palm_read.specs.Linear.{linear_terms_words, linear_first_text, linear_later_words}
-use Rattle.palm_read.specs.Words.{after_spaces, row_text}
+use Rattle.palm_read.specs.Words.{after_spaces}
 use Rattle.palm_book.specs.Book.{BookVar, name_of}
-use Rattle.palm_book.specs.Named.{column_of, named_term}
+use Rattle.palm_book.specs.Named.{named_term}
 use Rattle.palm_lang.specs.Reply.{assigned_text, pair_text, reasons_text}
 use Rattle.palm_base.specs.declared.terms.Pair.{Pair}
 use Rattle.palm_read.specs.declared.line.NameTerm.{NameTerm}
@@ -45,11 +45,6 @@ linear_con_text variables (t ∷ ts) first some is =
     let later : NameTerm → List ℕ = λ u. after_spaces (linear_later_words u.factor u.name) in
     let named : flat_map later (map (named_term variables) ts) ≡ flat_map (λ u. after_spaces (linear_later_words u.factor (name_of variables u.var))) ts = flat_map-map later (named_term variables) ts in
     rw (is, rest, after_spaces-flat_map, named) refl
-
--- the rows of a column, one behind another
-pub column_text : (values : List ℤ) → after_spaces (map row_text (column_of values)) ≡ flat_map (λ v. codes " " ++ row_text (v ∷ [])) values
-column_text [] = refl
-column_text (v ∷ vs) = ap (λ (rest : List ℕ). codes " " ++ row_text (v ∷ []) ++ rest) (column_text vs)
 
 -- where memory ran out
 pub Puts-kept : {T E : Type 0} (a c text : List ℕ) (r : Result T E) → IsErr r → Keeps a c → Puts a c text r

@@ -4,7 +4,6 @@ use Rattle.std.specs.List.{join_by}
 use Rattle.std.specs.Fmt.{signed_decimal}
 use Rattle.palm_base.specs.declared.terms.Pair.{Pair}
 use Rattle.palm_model.specs.declared.constraint.Con.{Con}
-use Rattle.palm_model.specs.declared.constraint.Con.TheVariants.{Within}
 use Rattle.palm_book.specs.Named.{named}
 use Rattle.palm_book.specs.Book.{BookVar, Contents, name_of}
 use Rattle.palm_read.specs.Interval.{values_text}
@@ -61,18 +60,9 @@ domain_line name values = ended (name ++ codes ":" ++ flat_map (λ v. codes " " 
 abbrev pub var_line : List ℕ → List ℤ → List ℕ
 var_line name values = ended (spaced (codes "var" ∷ name ∷ values_text values ∷ []))
 
--- a constraint as a line says it
-abbrev pub said_text : List BookVar → Con → List ℕ
-said_text variables con = spaced (shape_words (named variables con))
-
--- NAME "in" DOMAIN
-abbrev pub within_text : List ℕ → List ℤ → List ℕ
-within_text name values = spaced (name ∷ codes "in" ∷ values_text values ∷ [])
-
--- the text of a constraint
+-- the text of a constraint, as a line says it
 abbrev pub con_text : List BookVar → Con → List ℕ
-con_text variables (Within var values) = within_text (name_of variables var) values
-con_text variables con = said_text variables con
+con_text variables con = spaced (shape_words (named variables con))
 
 abbrev pub state_word : Bool → List ℕ
 state_word true = codes "active"

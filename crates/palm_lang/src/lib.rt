@@ -8,16 +8,17 @@ mod stop;
 mod writer;
 
 pub use palm_book::{
-    Book, BookCon, MOST_ADDED, MOST_CONSTRAINTS, MOST_VARIABLES, Unresolved, values_in,
+    Book, BookCon, MOST_ADDED, MOST_CONSTRAINTS, MOST_CONSTRAINTS_IN_ONE, MOST_VARIABLES,
+    MOST_VARIABLES_IN_ONE, Unresolved, most_constraints, most_variables, values_in,
 };
 pub use palm_claim::Claim;
 pub use palm_read::{
-    DomainText, Line, LineError, MOST_VALUES, Name, NameList, NameTarget, NameTerm, NameTermList,
-    Shape, Token, TokenKind, beyond, next_feed, parse_line, token, without_return,
+    DomainText, Line, LineError, MOST_VALUES, Mode, Name, NameList, NameTarget, NameTerm,
+    NameTermList, Shape, Token, TokenKind, beyond, next_feed, parse_line, token, without_return,
 };
 pub use print::{
     print_con, print_domain, print_entry, print_fixed, print_found, print_line, print_names,
-    print_ran, print_refusal, print_removal, print_said, print_spent, print_var, put_spaced_int,
+    print_ran, print_refusal, print_removal, print_spent, print_var, put_spaced_int,
     put_spaced_name, put_spaced_value, put_text,
 };
 pub use reply::{Fixed, Lead, Refusal};

@@ -4,7 +4,7 @@
 ghost use Rattle.std.specs.Prelude.{◌≡◌, ◌<◌, length, map, take, All, OnOk, OnErr};
 ghost use Rattle.palm_read.specs.Text.{text_of};
 ghost use Rattle.palm_book.specs.Book.{number_name, user_name, IsUser, HasNumber};
-ghost use Rattle.palm_lang.specs.Reply.{con_text, said_text, fixed_text, refusal_text, ran_text, domain_line, var_line, entry_at, removal_line, names_line, found_line, spent_line};
+ghost use Rattle.palm_lang.specs.Reply.{con_text, fixed_text, refusal_text, ran_text, domain_line, var_line, entry_at, removal_line, names_line, found_line, spent_line};
 ghost use Rattle.palm_lang.specs.Print.{Appends};
 ghost use Rattle.palm_model.specs.Constraint.{scope};
 ghost use Rattle.palm_model.specs.Domains.{Ascends};
@@ -24,7 +24,7 @@ mod table;
 mod within;
 mod words;
 
-use crate::print::cons::{put_con, put_said};
+use crate::print::cons::put_con;
 use crate::print::lines::put_line;
 use crate::print::replies::{
     fixed_word, put_domain, put_entry, put_found, put_names, put_ran, put_removal, put_reply,
@@ -65,16 +65,6 @@ pub fn print_con(book: &Book, con: &Con, out: &mut Vec<u8>) -> Result<(), NoMemo
 {
     let length = out.len();
     let outcome = put_con(book, con, out);
-    settled(outcome, length, out)
-}
-
-/// Prints a constraint as a line of the language says it, with the book's names and without a line feed.
-pub fn print_said(book: &Book, con: &Con, out: &mut Vec<u8>) -> Result<(), NoMemory>
-    requires { All (λ x. x < length book.now.variables) (scope con.now) }
-    ensures { Appends out.old.items out.new.items (said_text book.now.variables con.now) result }
-{
-    let length = out.len();
-    let outcome = put_said(book, con, out);
     settled(outcome, length, out)
 }
 

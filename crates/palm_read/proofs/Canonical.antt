@@ -5,18 +5,21 @@ use Rattle.std.specs.Prelude.{◌==◌, if◌then◌else◌}
 use Rattle.std.proofs.lemmas.Bool.Decides.{Decides-eqb}
 use Rattle.std.proofs.lemmas.List.Elements.{All-from_recursion, recursion_from_All}
 use Rattle.palm_read.specs.Comparison.{OffsetForm, NoOffset, Plus, Minus, offset_of}
-use Rattle.palm_read.specs.Domain.{DomainForm, Interval, Members, set_of, count_in}
-use Rattle.palm_read.specs.Form.{ShapeForm, CompareVarForm, LinearForm, Form, DeclareForm, AddForm, SolveDbtForm}
+use Rattle.palm_read.specs.Domain.{DomainForm, Interval, Members, set_of, count_in, domain_of}
+use Rattle.palm_read.specs.Form.{ShapeForm, CompareVarForm, LinearForm, WithinForm, Form, DeclareForm, DeclareInForm, AddForm, SolveDbtForm}
 use Rattle.palm_read.specs.Linear.{TermForm, term_of}
 use Rattle.palm_read.specs.Grammar.{IsProper, IsProperShape}
 use Rattle.palm_read.specs.Bounds.{Bounded, IsWithin, a_value}
 use Rattle.palm_read.specs.Limits.{IsInRange, HasNothing, HasRepeat}
+use Rattle.palm_read.specs.Modes.{Allows}
 use Rattle.palm_read.specs.Reading.{shape_of, budget_of, line_of}
 use Rattle.palm_read.specs.declared.limits.TheConstants.{NO_BUDGET}
 use Rattle.palm_read.specs.declared.line.Line.TheVariants.{Var, Add, SolveDbt}
-use Rattle.palm_read.specs.declared.line.Shape.TheVariants.{CompareVar, Linear}
+use Rattle.palm_read.specs.declared.line.Shape.TheVariants.{CompareVar, Linear, Within}
 use Rattle.palm_read.specs.declared.line.NameTerm.{NameTerm}
+use Rattle.palm_read.specs.declared.line.DomainText.{DomainText}
 use Rattle.palm_read.specs.declared.line.DomainText.TheVariants.{Set}
+use Rattle.palm_read.specs.declared.mode.Mode.{Mode}
 use Rattle.palm_read.proofs.cited.AllOfBoth.{all_left, all_right}
 use Rattle.palm_read.proofs.cited.Sets.{contains_here, contains_there, rises_set, same_rising, set_member, member_set}
 
@@ -46,6 +49,7 @@ canonical_term t = record { minus = t.minus; factor = canonical_factor t.factor;
 abbrev pub canonical_shape : ShapeForm → ShapeForm
 canonical_shape (CompareVarForm left op right offset) = CompareVarForm left op right (canonical_offset offset)
 canonical_shape (LinearForm terms op bound) = LinearForm (map canonical_term terms) op bound
+canonical_shape (WithinForm var domain) = WithinForm var (canonical_domain domain)
 canonical_shape shape = shape
 
 -- the budget that a search without one has is left out
@@ -55,6 +59,7 @@ canonical_budget (Some z) = if count_in z == NO_BUDGET then None else Some z
 
 abbrev pub canonical : Form → Form
 canonical (DeclareForm name domain) = DeclareForm name (canonical_domain domain)
+canonical (DeclareInForm name universe domain) = DeclareInForm name (canonical_domain universe) (canonical_domain domain)
 canonical (AddForm name shape) = AddForm name (canonical_shape shape)
 canonical (SolveDbtForm budget) = SolveDbtForm (canonical_budget budget)
 canonical form = form
@@ -63,6 +68,10 @@ canonical form = form
 
 set_again : (vs : List ℤ) → set_of (set_of vs) ≡ set_of vs
 set_again vs = same_rising (set_of (set_of vs)) (set_of vs) (rises_set (set_of vs)) (rises_set vs) (set_member (set_of vs)) (member_set (set_of vs))
+
+domain_again : (d : DomainForm) → domain_of (canonical_domain d) ≡ domain_of d
+domain_again (Interval low high) = refl
+domain_again (Members vs) = ap Set (set_again vs)
 
 offset_again : (k : OffsetForm) → offset_of (canonical_offset k) ≡ offset_of k
 offset_again NoOffset = refl
@@ -84,6 +93,7 @@ terms_again (t ∷ ts) = rw (factor_again t.factor, terms_again ts) refl
 shape_again : (s : ShapeForm) → shape_of (canonical_shape s) ≡ shape_of s
 shape_again (CompareVarForm left op right k) = ap (CompareVar left op right) (offset_again k)
 shape_again (LinearForm ts op b) = ap (λ (terms : List NameTerm). Linear terms op b) (terms_again ts)
+shape_again (WithinForm var domain) = ap (λ (d : DomainText). Within var d) (domain_again domain)
 shape_again _ = refl
 
 budget_again : (b : Option ℤ) → budget_of (canonical_budget b) ≡ budget_of b
@@ -95,8 +105,8 @@ budget_again (Some z) = go (nat_eq (count_in z) NO_BUDGET) refl
     go false e = refl
 
 pub canonical_line : (form : Form) → line_of (canonical form) ≡ line_of form
-canonical_line (DeclareForm name (Interval low high)) = refl
-canonical_line (DeclareForm name (Members vs)) = ap (λ (s : List ℤ). Var name (Set s)) (set_again vs)
+canonical_line (DeclareForm name domain) = ap (Var name) (domain_again domain)
+canonical_line (DeclareInForm name universe domain) = rw (domain_again universe, domain_again domain) refl
 canonical_line (AddForm name shape) = ap (Add name) (shape_again shape)
 canonical_line (SolveDbtForm b) = ap SolveDbt (budget_again b)
 canonical_line _ = refl
@@ -110,13 +120,18 @@ some_canon (t ∷ ts) h = omega arith
 proper_shape : (s : ShapeForm) → IsProperShape s → IsProperShape (canonical_shape s)
 proper_shape (CompareVarForm left op right k) p = tt
 proper_shape (LinearForm ts op b) p = (some_canon ts p.0, p.1)
+proper_shape (WithinForm var domain) p = tt
 proper_shape _ p = p
 
 pub canonical_proper : (form : Form) → IsProper form → IsProper (canonical form)
 canonical_proper (AddForm name shape) p = proper_shape shape p
 canonical_proper (DeclareForm name domain) p = tt
+canonical_proper (DeclareInForm name universe domain) p = tt
 canonical_proper (SolveDbtForm b) p = tt
 canonical_proper _ p = p
+
+pub canonical_allowed : (mode : Mode) (form : Form) → Allows mode (line_of form) → Allows mode (line_of (canonical form))
+canonical_allowed mode form allowed = subst (Allows mode) (sym (canonical_line form)) allowed
 
 pub canonical_something : (form : Form) → (HasNothing (line_of form) → ⊥) → HasNothing (line_of (canonical form)) → ⊥
 canonical_something form some h = some (subst HasNothing (canonical_line form) h)

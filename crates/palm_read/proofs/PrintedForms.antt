@@ -3,15 +3,16 @@ use Rattle.std.proofs.Common.{◌≡◌, ℕ, ℤ, ◌+◌, ◌*◌, ◌<◌, �
 use Rattle.std.specs.Fmt.{decimal, signed_decimal}
 use Rattle.std.specs.Prelude.{option_to_list}
 use Rattle.std.proofs.lemmas.Bool.{cases_lt}
+use Rattle.std.proofs.lemmas.Fmt.{decimal_digit}
 use Rattle.std.proofs.lemmas.List.{length-map, length-append, append-nil}
 use Rattle.std.proofs.lemmas.List.Elements.{All-weaker}
 use Rattle.palm_read.specs.Name.{IsNameText}
 use Rattle.palm_read.specs.Domain.{DomainForm, Interval, Members, domain_pieces, domain_numbers, IsLarge, set_of, count_in, domain_of, domain_text}
-use Rattle.palm_read.specs.Form.{ShapeForm, CompareVarForm, CompareConstForm, LinearForm, TableForm, ElementForm, CountForm, DifferForm, Form, DeclareForm, AddForm, RelaxForm, EnforceForm, RetractForm, DomainsForm, DomainOfForm, ListForm, LogForm, WhyForm, ConflictForm, MinimalConflictForm, MinimalForm, PauseForm, ResumeForm, StepForm, SolveDbtForm, SolveRepairForm, CertForm, CertConflictForm, GuideForm, GuideNoneForm, OrderForm, OrderNoneForm, DropGuideForm, DropOrderForm, QuitForm}
+use Rattle.palm_read.specs.Form.{ShapeForm, CompareVarForm, CompareConstForm, LinearForm, TableForm, ElementForm, CountForm, DifferForm, WithinForm, Form, HeaderForm, DeclareForm, DeclareInForm, AddForm, RelaxForm, EnforceForm, RetractForm, DomainsForm, DomainOfForm, ListForm, LogForm, WhyForm, ConflictForm, MinimalConflictForm, MinimalForm, PauseForm, ResumeForm, StepForm, SolveDbtForm, SolveRepairForm, CertForm, CertConflictForm, GuideForm, GuideNoneForm, OrderForm, OrderNoneForm, DropGuideForm, DropOrderForm, QuitForm}
 use Rattle.palm_read.specs.Linear.{TermForm, linear_terms, term_of}
 use Rattle.palm_read.specs.Count.{target_pieces, line_target_names, line_target}
 use Rattle.palm_read.specs.Grammar.{shape_pieces, budget_pieces, pieces, IsProper, IsProperShape}
-use Rattle.palm_read.specs.Piece.{Piece, Keyword, Named, Mark, Integer, op_text, in_parentheses}
+use Rattle.palm_read.specs.Piece.{Piece, Keyword, Named, Mark, Integer, Numeral, op_text, in_parentheses}
 use Rattle.palm_read.specs.Bounds.{IsWithin, a_value, from_one_to}
 use Rattle.palm_read.specs.Limits.{shape_numbers, numbers, HasNothing, IsBeyond, HasManyRows, names_of}
 use Rattle.palm_read.specs.Reading.{shape_of, budget_of, line_of}
@@ -19,18 +20,29 @@ use Rattle.palm_read.specs.declared.limits.TheConstants.{NO_BUDGET}
 use Rattle.palm_read.specs.Text.{shape_words, line_words}
 use Rattle.palm_read.specs.declared.line.NameTerm.{NameTerm}
 use Rattle.palm_read.proofs.Ranges.{term_numbers, a_bound}
-use Rattle.palm_read.proofs.cited.Layouts.{Apart, apart_no_digit, Lays, lays_weaker, Words, is_word, words_none, words_next, words_append, words_weaker, words_keyword, words_name, words_op, words_mark, words_number}
+use Rattle.palm_read.proofs.cited.Layouts.{Apart, apart_no_digit, Lays, lays_weaker, lays_numeral, Words, is_word, words_none, words_next, words_append, words_weaker, words_keyword, words_name, words_op, words_mark, words_number}
 use Rattle.palm_read.proofs.Canonical.{canonical_domain, canonical_shape, canonical_budget, canonical, AreWithin, within_left, within_right, set_within}
 use Rattle.palm_read.proofs.Refusals.{in_zeros}
 use Rattle.palm_read.proofs.cited.PrintedParts.{names_left, names_right, words_names, lays_value, lays_bound, lays_counted, lays_set, lays_row, lays_range, words_rows, words_linear, words_offset, words_target, HasNames}
 
--- ---- constraints
+not_above : (most n : ℕ) → (most < n → ⊥) → n ≤ most
+not_above most n h = elim (cases_lt most n) [ inl lt ↦ absurd (h lt) | inr le ↦ le ]
+
+-- ---- domains
+
+lays_domain : (d : DomainForm) → AreWithin (domain_numbers d) → (IsLarge (domain_of d) → ⊥) → Lays Apart 2399 (domain_text (domain_of d)) (domain_pieces (canonical_domain d))
+lays_domain (Interval low high) w near = lays_weaker 2399 (lays_range low high w.0 w.1.0) (omega arith) apart_no_digit
+lays_domain (Members vs) w near =
+    let short = not_above 256 (length (set_of vs)) near in
+    lays_weaker 2399 (lays_set (set_of vs) (set_within vs w)) (omega arith) (λ rest a. tt)
 
 words_last : {n : ℕ} {w : List ℕ} (ps : List Piece) → Lays Apart n w ps → Words (1 + n) (w ∷ []) ps
 words_last {n = n} {w = w} ps l = subst (λ qs. Words (1 + n) (w ∷ []) qs) (append-nil ps) (words_weaker (1 + n) (words_next l words_none) (omega arith))
 
-not_above : (most n : ℕ) → (most < n → ⊥) → n ≤ most
-not_above most n h = elim (cases_lt most n) [ inl lt ↦ absurd (h lt) | inr le ↦ le ]
+words_domain : (d : DomainForm) → AreWithin (domain_numbers d) → (IsLarge (domain_of d) → ⊥) → Words 2400 (domain_text (domain_of d) ∷ []) (domain_pieces (canonical_domain d))
+words_domain d w near = words_last (domain_pieces (canonical_domain d)) (lays_domain d w near)
+
+-- ---- constraints
 
 few_terms : (ts : List TermForm) → length (map (λ t. t.name) (map term_of ts)) ≤ 16 → length ts ≤ 16
 few_terms ts h = omega (arith, length-map (map term_of ts) (λ (t : NameTerm). t.name), length-map ts term_of)
@@ -66,6 +78,8 @@ words_shape name (CountForm v vars op t) p some w h few rows =
     words_weaker 40000 (words_keyword (codes "count") refl (words_number (lays_value v w.0) (words_append names (words_op op target)))) (omega arith)
 words_shape name (DifferForm vars) p some w h few rows =
     words_weaker 40000 (words_keyword (codes "differ") refl (words_names vars h)) (omega arith)
+words_shape name (WithinForm var domain) p some w h few near =
+    words_weaker 40000 (words_name var h.0 (words_keyword (codes "in") refl (words_domain domain w near))) (omega arith)
 
 -- ---- lines
 
@@ -76,13 +90,6 @@ words_budget (Some z) w = go (nat_eq (count_in z) NO_BUDGET)
     go : (t : Bool) → Words 28 (cond t [] (codes "budget" ∷ decimal (count_in z) ∷ [])) (budget_pieces (cond t None (Some z)))
     go true = words_weaker 28 words_none (omega arith)
     go false = words_weaker 28 (words_keyword (codes "budget") refl (words_number (lays_counted NO_BUDGET z (omega arith) w.0) words_none)) (omega arith)
-
-words_domain : (name : List ℕ) (d : DomainForm) → AreWithin (domain_numbers d) → (IsLarge (domain_of d) → ⊥) → Words 2400 (domain_text (domain_of d) ∷ []) (domain_pieces (canonical_domain d))
-words_domain name (Interval low high) w near =
-    words_weaker 2400 (words_last (domain_pieces (Interval low high)) (lays_weaker 18 (lays_range low high w.0 w.1.0) (omega arith) apart_no_digit)) (omega arith)
-words_domain name (Members vs) w near =
-    let short = not_above 256 (length (set_of vs)) near in
-    words_weaker 2400 (words_last (domain_pieces (Members (set_of vs))) (lays_weaker (2 + length (set_of vs) * 9) (lays_set (set_of vs) (set_within vs w)) (omega arith) (λ rest a. tt))) (omega arith)
 
 -- words of the language and a name
 words_alone : (text : List ℕ) → is_word text ≡ true → length text ≤ 10 → Words 11 (text ∷ []) (Keyword text ∷ [])
@@ -100,13 +107,24 @@ words_pair text name v is short t w = words_weaker 53 (words_keyword text is (wo
 words_number_of : (text : List ℕ) (z : ℤ) → is_word text ≡ true → length text ≤ 10 → IsWithin (from_one_to 1000000 z) → Words 32 (text ∷ decimal (count_in z) ∷ []) (Keyword text ∷ Integer z ∷ [])
 words_number_of text z is short w = words_weaker 32 (words_keyword text is (words_number (lays_counted 1000000 z (omega arith) w) words_none)) (omega arith)
 
+-- the header
+words_header : Words 7 (codes "palm" ∷ codes "2" ∷ []) (Keyword (codes "palm") ∷ Numeral (codes "2") ∷ [])
+words_header =
+    let two = lays_weaker 1 (lays_numeral 1 2 (omega arith) (omega arith) (omega arith)) (omega arith) apart_no_digit in
+    subst (λ t. Words 7 (codes "palm" ∷ t ∷ []) (Keyword (codes "palm") ∷ Numeral t ∷ [])) (decimal_digit 2 (omega arith)) (words_keyword (codes "palm") refl (words_last (Numeral (decimal 2) ∷ []) two))
+
 -- each line is printed in words that spell its canonical form
 abbrev IsPrinted : Form → Type 0
 IsPrinted form = Words 50000 (line_words (line_of form)) (pieces (canonical form))
 
 pub words_line : (form : Form) → IsProper form → (HasNothing (line_of form) → ⊥) → AreWithin (numbers form) → HasNames (pieces form) → (IsBeyond (line_of form) → ⊥) → IsPrinted form
+words_line HeaderForm p some w h near = words_weaker 50000 words_header (omega arith)
 words_line (DeclareForm name domain) p some w h near =
-    words_weaker 50000 (words_keyword (codes "var") refl (words_name name h.0 (words_domain name domain w near))) (omega arith)
+    words_weaker 50000 (words_keyword (codes "var") refl (words_name name h.0 (words_domain domain w near))) (omega arith)
+words_line (DeclareInForm name universe domain) p some w h near =
+    let first = lays_domain universe (within_left (domain_numbers universe) (domain_numbers domain) w) (λ l. near (inl l)) in
+    let second = words_domain domain (within_right (domain_numbers universe) (domain_numbers domain) w) (λ r. near (inr r)) in
+    words_weaker 50000 (words_keyword (codes "var") refl (words_name name h.0 (words_next first (words_keyword (codes "in") refl second)))) (omega arith)
 words_line (AddForm name shape) p some w h near =
     let few = not_above 16 (length (names_of (shape_of shape))) (λ l. near (inl l)) in
     words_weaker 50000 (words_keyword (codes "add") refl (words_name name h.0 (words_mark 58 refl refl (words_shape name shape p some w h.1 few (λ m. near (inr m)))))) (omega arith)

@@ -12,7 +12,7 @@ use Rattle.palm_read.specs.Comparison.{offset_numbers, OffsetForm, NoOffset, Plu
 use Rattle.palm_read.specs.Count.{IsSoundTarget, target_numbers, TargetForm, Number, Variable, line_target}
 use Rattle.palm_read.specs.Domain.{domain_numbers, DomainForm, Interval, Members, set_of, count_in, domain_of}
 use Rattle.palm_read.specs.Limits.{shape_numbers, numbers, IsDomainInRange, IsInRange, IsShapeInRange}
-use Rattle.palm_read.specs.Form.{ShapeForm, CompareVarForm, CompareConstForm, LinearForm, TableForm, ElementForm, CountForm, DifferForm, Form, DeclareForm, AddForm, WhyForm, MinimalForm, StepForm, SolveDbtForm, SolveRepairForm, CertForm, GuideForm, OrderForm, DropGuideForm, DropOrderForm}
+use Rattle.palm_read.specs.Form.{ShapeForm, CompareVarForm, CompareConstForm, LinearForm, TableForm, ElementForm, CountForm, DifferForm, WithinForm, Form, DeclareForm, DeclareInForm, AddForm, WhyForm, MinimalForm, StepForm, SolveDbtForm, SolveRepairForm, CertForm, GuideForm, OrderForm, DropGuideForm, DropOrderForm}
 use Rattle.palm_read.specs.Linear.{TermForm, signed, term_of}
 use Rattle.palm_read.specs.Reading.{shape_of, line_of}
 use Rattle.palm_read.specs.declared.limits.TheConstants.{NO_BUDGET}
@@ -185,7 +185,7 @@ in_terms [] h = All-nil IsWithin
 in_terms (t ∷ ts) h =
     All-append IsWithin (term_numbers t) (flat_map term_numbers ts) (in_factor t.minus t.factor (All-head (λ u. IsUpTo 100000 u.factor) (term_of (held_term t)) (map term_of (map held_term ts)) h)) (in_terms ts (All-tail (λ u. IsUpTo 100000 u.factor) (term_of (held_term t)) (map term_of (map held_term ts)) h))
 
--- ---- constraints
+-- ---- one number, offsets and targets
 
 one_number : (b : Bounded) → All IsWithin (b ∷ []) → IsWithin b
 one_number b w = All-head IsWithin b [] w
@@ -220,41 +220,6 @@ in_target : (t : TargetForm) → IsSoundTarget (line_target (held_target t)) →
 in_target (Number v) h = number_one (a_value v) (in_value v h)
 in_target (Variable name) h = All-nil IsWithin
 
-abbrev pub a_bound : ℤ → Bounded
-a_bound b = record { number = b; least = neg_ℤ (pos 1000000000000); greatest = pos 1000000000000 }
-
-same_shape : (s : ShapeForm) → IsShapeInRange (shape_of s) → held_shape s ≡ s
-same_shape (CompareVarForm left op right k) h = ap (CompareVarForm left op right) (same_offset k h)
-same_shape (CompareConstForm left op v) h = ap (CompareConstForm left op) (same_value v h)
-same_shape (LinearForm ts op b) h = rw (same_terms ts h.0, same_bound b h.1) refl
-same_shape (TableForm vars rows) h = ap (TableForm vars) (same_rows rows h)
-same_shape (ElementForm outcome index entries) h = ap (ElementForm outcome index) (same_values entries h)
-same_shape (CountForm v vars op t) h = rw (same_value v h.0, same_target t h.1) refl
-same_shape (DifferForm vars) h = refl
-
-shape_in : (s : ShapeForm) → All IsWithin (shape_numbers s) → IsShapeInRange (shape_of s)
-shape_in (CompareVarForm left op right k) w = offset_in k w
-shape_in (CompareConstForm left op v) w = value_in v (one_number (a_value v) w)
-shape_in (LinearForm ts op b) w =
-    let bound = one_number (a_bound b) (all_right IsWithin (flat_map term_numbers ts) (a_bound b ∷ []) w) in
-    (terms_in ts (all_left IsWithin (flat_map term_numbers ts) (a_bound b ∷ []) w), record { above = bound.0; below = bound.1 })
-shape_in (TableForm vars rows) w = rows_in rows w
-shape_in (ElementForm outcome index entries) w = values_in entries w
-shape_in (CountForm v vars op t) w =
-    (value_in v (All-head IsWithin (a_value v) (target_numbers t) w), target_in t (All-tail IsWithin (a_value v) (target_numbers t) w))
-shape_in (DifferForm vars) w = tt
-
-in_shape : (s : ShapeForm) → IsShapeInRange (shape_of (held_shape s)) → All IsWithin (shape_numbers s)
-in_shape (CompareVarForm left op right k) h = in_offset k h
-in_shape (CompareConstForm left op v) h = number_one (a_value v) (in_value v h)
-in_shape (LinearForm ts op b) h =
-    All-append IsWithin (flat_map term_numbers ts) (a_bound b ∷ []) (in_terms ts h.0) (number_one (a_bound b) (in_bound b h.1))
-in_shape (TableForm vars rows) h = in_rows rows h
-in_shape (ElementForm outcome index entries) h = in_values entries h
-in_shape (CountForm v vars op t) h =
-    All-cons IsWithin (a_value v) (target_numbers t) (in_value v h.0) (in_target t h.1)
-in_shape (DifferForm vars) h = All-nil IsWithin
-
 -- ---- domains
 
 same_domain : (d : DomainForm) → IsDomainInRange (domain_of d) → held_domain d ≡ d
@@ -271,6 +236,46 @@ in_domain (Interval low high) h =
     All-cons IsWithin (a_value low) (a_value high ∷ []) (in_value low h.0) (number_one (a_value high) (in_value high h.1))
 in_domain (Members vs) h = in_values vs (in_set (map held_value vs) h)
 
+-- ---- constraints
+
+abbrev pub a_bound : ℤ → Bounded
+a_bound b = record { number = b; least = neg_ℤ (pos 1000000000000); greatest = pos 1000000000000 }
+
+same_shape : (s : ShapeForm) → IsShapeInRange (shape_of s) → held_shape s ≡ s
+same_shape (CompareVarForm left op right k) h = ap (CompareVarForm left op right) (same_offset k h)
+same_shape (CompareConstForm left op v) h = ap (CompareConstForm left op) (same_value v h)
+same_shape (LinearForm ts op b) h = rw (same_terms ts h.0, same_bound b h.1) refl
+same_shape (TableForm vars rows) h = ap (TableForm vars) (same_rows rows h)
+same_shape (ElementForm outcome index entries) h = ap (ElementForm outcome index) (same_values entries h)
+same_shape (CountForm v vars op t) h = rw (same_value v h.0, same_target t h.1) refl
+same_shape (DifferForm vars) h = refl
+same_shape (WithinForm var domain) h = ap (WithinForm var) (same_domain domain h)
+
+shape_in : (s : ShapeForm) → All IsWithin (shape_numbers s) → IsShapeInRange (shape_of s)
+shape_in (CompareVarForm left op right k) w = offset_in k w
+shape_in (CompareConstForm left op v) w = value_in v (one_number (a_value v) w)
+shape_in (LinearForm ts op b) w =
+    let bound = one_number (a_bound b) (all_right IsWithin (flat_map term_numbers ts) (a_bound b ∷ []) w) in
+    (terms_in ts (all_left IsWithin (flat_map term_numbers ts) (a_bound b ∷ []) w), record { above = bound.0; below = bound.1 })
+shape_in (TableForm vars rows) w = rows_in rows w
+shape_in (ElementForm outcome index entries) w = values_in entries w
+shape_in (CountForm v vars op t) w =
+    (value_in v (All-head IsWithin (a_value v) (target_numbers t) w), target_in t (All-tail IsWithin (a_value v) (target_numbers t) w))
+shape_in (DifferForm vars) w = tt
+shape_in (WithinForm var domain) w = domain_in domain w
+
+in_shape : (s : ShapeForm) → IsShapeInRange (shape_of (held_shape s)) → All IsWithin (shape_numbers s)
+in_shape (CompareVarForm left op right k) h = in_offset k h
+in_shape (CompareConstForm left op v) h = number_one (a_value v) (in_value v h)
+in_shape (LinearForm ts op b) h =
+    All-append IsWithin (flat_map term_numbers ts) (a_bound b ∷ []) (in_terms ts h.0) (number_one (a_bound b) (in_bound b h.1))
+in_shape (TableForm vars rows) h = in_rows rows h
+in_shape (ElementForm outcome index entries) h = in_values entries h
+in_shape (CountForm v vars op t) h =
+    All-cons IsWithin (a_value v) (target_numbers t) (in_value v h.0) (in_target t h.1)
+in_shape (DifferForm vars) h = All-nil IsWithin
+in_shape (WithinForm var domain) h = in_domain domain h
+
 -- ---- lines
 
 abbrev a_step : ℤ → Bounded
@@ -282,6 +287,7 @@ a_budget z = from_one_to NO_BUDGET z
 -- a form that says a line in range is held as it is
 pub same_form : (form : Form) → IsInRange (line_of form) → held_form form ≡ form
 same_form (DeclareForm name domain) h = ap (DeclareForm name) (same_domain domain h)
+same_form (DeclareInForm name universe domain) h = rw (same_domain universe h.0, same_domain domain h.1) refl
 same_form (AddForm name shape) h = ap (AddForm name) (same_shape shape h)
 same_form (WhyForm name v) h = ap (WhyForm name) (same_value v h)
 same_form (MinimalForm name v) h = ap (MinimalForm name) (same_value v h)
@@ -299,6 +305,8 @@ same_form _ h = refl
 -- a line is in range where the numbers of its form are
 pub numbers_in : (form : Form) → All IsWithin (numbers form) → IsInRange (line_of form)
 numbers_in (DeclareForm name domain) w = domain_in domain w
+numbers_in (DeclareInForm name universe domain) w =
+    (domain_in universe (all_left IsWithin (domain_numbers universe) (domain_numbers domain) w), domain_in domain (all_right IsWithin (domain_numbers universe) (domain_numbers domain) w))
 numbers_in (AddForm name shape) w = shape_in shape w
 numbers_in (WhyForm name v) w = value_in v (one_number (a_value v) w)
 numbers_in (MinimalForm name v) w = value_in v (one_number (a_value v) w)
@@ -317,6 +325,8 @@ numbers_in _ w = tt
 -- and they are where the line that is held is in range
 in_numbers : (form : Form) → IsInRange (held_line form) → All IsWithin (numbers form)
 in_numbers (DeclareForm name domain) h = in_domain domain h
+in_numbers (DeclareInForm name universe domain) h =
+    All-append IsWithin (domain_numbers universe) (domain_numbers domain) (in_domain universe h.0) (in_domain domain h.1)
 in_numbers (AddForm name shape) h = in_shape shape h
 in_numbers (WhyForm name v) h = number_one (a_value v) (in_value v h)
 in_numbers (MinimalForm name v) h = number_one (a_value v) (in_value v h)

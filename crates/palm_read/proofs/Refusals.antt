@@ -8,12 +8,14 @@ use Rattle.std.proofs.lemmas.Slice.Eq.{bytes_eq-Decides}
 use Rattle.palm_base.proofs.cited.Members.{int_known}
 use Rattle.palm_read.specs.Domain.{set_of}
 use Rattle.palm_read.specs.Linear.{TermForm, signed, term_of}
-use Rattle.palm_read.specs.Limits.{HasNothing, HasRepeat, Repeats, names_of}
+use Rattle.palm_read.specs.Limits.{HasNoValue, HasNothing, HasRepeat, Repeats, names_of}
+use Rattle.palm_read.specs.declared.line.DomainText.{DomainText}
 use Rattle.palm_read.specs.declared.line.DomainText.TheVariants.{Range, Set}
 use Rattle.palm_read.specs.declared.line.Line.{Line}
-use Rattle.palm_read.specs.declared.line.Line.TheVariants.{Var, Add}
+use Rattle.palm_read.specs.declared.line.Line.TheVariants.{Var, VarIn, Add}
 use Rattle.palm_read.specs.declared.line.NameTerm.{NameTerm}
-use Rattle.palm_read.specs.declared.line.Shape.TheVariants.{Linear, Table, Element}
+use Rattle.palm_read.specs.declared.line.Shape.TheVariants.{Linear, Table, Element, Within}
+use Rattle.palm_read.proofs.cited.KnownLimits.{known_either}
 use Rattle.palm_read.proofs.cited.Sets.{contains_here, contains_there, contains_cases, member_set}
 
 -- ---- nothing where something has to stand, as it is written
@@ -93,12 +95,17 @@ zeros_decided (t ∷ ts) =
       ]
     ]
 
+no_value_decided : (domain : DomainText) → HasNoValue domain ⊎ (HasNoValue domain → ⊥)
+no_value_decided (Range low high) = by_lt_z high low (λ l. inl l) (λ l. inr (λ h. absurd (omega (arith, ints, l, h))))
+no_value_decided (Set values) = nil_decided values
+
 pub nothing_decided : (line : Line) → HasNothing line ⊎ (HasNothing line → ⊥)
-nothing_decided (Var name (Range low high)) = by_lt_z high low (λ l. inl l) (λ l. inr (λ h. absurd (omega (arith, ints, l, h))))
-nothing_decided (Var name (Set values)) = nil_decided values
+nothing_decided (Var name domain) = no_value_decided domain
+nothing_decided (VarIn name universe domain) = known_either (no_value_decided universe) (no_value_decided domain)
 nothing_decided (Add name (Linear terms op bound)) = zeros_decided terms
 nothing_decided (Add name (Table vars rows)) = nil_decided rows
 nothing_decided (Add name (Element outcome index entries)) = nil_decided entries
+nothing_decided (Add name (Within var domain)) = no_value_decided domain
 nothing_decided _ = inr (λ h. h)
 
 contains_decided : (w : List ℕ) (ws : List (List ℕ)) → Contains ws w ⊎ (Contains ws w → ⊥)

@@ -9,7 +9,7 @@ use Rattle.std.proofs.lemmas.Option.{same_Some}
 use Rattle.palm_model.specs.Linear.{IsLinearOp}
 use Rattle.palm_model.specs.declared.constraint.Op.{Op}
 use Rattle.palm_model.specs.declared.constraint.Op.TheVariants.{Eq, Ne, Lt, Le, Gt, Ge}
-use Rattle.palm_read.specs.declared.tokens.TokenKind.TheVariants.{Sign}
+use Rattle.palm_read.specs.declared.tokens.TokenKind.TheVariants.{Word, Sign}
 use Rattle.palm_read.specs.Token.{Lexeme}
 use Rattle.palm_read.specs.Comparison.{offset_pieces, OffsetForm, NoOffset, Plus, Minus}
 use Rattle.palm_read.specs.Count.{target_pieces, TargetForm, Number, Variable}
@@ -18,9 +18,9 @@ use Rattle.palm_read.specs.Grammar.{shape_pieces, IsProperShape}
 use Rattle.palm_read.specs.Linear.{linear_unsigned_term, linear_first_term, linear_terms, TermForm}
 use Rattle.palm_read.specs.Name.{IsName}
 use Rattle.palm_read.specs.Piece.{Named, Mark, Integer, word, sign, op_text, in_parentheses}
-use Rattle.palm_read.specs.Form.{ShapeForm, CompareVarForm, CompareConstForm, LinearForm, TableForm, ElementForm, CountForm, DifferForm}
+use Rattle.palm_read.specs.Form.{ShapeForm, CompareVarForm, CompareConstForm, LinearForm, TableForm, ElementForm, CountForm, DifferForm, WithinForm}
 use Rattle.palm_read.specs.Reader.Lists.{next_name, names_at, next_row}
-use Rattle.palm_read.specs.Reader.Shapes.{linear_next_term, linear_first_term_at, linear_terms_at, interval_at, domain_at, offset_at, comparison_at, is_linear_op, linear_at, table_at, element_at, target_at, count_at, differ_at, shape_at}
+use Rattle.palm_read.specs.Reader.Shapes.{linear_next_term, linear_first_term_at, linear_terms_at, interval_at, domain_at, offset_at, comparison_at, within_at, of_name_at, is_linear_op, linear_at, table_at, element_at, target_at, count_at, differ_at, shape_at}
 use Rattle.palm_read.specs.Reader.Steps.{and_then, when, choose, front_text, token_at, behind, keyword_at, mark_at, name_at, op_of, op_at}
 use Rattle.palm_read.proofs.cited.Front.{Starts, digits_first, minus_first, and_then_some, when_some, choose_some, guard_some, same_text, token_is, behind-cons, name_at-cons, natural_at-cons, integer_at-starts}
 use Rattle.palm_read.proofs.cited.Begins.{Begins, over, begins_over, begins_then, begins_split, by_keyword, by_mark, by_name, by_natural, by_integer, keyword_first, mark_first, name_first, natural_first, integer_first}
@@ -162,40 +162,66 @@ starts_no_name minus_first = refl
 abbrev pub Proper : ShapeForm × List Lexeme → List Lexeme → Type 0
 Proper x tokens = Begins tokens (shape_pieces x.0) x.1 × IsProperShape x.0
 
-comparison_takes : (tokens : List Lexeme) (x : ShapeForm × List Lexeme) → comparison_at tokens ≡ Some x → Proper x tokens
+comparison_takes : (tokens : List Lexeme) (left : List ℕ × List Lexeme) (x : ShapeForm × List Lexeme) → name_at tokens ≡ Some left → comparison_at left.0 left.1 ≡ Some x → Proper x tokens
 unfolding comparison_at
-comparison_takes tokens x e =
-    let left = and_then_some e in
-    let op = and_then_some left.2 in
-    let relation = op_takes left.0.1 op.0 op.1 in
+comparison_takes tokens left x n e =
+    let op = and_then_some e in
+    let relation = op_takes left.1 op.0 op.1 in
     elim (when_some op.2) [
       | inl w ↦
           let offset = and_then_some w.2 in
-          let made : ShapeForm × List Lexeme = (CompareVarForm left.0.0 op.0.0 w.0.0 offset.0.0, offset.0.1) in
-          let taken : Proper made tokens = (by_name left.1 (by_mark relation (by_name w.1 (offset_takes w.0.1 offset.0 offset.1))), tt) in
+          let made : ShapeForm × List Lexeme = (CompareVarForm left.0 op.0.0 w.0.0 offset.0.0, offset.0.1) in
+          let taken : Proper made tokens = (by_name n (by_mark relation (by_name w.1 (offset_takes w.0.1 offset.0 offset.1))), tt) in
           subst (λ y. Proper y tokens) (same_Some made x offset.2) taken
       | inr w ↦
           let value = and_then_some w.1 in
-          let made : ShapeForm × List Lexeme = (CompareConstForm left.0.0 op.0.0 value.0.0, value.0.1) in
-          let taken : Proper made tokens = (by_name left.1 (by_mark relation (by_integer value.1 over)), tt) in
+          let made : ShapeForm × List Lexeme = (CompareConstForm left.0 op.0.0 value.0.0, value.0.1) in
+          let taken : Proper made tokens = (by_name n (by_mark relation (by_integer value.1 over)), tt) in
           subst (λ y. Proper y tokens) (same_Some made x value.2) taken
     ]
 
-compare_var_again : (left : List ℕ) (op : Op) (right : List ℕ) (k : OffsetForm) (tokens : List Lexeme) → Begins tokens (shape_pieces (CompareVarForm left op right k)) [] → comparison_at tokens ≡ Some (CompareVarForm left op right k, [])
-unfolding comparison_at when and_then
+-- a sign in front is no word
+sign_no_word : (text w : List ℕ) (rest : List Lexeme) → keyword_at w (sign text ∷ rest) ≡ None
+unfolding behind token_at front_text and_then choose
+sign_no_word text w rest = refl
+
+compare_var_again : (left : List ℕ) (op : Op) (right : List ℕ) (k : OffsetForm) (tokens : List Lexeme) → Begins tokens (shape_pieces (CompareVarForm left op right k)) [] → of_name_at tokens ≡ Some (CompareVarForm left op right k, [])
+unfolding of_name_at comparison_at when and_then
 compare_var_again left op right k tokens b =
     let l = name_first b in
     let m = mark_first l.3 in
     let r = name_first m.2 in
-    rw (l.1, name_at-cons left l.0 l.2, m.1, op_again op m.0, r.1, name_at-cons right r.0 r.2, offset_again k r.0 r.3) refl
+    rw (l.1, name_at-cons left l.0 l.2, m.1, sign_no_word (op_text op) (codes "in") m.0, op_again op m.0, r.1, name_at-cons right r.0 r.2, offset_again k r.0 r.3) refl
 
-compare_const_again : (left : List ℕ) (op : Op) (value : ℤ) (tokens : List Lexeme) → Begins tokens (shape_pieces (CompareConstForm left op value)) [] → comparison_at tokens ≡ Some (CompareConstForm left op value, [])
-unfolding comparison_at when and_then
+compare_const_again : (left : List ℕ) (op : Op) (value : ℤ) (tokens : List Lexeme) → Begins tokens (shape_pieces (CompareConstForm left op value)) [] → of_name_at tokens ≡ Some (CompareConstForm left op value, [])
+unfolding of_name_at comparison_at when and_then
 compare_const_again left op value tokens b =
     let l = name_first b in
     let m = mark_first l.3 in
     let v = integer_first m.2 in
-    rw (l.1, name_at-cons left l.0 l.2, m.1, op_again op m.0, starts_no_name v.1, integer_at-starts v.1, begins_over v.2) refl
+    rw (l.1, name_at-cons left l.0 l.2, m.1, sign_no_word (op_text op) (codes "in") m.0, op_again op m.0, starts_no_name v.1, integer_at-starts v.1, begins_over v.2) refl
+
+-- ---- within
+
+of_name_takes : (tokens : List Lexeme) (x : ShapeForm × List Lexeme) → of_name_at tokens ≡ Some x → Proper x tokens
+unfolding of_name_at within_at
+of_name_takes tokens x e =
+    let name = and_then_some e in
+    elim (when_some name.2) [
+      | inl w ↦
+          let domain = and_then_some w.2 in
+          let made : ShapeForm × List Lexeme = (WithinForm name.0.0 domain.0.0, domain.0.1) in
+          let taken : Proper made tokens = (by_name name.1 (by_keyword w.1 (domain_takes w.0 domain.0 domain.1)), tt) in
+          subst (λ y. Proper y tokens) (same_Some made x domain.2) taken
+      | inr w ↦ comparison_takes tokens name.0 x name.1 w.1
+    ]
+
+within_again : (var : List ℕ) (domain : DomainForm) (tokens : List Lexeme) → Begins tokens (shape_pieces (WithinForm var domain)) [] → of_name_at tokens ≡ Some (WithinForm var domain, [])
+unfolding of_name_at within_at when and_then
+within_again var domain tokens b =
+    let l = name_first b in
+    let k = keyword_first l.3 in
+    rw (l.1, name_at-cons var l.0 l.2, k.1, behind-cons Word (codes "in") k.0, domain_again domain k.0 [] k.2) refl
 
 -- ---- names
 
@@ -447,7 +473,7 @@ shape_takes tokens x e =
             | inl w ↦ count_takes tokens w.0 x w.1 w.2
             | inr w4 ↦ elim (when_some w4.1) [
               | inl w ↦ differ_takes tokens w.0 x w.1 w.2
-              | inr w ↦ comparison_takes tokens x w.1
+              | inr w ↦ of_name_takes tokens x w.1
             ]
           ]
         ]
@@ -459,8 +485,8 @@ pub other_word : (w text : List ℕ) (rest : List Lexeme) → (w ≡ text → �
 unfolding behind token_at front_text and_then choose
 other_word w text rest ne = rw (false_from_ne_true (bytes_eq w text) (λ e. ne (same_text w text e))) refl
 
--- a constraint that begins with a name is a comparison
-named_shape : (name : List ℕ) (tokens back : List Lexeme) → IsName name → tokens ≡ word name ∷ back → shape_at tokens ≡ comparison_at tokens
+-- a constraint that begins with a name
+named_shape : (name : List ℕ) (tokens back : List Lexeme) → IsName name → tokens ≡ word name ∷ back → shape_at tokens ≡ of_name_at tokens
 unfolding shape_at when
 named_shape name tokens back n e =
     rw (
@@ -480,6 +506,9 @@ shape_again (CompareVarForm left op right k) tokens proper b =
 shape_again (CompareConstForm left op value) tokens proper b =
     let l = name_first b in
     named_shape left tokens l.0 l.2 l.1 ∙ compare_const_again left op value tokens b
+shape_again (WithinForm var domain) tokens proper b =
+    let l = name_first b in
+    named_shape var tokens l.0 l.2 l.1 ∙ within_again var domain tokens b
 shape_again (LinearForm terms op bound) tokens proper b =
     let k = keyword_first b in
     rw k.1 (linear_again terms op bound k.0 proper k.2)

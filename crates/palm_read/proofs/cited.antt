@@ -8,6 +8,7 @@ pub mod KnownLimits
 pub mod Layouts
 pub mod LineForms
 pub mod Many
+pub mod Modes
 pub mod Parsing
 pub mod PlainTokens
 pub mod PrintedParts

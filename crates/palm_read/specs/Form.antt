@@ -15,10 +15,13 @@ pub data ShapeForm : Type 0 where
   ElementForm : (outcome : List ℕ) (index : List ℕ) (entries : List ℤ) → ShapeForm
   CountForm : (value : ℤ) (vars : List (List ℕ)) (op : Op) (target : TargetForm) → ShapeForm
   DifferForm : (vars : List (List ℕ)) → ShapeForm
+  WithinForm : (var : List ℕ) (domain : DomainForm) → ShapeForm
 
 -- a line
 pub data Form : Type 0 where
+  HeaderForm : Form
   DeclareForm : (name : List ℕ) (domain : DomainForm) → Form
+  DeclareInForm : (name : List ℕ) (universe domain : DomainForm) → Form
   AddForm : (name : List ℕ) (shape : ShapeForm) → Form
   RelaxForm : (name : List ℕ) → Form
   EnforceForm : (name : List ℕ) → Form

@@ -1,15 +1,16 @@
--- The grammar: which pieces each form is written with.
-use Rattle.std.specs.Prelude.{ℤ, Option, Some, None, List, [], ◌∷◌, ⊤, codes}
+-- The grammar: which pieces each form is written with. It has the forms of both versions of the language.
+use Rattle.std.specs.Prelude.{ℤ, Option, Some, None, List, [], ◌∷◌, ◌++◌, ⊤, codes}
 use Rattle.palm_read.specs.Comparison.{compare_var_pieces, compare_const_pieces}
 use Rattle.palm_read.specs.Count.{count_pieces, IsProperCount}
 use Rattle.palm_read.specs.Differ.{differ_pieces, IsProperDiffer}
 use Rattle.palm_read.specs.Domain.{domain_pieces}
 use Rattle.palm_read.specs.Element.{element_pieces}
-use Rattle.palm_read.specs.Form.{ShapeForm, CompareVarForm, CompareConstForm, LinearForm, TableForm, ElementForm, CountForm, DifferForm, Form, DeclareForm, AddForm, RelaxForm, EnforceForm, RetractForm, DomainsForm, DomainOfForm, ListForm, LogForm, WhyForm, ConflictForm, MinimalConflictForm, MinimalForm, PauseForm, ResumeForm, StepForm, SolveDbtForm, SolveRepairForm, CertForm, CertConflictForm, GuideForm, GuideNoneForm, OrderForm, OrderNoneForm, DropGuideForm, DropOrderForm, QuitForm}
+use Rattle.palm_read.specs.Form.{ShapeForm, CompareVarForm, CompareConstForm, LinearForm, TableForm, ElementForm, CountForm, DifferForm, WithinForm, Form, HeaderForm, DeclareForm, DeclareInForm, AddForm, RelaxForm, EnforceForm, RetractForm, DomainsForm, DomainOfForm, ListForm, LogForm, WhyForm, ConflictForm, MinimalConflictForm, MinimalForm, PauseForm, ResumeForm, StepForm, SolveDbtForm, SolveRepairForm, CertForm, CertConflictForm, GuideForm, GuideNoneForm, OrderForm, OrderNoneForm, DropGuideForm, DropOrderForm, QuitForm}
 use Rattle.palm_read.specs.Linear.{linear_pieces, IsProperLinear}
-use Rattle.palm_read.specs.Piece.{Piece, Keyword, Named, Mark, Integer, Spells}
+use Rattle.palm_read.specs.Piece.{Piece, Keyword, Named, Mark, Integer, Numeral, Spells}
 use Rattle.palm_read.specs.Table.{table_pieces, IsProperTable}
 use Rattle.palm_read.specs.Token.{Lexeme}
+use Rattle.palm_read.specs.Within.{within_pieces}
 
 abbrev pub shape_pieces : ShapeForm → List Piece
 shape_pieces (CompareVarForm left op right offset) = compare_var_pieces left op right offset
@@ -19,6 +20,7 @@ shape_pieces (TableForm vars rows) = table_pieces vars rows
 shape_pieces (ElementForm outcome index entries) = element_pieces outcome index entries
 shape_pieces (CountForm value vars op target) = count_pieces value vars op target
 shape_pieces (DifferForm vars) = differ_pieces vars
+shape_pieces (WithinForm var domain) = within_pieces var domain
 
 -- "budget" INT, or nothing
 abbrev pub budget_pieces : Option ℤ → List Piece
@@ -26,7 +28,10 @@ budget_pieces None = []
 budget_pieces (Some n) = Keyword (codes "budget") ∷ Integer n ∷ []
 
 abbrev pub pieces : Form → List Piece
+pieces HeaderForm = Keyword (codes "palm") ∷ Numeral (codes "2") ∷ []
 pieces (DeclareForm name domain) = Keyword (codes "var") ∷ Named name ∷ domain_pieces domain
+pieces (DeclareInForm name universe domain) =
+    Keyword (codes "var") ∷ Named name ∷ (domain_pieces universe ++ Keyword (codes "in") ∷ domain_pieces domain)
 pieces (AddForm name shape) = Keyword (codes "add") ∷ Named name ∷ Mark (codes ":") ∷ shape_pieces shape
 pieces (RelaxForm name) = Keyword (codes "relax") ∷ Named name ∷ []
 pieces (EnforceForm name) = Keyword (codes "enforce") ∷ Named name ∷ []
@@ -65,6 +70,7 @@ IsProperShape (TableForm vars rows) = IsProperTable vars rows
 IsProperShape (ElementForm outcome index entries) = ⊤
 IsProperShape (CountForm value vars op target) = IsProperCount vars
 IsProperShape (DifferForm vars) = IsProperDiffer vars
+IsProperShape (WithinForm var domain) = ⊤
 
 abbrev pub IsProper : Form → Type 0
 IsProper (AddForm name shape) = IsProperShape shape

@@ -11,6 +11,7 @@ pub mod Interval
 pub mod Limits
 pub mod Linear
 pub mod Lines
+pub mod Modes
 pub mod Name
 pub mod Piece
 pub mod Reader
@@ -19,4 +20,5 @@ pub mod Sound
 pub mod Table
 pub mod Text
 pub mod Token
+pub mod Within
 pub mod Words

@@ -8,16 +8,16 @@ use Rattle.palm_read.specs.Comparison.{offset_numbers, compare_const_numbers}
 use Rattle.palm_read.specs.Count.{IsSoundTarget, count_numbers, line_target_names}
 use Rattle.palm_read.specs.Domain.{domain_numbers, IsLarge}
 use Rattle.palm_read.specs.Element.{element_numbers, HasManyEntries}
-use Rattle.palm_read.specs.Form.{ShapeForm, CompareVarForm, CompareConstForm, LinearForm, TableForm, ElementForm, CountForm, DifferForm, Form, DeclareForm, AddForm, WhyForm, MinimalForm, StepForm, SolveDbtForm, SolveRepairForm, CertForm, GuideForm, OrderForm, DropGuideForm, DropOrderForm}
+use Rattle.palm_read.specs.Form.{ShapeForm, CompareVarForm, CompareConstForm, LinearForm, TableForm, ElementForm, CountForm, DifferForm, WithinForm, Form, DeclareForm, DeclareInForm, AddForm, WhyForm, MinimalForm, StepForm, SolveDbtForm, SolveRepairForm, CertForm, GuideForm, OrderForm, DropGuideForm, DropOrderForm}
 use Rattle.palm_read.specs.Linear.{linear_numbers}
 use Rattle.palm_read.specs.Table.{table_numbers, HasManyTableRows}
 use Rattle.palm_read.specs.declared.limits.TheConstants.{GREATEST_NUMBER, GREATEST_TABU, NO_BUDGET}
 use Rattle.palm_read.specs.declared.line.DomainText.{DomainText}
 use Rattle.palm_read.specs.declared.line.DomainText.TheVariants.{Range, Set}
 use Rattle.palm_read.specs.declared.line.Line.{Line}
-use Rattle.palm_read.specs.declared.line.Line.TheVariants.{Var, Add, Why, Minimal, Step, SolveDbt, SolveRepair, Cert, Guide, Order, DropGuide, DropOrder}
+use Rattle.palm_read.specs.declared.line.Line.TheVariants.{Var, VarIn, Add, Why, Minimal, Step, SolveDbt, SolveRepair, Cert, Guide, Order, DropGuide, DropOrder}
 use Rattle.palm_read.specs.declared.line.Shape.{Shape}
-use Rattle.palm_read.specs.declared.line.Shape.TheVariants.{CompareVar, CompareConst, Linear, Table, Element, Count, Differ}
+use Rattle.palm_read.specs.declared.line.Shape.TheVariants.{CompareVar, CompareConst, Linear, Table, Element, Count, Differ, Within}
 
 -- the values of a domain are values of the language
 abbrev pub IsDomainInRange : DomainText → Type 0
@@ -33,10 +33,12 @@ IsShapeInRange (Table vars rows) = All (All IsValue) rows
 IsShapeInRange (Element outcome index entries) = All IsValue entries
 IsShapeInRange (Count value vars op target) = IsValue value × IsSoundTarget target
 IsShapeInRange (Differ vars) = ⊤
+IsShapeInRange (Within var domain) = IsDomainInRange domain
 
 -- each number of the line is within its bounds
 abbrev pub IsInRange : Line → Type 0
 IsInRange (Var name domain) = IsDomainInRange domain
+IsInRange (VarIn name universe domain) = IsDomainInRange universe × IsDomainInRange domain
 IsInRange (Add name shape) = IsShapeInRange shape
 IsInRange (Why name value) = IsValue value
 IsInRange (Minimal name value) = IsValue value
@@ -50,13 +52,19 @@ IsInRange (DropGuide number) = IsFromOneTo GREATEST_NUMBER number
 IsInRange (DropOrder number) = IsFromOneTo GREATEST_NUMBER number
 IsInRange _ = ⊤
 
+-- the domain has no value
+abbrev pub HasNoValue : DomainText → Type 0
+HasNoValue (Range low high) = high <ℤ low
+HasNoValue (Set values) = values ≡ []
+
 -- a domain, a table or a list of entries has nothing in it, or a coefficient is 0
 abbrev pub HasNothing : Line → Type 0
-HasNothing (Var name (Range low high)) = high <ℤ low
-HasNothing (Var name (Set values)) = values ≡ []
+HasNothing (Var name domain) = HasNoValue domain
+HasNothing (VarIn name universe domain) = HasNoValue universe ⊎ HasNoValue domain
 HasNothing (Add name (Linear terms op bound)) = Any (λ t. t.factor ≡ pos 0) terms
 HasNothing (Add name (Table vars rows)) = rows ≡ []
 HasNothing (Add name (Element outcome index entries)) = entries ≡ []
+HasNothing (Add name (Within var domain)) = HasNoValue domain
 HasNothing _ = ⊥
 
 -- some name stands again behind its first place
@@ -73,21 +81,24 @@ names_of (Table vars rows) = vars
 names_of (Element outcome index entries) = outcome ∷ index ∷ []
 names_of (Count value vars op target) = vars ++ line_target_names target
 names_of (Differ vars) = vars
+names_of (Within var domain) = var ∷ []
 
 -- a variable stands twice in the constraint
 abbrev pub HasRepeat : Line → Type 0
 HasRepeat (Add name shape) = Repeats (names_of shape)
 HasRepeat _ = ⊥
 
--- more rows or entries than there may be
+-- more rows, entries or values than there may be
 abbrev pub HasManyRows : Shape → Type 0
 HasManyRows (Table vars rows) = HasManyTableRows rows
 HasManyRows (Element outcome index entries) = HasManyEntries entries
+HasManyRows (Within var domain) = IsLarge domain
 HasManyRows _ = ⊥
 
 -- the line breaks a limit on how many there may be, which the line alone shows
 abbrev pub IsBeyond : Line → Type 0
 IsBeyond (Var name domain) = IsLarge domain
+IsBeyond (VarIn name universe domain) = IsLarge universe ⊎ IsLarge domain
 IsBeyond (Add name shape) = (MOST_SCOPE < length (names_of shape)) ⊎ HasManyRows shape
 IsBeyond _ = ⊥
 
@@ -102,10 +113,12 @@ shape_numbers (TableForm vars rows) = table_numbers rows
 shape_numbers (ElementForm outcome index entries) = element_numbers entries
 shape_numbers (CountForm value vars op target) = count_numbers value target
 shape_numbers (DifferForm vars) = []
+shape_numbers (WithinForm var domain) = domain_numbers domain
 
 -- the numbers of a form
 abbrev pub numbers : Form → List Bounded
 numbers (DeclareForm name domain) = domain_numbers domain
+numbers (DeclareInForm name universe domain) = domain_numbers universe ++ domain_numbers domain
 numbers (AddForm name shape) = shape_numbers shape
 numbers (WhyForm name value) = a_value value ∷ []
 numbers (MinimalForm name value) = a_value value ∷ []

@@ -7,13 +7,14 @@ use Rattle.palm_read.specs.declared.tokens.TokenKind.TheVariants.{Word, Digits, 
 use Rattle.palm_read.specs.Name.{IsName}
 use Rattle.palm_read.specs.Token.{Lexeme}
 
--- a piece of a form: a word of the language, a name, a sign, a whole number, or digits
+-- a piece of a form: a word of the language, a name, a sign, a whole number, digits for a number, or digits written just so
 pub data Piece : Type 0 where
   Keyword : (text : List ℕ) → Piece
   Named : (name : List ℕ) → Piece
   Mark : (text : List ℕ) → Piece
   Integer : (number : ℤ) → Piece
   Natural : (number : ℕ) → Piece
+  Numeral : (text : List ℕ) → Piece
 
 abbrev pub word : List ℕ → Lexeme
 word text = record { kind = Word; text = text }
@@ -21,9 +22,12 @@ word text = record { kind = Word; text = text }
 abbrev pub sign : List ℕ → Lexeme
 sign text = record { kind = Sign; text = text }
 
+abbrev pub numeral : List ℕ → Lexeme
+numeral text = record { kind = Digits; text = text }
+
 -- digits for a number, leading zeros among them
 abbrev pub IsNatural : List Lexeme → ℕ → Type 0
-IsNatural tokens n = (digits : List ℕ) × (tokens ≡ record { kind = Digits; text = digits } ∷ []) × (n ≡ digits_number digits)
+IsNatural tokens n = (digits : List ℕ) × (tokens ≡ numeral digits ∷ []) × (n ≡ digits_number digits)
 
 -- digits for a number, or `-` and digits
 abbrev pub IsInteger : List Lexeme → ℤ → Type 0
@@ -38,6 +42,7 @@ IsPiece tokens (Named name) = (tokens ≡ word name ∷ []) × IsName name
 IsPiece tokens (Mark text) = tokens ≡ sign text ∷ []
 IsPiece tokens (Integer z) = IsInteger tokens z
 IsPiece tokens (Natural n) = IsNatural tokens n
+IsPiece tokens (Numeral text) = tokens ≡ numeral text ∷ []
 
 -- the tokens spell the pieces, one after another
 abbrev pub Spells : List Lexeme → List Piece → Type 0

@@ -8,12 +8,13 @@ use Rattle.palm_read.specs.Domain.{domain_text}
 use Rattle.palm_read.specs.Element.{element_words}
 use Rattle.palm_read.specs.Linear.{linear_words}
 use Rattle.palm_read.specs.Table.{table_words}
+use Rattle.palm_read.specs.Within.{within_words}
 use Rattle.palm_read.specs.Words.{spaced}
 use Rattle.palm_read.specs.declared.limits.TheConstants.{NO_BUDGET}
 use Rattle.palm_read.specs.declared.line.Line.{Line}
-use Rattle.palm_read.specs.declared.line.Line.TheVariants.{Comment, Var, Add, Relax, Enforce, Retract, Domains, Domain, List as ListLine, Log, Why, Conflict, MinimalConflict, Minimal, Pause, Resume, Step, SolveDbt, SolveRepair, Cert, CertConflict, Guide, GuideNone, Order, OrderNone, DropGuide, DropOrder, Quit}
+use Rattle.palm_read.specs.declared.line.Line.TheVariants.{Comment, Header, Var, VarIn, Add, Relax, Enforce, Retract, Domains, Domain, List as ListLine, Log, Why, Conflict, MinimalConflict, Minimal, Pause, Resume, Step, SolveDbt, SolveRepair, Cert, CertConflict, Guide, GuideNone, Order, OrderNone, DropGuide, DropOrder, Quit}
 use Rattle.palm_read.specs.declared.line.Shape.{Shape}
-use Rattle.palm_read.specs.declared.line.Shape.TheVariants.{CompareVar, CompareConst, Linear, Table, Element, Count, Differ}
+use Rattle.palm_read.specs.declared.line.Shape.TheVariants.{CompareVar, CompareConst, Linear, Table, Element, Count, Differ, Within}
 
 -- the words of a constraint
 abbrev pub shape_words : Shape → List (List ℕ)
@@ -24,11 +25,14 @@ shape_words (Table vars rows) = table_words vars rows
 shape_words (Element outcome index entries) = element_words outcome index entries
 shape_words (Count value vars op target) = count_words value vars op target
 shape_words (Differ vars) = differ_words vars
+shape_words (Within var domain) = within_words var domain
 
 -- the words of a line; a comment has none
 abbrev pub line_words : Line → List (List ℕ)
 line_words Comment = []
+line_words Header = codes "palm" ∷ codes "2" ∷ []
 line_words (Var name domain) = codes "var" ∷ name ∷ domain_text domain ∷ []
+line_words (VarIn name universe domain) = codes "var" ∷ name ∷ domain_text universe ∷ codes "in" ∷ domain_text domain ∷ []
 line_words (Add name shape) = codes "add" ∷ name ∷ codes ":" ∷ shape_words shape
 line_words (Relax name) = codes "relax" ∷ name ∷ []
 line_words (Enforce name) = codes "enforce" ∷ name ∷ []

@@ -14,13 +14,18 @@ pub fn beyond(line: &Line) -> bool
 {
     match line {
         Line::Var { domain, .. } => is_large(domain),
+        Line::VarIn {
+            universe,
+            domain,
+            ..
+        } => is_large(universe) || is_large(domain),
         Line::Add { shape, .. } => has_many_variables(shape) || has_many_rows(shape),
         _ => false,
     }
 }
 
 /// Whether a domain has more values than a variable may have.
-fn is_large(domain: &DomainText) -> bool
+pub fn is_large(domain: &DomainText) -> bool
     ensures { Tells result (IsLarge domain.now) }
 {
     match domain {
@@ -35,7 +40,10 @@ fn has_many_variables(shape: &Shape) -> bool
     ensures { Tells result (MOST_SCOPE < length (names_of shape.now)) }
 {
     match shape {
-        Shape::CompareVar { .. } | Shape::CompareConst { .. } | Shape::Element { .. } => false,
+        Shape::CompareVar { .. }
+        | Shape::CompareConst { .. }
+        | Shape::Element { .. }
+        | Shape::Within { .. } => false,
         Shape::Linear { terms, .. } => terms.len() > MOST_SCOPE,
         Shape::Table { vars, .. } | Shape::Differ { vars } => vars.len() > MOST_SCOPE,
         Shape::Count { vars, target, .. } => match target {
@@ -45,13 +53,14 @@ fn has_many_variables(shape: &Shape) -> bool
     }
 }
 
-/// Whether a table has more rows, or a list more entries, than it may have.
+/// Whether a table has more rows, a list more entries, or a domain more values than it may have.
 fn has_many_rows(shape: &Shape) -> bool
     ensures { Tells result (HasManyRows shape.now) }
 {
     match shape {
         Shape::Table { rows, .. } => rows.len() > MOST_ROWS,
         Shape::Element { entries, .. } => entries.len() > MOST_ROWS,
+        Shape::Within { domain, .. } => is_large(domain),
         _ => false,
     }
 }

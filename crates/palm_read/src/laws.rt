@@ -1,6 +1,7 @@
 //! Laws of the language. A text has lines in one way, a token is the longest that fits, a domain has the values that it
 //! writes, values are printed as one interval where they have no gap, no line has two forms, two readings or two refusals,
-//! and a line that is printed reads back as it was.
+//! a
+//! line that is printed reads back as it was, and version 1 stays as it is.
 ghost use Rattle.std.specs.Prelude.{◌≡◌, ◌≢◌, ◌⊎◌, ◌↔◌, ◌≤ℤ◌, ℕ, ℤ, pos, true, Some, List, [], ◌∷◌, All, Any, Contains, drop, flat_map, map};
 ghost use Rattle.palm_base.specs.Ascending.{Ascends};
 ghost use Rattle.palm_read.specs.declared.tokens.Token.{Token};
@@ -8,6 +9,9 @@ ghost use Rattle.palm_read.specs.Bounds.{IsOutside, IsWithin};
 ghost use Rattle.palm_read.specs.Bytes.{is_plain};
 ghost use Rattle.palm_read.specs.Domain.{Interval, Members, domain_of, range_text, set_of, set_text, values_in};
 ghost use Rattle.palm_read.specs.declared.line.Line.{Line};
+ghost use Rattle.palm_read.specs.declared.line.Line.TheVariants.{Header};
+ghost use Rattle.palm_read.specs.declared.mode.Mode.{Mode};
+ghost use Rattle.palm_read.specs.declared.mode.Mode.TheVariants.{First, One, Two};
 ghost use Rattle.palm_read.specs.declared.parse.LineError.{LineError};
 ghost use Rattle.palm_read.specs.declared.parse.LineError.TheVariants.{NoMemory};
 ghost use Rattle.palm_read.specs.Form.{Form};
@@ -88,30 +92,40 @@ pub fn one_form()
     ensures { (tokens : List Lexeme) (f g : Form) → IsForm tokens f → IsForm tokens g → f ≡ g }
 {}
 
-/// No bytes are read as two lines.
+/// No bytes are read as two lines, not even in two modes.
 pub fn one_reading()
-    ensures { (bytes : List ℕ) (a b : Line) → IsRead bytes a → IsRead bytes b → a ≡ b }
+    ensures { (m n : Mode) (bytes : List ℕ) (a b : Line) → IsRead m bytes a → IsRead n bytes b → a ≡ b }
 {}
 
 /// What is read is refused for want of memory alone.
 pub fn read_or_refused()
-    ensures { (bytes : List ℕ) (line : Line) (error : LineError)
-        → IsRead bytes line → IsRefusedBy bytes error → error ≡ NoMemory }
+    ensures { (mode : Mode) (bytes : List ℕ) (line : Line) (error : LineError)
+        → IsRead mode bytes line → IsRefusedBy mode bytes error → error ≡ NoMemory }
 {}
 
 /// No bytes meet two refusals, want of memory aside.
 pub fn one_refusal()
-    ensures { (bytes : List ℕ) (d e : LineError)
-        → IsRefusedBy bytes d → IsRefusedBy bytes e → d ≢ NoMemory → e ≢ NoMemory → d ≡ e }
+    ensures { (mode : Mode) (bytes : List ℕ) (d e : LineError)
+        → IsRefusedBy mode bytes d → IsRefusedBy mode bytes e → d ≢ NoMemory → e ≢ NoMemory → d ≡ e }
 {}
 
 /// All bytes are read as a line or meet a refusal other than for want of memory.
 pub fn each_line_answered()
-    ensures { (bytes : List ℕ) → ((line : Line) × IsRead bytes line)
-        ⊎ ((error : LineError) × (error ≢ NoMemory) × IsRefusedBy bytes error) }
+    ensures { (mode : Mode) (bytes : List ℕ) → ((line : Line) × IsRead mode bytes line)
+        ⊎ ((error : LineError) × (error ≢ NoMemory) × IsRefusedBy mode bytes error) }
 {}
 
-/// What is read and within the limits is printed so that it reads back as the same line.
+/// What is read and within the limits is printed so that it reads back in the same mode as the same line.
 pub fn printed_lines_read_back()
-    ensures { (bytes : List ℕ) (line : Line) → IsRead bytes line → (IsBeyond line → ⊥) → IsRead (text_of line) line }
+    ensures { (mode : Mode) (bytes : List ℕ) (line : Line) → IsRead mode bytes line → (IsBeyond line → ⊥) → IsRead mode (text_of line) line }
+{}
+
+/// What version 1 reads, version 2 reads as the same line, and so does the first mode. The header is all that the first mode
+/// reads beside, and it refuses all else as version 1 does.
+pub fn version_1_stays()
+    ensures two { (bytes : List ℕ) (line : Line) → IsRead One bytes line → IsRead Two bytes line }
+    ensures first { (bytes : List ℕ) (line : Line) → IsRead One bytes line → IsRead First bytes line }
+    ensures beside { (bytes : List ℕ) (line : Line) → IsRead First bytes line → line ≢ Header → IsRead One bytes line }
+    ensures refused { (bytes : List ℕ) (error : LineError) → (IsRead First bytes Header → ⊥)
+        → IsRefusedBy First bytes error ↔ IsRefusedBy One bytes error }
 {}

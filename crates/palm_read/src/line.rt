@@ -78,6 +78,11 @@ pub enum Shape {
     Differ {
         vars: NameList,
     },
+    /// The value of the variable is one of the domain.
+    Within {
+        var: Name,
+        domain: DomainText,
+    },
 }
 
 /// A line that was read.
@@ -85,10 +90,24 @@ pub enum Shape {
 pub enum Line {
     /// A blank line, or one whose first byte that is no blank is `#`.
     Comment,
+    /// The header `palm 2`
+    Header,
     /// `var NAME DOMAIN`
-    Var { name: Name, domain: DomainText },
+    Var {
+        name: Name,
+        domain: DomainText,
+    },
+    /// `var NAME DOMAIN in DOMAIN`: the universe, and the domain that the variable keeps to
+    VarIn {
+        name: Name,
+        universe: DomainText,
+        domain: DomainText,
+    },
     /// `add NAME : CONSTRAINT`
-    Add { name: Name, shape: Shape },
+    Add {
+        name: Name,
+        shape: Shape,
+    },
     /// `relax NAME`
     Relax(Name),
     /// `enforce NAME`
@@ -104,13 +123,19 @@ pub enum Line {
     /// `log`
     Log,
     /// `why NAME VALUE`
-    Why { name: Name, value: Value },
+    Why {
+        name: Name,
+        value: Value,
+    },
     /// `conflict`
     Conflict,
     /// `minimal conflict`
     MinimalConflict,
     /// `minimal NAME VALUE`
-    Minimal { name: Name, value: Value },
+    Minimal {
+        name: Name,
+        value: Value,
+    },
     /// `pause`
     Pause,
     /// `resume`
@@ -118,11 +143,19 @@ pub enum Line {
     /// `step N`
     Step(u64),
     /// `solve dbt`, with `budget N` or without a limit
-    SolveDbt { budget: u64 },
+    SolveDbt {
+        budget: u64,
+    },
     /// `solve repair tabu N budget N`
-    SolveRepair { tabu: u32, budget: u64 },
+    SolveRepair {
+        tabu: u32,
+        budget: u64,
+    },
     /// `cert NAME VALUE`
-    Cert { name: Name, value: Value },
+    Cert {
+        name: Name,
+        value: Value,
+    },
     /// `cert conflict`
     CertConflict,
     /// `guide N`

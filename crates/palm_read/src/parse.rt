@@ -12,7 +12,8 @@ ghost use Rattle.palm_read.specs.Token.{tokens_of};
 
 use crate::limits::MOST_LINE_BYTES;
 use crate::line::Line;
-use crate::reader::checks::{is_in_range, lacks_something};
+use crate::mode::Mode;
+use crate::reader::checks::{is_allowed, is_in_range, lacks_something};
 use crate::reader::cursor::Cursor;
 use crate::reader::repeats::repeats_name;
 use crate::scan::count_blanks;
@@ -51,19 +52,24 @@ impl From<NoMemory> for LineError {
     }
 }
 
-/// Reads one line without its line end. A line of more than 65,536 bytes is refused, a comment too.
-pub fn parse_line(alloc: Global, bytes: &[u8]) -> Result<Line, LineError>
-    ensures read { IsReadAs bytes.now result }
+/// Reads one line without its line end, in a mode. A line of more than 65,536 bytes is refused, a comment too.
+pub fn parse_line(alloc: Global, bytes: &[u8], mode: Mode) -> Result<Line, LineError>
+    ensures read { IsReadAs mode bytes.now result }
     ensures sound { IfOk result IsSound }
 {
     let mut cursor = Cursor::new(bytes);
-    parse_tokens(alloc, bytes, &mut cursor)
+    parse_tokens(alloc, bytes, &mut cursor, mode)
 }
 
 /// Reads the same line, with a cursor at its first token.
-pub fn parse_tokens(alloc: Global, bytes: &[u8], cursor: &mut Cursor<'_>) -> Result<Line, LineError>
+pub fn parse_tokens(
+    alloc: Global,
+    bytes: &[u8],
+    cursor: &mut Cursor<'_>,
+    mode: Mode,
+) -> Result<Line, LineError>
     requires { cursor.old ≡ tokens_of bytes.now }
-    ensures read { IsReadAs bytes.now result }
+    ensures read { IsReadAs mode bytes.now result }
     ensures sound { IfOk result IsSound }
 {
     if bytes.len() > MOST_LINE_BYTES {
@@ -73,7 +79,7 @@ pub fn parse_tokens(alloc: Global, bytes: &[u8], cursor: &mut Cursor<'_>) -> Res
         return Ok(Line::Comment);
     }
     match read_form(alloc, cursor) {
-        Ok(line) => within_limits(alloc, line),
+        Ok(line) => within_limits(alloc, line, mode),
         Err(LineError::Form) => Err(without_form(bytes)),
         Err(error) => Err(error),
     }
@@ -128,19 +134,22 @@ fn read_form(alloc: Global, cursor: &mut Cursor<'_>) -> Result<Line, LineError>
     Ok(line)
 }
 
-/// The line, where it breaks none of the limits that refuse it.
-fn within_limits(alloc: Global, line: Line) -> Result<Line, LineError>
-    ensures { PassesChecks line result }
+/// The line, where the mode allows it and it breaks none of the limits that refuse it.
+fn within_limits(alloc: Global, line: Line, mode: Mode) -> Result<Line, LineError>
+    ensures { PassesChecks mode line result }
 {
-    check_limits(alloc, &line)?;
+    check_limits(alloc, &line, mode)?;
     Ok(line)
 }
 
-/// Refuses the line for the first limit that it breaks.
-fn check_limits(alloc: Global, line: &Line) -> Result<(), LineError>
-    ensures kept { OnOk result (PassesChecks line.now (Ok line.now)) }
-    ensures refused { IfErr result (λ error. PassesChecks line.now (Err error)) }
+/// Refuses the line where the mode does not allow it, and else for the first limit that it breaks.
+fn check_limits(alloc: Global, line: &Line, mode: Mode) -> Result<(), LineError>
+    ensures kept { OnOk result (PassesChecks mode line.now (Ok line.now)) }
+    ensures refused { IfErr result (λ error. PassesChecks mode line.now (Err error)) }
 {
+    if !is_allowed(line, mode) {
+        return Err(LineError::Form);
+    }
     if !is_in_range(line) {
         return Err(LineError::Range);
     }

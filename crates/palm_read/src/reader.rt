@@ -13,3 +13,4 @@ mod numbers;
 pub mod repeats;
 mod shapes;
 mod table;
+mod within;

@@ -6,12 +6,15 @@ use Rattle.palm_lang.specs.declared.reply.Refusal.{Refusal}
 use Rattle.palm_read.specs.Reading.{IsRead, IsRefusedBy}
 use Rattle.palm_read.specs.declared.line.Line.{Line}
 use Rattle.palm_read.specs.declared.line.Line.TheVariants.{Add, Relax, Enforce, Retract, Domain, Why, Minimal, Cert, Quit as QuitLine}
+use Rattle.palm_read.specs.declared.mode.Mode.{Mode}
+use Rattle.palm_read.specs.declared.mode.Mode.TheVariants.{One}
 use Rattle.palm_read.specs.declared.parse.LineError.{LineError}
 use Rattle.palm_session.specs.Answers.{Answers, misread, accepted}
 use Rattle.palm_session.specs.Feeding.{Decides}
 use Rattle.palm_session.specs.ReplyText.{reply_text, IsRefusal}
 use Rattle.palm_session.specs.Asking.{Asks, asks_none, asks_search, asks_settling}
 use Rattle.palm_session.specs.Effects.{Changes, Next, Rests, Filters, Searches, next}
+use Rattle.palm_session.specs.Modes.{heard, misheard}
 use Rattle.palm_session.specs.Refusals.{Meets, in_order}
 use Rattle.palm_session.specs.Requests.{IsAdmitted, Requests}
 use Rattle.palm_session.specs.Serving.{AsksFor, asks_nothing, asks_after, AsksWithin, GoesAs, Takes}
@@ -23,6 +26,7 @@ use Rattle.palm_session.specs.declared.request.Request.{Request}
 use Rattle.palm_session.specs.declared.request.Request.TheVariants.{Solve, Quit as QuitAsked}
 use Rattle.palm_session.specs.Answers.{WaitsFor}
 use Rattle.palm_session.proofs.Admitting.{free_of_refusals}
+use Rattle.palm_session.proofs.InModes.{read_where}
 use Rattle.palm_session.proofs.ReadOnce.{goes_on_read, goes_on_refused}
 use Rattle.palm_session.proofs.cited.LawsOfAnswers.{awake_for}
 use Rattle.palm_session.proofs.cited.LawsOfChanges.{searches_by}
@@ -50,10 +54,11 @@ quit_line s _ r = absurd (subst EndsAll r tt)
 quit_asked : (s : SessionState) (line : Line) (request : Request) → Requests s line request → line ≡ QuitLine → request ≡ QuitAsked
 quit_asked s line request r e = subst (λ (l : Line). Requests s l request) e r
 
-pub decides_taken : (s : SessionState) (going : Going) (bytes : List ℕ) (line : Line) (request : Request) → IsRead bytes line → Requests s line request → GoesAs going request → Decides going bytes
-decides_taken s More bytes line request read r goes = goes_on_read bytes line read (λ e. goes (quit_asked s line request r e))
-decides_taken s Quit bytes line request read r goes =
-    subst (λ (x : Line). IsRead bytes x) (quit_line s line (subst (λ (q : Request). Requests s line q) goes r)) read
+pub decides_taken : (mode : Mode) (s : SessionState) (going : Going) (bytes : List ℕ) (line : Line) (request : Request) → IsRead mode bytes line → Requests s line request → GoesAs going request → Decides going bytes
+decides_taken mode s More bytes line request read r goes = goes_on_read mode bytes line read (λ e. goes (quit_asked s line request r e))
+decides_taken mode s Quit bytes line request read r goes =
+    let quits : line ≡ QuitLine = quit_line s line (subst (λ (q : Request). Requests s line q) goes r) in
+    read_where mode One bytes QuitLine (subst (λ (x : Line). IsRead mode bytes x) quits read) tt
 
 -- a line that is refused is not `quit`, which meets no refusal
 not_quit : (s : SessionState) (line : Line) (refusal : Refusal) → IsFirst (Meets s line) in_order refusal → line ≡ QuitLine → ⊥
@@ -61,22 +66,22 @@ not_quit s line refusal first e =
     first_not_none (Meets s QuitLine) in_order refusal (subst (λ (l : Line). IsFirst (Meets s l) in_order refusal) e first)
     (free_of_refusals s QuitLine (λ h. h) (λ h. h) (λ h. h) (λ h. h) (λ h. h) (λ h. h) (λ h. h) (λ h. h))
 
-pub decides_refused : (s : SessionState) (bytes : List ℕ) (line : Line) (refusal : Refusal) → IsRead bytes line → IsFirst (Meets s line) in_order refusal → Decides More bytes
-decides_refused s bytes line refusal read first = goes_on_read bytes line read (not_quit s line refusal first)
+pub decides_refused : (mode : Mode) (s : SessionState) (bytes : List ℕ) (line : Line) (refusal : Refusal) → IsRead mode bytes line → IsFirst (Meets s line) in_order refusal → Decides More bytes
+decides_refused mode s bytes line refusal read first = goes_on_read mode bytes line read (not_quit s line refusal first)
 
-pub answers_refusal : (s : SessionState) (bytes : List ℕ) (error : LineError) → IsRefusedBy bytes error → (r : Reply × Going) → IsRefusal error r → Answers s bytes (reply_text s r.0) s
-answers_refusal s bytes error q r is = subst (λ (x : Reply). Answers s bytes (reply_text s x) s) (sym is.reply) (misread error is.refusal q is.of_error)
+pub answers_refusal : (s : SessionState) (bytes : List ℕ) (error : LineError) → IsRefusedBy s.mode bytes error → (r : Reply × Going) → IsRefusal error r → Answers s bytes (reply_text (misheard s) r.0) (misheard s)
+answers_refusal s bytes error q r is = subst (λ (x : Reply). Answers s bytes (reply_text (misheard s) x) (misheard s)) (sym is.reply) (misread error is.refusal q is.of_error)
 
-pub decides_refusal : (bytes : List ℕ) (error : LineError) → IsRefusedBy bytes error → (r : Reply × Going) → IsRefusal error r → Decides r.1 bytes
-decides_refusal bytes error q r is = subst (λ (g : Going). Decides g bytes) (sym is.going) (goes_on_refused bytes error is.refusal q is.of_error)
+pub decides_refusal : (mode : Mode) (bytes : List ℕ) (error : LineError) → IsRefusedBy mode bytes error → (r : Reply × Going) → IsRefusal error r → Decides r.1 bytes
+decides_refusal mode bytes error q r is = subst (λ (g : Going). Decides g bytes) (sym is.going) (goes_on_refused mode bytes error is.refusal q is.of_error)
 
 -- ---- what is answered, and how often support was asked for
 
-pub takes_answers : (s t : SessionState) (bytes : List ℕ) (line : Line) (request : Request) (asked : ℕ) (answer : Reply × Going) → IsRead bytes line → IsAdmitted s line request
-    → Takes s request t asked answer → Answers s bytes (reply_text t answer.0) t
+pub takes_answers : (s t : SessionState) (bytes : List ℕ) (line : Line) (request : Request) (asked : ℕ) (answer : Reply × Going) → IsRead s.mode bytes line → IsAdmitted (heard s line) line request
+    → Takes (heard s line) request t asked answer → Answers s bytes (reply_text t answer.0) t
 takes_answers s t bytes line request asked answer read a taken = accepted line request read a taken.accepts
 
-settling_asks : (s m t : SessionState) (bytes : List ℕ) (line : Line) (request : Request) (asked : ℕ) (n : Next) → IsRead bytes line → IsAdmitted s line request → (WaitsFor s request → ⊥) → Changes s request m
+settling_asks : (s m t : SessionState) (bytes : List ℕ) (line : Line) (request : Request) (asked : ℕ) (n : Next) → IsRead s.mode bytes line → IsAdmitted (heard s line) line request → (WaitsFor (heard s line) request → ⊥) → Changes (heard s line) request m
     → next m request ≡ n → AsksWithin m.engine n t.engine asked → Asks s bytes t asked
 settling_asks s m t bytes line request asked Rests r a goes changes e asks = asks_none asks
 settling_asks s m t bytes line request asked (Searches by) r a goes changes e asks =
@@ -85,13 +90,13 @@ settling_asks s m t bytes line request asked (Searches by) r a goes changes e as
       line = line;
       by = by;
       read = r;
-      admitted = subst (λ (q : Request). IsAdmitted s line q) is_search a;
-      awake = awake_for s (Solve by) tt (subst (λ (q : Request). WaitsFor s q → ⊥) is_search goes);
+      admitted = subst (λ (q : Request). IsAdmitted (heard s line) line q) is_search a;
+      awake = awake_for (heard s line) (Solve by) tt (subst (λ (q : Request). WaitsFor (heard s line) q → ⊥) is_search goes);
     })
 settling_asks s m t bytes line request asked (Filters limit) r a goes changes e asks =
     asks_settling (record { line = line; request = request; changed = m; limit = limit; gained = asks.0; read = r; admitted = a; changes = changes; filters = e; log = asks.1 }) asks.2
 
-pub takes_asks : (s t : SessionState) (bytes : List ℕ) (line : Line) (request : Request) (asked : ℕ) → IsRead bytes line → IsAdmitted s line request → AsksFor s request t asked → Asks s bytes t asked
+pub takes_asks : (s t : SessionState) (bytes : List ℕ) (line : Line) (request : Request) (asked : ℕ) → IsRead s.mode bytes line → IsAdmitted (heard s line) line request → AsksFor (heard s line) request t asked → Asks s bytes t asked
 takes_asks s t bytes line request asked r a (asks_nothing none) = asks_none none
 takes_asks s t bytes line request asked r a (asks_after m goes changes asks) = settling_asks s m t bytes line request asked (next m request) r a goes changes refl asks
 

@@ -4,6 +4,7 @@ use Rattle.palm_base.proofs.cited.Members.{nat_known, member_known, filter_membe
 use Rattle.palm_book.specs.Book.{Contents}
 use Rattle.palm_engine.specs.Engine.{View}
 use Rattle.palm_search.specs.Calls.{SearchView}
+use Rattle.palm_read.specs.declared.mode.Mode.{Mode}
 use Rattle.palm_session.specs.Effects.{without_guide, without_order}
 use Rattle.palm_session.specs.Objects.{ObjectsView, numbers_of, without_number, chosen_without, without_object}
 use Rattle.palm_session.specs.Serving.{DeskView, desk_of}
@@ -62,17 +63,17 @@ with_orders : (s : SessionState) (ns ms : List ℕ) (a b : Option ℕ) → ns �
 with_orders s ns ms a b e f =
     ap (λ (ks : List ℕ). record s { orders = ks; order = a }) e ∙ ap (λ (o : Option ℕ). record s { orders = ms; order = o }) f
 
-module _ {G O : Type 0} (book : Contents) (engine : View) (accepted : ℕ) (paused : Bool) (guides : ObjectsView G) (orders : ObjectsView O) (search : SearchView) (d : DeskView G O) (is : desk_of book engine accepted paused guides orders search ≡ d) (number : ℕ) where
+module _ {G O : Type 0} (mode : Mode) (book : Contents) (engine : View) (accepted : ℕ) (paused : Bool) (guides : ObjectsView G) (orders : ObjectsView O) (search : SearchView) (d : DeskView G O) (is : desk_of mode book engine accepted paused guides orders search ≡ d) (number : ℕ) where
   pub guide_dropped : (left : ObjectsView G) → left ≡ without_object number guides → numbers_of left.places ≡ without_number number (numbers_of guides.places)
-      → (desk_of book engine accepted paused left orders search).state ≡ without_guide d.state number
+      → (desk_of mode book engine accepted paused left orders search).state ≡ without_guide d.state number
   guide_dropped left e numbers =
-      subst (λ (z : DeskView G O). (desk_of book engine accepted paused left orders search).state ≡ without_guide z.state number) is
-      (with_guides (desk_of book engine accepted paused guides orders search).state (numbers_of left.places) (without_number number (numbers_of guides.places)) left.chosen (chosen_without number guides.chosen) numbers
+      subst (λ (z : DeskView G O). (desk_of mode book engine accepted paused left orders search).state ≡ without_guide z.state number) is
+      (with_guides (desk_of mode book engine accepted paused guides orders search).state (numbers_of left.places) (without_number number (numbers_of guides.places)) left.chosen (chosen_without number guides.chosen) numbers
       (ap (λ (v : ObjectsView G). v.chosen) e))
 
   pub order_dropped : (left : ObjectsView O) → left ≡ without_object number orders → numbers_of left.places ≡ without_number number (numbers_of orders.places)
-      → (desk_of book engine accepted paused guides left search).state ≡ without_order d.state number
+      → (desk_of mode book engine accepted paused guides left search).state ≡ without_order d.state number
   order_dropped left e numbers =
-      subst (λ (z : DeskView G O). (desk_of book engine accepted paused guides left search).state ≡ without_order z.state number) is
-      (with_orders (desk_of book engine accepted paused guides orders search).state (numbers_of left.places) (without_number number (numbers_of orders.places)) left.chosen (chosen_without number orders.chosen) numbers
+      subst (λ (z : DeskView G O). (desk_of mode book engine accepted paused guides left search).state ≡ without_order z.state number) is
+      (with_orders (desk_of mode book engine accepted paused guides orders search).state (numbers_of left.places) (without_number number (numbers_of orders.places)) left.chosen (chosen_without number orders.chosen) numbers
       (ap (λ (v : ObjectsView O). v.chosen) e))

@@ -14,9 +14,11 @@ use Rattle.palm_repair.specs.declared.answer.RepairAnswer.{RepairAnswer}
 use Rattle.palm_search.specs.Calls.{SearchView}
 use Rattle.palm_search.specs.Following.{SearchesBy}
 use Rattle.palm_search.specs.declared.ending.SearchEnd.{SearchEnd}
+use Rattle.palm_read.specs.declared.mode.Mode.{Mode}
 use Rattle.palm_session.specs.Answers.{WaitsFor}
 use Rattle.palm_session.specs.Effects.{Next, next}
-use Rattle.palm_session.specs.Led.{Guiding, Ordering, SettlesBy, FiltersBy, SearchesOn, LeadsOn, next_left, objects_after, RequestLeads, TakesLead, HasRequest, LineLeads}
+use Rattle.palm_session.specs.Led.{Guiding, Ordering, SettlesBy, FiltersBy, SearchesOn, LeadsOn, next_left, objects_after, TakesLead, HasRequest, LineLeads}
+use Rattle.palm_session.specs.Modes.{heard, misheard}
 use Rattle.palm_session.specs.Objects.{ObjectsView, HeldObjects, LendsChosen, chosen_object}
 use Rattle.palm_session.specs.Refusals.{Meets, in_order}
 use Rattle.palm_session.specs.ReplyText.{IsRefusal}
@@ -33,31 +35,31 @@ use Rattle.palm_session.proofs.ReadOnce.{read_or_refused}
 
 -- ---- the calls of a desk
 
-pub settle_led : {G O : Type 0} (ordering : Ordering O) (book : Contents) (engine after : View) (accepted : ℕ) (paused : Bool) (guides : ObjectsView G) (orders more : ObjectsView O) (search : SearchView) (d : DeskView G O) (limit : Option ℕ)
-    → desk_of book engine accepted paused guides orders search ≡ d → LendsChosen orders more
+pub settle_led : {G O : Type 0} (ordering : Ordering O) (mode : Mode) (book : Contents) (engine after : View) (accepted : ℕ) (paused : Bool) (guides : ObjectsView G) (orders more : ObjectsView O) (search : SearchView) (d : DeskView G O) (limit : Option ℕ)
+    → desk_of mode book engine accepted paused guides orders search ≡ d → LendsChosen orders more
     → SettlesBy ordering limit (chosen_object orders) (chosen_object more) engine.state after.state
-    → FiltersBy ordering limit d.state.engine d.objects (desk_of book after accepted paused guides more search).state.engine (desk_of book after accepted paused guides more search).objects
-settle_led {G = G} {O = O} ordering book engine after accepted paused guides orders more search d limit is lends by =
-    let e = desk_of book after accepted paused guides more search in
+    → FiltersBy ordering limit d.state.engine d.objects (desk_of mode book after accepted paused guides more search).state.engine (desk_of mode book after accepted paused guides more search).objects
+settle_led {G = G} {O = O} ordering mode book engine after accepted paused guides orders more search d limit is lends by =
+    let e = desk_of mode book after accepted paused guides more search in
     subst (λ (z : DeskView G O). FiltersBy ordering limit z.state.engine z.objects e.state.engine e.objects) is (record { settles = by; orders = lends; guides = refl })
 
-pub dbt_led : {G O E : Type 0} (guiding : Guiding G) (ordering : Ordering O) (book : Contents) (engine after : View) (accepted : ℕ) (paused : Bool) (guides others : ObjectsView G) (orders more : ObjectsView O) (search done : SearchView) (d : DeskView G O)
-    (budget : ℕ) (r : Result SearchEnd E) → desk_of book engine accepted paused guides orders search ≡ d → LendsChosen guides others → LendsChosen orders more
+pub dbt_led : {G O E : Type 0} (guiding : Guiding G) (ordering : Ordering O) (mode : Mode) (book : Contents) (engine after : View) (accepted : ℕ) (paused : Bool) (guides others : ObjectsView G) (orders more : ObjectsView O) (search done : SearchView) (d : DeskView G O)
+    (budget : ℕ) (r : Result SearchEnd E) → desk_of mode book engine accepted paused guides orders search ≡ d → LendsChosen guides others → LendsChosen orders more
     → IfOk r (λ answer. SearchesBy guiding ordering (chosen_object guides) (chosen_object others) (chosen_object orders) (chosen_object more) budget engine.state done.journal answer after.state)
-    → OnOk r (SearchesOn guiding ordering (Dbt budget) d.state d.objects (desk_of book after accepted paused others more done).state (desk_of book after accepted paused others more done).objects)
-dbt_led {G = G} {O = O} guiding ordering book engine after accepted paused guides others orders more search done d budget (Ok answer) is one two by =
-    let e = desk_of book after accepted paused others more done in
+    → OnOk r (SearchesOn guiding ordering (Dbt budget) d.state d.objects (desk_of mode book after accepted paused others more done).state (desk_of mode book after accepted paused others more done).objects)
+dbt_led {G = G} {O = O} guiding ordering mode book engine after accepted paused guides others orders more search done d budget (Ok answer) is one two by =
+    let e = desk_of mode book after accepted paused others more done in
     subst (λ (z : DeskView G O). SearchesOn guiding ordering (Dbt budget) z.state z.objects e.state e.objects) is (record { runs = (answer, by); guides = one; orders = two })
-dbt_led guiding ordering book engine after accepted paused guides others orders more search done d budget (Err x) is one two by = tt
+dbt_led guiding ordering mode book engine after accepted paused guides others orders more search done d budget (Err x) is one two by = tt
 
-pub repair_led : {G O E : Type 0} (guiding : Guiding G) (ordering : Ordering O) (book : Contents) (engine after : View) (accepted : ℕ) (paused : Bool) (guides others : ObjectsView G) (orders more : ObjectsView O) (search done : SearchView) (d : DeskView G O)
-    (tabu budget : ℕ) (r : Result RepairAnswer E) → desk_of book engine accepted paused guides orders search ≡ d → LendsChosen guides others → LendsChosen orders more
+pub repair_led : {G O E : Type 0} (guiding : Guiding G) (ordering : Ordering O) (mode : Mode) (book : Contents) (engine after : View) (accepted : ℕ) (paused : Bool) (guides others : ObjectsView G) (orders more : ObjectsView O) (search done : SearchView) (d : DeskView G O)
+    (tabu budget : ℕ) (r : Result RepairAnswer E) → desk_of mode book engine accepted paused guides orders search ≡ d → LendsChosen guides others → LendsChosen orders more
     → IfOk r (HasRepairedBy guiding ordering (chosen_object guides) (chosen_object others) (chosen_object orders) (chosen_object more) tabu budget engine.state done.journal after.state)
-    → OnOk r (SearchesOn guiding ordering (Repair tabu budget) d.state d.objects (desk_of book after accepted paused others more done).state (desk_of book after accepted paused others more done).objects)
-repair_led {G = G} {O = O} guiding ordering book engine after accepted paused guides others orders more search done d tabu budget (Ok answer) is one two by =
-    let e = desk_of book after accepted paused others more done in
+    → OnOk r (SearchesOn guiding ordering (Repair tabu budget) d.state d.objects (desk_of mode book after accepted paused others more done).state (desk_of mode book after accepted paused others more done).objects)
+repair_led {G = G} {O = O} guiding ordering mode book engine after accepted paused guides others orders more search done d tabu budget (Ok answer) is one two by =
+    let e = desk_of mode book after accepted paused others more done in
     subst (λ (z : DeskView G O). SearchesOn guiding ordering (Repair tabu budget) z.state z.objects e.state e.objects) is (record { runs = (answer, by); guides = one; orders = two })
-repair_led guiding ordering book engine after accepted paused guides others orders more search done d tabu budget (Err x) is one two by = tt
+repair_led guiding ordering mode book engine after accepted paused guides others orders more search done d tabu budget (Err x) is one two by = tt
 
 -- ---- what is left of a request
 
@@ -87,23 +89,23 @@ module _ {G O : Type 0} (guiding : Guiding G) (ordering : Ordering O) (s : Sessi
 -- ---- lines
 
 -- a line that cannot be read is admitted with no request
-misread_none : (s : SessionState) (bytes : List ℕ) (error : LineError) (r : Reply × Going) → IsRefusedBy bytes error → IsRefusal error r → (request : Request) → HasRequest s bytes request → ⊥
-misread_none s bytes error r refused is request has = read_or_refused bytes has.line error is.refusal has.read refused is.of_error
+misread_none : (s : SessionState) (bytes : List ℕ) (error : LineError) (r : Reply × Going) → IsRefusedBy s.mode bytes error → IsRefusal error r → (request : Request) → HasRequest s bytes request → ⊥
+misread_none s bytes error r refused is request has = read_or_refused s.mode bytes has.line error is.refusal has.read refused is.of_error
 
 -- nor is one that meets a refusal
-refused_none : (s : SessionState) (bytes : List ℕ) (line : Line) (refusal : Refusal) → IsRead bytes line → IsFirst (Meets s line) in_order refusal → (request : Request) → HasRequest s bytes request → ⊥
+refused_none : (s : SessionState) (bytes : List ℕ) (line : Line) (refusal : Refusal) → IsRead s.mode bytes line → IsFirst (Meets (heard s line) line) in_order refusal → (request : Request) → HasRequest s bytes request → ⊥
 refused_none s bytes line refusal read first request has =
-    let same : line ≡ has.line = one_reading bytes line has.line read has.read in
-    first_not_none (Meets s has.line) in_order refusal (subst (λ (l : Line). IsFirst (Meets s l) in_order refusal) same first) has.admitted.none
+    let same : line ≡ has.line = one_reading s.mode s.mode bytes line has.line read has.read in
+    first_not_none (Meets (heard s has.line) has.line) in_order refusal (subst (λ (l : Line). IsFirst (Meets (heard s l) l) in_order refusal) same first) has.admitted.none
 
 module _ {G O : Type 0} (guiding : Guiding G) (ordering : Ordering O) (s : SessionState) (bytes : List ℕ) (objects : HeldObjects G O) where
-  pub misread_led : {E : Type 0} (error : LineError) (r : Result (Reply × Going) E) → IsRefusedBy bytes error → IfOk r (IsRefusal error) → OnOk r (LineLeads guiding ordering s bytes objects s objects)
+  pub misread_led : {E : Type 0} (error : LineError) (r : Result (Reply × Going) E) → IsRefusedBy s.mode bytes error → IfOk r (IsRefusal error) → OnOk r (LineLeads guiding ordering s bytes objects (misheard s) objects)
   misread_led error (Ok r) refused is = inl (misread_none s bytes error r refused is, refl)
   misread_led error (Err e) refused is = tt
 
-  pub refused_led : (line : Line) (refusal : Refusal) → IsRead bytes line → IsFirst (Meets s line) in_order refusal → LineLeads guiding ordering s bytes objects s objects
+  pub refused_led : (line : Line) (refusal : Refusal) → IsRead s.mode bytes line → IsFirst (Meets (heard s line) line) in_order refusal → LineLeads guiding ordering s bytes objects (heard s line) objects
   refused_led line refusal read first = inl (refused_none s bytes line refusal read first, refl)
 
-  pub line_led : (line : Line) (request : Request) (t : SessionState) (after : HeldObjects G O) → IsRead bytes line → IsAdmitted s line request → TakesLead guiding ordering s request objects t after
+  pub line_led : (line : Line) (request : Request) (t : SessionState) (after : HeldObjects G O) → IsRead s.mode bytes line → IsAdmitted (heard s line) line request → TakesLead guiding ordering (heard s line) request objects t after
       → LineLeads guiding ordering s bytes objects t after
   line_led line request t after read admitted takes = inr (request, record { line = line; read = read; admitted = admitted }, takes)

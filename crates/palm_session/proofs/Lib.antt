@@ -12,6 +12,7 @@ pub mod Explained
 pub mod Following
 pub mod Heard
 pub mod HeldObjects
+pub mod InModes
 pub mod LawsOfDomains
 pub mod LawsOfLines
 pub mod Least
@@ -34,3 +35,4 @@ pub mod Standing
 pub mod Taking
 pub mod Telling
 pub mod Users
+pub mod Versions

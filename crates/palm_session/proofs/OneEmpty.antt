@@ -17,7 +17,7 @@ use Rattle.palm_book.specs.declared.book.BookCon.{BookCon}
 use Rattle.palm_read.specs.Domain.{values_in}
 use Rattle.palm_session.specs.declared.request.Procedure.{Procedure}
 use Rattle.palm_session.specs.declared.request.Request.{Request}
-use Rattle.palm_session.specs.declared.request.Request.TheVariants.{Nothing as NothingAsked, Declare as DeclareAsked, Add, Relax, Enforce, Retract, Ask, Pause, Resume, Step as StepAsked, Solve, ChooseGuide, DropGuide, ChooseOrder, DropOrder, Quit}
+use Rattle.palm_session.specs.declared.request.Request.TheVariants.{Nothing as NothingAsked, Header as HeaderAsked, Declare as DeclareAsked, DeclareIn, Add, Relax, Enforce, Retract, Ask, Pause, Resume, Step as StepAsked, Solve, ChooseGuide, DropGuide, ChooseOrder, DropOrder, Quit}
 use Rattle.palm_session.specs.Requests.{Admits}
 use Rattle.palm_events.specs.Along.{IsFiltering, IsStill}
 use Rattle.palm_events.proofs.cited.Agreeing.{values_of_more}
@@ -33,6 +33,8 @@ use Rattle.palm_session.specs.Replies.{Run}
 use Rattle.palm_session.proofs.cited.LawsOfAnswers.{answers_keep, read_admits}
 use Rattle.palm_session.proofs.cited.LawsOfChanges.{changes_keep, declared_values, withdraws_cases}
 use Rattle.palm_session.proofs.Searching.{search_leaves_still, search_log}
+use Rattle.palm_session.specs.Modes.{heard}
+use Rattle.palm_session.proofs.InModes.{heard_state}
 use Rattle.palm_session.proofs.Searched.{still_before}
 use Rattle.palm_session.proofs.LawsOfDomains.{inside_empty}
 use Rattle.palm_session.proofs.cited.LawsOfStates.{fresh_is}
@@ -138,8 +140,12 @@ HasOne s = HasOneEmpty s.engine
 
 changes_one : (s m : SessionState) (request : Request) → IsState s → Admits s request → Changes s request m → HasOne s → HasOne m
 changes_one s m NothingAsked is can h one = subst HasOne (sym h) one
+changes_one s m HeaderAsked is can h one = subst HasOne (sym h) one
 changes_one s m (DeclareAsked name domain) is can h one =
     subst HasOne (sym h.2) (declares_one s.engine h.0 (values_in domain) is.held.valid (declared_values s name domain can).some h.1 one)
+changes_one s m (DeclareIn name universe domain) is can h one =
+    let declared : HasOne h.0 = subst HasOne (sym h.1.2) (declares_one s.engine h.1.0 (values_in universe) is.held.valid (declared_values s name universe can.declare).some h.1.1 one) in
+    subst HasOne (sym h.2.2) (posts_one h.0.engine h.2.0 _ h.2.1 declared)
 changes_one s m (Add name con) is can h one = subst HasOne (sym h.2) (posts_one s.engine h.0 _ h.1 one)
 changes_one s m (Relax place) is can h one = subst HasOne (sym h.4) (withdraws_one s.engine _ h.1 h.3 one)
 changes_one s m (Enforce place) is can h one = subst HasOne (sym h.4) (posts_one s.engine h.1 _ h.3 one)
@@ -189,7 +195,9 @@ accepts_one s request reply t is can (says effect goes does n r) one = does_one 
 answers_one : (s : SessionState) (bytes reply : List ℕ) (t : SessionState) → IsState s → Answers s bytes reply t → HasOne s → HasOne t
 answers_one s bytes reply t is (misread error refusal q some) one = one
 answers_one s bytes reply t is (refused line refusal read first) one = one
-answers_one s bytes reply t is (accepted line request read a h) one = accepts_one s request reply t is (read_admits s is.held bytes line request read a) h one
+answers_one s bytes reply t is (accepted line request read a h) one =
+    let there = heard_state s line is in
+    accepts_one (heard s line) request reply t there (read_admits s.mode (heard s line) there.held bytes line request read a) h one
 
 lines_one : (s : SessionState) (lines : List (List ℕ)) (replies : List ℕ) (t : SessionState) → IsState s → Run s lines replies t → HasOne s → HasOne t
 lines_one s [] replies t is run one = subst HasOne (sym run.1) one

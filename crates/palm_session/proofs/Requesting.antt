@@ -1,35 +1,39 @@
 -- Each line that meets no refusal asks for one request, which can be obeyed.
-use Rattle.std.proofs.Common.{◌≡◌, ◌≢◌, ℕ, ℤ, ◌<◌, Bool, true, false, Some, None, List, [], length, All, AllPairs, Any, Contains, get_or, inl, inr, refl, sym, ap, ◌∙◌, subst, arith}
+use Rattle.std.proofs.Common.{◌≡◌, ◌≢◌, ℕ, ℤ, ◌+◌, ◌<◌, Bool, true, false, Some, None, List, [], ◌∷◌, ◌++◌, length, All, AllPairs, Any, Contains, get_or, inl, inr, refl, sym, ap, ◌∙◌, subst, arith, length-append}
 use Rattle.std.proofs.lemmas.Bool.{cases_Bool, cases_lt}
 use Rattle.std.proofs.lemmas.List.{get_or-map}
-use Rattle.std.proofs.lemmas.List.Elements.{Contains-get_or}
+use Rattle.std.proofs.lemmas.List.Elements.{All-cons, All-nil, Contains-get_or}
 use Rattle.std.proofs.lemmas.Option.{slice_get_within, get_or_from_slice_get}
 use Rattle.palm_base.specs.First.{IsNone}
-use Rattle.palm_base.proofs.cited.Members.{Known, all_members, int_known, member_get, member_known, member_place}
+use Rattle.palm_base.proofs.cited.Members.{Known, all_members, int_known, member_get, member_known, member_nil, member_place}
 use Rattle.palm_model.specs.Domains.{Domains, Has, values_of}
+use Rattle.palm_model.specs.Constraint.{IsWellFormed}
 use Rattle.palm_model.specs.declared.constraint.Con.{Con}
+use Rattle.palm_model.specs.declared.constraint.Con.TheVariants.{Within as WithinCon}
 use Rattle.palm_model.proofs.cited.Without.{pair_of}
 use Rattle.palm_base.specs.declared.terms.Pair.{Pair}
-use Rattle.palm_book.specs.Book.{BookVar, initial_of, name_of}
-use Rattle.palm_book.specs.Named.{IsPair, IsVariable, Resolves}
+use Rattle.palm_book.specs.Book.{AreValues, BookVar, initial_of, name_of}
+use Rattle.palm_book.specs.Named.{IsPair, IsVariable}
 use Rattle.palm_book.specs.declared.book.BookCon.{BookCon}
 use Rattle.palm_book.proofs.cited.Any.{any_member, member_any}
 use Rattle.palm_book.proofs.cited.Naming.{name_known, constraint_once, constraint_with, variable_with}
 use Rattle.palm_book.proofs.cited.Pairs.{pair_is, variable_is}
 use Rattle.palm_book.proofs.cited.WellFormed.{well_formed}
+use Rattle.palm_read.specs.Domain.{values_in}
 use Rattle.palm_read.specs.Limits.{names_of}
 use Rattle.palm_read.specs.Sound.{IsSound}
 use Rattle.palm_read.specs.declared.line.Line.{Line}
-use Rattle.palm_read.specs.declared.line.Line.TheVariants.{Comment, Var, Add as AddLine, Relax as RelaxLine, Enforce as EnforceLine, Retract as RetractLine, Domains as DomainsLine, Domain as DomainLine, List as ListLine, Log as LogLine, Why as WhyLine, Conflict as ConflictLine, Minimal as MinimalLine, MinimalConflict as MinimalConflictLine, Cert as CertLine, CertConflict as CertConflictLine, Pause as PauseLine, Resume as ResumeLine, Step as StepLine, SolveDbt, SolveRepair, Guide, GuideNone, Order, OrderNone, DropGuide as DropGuideLine, DropOrder as DropOrderLine, Quit as QuitLine}
+use Rattle.palm_read.specs.declared.line.Line.TheVariants.{Comment, Header, Var, VarIn, Add as AddLine, Relax as RelaxLine, Enforce as EnforceLine, Retract as RetractLine, Domains as DomainsLine, Domain as DomainLine, List as ListLine, Log as LogLine, Why as WhyLine, Conflict as ConflictLine, Minimal as MinimalLine, MinimalConflict as MinimalConflictLine, Cert as CertLine, CertConflict as CertConflictLine, Pause as PauseLine, Resume as ResumeLine, Step as StepLine, SolveDbt, SolveRepair, Guide, GuideNone, Order, OrderNone, DropGuide as DropGuideLine, DropOrder as DropOrderLine, Quit as QuitLine}
 use Rattle.palm_session.specs.declared.request.Procedure.TheVariants.{Dbt, Repair}
 use Rattle.palm_session.specs.declared.request.Question.TheVariants.{Domains as DomainsAsked, Domain, List as Listed, Log, Why, Conflict, Minimal, MinimalConflict, Cert, CertConflict}
 use Rattle.palm_session.specs.declared.request.Request.{Request}
-use Rattle.palm_session.specs.declared.request.Request.TheVariants.{Nothing as NothingAsked, Declare, Add, Relax, Enforce, Retract, Ask, Pause, Resume, Step, Solve, ChooseGuide, DropGuide, ChooseOrder, DropOrder, Quit}
+use Rattle.palm_session.specs.declared.request.Request.TheVariants.{Nothing as NothingAsked, Header as HeaderAsked, Declare, DeclareIn, Add, Relax, Enforce, Retract, Ask, Pause, Resume, Step, Solve, ChooseGuide, DropGuide, ChooseOrder, DropOrder, Quit}
 use Rattle.palm_session.specs.State.{SessionState, IsHeld, HasConstraint, HasVariable}
 use Rattle.palm_session.specs.Refusals.{HasActive, IsUndeclared, IsUnknown, Meets, in_order}
 use Rattle.palm_session.specs.Requests.{Admits, IsAdmitted, IsPlaceOf, Requests}
 use Rattle.palm_session.proofs.HeldObjects.{listed}
 use Rattle.palm_session.proofs.LawsOfLines.{GivesTabu}
+use Rattle.palm_book.proofs.cited.Intervals.{domain_values}
 
 -- ---- names stand for something
 
@@ -64,11 +68,12 @@ place_exists s name some = elim (name_known (λ (c : BookCon). c.name) s.book.co
 
 pub request_exists : (s : SessionState) (line : Line) → IsNone (Meets s line) in_order → (request : Request) × Requests s line request
 request_exists s Comment none = (NothingAsked, refl)
+request_exists s Header none = (HeaderAsked, refl)
 request_exists s (Var name domain) none = (Declare name domain, refl)
+request_exists s (VarIn name universe domain) none = (DeclareIn name universe domain, refl)
 request_exists s (AddLine name shape) none =
     let r = constraint_with s.book.variables shape (all_named s (names_of shape) none.1.0) in
-    let says : Resolves s.book.variables shape r.0 = record { declared = r.1; has_form = r.3; says = r.2 } in
-    (Add name r.0, (r.0, says, refl))
+    (Add name r.0, (r.0, r.1, refl))
 request_exists s (RelaxLine name) none = let p = place_exists s name none.1.1.0 in (Relax p.0, (p.0, p.1, refl))
 request_exists s (EnforceLine name) none = let p = place_exists s name none.1.1.0 in (Enforce p.0, (p.0, p.1, refl))
 request_exists s (RetractLine name) none = let p = place_exists s name none.1.1.0 in (Retract p.0, (p.0, p.1, refl))
@@ -125,9 +130,11 @@ module _ (s : SessionState) (is : IsHeld s) where
 
   pub request_once : (line : Line) (a b : Request) → Requests s line a → Requests s line b → a ≡ b
   request_once Comment a b x y = x ∙ sym y
+  request_once Header a b x y = x ∙ sym y
   request_once (Var name domain) a b x y = x ∙ sym y
+  request_once (VarIn name universe domain) a b x y = x ∙ sym y
   request_once (AddLine name shape) a b x y =
-      let same : x.0 ≡ y.0 = constraint_once s.book.variables is.book.different_variables x.0 y.0 x.1.declared y.1.declared x.1.has_form y.1.has_form (x.1.says ∙ sym y.1.says) in
+      let same : x.0 ≡ y.0 = constraint_once s.book.variables is.book.different_variables x.0 y.0 x.1.declared y.1.declared (x.1.says ∙ sym y.1.says) in
       x.2 ∙ ap (λ (con : Con). Add name con) same ∙ sym y.2
   request_once (RelaxLine name) a b x y = named_once name Relax a b x y
   request_once (EnforceLine name) a b x y = named_once name Enforce a b x y
@@ -191,12 +198,25 @@ is_awake b none = elim (cases_Bool b) [ inl on ↦ absurd (none on) | inr off �
 is_waiting : (b : Bool) → (b ≡ false → ⊥) → b ≡ true
 is_waiting b none = elim (cases_Bool b) [ inl on ↦ on | inr off ↦ absurd (none off) ]
 
+-- the last variable has one of some values
+within_formed : (variables : List BookVar) (e : BookVar) (values : List ℤ) → AreValues values → IsWellFormed (length (variables ++ e ∷ [])) (WithinCon (length variables) values)
+within_formed variables e values are =
+    let more : length (variables ++ e ∷ []) ≡ length variables + 1 = length-append variables (e ∷ []) in
+    record {
+      declared = All-cons (λ x. x < length (variables ++ e ∷ [])) (length variables) [] (omega (arith, more)) (All-nil (λ x. x < length (variables ++ e ∷ [])));
+      distinct = (member_nil (length variables), tt);
+      some = omega arith;
+      few = omega arith;
+      shaped = record { some = are.some; few = are.few; ascend = are.ascend; each = are.each };
+    }
+
 module _ (s : SessionState) (is : IsHeld s) where
   can_ask : (name : List ℕ) (value : ℤ) (pair : Pair) → (IsUndeclared s name value → ⊥) → IsPair s.book.variables name value pair → Has s.engine.initial pair.var pair.value
   can_ask name value pair asks found = subst (λ (d : Domains). Has d pair.var pair.value) (sym is.initial) (declared_pair s name value pair asks found)
 
   pub admits : (line : Line) (request : Request) → IsSound line → GivesTabu line → IsAdmitted s line request → Admits s request
   admits Comment request sound tabu a = subst (Admits s) (sym a.requests) tt
+  admits Header request sound tabu a = subst (Admits s) (sym a.requests) tt
   admits (Var name domain) request sound tabu a = subst (Admits s) (sym a.requests) (record {
     text = sound.0;
     free = a.none.0;
@@ -204,14 +224,30 @@ module _ (s : SessionState) (is : IsHeld s) where
     small = λ h. a.none.1.1.1.0 (inl h);
     room = λ h. a.none.1.1.1.0 (inr h);
   })
+  admits (VarIn name universe domain) request sound tabu a = subst (Admits s) (sym a.requests) (record {
+    declare = record {
+      text = sound.0;
+      free = λ h. a.none.0 (inl h);
+      sound = sound.1;
+      small = λ h. a.none.1.1.1.0 (inl (inl h));
+      room = λ h. a.none.1.1.1.0 (inr (inl h));
+    };
+    sound = sound.2;
+    small = λ h. a.none.1.1.1.0 (inl (inr h));
+    add = record {
+      text = sound.0;
+      free = λ h. a.none.0 (inr h);
+      formed = within_formed s.book.variables (record { name = name; values = values_in universe }) (values_in domain) (domain_values domain sound.2 (λ h. a.none.1.1.1.0 (inl (inr h))));
+      room = λ h. a.none.1.1.1.0 (inr (inr h));
+    };
+  })
   admits (AddLine name shape) request sound tabu a =
       let con = a.requests.0 in
       subst (Admits s) (sym a.requests.2) (record {
         text = sound.0;
         free = a.none.0;
         formed = well_formed s.book.variables shape con a.requests.1 sound.1 sound.2 (λ h. a.none.1.1.1.0 (inl (inl h))) (λ h. a.none.1.1.1.0 (inl (inr h)));
-        room = λ h. a.none.1.1.1.0 (inr (inl h));
-        numbers = λ h. a.none.1.1.1.0 (inr (inr h));
+        room = λ h. a.none.1.1.1.0 (inr h);
       })
   admits (RelaxLine name) request sound tabu a =
       let p = a.requests.1 in

@@ -14,6 +14,7 @@ use Rattle.palm_repair.specs.declared.answer.RepairAnswer.{RepairAnswer}
 use Rattle.palm_repair.specs.declared.answer.RepairAnswer.TheVariants.{Found as RepairFound, NoSolution as RepairNoSolution, Spent as RepairSpent}
 use Rattle.palm_book.specs.Book.{Contents, IsUser}
 use Rattle.palm_lang.specs.declared.reply.Lead.TheVariants.{NoSolution as NoSolutionLead}
+use Rattle.palm_read.specs.declared.mode.Mode.{Mode}
 use Rattle.palm_session.specs.declared.reply.Reply.TheVariants.{Found as FoundReply, Users, Spent as SpentReply}
 use Rattle.palm_session.specs.declared.request.Procedure.{Procedure}
 use Rattle.palm_session.specs.declared.request.Procedure.TheVariants.{Dbt, Repair}
@@ -76,17 +77,17 @@ repair_searches s tabu budget turns e answer h =
     let searches : SearchesByRepair s tabu budget turns (end_of answer) (Some h.dropped) e = record { count = h.dropped; repairs = h.repairs; told = refl } in searches
 
 -- lent objects have the same numbers
-pub lent_state : {G O : Type 0} (book : Contents) (engine after : View) (accepted : ℕ) (paused : Bool) (guides others : ObjectsView G) (orders more : ObjectsView O) (search done : SearchView)
+pub lent_state : {G O : Type 0} (mode : Mode) (book : Contents) (engine after : View) (accepted : ℕ) (paused : Bool) (guides others : ObjectsView G) (orders more : ObjectsView O) (search done : SearchView)
     → LendsChosen guides others → LendsChosen orders more
-    → (desk_of book after accepted paused others more done).state ≡ with_search (desk_of book engine accepted paused guides orders search).state done.journal after.state
-lent_state book engine after accepted paused guides others orders more search done one two =
+    → (desk_of mode book after accepted paused others more done).state ≡ with_search (desk_of mode book engine accepted paused guides orders search).state done.journal after.state
+lent_state mode book engine after accepted paused guides others orders more search done one two =
     rw (one.numbers, one.chosen, two.numbers, two.chosen) refl
 
 -- with what a desk holds
-pub searched_desk : {G O : Type 0} (book : Contents) (engine after : View) (accepted : ℕ) (paused : Bool) (guides others : ObjectsView G) (orders more : ObjectsView O) (search done : SearchView) (d : DeskView G O) (by : Procedure) (end : SearchEnd) (dropped : Option ℕ)
-    → desk_of book engine accepted paused guides orders search ≡ d → LendsChosen guides others → LendsChosen orders more
-    → SearchesIn (desk_of book engine accepted paused guides orders search).state by done.journal end dropped after.state
-    → HasRun d.state by end dropped (desk_of book after accepted paused others more done).state
-searched_desk {G = G} {O = O} book engine after accepted paused guides others orders more search done d by end dropped is one two searches =
-    subst (λ (z : DeskView G O). HasRun z.state by end dropped (desk_of book after accepted paused others more done).state) is
-    (record { turns = done.journal; engine = after.state; searches = searches; after = lent_state book engine after accepted paused guides others orders more search done one two })
+pub searched_desk : {G O : Type 0} (mode : Mode) (book : Contents) (engine after : View) (accepted : ℕ) (paused : Bool) (guides others : ObjectsView G) (orders more : ObjectsView O) (search done : SearchView) (d : DeskView G O) (by : Procedure) (end : SearchEnd) (dropped : Option ℕ)
+    → desk_of mode book engine accepted paused guides orders search ≡ d → LendsChosen guides others → LendsChosen orders more
+    → SearchesIn (desk_of mode book engine accepted paused guides orders search).state by done.journal end dropped after.state
+    → HasRun d.state by end dropped (desk_of mode book after accepted paused others more done).state
+searched_desk {G = G} {O = O} mode book engine after accepted paused guides others orders more search done d by end dropped is one two searches =
+    subst (λ (z : DeskView G O). HasRun z.state by end dropped (desk_of mode book after accepted paused others more done).state) is
+    (record { turns = done.journal; engine = after.state; searches = searches; after = lent_state mode book engine after accepted paused guides others orders more search done one two })

@@ -6,3 +6,4 @@ pub mod LawsOfAnswers
 pub mod LawsOfChanges
 pub mod LawsOfStates
 pub mod LawsOfTexts
+pub mod LedLemmas

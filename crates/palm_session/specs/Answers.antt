@@ -23,10 +23,11 @@ use Rattle.palm_session.specs.State.{SessionState, AreDomains, IsContradiction, 
 use Rattle.palm_session.specs.declared.request.Question.{Question}
 use Rattle.palm_session.specs.declared.request.Question.TheVariants.{Domains as DomainsAsked, Domain, List as Listed, Log, Why, Conflict, Minimal, MinimalConflict, Cert, CertConflict}
 use Rattle.palm_session.specs.declared.request.Request.{Request}
-use Rattle.palm_session.specs.declared.request.Request.TheVariants.{Nothing as NothingAsked, Declare, Add, Relax, Enforce, Retract, Ask, Pause, Resume, Step, Solve, ChooseGuide, DropGuide, ChooseOrder, DropOrder, Quit}
+use Rattle.palm_session.specs.declared.request.Request.TheVariants.{Nothing as NothingAsked, Header as HeaderAsked, Declare, DeclareIn, Add, Relax, Enforce, Retract, Ask, Pause, Resume, Step, Solve, ChooseGuide, DropGuide, ChooseOrder, DropOrder, Quit}
 use Rattle.palm_search.specs.declared.ending.SearchEnd.{SearchEnd}
 use Rattle.palm_search.specs.declared.ending.SearchEnd.TheVariants.{Found, NoSolution, Spent}
-use Rattle.palm_session.specs.Refusals.{Meets, in_order, refusal_of, heard}
+use Rattle.palm_session.specs.Modes.{heard, misheard}
+use Rattle.palm_session.specs.Refusals.{Meets, in_order, refusal_of}
 use Rattle.palm_session.specs.Requests.{IsAdmitted}
 use Rattle.palm_session.specs.Effects.{Effect, Settled, Searched, Does}
 
@@ -53,6 +54,7 @@ AsksOfDomains _ = ⊥
 -- the requests that are, where some variable has no value afterwards
 abbrev pub IsContradictable : Request → Type 0
 IsContradictable (Declare name domain) = Unit {0}
+IsContradictable (DeclareIn name universe domain) = Unit {0}
 IsContradictable (Add name con) = Unit {0}
 IsContradictable (Relax place) = Unit {0}
 IsContradictable (Enforce place) = Unit {0}
@@ -149,7 +151,9 @@ IsAnswer s CertConflict reply = (d : Domains) × AreDomains s d × SaysCertConfl
 -- no reply
 abbrev pub Says : SessionState → Request → Effect → List ℕ → Type 0
 Says s NothingAsked effect reply = reply ≡ []
+Says s HeaderAsked effect reply = reply ≡ fixed_text Done
 Says s (Declare name domain) effect reply = reply ≡ fixed_text Done
+Says s (DeclareIn name universe domain) effect reply = reply ≡ fixed_text Done
 Says s (Add name con) effect reply = reply ≡ fixed_text Done
 Says s (Relax place) effect reply = reply ≡ fixed_text Done
 Says s (Enforce place) effect reply = reply ≡ fixed_text Done
@@ -182,9 +186,10 @@ pub data Accepts : SessionState → Request → List ℕ → SessionState → Ty
   contradicts : {s t : SessionState} {request : Request} → (effect : Effect) → (WaitsFor s request → ⊥) → Does s request effect t → Contradicts t request → Accepts s request (fixed_text Contradiction) t
   says : {s t : SessionState} {request : Request} {reply : List ℕ} → (effect : Effect) → (WaitsFor s request → ⊥) → Does s request effect t → (Contradicts t request → ⊥) → Says t request effect reply → Accepts s request reply t
 
--- between what the session holds, a line, its reply and what the session holds afterwards: a line that cannot be read and
--- one that meets a refusal are refused, and of every other line the request that it asks for is accepted
+-- between what the session holds, a line, its reply and what the session holds afterwards: the line is read in the mode
+-- before it; a line that cannot be read and one that meets a refusal are refused, and leave nothing but their mode; and of
+-- every other line the request that it asks for is accepted, in the mode that the line sets
 pub data Answers : SessionState → List ℕ → List ℕ → SessionState → Type 0 where
-  misread : {s : SessionState} {bytes : List ℕ} → (error : LineError) (refusal : Refusal) → IsRefusedBy bytes error → refusal_of error ≡ Some refusal → Answers s bytes (refusal_text refusal) (heard s bytes)
-  refused : {s : SessionState} {bytes : List ℕ} → (line : Line) (refusal : Refusal) → IsRead bytes line → IsFirst (Meets s line) in_order refusal → Answers s bytes (refusal_text refusal) (heard s bytes)
-  accepted : {s t : SessionState} {bytes reply : List ℕ} → (line : Line) (request : Request) → IsRead bytes line → IsAdmitted s line request → Accepts s request reply t → Answers s bytes reply t
+  misread : {s : SessionState} {bytes : List ℕ} → (error : LineError) (refusal : Refusal) → IsRefusedBy s.mode bytes error → refusal_of error ≡ Some refusal → Answers s bytes (refusal_text refusal) (misheard s)
+  refused : {s : SessionState} {bytes : List ℕ} → (line : Line) (refusal : Refusal) → IsRead s.mode bytes line → IsFirst (Meets (heard s line) line) in_order refusal → Answers s bytes (refusal_text refusal) (heard s line)
+  accepted : {s t : SessionState} {bytes reply : List ℕ} → (line : Line) (request : Request) → IsRead s.mode bytes line → IsAdmitted (heard s line) line request → Accepts (heard s line) request reply t → Answers s bytes reply t

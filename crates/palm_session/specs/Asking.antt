@@ -4,6 +4,7 @@ use Rattle.palm_model.specs.Log.{Removal, log_pairs}
 use Rattle.palm_engine.specs.Work.{most_asked}
 use Rattle.palm_read.specs.Reading.{IsRead}
 use Rattle.palm_read.specs.declared.line.Line.{Line}
+use Rattle.palm_session.specs.Modes.{heard}
 use Rattle.palm_session.specs.State.{SessionState}
 use Rattle.palm_session.specs.declared.request.Procedure.{Procedure}
 use Rattle.palm_session.specs.declared.request.Request.{Request}
@@ -19,9 +20,9 @@ pub record HasSettling (s : SessionState) (bytes : List ℕ) (t : SessionState) 
   pub changed : SessionState
   pub limit : Option ℕ
   pub gained : List Removal
-  pub read : IsRead bytes line
-  pub admitted : IsAdmitted s line request
-  pub changes : Changes s request changed
+  pub read : IsRead s.mode bytes line
+  pub admitted : IsAdmitted (heard s line) line request
+  pub changes : Changes (heard s line) request changed
   pub filters : next changed request ≡ Filters limit
   pub log : t.engine.log ≡ changed.engine.log ++ gained
 
@@ -29,8 +30,8 @@ pub record HasSettling (s : SessionState) (bytes : List ℕ) (t : SessionState) 
 pub record HasSearch (s : SessionState) (bytes : List ℕ) : Type 0 where
   pub line : Line
   pub by : Procedure
-  pub read : IsRead bytes line
-  pub admitted : IsAdmitted s line (Solve by)
+  pub read : IsRead s.mode bytes line
+  pub admitted : IsAdmitted (heard s line) line (Solve by)
   pub awake : s.paused ≡ false
 
 -- answering the line asks for support so often: not at all, or where filtering follows the line, no more than this settling

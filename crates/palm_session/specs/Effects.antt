@@ -5,6 +5,7 @@ use Rattle.palm_base.specs.declared.terms.Cid.TheVariants.{User}
 use Rattle.palm_model.specs.State.{EngineState}
 use Rattle.palm_model.specs.Event.{Posts, Withdraws, Declares}
 use Rattle.palm_model.specs.declared.constraint.Con.{Con}
+use Rattle.palm_model.specs.declared.constraint.Con.TheVariants.{Within as WithinCon}
 use Rattle.palm_engine.specs.Settling.{Revision, Settles, FitsOrder}
 use Rattle.palm_search.specs.declared.ending.SearchEnd.{SearchEnd}
 use Rattle.palm_search.specs.Search.{Searches as SearchesWhole}
@@ -13,10 +14,11 @@ use Rattle.palm_repair.specs.Repair.{Repairs}
 use Rattle.palm_book.specs.Book.{with_active, user_at}
 use Rattle.palm_book.specs.declared.book.BookCon.{BookCon}
 use Rattle.palm_read.specs.Domain.{values_in}
+use Rattle.palm_read.specs.declared.line.DomainText.{DomainText}
 use Rattle.palm_session.specs.declared.request.Procedure.{Procedure}
 use Rattle.palm_session.specs.declared.request.Procedure.TheVariants.{Dbt, Repair}
 use Rattle.palm_session.specs.declared.request.Request.{Request}
-use Rattle.palm_session.specs.declared.request.Request.TheVariants.{Nothing as NothingAsked, Declare, Add, Relax, Enforce, Retract, Ask, Pause, Resume, Step, Solve, ChooseGuide, DropGuide, ChooseOrder, DropOrder, Quit}
+use Rattle.palm_session.specs.declared.request.Request.TheVariants.{Nothing as NothingAsked, Header as HeaderAsked, Declare, DeclareIn, Add, Relax, Enforce, Retract, Ask, Pause, Resume, Step, Solve, ChooseGuide, DropGuide, ChooseOrder, DropOrder, Quit}
 use Rattle.palm_session.specs.Objects.{without_number, chosen_without}
 use Rattle.palm_session.specs.State.{SessionState}
 
@@ -78,11 +80,25 @@ WithdrawsWhere false e cid after = after ≡ e
 abbrev pub WithdrawsActive : EngineState → BookCon → EngineState → Type 0
 WithdrawsActive e c after = WithdrawsWhere c.active e (User c.number) after
 
+-- the constraint that the variable which is declared next has a value of the domain
+abbrev pub next_within : SessionState → DomainText → Con
+next_within s domain = WithinCon (length s.book.variables) (values_in domain)
+
+-- a variable is declared with the values of the domain
+abbrev pub DeclaresNext : SessionState → List ℕ → DomainText → SessionState → Type 0
+DeclaresNext s name domain t = (e : EngineState) × Declares s.engine (values_in domain) e × (t ≡ with_engine (with_variable s name (values_in domain)) e)
+
+-- a constraint is added under the next number
+abbrev pub AddsNext : SessionState → List ℕ → Con → SessionState → Type 0
+AddsNext s name con t = (e : EngineState) × Posts s.engine (user_at (next_constraint s name con)) e × (t ≡ with_engine (with_constraint s name con) e)
+
 -- what the request changes before anything is filtered
 abbrev pub Changes : SessionState → Request → SessionState → Type 0
 Changes s NothingAsked t = t ≡ s
-Changes s (Declare name domain) t = (e : EngineState) × Declares s.engine (values_in domain) e × (t ≡ with_engine (with_variable s name (values_in domain)) e)
-Changes s (Add name con) t = (e : EngineState) × Posts s.engine (user_at (next_constraint s name con)) e × (t ≡ with_engine (with_constraint s name con) e)
+Changes s HeaderAsked t = t ≡ s
+Changes s (Declare name domain) t = DeclaresNext s name domain t
+Changes s (DeclareIn name universe domain) t = (m : SessionState) × DeclaresNext s name universe m × AddsNext m name (next_within s domain) t
+Changes s (Add name con) t = AddsNext s name con t
 Changes s (Relax place) t =
     (c : BookCon) × (e : EngineState) × (slice_get s.book.constraints place ≡ Some c) × Withdraws s.engine (User c.number) e
     × (t ≡ with_engine (with_active_at s place false) e)
@@ -117,6 +133,7 @@ unless_paused s = if s.paused then Rests else Filters None
 
 -- what follows the request in what is held after its change
 abbrev pub next : SessionState → Request → Next
+next s (DeclareIn name universe domain) = unless_paused s
 next s (Add name con) = unless_paused s
 next s (Relax place) = unless_paused s
 next s (Enforce place) = unless_paused s

@@ -1,6 +1,7 @@
 -- What the guides and orders are asked and told while lines are answered. What is held tells their numbers alone, so the
 -- objects stand beside it, before and after.
 use Rattle.std.specs.Prelude.{◌≡◌, ℕ, ◌⊎◌, is_some, List, [], ◌∷◌, ◌++◌, All, map, flat_map, Option, Some}
+use Rattle.palm_base.specs.Streams.{Appended}
 use Rattle.palm_model.specs.State.{EngineState}
 use Rattle.palm_engine.specs.Following.{Hearing, LeadsAlong, hearings}
 use Rattle.palm_engine.specs.Settling.{Revision, Settles, FitsOrder}
@@ -14,6 +15,7 @@ use Rattle.palm_read.specs.declared.line.Line.{Line}
 use Rattle.palm_lang.specs.Reply.{ended}
 use Rattle.palm_session.specs.Answers.{Answers, WaitsFor}
 use Rattle.palm_session.specs.Effects.{Changes, Next, Rests, Filters, Searches, next, unless_paused}
+use Rattle.palm_session.specs.Modes.{heard}
 use Rattle.palm_session.specs.Objects.{HeldObjects, LendsChosen, chosen_object, without_object}
 use Rattle.palm_session.specs.Replies.{GoesOn, Ends}
 use Rattle.palm_session.specs.Requests.{IsAdmitted}
@@ -104,13 +106,13 @@ TakesLead guiding ordering s request before t after = (WaitsFor s request × (af
 -- the line is admitted with the request
 pub record HasRequest (s : SessionState) (bytes : List ℕ) (request : Request) : Type 0 where
   pub line : Line
-  pub read : IsRead bytes line
-  pub admitted : IsAdmitted s line request
+  pub read : IsRead s.mode bytes line
+  pub admitted : IsAdmitted (heard s line) line request
 
 -- answering a line: the objects are as they were where it is admitted with no request, and else its request leads them
 abbrev pub LineLeads : {G O : Type 0} → Guiding G → Ordering O → SessionState → List ℕ → HeldObjects G O → SessionState → HeldObjects G O → Type 0
 LineLeads guiding ordering s bytes before t after = (((request : Request) → HasRequest s bytes request → ⊥) × (after ≡ before))
-    ⊎ ((request : Request) × HasRequest s bytes request × TakesLead guiding ordering s request before t after)
+    ⊎ ((request : Request) × (has : HasRequest s bytes request) × TakesLead guiding ordering (heard s has.line) request before t after)
 
 -- from s the lines are answered one after another, with these replies in all, each leads the objects, and t is held in the end
 abbrev pub RunLeads : {G O : Type 0} → Guiding G → Ordering O → SessionState → List (List ℕ) → List ℕ → HeldObjects G O → SessionState → HeldObjects G O → Type 0
@@ -127,15 +129,16 @@ pub record TextLeads {G O : Type 0} (guiding : Guiding G) (ordering : Ordering O
   pub unbroken : All HasNoFeed lines
   pub run : RunLeads guiding ordering s (map without_return lines) replies before t after
 
--- each line that the text completes was answered, and leads the objects
-pub record LinesLead {G O : Type 0} (guiding : Guiding G) (ordering : Ordering O) (s : SessionState) (text rest : List ℕ) (before : HeldObjects G O) (t : SessionState) (after : HeldObjects G O) : Type 0 where
+-- each line that the text completes was answered, its reply written, and leads the objects
+pub record LinesLead {G O : Type 0} (guiding : Guiding G) (ordering : Ordering O) (s : SessionState) (text : List ℕ) (was now : Option (List ℕ)) (rest : List ℕ) (before : HeldObjects G O) (t : SessionState) (after : HeldObjects G O) : Type 0 where
   pub lines : List (List ℕ)
   pub replies : List ℕ
   pub led : TextLeads guiding ordering s text lines rest replies before t after
   pub goes_on : All GoesOn (map without_return lines)
+  pub written : Appended was now replies
 
--- the lines up to one that ends the session were answered, and lead the objects
-pub record LinesLeadOut {G O : Type 0} (guiding : Guiding G) (ordering : Ordering O) (s : SessionState) (text : List ℕ) (before : HeldObjects G O) (t : SessionState) (after : HeldObjects G O) : Type 0 where
+-- the lines up to one that ends the session were answered, their replies written, and lead the objects
+pub record LinesLeadOut {G O : Type 0} (guiding : Guiding G) (ordering : Ordering O) (s : SessionState) (text : List ℕ) (was now : Option (List ℕ)) (before : HeldObjects G O) (t : SessionState) (after : HeldObjects G O) : Type 0 where
   pub lines : List (List ℕ)
   pub last : List ℕ
   pub rest : List ℕ
@@ -143,12 +146,15 @@ pub record LinesLeadOut {G O : Type 0} (guiding : Guiding G) (ordering : Orderin
   pub led : TextLeads guiding ordering s text (lines ++ last ∷ []) rest replies before t after
   pub goes_on : All GoesOn (map without_return lines)
   pub ends : Ends (without_return last)
+  pub written : Appended was now replies
 
--- answering the lines of a text, whose rest completes no line where the session goes on
-abbrev pub FeedsLead : {G O : Type 0} → Guiding G → Ordering O → SessionState → List ℕ → HeldObjects G O → SessionState → HeldObjects G O → Going → Type 0
-FeedsLead guiding ordering s text before t after More = (rest : List ℕ) × HasNoFeed rest × LinesLead guiding ordering s text rest before t after
-FeedsLead guiding ordering s text before t after Quit = LinesLeadOut guiding ordering s text before t after
+-- answering the lines of a text and writing the replies, where the rest of the text completes no line if the session goes on
+abbrev pub FeedsLead : {G O : Type 0} → Guiding G → Ordering O → SessionState → List ℕ → Option (List ℕ) → Option (List ℕ) → HeldObjects G O → SessionState → HeldObjects G O → Going → Type 0
+FeedsLead guiding ordering s text was now before t after More = (rest : List ℕ) × HasNoFeed rest × LinesLead guiding ordering s text was now rest before t after
+FeedsLead guiding ordering s text was now before t after Quit = LinesLeadOut guiding ordering s text was now before t after
 
--- answering a last line without its line feed, if it has a byte
-abbrev pub LastLeads : {G O : Type 0} → Guiding G → Ordering O → SessionState → List ℕ → HeldObjects G O → SessionState → HeldObjects G O → Type 0
-LastLeads guiding ordering s line before t after = (replies : List ℕ) × RunLeads guiding ordering s (last_line line) replies before t after
+-- answering a last line without its line feed, if it has a byte, and writing the reply
+pub record LastLeads {G O : Type 0} (guiding : Guiding G) (ordering : Ordering O) (s : SessionState) (line : List ℕ) (was now : Option (List ℕ)) (before : HeldObjects G O) (t : SessionState) (after : HeldObjects G O) : Type 0 where
+  pub replies : List ℕ
+  pub run : RunLeads guiding ordering s (last_line line) replies before t after
+  pub written : Appended was now replies

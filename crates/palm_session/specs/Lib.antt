@@ -4,6 +4,7 @@ pub mod Effects
 pub mod Feeding
 pub mod Led
 pub mod Logged
+pub mod Modes
 pub mod Objects
 pub mod Refusals
 pub mod Replies

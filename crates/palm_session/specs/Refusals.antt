@@ -2,12 +2,13 @@
 use Rattle.std.specs.Prelude.{◌≡◌, ◌≤◌, Bool, true, false, List, [], ◌∷◌, ◌⊎◌, ℕ, ℤ, length, Any, Contains, Option, Some, None}
 use Rattle.palm_read.specs.Limits.{names_of, IsBeyond}
 use Rattle.palm_read.specs.declared.line.Line.{Line}
-use Rattle.palm_read.specs.declared.line.Line.TheVariants.{Var, Add, Relax, Enforce, Retract, Domain, Why, Minimal, Cert, Pause, Resume, Step, Guide, Order, DropGuide, DropOrder}
+use Rattle.palm_read.specs.declared.line.Line.TheVariants.{Var, VarIn, Add, Relax, Enforce, Retract, Domain, Why, Minimal, Cert, Pause, Resume, Step, Guide, Order, DropGuide, DropOrder}
 use Rattle.palm_read.specs.declared.parse.LineError.{LineError}
 use Rattle.palm_read.specs.declared.parse.LineError.TheVariants.{Bytes, Form, Range as OutOfRange, Empty, Repeated, NoMemory}
 use Rattle.palm_lang.specs.declared.reply.Refusal.{Refusal}
 use Rattle.palm_lang.specs.declared.reply.Refusal.TheVariants.{E1, E2, E3, E4, E5, E6, E7, E8, E9, E10, E11, E12}
-use Rattle.palm_book.specs.declared.limits.TheConstants.{MOST_VARIABLES, MOST_CONSTRAINTS, MOST_ADDED}
+use Rattle.palm_book.specs.Limits.{most_variables, most_constraints}
+use Rattle.palm_book.specs.declared.limits.TheConstants.{MOST_ADDED}
 use Rattle.palm_session.specs.State.{SessionState, HasVariable, HasConstraint}
 
 -- a name of a variable is wanted and there is none
@@ -17,6 +18,7 @@ IsUnknown s name = HasVariable s name → ⊥
 -- the line declares or adds a name that stands for something already
 abbrev pub TakesName : SessionState → Line → Type 0
 TakesName s (Var name domain) = HasVariable s name
+TakesName s (VarIn name universe domain) = HasVariable s name ⊎ HasConstraint s name
 TakesName s (Add name shape) = HasConstraint s name
 TakesName s _ = ⊥
 
@@ -36,10 +38,19 @@ NamesNoConstraint s (Enforce name) = HasConstraint s name → ⊥
 NamesNoConstraint s (Retract name) = HasConstraint s name → ⊥
 NamesNoConstraint s _ = ⊥
 
+-- there are as many variables as its mode allows
+abbrev pub IsFullOfVariables : SessionState → Type 0
+IsFullOfVariables s = most_variables s.mode ≤ length s.book.variables
+
+-- there are as many constraints as its mode allows, or no number is left for one more
+abbrev pub IsFullOfConstraints : SessionState → Type 0
+IsFullOfConstraints s = (most_constraints s.mode ≤ length s.book.constraints) ⊎ (MOST_ADDED ≤ s.accepted)
+
 -- the session is full
 abbrev pub HasNoRoom : SessionState → Line → Type 0
-HasNoRoom s (Var name domain) = MOST_VARIABLES ≤ length s.book.variables
-HasNoRoom s (Add name shape) = (MOST_CONSTRAINTS ≤ length s.book.constraints) ⊎ (MOST_ADDED ≤ s.accepted)
+HasNoRoom s (Var name domain) = IsFullOfVariables s
+HasNoRoom s (VarIn name universe domain) = IsFullOfVariables s ⊎ IsFullOfConstraints s
+HasNoRoom s (Add name shape) = IsFullOfConstraints s
 HasNoRoom s _ = ⊥
 
 -- the object that the line chooses or drops was never handed in, or was dropped
@@ -97,7 +108,3 @@ refusal_of OutOfRange = Some E6
 refusal_of Empty = Some E9
 refusal_of Repeated = Some E8
 refusal_of NoMemory = None
-
--- what a session holds after a line that it refuses
-abbrev pub heard : SessionState → List ℕ → SessionState
-heard s bytes = s

@@ -1,15 +1,16 @@
 -- The replies to a whole text.
-use Rattle.std.specs.Prelude.{◌≡◌, ℕ, List, [], ◌∷◌, ◌++◌, All, Contains, None, map, flat_map}
+use Rattle.std.specs.Prelude.{◌≡◌, ℕ, ◌⊎◌, List, [], ◌∷◌, ◌++◌, All, Contains, None, map, flat_map}
 use Rattle.palm_read.specs.Reading.{IsRead}
-use Rattle.palm_read.specs.declared.line.Line.TheVariants.{Guide, Order, Quit}
+use Rattle.palm_read.specs.declared.mode.Mode.TheVariants.{First, One}
+use Rattle.palm_read.specs.declared.line.Line.TheVariants.{Comment, Header, Guide, Order, Quit}
 use Rattle.palm_session.specs.State.{SessionState, fresh}
 use Rattle.palm_session.specs.Answers.{Answers}
 use Rattle.palm_lang.specs.Reply.{ended}
 use Rattle.palm_read.specs.Lines.{AreLines, HasNoFeed, without_return}
 
--- the line ends the session
+-- the line ends the session: in every mode, since what version 1 reads is read in each of them
 abbrev pub Ends : List ℕ → Type 0
-Ends line = IsRead line Quit
+Ends line = IsRead One line Quit
 
 -- the line does not end the session
 abbrev pub GoesOn : List ℕ → Type 0
@@ -38,14 +39,23 @@ pub record Answered (before : SessionState) (text : List ℕ) (lines : List (Lis
   pub unbroken : All HasNoFeed lines
   pub run : Run before (map without_return lines) replies after
 
--- the output is the replies to the lines of the text, one by one, from a fresh session with these guides and orders
-pub record Replies (guides orders : List ℕ) (text output : List ℕ) : Type 0 where
+-- the output is the replies to the lines of the text, one by one, from this state on
+pub record RepliesFrom (s : SessionState) (text output : List ℕ) : Type 0 where
   pub lines : List (List ℕ)
   pub answered : List (List ℕ)
   pub state : SessionState
   pub are_lines : AreLines text lines
   pub are_answered : AreAnswered lines answered
-  pub run : Run (fresh guides orders) answered output state
+  pub run : Run s answered output state
+
+-- the same from a fresh session with these guides and orders
+abbrev pub Replies : List ℕ → List ℕ → List ℕ → List ℕ → Type 0
+Replies guides orders text output = RepliesFrom (fresh guides orders) text output
+
+-- the first of the lines that is no comment is the header
+abbrev pub BeginsVersion2 : List (List ℕ) → Type 0
+BeginsVersion2 [] = ⊥
+BeginsVersion2 (line ∷ lines) = IsRead First line Header ⊎ (IsRead First line Comment × BeginsVersion2 lines)
 
 -- no guide and no order is chosen
 abbrev pub HasNoneChosen : SessionState → Type 0
@@ -57,10 +67,10 @@ KeepsNoneChosen guides orders text =
     (before after : List (List ℕ)) (line replies : List ℕ) (s : SessionState)
     → AreLines text (before ++ line ∷ after) → All GoesOn before → Run (fresh guides orders) before replies s → HasNoneChosen s
 
--- the line chooses one of the guides or orders that were handed in
+-- the line chooses one of the guides or orders that were handed in, in every mode
 pub data ChoosesObject (guides orders line : List ℕ) : Type 0 where
-  chooses_guide : (number : ℕ) → Contains guides number → IsRead line (Guide number) → ChoosesObject guides orders line
-  chooses_order : (number : ℕ) → Contains orders number → IsRead line (Order number) → ChoosesObject guides orders line
+  chooses_guide : (number : ℕ) → Contains guides number → IsRead One line (Guide number) → ChoosesObject guides orders line
+  chooses_order : (number : ℕ) → Contains orders number → IsRead One line (Order number) → ChoosesObject guides orders line
 
 -- no line of the text does
 abbrev pub ChoosesNone : List ℕ → List ℕ → List ℕ → Type 0

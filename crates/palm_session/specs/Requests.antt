@@ -1,28 +1,28 @@
 -- What a line that was read asks for, and which requests are admitted.
-use Rattle.std.specs.Prelude.{◌≡◌, ℕ, ℤ, ◌<◌, ◌≤◌, ⊤, Bool, true, false, List, Contains, IfSome, length, None, Some, Result, Ok, Err, slice_get}
+use Rattle.std.specs.Prelude.{◌≡◌, ℕ, ℤ, ◌<◌, ⊤, Bool, true, false, List, Contains, IfSome, length, None, Some, Result, Ok, Err, slice_get}
 use Rattle.palm_base.specs.First.{IsFirst, IsNone}
 use Rattle.palm_base.specs.declared.terms.Pair.{Pair}
 use Rattle.palm_book.specs.Named.{IsPair, IsVariable, Resolves}
 use Rattle.palm_book.specs.declared.book.BookCon.{BookCon}
-use Rattle.palm_book.specs.declared.limits.TheConstants.{MOST_VARIABLES, MOST_CONSTRAINTS, MOST_ADDED}
 use Rattle.palm_lang.specs.declared.reply.Refusal.{Refusal}
 use Rattle.palm_lang.specs.declared.reply.Refusal.TheVariants.{E4, E12}
 use Rattle.palm_model.specs.Constraint.{IsWellFormed}
 use Rattle.palm_model.specs.Domains.{Has}
 use Rattle.palm_model.specs.declared.constraint.Con.{Con}
-use Rattle.palm_read.specs.Domain.{IsLarge, IsSoundDomain}
+use Rattle.palm_read.specs.Domain.{IsLarge, IsSoundDomain, values_in}
 use Rattle.palm_read.specs.Name.{IsNameText}
 use Rattle.palm_read.specs.declared.line.DomainText.{DomainText}
 use Rattle.palm_read.specs.declared.line.Line.{Line}
-use Rattle.palm_read.specs.declared.line.Line.TheVariants.{Comment, Var, Add as AddLine, Relax as RelaxLine, Enforce as EnforceLine, Retract as RetractLine, Domains as DomainsLine, Domain as DomainLine, List as ListLine, Log as LogLine, Why as WhyLine, Conflict as ConflictLine, Minimal as MinimalLine, MinimalConflict as MinimalConflictLine, Cert as CertLine, CertConflict as CertConflictLine, Pause as PauseLine, Resume as ResumeLine, Step as StepLine, SolveDbt, SolveRepair, Guide, GuideNone, Order, OrderNone, DropGuide as DropGuideLine, DropOrder as DropOrderLine, Quit as QuitLine}
+use Rattle.palm_read.specs.declared.line.Line.TheVariants.{Comment, Header, Var, VarIn, Add as AddLine, Relax as RelaxLine, Enforce as EnforceLine, Retract as RetractLine, Domains as DomainsLine, Domain as DomainLine, List as ListLine, Log as LogLine, Why as WhyLine, Conflict as ConflictLine, Minimal as MinimalLine, MinimalConflict as MinimalConflictLine, Cert as CertLine, CertConflict as CertConflictLine, Pause as PauseLine, Resume as ResumeLine, Step as StepLine, SolveDbt, SolveRepair, Guide, GuideNone, Order, OrderNone, DropGuide as DropGuideLine, DropOrder as DropOrderLine, Quit as QuitLine}
 use Rattle.palm_session.specs.declared.request.Procedure.{Procedure}
 use Rattle.palm_session.specs.declared.request.Procedure.TheVariants.{Dbt, Repair}
 use Rattle.palm_session.specs.declared.request.Question.{Question}
 use Rattle.palm_session.specs.declared.request.Question.TheVariants.{Domains, Domain, List as Listed, Log, Why, Conflict, Minimal, MinimalConflict, Cert, CertConflict}
 use Rattle.palm_session.specs.declared.request.Request.{Request}
-use Rattle.palm_session.specs.declared.request.Request.TheVariants.{Nothing as NothingAsked, Declare, Add, Relax, Enforce, Retract, Ask, Pause, Resume, Step, Solve, ChooseGuide, DropGuide, ChooseOrder, DropOrder, Quit}
+use Rattle.palm_session.specs.declared.request.Request.TheVariants.{Nothing as NothingAsked, Header as HeaderAsked, Declare, DeclareIn, Add, Relax, Enforce, Retract, Ask, Pause, Resume, Step, Solve, ChooseGuide, DropGuide, ChooseOrder, DropOrder, Quit}
 use Rattle.palm_session.specs.State.{SessionState, HasVariable, HasConstraint}
-use Rattle.palm_session.specs.Refusals.{IsUndeclared, IsUnknown, Meets, in_order}
+use Rattle.palm_session.specs.Effects.{next_within, with_variable}
+use Rattle.palm_session.specs.Refusals.{IsFullOfConstraints, IsFullOfVariables, IsUndeclared, IsUnknown, Meets, in_order}
 
 -- ---- what lines ask for
 
@@ -35,7 +35,9 @@ pub record IsPlaceOf (s : SessionState) (name : List ℕ) (place : ℕ) : Type 0
 -- the line asks for the request, of the variables, the pairs and the constraints that its names stand for
 abbrev pub Requests : SessionState → Line → Request → Type 0
 Requests s Comment request = request ≡ NothingAsked
+Requests s Header request = request ≡ HeaderAsked
 Requests s (Var name domain) request = request ≡ Declare name domain
+Requests s (VarIn name universe domain) request = request ≡ DeclareIn name universe domain
 Requests s (AddLine name shape) request = (con : Con) × Resolves s.book.variables shape con × (request ≡ Add name con)
 Requests s (RelaxLine name) request = (place : ℕ) × IsPlaceOf s name place × (request ≡ Relax place)
 Requests s (EnforceLine name) request = (place : ℕ) × IsPlaceOf s name place × (request ≡ Enforce place)
@@ -71,6 +73,7 @@ pub record IsAdmitted (s : SessionState) (line : Line) (request : Request) : Typ
 -- the line declares or adds something
 abbrev pub IsNew : Line → Type 0
 IsNew (Var name domain) = Unit {0}
+IsNew (VarIn name universe domain) = Unit {0}
 IsNew (AddLine name shape) = Unit {0}
 IsNew _ = ⊥
 
@@ -94,15 +97,21 @@ pub record CanDeclare (s : SessionState) (name : List ℕ) (domain : DomainText)
   pub free : HasVariable s name → ⊥
   pub sound : IsSoundDomain domain
   pub small : IsLarge domain → ⊥
-  pub room : MOST_VARIABLES ≤ length s.book.variables → ⊥
+  pub room : IsFullOfVariables s → ⊥
 
 -- the name is free, the constraint is well formed, and there is room for one more, and a number
 pub record CanAdd (s : SessionState) (name : List ℕ) (con : Con) : Type 0 where
   pub text : IsNameText name
   pub free : HasConstraint s name → ⊥
   pub formed : IsWellFormed (length s.book.variables) con
-  pub room : MOST_CONSTRAINTS ≤ length s.book.constraints → ⊥
-  pub numbers : MOST_ADDED ≤ s.accepted → ⊥
+  pub room : IsFullOfConstraints s → ⊥
+
+-- the variable can be declared, the domain is one, and then its constraint can be added under the same name
+pub record CanDeclareIn (s : SessionState) (name : List ℕ) (universe domain : DomainText) : Type 0 where
+  pub declare : CanDeclare s name universe
+  pub sound : IsSoundDomain domain
+  pub small : IsLarge domain → ⊥
+  pub add : CanAdd (with_variable s name (values_in universe)) name (next_within s domain)
 
 -- a constraint stands at the place, and is active or relaxed
 pub record StandsAt (s : SessionState) (place : ℕ) (active : Bool) : Type 0 where
@@ -131,6 +140,7 @@ budget_of (Repair tabu budget) = budget
 -- the request can be obeyed in what is held
 abbrev pub Admits : SessionState → Request → Type 0
 Admits s (Declare name domain) = CanDeclare s name domain
+Admits s (DeclareIn name universe domain) = CanDeclareIn s name universe domain
 Admits s (Add name con) = CanAdd s name con
 Admits s (Relax place) = StandsAt s place true
 Admits s (Enforce place) = StandsAt s place false

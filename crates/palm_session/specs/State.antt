@@ -7,13 +7,16 @@ use Rattle.palm_model.specs.Log.{cons_of}
 use Rattle.palm_model.specs.State.{EngineState, IsValid, blank}
 use Rattle.palm_events.specs.Along.{IsStill}
 use Rattle.palm_book.specs.declared.limits.TheConstants.{MOST_ADDED}
+use Rattle.palm_read.specs.declared.mode.Mode.{Mode}
+use Rattle.palm_read.specs.declared.mode.Mode.TheVariants.{First}
 use Rattle.palm_search.specs.declared.turn.Turn.{Turn}
 use Rattle.palm_book.specs.Book.{Contents, IsBook, initial_of, active_of}
 use Rattle.palm_book.specs.Book as in_book
 
--- the book, how many `add` lines were accepted, whether filtering waits, the guides and orders (the numbers of those
+-- the mode in which the next line is read, the book, how many accepted lines added a constraint, whether filtering waits, the guides and orders (the numbers of those
 -- that are there, and which one is chosen), the turns of the last search, and what the engine holds
 pub record SessionState : Type 0 where
+  pub mode : Mode
   pub book : Contents
   pub accepted : ℕ
   pub paused : Bool
@@ -24,10 +27,11 @@ pub record SessionState : Type 0 where
   pub journal : List Turn
   pub engine : EngineState
 
--- no variable, no constraint, nothing accepted, no search; the guides and orders that were handed in are there, and none is
+-- no line, no variable, no constraint, no search so far; the guides and orders that were handed in are there, and none is
 -- chosen
 abbrev pub fresh : List ℕ → List ℕ → SessionState
 fresh guides orders = record {
+  mode = First;
   book = record { variables = []; constraints = [] };
   accepted = 0;
   paused = false;

@@ -3,7 +3,7 @@
 ghost use Rattle.std.specs.Prelude.{◌≡◌, ◌≤◌, ◌⊎◌, IfOk, length};
 ghost use Rattle.palm_base.specs.Tells.{Tells};
 ghost use Rattle.palm_read.specs.Limits.{IsBeyond};
-ghost use Rattle.palm_session.specs.Refusals.{refusal_of};
+ghost use Rattle.palm_session.specs.Refusals.{IsFullOfConstraints, IsFullOfVariables, refusal_of};
 ghost use Rattle.palm_session.specs.Requests.{Admission, FindsPair, IsNew};
 ghost use Rattle.palm_session.specs.State.{IsHeld};
 
@@ -13,8 +13,8 @@ use palm_agenda::Order;
 use palm_base::{NoMemory, Pair, Value};
 use palm_guide::Guide;
 use palm_lang::{
-    DomainText, Line, LineError, MOST_ADDED, MOST_CONSTRAINTS, MOST_VARIABLES, Name, Refusal,
-    Shape, Unresolved, beyond,
+    DomainText, Line, LineError, MOST_ADDED, Name, Refusal, Shape, Unresolved, beyond,
+    most_constraints, most_variables,
 };
 
 /// The refusal of a line that could not be read; want of memory has none.
@@ -39,7 +39,8 @@ impl<G: Guide, O: Order> Desk<G, O> {
     {
         match line {
             Line::Comment => Ok(Ok(Request::Nothing)),
-            Line::Var { .. } | Line::Add { .. } => self.admit_new(line),
+            Line::Header => Ok(Ok(Request::Header)),
+            Line::Var { .. } | Line::VarIn { .. } | Line::Add { .. } => self.admit_new(line),
             Line::Relax(name) => Ok(self.admit_relax(&name)),
             Line::Enforce(name) => Ok(self.admit_enforce(&name)),
             Line::Retract(name) => Ok(self.admit_retract(&name)),
@@ -91,6 +92,11 @@ impl<G: Guide, O: Order> Desk<G, O> {
     {
         match line {
             Line::Var { name, domain } => Ok(self.admit_var(name, domain, is_beyond)),
+            Line::VarIn {
+                name,
+                universe,
+                domain,
+            } => Ok(self.admit_var_in(name, universe, domain, is_beyond)),
             Line::Add { name, shape } => self.admit_add(name, shape, is_beyond),
             _ => unreachable!(),
         }
@@ -104,10 +110,34 @@ impl<G: Guide, O: Order> Desk<G, O> {
         if self.book().has_variable(&name) {
             return Err(Refusal::E3);
         }
-        if is_beyond || self.book().variables() >= MOST_VARIABLES as u32 {
+        if is_beyond || self.is_full_of_variables() {
             return Err(Refusal::E7);
         }
         Ok(Request::Declare { name, domain })
+    }
+
+    /// `var` with a universe and a domain, of which it is known whether it goes beyond a limit by itself.
+    fn admit_var_in(
+        &self,
+        name: Name,
+        universe: DomainText,
+        domain: DomainText,
+        is_beyond: bool,
+    ) -> Result<Request, Refusal>
+        requires { Tells is_beyond (IsBeyond (Line.VarIn name universe domain)) }
+        ensures { Admission self.now.state (Line.VarIn name universe domain) result }
+    {
+        if self.book().has_variable(&name) || self.book().has_constraint(&name) {
+            return Err(Refusal::E3);
+        }
+        if is_beyond || self.is_full_of_variables() || self.is_full() {
+            return Err(Refusal::E7);
+        }
+        Ok(Request::DeclareIn {
+            name,
+            universe,
+            domain,
+        })
     }
 
     /// `add`, of which it is known whether it goes beyond a limit by itself.
@@ -126,6 +156,7 @@ impl<G: Guide, O: Order> Desk<G, O> {
         let con = match self.book().resolve(self.alloc(), shape) {
             Ok(con) => con,
             Err(Unresolved::UnknownName) => return Ok(Err(Refusal::E4)),
+            Err(Unresolved::TooLarge) => return Ok(Err(Refusal::E7)),
             Err(Unresolved::NoMemory) => return Err(NoMemory),
         };
         if is_beyond {
@@ -137,11 +168,18 @@ impl<G: Guide, O: Order> Desk<G, O> {
         Ok(Ok(Request::Add { name, con }))
     }
 
+    /// Whether there is no room for one more variable.
+    fn is_full_of_variables(&self) -> bool
+        ensures { Tells result (IsFullOfVariables self.now.state) }
+    {
+        self.book().variables() as usize >= most_variables(self.mode())
+    }
+
     /// Whether there is no room for one more constraint, or no number.
     fn is_full(&self) -> bool
-        ensures { Tells result ((MOST_CONSTRAINTS ≤ length self.now.state.book.constraints) ⊎ (MOST_ADDED ≤ self.now.state.accepted)) }
+        ensures { Tells result (IsFullOfConstraints self.now.state) }
     {
-        self.book().constraints() >= MOST_CONSTRAINTS || self.accepted() >= MOST_ADDED
+        self.book().constraints() >= most_constraints(self.mode()) || self.accepted() >= MOST_ADDED
     }
 
     /// `relax`: there is a constraint with the name, and it is active.

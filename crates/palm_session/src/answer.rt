@@ -1,5 +1,6 @@
 //! Answering one line.
 ghost use Rattle.std.specs.Prelude.{◌-◌, IfOk, OnOk};
+ghost use Rattle.palm_base.specs.Streams.{Stands};
 ghost use Rattle.palm_engine.specs.Following.{OrderFollows};
 ghost use Rattle.palm_lang.specs.Writing.{IsCounted};
 ghost use Rattle.palm_search.specs.Following.{GuideFollows};
@@ -34,6 +35,7 @@ impl<G: Guide, O: Order> Desk<G, O> {
     ) -> Result<Going, Stop>
         requires { IsState self.old.state }
         ensures counted { IsCounted (K.state out.old).faults (K.state out.new).faults result }
+        ensures stands { Stands (K.state out.old) (K.state out.new) result }
         ensures answers { AnswersTo self.old.state line.now (K.state out.old).written (K.state out.new).written self.new.state (steps.new - steps.old) result }
         ensures led { OnOk result (LineLeads (GuideFollows G.answers G.hears G.state) (OrderFollows O.answers O.hears O.state) self.old.state line.now self.old.objects self.new.state self.new.objects) }
         ensures spends { Spends self.old self.new steps.old steps.new }
@@ -48,7 +50,7 @@ impl<G: Guide, O: Order> Desk<G, O> {
         }
     }
 
-    /// Reads a line, admits it, and takes what it asks for.
+    /// Reads a line in its mode, sets the mode of the next ones, admits the line, and takes what it asks for.
     fn decide<L: Ledger>(
         &mut self,
         line: &[u8],
@@ -62,12 +64,18 @@ impl<G: Guide, O: Order> Desk<G, O> {
         ensures going { IfOk result (λ r. Decides r.1 line.now) }
         ensures fits { IfOk result (λ r. ReplyFits self.new.state r.0) }
     {
-        match parse_line(self.alloc(), line) {
-            Ok(line) => match self.admit(line)? {
-                Ok(request) => self.take(request, steps),
-                Err(refusal) => Ok((Reply::Refused(refusal), Going::More)),
-            },
-            Err(error) => misread(error),
+        match parse_line(self.alloc(), line, self.mode()) {
+            Ok(line) => {
+                self.hear(&line);
+                match self.admit(line)? {
+                    Ok(request) => self.take(request, steps),
+                    Err(refusal) => Ok((Reply::Refused(refusal), Going::More)),
+                }
+            }
+            Err(error) => {
+                self.mishear();
+                misread(error)
+            }
         }
     }
 }

@@ -12,12 +12,15 @@ ghost use Rattle.palm_read.specs.Name.{IsNameText};
 ghost use Rattle.palm_search.specs.Following.{GuideFollows};
 ghost use Rattle.palm_session.specs.Effects.{WithdrawsActive, next_constraint, with_active_at, with_constraint, with_engine, with_variable, without_constraint, without_guide, without_order};
 ghost use Rattle.palm_session.specs.Led.{FiltersBy, SearchesOn, objects_after};
+ghost use Rattle.palm_session.specs.Modes.{heard, misheard};
+ghost use Rattle.palm_session.specs.Refusals.{IsFullOfVariables};
 ghost use Rattle.palm_session.specs.Requests.{CanAdd, StandsAt};
 ghost use Rattle.palm_session.specs.Serving.{HasRepairedIn, HasRun, Ran, Spends};
 ghost use Rattle.palm_session.specs.State.{HasVariable, IsHeld};
 ghost use Rattle.palm_session.specs.declared.request.Procedure.TheVariants as Procedure;
 ghost use Rattle.palm_session.specs.declared.request.Request.TheVariants as Request;
 
+use crate::modes::{begun, mode_after};
 use crate::objects::{Objects, repair_by, settle_by, solve_by};
 use palm_agenda::Order;
 use palm_base::{Cid, NoMemory, Steps, ValueList};
@@ -25,7 +28,7 @@ use palm_dbt::Answer;
 use palm_engine::Engine;
 use palm_guide::Guide;
 use palm_kind::Kind;
-use palm_lang::{Book, BookCon, MOST_VARIABLES, Name};
+use palm_lang::{Book, BookCon, Line, Mode, Name};
 use palm_model::Con;
 use palm_repair::RepairAnswer;
 use palm_search::{Search, Turn};
@@ -33,11 +36,12 @@ use std::alloc::Global;
 use std::marker::Model;
 use std::sync::ledger::Ledger;
 
-/// The book, the engine that filters its active constraints, how many `add` lines were accepted, whether filtering
-/// waits, the guides and orders that were handed in, and the last search.
+/// The mode in which the next line is read, the book, the engine that filters its active constraints, how many accepted
+/// lines added a constraint, whether filtering waits, the guides and orders that were handed in, and the last search.
 #[derive(Drop)]
 pub(crate) struct Desk<G: Guide, O: Order> {
     alloc: Global,
+    mode: Mode,
     book: Book,
     engine: Engine<Kind>,
     accepted: u32,
@@ -53,7 +57,7 @@ impl<G: Guide, O: Order> Model for Desk<G, O> {
 
     ghost Value = { DeskView G O };
 
-    ghost view = { λ d. desk_of d.book d.engine d.accepted d.paused d.guides d.orders d.search };
+    ghost view = { λ d. desk_of d.mode d.book d.engine d.accepted d.paused d.guides d.orders d.search };
 
     ghost invariant = { λ d. IsValid d.engine.state };
 }
@@ -75,6 +79,7 @@ impl<G: Guide, O: Order> Desk<G, O> {
         let orders = Objects::new(alloc, orders)?;
         Ok(Desk {
             alloc,
+            mode: Mode::First,
             book: Book::new(alloc),
             engine: Engine::new(alloc),
             accepted: 0,
@@ -88,6 +93,31 @@ impl<G: Guide, O: Order> Desk<G, O> {
     /// Where the session's memory comes from.
     pub(crate) fn alloc(&self) -> Global {
         self.alloc
+    }
+
+    /// The mode in which the next line is read.
+    pub(crate) fn mode(&self) -> Mode
+        ensures { result ≡ self.now.state.mode }
+    {
+        self.mode
+    }
+
+    /// Notes that a line was read, which sets the mode of those behind it.
+    pub(crate) fn hear(&mut self, line: &Line)
+        ensures state { self.new.state ≡ heard self.old.state line.now }
+        ensures checks { self.new.checks ≡ self.old.checks }
+        ensures objects { self.new.objects ≡ self.old.objects }
+    {
+        self.mode = mode_after(self.mode, line);
+    }
+
+    /// Notes that a line could not be read, which sets the mode of those behind it too.
+    pub(crate) fn mishear(&mut self)
+        ensures state { self.new.state ≡ misheard self.old.state }
+        ensures checks { self.new.checks ≡ self.old.checks }
+        ensures objects { self.new.objects ≡ self.old.objects }
+    {
+        self.mode = begun(self.mode);
     }
 
     /// The book.
@@ -113,7 +143,7 @@ impl<G: Guide, O: Order> Desk<G, O> {
         &self.engine
     }
 
-    /// How many `add` lines were accepted.
+    /// How many accepted lines added a constraint.
     pub(crate) fn accepted(&self) -> u32
         ensures { result ≡ self.now.state.accepted }
     {
@@ -147,7 +177,7 @@ impl<G: Guide, O: Order> Desk<G, O> {
         requires text { IsNameText name }
         requires fresh { HasVariable self.old.state name → ⊥ }
         requires values { AreValues values }
-        requires room { MOST_VARIABLES ≤ length self.old.state.book.variables → ⊥ }
+        requires room { IsFullOfVariables self.old.state → ⊥ }
         ensures ok { OnOk result ((e : EngineState) × Declares self.old.state.engine values e × (self.new.state ≡ with_engine (with_variable self.old.state name values) e)) }
         ensures checks { self.new.checks ≡ self.old.checks }
         ensures objects { self.new.objects ≡ self.old.objects }

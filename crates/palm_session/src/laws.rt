@@ -2,8 +2,10 @@
 ghost use Rattle.std.specs.Prelude.{◌≡◌, ◌↔◌, ℕ, None, List, take};
 ghost use Rattle.palm_session.specs.State.{SessionState, IsState, fresh};
 ghost use Rattle.palm_session.specs.Answers.{Answers};
-ghost use Rattle.palm_read.specs.Lines.{without_return};
-ghost use Rattle.palm_session.specs.Replies.{ChoosesNone, Ends, KeepsNoneChosen, Replies, Run};
+ghost use Rattle.palm_read.specs.Lines.{AreLines, without_return};
+ghost use Rattle.palm_read.specs.declared.mode.Mode.TheVariants.{First, One};
+ghost use Rattle.palm_session.specs.Modes.{in_mode};
+ghost use Rattle.palm_session.specs.Replies.{BeginsVersion2, ChoosesNone, Ends, KeepsNoneChosen, Replies, RepliesFrom, Run};
 ghost use Rattle.palm_events.specs.Scoped.{HasScopedReasons};
 
 pub mod printed;
@@ -46,6 +48,15 @@ pub fn reasons_lie_in_scopes()
 pub fn no_line_has_two_answers()
     ensures { (s : SessionState) (bytes a b : List ℕ) (t u : SessionState)
         → s.guide ≡ None → s.order ≡ None → IsState s → Answers s bytes a t → Answers s bytes b u → (a ≡ b) × (t ≡ u) }
+{}
+
+/// A text whose first line that is no comment is not the header has the replies of version 1; and once the mode of a session is
+/// set, no line changes it.
+pub fn version_1_texts_stay()
+    ensures texts { (guides orders text output : List ℕ) → ((lines : List (List ℕ)) → AreLines text lines → BeginsVersion2 lines → ⊥)
+        → (Replies guides orders text output ↔ RepliesFrom (in_mode One (fresh guides orders)) text output) }
+    ensures set { (s : SessionState) (bytes reply : List ℕ) (t : SessionState)
+        → (s.mode ≡ First → ⊥) → Answers s bytes reply t → t.mode ≡ s.mode }
 {}
 
 /// A text has an output.

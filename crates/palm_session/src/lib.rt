@@ -8,6 +8,7 @@ mod desk;
 mod going;
 mod laws;
 mod limits;
+mod modes;
 mod obey;
 mod objects;
 mod questions;
@@ -30,7 +31,7 @@ pub use laws::printed::{
 pub use laws::{
     a_text_has_an_output, a_text_has_one_output, each_line_has_an_answer, fresh_states_are_states,
     limits_are_these_numbers, no_line_has_two_answers, reasons_lie_in_scopes, states_stay,
-    the_first_bytes_decide, the_first_bytes_end,
+    the_first_bytes_decide, the_first_bytes_end, version_1_texts_stay,
 };
 pub use limits::MOST_KEPT_BYTES;
 pub use session::Session;

@@ -1,7 +1,7 @@
 //! What requests change, and what is left of them then: an arm each.
 ghost use Rattle.std.specs.Prelude.{◌≡◌, ◌<◌, true, false, Contains, IfOk, IfSome, OnOk, length};
 ghost use Rattle.palm_session.specs.Led.{objects_after};
-ghost use Rattle.palm_session.specs.Requests.{Admits, CanAdd, CanDeclare, StandsAt};
+ghost use Rattle.palm_session.specs.Requests.{Admits, CanAdd, CanDeclare, CanDeclareIn, StandsAt};
 ghost use Rattle.palm_session.specs.Serving.{Obeys};
 ghost use Rattle.palm_session.specs.State.{IsHeld};
 ghost use Rattle.palm_session.specs.declared.request.Request.TheVariants as Request;
@@ -11,7 +11,7 @@ use crate::remainder::{Own, Remainder};
 use crate::reply::Reply;
 use crate::request::Request;
 use palm_agenda::Order;
-use palm_base::NoMemory;
+use palm_base::{NoMemory, Var};
 use palm_guide::Guide;
 use palm_lang::{DomainText, Fixed, Name, values_in};
 use palm_model::Con;
@@ -34,7 +34,13 @@ impl<G: Guide, O: Order> Desk<G, O> {
     {
         match request {
             Request::Nothing => Ok(say(Reply::Nothing)),
+            Request::Header => Ok(say(Reply::Word(Fixed::Done))),
             Request::Declare { name, domain } => self.obey_declare(name, domain),
+            Request::DeclareIn {
+                name,
+                universe,
+                domain,
+            } => self.obey_declare_in(name, universe, domain),
             Request::Add { name, con } => self.obey_add(name, con),
             Request::Relax(place) => Ok(self.obey_relax(place)),
             Request::Enforce(place) => self.obey_enforce(place),
@@ -63,6 +69,29 @@ impl<G: Guide, O: Order> Desk<G, O> {
         let values = values_in(self.alloc(), domain)?;
         self.declare(name, values)?;
         Ok(say(Reply::Word(Fixed::Done)))
+    }
+
+    /// One more variable, and under its name one more constraint, which is filtered.
+    fn obey_declare_in(
+        &mut self,
+        name: Name,
+        universe: DomainText,
+        domain: DomainText,
+    ) -> Result<Remainder, NoMemory>
+        requires held { IsHeld self.old.state }
+        requires can { CanDeclareIn self.old.state name universe domain }
+        ensures obeys { IfOk result (Obeys self.old.state (Request.DeclareIn name universe domain) self.new.state) }
+        ensures checks { self.new.checks ≡ self.old.checks }
+        ensures objects { self.new.objects ≡ self.old.objects }
+    {
+        let con = Con::Within {
+            var: Var(self.book().variables()),
+            values: values_in(self.alloc(), domain)?,
+        };
+        let values = values_in(self.alloc(), universe)?;
+        self.declare(name.copy()?, values)?;
+        self.add(name, con)?;
+        Ok(Remainder::Filter)
     }
 
     /// One more constraint, which is filtered.

@@ -42,8 +42,16 @@ pub(crate) enum Procedure {
 pub(crate) enum Request {
     /// Nothing, by a comment.
     Nothing,
+    /// Nothing, by the header, which sets the mode.
+    Header,
     /// One more variable.
     Declare { name: Name, domain: DomainText },
+    /// One more variable, and under its name the constraint that it has one of these values.
+    DeclareIn {
+        name: Name,
+        universe: DomainText,
+        domain: DomainText,
+    },
     /// One more constraint.
     Add { name: Name, con: Con },
     /// That a constraint no longer holds, but stays in the book.

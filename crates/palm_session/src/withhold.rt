@@ -26,6 +26,7 @@ pub(crate) fn is_contradictable(request: &Request) -> bool
 {
     match request {
         Request::Declare { .. }
+        | Request::DeclareIn { .. }
         | Request::Add { .. }
         | Request::Relax(_)
         | Request::Enforce(_)

@@ -40,6 +40,15 @@ const KINDS: &[(&[u8], &str)] = &[
          step y 1 by d from 1\nstep z 1 by d from 1\nstep y 2 by d from 3\nclaim conflict y\nend\n",
         "accepted conflict y because d f",
     ),
+    (
+        b"palm-cert 1\nvar x 0..5\nadd y : x in {1,9}\nstep x 3 by y\nclaim x 3\nend\n",
+        "accepted x 3 because y",
+    ),
+    (
+        b"palm-cert 1\nvar x 1..2\nvar y 0..2\nadd x : x in{9,1,-1}\nadd y : y in 2..9\nadd a : x = y\nstep x 2 by x\n\
+         step y 1 by y\nstep x 1 by a from 2\nclaim conflict x\nend\n",
+        "accepted conflict x because x y a",
+    ),
 ];
 
 #[test]

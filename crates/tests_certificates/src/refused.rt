@@ -37,6 +37,40 @@ fn lines_have_their_places_and_their_causes_an_order(rt: HostRuntime) -> Result<
     Ok(())
 }
 
+/// Constraints on a domain, and what sessions of version 2 say and certificates do not.
+const WITHINS: &[(&[u8], &str)] = &[
+    (b"palm 2\n", "refused 1 C1"),
+    (b"palm-cert 2\n", "refused 1 C1"),
+    (b"palm-cert 1\npalm 2\n", "refused 2 C1"),
+    (b"palm-cert 1\nvar x 0..5 in 1..3\n", "refused 2 C1"),
+    (
+        b"palm-cert 1\nvar x 0..5\nadd y : x in {1,3}\nstep x 3 by y\n",
+        "refused 4 C4",
+    ),
+    (
+        b"palm-cert 1\nvar x 0..5\nadd y : x in {}\n",
+        "refused 3 C1",
+    ),
+    (
+        b"palm-cert 1\nvar x 0..5\nadd y : z in 0..999\n",
+        "refused 3 C2",
+    ),
+    (
+        b"palm-cert 1\nvar x 0..5\nadd y : x in 0..256\n",
+        "refused 3 C6",
+    ),
+    (
+        b"palm-cert 1\nvar x 0..5\nadd y : x in 0..255\nadd y : x in 0..256\n",
+        "refused 4 C2",
+    ),
+];
+
+#[test]
+fn domains_are_constraints_of_certificates(rt: HostRuntime) -> Result<(), Fail> {
+    assert!(rt; are_told(rt.alloc(), WITHINS)?);
+    Ok(())
+}
+
 /// The first line and some more, and then so many, each with its number between two texts.
 fn listed(
     alloc: Global,
@@ -53,18 +87,20 @@ fn listed(
 }
 
 #[test]
-fn a_certificate_has_64_variables_and_256_constraints_at_most(rt: HostRuntime) -> Result<(), Fail> {
+fn a_certificate_has_128_variables_and_512_constraints_at_most(
+    rt: HostRuntime,
+) -> Result<(), Fail> {
     let header = "palm-cert 1\n";
     let declared = "palm-cert 1\nvar x 1..2\n";
-    let variables = listed(rt.alloc(), header, "var x", 64, " 1..2")?;
-    let more_variables = listed(rt.alloc(), header, "var x", 65, " 1..2")?;
-    let constraints = listed(rt.alloc(), declared, "add a", 256, " : x = 1")?;
-    let more_constraints = listed(rt.alloc(), declared, "add a", 257, " : x = 1")?;
+    let variables = listed(rt.alloc(), header, "var x", 128, " 1..2")?;
+    let more_variables = listed(rt.alloc(), header, "var x", 129, " 1..2")?;
+    let constraints = listed(rt.alloc(), declared, "add a", 512, " : x in 1..1")?;
+    let more_constraints = listed(rt.alloc(), declared, "add a", 513, " : x in 1..1")?;
     let rows: [(&[u8], &str); 4] = [
-        (variables.as_bytes(), "refused 66 C5"),
-        (more_variables.as_bytes(), "refused 66 C6"),
-        (constraints.as_bytes(), "refused 259 C5"),
-        (more_constraints.as_bytes(), "refused 259 C6"),
+        (variables.as_bytes(), "refused 130 C5"),
+        (more_variables.as_bytes(), "refused 130 C6"),
+        (constraints.as_bytes(), "refused 515 C5"),
+        (more_constraints.as_bytes(), "refused 515 C6"),
     ];
     assert!(rt; are_told(rt.alloc(), &rows)?);
     Ok(())

@@ -4,6 +4,8 @@
 #[cfg(test)]
 mod books;
 #[cfg(test)]
+mod modes;
+#[cfg(test)]
 mod printing;
 #[cfg(test)]
 mod reading;

@@ -1,10 +1,11 @@
-//! Lines of every form, lines with two faults, and the limits of a line.
+//! Lines of every form of version 1, lines with two faults, and the limits of a line.
 use palm_base::NoMemory;
 use palm_lang::{Line, LineError, beyond, parse_line, print_line, token};
+use palm_read::Mode;
 use std::alloc::Global;
 use std::test::Fail;
 
-/// A line of each form, as it is printed.
+/// A line of each form of version 1, as it is printed.
 const EVERY_FORM: &[&str] = &[
     "var x 1..3",
     "var y {1,5}",
@@ -72,7 +73,7 @@ fn tell(line: &Line, out: &mut Vec<u8>) -> Result<Reading, NoMemory> {
 /// What the bytes are read as; a line is printed to the end of the text. It alone owns a line, since each place that gives
 /// one up costs its proof.
 fn read(alloc: Global, bytes: &[u8], out: &mut Vec<u8>) -> Result<Reading, NoMemory> {
-    match parse_line(alloc, bytes) {
+    match parse_line(alloc, bytes, Mode::One) {
         Ok(line) => tell(&line, out),
         Err(cause) => Ok(Reading::Refused(cause)),
     }

@@ -168,6 +168,10 @@ const OTHERS: &[(&str, &str)] = &[
         "var x 1..3\nvar y 1..3\nvar z 1..3\nadd d : differ x y z\nadd e : x = 1\ndomains\n",
         "ok\nok\nok\nok\nok\n",
     ),
+    (
+        "palm 2\nvar x 0..5 in 1..9\nvar y {0,2,4} in 0..3\nadd a : x < y\nrelax y\nadd b : y in {-1,2,4}\ndomains\n",
+        "ok\nok\nok\nok\nok\nok\n",
+    ),
 ];
 
 #[test]

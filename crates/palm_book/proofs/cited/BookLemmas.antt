@@ -11,6 +11,7 @@ use Rattle.indexmap.specs.IndexMap.{set_value_at}
 use Rattle.palm_book.specs.Book.{BookVar, Contents, name_of, number_name, with_active, AreValues, IsBook}
 use Rattle.palm_read.specs.Name.{IsNameText}
 use Rattle.palm_book.specs.declared.book.BookCon.{BookCon}
+use Rattle.palm_book.specs.declared.limits.TheConstants.{MOST_VARIABLES, MOST_CONSTRAINTS}
 use Rattle.palm_model.specs.declared.constraint.Con.{Con}
 use Rattle.palm_model.specs.Constraint.{IsWellFormed}
 
@@ -125,13 +126,13 @@ number_name_at cs place number c rising at is = numbered cs place number c risin
 
 -- what is known of the book is known of its fields
 module _ (fields book : Contents) (seen : fields ≡ book) (is_book : IsBook fields) where
-  pub IsBook-with_variable : (e : BookVar) (variables : List BookVar) → IsNameText e.name → All (λ f. f.name ≢ e.name) book.variables → AreValues e.values → length book.variables < 64 → variables ≡ fields.variables ++ e ∷ [] → IsBook (record fields { variables = variables })
+  pub IsBook-with_variable : (e : BookVar) (variables : List BookVar) → IsNameText e.name → All (λ f. f.name ≢ e.name) book.variables → AreValues e.values → length book.variables < MOST_VARIABLES → variables ≡ fields.variables ++ e ∷ [] → IsBook (record fields { variables = variables })
   IsBook-with_variable e variables text fresh values room added = subst (λ (vs : List BookVar). IsBook (record fields { variables = vs })) (sym added) by
     where
       by : IsBook (record fields { variables = fields.variables ++ e ∷ [] })
       by =
           let more : length (fields.variables ++ e ∷ []) ≡ length fields.variables + 1 = length-append fields.variables (e ∷ []) in
-          let few : length fields.variables < 64 = subst (λ (b : Contents). length b.variables < 64) (sym seen) room in
+          let few : length fields.variables < MOST_VARIABLES = subst (λ (b : Contents). length b.variables < MOST_VARIABLES) (sym seen) room in
           let new : All (λ f. f.name ≢ e.name) fields.variables = subst (λ (b : Contents). All (λ f. f.name ≢ e.name) b.variables) (sym seen) fresh in
           record {
             few_constraints = is_book.few_constraints;
@@ -145,14 +146,14 @@ module _ (fields book : Contents) (seen : fields ≡ book) (is_book : IsBook fie
             formed = λ k d h. IsWellFormed-more (length fields.variables) _ _ (omega arith) (is_book.formed k d h);
           }
 
-  pub IsBook-with_constraint : (c : BookCon) (constraints : List BookCon) → IsNameText c.name → All (λ d. d.name ≢ c.name) book.constraints → All (λ d. d.number < c.number) book.constraints → IsWellFormed (length book.variables) c.con → length book.constraints < 256 → constraints ≡ fields.constraints ++ c ∷ [] → IsBook (record fields { constraints = constraints })
+  pub IsBook-with_constraint : (c : BookCon) (constraints : List BookCon) → IsNameText c.name → All (λ d. d.name ≢ c.name) book.constraints → All (λ d. d.number < c.number) book.constraints → IsWellFormed (length book.variables) c.con → length book.constraints < MOST_CONSTRAINTS → constraints ≡ fields.constraints ++ c ∷ [] → IsBook (record fields { constraints = constraints })
   IsBook-with_constraint c constraints text fresh rising formed room added = subst (λ (cs : List BookCon). IsBook (record fields { constraints = cs })) (sym added) by
     where
       by : IsBook (record fields { constraints = fields.constraints ++ c ∷ [] })
       by =
           let cs = fields.constraints in
           let more : length (cs ++ c ∷ []) ≡ length cs + 1 = length-append cs (c ∷ []) in
-          let few : length cs < 256 = subst (λ (b : Contents). length b.constraints < 256) (sym seen) room in
+          let few : length cs < MOST_CONSTRAINTS = subst (λ (b : Contents). length b.constraints < MOST_CONSTRAINTS) (sym seen) room in
           let new : All (λ d. d.name ≢ c.name) cs = subst (λ (b : Contents). All (λ d. d.name ≢ c.name) b.constraints) (sym seen) fresh in
           let above : All (λ d. d.number < c.number) cs = subst (λ (b : Contents). All (λ d. d.number < c.number) b.constraints) (sym seen) rising in
           let over : IsWellFormed (length fields.variables) c.con = subst (λ (b : Contents). IsWellFormed (length b.variables) c.con) (sym seen) formed in

@@ -1,4 +1,5 @@
--- Which names are known, and that a shape whose names are all known says one constraint, and no other.
+-- Which names are known, and that a shape whose names are all known says one constraint, and no other. What a constraint says
+-- is plain.
 use Rattle.std.proofs.Common.{◌≡◌, ◌≢◌, ℕ, ◌<◌, ℤ, List, [], ◌∷◌, length, map, All, Any, AllPairs, inl, inr, refl, sym, ap, ◌∙◌, arith}
 use Rattle.std.proofs.lemmas.Bool.{cases_lt}
 use Rattle.std.proofs.lemmas.List.{get_or_default}
@@ -14,14 +15,17 @@ use Rattle.palm_model.specs.declared.constraint.Target.TheVariants.{Const, Varia
 use Rattle.palm_model.specs.declared.constraint.Term.{Term}
 use Rattle.palm_book.specs.Book.{BookVar, name_of}
 use Rattle.palm_read.proofs.cited.AllOfBoth.{all_left, all_right}
+use Rattle.palm_read.proofs.cited.DomainsWith.{values_with}
+use Rattle.palm_read.specs.Domain.{values_in}
+use Rattle.palm_read.specs.Interval.{domain_with}
 use Rattle.palm_read.specs.Limits.{names_of}
 use Rattle.palm_read.specs.Count.{line_target_names}
-use Rattle.palm_book.specs.Named.{named, named_term, named_target, HasForm}
+use Rattle.palm_book.specs.Named.{named, named_term, named_target, plain, Resolves}
 use Rattle.palm_read.specs.declared.line.NameTarget.{NameTarget}
 use Rattle.palm_read.specs.declared.line.NameTarget.TheVariants.{Const as ConstTarget, Variable as VariableTarget}
 use Rattle.palm_read.specs.declared.line.NameTerm.{NameTerm}
 use Rattle.palm_read.specs.declared.line.Shape.{Shape}
-use Rattle.palm_read.specs.declared.line.Shape.TheVariants.{CompareVar, CompareConst, Linear, Table, Element, Count, Differ}
+use Rattle.palm_read.specs.declared.line.Shape.TheVariants.{CompareVar, CompareConst, Linear, Table, Element, Count, Differ, Within}
 
 -- ---- what is known
 
@@ -82,41 +86,56 @@ module _ (variables : List BookVar) where
       (Variable x.0, All-cons IsDeclared x.0 [] x.1 (All-nil IsDeclared), ap VariableTarget x.2)
 
   -- there is a constraint that says a shape of variables that all have their names
-  pub constraint_with : (shape : Shape) → All IsNamed (names_of shape) → (con : Con) × All IsDeclared (scope con) × (named variables con ≡ shape) × HasForm con
+  pub constraint_with : (shape : Shape) → All IsNamed (names_of shape) → (con : Con) × Resolves variables shape con
   constraint_with (CompareVar left op right offset) h =
       let x = variable_with variables left (All-head IsNamed left (right ∷ []) h) in
       let y = variable_with variables right (All-head IsNamed right [] (All-tail IsNamed left (right ∷ []) h)) in
       let e : name_of variables x.0 ≡ left = x.2 in
       let f : name_of variables y.0 ≡ right = y.2 in
-      (VarCompare x.0 op y.0 offset, All-cons IsDeclared x.0 (y.0 ∷ []) x.1 (All-cons IsDeclared y.0 [] y.1 (All-nil IsDeclared)), cc, tt)
+      (VarCompare x.0 op y.0 offset, record { declared = All-cons IsDeclared x.0 (y.0 ∷ []) x.1 (All-cons IsDeclared y.0 [] y.1 (All-nil IsDeclared)); says = cc })
   constraint_with (CompareConst left op value) h =
       let x = variable_with variables left (All-head IsNamed left [] h) in
       let e : name_of variables x.0 ≡ left = x.2 in
-      (ConstCompare x.0 op value, All-cons IsDeclared x.0 [] x.1 (All-nil IsDeclared), cc, tt)
+      (ConstCompare x.0 op value, record { declared = All-cons IsDeclared x.0 [] x.1 (All-nil IsDeclared); says = cc })
   constraint_with (Linear terms op bound) h =
       let r = terms_with terms h in
       let e : map (named_term variables) r.0 ≡ terms = r.2 in
-      (LinearCon r.0 op bound, r.1, cc, tt)
+      (LinearCon r.0 op bound, record { declared = r.1; says = cc })
   constraint_with (Table vars rows) h =
       let r = vars_with vars h in
       let e : map (name_of variables) r.0 ≡ vars = r.2 in
-      (TableCon r.0 rows, r.1, cc, tt)
+      (TableCon r.0 rows, record { declared = r.1; says = cc })
   constraint_with (Element outcome index entries) h =
       let x = variable_with variables outcome (All-head IsNamed outcome (index ∷ []) h) in
       let y = variable_with variables index (All-head IsNamed index [] (All-tail IsNamed outcome (index ∷ []) h)) in
       let e : name_of variables x.0 ≡ outcome = x.2 in
       let f : name_of variables y.0 ≡ index = y.2 in
-      (ElementCon x.0 y.0 entries, All-cons IsDeclared x.0 (y.0 ∷ []) x.1 (All-cons IsDeclared y.0 [] y.1 (All-nil IsDeclared)), cc, tt)
+      (ElementCon x.0 y.0 entries, record { declared = All-cons IsDeclared x.0 (y.0 ∷ []) x.1 (All-cons IsDeclared y.0 [] y.1 (All-nil IsDeclared)); says = cc })
   constraint_with (Count value vars op target) h =
       let r = vars_with vars (all_left IsNamed vars (line_target_names target) h) in
       let t = target_with target (all_right IsNamed vars (line_target_names target) h) in
       let e : map (name_of variables) r.0 ≡ vars = r.2 in
       let f : named_target variables t.0 ≡ target = t.2 in
-      (CountCon value r.0 op t.0, All-append IsDeclared r.0 (target_scope t.0) r.1 t.1, cc, tt)
+      (CountCon value r.0 op t.0, record { declared = All-append IsDeclared r.0 (target_scope t.0) r.1 t.1; says = cc })
   constraint_with (Differ vars) h =
       let r = vars_with vars h in
       let e : map (name_of variables) r.0 ≡ vars = r.2 in
-      (DifferCon r.0, r.1, cc, tt)
+      (DifferCon r.0, record { declared = r.1; says = cc })
+  constraint_with (Within var domain) h =
+      let x = variable_with variables var (All-head IsNamed var [] h) in
+      let e : name_of variables x.0 ≡ var = x.2 in
+      (WithinCon x.0 (values_in domain), record { declared = All-cons IsDeclared x.0 [] x.1 (All-nil IsDeclared); says = cc })
+
+  -- what a constraint says has its domain as it is printed
+  pub named_plain : (con : Con) → plain (named variables con) ≡ named variables con
+  named_plain (VarCompare left op right offset) = refl
+  named_plain (ConstCompare left op value) = refl
+  named_plain (LinearCon terms op bound) = refl
+  named_plain (TableCon vars rows) = refl
+  named_plain (ElementCon outcome index entries) = refl
+  named_plain (CountCon value vars op target) = refl
+  named_plain (DifferCon vars) = refl
+  named_plain (WithinCon var values) = ap (λ (vs : List ℤ). Within (name_of variables var) (domain_with vs)) (values_with values)
 
   -- ---- names that differ stand for one variable each
   module _ (apart : AllPairs (λ (e f : BookVar). e.name ≢ f.name) variables) where
@@ -165,8 +184,8 @@ module _ (variables : List BookVar) where
         ap Variable (variable_once x y (All-head IsDeclared x [] dt) (All-head IsDeclared y [] du) h)
 
     -- a shape says one constraint
-    pub constraint_once : (c d : Con) → All IsDeclared (scope c) → All IsDeclared (scope d) → HasForm c → HasForm d → named variables c ≡ named variables d → c ≡ d
-    constraint_once (VarCompare l o r k) (VarCompare m p s n) dc dd fc fd e =
+    pub constraint_once : (c d : Con) → All IsDeclared (scope c) → All IsDeclared (scope d) → named variables c ≡ named variables d → c ≡ d
+    constraint_once (VarCompare l o r k) (VarCompare m p s n) dc dd e =
         let hl : name_of variables l ≡ name_of variables m = cc in
         let hr : name_of variables r ≡ name_of variables s = cc in
         let ho : o ≡ p = cc in
@@ -174,31 +193,31 @@ module _ (variables : List BookVar) where
         let a : l ≡ m = variable_once l m (All-head IsDeclared l (r ∷ []) dc) (All-head IsDeclared m (s ∷ []) dd) hl in
         let b : r ≡ s = variable_once r s (All-head IsDeclared r [] (All-tail IsDeclared l (r ∷ []) dc)) (All-head IsDeclared s [] (All-tail IsDeclared m (s ∷ []) dd)) hr in
         cc
-    constraint_once (ConstCompare l o v) (ConstCompare m p w) dc dd fc fd e =
+    constraint_once (ConstCompare l o v) (ConstCompare m p w) dc dd e =
         let hl : name_of variables l ≡ name_of variables m = cc in
         let ho : o ≡ p = cc in
         let hv : v ≡ w = cc in
         let a : l ≡ m = variable_once l m (All-head IsDeclared l [] dc) (All-head IsDeclared m [] dd) hl in
         cc
-    constraint_once (LinearCon ts o b) (LinearCon us p a) dc dd fc fd e =
+    constraint_once (LinearCon ts o b) (LinearCon us p a) dc dd e =
         let ht : map (named_term variables) ts ≡ map (named_term variables) us = cc in
         let ho : o ≡ p = cc in
         let hb : b ≡ a = cc in
         let t : ts ≡ us = terms_once ts us dc dd ht in
         cc
-    constraint_once (TableCon xs rows) (TableCon ys others) dc dd fc fd e =
+    constraint_once (TableCon xs rows) (TableCon ys others) dc dd e =
         let hx : map (name_of variables) xs ≡ map (name_of variables) ys = cc in
         let hr : rows ≡ others = cc in
         let a : xs ≡ ys = vars_once xs ys dc dd hx in
         cc
-    constraint_once (ElementCon l r k) (ElementCon m s n) dc dd fc fd e =
+    constraint_once (ElementCon l r k) (ElementCon m s n) dc dd e =
         let hl : name_of variables l ≡ name_of variables m = cc in
         let hr : name_of variables r ≡ name_of variables s = cc in
         let hk : k ≡ n = cc in
         let a : l ≡ m = variable_once l m (All-head IsDeclared l (r ∷ []) dc) (All-head IsDeclared m (s ∷ []) dd) hl in
         let b : r ≡ s = variable_once r s (All-head IsDeclared r [] (All-tail IsDeclared l (r ∷ []) dc)) (All-head IsDeclared s [] (All-tail IsDeclared m (s ∷ []) dd)) hr in
         cc
-    constraint_once (CountCon v xs o t) (CountCon w ys p u) dc dd fc fd e =
+    constraint_once (CountCon v xs o t) (CountCon w ys p u) dc dd e =
         let hv : v ≡ w = cc in
         let ho : o ≡ p = cc in
         let hx : map (name_of variables) xs ≡ map (name_of variables) ys = cc in
@@ -206,10 +225,14 @@ module _ (variables : List BookVar) where
         let a : xs ≡ ys = vars_once xs ys (all_left IsDeclared xs (target_scope t) dc) (all_left IsDeclared ys (target_scope u) dd) hx in
         let b : t ≡ u = target_once t u (all_right IsDeclared xs (target_scope t) dc) (all_right IsDeclared ys (target_scope u) dd) ht in
         cc
-    constraint_once (DifferCon xs) (DifferCon ys) dc dd fc fd e =
+    constraint_once (DifferCon xs) (DifferCon ys) dc dd e =
         let hx : map (name_of variables) xs ≡ map (name_of variables) ys = cc in
         let a : xs ≡ ys = vars_once xs ys dc dd hx in
         cc
-    constraint_once (WithinCon x vs) d dc dd fc fd e = absurd fc
-    constraint_once (TableCon xs rows) (WithinCon y vs) dc dd fc fd e = absurd fd
-    constraint_once _ _ dc dd fc fd e = cc
+    constraint_once (WithinCon x vs) (WithinCon y ws) dc dd e =
+        let hx : name_of variables x ≡ name_of variables y = cc in
+        let hd : domain_with vs ≡ domain_with ws = cc in
+        let a : x ≡ y = variable_once x y (All-head IsDeclared x [] dc) (All-head IsDeclared y [] dd) hx in
+        let b : vs ≡ ws = sym (values_with vs) ∙ ap values_in hd ∙ values_with ws in
+        cc
+    constraint_once _ _ dc dd e = cc

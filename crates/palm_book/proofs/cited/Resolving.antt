@@ -15,9 +15,9 @@ use Rattle.palm_read.specs.Limits.{names_of}
 use Rattle.palm_read.specs.declared.line.NameTarget.{NameTarget}
 use Rattle.palm_read.specs.declared.line.NameTerm.{NameTerm}
 use Rattle.palm_read.specs.declared.line.Shape.{Shape}
-use Rattle.palm_read.specs.declared.line.Shape.TheVariants.{Linear, Count}
+use Rattle.palm_read.specs.declared.line.Shape.TheVariants.{CompareVar, CompareConst, Linear, Table, Element, Count, Differ, Within}
 use Rattle.palm_book.specs.Book.{BookVar, name_of}
-use Rattle.palm_book.specs.Named.{named, named_term, named_target, IsUnknownName, Resolves}
+use Rattle.palm_book.specs.Named.{named, named_term, named_target, plain, IsUnknownName, Resolves}
 use Rattle.palm_book.proofs.cited.Any.{any_here, any_there, any_cases, any_none}
 
 pub resolves_linear : (variables : List BookVar) (terms : List NameTerm) (list : List Term) (op : Op) (bound : ℤ)
@@ -25,7 +25,6 @@ pub resolves_linear : (variables : List BookVar) (terms : List NameTerm) (list :
     → Resolves variables (Linear terms op bound) (LinearCon list op bound)
 resolves_linear variables terms list op bound declared says = record {
   declared = All-map (λ x. x < length variables) (λ (t : Term). t.var) list declared;
-  has_form = tt;
   says = ap (λ (z : List NameTerm). Linear z op bound) says;
 }
 
@@ -35,7 +34,6 @@ pub resolves_count : (variables : List BookVar) (value : ℤ) (names : List (Lis
     → Resolves variables (Count value names op target) (CountCon value vars op chosen)
 resolves_count variables value names vars op target chosen declared says target_declared target_says = record {
   declared = All-append (λ x. x < length variables) vars (target_scope chosen) declared target_declared;
-  has_form = tt;
   says = ap (λ (z : List (List ℕ)). Count value z op (named_target variables chosen)) says ∙ ap (λ (z : NameTarget). Count value names op z) target_says;
 }
 
@@ -60,6 +58,17 @@ scope_names variables (CountCon value vars op target) =
     ∙ sym (map_both (name_of variables) vars (target_scope target))
 scope_names variables _ = refl
 
+-- and the names of a shape do not depend on how it writes its domain
+pub plain_names : (shape : Shape) → names_of (plain shape) ≡ names_of shape
+plain_names (CompareVar left op right offset) = refl
+plain_names (CompareConst left op value) = refl
+plain_names (Linear terms op bound) = refl
+plain_names (Table vars rows) = refl
+plain_names (Element outcome index entries) = refl
+plain_names (Count value vars op target) = refl
+plain_names (Differ vars) = refl
+plain_names (Within var domain) = refl
+
 -- ---- where a constraint says what a shape says, each name of the shape names a variable
 
 pub has_name : (variables : List BookVar) (x : ℕ) → x < length variables → Any (λ e. e.name ≡ name_of variables x) variables
@@ -78,4 +87,4 @@ known_names variables (x ∷ xs) declared a =
 pub known : (variables : List BookVar) (shape : Shape) (con : Con) → Resolves variables shape con → Any (IsUnknownName variables) (names_of shape) → ⊥
 known variables shape con r a =
     known_names variables (scope con) r.declared
-    (subst (Any (IsUnknownName variables)) (scope_names variables con) (subst (λ (s : Shape). Any (IsUnknownName variables) (names_of s)) (sym r.says) a))
+    (subst (Any (IsUnknownName variables)) (sym (plain_names shape) ∙ ap names_of (sym r.says) ∙ scope_names variables con) a)

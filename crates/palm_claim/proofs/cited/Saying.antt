@@ -14,6 +14,7 @@ use Rattle.palm_read.specs.declared.tokens.TokenKind.TheVariants.{Word, Digits}
 use Rattle.palm_read.specs.declared.line.Line.{Line}
 use Rattle.palm_read.specs.declared.line.Line.TheVariants.{Comment as CommentLine, Var, Add, Relax}
 use Rattle.palm_read.specs.Form.{DeclareForm, AddForm, RelaxForm}
+use Rattle.palm_read.specs.declared.mode.Mode.TheVariants.{Two}
 use Rattle.palm_read.specs.declared.parse.LineError.{LineError}
 use Rattle.palm_read.specs.declared.parse.LineError.TheVariants.{Bytes, Form as NoForm, Range as OutOfRange, Empty, Repeated, NoMemory}
 use Rattle.palm_read.proofs.cited.Begins.{begins_from_spells, keyword_first}
@@ -29,7 +30,7 @@ use Rattle.palm_claim.proofs.cited.Phrases.{phrase_is, is_phrase, phrase_no_form
 -- ---- how a line says something: as a line of a session, or in a form that only certificates have
 
 abbrev AsLine : List ℕ → Statement → Type 0
-AsLine bytes s = (line : Line) × IsRead bytes line × (of_line line ≡ Some s)
+AsLine bytes s = (line : Line) × IsRead Two bytes line × (of_line line ≡ Some s)
 
 abbrev AsPhrase : List ℕ → Statement → Type 0
 AsPhrase bytes s = IsPlain bytes × (phrase_of (tokens_of bytes) ≡ Some s)
@@ -48,12 +49,12 @@ no_comment : (form : Form) → CommentLine ≡ line_of form → ⊥
 no_comment (RelaxForm name) e = cc
 no_comment _ e = cc
 
-read_comment : (bytes : List ℕ) → IsRead bytes CommentLine → IsComment bytes
+read_comment : (bytes : List ℕ) → IsRead Two bytes CommentLine → IsComment bytes
 read_comment bytes (a_comment c) = c
-read_comment bytes (a_form form p h r n t e) = absurd (no_comment form e)
+read_comment bytes (a_form form p h a r n t e) = absurd (no_comment form e)
 
 -- what a line of a session says in a certificate
-pub line_says : (bytes : List ℕ) (line : Line) (s : Statement) → IsRead bytes line → of_line line ≡ Some s → Says bytes s
+pub line_says : (bytes : List ℕ) (line : Line) (s : Statement) → IsRead Two bytes line → of_line line ≡ Some s → Says bytes s
 line_says bytes CommentLine s r e = subst (Says bytes) (same_Some Comment s e) (read_comment bytes r)
 line_says bytes (Var name domain) s r e = subst (Says bytes) (same_Some (Variable name domain) s e) r
 line_says bytes (Add name shape) s r e = subst (Says bytes) (same_Some (Constraint name shape) s e) r
@@ -75,15 +76,15 @@ phrase_says bytes s plain e = let h = phrase_is (tokens_of bytes) s e in plain_s
 
 -- ---- a line is not both
 
-not_both : (bytes : List ℕ) (line : Line) (s : Statement) → IsRead bytes line → IsPlain bytes → IsSpelled (tokens_of bytes) s → ⊥
+not_both : (bytes : List ℕ) (line : Line) (s : Statement) → IsRead Two bytes line → IsPlain bytes → IsSpelled (tokens_of bytes) s → ⊥
 not_both bytes _ s (a_comment c) plain h = false≢true (sym plain.says ∙ c.note)
-not_both bytes line s (a_form form p is r n t e) plain h = phrase_no_form (tokens_of bytes) s form h is
+not_both bytes line s (a_form form p is a r n t e) plain h = phrase_no_form (tokens_of bytes) s form h is
 
 -- no line says two things
 pub one_saying : (bytes : List ℕ) (s t : Statement) → Says bytes s → Says bytes t → s ≡ t
 one_saying bytes s t a b = elim (says_as bytes s a) [
   | inl l ↦ elim (says_as bytes t b) [
-    | inl m ↦ same_Some s t (sym l.2 ∙ ap of_line (one_reading bytes l.0 m.0 l.1 m.1) ∙ m.2)
+    | inl m ↦ same_Some s t (sym l.2 ∙ ap of_line (one_reading Two Two bytes l.0 m.0 l.1 m.1) ∙ m.2)
     | inr p ↦ absurd (not_both bytes l.0 t l.1 p.0 (phrase_is (tokens_of bytes) t p.1).0)
   ]
   | inr p ↦ elim (says_as bytes t b) [
@@ -95,30 +96,30 @@ one_saying bytes s t a b = elim (says_as bytes s a) [
 -- ---- and lines that say nothing
 
 -- a line of a session that says nothing in a certificate
-pub line_says_nothing : (bytes : List ℕ) (line : Line) → IsRead bytes line → of_line line ≡ None → (s : Statement) → Says bytes s → ⊥
+pub line_says_nothing : (bytes : List ℕ) (line : Line) → IsRead Two bytes line → of_line line ≡ None → (s : Statement) → Says bytes s → ⊥
 line_says_nothing bytes line r none s h = elim (says_as bytes s h) [
-  | inl l ↦ none-some s (sym none ∙ ap of_line (one_reading bytes line l.0 r l.1) ∙ l.2)
+  | inl l ↦ none-some s (sym none ∙ ap of_line (one_reading Two Two bytes line l.0 r l.1) ∙ l.2)
   | inr p ↦ not_both bytes line s r p.0 (phrase_is (tokens_of bytes) s p.1).0
 ]
 
 -- a plain line that fits no form of a session
-pub phrase_says_nothing : (bytes : List ℕ) → IsRefusedBy bytes NoForm → phrase_of (tokens_of bytes) ≡ None → (s : Statement) → Says bytes s → ⊥
+pub phrase_says_nothing : (bytes : List ℕ) → IsRefusedBy Two bytes NoForm → phrase_of (tokens_of bytes) ≡ None → (s : Statement) → Says bytes s → ⊥
 phrase_says_nothing bytes refused none s h = elim (says_as bytes s h) [
-  | inl l ↦ let e : NoForm ≡ NoMemory = read_not_refused bytes l.0 NoForm l.1 refused in cc
+  | inl l ↦ let e : NoForm ≡ NoMemory = read_not_refused Two bytes l.0 NoForm l.1 refused in cc
   | inr p ↦ none-some s (sym none ∙ p.1)
 ]
 
-no_line : (bytes : List ℕ) (error : LineError) → IsRefusedBy bytes error → (error ≡ NoMemory → ⊥) → (s : Statement) → AsLine bytes s → ⊥
-no_line bytes error refused known s l = known (read_not_refused bytes l.0 error l.1 refused)
+no_line : (bytes : List ℕ) (error : LineError) → IsRefusedBy Two bytes error → (error ≡ NoMemory → ⊥) → (s : Statement) → AsLine bytes s → ⊥
+no_line bytes error refused known s l = known (read_not_refused Two bytes l.0 error l.1 refused)
 
 -- a line that is refused otherwise than for its form
-pub refused_says_nothing : (bytes : List ℕ) (error : LineError) → IsRefusedBy bytes error → (error ≡ NoMemory → ⊥) → (error ≡ NoForm → ⊥) → (s : Statement) → Says bytes s → ⊥
+pub refused_says_nothing : (bytes : List ℕ) (error : LineError) → IsRefusedBy Two bytes error → (error ≡ NoMemory → ⊥) → (error ≡ NoForm → ⊥) → (s : Statement) → Says bytes s → ⊥
 refused_says_nothing bytes error refused known other s h = elim (says_as bytes s h) [
   | inl l ↦ no_line bytes error refused known s l
   | inr p ↦ no_phrase error refused known other p.0 (phrase_is (tokens_of bytes) s p.1).0
 ]
   where
-    no_phrase : (error : LineError) → IsRefusedBy bytes error → (error ≡ NoMemory → ⊥) → (error ≡ NoForm → ⊥) → IsPlain bytes → IsSpelled (tokens_of bytes) s → ⊥
+    no_phrase : (error : LineError) → IsRefusedBy Two bytes error → (error ≡ NoMemory → ⊥) → (error ≡ NoForm → ⊥) → IsPlain bytes → IsSpelled (tokens_of bytes) s → ⊥
     no_phrase Bytes refused known other plain h = refused.not_plain plain
     no_phrase NoForm refused known other plain h = other refl
     no_phrase OutOfRange refused known other plain h = phrase_no_form (tokens_of bytes) s refused.1 h refused.2
@@ -128,20 +129,20 @@ refused_says_nothing bytes error refused known other s h = elim (says_as bytes s
 
 -- each line says something, or nothing
 pub each_said : (bytes : List ℕ) → ((s : Statement) × Says bytes s) ⊎ ((s : Statement) → Says bytes s → ⊥)
-each_said bytes = elim (each_answered bytes) [
+each_said bytes = elim (each_answered Two bytes) [
   | inl r ↦ by_line r.0 r.1 (of_line r.0) refl
   | inr r ↦ by_error r.0 r.1 r.2
 ]
   where
-    by_line : (line : Line) → IsRead bytes line → (o : Option Statement) → of_line line ≡ o → ((s : Statement) × Says bytes s) ⊎ ((s : Statement) → Says bytes s → ⊥)
+    by_line : (line : Line) → IsRead Two bytes line → (o : Option Statement) → of_line line ≡ o → ((s : Statement) × Says bytes s) ⊎ ((s : Statement) → Says bytes s → ⊥)
     by_line line r None e = inr (line_says_nothing bytes line r e)
     by_line line r (Some s) e = inl (s, line_says bytes line s r e)
 
-    by_phrase : IsRefusedBy bytes NoForm → (o : Option Statement) → phrase_of (tokens_of bytes) ≡ o → ((s : Statement) × Says bytes s) ⊎ ((s : Statement) → Says bytes s → ⊥)
+    by_phrase : IsRefusedBy Two bytes NoForm → (o : Option Statement) → phrase_of (tokens_of bytes) ≡ o → ((s : Statement) × Says bytes s) ⊎ ((s : Statement) → Says bytes s → ⊥)
     by_phrase refused None e = inr (phrase_says_nothing bytes refused e)
     by_phrase refused (Some s) e = inl (s, phrase_says bytes s refused.0 e)
 
-    by_error : (error : LineError) → (error ≡ NoMemory → ⊥) → IsRefusedBy bytes error → ((s : Statement) × Says bytes s) ⊎ ((s : Statement) → Says bytes s → ⊥)
+    by_error : (error : LineError) → (error ≡ NoMemory → ⊥) → IsRefusedBy Two bytes error → ((s : Statement) × Says bytes s) ⊎ ((s : Statement) → Says bytes s → ⊥)
     by_error Bytes known refused = inr (refused_says_nothing bytes Bytes refused known (λ e. cc))
     by_error NoForm known refused = by_phrase refused (phrase_of (tokens_of bytes)) refl
     by_error OutOfRange known refused = inr (refused_says_nothing bytes OutOfRange refused known (λ e. cc))
@@ -178,9 +179,9 @@ led_form tokens (AddForm name shape) s is b e =
 led_form tokens (RelaxForm name) s is b e = none-some s e
 led_form tokens _ s is b e = none-some s e
 
-led_read : (bytes : List ℕ) (line : Line) (s : Statement) → begins_phrase (tokens_of bytes) ≡ true → IsRead bytes line → of_line line ≡ Some s → ⊥
+led_read : (bytes : List ℕ) (line : Line) (s : Statement) → begins_phrase (tokens_of bytes) ≡ true → IsRead Two bytes line → of_line line ≡ Some s → ⊥
 led_read bytes _ s b (a_comment c) e = let w = led (tokens_of bytes) b in false≢true (sym (word_says bytes w.0 (drop 1 (tokens_of bytes)) w.1) ∙ c.note)
-led_read bytes line s b (a_form form p is r n t same) e = led_form (tokens_of bytes) form s is b (ap of_line (sym same) ∙ e)
+led_read bytes line s b (a_form form p is a r n t same) e = led_form (tokens_of bytes) form s is b (ap of_line (sym same) ∙ e)
 
 -- each form that only certificates have does
 led_spelled : (tokens : List Lexeme) (s : Statement) → IsSpelled tokens s → begins_phrase tokens ≡ true
@@ -230,7 +231,7 @@ pub long_says_nothing : (bytes : List ℕ) → begins_phrase (tokens_of bytes) �
 long_says_nothing bytes b long s h = elim (says_as bytes s h) [ inl l ↦ led_read bytes l.0 s b l.1 l.2 | inr p ↦ absurd (omega (arith, long, p.0.short)) ]
 
 -- a line that does not is a line of a session, or says nothing
-pub unled_says_nothing : (bytes : List ℕ) (error : LineError) → begins_phrase (tokens_of bytes) ≡ false → IsRefusedBy bytes error → (error ≡ NoMemory → ⊥) → (s : Statement) → Says bytes s → ⊥
+pub unled_says_nothing : (bytes : List ℕ) (error : LineError) → begins_phrase (tokens_of bytes) ≡ false → IsRefusedBy Two bytes error → (error ≡ NoMemory → ⊥) → (s : Statement) → Says bytes s → ⊥
 unled_says_nothing bytes error b refused known s h = elim (says_as bytes s h) [
   | inl l ↦ no_line bytes error refused known s l
   | inr p ↦ false≢true (sym b ∙ led_spelled (tokens_of bytes) s (phrase_is (tokens_of bytes) s p.1).0)

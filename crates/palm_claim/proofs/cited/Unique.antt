@@ -70,7 +70,7 @@ leads_once d e f Comment apart p q = p ∙ sym q
 leads_once d e f Header apart p q = p ∙ sym q
 leads_once d e f (Variable name domain) apart p q = p ∙ sym q
 leads_once d e f (Constraint name shape) apart p q =
-    let same : p.0 ≡ q.0 = constraint_once d.book.variables apart p.0 q.0 p.1.declared q.1.declared p.1.has_form q.1.has_form (p.1.says ∙ sym q.1.says) in
+    let same : p.0 ≡ q.0 = constraint_once d.book.variables apart p.0 q.0 p.1.declared q.1.declared (p.1.says ∙ sym q.1.says) in
     p.2 ∙ ap (λ (c : Con). with_constraint d name c) same ∙ sym q.2
 leads_once d e f (Step name value by reasons) apart p q =
     p.2 ∙ ap (with_step d) (pair_is d.book.variables name value p.0 q.0 apart p.1 q.1) ∙ sym q.2

@@ -51,24 +51,27 @@ stopped_behind was now x w = record { front = x; back = []; whole = sym (append-
 pub writes_nothing : {T : Type 0} (s : SinkState) (text : List ℕ) → Writes {T = T} s s text (Err NoMemory)
 writes_nothing s text = record {
   counted = refl;
+  stands = record { same = refl; ok = tt };
   ok = tt;
   err = stopped_at_once s.written text;
 }
 
 -- no text
 pub writes_none : {T : Type 0} (s : SinkState) (t : T) → Writes {T = T} s s [] (Ok t)
-writes_none s t = record { counted = refl; ok = appended_nothing s.written; err = tt }
+writes_none s t = record { counted = refl; stands = record { same = refl; ok = refl }; ok = appended_nothing s.written; err = tt }
 
 -- the last write of a longer text
 pub writes_then : {T U : Type 0} (s0 s1 s2 : SinkState) (x y : List ℕ) (t : T) (r : Result U WriteStop)
     → Writes {T = T} s0 s1 x (Ok t) → Writes s1 s2 y r → Writes s0 s2 (x ++ y) r
 writes_then s0 s1 s2 x y t (Ok u) a b = record {
   counted = b.counted ∙ a.counted;
+  stands = record { same = b.stands.same ∙ a.stands.same; ok = b.stands.ok ∙ a.stands.ok };
   ok = appended_both s0.written s1.written s2.written x y a.ok b.ok;
   err = tt;
 }
 writes_then s0 s1 s2 x y t (Err stop) a b = record {
   counted = subst (λ (n : ℕ). HasStopCause n s2.faults stop) a.counted b.counted;
+  stands = record { same = b.stands.same ∙ a.stands.same; ok = tt };
   ok = tt;
   err = stopped_in_second s0.written s1.written s2.written x y a.ok b.err;
 }
@@ -78,6 +81,7 @@ pub writes_front : {T U : Type 0} (s0 s1 : SinkState) (x y : List ℕ) (stop : W
     → Writes {T = T} s0 s1 x (Err stop) → Writes {T = U} s0 s1 (x ++ y) (Err stop)
 writes_front s0 s1 x y stop a = record {
   counted = a.counted;
+  stands = record { same = a.stands.same; ok = tt };
   ok = tt;
   err = stopped_in_first s0.written s1.written x y a.err;
 }

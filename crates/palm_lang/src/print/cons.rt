@@ -3,7 +3,7 @@
 
 ghost use Rattle.std.specs.Prelude.{◌<◌, All, length};
 ghost use Rattle.palm_lang.specs.Print.{Puts};
-ghost use Rattle.palm_lang.specs.Reply.{con_text, said_text};
+ghost use Rattle.palm_lang.specs.Reply.{con_text};
 ghost use Rattle.palm_model.specs.Constraint.{scope};
 
 use crate::print::comparison::{put_compare_const, put_compare_var};
@@ -12,7 +12,7 @@ use crate::print::differ::put_differ_con;
 use crate::print::element::put_element;
 use crate::print::linear::put_linear_con;
 use crate::print::table::put_table_con;
-use crate::print::within::{put_column, put_within};
+use crate::print::within::put_within_con;
 use palm_base::NoMemory;
 use palm_book::Book;
 use palm_model::Con;
@@ -21,19 +21,6 @@ use palm_model::Con;
 pub(crate) fn put_con(book: &Book, con: &Con, out: &mut Vec<u8>) -> Result<(), NoMemory>
     requires { All (λ x. x < length book.now.variables) (scope con.now) }
     ensures { Puts out.old.items out.new.items (con_text book.now.variables con.now) result }
-{
-    match con {
-        Con::Within { var, values } => {
-            put_within(book.variable_name(*var), values.as_slice(), out)
-        }
-        _ => put_said(book, con, out),
-    }
-}
-
-/// A constraint as a line says it: `x in S` has no form of a line, and a table of one column says the same.
-pub(crate) fn put_said(book: &Book, con: &Con, out: &mut Vec<u8>) -> Result<(), NoMemory>
-    requires { All (λ x. x < length book.now.variables) (scope con.now) }
-    ensures { Puts out.old.items out.new.items (said_text book.now.variables con.now) result }
 {
     match con {
         Con::CompareVar {
@@ -71,7 +58,7 @@ pub(crate) fn put_said(book: &Book, con: &Con, out: &mut Vec<u8>) -> Result<(), 
         } => put_count_con(book, value, vars, *op, target, out),
         Con::Differ { vars } => put_differ_con(book, vars, out),
         Con::Within { var, values } => {
-            put_column(book.variable_name(*var), values.as_slice(), out)
+            put_within_con(book.variable_name(*var), values.as_slice(), out)
         }
     }
 }

@@ -25,6 +25,20 @@ fn put_declaration(name: &Name, domain: &DomainText, out: &mut Vec<u8>) -> Resul
     put_domain(domain, out)
 }
 
+/// `var NAME DOMAIN in DOMAIN`
+fn put_declaration_in(
+    name: &Name,
+    universe: &DomainText,
+    domain: &DomainText,
+    out: &mut Vec<u8>,
+) -> Result<(), NoMemory>
+    ensures { Puts out.old.items out.new.items (spaced (codes "var" ∷ name.now ∷ domain_text universe.now ∷ codes "in" ∷ domain_text domain.now ∷ [])) result }
+{
+    put_declaration(name, universe, out)?;
+    put_text(" in ", out)?;
+    put_domain(domain, out)
+}
+
 /// `add NAME : CONSTRAINT`
 fn put_addition(name: &Name, shape: &Shape, out: &mut Vec<u8>) -> Result<(), NoMemory>
     ensures { Puts out.old.items out.new.items (spaced (codes "add" ∷ name.now ∷ codes ":" ∷ shape_words shape.now)) result }
@@ -85,7 +99,13 @@ pub(crate) fn put_line(line: &Line, out: &mut Vec<u8>) -> Result<(), NoMemory>
 {
     match line {
         Line::Comment => Ok(()),
+        Line::Header => put_text("palm 2", out),
         Line::Var { name, domain } => put_declaration(name, domain, out),
+        Line::VarIn {
+            name,
+            universe,
+            domain,
+        } => put_declaration_in(name, universe, domain, out),
         Line::Add { name, shape } => put_addition(name, shape, out),
         Line::Relax(name) => put_named("relax", name, out),
         Line::Enforce(name) => put_named("enforce", name, out),

@@ -12,6 +12,7 @@ use crate::print::differ::put_differ;
 use crate::print::element::put_element;
 use crate::print::linear::put_linear;
 use crate::print::table::put_table;
+use crate::print::within::put_within;
 use palm_base::NoMemory;
 use palm_read::Shape;
 
@@ -41,5 +42,6 @@ pub(crate) fn put_shape(shape: &Shape, out: &mut Vec<u8>) -> Result<(), NoMemory
             target,
         } => put_count(value, vars, *op, target, out),
         Shape::Differ { vars } => put_differ(vars, out),
+        Shape::Within { var, domain } => put_within(var, domain, out),
     }
 }

@@ -3,8 +3,8 @@ use Rattle.std.proofs.Common.{◌≡◌, ℕ, ℤ, ◌+◌, ◌<◌, ◌≤◌, 
 use Rattle.palm_read.specs.declared.tokens.TokenKind.TheVariants.{Word, Digits, Sign}
 use Rattle.palm_read.specs.Token.{Lexeme}
 use Rattle.palm_read.specs.Name.{IsName}
-use Rattle.palm_read.specs.Piece.{Piece, Keyword, Named, Mark, Integer, Natural, word, sign, IsInteger, IsPiece, Spells, digits_number}
-use Rattle.palm_read.specs.Reader.Steps.{token_at, keyword_at, mark_at, name_at, natural_at, integer_at}
+use Rattle.palm_read.specs.Piece.{Piece, Keyword, Named, Mark, Integer, Natural, Numeral, word, sign, numeral, IsInteger, IsPiece, Spells, digits_number}
+use Rattle.palm_read.specs.Reader.Steps.{token_at, behind, keyword_at, mark_at, name_at, natural_at, integer_at}
 use Rattle.palm_read.proofs.cited.Front.{token_is, behind_is, name_is, natural_is, integer_is, Starts, digits_first, minus_first}
 
 -- the tokens spell the pieces, one after another, and the rest stands behind them
@@ -41,6 +41,9 @@ by_keyword {w = w} e b = next (word w ∷ []) (behind_is Word w _ _ e) refl b
 pub by_mark : {tokens back rest : List Lexeme} {w : List ℕ} {ps : List Piece} → mark_at w tokens ≡ Some back → Begins back ps rest → Begins tokens (Mark w ∷ ps) rest
 by_mark {w = w} e b = next (sign w ∷ []) (behind_is Sign w _ _ e) refl b
 
+pub by_numeral : {tokens back rest : List Lexeme} {w : List ℕ} {ps : List Piece} → behind Digits w tokens ≡ Some back → Begins back ps rest → Begins tokens (Numeral w ∷ ps) rest
+by_numeral {w = w} e b = next (numeral w ∷ []) (behind_is Digits w _ _ e) refl b
+
 pub by_name : {tokens rest : List Lexeme} {x : List ℕ × List Lexeme} {ps : List Piece} → name_at tokens ≡ Some x → Begins x.1 ps rest → Begins tokens (Named x.0 ∷ ps) rest
 by_name {x = x} e b = let n = name_is _ x e in next (word x.0 ∷ []) n.0 (refl, n.1) b
 
@@ -60,6 +63,9 @@ keyword_first (next {back = back} front e p b) = (back, e ∙ ap (λ ts. ts ++ b
 
 pub mark_first : {tokens rest : List Lexeme} {w : List ℕ} {ps : List Piece} → Begins tokens (Mark w ∷ ps) rest → (back : List Lexeme) × (tokens ≡ sign w ∷ back) × Begins back ps rest
 mark_first (next {back = back} front e p b) = (back, e ∙ ap (λ ts. ts ++ back) p, b)
+
+pub numeral_first : {tokens rest : List Lexeme} {w : List ℕ} {ps : List Piece} → Begins tokens (Numeral w ∷ ps) rest → (back : List Lexeme) × (tokens ≡ numeral w ∷ back) × Begins back ps rest
+numeral_first (next {back = back} front e p b) = (back, e ∙ ap (λ ts. ts ++ back) p, b)
 
 pub name_first : {tokens rest : List Lexeme} {w : List ℕ} {ps : List Piece} → Begins tokens (Named w ∷ ps) rest → (back : List Lexeme) × (tokens ≡ word w ∷ back) × IsName w × Begins back ps rest
 name_first (next {back = back} front e p b) = (back, e ∙ ap (λ ts. ts ++ back) p.0, p.1, b)
@@ -83,6 +89,7 @@ front_some : (front : List Lexeme) (p : Piece) → IsPiece front p → 0 < lengt
 front_some front (Keyword w) h = omega (arith, ap length h)
 front_some front (Named w) h = omega (arith, ap length h.0)
 front_some front (Mark w) h = omega (arith, ap length h)
+front_some front (Numeral w) h = omega (arith, ap length h)
 front_some front (Integer z) h =
     elim h [
       | inl n ↦ omega (arith, ap length n.1.1)

@@ -17,7 +17,7 @@ use Rattle.palm_read.specs.Name.{IsNameText}
 use Rattle.palm_read.specs.Bytes.{is_digit, is_letter, is_word_byte, is_plain}
 use Rattle.palm_read.specs.Token.{is_sign, are_sign, begins_long_sign, tokens_of}
 use Rattle.palm_read.specs.declared.tokens.TokenKind.TheVariants.{Digits}
-use Rattle.palm_read.specs.Piece.{Piece, Keyword, Named, Mark, Integer, Natural, word, sign, Spells, op_text}
+use Rattle.palm_read.specs.Piece.{Piece, Keyword, Named, Mark, Integer, Natural, Numeral, word, sign, numeral, Spells, op_text}
 use Rattle.palm_read.specs.Words.{spaced, after_spaces}
 use Rattle.palm_read.proofs.cited.TokenLemmas.{Stops, begins_pairs, tokens_of-space, tokens_of-nil, tokens_of-word, tokens_of-sign, tokens_of-lone_sign, tokens_of-long_sign, tokens_of-decimal}
 use Rattle.palm_read.proofs.cited.Begins.{Begins, over, next, begins_then, spells_from_begins}
@@ -163,6 +163,14 @@ decimal_plain n small = All-weaker (λ b. (48 ≤ b) × (b ≤ 57)) IsPlainByte 
 pub lays_natural : (k n : ℕ) → 0 < k → n < 10 ^ k → n < 10 ^ 64 → Lays NoDigit k (decimal n) (Natural n ∷ [])
 lays_natural k n some few small = record {
   begins = λ rest stops. next (record { kind = Digits; text = decimal n } ∷ []) (tokens_of-decimal n rest small stops) (decimal n, refl, sym (digits_number-decimal n small)) over;
+  plain = decimal_plain n small;
+  short = length-decimal-le_wide k n some few small;
+}
+
+-- the digits of a number, just so
+pub lays_numeral : (k n : ℕ) → 0 < k → n < 10 ^ k → n < 10 ^ 64 → Lays NoDigit k (decimal n) (Numeral (decimal n) ∷ [])
+lays_numeral k n some few small = record {
+  begins = λ rest stops. next (numeral (decimal n) ∷ []) (tokens_of-decimal n rest small stops) refl over;
   plain = decimal_plain n small;
   short = length-decimal-le_wide k n some few small;
 }

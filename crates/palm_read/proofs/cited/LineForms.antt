@@ -3,16 +3,16 @@ use Rattle.std.proofs.Common.{◌≡◌, ℕ, ℤ, true, false, Option, Some, No
 use Rattle.std.specs.Str.{bytes_eq}
 use Rattle.std.proofs.lemmas.Bool.{and_parts, and_right}
 use Rattle.std.proofs.lemmas.Option.{same_Some, none-some}
-use Rattle.palm_read.specs.declared.tokens.TokenKind.TheVariants.{Word, Sign}
+use Rattle.palm_read.specs.declared.tokens.TokenKind.TheVariants.{Word, Digits, Sign}
 use Rattle.palm_read.specs.Token.{Lexeme}
 use Rattle.palm_read.specs.Domain.{domain_pieces, DomainForm}
 use Rattle.palm_read.specs.Grammar.{shape_pieces, budget_pieces, pieces, IsProperShape, IsProper, IsForm}
-use Rattle.palm_read.specs.Piece.{Piece, Keyword, Named, Mark, Integer, word}
-use Rattle.palm_read.specs.Form.{ShapeForm, Form, DeclareForm, AddForm, RelaxForm, EnforceForm, RetractForm, DomainsForm, DomainOfForm, ListForm, LogForm, WhyForm, ConflictForm, MinimalConflictForm, MinimalForm, PauseForm, ResumeForm, StepForm, SolveDbtForm, SolveRepairForm, CertForm, CertConflictForm, GuideForm, GuideNoneForm, OrderForm, OrderNoneForm, DropGuideForm, DropOrderForm, QuitForm}
-use Rattle.palm_read.specs.Reader.Lines.{declare_at, add_at, named_at, numbered_at, pair_at, query_at, choice_at, drop_at, dbt_at, repair_at, solve_at, bare_at, line_at, form_at}
+use Rattle.palm_read.specs.Piece.{Piece, Keyword, Named, Mark, Integer, Numeral, word}
+use Rattle.palm_read.specs.Form.{ShapeForm, Form, HeaderForm, DeclareForm, DeclareInForm, AddForm, RelaxForm, EnforceForm, RetractForm, DomainsForm, DomainOfForm, ListForm, LogForm, WhyForm, ConflictForm, MinimalConflictForm, MinimalForm, PauseForm, ResumeForm, StepForm, SolveDbtForm, SolveRepairForm, CertForm, CertConflictForm, GuideForm, GuideNoneForm, OrderForm, OrderNoneForm, DropGuideForm, DropOrderForm, QuitForm}
+use Rattle.palm_read.specs.Reader.Lines.{header_at, declare_at, declare_in_at, add_at, named_at, numbered_at, pair_at, query_at, choice_at, drop_at, dbt_at, repair_at, solve_at, bare_at, line_at, form_at}
 use Rattle.palm_read.specs.Reader.Steps.{Reading, and_then, when, choose, is_empty, front_text, token_at, behind, keyword_at, is_name, name_at}
 use Rattle.palm_read.proofs.cited.Front.{Starts, digits_first, minus_first, and_then_some, when_some, choose_some, guard_some, same_text, name_is, behind-cons, name_at-cons, integer_at-starts}
-use Rattle.palm_read.proofs.cited.Begins.{Begins, over, begins_over, begins_then, begins_from_spells, spells_from_begins, by_keyword, by_mark, by_name, by_integer, keyword_first, mark_first, name_first, integer_first}
+use Rattle.palm_read.proofs.cited.Begins.{Begins, over, begins_over, begins_then, begins_split, begins_from_spells, spells_from_begins, by_keyword, by_mark, by_numeral, by_name, by_integer, keyword_first, mark_first, numeral_first, name_first, integer_first}
 use Rattle.palm_read.proofs.ShapeForms.{domain_takes, domain_again, shape_takes, shape_again}
 
 -- the tokens begin with the pieces of the form, which is a proper one, and go on with the rest
@@ -27,12 +27,25 @@ nothing {x = x} e = absurd (none-some x e)
 
 -- ---- a form is read only where its pieces stand
 
+header_takes : (tokens back : List Lexeme) (x : Form × List Lexeme) → keyword_at (codes "palm") tokens ≡ Some back → header_at back ≡ Some x → Taken tokens x
+unfolding header_at
+header_takes tokens back x k e =
+    let two = and_then_some e in
+    moved tokens (HeaderForm, two.0) x two.2 (by_keyword k (by_numeral two.1 over), tt)
+
 declare_takes : (tokens back : List Lexeme) (x : Form × List Lexeme) → keyword_at (codes "var") tokens ≡ Some back → declare_at back ≡ Some x → Taken tokens x
-unfolding declare_at
+unfolding declare_at declare_in_at
 declare_takes tokens back x k e =
     let name = and_then_some e in
     let domain = and_then_some name.2 in
-    moved tokens (DeclareForm name.0.0 domain.0.0, domain.0.1) x domain.2 (by_keyword k (by_name name.1 (domain_takes name.0.1 domain.0 domain.1)), tt)
+    let taken = domain_takes name.0.1 domain.0 domain.1 in
+    elim (when_some domain.2) [
+      | inl w ↦
+          let inner = and_then_some w.2 in
+          moved tokens (DeclareInForm name.0.0 domain.0.0 inner.0.0, inner.0.1) x inner.2
+          (by_keyword k (by_name name.1 (begins_then taken (by_keyword w.1 (domain_takes w.0 inner.0 inner.1)))), tt)
+      | inr w ↦ moved tokens (DeclareForm name.0.0 domain.0.0, domain.0.1) x w.1 (by_keyword k (by_name name.1 taken), tt)
+    ]
 
 add_takes : (tokens back : List Lexeme) (x : Form × List Lexeme) → keyword_at (codes "add") tokens ≡ Some back → add_at back ≡ Some x → Taken tokens x
 unfolding add_at
@@ -195,7 +208,10 @@ line_takes tokens x e =
                               | inl w ↦ choice_takes (codes "order") OrderNoneForm OrderForm refl tt (λ n. refl) (λ n. tt) tokens w.0 x w.1 w.2
                               | inr w13 ↦ elim (when_some w13.1) [
                                 | inl w ↦ drop_takes tokens w.0 x w.1 w.2
-                                | inr w ↦ bare_takes tokens x w.1
+                                | inr w14 ↦ elim (when_some w14.1) [
+                                  | inl w ↦ header_takes tokens w.0 x w.1 w.2
+                                  | inr w ↦ bare_takes tokens x w.1
+                                ]
                               ]
                             ]
                           ]
@@ -236,11 +252,29 @@ ended : (tokens : List Lexeme) (form : Form) → line_at tokens ≡ Some (form, 
 unfolding form_at and_then choose
 ended tokens form e = rw e refl
 
+header_again : (back : List Lexeme) → Begins back (Numeral (codes "2") ∷ []) [] → header_at back ≡ Some (HeaderForm, [])
+unfolding header_at and_then
+header_again back b =
+    let n = numeral_first b in
+    rw (n.1, behind-cons Digits (codes "2") n.0, begins_over n.2) refl
+
+no_word : (text : List ℕ) → keyword_at text [] ≡ None
+unfolding behind token_at front_text and_then
+no_word text = refl
+
 declare_again : (name : List ℕ) (domain : DomainForm) (back : List Lexeme) → Begins back (Named name ∷ domain_pieces domain) [] → declare_at back ≡ Some (DeclareForm name domain, [])
-unfolding declare_at and_then
+unfolding declare_at and_then when
 declare_again name domain back b =
     let n = name_first b in
-    rw (n.1, name_at-cons name n.0 n.2, domain_again domain n.0 [] n.3) refl
+    rw (n.1, name_at-cons name n.0 n.2, domain_again domain n.0 [] n.3, no_word (codes "in")) refl
+
+declare_in_again : (name : List ℕ) (universe domain : DomainForm) (back : List Lexeme) → Begins back (Named name ∷ (domain_pieces universe ++ Keyword (codes "in") ∷ domain_pieces domain)) [] → declare_at back ≡ Some (DeclareInForm name universe domain, [])
+unfolding declare_at declare_in_at and_then when
+declare_in_again name universe domain back b =
+    let n = name_first b in
+    let s = begins_split (domain_pieces universe) (Keyword (codes "in") ∷ domain_pieces domain) n.3 in
+    let k = keyword_first s.2 in
+    rw (n.1, name_at-cons name n.0 n.2, domain_again universe n.0 s.0 s.1, k.1, behind-cons Word (codes "in") k.0, domain_again domain k.0 [] k.2) refl
 
 add_again : (name : List ℕ) (shape : ShapeForm) (back : List Lexeme) → IsProperShape shape → Begins back (Named name ∷ Mark (codes ":") ∷ shape_pieces shape) [] → add_at back ≡ Some (AddForm name shape, [])
 unfolding add_at and_then
@@ -302,10 +336,6 @@ choice_alone alone form back b =
     let k = keyword_first b in
     rw (k.1, behind-cons Word (codes "none") k.0, begins_over k.2) refl
 
-no_word : (text : List ℕ) → keyword_at text [] ≡ None
-unfolding behind token_at front_text and_then
-no_word text = refl
-
 dbt_again : (budget : Option ℤ) (back : List Lexeme) → Begins back (budget_pieces budget) [] → dbt_at back ≡ Some (SolveDbtForm budget, [])
 unfolding dbt_at when and_then
 dbt_again None back b = rw (begins_over b, no_word (codes "budget")) refl
@@ -327,7 +357,9 @@ repair_again tabu budget back b =
 module _ (tokens : List Lexeme) where
   line_again : (form : Form) → IsProper form → Begins tokens (pieces form) [] → line_at tokens ≡ Some (form, [])
   unfolding line_at bare_at solve_at drop_at behind token_at front_text and_then when choose
+  line_again HeaderForm proper b = let k = keyword_first b in rw k.1 (header_again k.0 k.2)
   line_again (DeclareForm name domain) proper b = let k = keyword_first b in rw k.1 (declare_again name domain k.0 k.2)
+  line_again (DeclareInForm name universe domain) proper b = let k = keyword_first b in rw k.1 (declare_in_again name universe domain k.0 k.2)
   line_again (AddForm name shape) proper b = let k = keyword_first b in rw k.1 (add_again name shape k.0 proper k.2)
   line_again (RelaxForm name) proper b = let k = keyword_first b in rw k.1 (named_again RelaxForm name k.0 k.2)
   line_again (EnforceForm name) proper b = let k = keyword_first b in rw k.1 (named_again EnforceForm name k.0 k.2)

@@ -8,7 +8,7 @@ use Rattle.palm_read.specs.Bytes.{after_blanks, is_blank, is_digit, is_letter, i
 use Rattle.palm_read.specs.Form.{Form}
 use Rattle.palm_read.specs.Token.{Lexeme, is_sign, are_sign, begins_long_sign, kind_at, more_at, lexeme_at, front_tokens, tokens_of}
 use Rattle.palm_read.specs.Grammar.{IsForm, pieces}
-use Rattle.palm_read.specs.Piece.{Piece, Keyword, Named, Mark, Integer, Natural, IsPiece, IsInteger, Spells, word, sign}
+use Rattle.palm_read.specs.Piece.{Piece, Keyword, Named, Mark, Integer, Natural, Numeral, IsPiece, IsInteger, Spells, word, sign}
 use Rattle.palm_read.specs.declared.tokens.TokenKind.TheVariants.{Word, Digits, Sign, Other}
 use Rattle.palm_read.proofs.cited.SoundLines.{word_letter}
 use Rattle.palm_read.proofs.cited.TokenLemmas.{tokens_of-blank, tokens_of-front, take-prefix_len}
@@ -43,6 +43,7 @@ piece_known tokens (Named name) h = one_known tokens (record { kind = Word; text
 piece_known tokens (Mark text) h = one_known tokens (record { kind = Sign; text = text }) (sign_known text) h
 piece_known tokens (Integer z) h = integer_known tokens z h
 piece_known tokens (Natural n) h = one_known tokens (record { kind = Digits; text = h.0 }) (digits_known h.0) h.1
+piece_known tokens (Numeral text) h = one_known tokens (record { kind = Digits; text = text }) (digits_known text) h
 
 pub spelled_known : (tokens : List Lexeme) (ps : List Piece) → Spells tokens ps → All IsKnown tokens
 spelled_known tokens [] h = subst (All IsKnown) (sym h) (All-nil IsKnown)

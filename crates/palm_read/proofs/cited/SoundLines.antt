@@ -1,5 +1,5 @@
 -- Every line that is read keeps to the limits of names, numbers and lists.
-use Rattle.std.proofs.Common.{◌≡◌, ℕ, ℤ, pos, zero, suc, ◌<◌, Bool, true, false, ◌||◌, cond, List, [], ◌∷◌, ◌++◌, length, take, drop, map, codes, All, refl, sym, ap, ◌∙◌, subst, arith}
+use Rattle.std.proofs.Common.{inl, inr, ◌≡◌, ℕ, ℤ, pos, zero, suc, ◌<◌, Bool, true, false, ◌||◌, cond, List, [], ◌∷◌, ◌++◌, length, take, drop, map, codes, All, refl, sym, ap, ◌∙◌, subst, arith}
 use Rattle.std.specs.Prelude.{Any, ◌<ℤ◌, IfOk, Result, Ok, Err}
 use Rattle.std.specs.List.{AllByRecursion}
 use Rattle.std.proofs.lemmas.Int.{by_lt_z}
@@ -11,16 +11,17 @@ use Rattle.palm_read.specs.Bytes.{is_letter, is_digit, is_word_byte, after_blank
 use Rattle.palm_read.specs.Token.{Lexeme, kind_at, more_at, lexeme_at, front_tokens, tokens_of, begins_long_sign, is_sign}
 use Rattle.palm_read.specs.declared.tokens.TokenKind.TheVariants.{Word, Digits, Sign, Other}
 use Rattle.palm_read.specs.Domain.{DomainForm, Interval, Members, domain_pieces, set_of, domain_of, IsSoundDomain}
-use Rattle.palm_read.specs.Form.{ShapeForm, CompareVarForm, CompareConstForm, LinearForm, TableForm, ElementForm, CountForm, DifferForm, Form, DeclareForm, AddForm}
+use Rattle.palm_read.specs.Form.{ShapeForm, CompareVarForm, CompareConstForm, LinearForm, TableForm, ElementForm, CountForm, DifferForm, WithinForm, Form, DeclareForm, DeclareInForm, AddForm}
 use Rattle.palm_read.specs.Linear.{TermForm, term_of, IsSoundTerm}
 use Rattle.palm_read.specs.Grammar.{shape_pieces, IsForm, IsProperShape}
 use Rattle.palm_read.specs.Name.{IsName, IsNameText}
 use Rattle.palm_read.specs.Piece.{Piece, Keyword, Named, Mark, word, Spells}
 use Rattle.palm_read.specs.Reading.{shape_of, line_of, IsRead, IsReadAs, a_comment, a_form}
-use Rattle.palm_read.specs.Limits.{HasNothing, HasRepeat, IsDomainInRange, IsInRange, IsShapeInRange}
+use Rattle.palm_read.specs.Limits.{HasNoValue, HasNothing, HasRepeat, IsDomainInRange, IsInRange, IsShapeInRange}
 use Rattle.palm_read.specs.Sound.{IsSoundShape, IsSound}
 use Rattle.palm_read.specs.declared.line.NameTerm.{NameTerm}
 use Rattle.palm_read.specs.declared.line.Line.{Line}
+use Rattle.palm_read.specs.declared.mode.Mode.{Mode}
 use Rattle.palm_read.specs.declared.parse.LineError.{LineError}
 use Rattle.palm_read.proofs.cited.TokenLemmas.{take-prefix_len}
 use Rattle.palm_read.proofs.cited.Sets.{Rises, rises_set}
@@ -87,9 +88,9 @@ ascends : (vs : List ℤ) → Rises vs → Ascends vs
 ascends [] r = tt
 ascends (v ∷ vs) r = (all_above v vs r.0, ascends vs r.1)
 
-sound_domain : (name : List ℕ) (d : DomainForm) → IsDomainInRange (domain_of d) → (HasNothing (line_of (DeclareForm name d)) → ⊥) → IsSoundDomain (domain_of d)
-sound_domain name (Interval low high) h none = (h.0, h.1, by_lt_z high low (λ l. absurd (none l)) (λ l. l))
-sound_domain name (Members vs) h none = (some_length (set_of vs) none, ascends (set_of vs) (rises_set vs), h)
+sound_domain : (d : DomainForm) → IsDomainInRange (domain_of d) → (HasNoValue (domain_of d) → ⊥) → IsSoundDomain (domain_of d)
+sound_domain (Interval low high) h none = (h.0, h.1, by_lt_z high low (λ l. absurd (none l)) (λ l. l))
+sound_domain (Members vs) h none = (some_length (set_of vs) none, ascends (set_of vs) (rises_set vs), h)
 
 -- ---- constraints
 
@@ -117,21 +118,24 @@ sound_shape name (TableForm vars rows) h p none = (p.0, some_length rows none, s
 sound_shape name (ElementForm outcome index entries) h p none = (some_length entries none, h)
 sound_shape name (CountForm v vars op t) h p none = (p, h.0, h.1)
 sound_shape name (DifferForm vars) h p none = p
+sound_shape name (WithinForm var domain) h p none = sound_domain domain h none
 
 -- ---- lines
 
 sound_form : (bytes : List ℕ) (form : Form) → IsForm (tokens_of bytes) form → IsInRange (line_of form) → (HasNothing (line_of form) → ⊥) → (HasRepeat (line_of form) → ⊥) → IsSound (line_of form)
 sound_form bytes (DeclareForm name domain) f h none once =
-    (named_text (tokens_of bytes) (codes "var") name (domain_pieces domain) (wordy_tokens bytes) f.spells, sound_domain name domain h none)
+    (named_text (tokens_of bytes) (codes "var") name (domain_pieces domain) (wordy_tokens bytes) f.spells, sound_domain domain h none)
+sound_form bytes (DeclareInForm name universe domain) f h none once =
+    (named_text (tokens_of bytes) (codes "var") name (domain_pieces universe ++ Keyword (codes "in") ∷ domain_pieces domain) (wordy_tokens bytes) f.spells, sound_domain universe h.0 (λ l. none (inl l)), sound_domain domain h.1 (λ r. none (inr r)))
 sound_form bytes (AddForm name shape) f h none once =
     (named_text (tokens_of bytes) (codes "add") name (Mark (codes ":") ∷ shape_pieces shape) (wordy_tokens bytes) f.spells, once, sound_shape name shape h f.proper none)
 sound_form bytes _ f h none once = tt
 
-pub read_sound : (bytes : List ℕ) (line : Line) → IsRead bytes line → IsSound line
-read_sound bytes line (a_comment c) = tt
-read_sound bytes line (a_form form p f r none once e) =
+pub read_sound : (mode : Mode) (bytes : List ℕ) (line : Line) → IsRead mode bytes line → IsSound line
+read_sound mode bytes line (a_comment c) = tt
+read_sound mode bytes line (a_form form p f allowed r none once e) =
     subst IsSound (sym e) (sound_form bytes form f r none once)
 
-pub sound_answer : (bytes : List ℕ) (result : Result Line LineError) → IsReadAs bytes result → IfOk result IsSound
-sound_answer bytes (Ok line) r = read_sound bytes line r
-sound_answer bytes (Err error) r = tt
+pub sound_answer : (mode : Mode) (bytes : List ℕ) (result : Result Line LineError) → IsReadAs mode bytes result → IfOk result IsSound
+sound_answer mode bytes (Ok line) r = read_sound mode bytes line r
+sound_answer mode bytes (Err error) r = tt

@@ -11,7 +11,7 @@ use Rattle.palm_read.specs.declared.limits.TheConstants.{GREATEST_NUMBER, GREATE
 use Rattle.palm_read.specs.Comparison.{OffsetForm, NoOffset, Plus, Minus}
 use Rattle.palm_read.specs.Count.{TargetForm, Number, Variable}
 use Rattle.palm_read.specs.Domain.{DomainForm, Interval, Members}
-use Rattle.palm_read.specs.Form.{ShapeForm, CompareVarForm, CompareConstForm, LinearForm, TableForm, ElementForm, CountForm, DifferForm, Form, DeclareForm, AddForm, WhyForm, MinimalForm, StepForm, SolveDbtForm, SolveRepairForm, CertForm, GuideForm, OrderForm, DropGuideForm, DropOrderForm}
+use Rattle.palm_read.specs.Form.{ShapeForm, CompareVarForm, CompareConstForm, LinearForm, TableForm, ElementForm, CountForm, DifferForm, WithinForm, Form, DeclareForm, DeclareInForm, AddForm, WhyForm, MinimalForm, StepForm, SolveDbtForm, SolveRepairForm, CertForm, GuideForm, OrderForm, DropGuideForm, DropOrderForm}
 use Rattle.palm_read.specs.Linear.{TermForm}
 
 -- what was taken from the front, or nothing, and then nothing changed
@@ -94,9 +94,11 @@ held_shape (TableForm vars rows) = TableForm vars (map (map held_value) rows)
 held_shape (ElementForm outcome index entries) = ElementForm outcome index (map held_value entries)
 held_shape (CountForm value vars op target) = CountForm (held_value value) vars op (held_target target)
 held_shape (DifferForm vars) = DifferForm vars
+held_shape (WithinForm var domain) = WithinForm var (held_domain domain)
 
 abbrev pub held_form : Form → Form
 held_form (DeclareForm name domain) = DeclareForm name (held_domain domain)
+held_form (DeclareInForm name universe domain) = DeclareInForm name (held_domain universe) (held_domain domain)
 held_form (AddForm name shape) = AddForm name (held_shape shape)
 held_form (WhyForm name value) = WhyForm name (held_value value)
 held_form (MinimalForm name value) = MinimalForm name (held_value value)

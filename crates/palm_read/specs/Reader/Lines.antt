@@ -1,16 +1,32 @@
 -- Readers of the forms of a line. That these readers read just the forms of the grammar is proved of them.
 use Rattle.std.specs.Prelude.{ℕ, ℤ, ◌&&◌, Option, Some, None, List, codes}
 use Rattle.std.specs.Str.{bytes_eq}
-use Rattle.palm_read.specs.Form.{Form, DeclareForm, AddForm, RelaxForm, EnforceForm, RetractForm, DomainsForm, DomainOfForm, ListForm, LogForm, WhyForm, ConflictForm, MinimalConflictForm, MinimalForm, PauseForm, ResumeForm, StepForm, SolveDbtForm, SolveRepairForm, CertForm, CertConflictForm, GuideForm, GuideNoneForm, OrderForm, OrderNoneForm, DropGuideForm, DropOrderForm, QuitForm}
+use Rattle.palm_read.specs.declared.tokens.TokenKind.TheVariants.{Digits}
+use Rattle.palm_read.specs.Domain.{DomainForm}
+use Rattle.palm_read.specs.Form.{Form, HeaderForm, DeclareForm, DeclareInForm, AddForm, RelaxForm, EnforceForm, RetractForm, DomainsForm, DomainOfForm, ListForm, LogForm, WhyForm, ConflictForm, MinimalConflictForm, MinimalForm, PauseForm, ResumeForm, StepForm, SolveDbtForm, SolveRepairForm, CertForm, CertConflictForm, GuideForm, GuideNoneForm, OrderForm, OrderNoneForm, DropGuideForm, DropOrderForm, QuitForm}
 use Rattle.palm_read.specs.Token.{Lexeme}
-use Rattle.palm_read.specs.Reader.Steps.{Reading, ◌>>=◌, when, choose, is_empty, keyword_at, mark_at, name_at, integer_at}
+use Rattle.palm_read.specs.Reader.Steps.{Reading, ◌>>=◌, when, choose, is_empty, behind, keyword_at, mark_at, name_at, integer_at}
 use Rattle.palm_read.specs.Reader.Shapes.{domain_at, shape_at}
+
+-- the digit of the header
+unfoldable pub header_at : List Lexeme → Reading Form
+header_at tokens = do
+  rest ← behind Digits (codes "2") tokens
+  Some (HeaderForm, rest)
+
+-- the domain behind a universe and `in`
+unfoldable pub declare_in_at : List ℕ → DomainForm → List Lexeme → Reading Form
+declare_in_at name universe tokens = do
+  domain ← domain_at tokens
+  Some (DeclareInForm name universe domain.0, domain.1)
 
 unfoldable pub declare_at : List Lexeme → Reading Form
 declare_at tokens = do
   name ← name_at tokens
   domain ← domain_at name.1
-  Some (DeclareForm name.0 domain.0, domain.1)
+  when (keyword_at (codes "in") domain.1)
+      (declare_in_at name.0 domain.0)
+      (Some (DeclareForm name.0 domain.0, domain.1))
 
 unfoldable pub add_at : List Lexeme → Reading Form
 add_at tokens = do
@@ -108,7 +124,8 @@ line_at tokens =
     (when (keyword_at (codes "guide") tokens) (choice_at GuideNoneForm GuideForm)
     (when (keyword_at (codes "order") tokens) (choice_at OrderNoneForm OrderForm)
     (when (keyword_at (codes "drop") tokens) drop_at
-    (bare_at tokens))))))))))))))
+    (when (keyword_at (codes "palm") tokens) header_at
+    (bare_at tokens)))))))))))))))
 
 -- the form of all tokens of a line
 unfoldable pub form_at : List Lexeme → Option Form

@@ -1,12 +1,12 @@
 -- Readers of domains and of constraints, kind by kind.
-use Rattle.std.specs.Prelude.{Bool, true, false, Option, Some, None, List, ◌∷◌, length, codes}
+use Rattle.std.specs.Prelude.{ℕ, Bool, true, false, Option, Some, None, List, ◌∷◌, length, codes}
 use Rattle.palm_model.specs.declared.constraint.Op.{Op}
 use Rattle.palm_model.specs.declared.constraint.Op.TheVariants.{Lt, Gt}
 use Rattle.palm_read.specs.declared.tokens.TokenKind.TheVariants.{Digits}
 use Rattle.palm_read.specs.Comparison.{OffsetForm, NoOffset, Plus, Minus}
 use Rattle.palm_read.specs.Count.{TargetForm, Number, Variable}
 use Rattle.palm_read.specs.Domain.{DomainForm, Interval, Members}
-use Rattle.palm_read.specs.Form.{ShapeForm, CompareVarForm, CompareConstForm, LinearForm, TableForm, ElementForm, CountForm, DifferForm}
+use Rattle.palm_read.specs.Form.{ShapeForm, CompareVarForm, CompareConstForm, LinearForm, TableForm, ElementForm, CountForm, DifferForm, WithinForm}
 use Rattle.palm_read.specs.Linear.{TermForm}
 use Rattle.palm_read.specs.Piece.{digits_number}
 use Rattle.palm_read.specs.Token.{Lexeme}
@@ -40,17 +40,31 @@ offset_at tokens = when (mark_at (codes "+") tokens)
       Some (Minus n.0, n.1))
     (Some (NoOffset, tokens)))
 
-unfoldable pub comparison_at : List Lexeme → Reading ShapeForm
-comparison_at tokens = do
-  left ← name_at tokens
-  op ← op_at left.1
+-- what stands behind the name on the left
+unfoldable pub comparison_at : List ℕ → List Lexeme → Reading ShapeForm
+comparison_at left tokens = do
+  op ← op_at tokens
   when (name_at op.1)
       (λ right. do
         offset ← offset_at right.1
-        Some (CompareVarForm left.0 op.0 right.0 offset.0, offset.1))
+        Some (CompareVarForm left op.0 right.0 offset.0, offset.1))
       (do
         value ← integer_at op.1
-        Some (CompareConstForm left.0 op.0 value.0, value.1))
+        Some (CompareConstForm left op.0 value.0, value.1))
+
+-- ---- within
+
+-- what stands behind the name and `in`
+unfoldable pub within_at : List ℕ → List Lexeme → Reading ShapeForm
+within_at var tokens = do
+  domain ← domain_at tokens
+  Some (WithinForm var domain.0, domain.1)
+
+-- a constraint that begins with a name
+unfoldable pub of_name_at : List Lexeme → Reading ShapeForm
+of_name_at tokens = do
+  name ← name_at tokens
+  when (keyword_at (codes "in") name.1) (within_at name.0) (comparison_at name.0 name.1)
 
 -- ---- linear
 
@@ -152,4 +166,4 @@ shape_at tokens =
     (when (keyword_at (codes "element") tokens) element_at
     (when (keyword_at (codes "count") tokens) count_at
     (when (keyword_at (codes "differ") tokens) differ_at
-    (comparison_at tokens)))))
+    (of_name_at tokens)))))

@@ -1,15 +1,30 @@
-//! Whether the numbers of a line are within their ranges, and whether nothing is missing in it.
+//! Whether a mode allows a line, whether its numbers are within their ranges, and whether nothing is missing in it.
 ghost use Rattle.std.specs.Prelude.{All};
 ghost use Rattle.palm_base.specs.Tells.{Tells};
 ghost use Rattle.palm_read.specs.Bounds.{IsFromOneTo};
 ghost use Rattle.palm_read.specs.Count.{IsSoundTarget};
-ghost use Rattle.palm_read.specs.Limits.{HasNothing, IsDomainInRange, IsInRange, IsShapeInRange};
+ghost use Rattle.palm_read.specs.Limits.{HasNoValue, HasNothing, IsDomainInRange, IsInRange, IsShapeInRange};
+ghost use Rattle.palm_read.specs.Modes.{Allows};
 ghost use Rattle.palm_model.specs.Limits.{IsUpTo, IsValue};
 
 use crate::limits::{GREATEST_NUMBER, GREATEST_TABU, NO_BUDGET};
 use crate::line::{DomainText, Line, NameTarget, NameTerm, Shape};
+use crate::mode::Mode;
 use palm_base::Value;
 use palm_model::{GREATEST_BOUND, GREATEST_FACTOR, GREATEST_OFFSET, GREATEST_VALUE};
+
+/// Whether the mode allows the line.
+pub fn is_allowed(line: &Line, mode: Mode) -> bool
+    ensures { Tells result (Allows mode line.now) }
+{
+    match line {
+        Line::Header => matches!(mode, Mode::First),
+        Line::VarIn { .. } => matches!(mode, Mode::Two),
+        Line::Add { shape, .. } => !matches!(shape, Shape::Within { .. })
+            || matches!(mode, Mode::Two),
+        _ => true,
+    }
+}
 
 /// Whether each number of the line is within its range.
 pub fn is_in_range(line: &Line) -> bool
@@ -17,6 +32,11 @@ pub fn is_in_range(line: &Line) -> bool
 {
     match line {
         Line::Var { domain, .. } => is_domain_in_range(domain),
+        Line::VarIn {
+            universe,
+            domain,
+            ..
+        } => is_domain_in_range(universe) && is_domain_in_range(domain),
         Line::Add { shape, .. } => is_shape_in_range(shape),
         Line::Why { value, .. } | Line::Minimal { value, .. } | Line::Cert { value, .. } =>
             is_value(value),
@@ -56,6 +76,7 @@ fn is_shape_in_range(shape: &Shape) -> bool
         Shape::Element { entries, .. } => are_values(entries.as_slice()),
         Shape::Count { value, target, .. } => is_value(value) && is_target_in_range(target),
         Shape::Differ { .. } => true,
+        Shape::Within { domain, .. } => is_domain_in_range(domain),
     }
 }
 
@@ -100,19 +121,32 @@ fn is_from_one_to(most: u64, number: u64) -> bool
     0 < number && number <= most
 }
 
+/// Whether no value is in the domain.
+fn has_no_value(domain: &DomainText) -> bool
+    ensures { Tells result (HasNoValue domain.now) }
+{
+    match domain {
+        DomainText::Range { low, high } => high.0 < low.0,
+        DomainText::Set(values) => values.len() == 0,
+    }
+}
+
 /// Whether nothing stands where something has to, or a coefficient is 0.
 pub fn lacks_something(line: &Line) -> bool
     ensures { Tells result (HasNothing line.now) }
 {
     match line {
-        Line::Var { domain, .. } => match domain {
-            DomainText::Range { low, high } => high.0 < low.0,
-            DomainText::Set(values) => values.len() == 0,
-        },
+        Line::Var { domain, .. } => has_no_value(domain),
+        Line::VarIn {
+            universe,
+            domain,
+            ..
+        } => has_no_value(universe) || has_no_value(domain),
         Line::Add { shape, .. } => match shape {
             Shape::Linear { terms, .. } => terms.as_slice().iter().any(|t| t.factor == 0),
             Shape::Table { rows, .. } => rows.len() == 0,
             Shape::Element { entries, .. } => entries.len() == 0,
+            Shape::Within { domain, .. } => has_no_value(domain),
             _ => false,
         },
         _ => false,

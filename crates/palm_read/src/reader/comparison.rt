@@ -14,11 +14,11 @@ use std::alloc::Global;
 const OFFSET_CAP: u128 = GREATEST_OFFSET as u128 + 1;
 
 impl<'a> Cursor<'a> {
+    /// Reads a comparison behind the name on its left.
     #[tactic(auto, unfolding(crate::specs::Reader::Shapes::comparison_at, crate::specs::Reader::Steps::when, crate::specs::Reader::Steps::and_then))]
-    pub(crate) fn comparison(&mut self, alloc: Global) -> Result<Shape, LineError>
-        ensures { Gives (λ s. shape_of (held_shape s)) result self.new (comparison_at self.old) }
+    pub(crate) fn comparison(&mut self, alloc: Global, left: Name) -> Result<Shape, LineError>
+        ensures { Gives (λ s. shape_of (held_shape s)) result self.new (comparison_at left self.old) }
     {
-        let left = self.owned_name(alloc)?;
         let op = self.op()?;
         if let Some(right) = self.name() {
             let right = Name::from_slice(alloc, right)?;

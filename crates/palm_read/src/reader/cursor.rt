@@ -90,6 +90,13 @@ impl<'a> Cursor<'a> {
         self.takes(TokenKind::Word, text)
     }
 
+    /// Takes these digits, just so, if they stand in front.
+    pub fn takes_digits(&mut self, text: &[u8]) -> bool
+        ensures { TakesIf result self.old self.new (behind Digits text.now self.old) }
+    {
+        self.takes(TokenKind::Digits, text)
+    }
+
     /// Takes this sign, if it stands in front.
     pub fn takes_sign(&mut self, text: &[u8]) -> bool
         ensures { TakesIf result self.old self.new (mark_at text.now self.old) }

@@ -1,13 +1,14 @@
 //! The forms of a line.
 ghost use Rattle.std.specs.Prelude.{◌≡◌, ◌&&◌, codes};
 ghost use Rattle.std.specs.Str.{bytes_eq};
-ghost use Rattle.palm_read.specs.Reader.Held.{Gives, held_line};
-ghost use Rattle.palm_read.specs.Reader.Lines.{declare_at, add_at, named_at, numbered_at, pair_at, query_at, choice_at, drop_at, dbt_at, repair_at, solve_at, bare_at, line_at};
+ghost use Rattle.palm_read.specs.Domain.{DomainForm, domain_of};
+ghost use Rattle.palm_read.specs.Reader.Held.{Gives, held_domain, held_line};
+ghost use Rattle.palm_read.specs.Reader.Lines.{declare_at, declare_in_at, header_at, add_at, named_at, numbered_at, pair_at, query_at, choice_at, drop_at, dbt_at, repair_at, solve_at, bare_at, line_at};
 ghost use Rattle.palm_read.specs.Reader.Steps.{is_empty};
 ghost use Rattle.palm_read.specs.Form as form;
 
 use crate::limits::{GREATEST_NUMBER, GREATEST_TABU, NO_BUDGET};
-use crate::line::{Line, Name};
+use crate::line::{DomainText, Line, Name};
 use crate::parse::LineError;
 use crate::reader::cursor::Cursor;
 use std::alloc::Global;
@@ -46,6 +47,8 @@ impl<'a> Cursor<'a> {
             self.order()
         } else if self.takes_word(b"drop") {
             self.drop_object()
+        } else if self.takes_word(b"palm") {
+            self.header()
         } else {
             self.bare()
         }
@@ -75,13 +78,46 @@ impl<'a> Cursor<'a> {
         }
     }
 
-    #[tactic(auto, unfolding(crate::specs::Reader::Lines::declare_at, crate::specs::Reader::Steps::and_then))]
+    /// Reads the digit of the header.
+    #[tactic(auto, unfolding(crate::specs::Reader::Lines::header_at, crate::specs::Reader::Steps::and_then))]
+    fn header(&mut self) -> Result<Line, LineError>
+        ensures { Gives held_line result self.new (header_at self.old) }
+    {
+        if self.takes_digits(b"2") {
+            Ok(Line::Header)
+        } else {
+            Err(LineError::Form)
+        }
+    }
+
+    #[tactic(auto, unfolding(crate::specs::Reader::Lines::declare_at, crate::specs::Reader::Steps::when, crate::specs::Reader::Steps::and_then))]
     fn declare(&mut self, alloc: Global) -> Result<Line, LineError>
         ensures { Gives held_line result self.new (declare_at self.old) }
     {
         let name = self.owned_name(alloc)?;
         let domain = self.domain(alloc)?;
+        if self.takes_word(b"in") {
+            return self.declare_in(alloc, name, domain);
+        }
         Ok(Line::Var { name, domain })
+    }
+
+    /// Reads the domain behind a universe and `in`.
+    #[tactic(auto, unfolding(crate::specs::Reader::Lines::declare_in_at, crate::specs::Reader::Steps::and_then))]
+    fn declare_in(
+        &mut self,
+        alloc: Global,
+        name: Name,
+        universe: DomainText,
+    ) -> Result<Line, LineError>
+        ensures { (form : DomainForm) → universe ≡ domain_of (held_domain form) → Gives held_line result self.new (declare_in_at name form self.old) }
+    {
+        let domain = self.domain(alloc)?;
+        Ok(Line::VarIn {
+            name,
+            universe,
+            domain,
+        })
     }
 
     #[tactic(auto, unfolding(crate::specs::Reader::Lines::add_at, crate::specs::Reader::Steps::and_then))]

@@ -26,7 +26,7 @@ fn repeats_variable(alloc: Global, shape: &Shape) -> Result<bool, NoMemory>
     ensures { IfOk result (λ found. Tells found (Repeats (names_of shape.now))) }
 {
     match shape {
-        Shape::CompareConst { .. } => Ok(false),
+        Shape::CompareConst { .. } | Shape::Within { .. } => Ok(false),
         Shape::CompareVar { left, right, .. } => Ok(left.as_slice() == right.as_slice()),
         Shape::Element { outcome, index, .. } => Ok(outcome.as_slice() == index.as_slice()),
         Shape::Linear { terms, .. } => Ok(has_twice(term_names(alloc, terms.as_slice())?)),

@@ -27,7 +27,7 @@ impl<'a> Cursor<'a> {
         } else if self.takes_word(b"differ") {
             self.differ(alloc)
         } else {
-            self.comparison(alloc)
+            self.of_name(alloc)
         }
     }
 

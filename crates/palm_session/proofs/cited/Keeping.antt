@@ -9,6 +9,7 @@ use Rattle.palm_lang.proofs.cited.Writes.{stopped_at_once}
 use Rattle.palm_lang.specs.Reply.{ended}
 use Rattle.palm_lang.specs.Writing.{AppendedUntil}
 use Rattle.palm_read.specs.declared.line.Line.TheVariants.{Quit as QuitLine}
+use Rattle.palm_read.specs.declared.mode.Mode.TheVariants.{One}
 use Rattle.palm_session.specs.State.{SessionState, IsState}
 use Rattle.palm_session.specs.Answers.{Answers}
 use Rattle.palm_read.specs.Lines.{HasNoFeed, IsNextFeed, without_return, last_line}
@@ -32,10 +33,10 @@ kept_of line = take MOST_KEPT_BYTES line
 pub no_feed_both : (xs ys : List ℕ) → HasNoFeed xs → HasNoFeed ys → HasNoFeed (xs ++ ys)
 no_feed_both xs ys a b = All-append (λ (b : ℕ). b ≡ 10 → ⊥) xs ys a b
 
-no_feed_back : (xs ys : List ℕ) → HasNoFeed (xs ++ ys) → HasNoFeed ys
+pub no_feed_back : (xs ys : List ℕ) → HasNoFeed (xs ++ ys) → HasNoFeed ys
 no_feed_back xs ys a = all_right (λ (b : ℕ). b ≡ 10 → ⊥) xs ys a
 
-no_feed_front : (n : ℕ) (xs : List ℕ) → HasNoFeed xs → HasNoFeed (take n xs)
+pub no_feed_front : (n : ℕ) (xs : List ℕ) → HasNoFeed xs → HasNoFeed (take n xs)
 no_feed_front n xs a = All-take (λ (b : ℕ). b ≡ 10 → ⊥) n xs a
 
 take_least : (n room : ℕ) (xs : List ℕ) → n ≡ min (length xs) room → take n xs ≡ take room xs
@@ -58,17 +59,17 @@ rest_whole k xs = take_all (length xs - k) (drop k xs) (omega (arith, length-dro
 
 -- ---- an answer to the first bytes of a line is one to the line
 
-goes_long : (a b : List ℕ) → take MOST_KEPT_BYTES a ≡ take MOST_KEPT_BYTES b → GoesOn (without_return a) → GoesOn (without_return b)
-goes_long a b e on = λ ends. on (same_first_bytes_read b a QuitLine (sym e) ends)
+pub goes_long : (a b : List ℕ) → take MOST_KEPT_BYTES a ≡ take MOST_KEPT_BYTES b → GoesOn (without_return a) → GoesOn (without_return b)
+goes_long a b e on = λ ends. on (same_first_bytes_read One b a QuitLine (sym e) ends)
 
-ends_long : (a b : List ℕ) → take MOST_KEPT_BYTES a ≡ take MOST_KEPT_BYTES b → Ends (without_return a) → Ends (without_return b)
-ends_long a b e ends = same_first_bytes_read a b QuitLine e ends
+pub ends_long : (a b : List ℕ) → take MOST_KEPT_BYTES a ≡ take MOST_KEPT_BYTES b → Ends (without_return a) → Ends (without_return b)
+ends_long a b e ends = same_first_bytes_read One a b QuitLine e ends
 
 decides_long : (going : Going) (line : List ℕ) → Decides going (without_return (take MOST_KEPT_BYTES line)) → Decides going (without_return line)
-decides_long More line d = λ ends. d ((first_bytes_read line QuitLine).0 ends)
-decides_long Quit line d = (first_bytes_read line QuitLine).1 d
+decides_long More line d = λ ends. d ((first_bytes_read One line QuitLine).0 ends)
+decides_long Quit line d = (first_bytes_read One line QuitLine).1 d
 
-kept_twice : (line : List ℕ) → take MOST_KEPT_BYTES (take MOST_KEPT_BYTES line) ≡ take MOST_KEPT_BYTES line
+pub kept_twice : (line : List ℕ) → take MOST_KEPT_BYTES (take MOST_KEPT_BYTES line) ≡ take MOST_KEPT_BYTES line
 kept_twice line = take_all MOST_KEPT_BYTES (take MOST_KEPT_BYTES line) (omega (arith, length-take MOST_KEPT_BYTES line))
 
 asks_long : (s t : SessionState) (x y : List ℕ) (n : ℕ) → take MOST_KEPT_BYTES x ≡ take MOST_KEPT_BYTES y → Asks s (without_return x) t n → Asks s (without_return y) t n
@@ -77,7 +78,7 @@ asks_long s t x y n e (asks_search search) =
     asks_search (record {
       line = search.line;
       by = search.by;
-      read = same_first_bytes_read x y search.line e search.read;
+      read = same_first_bytes_read s.mode x y search.line e search.read;
       admitted = search.admitted;
       awake = search.awake;
     })
@@ -88,7 +89,7 @@ asks_long s t x y n e (asks_settling settling few) =
       changed = settling.changed;
       limit = settling.limit;
       gained = settling.gained;
-      read = same_first_bytes_read x y settling.line e settling.read;
+      read = same_first_bytes_read s.mode x y settling.line e settling.read;
       admitted = settling.admitted;
       changes = settling.changes;
       filters = settling.filters;
@@ -122,7 +123,7 @@ line_apart x xs rest =
     ap (λ (z : List ℕ). z ++ rest) (append_assoc x (10 ∷ []) (flat_map ended xs)) ∙ append_assoc x (10 ∷ flat_map ended xs) rest
 
 -- bytes without a feed are the front of the first line
-split_line : (a b l tail : List ℕ) → HasNoFeed a → a ++ b ≡ l ++ (10 ∷ tail) → (part : List ℕ) × (l ≡ a ++ part) × (b ≡ part ++ (10 ∷ tail))
+pub split_line : (a b l tail : List ℕ) → HasNoFeed a → a ++ b ≡ l ++ (10 ∷ tail) → (part : List ℕ) × (l ≡ a ++ part) × (b ≡ part ++ (10 ∷ tail))
 split_line [] b l tail none e = (l, refl, e)
 split_line (x ∷ xs) b [] tail none e =
     let h : x ≡ 10 = cc in

@@ -2,7 +2,8 @@
 use Rattle.std.proofs.Common.{◌≡◌, ℕ, ℤ, zero, suc, ◌++◌, ◌+◌, ◌-◌, ◌<◌, ◌≤◌, ◌==◌, Bool, true, false, None, cond, List, [], ◌∷◌, length, take, Any, Contains, Some, inl, inr, refl, sym, ap, ◌∙◌, subst, arith, length-take, take_all}
 use Rattle.palm_base.proofs.cited.FirstCauses.{first_known, first_once, first_not_none}
 use Rattle.palm_base.specs.First.{IsFirst, IsNone}
-use Rattle.palm_book.specs.declared.limits.TheConstants.{MOST_VARIABLES, MOST_CONSTRAINTS, MOST_ADDED}
+use Rattle.palm_book.specs.Limits.{most_variables, most_constraints}
+use Rattle.palm_book.specs.declared.limits.TheConstants.{MOST_ADDED}
 use Rattle.palm_read.specs.declared.limits.TheConstants.{MOST_LINE_BYTES}
 use Rattle.std.specs.Prelude.{slice_index, ◌↔◌}
 use Rattle.std.proofs.lemmas.Bool.{cases_lt, cases_Bool, false≢true}
@@ -28,7 +29,9 @@ use Rattle.palm_read.specs.Limits.{names_of}
 use Rattle.palm_read.specs.Reading.{IsRead, IsRefusedBy}
 use Rattle.palm_lang.specs.Reply.{fixed_text, refusal_text, ran_text, domain_line}
 use Rattle.palm_read.specs.declared.line.Line.{Line}
-use Rattle.palm_read.specs.declared.line.Line.TheVariants.{Var, Add, Relax, Enforce, Retract, Domain, Why, Minimal, Pause, Resume, Step, Cert, Guide, Order, DropGuide, DropOrder}
+use Rattle.palm_read.specs.declared.line.Line.TheVariants.{Var, VarIn, Add, Relax, Enforce, Retract, Domain, Why, Minimal, Pause, Resume, Step, Cert, Guide, Order, DropGuide, DropOrder}
+use Rattle.palm_read.specs.declared.mode.Mode.{Mode}
+use Rattle.palm_read.specs.declared.mode.Mode.TheVariants.{One}
 use Rattle.palm_read.specs.declared.parse.LineError.{LineError}
 use Rattle.palm_read.specs.declared.parse.LineError.TheVariants.{Bytes, Form, Range as OutOfRange, Empty, Repeated, NoMemory}
 use Rattle.palm_lang.specs.declared.reply.Fixed.TheVariants.{Done, Contradiction, Paused, Present, Consistent, Bye}
@@ -38,13 +41,14 @@ use Rattle.palm_lang.specs.declared.reply.Refusal.TheVariants.{E1, E2, E3, E4, E
 use Rattle.palm_read.proofs.cited.Parsing.{one_reading, read_not_refused, one_refusal, each_answered}
 use Rattle.palm_read.proofs.cited.SoundLines.{read_sound}
 use Rattle.palm_session.specs.State.{SessionState, IsHeld, IsState, AreDomains, has_empty}
-use Rattle.palm_session.specs.Refusals.{IsUnknown, TakesName, NamesNone, NamesNoConstraint, HasNoRoom, NamesNoObject, IsUndeclared, AsksUndeclared, HasActive, IsInWrongState, Meets, in_order, refusal_of, heard}
+use Rattle.palm_session.specs.Modes.{begun, heard, in_mode, misheard, mode_after}
+use Rattle.palm_session.specs.Refusals.{IsUnknown, TakesName, NamesNone, NamesNoConstraint, HasNoRoom, IsFullOfConstraints, NamesNoObject, IsUndeclared, AsksUndeclared, HasActive, IsInWrongState, Meets, in_order, refusal_of}
 use Rattle.palm_session.specs.Effects.{Effect, Nothing, Settled, Searched, Rests, Filters, Searches, Follows, Does}
 use Rattle.palm_session.specs.declared.request.Procedure.{Procedure}
 use Rattle.palm_session.specs.declared.request.Question.{Question}
 use Rattle.palm_session.specs.declared.request.Question.TheVariants.{Domains as DomainsAsked, Domain as DomainAsked, List as ListAsked, Log as LogAsked, Why as WhyAsked, Conflict as ConflictAsked, Minimal as MinimalAsked, MinimalConflict as MinimalConflictAsked, Cert as CertAsked, CertConflict as CertConflictAsked}
 use Rattle.palm_session.specs.declared.request.Request.{Request}
-use Rattle.palm_session.specs.declared.request.Request.TheVariants.{Nothing as NothingAsked, Declare as DeclareAsked, Add as AddAsked, Relax as RelaxAsked, Enforce as EnforceAsked, Retract as RetractAsked, Ask, Pause as PauseAsked, Resume as ResumeAsked, Step as StepAsked, Solve, ChooseGuide, DropGuide as DropGuideAsked, ChooseOrder, DropOrder as DropOrderAsked, Quit as QuitAsked}
+use Rattle.palm_session.specs.declared.request.Request.TheVariants.{Nothing as NothingAsked, Header as HeaderAsked, Declare as DeclareAsked, DeclareIn as DeclareInAsked, Add as AddAsked, Relax as RelaxAsked, Enforce as EnforceAsked, Retract as RetractAsked, Ask, Pause as PauseAsked, Resume as ResumeAsked, Step as StepAsked, Solve, ChooseGuide, DropGuide as DropGuideAsked, ChooseOrder, DropOrder as DropOrderAsked, Quit as QuitAsked}
 use Rattle.palm_session.specs.Requests.{Admits, IsAdmitted, Requests}
 use Rattle.palm_session.specs.Answers.{CanWait, IsPausable, AsksOfDomains, IsContradictable, IsAnswer, domains_text, list_text, log_text, users_text, SaysWhy, HasConflict, SaysConflict, SaysMinimal, SaysMinimalConflict, SaysCert, SaysCertConflict, end_text, Says, WaitsFor, Contradicts, Accepts, waits, contradicts, says, Answers, misread, refused, accepted}
 use Rattle.palm_read.specs.Lines.{without_return}
@@ -56,6 +60,7 @@ use Rattle.palm_session.proofs.Requesting.{admits, request_exists, request_once,
 use Rattle.palm_session.proofs.LawsOfDomains.{empty_domains, explanation_cids, conflict_exists, lowest_empty}
 use Rattle.palm_book.proofs.cited.Naming.{some_known, name_known}
 use Rattle.palm_read.proofs.cited.KnownLimits.{known_either, most_known, beyond_known}
+use Rattle.palm_session.proofs.InModes.{heard_state, misheard_state, read_where}
 use Rattle.palm_session.proofs.LawsOfLines.{long_bytes, long_unread, tabu_read}
 use Rattle.palm_session.proofs.cited.LawsOfStates.{does_keeps, does_exist, does_once, does_without, rests_same, domains_exist, domains_once, bool_known, contradiction_known}
 
@@ -66,6 +71,7 @@ constraint_known s name = name_known (λ (c : BookCon). c.name) s.book.constrain
 
 takes_known : (s : SessionState) (line : Line) → Known (TakesName s line)
 takes_known s (Var name domain) = variable_known s name
+takes_known s (VarIn name universe domain) = known_either (variable_known s name) (constraint_known s name)
 takes_known s (Add name shape) = constraint_known s name
 takes_known s _ = inr (λ h. h)
 
@@ -83,9 +89,13 @@ constraints_known s (Enforce name) = known_not (constraint_known s name)
 constraints_known s (Retract name) = known_not (constraint_known s name)
 constraints_known s _ = inr (λ h. h)
 
+full_known : (s : SessionState) → Known (IsFullOfConstraints s)
+full_known s = known_either (most_known (most_constraints s.mode) (length s.book.constraints)) (most_known MOST_ADDED s.accepted)
+
 room_known : (s : SessionState) (line : Line) → Known (HasNoRoom s line)
-room_known s (Var name domain) = most_known MOST_VARIABLES (length s.book.variables)
-room_known s (Add name shape) = known_either (most_known MOST_CONSTRAINTS (length s.book.constraints)) (most_known MOST_ADDED s.accepted)
+room_known s (Var name domain) = most_known (most_variables s.mode) (length s.book.variables)
+room_known s (VarIn name universe domain) = known_either (most_known (most_variables s.mode) (length s.book.variables)) (full_known s)
+room_known s (Add name shape) = full_known s
 room_known s _ = inr (λ h. h)
 
 objects_known : (s : SessionState) (line : Line) → Known (NamesNoObject s line)
@@ -224,7 +234,9 @@ answer_exists t is CertConflictAsked awake =
 says_exist : (s : SessionState) (request : Request) (effect : Effect) (t : SessionState) → IsState t → (WaitsFor s request → ⊥) → Does s request effect t
     → (reply : List ℕ) × Says t request effect reply
 says_exist s NothingAsked effect t is goes does = ([], refl)
+says_exist s HeaderAsked effect t is goes does = (fixed_text Done, refl)
 says_exist s (DeclareAsked name domain) effect t is goes does = (fixed_text Done, refl)
+says_exist s (DeclareInAsked name universe domain) effect t is goes does = (fixed_text Done, refl)
 says_exist s (AddAsked name con) effect t is goes does = (fixed_text Done, refl)
 says_exist s (RelaxAsked place) effect t is goes does = (fixed_text Done, refl)
 says_exist s (EnforceAsked place) effect t is goes does = (fixed_text Done, refl)
@@ -261,6 +273,7 @@ of_domains_known _ = inr (λ h. h)
 
 contradictable_known : (request : Request) → Known (IsContradictable request)
 contradictable_known (DeclareAsked name domain) = inl tt
+contradictable_known (DeclareInAsked name universe domain) = inl tt
 contradictable_known (AddAsked name con) = inl tt
 contradictable_known (RelaxAsked place) = inl tt
 contradictable_known (EnforceAsked place) = inl tt
@@ -286,25 +299,27 @@ contradicts_known t is request = elim (known_both (contradiction_known t is.held
 abbrev HasAnswer : SessionState → List ℕ → Type 0
 HasAnswer s bytes = (reply : List ℕ) × (t : SessionState) × Answers s bytes reply t
 
-accepted_answer : (s : SessionState) → IsState s → (bytes : List ℕ) (line : Line) → IsRead bytes line → IsNone (Meets s line) in_order → HasAnswer s bytes
+accepted_answer : (s : SessionState) → IsState s → (bytes : List ℕ) (line : Line) → IsRead s.mode bytes line → IsNone (Meets (heard s line) line) in_order → HasAnswer s bytes
 accepted_answer s is bytes line read none =
-    let r = request_exists s line none in
-    let a : IsAdmitted s line r.0 = record { none = none; requests = r.1 } in
-    elim (waits_known s r.0) [
-      | inl w ↦ (fixed_text Paused, s, accepted line r.0 read a (waits w))
+    let h = heard s line in
+    let there = heard_state s line is in
+    let r = request_exists h line none in
+    let a : IsAdmitted h line r.0 = record { none = none; requests = r.1 } in
+    elim (waits_known h r.0) [
+      | inl w ↦ (fixed_text Paused, h, accepted line r.0 read a (waits w))
       | inr awake ↦
-          let can = admits s is.held line r.0 (read_sound bytes line read) (tabu_read bytes line read) a in
-          let d = does_exist s r.0 is can in
-          let it : IsState d.1 = does_keeps s r.0 d.0 d.1 is can d.2 in
+          let can = admits h there.held line r.0 (read_sound s.mode bytes line read) (tabu_read s.mode bytes line read) a in
+          let d = does_exist h r.0 there can in
+          let it : IsState d.1 = does_keeps h r.0 d.0 d.1 there can d.2 in
           elim (contradicts_known d.1 it r.0) [
             | inl c ↦ (fixed_text Contradiction, d.1, accepted line r.0 read a (contradicts d.0 awake d.2 c))
-            | inr n ↦ let x = says_exist s r.0 d.0 d.1 it awake d.2 in (x.0, d.1, accepted line r.0 read a (says d.0 awake d.2 n x.1))
+            | inr n ↦ let x = says_exist h r.0 d.0 d.1 it awake d.2 in (x.0, d.1, accepted line r.0 read a (says d.0 awake d.2 n x.1))
           ]
     ]
 
-read_answer : (s : SessionState) → IsState s → (bytes : List ℕ) (line : Line) → IsRead bytes line → HasAnswer s bytes
-read_answer s is bytes line read = elim (first_known (Meets s line) (meets_known s line) in_order) [
-  | inl f ↦ (refusal_text f.0, heard s bytes, refused line f.0 read f.1)
+read_answer : (s : SessionState) → IsState s → (bytes : List ℕ) (line : Line) → IsRead s.mode bytes line → HasAnswer s bytes
+read_answer s is bytes line read = elim (first_known (Meets (heard s line) line) (meets_known (heard s line) line) in_order) [
+  | inl f ↦ (refusal_text f.0, heard s line, refused line f.0 read f.1)
   | inr none ↦ accepted_answer s is bytes line read none
 ]
 
@@ -317,16 +332,16 @@ refusal_is Repeated h = (E8, refl)
 refusal_is NoMemory h = absurd (h refl)
 
 pub has_answer : (s : SessionState) (is : IsState s) (bytes : List ℕ) → (reply : List ℕ) × (t : SessionState) × Answers s bytes reply t
-has_answer s is bytes = elim (each_answered bytes) [
+has_answer s is bytes = elim (each_answered s.mode bytes) [
   | inl r ↦ read_answer s is bytes r.0 r.1
-  | inr e ↦ let r = refusal_is e.0 e.1 in (refusal_text r.0, heard s bytes, misread e.0 r.0 e.2 r.1)
+  | inr e ↦ let r = refusal_is e.0 e.1 in (refusal_text r.0, misheard s, misread e.0 r.0 e.2 r.1)
 ]
 
 -- ---- a state that a session can hold stays one
 
 -- what a line that was read and admitted asks for can be obeyed
-pub read_admits : (s : SessionState) → IsHeld s → (bytes : List ℕ) (line : Line) (request : Request) → IsRead bytes line → IsAdmitted s line request → Admits s request
-read_admits s is bytes line request read a = admits s is line request (read_sound bytes line read) (tabu_read bytes line read) a
+pub read_admits : (mode : Mode) (s : SessionState) → IsHeld s → (bytes : List ℕ) (line : Line) (request : Request) → IsRead mode bytes line → IsAdmitted s line request → Admits s request
+read_admits mode s is bytes line request read a = admits s is line request (read_sound mode bytes line read) (tabu_read mode bytes line read) a
 
 accepts_keeps : (s : SessionState) (request : Request) (reply : List ℕ) (t : SessionState) → IsState s → Admits s request → Accepts s request reply t → IsState t
 accepts_keeps s request reply t is can (waits w) = is
@@ -334,9 +349,11 @@ accepts_keeps s request reply t is can (contradicts effect awake does c) = does_
 accepts_keeps s request reply t is can (says effect awake does n r) = does_keeps s request effect t is can does
 
 pub answers_keep : (s : SessionState) (bytes reply : List ℕ) (t : SessionState) → IsState s → Answers s bytes reply t → IsState t
-answers_keep s bytes reply t is (misread error refusal q some) = is
-answers_keep s bytes reply t is (refused line refusal read first) = is
-answers_keep s bytes reply t is (accepted line request read a h) = accepts_keeps s request reply t is (read_admits s is.held bytes line request read a) h
+answers_keep s bytes reply t is (misread error refusal q some) = misheard_state s is
+answers_keep s bytes reply t is (refused line refusal read first) = heard_state s line is
+answers_keep s bytes reply t is (accepted line request read a h) =
+    let there = heard_state s line is in
+    accepts_keeps (heard s line) request reply t there (read_admits s.mode (heard s line) there.held bytes line request read a) h
 
 -- ---- which objects are there, and which are chosen
 
@@ -379,21 +396,24 @@ order_line s (Minimal name value) number r = absurd (subst ChoosesOrder r.2 tt)
 order_line s (Cert name value) number r = absurd (subst ChoosesOrder r.2 tt)
 order_line s _ number r = absurd (subst ChoosesOrder r tt)
 
+without_in : (guides orders : List ℕ) (mode : Mode) (s : SessionState) → IsWithout guides orders s → IsWithout guides orders (in_mode mode s)
+without_in guides orders mode s is = record { unguided = is.unguided; free = is.free; guides_within = is.guides_within; orders_within = is.orders_within }
+
 -- a line that chooses none of these objects leaves none chosen
 pub answers_without : (guides orders : List ℕ) (s : SessionState) (bytes reply : List ℕ) (t : SessionState) → (ChoosesObject guides orders bytes → ⊥) → Answers s bytes reply t
     → IsWithout guides orders s → IsWithout guides orders t
-answers_without guides orders s bytes reply t other (misread error refusal q some) is = is
-answers_without guides orders s bytes reply t other (refused line refusal read first) is = is
-answers_without guides orders s bytes reply t other (accepted line request read a h) is = accepts_without guides orders s request reply t (record {
+answers_without guides orders s bytes reply t other (misread error refusal q some) is = without_in guides orders (begun s.mode) s is
+answers_without guides orders s bytes reply t other (refused line refusal read first) is = without_in guides orders (mode_after s.mode line) s is
+answers_without guides orders s bytes reply t other (accepted line request read a h) is = accepts_without guides orders (heard s line) request reply t (record {
   guide = λ number e.
-      let l = guide_line s line number (subst (λ (r : Request). Requests s line r) e a.requests) in
-      let none = subst (λ (x : Line). IsNone (Meets s x) in_order) l a.none in
-      other (chooses_guide number (is.guides_within number (listed s.guides number none.1.1.1.1.0)) (subst (λ (x : Line). IsRead bytes x) l read));
+      let l = guide_line (heard s line) line number (subst (λ (r : Request). Requests (heard s line) line r) e a.requests) in
+      let none = subst (λ (x : Line). IsNone (Meets (heard s x) x) in_order) l a.none in
+      other (chooses_guide number (is.guides_within number (listed s.guides number none.1.1.1.1.0)) (read_where s.mode One bytes (Guide number) (subst (λ (x : Line). IsRead s.mode bytes x) l read) tt));
   order = λ number e.
-      let l = order_line s line number (subst (λ (r : Request). Requests s line r) e a.requests) in
-      let none = subst (λ (x : Line). IsNone (Meets s x) in_order) l a.none in
-      other (chooses_order number (is.orders_within number (listed s.orders number none.1.1.1.1.0)) (subst (λ (x : Line). IsRead bytes x) l read));
-}) h is
+      let l = order_line (heard s line) line number (subst (λ (r : Request). Requests (heard s line) line r) e a.requests) in
+      let none = subst (λ (x : Line). IsNone (Meets (heard s x) x) in_order) l a.none in
+      other (chooses_order number (is.orders_within number (listed s.orders number none.1.1.1.1.0)) (read_where s.mode One bytes (Order number) (subst (λ (x : Line). IsRead s.mode bytes x) l read) tt));
+}) h (without_in guides orders (mode_after s.mode line) s is)
 
 -- ---- no line has two answers
 
@@ -482,7 +502,9 @@ answer_same t CertConflictAsked a b x y =
 
 says_same : (t : SessionState) (request : Request) (effect : Effect) (a b : List ℕ) → Says t request effect a → Says t request effect b → a ≡ b
 says_same t NothingAsked effect a b x y = x ∙ sym y
+says_same t HeaderAsked effect a b x y = x ∙ sym y
 says_same t (DeclareAsked name domain) effect a b x y = x ∙ sym y
+says_same t (DeclareInAsked name universe domain) effect a b x y = x ∙ sym y
 says_same t (AddAsked name con) effect a b x y = x ∙ sym y
 says_same t (RelaxAsked place) effect a b x y = x ∙ sym y
 says_same t (EnforceAsked place) effect a b x y = x ∙ sym y
@@ -527,33 +549,39 @@ not_memory : (error : LineError) (refusal : Refusal) → refusal_of error ≡ So
 not_memory error refusal some e = none-some refusal (subst (λ (z : LineError). refusal_of z ≡ Some refusal) e some)
 
 -- what is refused by its text is not read
-misread_unread : (bytes : List ℕ) (line : Line) (error : LineError) (refusal : Refusal) → IsRead bytes line → IsRefusedBy bytes error → refusal_of error ≡ Some refusal → ⊥
-misread_unread bytes line error refusal read q some = not_memory error refusal some (read_not_refused bytes line error read q)
+misread_unread : (mode : Mode) (bytes : List ℕ) (line : Line) (error : LineError) (refusal : Refusal) → IsRead mode bytes line → IsRefusedBy mode bytes error → refusal_of error ≡ Some refusal → ⊥
+misread_unread mode bytes line error refusal read q some = not_memory error refusal some (read_not_refused mode bytes line error read q)
 
-misread_once : (bytes : List ℕ) (d e : LineError) (p r : Refusal) → IsRefusedBy bytes d → IsRefusedBy bytes e → refusal_of d ≡ Some p → refusal_of e ≡ Some r → p ≡ r
-misread_once bytes d e p r x y some other =
-    let same : d ≡ e = one_refusal bytes d e x y (not_memory d p some) (not_memory e r other) in
+misread_once : (mode : Mode) (bytes : List ℕ) (d e : LineError) (p r : Refusal) → IsRefusedBy mode bytes d → IsRefusedBy mode bytes e → refusal_of d ≡ Some p → refusal_of e ≡ Some r → p ≡ r
+misread_once mode bytes d e p r x y some other =
+    let same : d ≡ e = one_refusal mode bytes d e x y (not_memory d p some) (not_memory e r other) in
     same_Some p r (sym some ∙ ap refusal_of same ∙ other)
 
 pub answers_once : (s : SessionState) (bytes a b : List ℕ) (t u : SessionState) → s.guide ≡ None → s.order ≡ None → IsState s → Answers s bytes a t → Answers s bytes b u → (a ≡ b) × (t ≡ u)
-answers_once s bytes a b t u unguided free is (misread d p x some) (misread e r y other) = (ap refusal_text (misread_once bytes d e p r x y some other), refl)
-answers_once s bytes a b t u unguided free is (misread d p x some) (refused line r read first) = absurd (misread_unread bytes line d p read x some)
-answers_once s bytes a b t u unguided free is (misread d p x some) (accepted line request read k h) = absurd (misread_unread bytes line d p read x some)
-answers_once s bytes a b t u unguided free is (refused line p read first) (misread e r y other) = absurd (misread_unread bytes line e r read y other)
+answers_once s bytes a b t u unguided free is (misread d p x some) (misread e r y other) = (ap refusal_text (misread_once s.mode bytes d e p r x y some other), refl)
+answers_once s bytes a b t u unguided free is (misread d p x some) (refused line r read first) = absurd (misread_unread s.mode bytes line d p read x some)
+answers_once s bytes a b t u unguided free is (misread d p x some) (accepted line request read k h) = absurd (misread_unread s.mode bytes line d p read x some)
+answers_once s bytes a b t u unguided free is (refused line p read first) (misread e r y other) = absurd (misread_unread s.mode bytes line e r read y other)
 answers_once s bytes a b t u unguided free is (refused line p read first) (refused other r again second) =
-    let same : other ≡ line = one_reading bytes other line again read in
-    (ap refusal_text (first_once (Meets s line) in_order p r first (subst (λ (z : Line). IsFirst (Meets s z) in_order r) same second)), refl)
+    let same : other ≡ line = one_reading s.mode s.mode bytes other line again read in
+    (
+      ap refusal_text (first_once (Meets (heard s line) line) in_order p r first (subst (λ (z : Line). IsFirst (Meets (heard s z) z) in_order r) same second)),
+      ap (λ (z : Line). heard s z) (sym same),
+    )
 answers_once s bytes a b t u unguided free is (refused line p read first) (accepted other request again k h) =
-    let same : other ≡ line = one_reading bytes other line again read in
-    absurd (first_not_none (Meets s line) in_order p first (subst (λ (z : Line). IsNone (Meets s z) in_order) same k.none))
-answers_once s bytes a b t u unguided free is (accepted line request read k h) (misread e r y other) = absurd (misread_unread bytes line e r read y other)
+    let same : other ≡ line = one_reading s.mode s.mode bytes other line again read in
+    absurd (first_not_none (Meets (heard s line) line) in_order p first (subst (λ (z : Line). IsNone (Meets (heard s z) z) in_order) same k.none))
+answers_once s bytes a b t u unguided free is (accepted line request read k h) (misread e r y other) = absurd (misread_unread s.mode bytes line e r read y other)
 answers_once s bytes a b t u unguided free is (accepted line request read k h) (refused other r again second) =
-    let same : other ≡ line = one_reading bytes other line again read in
-    absurd (first_not_none (Meets s line) in_order r (subst (λ (z : Line). IsFirst (Meets s z) in_order r) same second) k.none)
+    let same : other ≡ line = one_reading s.mode s.mode bytes other line again read in
+    absurd (first_not_none (Meets (heard s line) line) in_order r (subst (λ (z : Line). IsFirst (Meets (heard s z) z) in_order r) same second) k.none)
 answers_once s bytes a b t u unguided free is (accepted line request read k h) (accepted other asked again l i) =
-    let same : other ≡ line = one_reading bytes other line again read in
-    let one : asked ≡ request = request_once s is.held line asked request (subst (λ (z : Line). Requests s z asked) same l.requests) k.requests in
-    accepts_once s request a b t u unguided free is (read_admits s is.held bytes line request read k) h (subst (λ (r : Request). Accepts s r b u) one i)
+    let same : other ≡ line = one_reading s.mode s.mode bytes other line again read in
+    let there = heard_state s line is in
+    let one : asked ≡ request = request_once (heard s line) there.held line asked request (subst (λ (z : Line). Requests (heard s z) z asked) same l.requests) k.requests in
+    let here : Accepts (heard s line) asked b u = subst (λ (z : Line). Accepts (heard s z) asked b u) same i in
+    accepts_once (heard s line) request a b t u unguided free there (read_admits s.mode (heard s line) there.held bytes line request read k) h
+    (subst (λ (r : Request). Accepts (heard s line) r b u) one here)
 
 -- ---- the first bytes decide
 
@@ -566,17 +594,17 @@ pub return_length : (line : List ℕ) → length line ≤ length (without_return
 return_length line = returned line (slice_index line (length line - 1) == 13)
 
 -- a line that is too long has one answer in every state, the refusal of its length
-long_answer : (s : SessionState) (bytes reply : List ℕ) (t : SessionState) → MOST_LINE_BYTES < length bytes → Answers s bytes reply t → (reply ≡ refusal_text E1) × (t ≡ s)
-long_answer s bytes reply t long (misread error refusal q some) = (ap refusal_text (misread_once bytes error Bytes refusal E1 q (long_bytes bytes long) some refl), refl)
-long_answer s bytes reply t long (refused line refusal read first) = absurd (long_unread bytes line long read)
-long_answer s bytes reply t long (accepted line request read a h) = absurd (long_unread bytes line long read)
+long_answer : (s : SessionState) (bytes reply : List ℕ) (t : SessionState) → MOST_LINE_BYTES < length bytes → Answers s bytes reply t → (reply ≡ refusal_text E1) × (t ≡ misheard s)
+long_answer s bytes reply t long (misread error refusal q some) = (ap refusal_text (misread_once s.mode bytes error Bytes refusal E1 q (long_bytes s.mode bytes long) some refl), refl)
+long_answer s bytes reply t long (refused line refusal read first) = absurd (long_unread s.mode bytes line long read)
+long_answer s bytes reply t long (accepted line request read a h) = absurd (long_unread s.mode bytes line long read)
 
 -- and every line that is too long has it
 long_same : (s : SessionState) (bytes others reply : List ℕ) (t : SessionState) → MOST_LINE_BYTES < length bytes → MOST_LINE_BYTES < length others → Answers s bytes reply t → Answers s others reply t
 long_same s bytes others reply t long too a =
     let is = long_answer s bytes reply t long a in
-    let here : Answers s others (refusal_text E1) s = misread Bytes E1 (long_bytes others too) refl in
-    subst (λ (z : SessionState). Answers s others reply z) (sym is.1) (subst (λ (z : List ℕ). Answers s others z s) (sym is.0) here)
+    let here : Answers s others (refusal_text E1) (misheard s) = misread Bytes E1 (long_bytes s.mode others too) refl in
+    subst (λ (z : SessionState). Answers s others reply z) (sym is.1) (subst (λ (z : List ℕ). Answers s others z (misheard s)) (sym is.0) here)
 
 kept_long : (line : List ℕ) → MOST_KEPT_BYTES < length line → (MOST_LINE_BYTES < length (without_return line)) × (MOST_LINE_BYTES < length (without_return (take MOST_KEPT_BYTES line)))
 kept_long line long = (
@@ -599,17 +627,17 @@ first_bytes_decide s line reply t = elim (cases_lt MOST_KEPT_BYTES (length line)
 ]
 
 -- and what they say
-pub first_bytes_read : (line : List ℕ) (said : Line) → IsRead (without_return line) said ↔ IsRead (without_return (take MOST_KEPT_BYTES line)) said
-first_bytes_read line said = elim (cases_lt MOST_KEPT_BYTES (length line)) [
+pub first_bytes_read : (mode : Mode) (line : List ℕ) (said : Line) → IsRead mode (without_return line) said ↔ IsRead mode (without_return (take MOST_KEPT_BYTES line)) said
+first_bytes_read mode line said = elim (cases_lt MOST_KEPT_BYTES (length line)) [
   | inl long ↦
       let l = kept_long line long in (
-        λ r. absurd (long_unread (without_return line) said l.0 r),
-        λ r. absurd (long_unread (without_return (take MOST_KEPT_BYTES line)) said l.1 r),
+        λ r. absurd (long_unread mode (without_return line) said l.0 r),
+        λ r. absurd (long_unread mode (without_return (take MOST_KEPT_BYTES line)) said l.1 r),
       )
   | inr short ↦
       let e : take MOST_KEPT_BYTES line ≡ line = take_all MOST_KEPT_BYTES line short in (
-        subst (λ (z : List ℕ). IsRead (without_return z) said) (sym e),
-        subst (λ (z : List ℕ). IsRead (without_return z) said) e,
+        subst (λ (z : List ℕ). IsRead mode (without_return z) said) (sym e),
+        subst (λ (z : List ℕ). IsRead mode (without_return z) said) e,
       )
 ]
 
@@ -619,9 +647,9 @@ same_first_bytes s a b reply t e h =
     (first_bytes_decide s b reply t).1 (subst (λ (z : List ℕ). Answers s (without_return z) reply t) e ((first_bytes_decide s a reply t).0 h))
 
 -- and say the same
-pub same_first_bytes_read : (a b : List ℕ) (said : Line) → take MOST_KEPT_BYTES a ≡ take MOST_KEPT_BYTES b → IsRead (without_return a) said → IsRead (without_return b) said
-same_first_bytes_read a b said e h =
-    (first_bytes_read b said).1 (subst (λ (z : List ℕ). IsRead (without_return z) said) e ((first_bytes_read a said).0 h))
+pub same_first_bytes_read : (mode : Mode) (a b : List ℕ) (said : Line) → take MOST_KEPT_BYTES a ≡ take MOST_KEPT_BYTES b → IsRead mode (without_return a) said → IsRead mode (without_return b) said
+same_first_bytes_read mode a b said e h =
+    (first_bytes_read mode b said).1 (subst (λ (z : List ℕ). IsRead mode (without_return z) said) e ((first_bytes_read mode a said).0 h))
 
 -- the first bytes of more, where only the first bytes were kept before
 pub kept_more : (kept : ℕ) (line more : List ℕ) → take kept (take kept line ++ more) ≡ take kept (line ++ more)

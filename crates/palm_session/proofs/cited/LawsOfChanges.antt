@@ -1,7 +1,6 @@
 -- What a request changes: it can be done, in one way, and leaves what a session can hold in the midst of a line.
-use Rattle.std.proofs.Common.{◌≡◌, ◌≢◌, ℕ, ◌+◌, ◌<◌, ◌≤◌, ℤ, pos, negsuc, ◌+ℤ◌, ◌-ℤ◌, ◌≤ℤ◌, Bool, true, false, not, if◌then◌else◌, Some, None, List, [], ◌∷◌, ◌++◌, length, filter, slice_get, remove, All, Any, Contains, ◌⊎◌, inl, inr, refl, sym, ap, ◌∙◌, subst, arith, length-append}
+use Rattle.std.proofs.Common.{◌≡◌, ◌≢◌, ℕ, ◌+◌, ◌<◌, ◌≤◌, ℤ, Bool, true, false, not, if◌then◌else◌, Some, None, List, [], ◌∷◌, ◌++◌, length, filter, slice_get, remove, All, Any, Contains, ◌⊎◌, inl, inr, refl, sym, ap, ◌∙◌, subst, arith, length-append}
 use Rattle.std.proofs.lemmas.Bool.{false≢true}
-use Rattle.std.proofs.lemmas.Int.{ints}
 use Rattle.std.proofs.lemmas.List.{length-map, map-append}
 use Rattle.std.proofs.lemmas.List.Elements.{All-push, All-weaker, All-contains}
 use Rattle.std.proofs.lemmas.Option.{same_Some, slice_get_within}
@@ -10,7 +9,6 @@ use Rattle.palm_base.specs.declared.terms.Cid.TheVariants.{User}
 use Rattle.palm_base.proofs.cited.Members.{all_members, member_get, remove_member}
 use Rattle.palm_model.specs.Constraint.{IsWellFormed}
 use Rattle.palm_model.specs.Domains.{Domains, is_among, without}
-use Rattle.palm_model.specs.Limits.{IsValue}
 use Rattle.palm_model.specs.Log.{Active, IsActive, log_pairs}
 use Rattle.palm_model.specs.State.{EngineState, HasEmpty, IsEmptyAt, IsValid, present}
 use Rattle.palm_model.specs.Event.{Posts, Withdraws, Declares, posted, with_posted, without_cids, gone_with}
@@ -18,11 +16,13 @@ use Rattle.palm_model.specs.declared.constraint.Con.{Con}
 use Rattle.palm_model.proofs.cited.Without.{length_without, values_of_without}
 use Rattle.palm_book.specs.Book.{BookVar, IsBook, AreValues, user_at, active_of, with_active}
 use Rattle.palm_book.specs.declared.book.BookCon.{BookCon}
+use Rattle.palm_book.specs.Limits.{most_variables, most_constraints}
 use Rattle.palm_book.specs.declared.limits.TheConstants.{MOST_VARIABLES, MOST_CONSTRAINTS, MOST_ADDED}
 use Rattle.palm_book.proofs.cited.BookLemmas.{IsBook-with_variable, IsBook-with_constraint, IsBook-with_active, IsBook-without, All-remove}
-use Rattle.palm_read.specs.Domain.{IsLarge, IsSoundDomain, count_in, values_in}
+use Rattle.palm_read.specs.Domain.{values_in}
 use Rattle.palm_read.specs.declared.line.DomainText.{DomainText}
-use Rattle.palm_read.specs.declared.line.DomainText.TheVariants.{Range, Set}
+use Rattle.palm_read.specs.declared.mode.Mode.{Mode}
+use Rattle.palm_read.specs.declared.mode.Mode.TheVariants.{First, One, Two}
 use Rattle.palm_events.specs.Along.{IsStill}
 use Rattle.palm_events.proofs.cited.Agreeing.{values_of_more}
 use Rattle.palm_events.proofs.cited.Outcomes.{withdrawal_exists, withdrawal_same}
@@ -30,30 +30,27 @@ use Rattle.palm_events.proofs.cited.Valid.{declares_valid, posts_valid, withdraw
 use Rattle.palm_session.specs.State.{SessionState, IsHeld, IsState}
 use Rattle.palm_session.specs.declared.request.Procedure.{Procedure}
 use Rattle.palm_session.specs.declared.request.Request.{Request}
-use Rattle.palm_session.specs.declared.request.Request.TheVariants.{Nothing as NothingAsked, Declare, Add, Relax, Enforce, Retract, Ask, Pause, Resume, Step, Solve, ChooseGuide, DropGuide, ChooseOrder, DropOrder, Quit}
-use Rattle.palm_session.specs.Requests.{Admits, CanAdd, CanDeclare, StandsAt}
-use Rattle.palm_session.specs.Effects.{with_engine, with_variable, with_constraint, with_active_at, without_constraint, without_guide, without_order, next_constraint, WithdrawsWhere, WithdrawsActive, Changes, Rests, Filters, Searches, next, unless_paused}
+use Rattle.palm_session.specs.declared.request.Request.TheVariants.{Nothing as NothingAsked, Header as HeaderAsked, Declare, DeclareIn, Add, Relax, Enforce, Retract, Ask, Pause, Resume, Step, Solve, ChooseGuide, DropGuide, ChooseOrder, DropOrder, Quit}
+use Rattle.palm_session.specs.Requests.{Admits, CanAdd, CanDeclare, CanDeclareIn, StandsAt}
+use Rattle.palm_session.specs.Effects.{with_engine, with_variable, with_constraint, with_active_at, without_constraint, without_guide, without_order, next_constraint, WithdrawsWhere, WithdrawsActive, next_within, DeclaresNext, AddsNext, Changes, Rests, Filters, Searches, next, unless_paused}
 use Rattle.palm_session.specs.Objects.{without_number, chosen_without}
 use Rattle.palm_session.proofs.ActiveLists.{turned_cases, active_member, active_added, active_enforced, active_relaxed, active_retracted, active_alike, relaxed_inactive, user_same}
 use Rattle.palm_session.proofs.Standing.{some_entry}
 use Rattle.palm_session.proofs.HeldObjects.{left_inside, left_chosen, held_guides, held_orders}
-use Rattle.palm_book.proofs.cited.Intervals.{are_values, narrow}
+use Rattle.palm_book.proofs.cited.Intervals.{domain_values}
 
 -- ---- one more variable
 
-count_is : (z : ℤ) → pos 0 ≤ℤ z → pos (count_in z) ≡ z
-count_is (pos n) h = refl
-count_is (negsuc n) h = absurd (omega (arith, ints, h))
+-- where a mode has room for one more, a book has
+under_variables : (mode : Mode) (n : ℕ) → (most_variables mode ≤ n → ⊥) → n < MOST_VARIABLES
+under_variables First n room = omega (arith, room)
+under_variables One n room = omega (arith, room)
+under_variables Two n room = omega (arith, room)
 
--- the values of a sound domain that is not large
-pub domain_values : (domain : DomainText) → IsSoundDomain domain → (IsLarge domain → ⊥) → AreValues (values_in domain)
-domain_values (Range low high) sound small =
-    let n : ℕ = count_in (high -ℤ low) in
-    let wide : pos 0 ≤ℤ (high -ℤ low) = omega (arith, ints, sound.2) in
-    let is : pos n ≡ high -ℤ low = count_is (high -ℤ low) wide in
-    let last : low +ℤ pos (n + 1) -ℤ pos 1 ≡ high = omega (arith, ints, is) in
-    are_values low (n + 1) (omega arith) (narrow low high (n + 1) last small) sound.0 (subst IsValue (sym last) sound.1)
-domain_values (Set values) sound small = record { some = sound.0; few = omega (arith, small); ascend = sound.1; each = sound.2 }
+under_constraints : (mode : Mode) (n : ℕ) → (most_constraints mode ≤ n → ⊥) → n < MOST_CONSTRAINTS
+under_constraints First n room = omega (arith, room)
+under_constraints One n room = omega (arith, room)
+under_constraints Two n room = omega (arith, room)
 
 -- no member has the name
 none_named : {X : Type 0} (f : X → List ℕ) (xs : List X) (name : List ℕ) → (Any (λ x. f x ≡ name) xs → ⊥) → All (λ x. f x ≢ name) xs
@@ -66,7 +63,7 @@ module _ (s : SessionState) (name : List ℕ) (domain : DomainText) (can : CanDe
   keeps_variable : (e : EngineState) → IsHeld s → Declares s.engine (values_in domain) e → IsHeld (with_engine (with_variable s name (values_in domain)) e)
   keeps_variable e is declares =
       let entry : BookVar = record { name = name; values = values_in domain } in
-      let room : length s.book.variables < 64 = let r : MOST_VARIABLES ≤ length s.book.variables → ⊥ = can.room in omega (arith, r) in
+      let room : length s.book.variables < MOST_VARIABLES = under_variables s.mode (length s.book.variables) can.room in
       record {
         book = IsBook-with_variable s.book s.book refl is.book entry (s.book.variables ++ entry ∷ []) can.text
             (none_named (λ (f : BookVar). f.name) s.book.variables name can.free)
@@ -116,11 +113,11 @@ module _ (s : SessionState) (name : List ℕ) (con : Con) (is : IsHeld s) (can :
   added_book : IsBook (record s.book { constraints = s.book.constraints ++ next_constraint s name con ∷ [] })
   added_book =
       let c : BookCon = next_constraint s name con in
-      let few : MOST_CONSTRAINTS ≤ length s.book.constraints → ⊥ = can.room in
+      let few : length s.book.constraints < MOST_CONSTRAINTS = under_constraints s.mode (length s.book.constraints) (λ h. can.room (inl h)) in
       IsBook-with_constraint s.book s.book refl is.book c (s.book.constraints ++ c ∷ []) can.text
       (none_named (λ (d : BookCon). d.name) s.book.constraints name can.free)
       (All-weaker (λ (d : BookCon). d.number ≤ s.accepted) (λ (d : BookCon). d.number < s.accepted + 1) (λ d h. omega (arith, h)) s.book.constraints is.numbered)
-      can.formed (omega (arith, few)) refl
+      can.formed few refl
 
   -- no active constraint has the next number
   added_inactive : IsActive (active_of s.book) (User (s.accepted + 1)) → ⊥
@@ -136,7 +133,7 @@ module _ (s : SessionState) (name : List ℕ) (con : Con) (is : IsHeld s) (can :
   keeps_constraint : (e : EngineState) → Posts s.engine (user_at (next_constraint s name con)) e → IsHeld (with_engine (with_constraint s name con) e)
   keeps_constraint e posts =
       let c : BookCon = next_constraint s name con in
-      let counts : MOST_ADDED ≤ s.accepted → ⊥ = can.numbers in
+      let counts : MOST_ADDED ≤ s.accepted → ⊥ = λ h. can.room (inr h) in
       record {
         book = added_book;
         accepted = omega (arith, counts);
@@ -150,6 +147,37 @@ module _ (s : SessionState) (name : List ℕ) (con : Con) (is : IsHeld s) (can :
             ∙ active_added s.book is.book c refl added_book added_inactive;
         valid = posts_valid s.engine e (user_at c) posts is.valid;
       }
+
+-- ---- one more variable, and under its name one more constraint
+
+declares_exist : (s : SessionState) (name : List ℕ) (domain : DomainText) → CanDeclare s name domain → (m : SessionState) × DeclaresNext s name domain m
+declares_exist s name domain can =
+    let e : EngineState = record s.engine { initial = s.engine.initial ++ values_in domain ∷ [] } in
+    (with_engine (with_variable s name (values_in domain)) e, (e, record { ascend = (declared_values s name domain can).ascend; after = refl }, refl))
+
+declares_once : (s m n : SessionState) (name : List ℕ) (domain : DomainText) → DeclaresNext s name domain m → DeclaresNext s name domain n → m ≡ n
+declares_once s m n name domain h k =
+    h.2 ∙ ap (λ (e : EngineState). with_engine (with_variable s name (values_in domain)) e) (h.1.after ∙ sym k.1.after) ∙ sym k.2
+
+adds_exist : (s : SessionState) (name : List ℕ) (con : Con) → IsHeld s → CanAdd s name con → (m : SessionState) × AddsNext s name con m
+adds_exist s name con is can =
+    let e : EngineState = posted s.engine (user_at (next_constraint s name con)) in
+    (with_engine (with_constraint s name con) e, (e, added_posts s name con is can, refl))
+
+adds_once : (s m n : SessionState) (name : List ℕ) (con : Con) → AddsNext s name con m → AddsNext s name con n → m ≡ n
+adds_once s m n name con h k = h.2 ∙ ap (λ (e : EngineState). with_engine (with_constraint s name con) e) (h.1.after ∙ sym k.1.after) ∙ sym k.2
+
+pub declares_keep : (s m : SessionState) (name : List ℕ) (domain : DomainText) → IsHeld s → CanDeclare s name domain → DeclaresNext s name domain m → IsHeld m
+declares_keep s m name domain is can h = subst IsHeld (sym h.2) (keeps_variable s name domain can h.0 is h.1)
+
+adds_keep : (s m : SessionState) (name : List ℕ) (con : Con) → IsHeld s → CanAdd s name con → AddsNext s name con m → IsHeld m
+adds_keep s m name con is can h = subst IsHeld (sym h.2) (keeps_constraint s name con is can h.0 h.1)
+
+-- the constraint can be added once its variable is declared
+pub adds_behind : (s m : SessionState) (name : List ℕ) (universe domain : DomainText) → CanDeclareIn s name universe domain → DeclaresNext s name universe m → CanAdd m name (next_within s domain)
+adds_behind s m name universe domain can h =
+    let a = can.add in
+    subst (λ (z : SessionState). CanAdd z name (next_within s domain)) (sym h.2) (record { text = a.text; free = a.free; formed = a.formed; room = a.room })
 
 -- ---- the constraint at a place
 
@@ -248,8 +276,11 @@ held_paused s b is = record {
 
 pub changes_keep : (s m : SessionState) (request : Request) → IsHeld s → Admits s request → Changes s request m → IsHeld m
 changes_keep s m NothingAsked is can h = subst IsHeld (sym h) is
-changes_keep s m (Declare name domain) is can h = subst IsHeld (sym h.2) (keeps_variable s name domain can h.0 is h.1)
-changes_keep s m (Add name con) is can h = subst IsHeld (sym h.2) (keeps_constraint s name con is can h.0 h.1)
+changes_keep s m HeaderAsked is can h = subst IsHeld (sym h) is
+changes_keep s m (Declare name domain) is can h = declares_keep s m name domain is can h
+changes_keep s m (DeclareIn name universe domain) is can h =
+    adds_keep h.0 m name (next_within s domain) (declares_keep s h.0 name universe is can.declare h.1) (adds_behind s h.0 name universe domain can h.1) h.2
+changes_keep s m (Add name con) is can h = adds_keep s m name con is can h
 changes_keep s m (Relax place) is can h = subst IsHeld (sym h.4) (keeps_relaxed s is place h.0 h.2 h.1 h.3)
 changes_keep s m (Enforce place) is can h = subst IsHeld (sym h.4) (keeps_enforced s is place h.0 h.2 h.1 (stands_so s place false h.0 can h.2) h.3)
 changes_keep s m (Retract place) is can h = subst IsHeld (sym h.4) (keeps_retracted s is place h.0 h.2 h.1 h.3)
@@ -280,9 +311,11 @@ untouched_still s m is engine paused awake = subst (λ (e : EngineState). IsStil
 
 pub changes_still : (s m : SessionState) (request : Request) → IsState s → Changes s request m → next m request ≡ Rests → m.paused ≡ false → IsStill m.engine
 changes_still s m NothingAsked is h rests awake = stays_still s m is h awake
+changes_still s m HeaderAsked is h rests awake = stays_still s m is h awake
 changes_still s m (Declare name domain) is h rests awake =
     let before : s.paused ≡ false = sym (ap (λ (z : SessionState). z.paused) h.2) ∙ awake in
     subst (λ (z : SessionState). IsStill z.engine) (sym h.2) (declared_still s.engine h.0 (values_in domain) h.1 (is.still before))
+changes_still s m (DeclareIn name universe domain) is h rests awake = absurd (rests_paused m rests awake)
 changes_still s m (Add name con) is h rests awake = absurd (rests_paused m rests awake)
 changes_still s m (Relax place) is h rests awake = absurd (rests_paused m rests awake)
 changes_still s m (Enforce place) is h rests awake = absurd (rests_paused m rests awake)
@@ -308,7 +341,9 @@ rests_not_limited limit e = cc
 
 pub changes_limited : (s m : SessionState) (request : Request) → Admits s request → Changes s request m → (limit : ℕ) → next m request ≡ Filters (Some limit) → m.paused ≡ true
 changes_limited s m NothingAsked can h limit e = absurd (rests_not_limited limit e)
+changes_limited s m HeaderAsked can h limit e = absurd (rests_not_limited limit e)
 changes_limited s m (Declare name domain) can h limit e = absurd (rests_not_limited limit e)
+changes_limited s m (DeclareIn name universe domain) can h limit e = absurd (not_limited m.paused limit e)
 changes_limited s m (Add name con) can h limit e = absurd (not_limited m.paused limit e)
 changes_limited s m (Relax place) can h limit e = absurd (not_limited m.paused limit e)
 changes_limited s m (Enforce place) can h limit e = absurd (not_limited m.paused limit e)
@@ -339,12 +374,13 @@ withdraws_exist s is c = by c.active
 
 pub changes_exist : (s : SessionState) (request : Request) → IsHeld s → Admits s request → (m : SessionState) × Changes s request m
 changes_exist s NothingAsked is can = (s, refl)
-changes_exist s (Declare name domain) is can =
-    let e : EngineState = record s.engine { initial = s.engine.initial ++ values_in domain ∷ [] } in
-    (with_engine (with_variable s name (values_in domain)) e, (e, record { ascend = (declared_values s name domain can).ascend; after = refl }, refl))
-changes_exist s (Add name con) is can =
-    let e : EngineState = posted s.engine (user_at (next_constraint s name con)) in
-    (with_engine (with_constraint s name con) e, (e, added_posts s name con is can, refl))
+changes_exist s HeaderAsked is can = (s, refl)
+changes_exist s (Declare name domain) is can = declares_exist s name domain can
+changes_exist s (DeclareIn name universe domain) is can =
+    let d = declares_exist s name universe can.declare in
+    let a = adds_exist d.0 name (next_within s domain) (declares_keep s d.0 name universe is can.declare d.1) (adds_behind s d.0 name universe domain can d.1) in
+    (a.0, (d.0, d.1, a.1))
+changes_exist s (Add name con) is can = adds_exist s name con is can
 changes_exist s (Relax place) is can =
     let w = withdrawal_exists s.engine (gone_with s.engine.active (User can.constraint.number)) is.valid in
     (with_engine (with_active_at s place false) w.0, (can.constraint, w.0, can.at, w.1, refl))
@@ -386,9 +422,12 @@ withdraws_once e c t u one two = elim (withdraws_cases e c t one) [
 
 pub changes_once : (s m n : SessionState) (request : Request) → Changes s request m → Changes s request n → m ≡ n
 changes_once s m n NothingAsked h k = h ∙ sym k
-changes_once s m n (Declare name domain) h k =
-    h.2 ∙ ap (λ (e : EngineState). with_engine (with_variable s name (values_in domain)) e) (h.1.after ∙ sym k.1.after) ∙ sym k.2
-changes_once s m n (Add name con) h k = h.2 ∙ ap (λ (e : EngineState). with_engine (with_constraint s name con) e) (h.1.after ∙ sym k.1.after) ∙ sym k.2
+changes_once s m n HeaderAsked h k = h ∙ sym k
+changes_once s m n (Declare name domain) h k = declares_once s m n name domain h k
+changes_once s m n (DeclareIn name universe domain) h k =
+    let same : h.0 ≡ k.0 = declares_once s h.0 k.0 name universe h.1 k.1 in
+    adds_once k.0 m n name (next_within s domain) (subst (λ (z : SessionState). AddsNext z name (next_within s domain) m) same h.2) k.2
+changes_once s m n (Add name con) h k = adds_once s m n name con h k
 changes_once s m n (Relax place) h k =
     let c : h.0 ≡ k.0 = one_at s place h.0 k.0 h.2 k.2 in
     let e : h.1 ≡ k.1 = withdrawal_same s.engine (gone_with s.engine.active (User k.0.number)) h.1 k.1 (subst (λ (x : BookCon). Withdraws s.engine (User x.number) h.1) c h.3) k.3 in
@@ -435,7 +474,11 @@ alike s t z e k = subst (KeepsObjects s) (sym e) k
 
 pub changes_objects : (s m : SessionState) (request : Request) → Changes s request m → IsAboutObjects request ⊎ KeepsObjects s m
 changes_objects s m NothingAsked h = inr (alike s m s h (record { guides = refl; orders = refl; guide = refl; order = refl }))
+changes_objects s m HeaderAsked h = inr (alike s m s h (record { guides = refl; orders = refl; guide = refl; order = refl }))
 changes_objects s m (Declare name domain) h = inr (alike s m (with_engine (with_variable s name (values_in domain)) h.0) h.2 (record { guides = refl; orders = refl; guide = refl; order = refl }))
+changes_objects s m (DeclareIn name universe domain) h =
+    let k : KeepsObjects s h.0 = alike s h.0 (with_engine (with_variable s name (values_in universe)) h.1.0) h.1.2 (record { guides = refl; orders = refl; guide = refl; order = refl }) in
+    inr (alike s m (with_engine (with_constraint h.0 name (next_within s domain)) h.2.0) h.2.2 (record { guides = k.guides; orders = k.orders; guide = k.guide; order = k.order }))
 changes_objects s m (Add name con) h = inr (alike s m (with_engine (with_constraint s name con) h.0) h.2 (record { guides = refl; orders = refl; guide = refl; order = refl }))
 changes_objects s m (Relax place) h = inr (alike s m (with_engine (with_active_at s place false) h.1) h.4 (record { guides = refl; orders = refl; guide = refl; order = refl }))
 changes_objects s m (Enforce place) h = inr (alike s m (with_engine (with_active_at s place true) h.1) h.4 (record { guides = refl; orders = refl; guide = refl; order = refl }))
@@ -510,6 +553,7 @@ waits_not_searches true by e = cc
 waits_not_searches false by e = cc
 
 pub searches_by : (m : SessionState) (request : Request) (by : Procedure) → next m request ≡ Searches by → request ≡ Solve by
+searches_by m (DeclareIn name universe domain) by e = absurd (waits_not_searches m.paused by e)
 searches_by m (Add name con) by e = absurd (waits_not_searches m.paused by e)
 searches_by m (Relax place) by e = absurd (waits_not_searches m.paused by e)
 searches_by m (Enforce place) by e = absurd (waits_not_searches m.paused by e)

@@ -115,12 +115,12 @@ none_chosen guides orders text none before after line replies s lines on run =
 -- ---- a text has one output
 
 -- the lines that are answered are the first ones
-record Front (lines answered : List (List ℕ)) : Type 0 where
-  others : List (List ℕ)
-  whole : lines ≡ answered ++ others
-  keeps : KeepsOn answered
+pub record Front (lines answered : List (List ℕ)) : Type 0 where
+  pub others : List (List ℕ)
+  pub whole : lines ≡ answered ++ others
+  pub keeps : KeepsOn answered
 
-front_of : (lines answered : List (List ℕ)) → AreAnswered lines answered → Front lines answered
+pub front_of : (lines answered : List (List ℕ)) → AreAnswered lines answered → Front lines answered
 front_of lines answered (all on) = record { others = []; whole = sym (append-nil lines); keeps = keeps_on lines on }
 front_of lines answered (until before after last on ends is) = record {
   others = after;

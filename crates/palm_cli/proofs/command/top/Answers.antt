@@ -1,5 +1,6 @@
 use Rattle.std.proofs.Common.{[], inr, refl}
 use Rattle.palm_cli.proofs.CheckLemmas.{judged_status, over_status}
+use Rattle.palm_cli.proofs.LeadLemmas.{leads_by}
 use Rattle.palm_cli.proofs.RunLemmas.{whole_status, cut_status}
 use Rattle.palm_cli.proofs.TopLemmas.{fits, runs_by, checks_by, generates_by, refuses_by, summed_whole, wants_run, wants_check, wants_gen, wants_usage}
 use Rattle.palm_cli.proofs.command.top.Goals as goal
@@ -23,33 +24,36 @@ pub obey-requires : goal.obey-requires
 obey-requires g c = fits _ c.in-Ok.request c.in-Ok.ensures
 
 pub returns-clause-runs : goal.returns-clause-runs
-returns-clause-runs g c = runs_by _ _ _ _ _ _ c.in-Ok.request c.in-Ok.ensures c.obey.ensures
+returns-clause-runs g c = runs_by _ _ _ _ _ _ c.in-Ok.request c.in-Ok.ensures c.obey.ensures.obeys
+
+pub returns-clause-led : goal.returns-clause-led
+returns-clause-led g c = leads_by _ _ _ _ _ _ _ _ _ c.in-Ok.request c.in-Ok.ensures c.obey.ensures.led
 
 pub returns-clause-checks : goal.returns-clause-checks
-returns-clause-checks g c = checks_by _ _ _ _ _ _ c.in-Ok.request c.in-Ok.ensures c.obey.ensures
+returns-clause-checks g c = checks_by _ _ _ _ _ _ c.in-Ok.request c.in-Ok.ensures c.obey.ensures.obeys
 
 pub returns-clause-generates : goal.returns-clause-generates
-returns-clause-generates g c = generates_by _ _ _ _ _ _ c.in-Ok.request c.in-Ok.ensures c.obey.ensures
+returns-clause-generates g c = generates_by _ _ _ _ _ _ c.in-Ok.request c.in-Ok.ensures c.obey.ensures.obeys
 
 pub returns-clause-refuses : goal.returns-clause-refuses
-returns-clause-refuses g c = refuses_by _ _ _ _ _ _ c.in-Ok.request c.in-Ok.ensures c.obey.ensures
+returns-clause-refuses g c = refuses_by _ _ _ _ _ _ c.in-Ok.request c.in-Ok.ensures c.obey.ensures.obeys
 
 pub returns-clause-complete : goal.returns-clause-complete
 returns-clause-complete g c = λ run none within.
-    whole_status _ _ _ _ _ (runs_by _ _ _ _ _ _ c.in-Ok.request c.in-Ok.ensures c.obey.ensures run) none within
+    whole_status _ _ _ _ _ (runs_by _ _ _ _ _ _ c.in-Ok.request c.in-Ok.ensures c.obey.ensures.obeys run) none within
 
 pub returns-clause-summed : goal.returns-clause-summed
 returns-clause-summed g c = λ size gen none.
-    summed_whole [] [] [] _ _ _ size (generates_by _ _ _ _ _ _ c.in-Ok.request c.in-Ok.ensures c.obey.ensures size gen) none
+    summed_whole [] [] [] _ _ _ size (generates_by _ _ _ _ _ _ c.in-Ok.request c.in-Ok.ensures c.obey.ensures.obeys size gen) none
 
 pub returns-clause-cut : goal.returns-clause-cut
 returns-clause-cut g c = λ run much none.
-    cut_status _ _ _ _ _ (runs_by _ _ _ _ _ _ c.in-Ok.request c.in-Ok.ensures c.obey.ensures run) much none
+    cut_status _ _ _ _ _ (runs_by _ _ _ _ _ _ c.in-Ok.request c.in-Ok.ensures c.obey.ensures.obeys run) much none
 
 pub returns-clause-judged : goal.returns-clause-judged
 returns-clause-judged g c = λ told check none takes.
-    judged_status _ _ told _ (checks_by _ _ _ _ _ _ c.in-Ok.request c.in-Ok.ensures c.obey.ensures check) none takes
+    judged_status _ _ told _ (checks_by _ _ _ _ _ _ c.in-Ok.request c.in-Ok.ensures c.obey.ensures.obeys check) none takes
 
 pub returns-clause-over : goal.returns-clause-over
 returns-clause-over g c = λ check takes.
-    over_status _ _ _ (checks_by _ _ _ _ _ _ c.in-Ok.request c.in-Ok.ensures c.obey.ensures check) takes
+    over_status _ _ _ (checks_by _ _ _ _ _ _ c.in-Ok.request c.in-Ok.ensures c.obey.ensures.obeys check) takes

@@ -27,7 +27,7 @@ returns-in_err-solve g c =
     rw (p.1, p.2) (wants c.args.size (g.K.Sink.state c.args.sink.now))
 
 pub returns-in-Err : goal.returns-in-Err
-returns-in-Err g c = stops_heading c.args.size _ _ _ (c.as_bytes.ensures.value ∙ c.in_ok-heading.ensures) c.in-Err.ensures.cause.failed c.in-Err.ensures.bytes
+returns-in-Err g c = stops_heading c.args.size (g.K.Sink.state c.args.sink.now) (g.K.Sink.state c.write_all.new.sink) _ (c.as_bytes.ensures.value ∙ c.in_ok-heading.ensures) c.in-Err.ensures.cause.failed c.in-Err.ensures.bytes
 
 pub solve_after-requires-clause-going : goal.solve_after-requires-clause-going
 solve_after-requires-clause-going g c = starts_open _ _ c.requires.fresh

@@ -1,8 +1,8 @@
-use Rattle.std.proofs.Common.{◌≡◌, ◌∙◌, ◌<◌, ◌≤◌, get_or, length, refl, sym, ap, subst, arith}
-use Rattle.palm_explain.specs.Counts.{counts_of}
-use Rattle.palm_explain.specs.Graph.{IsAmongFirst, IsAntecedent, IsKey, graph_of, link_of, said}
+use Rattle.std.proofs.Common.{◌≡◌, ◌∙◌, ◌<◌, ◌≤◌, false, get_or, length, vec_capacity, refl, sym, ap, subst, arith}
+use Rattle.palm_explain.specs.Counts.{HoldsKeys, counts_of}
+use Rattle.palm_explain.specs.Graph.{IsAmongFirst, IsAntecedent, IsKey, graph_of, link_of, marks_of, said}
 use Rattle.palm_explain.proofs.Changes.{all_first, first_none}
-use Rattle.palm_explain.proofs.Counting.{counted_like, counted_more, counted_none, counted_one}
+use Rattle.palm_explain.proofs.Counting.{counted_like, counted_more, counted_none}
 use Rattle.palm_explain.proofs.Writes.{key_there, same_said}
 use Rattle.palm_explain.proofs.forgetting.count_at.Goals as goal
 
@@ -15,7 +15,10 @@ loop-index-init c =
       graph = refl;
       marks = refl;
       nexts = refl;
-      counted = counted_none (counts_of c.args.nodes.now) (IsAmongFirst 0 (λ l. l.antecedents) (graph_of c.args.nodes.now) c.args.key) (first_none (λ l. l.antecedents) (graph_of c.args.nodes.now) c.args.key (said n) (ap link_of c.index.ensures));
+      counted = counted_none (counts_of c.args.nodes.now) c.args.losing.now.items (λ k. (marks_of c.args.nodes.now k ≡ false) × IsAmongFirst 0 (λ l. l.antecedents) (graph_of c.args.nodes.now) c.args.key k)
+          (λ k m. first_none (λ l. l.antecedents) (graph_of c.args.nodes.now) c.args.key (said n) (ap link_of c.index.ensures) k m.1);
+      noted = c.requires.noted;
+      room = refl;
     }
 
 pub index-requires-in-loop-index : goal.index-requires-in-loop-index
@@ -28,8 +31,8 @@ index-antecedent-requires c =
     let same = ap length (same_said c.args.nodes.now c.loop-index.nodes c.args.key n m c.loop-index.invariant.graph c.index.ensures c.index-in-loop-index.ensures).0 in
     omega (arith, c.loop-index-test.true, c.len-index-end.ensures, n.antecedents.ok.0, m.antecedents.ok.0, same)
 
-pub count_dependent-requires : goal.count_dependent-requires
-count_dependent-requires c =
+pub count_dependent-requires-clause-key : goal.count_dependent-requires-clause-key
+count_dependent-requires-clause-key c =
     let n = c.index.result.now in
     let m = c.index-in-loop-index.result.now in
     let same = (same_said c.args.nodes.now c.loop-index.nodes c.args.key n m c.loop-index.invariant.graph c.index.ensures c.index-in-loop-index.ensures).0 in
@@ -51,13 +54,20 @@ loop-index-preserved c =
       graph = c.count_dependent.ensures.graph ∙ c.loop-index.invariant.graph;
       marks = c.count_dependent.ensures.marks ∙ c.loop-index.invariant.marks;
       nexts = c.count_dependent.ensures.nexts ∙ c.loop-index.invariant.nexts;
-      counted = counted_more g c.args.key (said n) (ap link_of c.index.ensures) (counts_of c.args.nodes.now) (counts_of c.loop-index.nodes) (counts_of c.count_dependent.new.nodes) i d lt is c.loop-index.invariant.counted
-          (counted_one (counts_of c.loop-index.nodes) (counts_of c.count_dependent.new.nodes) d c.count_dependent.ensures.counted c.count_dependent.ensures.others);
+      counted = counted_more g c.args.key (said n) (ap link_of c.index.ensures) (marks_of c.args.nodes.now) (marks_of c.loop-index.nodes) (counts_of c.args.nodes.now) (counts_of c.loop-index.nodes) (counts_of c.count_dependent.new.nodes)
+          c.args.losing.now.items c.loop-index.losing.items c.count_dependent.new.losing.items i d c.loop-index.invariant.marks lt is c.loop-index.invariant.counted c.count_dependent.ensures.counted;
+      noted = c.count_dependent.ensures.noted;
+      room = c.count_dependent.ensures.room ∙ c.loop-index.invariant.room;
     }
+
+pub count_dependent-requires-clause-room : goal.count_dependent-requires-clause-room
+count_dependent-requires-clause-room c =
+    subst (λ g. HoldsKeys g (vec_capacity c.loop-index.losing)) (sym c.loop-index.invariant.graph) (subst (HoldsKeys (graph_of c.args.nodes.now)) (sym c.loop-index.invariant.room) c.requires.room)
 
 pub returns-clause-counted : goal.returns-clause-counted
 returns-clause-counted c =
     let n = c.index.result.now in
+    let s = c.args.nodes.now in
     let le : length n.antecedents.items ≤ c.loop-index.index = omega (arith, c.loop-index-test.false, c.len-index-end.ensures, n.antecedents.ok.0) in
-    counted_like (counts_of c.args.nodes.now) (counts_of c.loop-index.nodes) (IsAmongFirst c.loop-index.index (λ l. l.antecedents) (graph_of c.args.nodes.now) c.args.key) (λ k. IsAntecedent (graph_of c.args.nodes.now) k c.args.key)
-    (all_first (λ l. l.antecedents) (graph_of c.args.nodes.now) c.args.key (said n) (ap link_of c.index.ensures) c.loop-index.index le) c.loop-index.invariant.counted
+    counted_like (counts_of s) (counts_of c.loop-index.nodes) c.args.losing.now.items c.loop-index.losing.items (λ k. (marks_of s k ≡ false) × IsAmongFirst c.loop-index.index (λ l. l.antecedents) (graph_of s) c.args.key k) (λ k. (marks_of s k ≡ false) × IsAntecedent (graph_of s) k c.args.key)
+    (λ k m. (m.0, all_first (λ l. l.antecedents) (graph_of s) c.args.key (said n) (ap link_of c.index.ensures) c.loop-index.index le k m.1)) c.loop-index.invariant.counted

@@ -1,6 +1,6 @@
-use Rattle.std.proofs.Common.{◌≡◌, ℕ, ◌-◌, List, Some, slice_get}
+use Rattle.std.proofs.Common.{◌≡◌, ℕ, ◌-◌, List, Some, slice_get, vec_capacity}
 use Rattle.palm_explain.specs.Chain.{IsLine, nexts_of}
-use Rattle.palm_explain.specs.Counts.{counts_of}
+use Rattle.palm_explain.specs.Counts.{AreNoted, counts_of}
 use Rattle.palm_explain.specs.Graph.{graph_of, marks_of}
 use Rattle.palm_explain.proofs.Counting.{IsCountedTo}
 use Rattle.palm_explain.proofs.forgetting.count_lost.Given as goal
@@ -12,7 +12,9 @@ invariant-loop-place l = record {
   marks : marks_of l.nodes ≡ marks_of l.fn.nodes;
   nexts : nexts_of l.nodes ≡ nexts_of l.fn.nodes;
   cursor : (chain : List ℕ) → IsLine l.fn.nodes l.first l.count chain → (k : ℕ) → slice_get chain l.place ≡ Some k → l.key ≡ k;
-  counted : (chain : List ℕ) → IsLine l.fn.nodes l.first l.count chain → IsCountedTo (graph_of l.fn.nodes) (counts_of l.nodes) chain l.place;
+  counted : (chain : List ℕ) → IsLine l.fn.nodes l.first l.count chain → IsCountedTo (graph_of l.fn.nodes) (marks_of l.fn.nodes) (counts_of l.nodes) l.losing.items chain l.place;
+  noted : AreNoted l.nodes l.losing.items;
+  room : vec_capacity l.losing ≡ vec_capacity l.fn.losing;
 }
 
 abbrev pub decreases-loop-place : goal.decreases-loop-place

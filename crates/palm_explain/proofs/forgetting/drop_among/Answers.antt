@@ -3,7 +3,7 @@ use Rattle.slab.specs.Slab.{with_value}
 use Rattle.palm_explain.specs.declared.node.Node.{Node}
 use Rattle.palm_explain.specs.Graph.{marks_of}
 use Rattle.palm_explain.specs.Lost.{kept_of}
-use Rattle.palm_explain.proofs.Dropping.{dropped, dropped_counted, dropped_marks, dropped_nexts, found, unwritten, written}
+use Rattle.palm_explain.proofs.Dropping.{dropped, dropped_counted, dropped_marks, found, unwritten, written}
 use Rattle.palm_explain.proofs.Writes.{same_marks}
 use Rattle.palm_explain.proofs.forgetting.drop_among.Goals as goal
 
@@ -37,10 +37,8 @@ returns c =
     let by = ap (λ (z : Node). z.by) e in
     let antecedents = ap (λ (z : Node). z.antecedents) e in
     let place = ap (λ (z : Node). z.place) e in
-    let mark = ap (λ (z : Node). z.mark) e in
-    let next = ap (λ (z : Node). z.next) e in record {
-      forgotten = dropped s t key n v at last far pair by antecedents place mark next c.requires.unmarked is;
-      marks = dropped_marks s t key n v at last far pair by antecedents place mark next;
-      nexts = dropped_nexts s t key n v at last far pair by antecedents place mark next;
-      counted = dropped_counted s t key n v at last far pair by antecedents place mark next c.requires.counted is;
+    let mark = ap (λ (z : Node). z.mark) e in record {
+      forgotten = dropped s t key n v at last far pair by antecedents place mark c.requires.unmarked is;
+      marks = dropped_marks s t key n v at last far pair by antecedents place mark;
+      counted = dropped_counted s t key n v at last far pair by antecedents place mark c.requires.counted is;
     }

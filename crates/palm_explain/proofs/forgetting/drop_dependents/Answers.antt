@@ -3,7 +3,7 @@ use Rattle.slab.specs.Slab.{with_value}
 use Rattle.palm_explain.specs.declared.node.Node.{Node}
 use Rattle.palm_explain.specs.Graph.{marks_of}
 use Rattle.palm_explain.specs.Lost.{kept_of}
-use Rattle.palm_explain.proofs.Dropping.{dropped, dropped_counted, dropped_marks, dropped_nexts}
+use Rattle.palm_explain.proofs.Dropping.{dropped, dropped_counted, dropped_marks}
 use Rattle.palm_explain.proofs.Graphs.{some_same}
 use Rattle.palm_explain.proofs.Unmarked.{none_long, none_marked}
 use Rattle.palm_explain.proofs.Writes.{elsewhere, here, key_there}
@@ -40,8 +40,7 @@ returns c =
     let last = here s key n v at in
     let far = elsewhere s key n v at in
     let is : v.dependents.items ≡ kept_of (marks_of s) n.dependents.items = c.truncate.ensures.items ∙ subst (λ (z : Node). take kept z.dependents.items ≡ kept_of (marks_of s) z.dependents.items) one all in record {
-      forgotten = dropped s t key n v at last far refl refl refl refl refl refl c.requires.unmarked is;
-      marks = dropped_marks s t key n v at last far refl refl refl refl refl refl;
-      nexts = dropped_nexts s t key n v at last far refl refl refl refl refl refl;
-      counted = dropped_counted s t key n v at last far refl refl refl refl refl refl c.requires.counted is;
+      forgotten = dropped s t key n v at last far refl refl refl refl refl c.requires.unmarked is;
+      marks = dropped_marks s t key n v at last far refl refl refl refl refl;
+      counted = dropped_counted s t key n v at last far refl refl refl refl refl c.requires.counted is;
     }

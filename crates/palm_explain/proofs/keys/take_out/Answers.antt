@@ -24,13 +24,13 @@ returns-in-Some-clause-once c = subst Distinct (sym c.remove.ensures.items) (dis
 pub swap_remove-requires : goal.swap_remove-requires
 swap_remove-requires c =
     let ks = c.args.keys.now.items in
-    let at : slice_get ks c.args.at ≡ Some c.args.key = rw c.deref.ensures.value at (c.has_at.ensures c.if-has_at.true) in
+    let at : slice_get ks c.args.at ≡ Some c.args.key = rw c.deref.ensures.value at (c.has_at.ensures.there c.if-has_at.true) in
     let lt = slice_get_within ks c.args.at c.args.key at in omega (arith, lt, c.args.keys.now.ok.0)
 
 pub returns-then-has_at-clause-gone : goal.returns-then-has_at-clause-gone
 returns-then-has_at-clause-gone c =
     let ks = c.args.keys.now.items in
-    let at : slice_get ks c.args.at ≡ Some c.args.key = rw c.deref.ensures.value at (c.has_at.ensures c.if-has_at.true) in
+    let at : slice_get ks c.args.at ≡ Some c.args.key = rw c.deref.ensures.value at (c.has_at.ensures.there c.if-has_at.true) in
     let lt = slice_get_within ks c.args.at c.args.key at in
     let short : length c.swap_remove.new.self.items + 1 ≡ length ks = omega (arith, c.swap_remove.ensures.len, c.args.keys.now.ok.0, c.swap_remove.new.self.ok.0) in
     swapped_gone ks c.swap_remove.new.self.items c.args.at c.args.key c.requires at short (λ low d. c.swap_remove.ensures.by_index.0 d (omega (arith, low, c.args.keys.now.ok.0)) ∙ ap (λ p. get_or ks (p - 1) d) c.args.keys.now.ok.0) (λ j n low d. c.swap_remove.ensures.by_index.1 j d n (omega (arith, low, c.args.keys.now.ok.0)))
@@ -38,7 +38,7 @@ returns-then-has_at-clause-gone c =
 pub returns-then-has_at-clause-stay : goal.returns-then-has_at-clause-stay
 returns-then-has_at-clause-stay c =
     let ks = c.args.keys.now.items in
-    let at : slice_get ks c.args.at ≡ Some c.args.key = rw c.deref.ensures.value at (c.has_at.ensures c.if-has_at.true) in
+    let at : slice_get ks c.args.at ≡ Some c.args.key = rw c.deref.ensures.value at (c.has_at.ensures.there c.if-has_at.true) in
     let lt = slice_get_within ks c.args.at c.args.key at in
     let short : length c.swap_remove.new.self.items + 1 ≡ length ks = omega (arith, c.swap_remove.ensures.len, c.args.keys.now.ok.0, c.swap_remove.new.self.ok.0) in
     swapped_stay ks c.swap_remove.new.self.items c.args.at c.args.key c.requires at short (λ low d. c.swap_remove.ensures.by_index.0 d (omega (arith, low, c.args.keys.now.ok.0)) ∙ ap (λ p. get_or ks (p - 1) d) c.args.keys.now.ok.0) (λ j n low d. c.swap_remove.ensures.by_index.1 j d n (omega (arith, low, c.args.keys.now.ok.0)))
@@ -46,7 +46,7 @@ returns-then-has_at-clause-stay c =
 pub returns-then-has_at-clause-once : goal.returns-then-has_at-clause-once
 returns-then-has_at-clause-once c =
     let ks = c.args.keys.now.items in
-    let at : slice_get ks c.args.at ≡ Some c.args.key = rw c.deref.ensures.value at (c.has_at.ensures c.if-has_at.true) in
+    let at : slice_get ks c.args.at ≡ Some c.args.key = rw c.deref.ensures.value at (c.has_at.ensures.there c.if-has_at.true) in
     let lt = slice_get_within ks c.args.at c.args.key at in
     let short : length c.swap_remove.new.self.items + 1 ≡ length ks = omega (arith, c.swap_remove.ensures.len, c.args.keys.now.ok.0, c.swap_remove.new.self.ok.0) in
     swapped_once ks c.swap_remove.new.self.items c.args.at c.args.key c.requires at short (λ low d. c.swap_remove.ensures.by_index.0 d (omega (arith, low, c.args.keys.now.ok.0)) ∙ ap (λ p. get_or ks (p - 1) d) c.args.keys.now.ok.0) (λ j n low d. c.swap_remove.ensures.by_index.1 j d n (omega (arith, low, c.args.keys.now.ok.0)))

@@ -29,7 +29,7 @@ returns-in-Err-clause-answers g c =
     finishes_part _ _ _ _ some one
 
 pub returns-then-is_empty-clause-led : goal.returns-then-is_empty-clause-led
-returns-then-is_empty-clause-led g c = last_none _ _ _ _ _ (search rules)
+returns-then-is_empty-clause-led g c = last_none _ _ _ _ _ _ (search rules)
 
 pub returns-in-Ok-clause-led : goal.returns-in-Ok-clause-led
 returns-in-Ok-clause-led g c =

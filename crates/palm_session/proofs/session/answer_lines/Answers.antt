@@ -15,7 +15,7 @@ abbrev ordering : (g : given.Over) → Hearing → Option g.row.O.Denot → Opti
 ordering g = OrderFollows g.O.Order.answers g.O.Order.hears g.O.Order.state
 
 pub loop-end-init : goal.loop-end-init
-loop-end-init g c = (omega arith, refl, so_far_none _ _ _ _ (omega arith), record { later = omega arith; checks = inl (refl, refl) }, c.requires, lines_none _ _ _ _ _)
+loop-end-init g c = (omega arith, refl, so_far_none _ _ _ _ (omega arith), record { later = omega arith; checks = inl (refl, refl) }, c.requires, refl, refl, lines_none _ _ _ _ _ _)
 
 pub loop-end-preserved : goal.loop-end-preserved
 loop-end-preserved g c =
@@ -26,7 +26,9 @@ loop-end-preserved g c =
       so_far_more _ _ _ _ _ _ _ _ _ _ _ _ (counts_add _ _ _ c.loop-end.invariant.3.later c.in-Ok-More.ensures.spends.later) c.loop-end.invariant.2 feed one,
       spends_more _ _ _ _ _ _ c.loop-end.invariant.3 c.in-Ok-More.ensures.spends,
       c.in-Ok-More.ensures.state,
-      lines_more (guiding g) (ordering g) _ _ _ _ _ _ _ _ _ _ _ _ c.loop-end.invariant.5 feed one (rw c.without_return-line.ensures at c.in-Ok-More.ensures.led),
+      c.in-Ok-More.ensures.stands.same ∙ c.loop-end.invariant.5,
+      c.in-Ok-More.ensures.stands.ok ∙ c.loop-end.invariant.6,
+      lines_more (guiding g) (ordering g) _ _ _ _ _ _ _ _ _ _ _ _ _ c.loop-end.invariant.7 feed one (rw c.without_return-line.ensures at c.in-Ok-More.ensures.led),
     )
 
 pub returns-in-Ok-Quit-clause-answers : goal.returns-in-Ok-Quit-clause-answers
@@ -52,7 +54,7 @@ returns-in-Ok-Quit-clause-led g c =
     let feed = c.in-Some.ensures.found in
     let one = rw (c.in-Ok-Quit.field-0-is, c.without_return-line.ensures) at c.in-Ok-Quit.ensures.answers in
     let led = rw c.without_return-line.ensures at c.in-Ok-Quit.ensures.led in
-    lines_end (guiding g) (ordering g) _ _ _ _ _ _ _ _ _ _ _ _ c.loop-end.invariant.5 feed one led
+    lines_end (guiding g) (ordering g) _ _ _ _ _ _ _ _ _ _ _ _ _ c.loop-end.invariant.7 feed one led
 
 pub returns-clause-led : goal.returns-clause-led
-returns-clause-led g c = (drop c.loop-end.start c.args.text.now, search rules, c.loop-end.invariant.5)
+returns-clause-led g c = (drop c.loop-end.start c.args.text.now, search rules, c.loop-end.invariant.7)

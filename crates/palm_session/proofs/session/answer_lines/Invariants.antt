@@ -14,7 +14,9 @@ invariant-loop-end g l =
     × SoFar l.initial.desk.state l.text (g.K.Sink.state l.initial.out).written (g.K.Sink.state l.out).written (drop l.start l.text) l.desk.state (l.steps - l.initial.steps)
     × Spends l.initial.desk l.desk l.initial.steps l.steps
     × IsState l.desk.state
-    × LinesLead (GuideFollows g.G.Guide.answers g.G.Guide.hears g.G.Guide.state) (OrderFollows g.O.Order.answers g.O.Order.hears g.O.Order.state) l.initial.desk.state l.text (drop l.start l.text) l.initial.desk.objects l.desk.state l.desk.objects
+    × ((g.K.Sink.state l.out).home ≡ (g.K.Sink.state l.initial.out).home)
+    × ((g.K.Sink.state l.out).torn ≡ (g.K.Sink.state l.initial.out).torn)
+    × LinesLead (GuideFollows g.G.Guide.answers g.G.Guide.hears g.G.Guide.state) (OrderFollows g.O.Order.answers g.O.Order.hears g.O.Order.state) l.initial.desk.state l.text (g.K.Sink.state l.initial.out).written (g.K.Sink.state l.out).written (drop l.start l.text) l.initial.desk.objects l.desk.state l.desk.objects
 
 abbrev pub decreases-loop-end : goal.decreases-loop-end
 decreases-loop-end g l = length l.initial.text + 1 - l.start

@@ -1,4 +1,5 @@
-use Rattle.std.proofs.Common.{◌≡◌, ◌∙◌, ◌+◌, ◌++◌, ◌∷◌, [], ◌≤◌, Some, None, Contains, length, vec_capacity, false, refl, sym, ap, subst}
+use Rattle.std.proofs.Common.{◌≡◌, ◌∙◌, ◌+◌, ◌++◌, ◌∷◌, [], ◌≤◌, Some, None, Contains, length, vec_capacity, false, refl, sym, ap, subst, arith}
+use Rattle.std.proofs.lemmas.List.{length-append}
 use Rattle.std.proofs.Math.Nat.{le_trans}
 use Rattle.slab.specs.Slab.{Updates, get}
 use Rattle.palm_explain.specs.declared.node.Node.{Node}
@@ -17,7 +18,7 @@ invariant_of-self c =
     let s = c.self.inside.nodes in
     let keys = c.self.inside.log.items in
     let rows = kept_with_rows s keys c.self.inside.rows.items c.put_key.new.rows.items (vec_capacity c.self.inside.restored) c.args.pair c.self.invariant.kept (rw (← c.self.view_is) at c.requires.fresh) c.put_key.ensures.formed c.put_key.ensures.others in
-    record { kept = rows; threaded = c.self.invariant.threaded; flagged = flags_like c.self.inside.rows.items c.self.inside.restored.items c.self.invariant.flagged c.put_key.new.rows.items c.put_key.ensures.flags }
+    record { kept = rows; threaded = c.self.invariant.threaded; flagged = flags_like c.self.inside.rows.items c.self.inside.restored.items c.self.invariant.flagged c.put_key.new.rows.items c.put_key.ensures.flags; fits = c.self.invariant.fits }
 
 pub antecedents_of-requires-clause-found : goal.antecedents_of-requires-clause-found
 antecedents_of-requires-clause-found c =
@@ -35,7 +36,7 @@ invariant_of-self-in_err-antecedents c =
     let s = c.self.inside.nodes in
     let keys = c.self.inside.log.items in
     let rows = kept_with_rows s keys c.self.inside.rows.items c.put_key.new.rows.items (vec_capacity c.self.inside.restored) c.args.pair c.self.invariant.kept (rw (← c.self.view_is) at c.requires.fresh) c.put_key.ensures.formed c.put_key.ensures.others in
-    record { kept = rows; threaded = c.self.invariant.threaded; flagged = flags_like c.self.inside.rows.items c.self.inside.restored.items c.self.invariant.flagged c.put_key.new.rows.items c.put_key.ensures.flags }
+    record { kept = rows; threaded = c.self.invariant.threaded; flagged = flags_like c.self.inside.rows.items c.self.inside.restored.items c.self.invariant.flagged c.put_key.new.rows.items c.put_key.ensures.flags; fits = c.self.invariant.fits }
 
 pub make_room-requires : goal.make_room-requires
 make_room-requires c k m = c.in_ok-antecedents.ensures.keys k (subst (λ l. Contains l k) c.deref-2.ensures.value m)
@@ -51,6 +52,7 @@ invariant_of-self-in_err-make_room c =
       kept = subst (λ ks. IsStored c.make_room.new.nodes ks c.put_key.new.rows.items spares) (sym c.make_room.ensures.log) more;
       threaded = threaded_same c.self.inside.threads c.self.inside.threads (graph_of s) (graph_of c.make_room.new.nodes) _ c.self.invariant.threaded c.self.invariant.threaded.formed (λ q. refl) c.make_room.ensures.graph;
       flagged = subst (AreFlagged c.put_key.new.rows.items) (sym c.make_room.ensures.restored) (flags_like c.self.inside.rows.items c.self.inside.restored.items c.self.invariant.flagged c.put_key.new.rows.items c.put_key.ensures.flags);
+      fits = subst (λ ks. length ks ≤ vec_capacity c.make_room.new.losing) (sym c.make_room.ensures.log) (le_trans c.self.invariant.fits c.make_room.ensures.spare);
     }
 
 pub returns-in_err-make_room-clause-err : goal.returns-in_err-make_room-clause-err
@@ -69,6 +71,7 @@ invariant_of-self-in_err-at c =
       kept = subst (λ ks. IsStored c.make_room.new.nodes ks c.put_key.new.rows.items spares) (sym c.make_room.ensures.log) more;
       threaded = threaded_same c.self.inside.threads c.push.new.self (graph_of s) (graph_of c.make_room.new.nodes) _ c.self.invariant.threaded c.push.ensures.formed c.in_err-at.ensures.err c.make_room.ensures.graph;
       flagged = subst (AreFlagged c.put_key.new.rows.items) (sym c.make_room.ensures.restored) (flags_like c.self.inside.rows.items c.self.inside.restored.items c.self.invariant.flagged c.put_key.new.rows.items c.put_key.ensures.flags);
+      fits = subst (λ ks. length ks ≤ vec_capacity c.make_room.new.losing) (sym c.make_room.ensures.log) (le_trans c.self.invariant.fits c.make_room.ensures.spare);
     }
 
 pub returns-in_err-at-clause-err : goal.returns-in_err-at-clause-err
@@ -93,10 +96,10 @@ invariant_of-self-2 c =
     let more = kept_like s s keys c.put_key.new.rows.items (vec_capacity c.self.inside.restored) spares rows refl refl (le_trans c.self.invariant.kept.room c.make_room.ensures.grows) in
     let t = c.link.new.nodes in
     let u = c.insert_reserved.new.self in
-    let key = c.vacant_key-key.result in
-    let n : Node = record { pair = c.args.pair; by = c.args.by; antecedents = c.in_ok-antecedents.antecedents; dependents = c.take.result; place = c.len-place.result; mark = false; next = 0; lost = 0; at = c.in_ok-at.at } in
+    let key = c.in-Ok.key in
+    let n : Node = record { pair = c.args.pair; by = c.args.by; antecedents = c.in_ok-antecedents.antecedents; dependents = c.take.result; place = c.len-place.result; mark = false; next = 0; lost = 0; slot = 0; at = c.in_ok-at.at } in
     let place : c.len-place.result ≡ length keys = c.len-place.ensures ∙ c.self.inside.log.ok.0 in
-    let same : c.insert_reserved.result ≡ key = c.insert_reserved.ensures.key ∙ c.link.ensures.room.vacant_key ∙ c.make_room.ensures.vacant_key ∙ sym c.vacant_key-key.ensures.value in
+    let same : c.insert_reserved.result ≡ key = c.insert_reserved.ensures.key ∙ c.link.ensures.room.vacant_key ∙ c.make_room.ensures.vacant_key ∙ sym c.vacant_key.ensures.value ∙ sym c.in-Ok.ensures.1 in
     let linked : HasLinked (graph_of s) (graph_of t) n.antecedents.items key =
     subst (λ ks. HasLinked (graph_of s) (graph_of t) ks key) c.deref-3.ensures.value (subst (λ h. HasLinked h (graph_of t) c.deref-3.result.now key) c.make_room.ensures.graph c.link.ensures.linked) in
     let free : get t key ≡ None = subst (λ k. get t k ≡ None) same c.insert_reserved.ensures.was_vacant in
@@ -109,6 +112,8 @@ invariant_of-self-2 c =
       threaded = threaded_entered s t u keys c.put_key.new.rows.items spares key n c.args.reasons.now more (rw (← c.self.view_is) at c.requires.fresh) (rw (← c.self.view_is) at c.requires.earlier) c.in_ok-antecedents.ensures.reasons c.in_ok-antecedents.ensures.keys c.in_ok-put_key.ensures.there linked (c.link.ensures.marks ∙ c.make_room.ensures.marks) free updates c.take.ensures place refl wide
           c.self.inside.threads c.push.new.self c.self.invariant.threaded c.push.ensures.formed c.in_ok-at.ensures.added c.push.ensures.others;
       flagged = subst (AreFlagged c.put_key.new.rows.items) (sym c.make_room.ensures.restored) (flags_like c.self.inside.rows.items c.self.inside.restored.items c.self.invariant.flagged c.put_key.new.rows.items c.put_key.ensures.flags);
+      fits = subst (λ ks. length ks ≤ vec_capacity c.make_room.new.losing) (sym pushed)
+          (let more = length-append keys (key ∷ []) in let room = subst (λ l. length l + 1 ≤ vec_capacity c.make_room.new.losing) c.make_room.ensures.log c.in_ok-make_room.ensures.fits in omega (arith, more, room));
     }
 
 pub returns-clause-ok : goal.returns-clause-ok
@@ -120,10 +125,10 @@ returns-clause-ok c =
     let more = kept_like s s keys c.put_key.new.rows.items (vec_capacity c.self.inside.restored) spares rows refl refl (le_trans c.self.invariant.kept.room c.make_room.ensures.grows) in
     let t = c.link.new.nodes in
     let u = c.insert_reserved.new.self in
-    let key = c.vacant_key-key.result in
-    let n : Node = record { pair = c.args.pair; by = c.args.by; antecedents = c.in_ok-antecedents.antecedents; dependents = c.take.result; place = c.len-place.result; mark = false; next = 0; lost = 0; at = c.in_ok-at.at } in
+    let key = c.in-Ok.key in
+    let n : Node = record { pair = c.args.pair; by = c.args.by; antecedents = c.in_ok-antecedents.antecedents; dependents = c.take.result; place = c.len-place.result; mark = false; next = 0; lost = 0; slot = 0; at = c.in_ok-at.at } in
     let place : c.len-place.result ≡ length keys = c.len-place.ensures ∙ c.self.inside.log.ok.0 in
-    let same : c.insert_reserved.result ≡ key = c.insert_reserved.ensures.key ∙ c.link.ensures.room.vacant_key ∙ c.make_room.ensures.vacant_key ∙ sym c.vacant_key-key.ensures.value in
+    let same : c.insert_reserved.result ≡ key = c.insert_reserved.ensures.key ∙ c.link.ensures.room.vacant_key ∙ c.make_room.ensures.vacant_key ∙ sym c.vacant_key.ensures.value ∙ sym c.in-Ok.ensures.1 in
     let linked : HasLinked (graph_of s) (graph_of t) n.antecedents.items key =
     subst (λ ks. HasLinked (graph_of s) (graph_of t) ks key) c.deref-3.ensures.value (subst (λ h. HasLinked h (graph_of t) c.deref-3.result.now key) c.make_room.ensures.graph c.link.ensures.linked) in
     let free : get t key ≡ None = subst (λ k. get t k ≡ None) same c.insert_reserved.ensures.was_vacant in

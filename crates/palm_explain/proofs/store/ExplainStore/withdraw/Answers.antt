@@ -1,17 +1,18 @@
-use Rattle.std.proofs.Common.{◌≡◌, ◌⊎◌, true, ◌∷◌, [], length, vec_capacity, inl, inr, sym, ap, ◌∙◌, subst, arith, Contains}
+use Rattle.std.proofs.Common.{◌≡◌, ◌⊎◌, ℕ, true, ◌∷◌, [], length, vec_capacity, inl, inr, sym, ap, ◌∙◌, subst, arith, Contains}
 use Rattle.palm_base.proofs.cited.Members.{member_nil}
 use Rattle.palm_model.specs.Constraint.{Distinct}
 use Rattle.palm_model.specs.Event.{lost_pairs, vars_of}
 use Rattle.palm_model.specs.Log.{Loses}
 use Rattle.palm_explain.specs.Explanations.{Explanations}
-use Rattle.palm_explain.specs.Graph.{IsBy, IsGraph, IsPlaced, graph_of, log_of, marks_of}
+use Rattle.palm_explain.specs.Counts.{AreNoted}
+use Rattle.palm_explain.specs.Graph.{IsAntecedent, IsBy, IsGraph, IsPlaced, graph_of, log_of, marks_of}
 use Rattle.palm_explain.specs.Lost.{lost_of}
 use Rattle.palm_explain.specs.Threads.{AreThreaded}
 use Rattle.palm_explain.proofs.Chains.{mark_key}
 use Rattle.palm_explain.proofs.ClosedUp.{forgotten_earliest, forgotten_placed}
 use Rattle.palm_explain.proofs.Dropping.{forgotten_on}
 use Rattle.palm_explain.proofs.Flags.{keys_then}
-use Rattle.palm_explain.proofs.Stores.{kept_with_keys, kept_withdrawn, lacks_withdrawn, loses_withdrawn, threaded_withdrawn, vars_withdrawn}
+use Rattle.palm_explain.proofs.Stores.{kept_with_keys, kept_withdrawn, left_short, lacks_withdrawn, loses_withdrawn, threaded_withdrawn, vars_withdrawn}
 use Rattle.palm_explain.proofs.ThreadKeys.{taken_sound, taken_whole, threaded_taken}
 use Rattle.palm_explain.proofs.store.ExplainStore.withdraw.Goals as goal
 
@@ -39,14 +40,25 @@ pub count_lost-requires-clause-graph : goal.count_lost-requires-clause-graph
 count_lost-requires-clause-graph c =
     rw (← c.as_slice-log.ensures.value) at (subst (λ g. IsGraph g c.self.inside.log.items) (sym (c.forget_threads.ensures.graph ∙ c.mark_lost-count.ensures.graph)) c.self.invariant.kept.graph)
 
-pub forget_marked-requires-clause-graph : goal.forget_marked-requires-clause-graph
-forget_marked-requires-clause-graph c =
+pub count_lost-requires-clause-room : goal.count_lost-requires-clause-room
+count_lost-requires-clause-room c = let long = ap length c.as_slice-log.ensures.value in omega (arith, long, c.self.invariant.fits, c.clear.ensures.capacity)
+
+pub forget_lost-requires-clause-graph : goal.forget_lost-requires-clause-graph
+forget_lost-requires-clause-graph c =
     rw (← c.as_slice-log.ensures.value) at (subst (λ g. IsGraph g c.self.inside.log.items) (sym (c.count_lost.ensures.graph ∙ c.forget_threads.ensures.graph ∙ c.mark_lost-count.ensures.graph)) c.self.invariant.kept.graph)
+
+pub forget_lost-requires-clause-noted : goal.forget_lost-requires-clause-noted
+forget_lost-requires-clause-noted c = subst (AreNoted c.count_lost.new.nodes) (sym c.deref-3.ensures.value) c.count_lost.ensures.noted
+
+pub forget_lost-requires-clause-whole : goal.forget_lost-requires-clause-whole
+forget_lost-requires-clause-whole c k d free gone rests =
+    let marks : (j : ℕ) → marks_of c.forget_threads.new.nodes j ≡ marks_of c.count_lost.new.nodes j = λ j. sym (ap (λ q. q j) c.count_lost.ensures.marks) in
+    subst (λ l. Contains l k) (sym c.deref-3.ensures.value) (c.count_lost.ensures.whole k d (marks k ∙ free) (marks d ∙ gone) (subst (λ g. IsAntecedent g k d) c.count_lost.ensures.graph rests))
 
 pub close_up-requires-clause-places : goal.close_up-requires-clause-places
 close_up-requires-clause-places c =
-    forgotten_placed (graph_of c.mark_lost-count.new.nodes) (graph_of c.forget_marked.new.nodes) c.self.inside.log.items _
-    (subst (λ g. IsPlaced g c.self.inside.log.items) (sym c.mark_lost-count.ensures.graph) c.self.invariant.kept.graph.places) (forgotten_on c.mark_lost-count.new.nodes c.count_lost.new.nodes c.forget_marked.new.nodes (c.count_lost.ensures.graph ∙ c.forget_threads.ensures.graph) (c.count_lost.ensures.marks ∙ c.forget_threads.ensures.marks) c.forget_marked.ensures.forgotten)
+    forgotten_placed (graph_of c.mark_lost-count.new.nodes) (graph_of c.forget_lost.new.nodes) c.self.inside.log.items _
+    (subst (λ g. IsPlaced g c.self.inside.log.items) (sym c.mark_lost-count.ensures.graph) c.self.invariant.kept.graph.places) (forgotten_on c.mark_lost-count.new.nodes c.count_lost.new.nodes c.forget_lost.new.nodes (c.count_lost.ensures.graph ∙ c.forget_threads.ensures.graph) (c.count_lost.ensures.marks ∙ c.forget_threads.ensures.marks) c.forget_lost.ensures.forgotten)
 
 pub close_up-requires-clause-within : goal.close_up-requires-clause-within
 close_up-requires-clause-within c = rw c.as_slice-log.ensures.value at c.put_back-start.ensures.within
@@ -54,8 +66,8 @@ close_up-requires-clause-within c = rw c.as_slice-log.ensures.value at c.put_bac
 pub close_up-requires-clause-earliest : goal.close_up-requires-clause-earliest
 close_up-requires-clause-earliest c k m mark at =
     let s = c.mark_lost-count.new.nodes in
-    let marked : marks_of s k ≡ true = sym (ap (λ q. q k) (c.forget_marked.ensures.marks ∙ c.count_lost.ensures.marks ∙ c.forget_threads.ensures.marks)) ∙ mark in
-    forgotten_earliest (graph_of s) (graph_of c.forget_marked.new.nodes) _ c.put_back-start.result k m (forgotten_on c.mark_lost-count.new.nodes c.count_lost.new.nodes c.forget_marked.new.nodes (c.count_lost.ensures.graph ∙ c.forget_threads.ensures.graph) (c.count_lost.ensures.marks ∙ c.forget_threads.ensures.marks) c.forget_marked.ensures.forgotten) (λ l is. c.put_back-start.ensures.earliest k l marked is) (mark_key s k marked) at
+    let marked : marks_of s k ≡ true = sym (ap (λ q. q k) (c.forget_lost.ensures.marks ∙ c.count_lost.ensures.marks ∙ c.forget_threads.ensures.marks)) ∙ mark in
+    forgotten_earliest (graph_of s) (graph_of c.forget_lost.new.nodes) _ c.put_back-start.result k m (forgotten_on c.mark_lost-count.new.nodes c.count_lost.new.nodes c.forget_lost.new.nodes (c.count_lost.ensures.graph ∙ c.forget_threads.ensures.graph) (c.count_lost.ensures.marks ∙ c.forget_threads.ensures.marks) c.forget_lost.ensures.forgotten) (λ l is. c.put_back-start.ensures.earliest k l marked is) (mark_key s k marked) at
 
 pub invariant_of-self : goal.invariant_of-self
 invariant_of-self c =
@@ -68,15 +80,20 @@ invariant_of-self c =
     let forgot = c.forget_threads.ensures.forgotten (subst (λ g. AreThreaded c.take-own.new.self g (IsBy g c.args.cid)) (sym graph) taken) in
     record {
       kept = kept_with_keys c.close_up.new.nodes c.close_up.new.log.items c.self.inside.rows.items c.put_back-start.new.rows.items (vec_capacity c.put_back-start.new.restored)
-          (kept_withdrawn c.self.inside.nodes c.mark_lost-count.new.nodes c.forget_marked.new.nodes c.close_up.new.nodes c.self.inside.log.items c.close_up.new.log.items c.self.inside.rows.items (vec_capacity c.self.inside.restored) (vec_capacity c.put_back-start.new.restored) c.args.cid c.self.invariant.kept
-          c.mark_lost-count.ensures.graph told (forgotten_on c.mark_lost-count.new.nodes c.count_lost.new.nodes c.forget_marked.new.nodes (c.count_lost.ensures.graph ∙ c.forget_threads.ensures.graph) (c.count_lost.ensures.marks ∙ c.forget_threads.ensures.marks) c.forget_marked.ensures.forgotten) (c.forget_marked.ensures.marks ∙ c.count_lost.ensures.marks ∙ c.forget_threads.ensures.marks) c.close_up.ensures.closed c.close_up.ensures.unmarked
+          (kept_withdrawn c.self.inside.nodes c.mark_lost-count.new.nodes c.forget_lost.new.nodes c.close_up.new.nodes c.self.inside.log.items c.close_up.new.log.items c.self.inside.rows.items (vec_capacity c.self.inside.restored) (vec_capacity c.put_back-start.new.restored) c.args.cid c.self.invariant.kept
+          c.mark_lost-count.ensures.graph told (forgotten_on c.mark_lost-count.new.nodes c.count_lost.new.nodes c.forget_lost.new.nodes (c.count_lost.ensures.graph ∙ c.forget_threads.ensures.graph) (c.count_lost.ensures.marks ∙ c.forget_threads.ensures.marks) c.forget_lost.ensures.forgotten) (c.forget_lost.ensures.marks ∙ c.count_lost.ensures.marks ∙ c.forget_threads.ensures.marks) c.close_up.ensures.closed c.close_up.ensures.unmarked
           (omega (arith, c.self.invariant.kept.room, c.empty_out.ensures.room, c.put_back-start.ensures.room)))
           (keys_then c.self.inside.rows.items c.empty_out.new.rows.items c.put_back-start.new.rows.items c.empty_out.ensures.keys c.put_back-start.ensures.keys);
-      threaded = threaded_withdrawn c.self.inside.nodes c.mark_lost-count.new.nodes c.forget_marked.new.nodes c.close_up.new.nodes c.self.inside.log.items c.close_up.new.log.items c.self.inside.rows.items (vec_capacity c.self.inside.restored) (vec_capacity c.put_back-start.new.restored) c.args.cid c.self.invariant.kept
-          c.mark_lost-count.ensures.graph told (forgotten_on c.mark_lost-count.new.nodes c.count_lost.new.nodes c.forget_marked.new.nodes (c.count_lost.ensures.graph ∙ c.forget_threads.ensures.graph) (c.count_lost.ensures.marks ∙ c.forget_threads.ensures.marks) c.forget_marked.ensures.forgotten) (c.forget_marked.ensures.marks ∙ c.count_lost.ensures.marks ∙ c.forget_threads.ensures.marks) c.close_up.ensures.closed c.close_up.ensures.unmarked
+      threaded = threaded_withdrawn c.self.inside.nodes c.mark_lost-count.new.nodes c.forget_lost.new.nodes c.close_up.new.nodes c.self.inside.log.items c.close_up.new.log.items c.self.inside.rows.items (vec_capacity c.self.inside.restored) (vec_capacity c.put_back-start.new.restored) c.args.cid c.self.invariant.kept
+          c.mark_lost-count.ensures.graph told (forgotten_on c.mark_lost-count.new.nodes c.count_lost.new.nodes c.forget_lost.new.nodes (c.count_lost.ensures.graph ∙ c.forget_threads.ensures.graph) (c.count_lost.ensures.marks ∙ c.forget_threads.ensures.marks) c.forget_lost.ensures.forgotten) (c.forget_lost.ensures.marks ∙ c.count_lost.ensures.marks ∙ c.forget_threads.ensures.marks) c.close_up.ensures.closed c.close_up.ensures.unmarked
           (omega (arith, c.self.invariant.kept.room, c.empty_out.ensures.room, c.put_back-start.ensures.room))
           c.forget_threads.new.threads (subst (λ g. AreThreaded c.forget_threads.new.threads g (λ k. IsBy g c.args.cid k ⊎ (marks_of c.mark_lost-count.new.nodes k ≡ true))) graph forgot);
       flagged = c.put_back-start.ensures.flags;
+      fits =
+          let short = left_short c.self.inside.nodes c.mark_lost-count.new.nodes c.forget_lost.new.nodes c.close_up.new.nodes c.self.inside.log.items c.close_up.new.log.items c.self.inside.rows.items (vec_capacity c.self.inside.restored) (vec_capacity c.put_back-start.new.restored) c.args.cid c.self.invariant.kept
+          c.mark_lost-count.ensures.graph told (forgotten_on c.mark_lost-count.new.nodes c.count_lost.new.nodes c.forget_lost.new.nodes (c.count_lost.ensures.graph ∙ c.forget_threads.ensures.graph) (c.count_lost.ensures.marks ∙ c.forget_threads.ensures.marks) c.forget_lost.ensures.forgotten) (c.forget_lost.ensures.marks ∙ c.count_lost.ensures.marks ∙ c.forget_threads.ensures.marks) c.close_up.ensures.closed c.close_up.ensures.unmarked
+          (omega (arith, c.self.invariant.kept.room, c.empty_out.ensures.room, c.put_back-start.ensures.room)) in
+          omega (arith, short, c.self.invariant.fits, c.clear.ensures.capacity, c.count_lost.ensures.room);
     }
 
 pub returns-clause-loses : goal.returns-clause-loses
@@ -86,8 +103,8 @@ returns-clause-loses c =
     rw c.as_slice-log.ensures.value at (c.mark_lost-count.ensures.told c.args.cid (taken_sound c.self.inside.threads (graph_of c.self.inside.nodes) c.args.cid c.deref-2.result.now c.self.invariant.threaded is)
     (taken_whole c.self.inside.threads (graph_of c.self.inside.nodes) c.args.cid c.deref-2.result.now c.self.invariant.threaded is)) in
     subst (λ (v : Explanations). Loses v.log (c.args.cid ∷ []) v.log (log_of (graph_of c.close_up.new.nodes) c.close_up.new.log.items)) c.self.view_is
-    (loses_withdrawn c.self.inside.nodes c.mark_lost-count.new.nodes c.forget_marked.new.nodes c.close_up.new.nodes c.self.inside.log.items c.close_up.new.log.items c.self.inside.rows.items (vec_capacity c.self.inside.restored) (vec_capacity c.put_back-start.new.restored) c.args.cid c.self.invariant.kept
-    c.mark_lost-count.ensures.graph told (forgotten_on c.mark_lost-count.new.nodes c.count_lost.new.nodes c.forget_marked.new.nodes (c.count_lost.ensures.graph ∙ c.forget_threads.ensures.graph) (c.count_lost.ensures.marks ∙ c.forget_threads.ensures.marks) c.forget_marked.ensures.forgotten) (c.forget_marked.ensures.marks ∙ c.count_lost.ensures.marks ∙ c.forget_threads.ensures.marks) c.close_up.ensures.closed c.close_up.ensures.unmarked
+    (loses_withdrawn c.self.inside.nodes c.mark_lost-count.new.nodes c.forget_lost.new.nodes c.close_up.new.nodes c.self.inside.log.items c.close_up.new.log.items c.self.inside.rows.items (vec_capacity c.self.inside.restored) (vec_capacity c.put_back-start.new.restored) c.args.cid c.self.invariant.kept
+    c.mark_lost-count.ensures.graph told (forgotten_on c.mark_lost-count.new.nodes c.count_lost.new.nodes c.forget_lost.new.nodes (c.count_lost.ensures.graph ∙ c.forget_threads.ensures.graph) (c.count_lost.ensures.marks ∙ c.forget_threads.ensures.marks) c.forget_lost.ensures.forgotten) (c.forget_lost.ensures.marks ∙ c.count_lost.ensures.marks ∙ c.forget_threads.ensures.marks) c.close_up.ensures.closed c.close_up.ensures.unmarked
     (omega (arith, c.self.invariant.kept.room, c.empty_out.ensures.room, c.put_back-start.ensures.room)))
 
 pub returns-clause-lacks : goal.returns-clause-lacks
@@ -96,8 +113,8 @@ returns-clause-lacks c =
     let told =
     rw c.as_slice-log.ensures.value at (c.mark_lost-count.ensures.told c.args.cid (taken_sound c.self.inside.threads (graph_of c.self.inside.nodes) c.args.cid c.deref-2.result.now c.self.invariant.threaded is)
     (taken_whole c.self.inside.threads (graph_of c.self.inside.nodes) c.args.cid c.deref-2.result.now c.self.invariant.threaded is)) in
-    lacks_withdrawn c.self.inside.nodes c.mark_lost-count.new.nodes c.forget_marked.new.nodes c.close_up.new.nodes c.self.inside.log.items c.close_up.new.log.items c.self.inside.rows.items (vec_capacity c.self.inside.restored) (vec_capacity c.put_back-start.new.restored) c.args.cid c.self.invariant.kept
-    c.mark_lost-count.ensures.graph told (forgotten_on c.mark_lost-count.new.nodes c.count_lost.new.nodes c.forget_marked.new.nodes (c.count_lost.ensures.graph ∙ c.forget_threads.ensures.graph) (c.count_lost.ensures.marks ∙ c.forget_threads.ensures.marks) c.forget_marked.ensures.forgotten) (c.forget_marked.ensures.marks ∙ c.count_lost.ensures.marks ∙ c.forget_threads.ensures.marks) c.close_up.ensures.closed c.close_up.ensures.unmarked
+    lacks_withdrawn c.self.inside.nodes c.mark_lost-count.new.nodes c.forget_lost.new.nodes c.close_up.new.nodes c.self.inside.log.items c.close_up.new.log.items c.self.inside.rows.items (vec_capacity c.self.inside.restored) (vec_capacity c.put_back-start.new.restored) c.args.cid c.self.invariant.kept
+    c.mark_lost-count.ensures.graph told (forgotten_on c.mark_lost-count.new.nodes c.count_lost.new.nodes c.forget_lost.new.nodes (c.count_lost.ensures.graph ∙ c.forget_threads.ensures.graph) (c.count_lost.ensures.marks ∙ c.forget_threads.ensures.marks) c.forget_lost.ensures.forgotten) (c.forget_lost.ensures.marks ∙ c.count_lost.ensures.marks ∙ c.forget_threads.ensures.marks) c.close_up.ensures.closed c.close_up.ensures.unmarked
     (omega (arith, c.self.invariant.kept.room, c.empty_out.ensures.room, c.put_back-start.ensures.room))
     c.args.store.now c.put_back-start.new.store (rw (← c.self.view_is) at c.requires.lacks) (rw c.as_slice-log.ensures.value at c.put_back-start.ensures.back) c.put_back-start.ensures.ascend.1 c.put_back-start.ensures.ascend.0
 
@@ -116,6 +133,6 @@ returns-clause-restored c x =
     (taken_whole c.self.inside.threads (graph_of c.self.inside.nodes) c.args.cid c.deref-2.result.now c.self.invariant.threaded is)) in
     subst (λ (v : Explanations). (Contains keys x → Contains (vars_of (lost_pairs v.log (log_of (graph_of c.close_up.new.nodes) c.close_up.new.log.items))) x)
     × (Contains (vars_of (lost_pairs v.log (log_of (graph_of c.close_up.new.nodes) c.close_up.new.log.items))) x → Contains keys x)) c.self.view_is
-    (vars_withdrawn c.self.inside.nodes c.mark_lost-count.new.nodes c.forget_marked.new.nodes c.close_up.new.nodes c.self.inside.log.items c.close_up.new.log.items c.self.inside.rows.items (vec_capacity c.self.inside.restored) (vec_capacity c.put_back-start.new.restored) c.args.cid c.self.invariant.kept
-    c.mark_lost-count.ensures.graph told (forgotten_on c.mark_lost-count.new.nodes c.count_lost.new.nodes c.forget_marked.new.nodes (c.count_lost.ensures.graph ∙ c.forget_threads.ensures.graph) (c.count_lost.ensures.marks ∙ c.forget_threads.ensures.marks) c.forget_marked.ensures.forgotten) (c.forget_marked.ensures.marks ∙ c.count_lost.ensures.marks ∙ c.forget_threads.ensures.marks) c.close_up.ensures.closed c.close_up.ensures.unmarked
+    (vars_withdrawn c.self.inside.nodes c.mark_lost-count.new.nodes c.forget_lost.new.nodes c.close_up.new.nodes c.self.inside.log.items c.close_up.new.log.items c.self.inside.rows.items (vec_capacity c.self.inside.restored) (vec_capacity c.put_back-start.new.restored) c.args.cid c.self.invariant.kept
+    c.mark_lost-count.ensures.graph told (forgotten_on c.mark_lost-count.new.nodes c.count_lost.new.nodes c.forget_lost.new.nodes (c.count_lost.ensures.graph ∙ c.forget_threads.ensures.graph) (c.count_lost.ensures.marks ∙ c.forget_threads.ensures.marks) c.forget_lost.ensures.forgotten) (c.forget_lost.ensures.marks ∙ c.count_lost.ensures.marks ∙ c.forget_threads.ensures.marks) c.close_up.ensures.closed c.close_up.ensures.unmarked
     (omega (arith, c.self.invariant.kept.room, c.empty_out.ensures.room, c.put_back-start.ensures.room)) keys x (λ m. elim (noted.0 m) [ inl none ↦ absurd (member_nil x none) | inr n ↦ n ], λ m. noted.1 (inr m)))

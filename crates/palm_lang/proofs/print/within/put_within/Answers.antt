@@ -1,6 +1,6 @@
 use Rattle.std.proofs.Common.{◌++◌, codes, ap, refl}
 use Rattle.std.proofs.lemmas.List.{append-nil}
-use Rattle.palm_read.specs.Interval.{values_text}
+use Rattle.palm_read.specs.Domain.{domain_text}
 use Rattle.palm_lang.proofs.PrintLemmas.{Keeps-more, Puts-kept, Puts-more}
 use Rattle.palm_lang.proofs.print.within.put_within.Goals as goal
 
@@ -10,5 +10,5 @@ returns-in_err-put_text c =
 
 pub returns : goal.returns
 returns c =
-    Puts-more c.args.out.now.items c.put_name.new.out.items c.put_values.new.out.items _ _ _ c.put_values.result c.in_ok-put_name.ensures refl
-    (Puts-more c.put_name.new.out.items c.put_text.new.out.items c.put_values.new.out.items _ _ _ c.put_values.result c.in_ok-put_text.ensures (ap (λ t. codes " in " ++ t) (append-nil (values_text c.args.values.now))) c.put_values.ensures)
+    Puts-more c.args.out.now.items c.put_name.new.out.items c.put_domain.new.out.items _ _ _ c.put_domain.result c.in_ok-put_name.ensures refl
+    (Puts-more c.put_name.new.out.items c.put_text.new.out.items c.put_domain.new.out.items _ _ _ c.put_domain.result c.in_ok-put_text.ensures (ap (λ t. codes " in " ++ t) (append-nil (domain_text c.args.domain.now))) c.put_domain.ensures)

@@ -1,6 +1,6 @@
 use Rattle.std.proofs.Common.{Any, inl, inr, refl, rules, subst}
 use Rattle.palm_base.proofs.cited.Telling.{tells_false, tells_true}
-use Rattle.palm_read.specs.Limits.{names_of}
+use Rattle.palm_read.specs.Limits.{HasManyRows, names_of}
 use Rattle.palm_read.specs.declared.line.Line.TheVariants.{Add}
 use Rattle.palm_book.specs.Book.{Contents, HasConstraint}
 use Rattle.palm_book.specs.Named.{IsUnknownName, Resolves}
@@ -15,6 +15,15 @@ returns-in-Err-UnknownName g c =
     let free = subst (λ (b : Contents). HasConstraint b c.args.name → ⊥) c.book.ensures (tells_false _ c.has_constraint.result c.has_constraint.ensures c.if-has_constraint.false) in
     let none : Any (IsUnknownName c.book-2.result.now.variables) (names_of c.args.shape) = search rules in
     name_unknown s line free (subst (λ (b : Contents). Any (IsUnknownName b.variables) (names_of c.args.shape)) c.book-2.ensures none)
+
+pub returns-in-Err-TooLarge : goal.returns-in-Err-TooLarge
+returns-in-Err-TooLarge g c =
+    let s = c.args.self.now.state in
+    let line = Add c.args.name c.args.shape in
+    let free = subst (λ (b : Contents). HasConstraint b c.args.name → ⊥) c.book.ensures (tells_false _ c.has_constraint.result c.has_constraint.ensures c.if-has_constraint.false) in
+    let large : HasManyRows c.args.shape × (Any (IsUnknownName c.book-2.result.now.variables) (names_of c.args.shape) → ⊥) = search rules in
+    let all = subst (λ (b : Contents). Any (IsUnknownName b.variables) (names_of c.args.shape) → ⊥) c.book-2.ensures large.1 in
+    is_over s line free all (λ h. h) (inl (inr large.0))
 
 pub returns-then-is_beyond : goal.returns-then-is_beyond
 returns-then-is_beyond g c =

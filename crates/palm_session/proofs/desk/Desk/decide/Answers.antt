@@ -1,13 +1,19 @@
 use Rattle.std.proofs.Common.{◌-◌, Option}
+use Rattle.palm_base.specs.First.{IsFirst}
 use Rattle.std.proofs.lemmas.Result.{IfOk-weaker, on_ok_weaker}
 use Rattle.palm_engine.specs.Following.{Hearing, OrderFollows}
+use Rattle.palm_read.specs.Reading.{IsRead, IsRefusedBy}
 use Rattle.palm_search.specs.Following.{GuideFollows, Moment}
 use Rattle.palm_session.specs.Answers.{Answers, refused}
 use Rattle.palm_session.specs.Asking.{Asks}
 use Rattle.palm_session.specs.Feeding.{Decides}
+use Rattle.palm_session.specs.Modes.{heard, misheard}
 use Rattle.palm_session.specs.ReplyText.{reply_text, IsRefusal}
+use Rattle.palm_session.specs.Refusals.{Meets, in_order}
+use Rattle.palm_session.specs.Requests.{IsAdmitted}
 use Rattle.palm_session.specs.Serving.{Takes}
 use Rattle.palm_session.proofs.Deciding.{answers_refusal, decides_refusal, decides_refused, decides_taken, on_ok, takes_answers, takes_asks}
+use Rattle.palm_session.proofs.InModes.{heard_held}
 use Rattle.palm_session.proofs.Led.{line_led, misread_led, refused_led}
 use Rattle.palm_session.proofs.cited.LawsOfAnswers.{read_admits}
 use Rattle.palm_session.proofs.desk.Desk.decide.Given as given
@@ -22,69 +28,102 @@ ordering g = OrderFollows g.O.Order.answers g.O.Order.hears g.O.Order.state
 
 pub take-requires-clause-admitted : goal.take-requires-clause-admitted
 take-requires-clause-admitted g c =
-    let admitted = rw c.in-Ok-2.is at c.in_ok-request-in-Ok.ensures in
-    read_admits c.args.self.now.state c.requires.held c.args.line.now c.in-Ok.line c.in-Ok-2.request c.in-Ok.ensures.read admitted
+    let s = c.args.self.now.state in
+    let line = c.in-Ok.line in
+    let read : IsRead s.mode c.args.line.now line = rw c.mode.ensures at c.in-Ok.ensures.read in
+    let there = rw c.in-Ok-2.is at c.in_ok-request-in-Ok.ensures in
+    let admitted : IsAdmitted (heard s line) line c.in-Ok-2.request = rw c.hear.ensures.state at there in
+    rw c.hear.ensures.state (read_admits s.mode (heard s line) (heard_held s line c.requires.held) c.args.line.now line c.in-Ok-2.request read admitted)
 
 pub returns-in-Ok-2-clause-answers : goal.returns-in-Ok-2-clause-answers
 returns-in-Ok-2-clause-answers g c =
     let s = c.args.self.now.state in
+    let line = c.in-Ok.line in
     let t = c.take.new.self.state in
     let asked = c.take.new.steps - c.args.steps.now in
-    let admitted = rw c.in-Ok-2.is at c.in_ok-request-in-Ok.ensures in
-    IfOk-weaker c.take.result (λ r. Takes s c.in-Ok-2.request t asked r) (λ r. Answers s c.args.line.now (reply_text t r.0) t)
-    (λ r taken. takes_answers s t c.args.line.now c.in-Ok.line c.in-Ok-2.request asked r c.in-Ok.ensures.read admitted taken) c.take.ensures.takes
+    let read : IsRead s.mode c.args.line.now line = rw c.mode.ensures at c.in-Ok.ensures.read in
+    let there = rw c.in-Ok-2.is at c.in_ok-request-in-Ok.ensures in
+    let admitted : IsAdmitted (heard s line) line c.in-Ok-2.request = rw c.hear.ensures.state at there in
+    IfOk-weaker c.take.result (λ r. Takes (heard s line) c.in-Ok-2.request t asked r) (λ r. Answers s c.args.line.now (reply_text t r.0) t)
+    (λ r taken. takes_answers s t c.args.line.now line c.in-Ok-2.request asked r read admitted taken) (rw c.hear.ensures.state at c.take.ensures.takes)
 
 pub returns-in-Ok-2-clause-asks : goal.returns-in-Ok-2-clause-asks
 returns-in-Ok-2-clause-asks g c =
     let s = c.args.self.now.state in
+    let line = c.in-Ok.line in
     let t = c.take.new.self.state in
     let asked = c.take.new.steps - c.args.steps.now in
-    let admitted = rw c.in-Ok-2.is at c.in_ok-request-in-Ok.ensures in
-    on_ok c.take.result (λ r. Takes s c.in-Ok-2.request t asked r) (Asks s c.args.line.now t asked)
-    (λ r taken. takes_asks s t c.args.line.now c.in-Ok.line c.in-Ok-2.request asked c.in-Ok.ensures.read admitted taken.asks) c.take.ensures.takes
+    let read : IsRead s.mode c.args.line.now line = rw c.mode.ensures at c.in-Ok.ensures.read in
+    let there = rw c.in-Ok-2.is at c.in_ok-request-in-Ok.ensures in
+    let admitted : IsAdmitted (heard s line) line c.in-Ok-2.request = rw c.hear.ensures.state at there in
+    on_ok c.take.result (λ r. Takes (heard s line) c.in-Ok-2.request t asked r) (Asks s c.args.line.now t asked)
+    (λ r taken. takes_asks s t c.args.line.now line c.in-Ok-2.request asked read admitted taken.asks) (rw c.hear.ensures.state at c.take.ensures.takes)
 
 pub returns-in-Ok-2-clause-going : goal.returns-in-Ok-2-clause-going
 returns-in-Ok-2-clause-going g c =
     let s = c.args.self.now.state in
+    let line = c.in-Ok.line in
     let t = c.take.new.self.state in
     let asked = c.take.new.steps - c.args.steps.now in
-    let admitted = rw c.in-Ok-2.is at c.in_ok-request-in-Ok.ensures in
-    IfOk-weaker c.take.result (λ r. Takes s c.in-Ok-2.request t asked r) (λ r. Decides r.1 c.args.line.now)
-    (λ r taken. decides_taken s r.1 c.args.line.now c.in-Ok.line c.in-Ok-2.request c.in-Ok.ensures.read admitted.requests taken.goes) c.take.ensures.takes
-
-pub returns-in-Err-2-clause-answers : goal.returns-in-Err-2-clause-answers
-returns-in-Err-2-clause-answers g c =
-    let first = rw c.in-Err-2.is at c.in_ok-request-in-Ok.ensures in
-    refused c.in-Ok.line c.in-Err-2.refusal c.in-Ok.ensures.read first
-
-pub returns-in-Err-2-clause-going : goal.returns-in-Err-2-clause-going
-returns-in-Err-2-clause-going g c =
-    let first = rw c.in-Err-2.is at c.in_ok-request-in-Ok.ensures in
-    decides_refused c.args.self.now.state c.args.line.now c.in-Ok.line c.in-Err-2.refusal c.in-Ok.ensures.read first
-
-pub returns-in-Err-clause-answers : goal.returns-in-Err-clause-answers
-returns-in-Err-clause-answers g c =
-    let s = c.args.self.now.state in
-    IfOk-weaker c.misread.result (IsRefusal c.in-Err.error) (λ r. Answers s c.args.line.now (reply_text s r.0) s)
-    (answers_refusal s c.args.line.now c.in-Err.error c.in-Err.ensures.read) c.misread.ensures
-
-pub returns-in-Err-clause-going : goal.returns-in-Err-clause-going
-returns-in-Err-clause-going g c =
-    IfOk-weaker c.misread.result (IsRefusal c.in-Err.error) (λ r. Decides r.1 c.args.line.now)
-    (decides_refusal c.args.line.now c.in-Err.error c.in-Err.ensures.read) c.misread.ensures
+    let read : IsRead s.mode c.args.line.now line = rw c.mode.ensures at c.in-Ok.ensures.read in
+    let there = rw c.in-Ok-2.is at c.in_ok-request-in-Ok.ensures in
+    let admitted : IsAdmitted (heard s line) line c.in-Ok-2.request = rw c.hear.ensures.state at there in
+    IfOk-weaker c.take.result (λ r. Takes (heard s line) c.in-Ok-2.request t asked r) (λ r. Decides r.1 c.args.line.now)
+    (λ r taken. decides_taken s.mode (heard s line) r.1 c.args.line.now line c.in-Ok-2.request read admitted.requests taken.goes) (rw c.hear.ensures.state at c.take.ensures.takes)
 
 pub returns-in-Ok-2-clause-led : goal.returns-in-Ok-2-clause-led
 returns-in-Ok-2-clause-led g c =
     let s = c.args.self.now in
+    let line = c.in-Ok.line in
     let t = c.take.new.self in
-    let admitted = rw c.in-Ok-2.is at c.in_ok-request-in-Ok.ensures in
-    on_ok_weaker c.take.result (line_led (guiding g) (ordering g) s.state c.args.line.now s.objects c.in-Ok.line c.in-Ok-2.request t.state t.objects c.in-Ok.ensures.read admitted) c.take.ensures.led
+    let read : IsRead s.state.mode c.args.line.now line = rw c.mode.ensures at c.in-Ok.ensures.read in
+    let there = rw c.in-Ok-2.is at c.in_ok-request-in-Ok.ensures in
+    let admitted : IsAdmitted (heard s.state line) line c.in-Ok-2.request = rw c.hear.ensures.state at there in
+    on_ok_weaker c.take.result (line_led (guiding g) (ordering g) s.state c.args.line.now s.objects line c.in-Ok-2.request t.state t.objects read admitted)
+    (rw (c.hear.ensures.state, c.hear.ensures.objects) at c.take.ensures.led)
+
+pub returns-in-Err-2-clause-answers : goal.returns-in-Err-2-clause-answers
+returns-in-Err-2-clause-answers g c =
+    let s = c.args.self.now.state in
+    let line = c.in-Ok.line in
+    let read : IsRead s.mode c.args.line.now line = rw c.mode.ensures at c.in-Ok.ensures.read in
+    let there = rw c.in-Err-2.is at c.in_ok-request-in-Ok.ensures in
+    let first : IsFirst (Meets (heard s line) line) in_order c.in-Err-2.refusal = rw c.hear.ensures.state at there in
+    rw c.hear.ensures.state (refused line c.in-Err-2.refusal read first)
+
+pub returns-in-Err-2-clause-going : goal.returns-in-Err-2-clause-going
+returns-in-Err-2-clause-going g c =
+    let s = c.args.self.now.state in
+    let line = c.in-Ok.line in
+    let read : IsRead s.mode c.args.line.now line = rw c.mode.ensures at c.in-Ok.ensures.read in
+    let there = rw c.in-Err-2.is at c.in_ok-request-in-Ok.ensures in
+    let first : IsFirst (Meets (heard s line) line) in_order c.in-Err-2.refusal = rw c.hear.ensures.state at there in
+    decides_refused s.mode (heard s line) c.args.line.now line c.in-Err-2.refusal read first
 
 pub returns-in-Err-2-clause-led : goal.returns-in-Err-2-clause-led
 returns-in-Err-2-clause-led g c =
-    let first = rw c.in-Err-2.is at c.in_ok-request-in-Ok.ensures in
-    refused_led (guiding g) (ordering g) c.args.self.now.state c.args.line.now c.args.self.now.objects c.in-Ok.line c.in-Err-2.refusal c.in-Ok.ensures.read first
+    let s = c.args.self.now.state in
+    let line = c.in-Ok.line in
+    let read : IsRead s.mode c.args.line.now line = rw c.mode.ensures at c.in-Ok.ensures.read in
+    let there = rw c.in-Err-2.is at c.in_ok-request-in-Ok.ensures in
+    let first : IsFirst (Meets (heard s line) line) in_order c.in-Err-2.refusal = rw c.hear.ensures.state at there in
+    rw (c.hear.ensures.state, c.hear.ensures.objects) (refused_led (guiding g) (ordering g) s c.args.line.now c.args.self.now.objects line c.in-Err-2.refusal read first)
+
+pub returns-in-Err-clause-answers : goal.returns-in-Err-clause-answers
+returns-in-Err-clause-answers g c =
+    let s = c.args.self.now.state in
+    let unread : IsRefusedBy s.mode c.args.line.now c.in-Err.error = rw c.mode.ensures at c.in-Err.ensures.read in
+    rw c.mishear.ensures.state (IfOk-weaker c.misread.result (IsRefusal c.in-Err.error) (λ r. Answers s c.args.line.now (reply_text (misheard s) r.0) (misheard s))
+    (answers_refusal s c.args.line.now c.in-Err.error unread) c.misread.ensures)
+
+pub returns-in-Err-clause-going : goal.returns-in-Err-clause-going
+returns-in-Err-clause-going g c =
+    let unread : IsRefusedBy c.args.self.now.state.mode c.args.line.now c.in-Err.error = rw c.mode.ensures at c.in-Err.ensures.read in
+    IfOk-weaker c.misread.result (IsRefusal c.in-Err.error) (λ r. Decides r.1 c.args.line.now)
+    (decides_refusal c.args.self.now.state.mode c.args.line.now c.in-Err.error unread) c.misread.ensures
 
 pub returns-in-Err-clause-led : goal.returns-in-Err-clause-led
 returns-in-Err-clause-led g c =
-    misread_led (guiding g) (ordering g) c.args.self.now.state c.args.line.now c.args.self.now.objects c.in-Err.error c.misread.result c.in-Err.ensures.read c.misread.ensures
+    let s = c.args.self.now.state in
+    let unread : IsRefusedBy s.mode c.args.line.now c.in-Err.error = rw c.mode.ensures at c.in-Err.ensures.read in
+    rw (c.mishear.ensures.state, c.mishear.ensures.objects) (misread_led (guiding g) (ordering g) s c.args.line.now c.args.self.now.objects c.in-Err.error c.misread.result unread c.misread.ensures)

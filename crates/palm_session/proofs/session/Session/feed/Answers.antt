@@ -12,7 +12,9 @@ returns-clause-led g c =
     let first = c.self.inside in
     let last = c.self-2.inside.desk in
     let result = c.feed_lines-result.result in
-    let led = subst (λ (v : View g.row.G.Denot g.row.O.Denot). IfOk result (FeedsLead guiding ordering first.desk.state (first.unfinished.items ++ c.args.piece.now) first.desk.objects v.state v.objects))
+    let was = (g.K.Sink.state c.args.out.now).written in
+    let now = (g.K.Sink.state c.feed_lines-result.new.out).written in
+    let led = subst (λ (v : View g.row.G.Denot g.row.O.Denot). IfOk result (FeedsLead guiding ordering first.desk.state (first.unfinished.items ++ c.args.piece.now) was now first.desk.objects v.state v.objects))
     (sym c.self-2.view_is) c.feed_lines-result.ensures.led in
-    subst (λ (v : View g.row.G.Denot g.row.O.Denot). IfOk result (FeedsLead guiding ordering v.state (v.unfinished ++ c.args.piece.now) v.objects last.state last.objects))
+    subst (λ (v : View g.row.G.Denot g.row.O.Denot). IfOk result (FeedsLead guiding ordering v.state (v.unfinished ++ c.args.piece.now) was now v.objects last.state last.objects))
     c.self.view_is led

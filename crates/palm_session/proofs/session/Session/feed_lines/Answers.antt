@@ -62,16 +62,16 @@ pub returns-in_default-clause-led : goal.returns-in_default-clause-led
 returns-in_default-clause-led g c =
     let unbroken : HasNoFeed c.args.piece.now = search rules in
     let d = c.self.inside.desk in
-    subst (λ (v : View g.row.G.Denot g.row.O.Denot). FeedsLead (guiding g) (ordering g) v.state (v.unfinished ++ c.args.piece.now) v.objects d.state d.objects More) c.self.view_is
-    (piece_leads (guiding g) (ordering g) d.state c.self.inside.unfinished.items c.args.piece.now d.objects c.self.invariant.unfinished.unbroken unbroken)
+    subst (λ (v : View g.row.G.Denot g.row.O.Denot). FeedsLead (guiding g) (ordering g) v.state (v.unfinished ++ c.args.piece.now) (g.K.Sink.state c.args.out.now).written (g.K.Sink.state c.args.out.now).written v.objects d.state d.objects More) c.self.view_is
+    (piece_leads (guiding g) (ordering g) d.state c.self.inside.unfinished.items c.args.piece.now (g.K.Sink.state c.args.out.now).written d.objects c.self.invariant.unfinished.unbroken unbroken)
 
 pub returns-in-Ok-More-clause-led : goal.returns-in-Ok-More-clause-led
 returns-in-Ok-More-clause-led g c =
     let one = rw (c.in-Ok-More.field-0-is, c.without_return-line.ensures, c.deref.ensures.value, c.in_ok-keep-2.ensures.ok) at c.in-Ok-More.ensures.answers in
     let led = rw (c.without_return-line.ensures, c.deref.ensures.value, c.in_ok-keep-2.ensures.ok) at c.in-Ok-More.ensures.led in
     let after = c.feed_text-in-Ok-More.new.self in
-    subst (λ (v : View g.row.G.Denot g.row.O.Denot). IfOk c.feed_text-in-Ok-More.result (FeedsLead (guiding g) (ordering g) v.state (v.unfinished ++ c.args.piece.now) v.objects after.state after.objects)) c.self.view_is
-    (first_leads_more (guiding g) (ordering g) c.self.inside.desk.state c.self.inside.unfinished.items c.args.piece.now c.in-Some.end c.self.invariant.unfinished.unbroken c.in-Some.ensures.found _ _ _ _ _ _ _ _ c.feed_text-in-Ok-More.result one led
+    subst (λ (v : View g.row.G.Denot g.row.O.Denot). IfOk c.feed_text-in-Ok-More.result (FeedsLead (guiding g) (ordering g) v.state (v.unfinished ++ c.args.piece.now) (g.K.Sink.state c.args.out.now).written (g.K.Sink.state c.feed_text-in-Ok-More.new.out).written v.objects after.state after.objects)) c.self.view_is
+    (first_leads_more (guiding g) (ordering g) c.self.inside.desk.state c.self.inside.unfinished.items c.args.piece.now c.in-Some.end c.self.invariant.unfinished.unbroken c.in-Some.ensures.found _ _ _ _ _ _ _ _ _ c.feed_text-in-Ok-More.result one led
     (rw (rest_whole (c.in-Some.end + 1) c.args.piece.now) at c.feed_text-in-Ok-More.ensures.led))
 
 pub returns-in-Ok-Quit-clause-led : goal.returns-in-Ok-Quit-clause-led
@@ -79,7 +79,7 @@ returns-in-Ok-Quit-clause-led g c =
     let one = rw (c.in-Ok-Quit.field-0-is, c.without_return-line.ensures, c.deref.ensures.value, c.in_ok-keep-2.ensures.ok) at c.in-Ok-Quit.ensures.answers in
     let led = rw (c.without_return-line.ensures, c.deref.ensures.value, c.in_ok-keep-2.ensures.ok) at c.in-Ok-Quit.ensures.led in
     let d = c.answer.new.self in
-    subst (λ (v : View g.row.G.Denot g.row.O.Denot). LinesLeadOut (guiding g) (ordering g) v.state (v.unfinished ++ c.args.piece.now) v.objects d.state d.objects) c.self.view_is
+    subst (λ (v : View g.row.G.Denot g.row.O.Denot). LinesLeadOut (guiding g) (ordering g) v.state (v.unfinished ++ c.args.piece.now) (g.K.Sink.state c.args.out.now).written (g.K.Sink.state c.answer.new.out).written v.objects d.state d.objects) c.self.view_is
     (first_leads_out (guiding g) (ordering g) c.self.inside.desk.state c.self.inside.unfinished.items c.args.piece.now c.in-Some.end c.self.invariant.unfinished.unbroken c.in-Some.ensures.found _ _ _ _ _ _ one led)
 
 pub returns-then-is_empty-clause-led : goal.returns-then-is_empty-clause-led
@@ -89,4 +89,4 @@ returns-then-is_empty-clause-led g c =
     let whole = subst (λ (v : View g.row.G.Denot g.row.O.Denot). c.args.piece.now ≡ v.unfinished ++ c.args.piece.now) c.self.view_is (ap (λ kept. kept ++ c.args.piece.now) (sym none)) in
     let before = c.args.self.now in
     let after = c.feed_text.new.self in
-    subst (λ (text : List ℕ). IfOk c.feed_text.result (FeedsLead (guiding g) (ordering g) before.state text before.objects after.state after.objects)) whole c.feed_text.ensures.led
+    subst (λ (text : List ℕ). IfOk c.feed_text.result (FeedsLead (guiding g) (ordering g) before.state text (g.K.Sink.state c.args.out.now).written (g.K.Sink.state c.feed_text.new.out).written before.objects after.state after.objects)) whole c.feed_text.ensures.led

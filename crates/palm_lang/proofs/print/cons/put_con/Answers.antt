@@ -2,7 +2,7 @@ use Rattle.std.proofs.Common.{◌<◌, length, All, subst}
 use Rattle.palm_model.specs.declared.constraint.Con.{Con}
 use Rattle.palm_model.specs.Constraint.{scope}
 use Rattle.palm_lang.proofs.PrintLemmas.{terms_declared}
-use Rattle.palm_lang.proofs.print.cons.put_said.Goals as goal
+use Rattle.palm_lang.proofs.print.cons.put_con.Goals as goal
 
 pub put_linear_con-requires : goal.put_linear_con-requires
 put_linear_con-requires c =

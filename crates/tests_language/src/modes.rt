@@ -1,0 +1,142 @@
+//! What each mode makes of a line: the header, the forms of version 2, and those of version 1.
+use palm_read::{Line, LineError, Mode, Shape, beyond, parse_line};
+use std::alloc::Global;
+use std::test::Fail;
+
+/// What a line is read as, as far as modes tell lines apart.
+#[derive(Clone, Copy, PartialEq, Eq)]
+enum Reading {
+    Refused(LineError),
+    Header,
+    /// A variable with a universe.
+    Universe,
+    /// A constraint on a domain.
+    Within,
+    /// One of the last two with too many values.
+    Beyond,
+    /// A line of version 1.
+    Older,
+}
+
+/// What the line is.
+fn tell(line: &Line) -> Reading {
+    match line {
+        Line::Header => Reading::Header,
+        Line::VarIn { .. } => if beyond(line) {
+            Reading::Beyond
+        } else {
+            Reading::Universe
+        },
+        Line::Add { shape, .. } => match shape {
+            Shape::Within { .. } => if beyond(line) {
+                Reading::Beyond
+            } else {
+                Reading::Within
+            },
+            _ => Reading::Older,
+        },
+        _ => Reading::Older,
+    }
+}
+
+/// What the text is read as in a mode.
+fn read(alloc: Global, text: &str, mode: Mode) -> Reading {
+    match parse_line(alloc, text.as_bytes(), mode) {
+        Ok(line) => tell(&line),
+        Err(cause) => Reading::Refused(cause),
+    }
+}
+
+/// Whether the text is read so in version 1, at the head of a text too, and so in version 2.
+fn differs(alloc: Global, text: &str, one: Reading, two: Reading) -> bool {
+    read(alloc, text, Mode::First) == one
+        && read(alloc, text, Mode::One) == one
+        && read(alloc, text, Mode::Two) == two
+}
+
+/// No such form.
+const UNKNOWN: Reading = Reading::Refused(LineError::Form);
+
+/// The header, and texts beside it that are none.
+const HEADERS: &[(&str, Reading)] = &[
+    ("palm 2", Reading::Header),
+    (" palm\t 2 ", Reading::Header),
+    ("palm 02", UNKNOWN),
+    ("palm 1", UNKNOWN),
+    ("palm -2", UNKNOWN),
+    ("palm 2 2", UNKNOWN),
+    ("palm2", UNKNOWN),
+    ("palm", UNKNOWN),
+];
+
+#[test]
+fn the_header_is_read_in_the_first_mode_alone(rt: HostRuntime) -> Result<(), Fail> {
+    for (text, first) in HEADERS {
+        assert!(rt; read(rt.alloc(), text, Mode::First) == *first);
+        assert!(rt; read(rt.alloc(), text, Mode::One) == UNKNOWN);
+        assert!(rt; read(rt.alloc(), text, Mode::Two) == UNKNOWN);
+    }
+    Ok(())
+}
+
+/// Lines of the forms of version 2, with what they are read as there. Version 1 knows none of the forms, whatever else is
+/// wrong with the line.
+const NEWER: &[(&str, Reading)] = &[
+    ("var x 0..5 in 1..3", Reading::Universe),
+    ("var x{5,1}in{3,1,9}", Reading::Universe),
+    ("var x 0..255 in -5..250", Reading::Universe),
+    ("var x 0..256 in 1..3", Reading::Beyond),
+    ("var x 1..3 in 0..256", Reading::Beyond),
+    (
+        "var x 0..5 in 0..1000001",
+        Reading::Refused(LineError::Range),
+    ),
+    ("var x {-1000001} in {}", Reading::Refused(LineError::Range)),
+    ("var x 5..0 in 1..3", Reading::Refused(LineError::Empty)),
+    ("var x 0..5 in {}", Reading::Refused(LineError::Empty)),
+    ("add a : x in 1..3", Reading::Within),
+    ("add a : x in{9,1}", Reading::Within),
+    ("add a : x in 0..256", Reading::Beyond),
+    (
+        "add a : x in 0..1000001",
+        Reading::Refused(LineError::Range),
+    ),
+    ("add a : x in {}", Reading::Refused(LineError::Empty)),
+    ("add a : x in 3..1", Reading::Refused(LineError::Empty)),
+];
+
+#[test]
+fn forms_of_version_2_are_unknown_in_version_1(rt: HostRuntime) -> Result<(), Fail> {
+    for (text, two) in NEWER {
+        assert!(rt; differs(rt.alloc(), text, UNKNOWN, *two));
+    }
+    Ok(())
+}
+
+/// Lines that are read the same in each mode, and texts that no mode knows.
+const SAME: &[(&str, Reading)] = &[
+    ("", Reading::Older),
+    ("var x 0..5", Reading::Older),
+    ("add a : x < y + 2", Reading::Older),
+    ("add a : x != 3", Reading::Older),
+    ("add a : differ x palm", Reading::Older),
+    ("relax palm", Reading::Older),
+    ("add a : x < x", Reading::Refused(LineError::Repeated)),
+    ("var x 5..0", Reading::Refused(LineError::Empty)),
+    ("step 0", Reading::Refused(LineError::Range)),
+    ("palm \u{1}", Reading::Refused(LineError::Bytes)),
+    ("var x 0..5 in", UNKNOWN),
+    ("var x in 1..3", UNKNOWN),
+    ("var x 0..5 in 1..3 in 2..3", UNKNOWN),
+    ("add a : x in 3", UNKNOWN),
+    ("add a : x y in 1..3", UNKNOWN),
+    ("add in : x < 3", UNKNOWN),
+];
+
+#[test]
+fn all_else_is_read_alike(rt: HostRuntime) -> Result<(), Fail> {
+    for (text, reading) in SAME {
+        assert!(rt; differs(rt.alloc(), text, *reading, *reading));
+    }
+    Ok(())
+}
