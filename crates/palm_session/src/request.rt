@@ -45,7 +45,10 @@ pub(crate) enum Request {
     /// Nothing, by the header, which sets the mode.
     Header,
     /// One more variable.
-    Declare { name: Name, domain: DomainText },
+    Declare {
+        name: Name,
+        domain: DomainText,
+    },
     /// One more variable, and under its name the constraint that it has one of these values.
     DeclareIn {
         name: Name,
@@ -53,7 +56,10 @@ pub(crate) enum Request {
         domain: DomainText,
     },
     /// One more constraint.
-    Add { name: Name, con: Con },
+    Add {
+        name: Name,
+        con: Con,
+    },
     /// That a constraint no longer holds, but stays in the book.
     Relax(usize),
     /// That a relaxed constraint holds again.

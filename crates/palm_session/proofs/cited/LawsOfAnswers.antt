@@ -563,8 +563,7 @@ answers_once s bytes a b t u unguided free is (misread d p x some) (refused line
 answers_once s bytes a b t u unguided free is (misread d p x some) (accepted line request read k h) = absurd (misread_unread s.mode bytes line d p read x some)
 answers_once s bytes a b t u unguided free is (refused line p read first) (misread e r y other) = absurd (misread_unread s.mode bytes line e r read y other)
 answers_once s bytes a b t u unguided free is (refused line p read first) (refused other r again second) =
-    let same : other ≡ line = one_reading s.mode s.mode bytes other line again read in
-    (
+    let same : other ≡ line = one_reading s.mode s.mode bytes other line again read in (
       ap refusal_text (first_once (Meets (heard s line) line) in_order p r first (subst (λ (z : Line). IsFirst (Meets (heard s z) z) in_order r) same second)),
       ap (λ (z : Line). heard s z) (sym same),
     )
