@@ -66,7 +66,7 @@ Writes before now piece result =
     (λ _. Appended before.written now.written [])
 
 -- it is the same sink, and where the answer is good, nothing of its own was left behind the bytes that was not before
-pub record Stands {T E : Type 0} (before now : SinkState) (result : Result T E) : Type 0 where
+pub record IsSameSink {T E : Type 0} (before now : SinkState) (result : Result T E) : Type 0 where
   pub same : now.home ≡ before.home
   pub ok : OnOk result (now.torn ≡ before.torn)
 

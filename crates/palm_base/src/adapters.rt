@@ -1,7 +1,7 @@
 //! The edge to the outside: any reader of std as a source, and any writer of std as a sink.
 ghost use Rattle.std.specs.Prelude.{◌≡◌, ◌<◌, length, take, IfOk, OnOk, None};
 ghost use Rattle.std.specs.Io.KnownBytes.{Appends, WriteAppends};
-ghost use Rattle.palm_base.specs.Streams.{HasCause, Reads, Stands, Writes, source, silent_sink};
+ghost use Rattle.palm_base.specs.Streams.{HasCause, Reads, IsSameSink, Writes, source, silent_sink};
 ghost use Rattle.palm_base.specs.Adapters.{Counted};
 
 use crate::counts::next_count;
@@ -80,7 +80,7 @@ impl<W: Write + Drop> Sink for StdSink<W> {
         requires { 0 < length piece.now }
         ensures cause { HasCause self.old.faults self.new.faults result }
         ensures bytes { Writes (silent_sink self.old.faults) (silent_sink self.new.faults) piece.now result }
-        ensures stands { Stands (silent_sink self.old.faults) (silent_sink self.new.faults) result }
+        ensures stands { IsSameSink (silent_sink self.old.faults) (silent_sink self.new.faults) result }
         ensures taken { IfOk result (λ n. Appends (W.contents self.old.inner) (W.contents self.new.inner) (take n piece.now)) }
     {
         let written = self.writer.write(piece);

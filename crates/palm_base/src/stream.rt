@@ -1,6 +1,6 @@
 //! Where bytes come from and where they go. Each stream counts its faults, and a failure has its cause in that count.
 ghost use Rattle.std.specs.Prelude.{◌<◌, length};
-ghost use Rattle.palm_base.specs.Streams.{SourceState, SinkState, HasCause, Reads, Stands, Writes};
+ghost use Rattle.palm_base.specs.Streams.{SourceState, SinkState, HasCause, Reads, IsSameSink, Writes};
 
 use crate::errors::Failed;
 
@@ -27,5 +27,5 @@ pub trait Sink {
         requires { 0 < length piece.now }
         ensures cause { HasCause (state self.old).faults (state self.new).faults result }
         ensures bytes { Writes (state self.old) (state self.new) piece.now result }
-        ensures stands { Stands (state self.old) (state self.new) result };
+        ensures stands { IsSameSink (state self.old) (state self.new) result };
 }

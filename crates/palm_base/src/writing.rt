@@ -1,5 +1,5 @@
 //! Writing whole texts to a sink.
-ghost use Rattle.palm_base.specs.Streams.{HasCause, Stands, WritesAll};
+ghost use Rattle.palm_base.specs.Streams.{HasCause, IsSameSink, WritesAll};
 
 use crate::errors::Failed;
 use crate::stream::Sink;
@@ -8,7 +8,7 @@ use crate::stream::Sink;
 pub fn write_all<K: Sink>(sink: &mut K, text: &[u8]) -> Result<(), Failed>
     ensures cause { HasCause (K.state sink.old).faults (K.state sink.new).faults result }
     ensures bytes { WritesAll (K.state sink.old) (K.state sink.new) text.now result }
-    ensures stands { Stands (K.state sink.old) (K.state sink.new) result }
+    ensures stands { IsSameSink (K.state sink.old) (K.state sink.new) result }
 {
     let mut rest = text;
     while !rest.is_empty() {

@@ -1,7 +1,6 @@
 //! Laws of the language. A text has lines in one way, a token is the longest that fits, a domain has the values that it
 //! writes, values are printed as one interval where they have no gap, no line has two forms, two readings or two refusals,
-//! a
-//! line that is printed reads back as it was, and version 1 stays as it is.
+//! a line that is printed reads back as it was, and version 1 stays as it is.
 ghost use Rattle.std.specs.Prelude.{◌≡◌, ◌≢◌, ◌⊎◌, ◌↔◌, ◌≤ℤ◌, ℕ, ℤ, pos, true, Some, List, [], ◌∷◌, All, Any, Contains, drop, flat_map, map};
 ghost use Rattle.palm_base.specs.Ascending.{Ascends};
 ghost use Rattle.palm_read.specs.declared.tokens.Token.{Token};

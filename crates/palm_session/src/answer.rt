@@ -1,6 +1,6 @@
 //! Answering one line.
 ghost use Rattle.std.specs.Prelude.{◌-◌, IfOk, OnOk};
-ghost use Rattle.palm_base.specs.Streams.{Stands};
+ghost use Rattle.palm_base.specs.Streams.{IsSameSink};
 ghost use Rattle.palm_engine.specs.Following.{OrderFollows};
 ghost use Rattle.palm_lang.specs.Writing.{IsCounted};
 ghost use Rattle.palm_search.specs.Following.{GuideFollows};
@@ -35,7 +35,7 @@ impl<G: Guide, O: Order> Desk<G, O> {
     ) -> Result<Going, Stop>
         requires { IsState self.old.state }
         ensures counted { IsCounted (K.state out.old).faults (K.state out.new).faults result }
-        ensures stands { Stands (K.state out.old) (K.state out.new) result }
+        ensures stands { IsSameSink (K.state out.old) (K.state out.new) result }
         ensures answers { AnswersTo self.old.state line.now (K.state out.old).written (K.state out.new).written self.new.state (steps.new - steps.old) result }
         ensures led { OnOk result (LineLeads (GuideFollows G.answers G.hears G.state) (OrderFollows O.answers O.hears O.state) self.old.state line.now self.old.objects self.new.state self.new.objects) }
         ensures spends { Spends self.old self.new steps.old steps.new }

@@ -1,6 +1,6 @@
 //! Sessions: bytes in, in any pieces; lines cut out of them; replies out.
 ghost use Rattle.std.specs.Prelude.{◌≡◌, ◌-◌, ◌≤◌, ◌++◌, [], true, false, IfOk, OnOk, take};
-ghost use Rattle.palm_base.specs.Streams.{Stands};
+ghost use Rattle.palm_base.specs.Streams.{IsSameSink};
 ghost use Rattle.palm_engine.specs.Following.{OrderFollows};
 ghost use Rattle.palm_lang.specs.Writing.{IsCounted};
 ghost use Rattle.palm_search.specs.Following.{GuideFollows};
@@ -109,7 +109,7 @@ impl<G: Guide, O: Order> Session<G, O> {
     ) -> Result<Going, Stop>
         requires { self.old.over ≡ false }
         ensures counted { IsCounted (K.state out.old).faults (K.state out.new).faults result }
-        ensures stands { Stands (K.state out.old) (K.state out.new) result }
+        ensures stands { IsSameSink (K.state out.old) (K.state out.new) result }
         ensures feeds { Feeds self.old piece.now (K.state out.old).written (K.state out.new).written self.new (steps.new - steps.old) result }
         ensures led { IfOk result (FeedsLead (GuideFollows G.answers G.hears G.state) (OrderFollows O.answers O.hears O.state) self.old.state (self.old.unfinished ++ piece.now) (K.state out.old).written (K.state out.new).written self.old.objects self.new.state self.new.objects) }
         ensures checks { OnOk result (RaisesChecks self.old self.new (steps.new - steps.old)) }
@@ -129,7 +129,7 @@ impl<G: Guide, O: Order> Session<G, O> {
     ) -> Result<(), Stop>
         requires { self.old.over ≡ false }
         ensures counted { IsCounted (K.state out.old).faults (K.state out.new).faults result }
-        ensures stands { Stands (K.state out.old) (K.state out.new) result }
+        ensures stands { IsSameSink (K.state out.old) (K.state out.new) result }
         ensures finishes { Finishes self.old (K.state out.old).written (K.state out.new).written self.new (steps.new - steps.old) result }
         ensures led { OnOk result (LastLeads (GuideFollows G.answers G.hears G.state) (OrderFollows O.answers O.hears O.state) self.old.state self.old.unfinished (K.state out.old).written (K.state out.new).written self.old.objects self.new.state self.new.objects) }
         ensures checks { OnOk result (RaisesChecks self.old self.new (steps.new - steps.old)) }
@@ -156,7 +156,7 @@ impl<G: Guide, O: Order> Session<G, O> {
         requires over { self.old.over ≡ true }
         requires state { IsState self.old.state }
         ensures counted { IsCounted (K.state out.old).faults (K.state out.new).faults result }
-        ensures stands { Stands (K.state out.old) (K.state out.new) result }
+        ensures stands { IsSameSink (K.state out.old) (K.state out.new) result }
         ensures feeds { FeedsText self.old.state (self.old.unfinished ++ piece.now) (K.state out.old).written (K.state out.new).written self.new (steps.new - steps.old) result }
         ensures led { IfOk result (FeedsLead (GuideFollows G.answers G.hears G.state) (OrderFollows O.answers O.hears O.state) self.old.state (self.old.unfinished ++ piece.now) (K.state out.old).written (K.state out.new).written self.old.objects self.new.state self.new.objects) }
         ensures checks { RaisesChecks self.old self.new (steps.new - steps.old) }
@@ -193,7 +193,7 @@ impl<G: Guide, O: Order> Session<G, O> {
         requires over { self.old.over ≡ true }
         requires state { IsState self.old.state }
         ensures counted { IsCounted (K.state out.old).faults (K.state out.new).faults result }
-        ensures stands { Stands (K.state out.old) (K.state out.new) result }
+        ensures stands { IsSameSink (K.state out.old) (K.state out.new) result }
         ensures feeds { FeedsText self.old.state text.now (K.state out.old).written (K.state out.new).written self.new (steps.new - steps.old) result }
         ensures led { IfOk result (FeedsLead (GuideFollows G.answers G.hears G.state) (OrderFollows O.answers O.hears O.state) self.old.state text.now (K.state out.old).written (K.state out.new).written self.old.objects self.new.state self.new.objects) }
         ensures checks { RaisesChecks self.old self.new (steps.new - steps.old) }
@@ -222,7 +222,7 @@ fn answer_lines<G: Guide, O: Order, K: Sink, L: Ledger>(
 ) -> Result<(Going, usize), Stop>
     requires { IsState desk.old.state }
     ensures counted { IsCounted (K.state out.old).faults (K.state out.new).faults result }
-    ensures stands { Stands (K.state out.old) (K.state out.new) result }
+    ensures stands { IsSameSink (K.state out.old) (K.state out.new) result }
     ensures answers { AnswersLines desk.old.state text.now (K.state out.old).written (K.state out.new).written desk.new.state (steps.new - steps.old) result }
     ensures led { IfOk result (λ r. FeedsLead (GuideFollows G.answers G.hears G.state) (OrderFollows O.answers O.hears O.state) desk.old.state text.now (K.state out.old).written (K.state out.new).written desk.old.objects desk.new.state desk.new.objects r.0) }
     ensures spends { Spends desk.old desk.new steps.old steps.new }
@@ -263,7 +263,7 @@ fn answer_last<G: Guide, O: Order, K: Sink, L: Ledger>(
 ) -> Result<(), Stop>
     requires { IsState desk.old.state }
     ensures counted { IsCounted (K.state out.old).faults (K.state out.new).faults result }
-    ensures stands { Stands (K.state out.old) (K.state out.new) result }
+    ensures stands { IsSameSink (K.state out.old) (K.state out.new) result }
     ensures answers { FinishesTo desk.old.state line.now (K.state out.old).written (K.state out.new).written desk.new.state (steps.new - steps.old) result }
     ensures led { OnOk result (LastLeads (GuideFollows G.answers G.hears G.state) (OrderFollows O.answers O.hears O.state) desk.old.state line.now (K.state out.old).written (K.state out.new).written desk.old.objects desk.new.state desk.new.objects) }
     ensures spends { Spends desk.old desk.new steps.old steps.new }

@@ -1,6 +1,6 @@
 //! Sinks over memory.
 ghost use Rattle.std.specs.Prelude.{◌≡◌, ◌<◌, [], length, IfOk, OnOk, OnErr, Ok, min, max, take};
-ghost use Rattle.palm_base.specs.Streams.{HasCause, Stands, Writes};
+ghost use Rattle.palm_base.specs.Streams.{HasCause, IsSameSink, Writes};
 ghost use Rattle.palm_base.specs.Memory.{Kept, Calls, IsCalled, Flawed, Keeping, after_keeping, sink_state};
 
 use super::calls::CallLog;
@@ -58,7 +58,7 @@ impl Sink for SteadySink {
         requires { 0 < length piece.now }
         ensures cause { HasCause 0 0 result }
         ensures bytes { Writes (sink_state self.old 0) (sink_state self.new 0) piece.now result }
-        ensures stands { Stands (sink_state self.old 0) (sink_state self.new 0) result }
+        ensures stands { IsSameSink (sink_state self.old 0) (sink_state self.new 0) result }
         ensures whole { result ≡ Ok (length piece.now) }
         ensures kept { self.new ≡ after_keeping self.old piece.now }
     {
@@ -126,7 +126,7 @@ impl Sink for MemorySink {
         requires { 0 < length piece.now }
         ensures cause { HasCause self.old.calls.faults self.new.calls.faults result }
         ensures bytes { Writes (sink_state self.old.inner.kept self.old.calls.faults) (sink_state self.new.inner.kept self.new.calls.faults) piece.now result }
-        ensures stands { Stands (sink_state self.old.inner.kept self.old.calls.faults) (sink_state self.new.inner.kept self.new.calls.faults) result }
+        ensures stands { IsSameSink (sink_state self.old.inner.kept self.old.calls.faults) (sink_state self.new.inner.kept self.new.calls.faults) result }
         ensures count { IfOk result (λ n. n ≡ min self.old.inner.piece (length piece.now)) }
         ensures kept { IfOk result (λ n. self.new.inner.kept ≡ after_keeping self.old.inner.kept (take n piece.now)) }
         ensures piece { self.new.inner.piece ≡ self.old.inner.piece }
