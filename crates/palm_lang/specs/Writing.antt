@@ -1,6 +1,6 @@
 -- What writing a text to a sink does.
 use Rattle.std.specs.Prelude.{◌≡◌, ℕ, ◌<◌, ◌≤◌, ⊤, List, ◌++◌, length, Option, Result, MatchResult, OnOk, IfErr}
-use Rattle.palm_base.specs.Streams.{SinkState, Appended, Rose, Stands}
+use Rattle.palm_base.specs.Streams.{SinkState, Appended, Rose, IsSameSink}
 use Rattle.palm_lang.specs.declared.stop.WriteStop.{WriteStop}
 use Rattle.palm_lang.specs.declared.stop.WriteStop.TheVariants.{WriteFault, NoMemory}
 
@@ -29,6 +29,6 @@ pub record AppendedUntil (stop : WriteStop) (before now : Option (List ℕ)) (te
 -- the text was written, or until a stop, to the same sink
 pub record Writes {T : Type 0} (before now : SinkState) (text : List ℕ) (result : Result T WriteStop) : Type 0 where
   pub counted : IsCounted before.faults now.faults result
-  pub stands : Stands before now result
+  pub stands : IsSameSink before now result
   pub ok : OnOk result (Appended before.written now.written text)
   pub err : IfErr result (λ stop. AppendedUntil stop before.written now.written text)
