@@ -11,7 +11,7 @@ ghost use Rattle.palm_explain.specs.Merging.{IsMerged};
 ghost use Rattle.palm_explain.specs.Noted.{HaveOwnPlaces, is_noted};
 ghost use Rattle.palm_explain.specs.Rows.{AreFormedRows};
 
-use crate::cids::add_cid;
+use crate::cids::{Near, add_cid};
 use crate::node::{Nodes, is_by, set_mark};
 use crate::rows::{Row, key_near};
 use palm_base::{Cid, NoMemory, Pair, Value, Var};
@@ -150,7 +150,7 @@ fn visit(
     place: usize,
     due: &mut Vec<bool>,
     cids: &mut Vec<Cid>,
-    near: &mut usize,
+    near: &mut Near,
 ) -> Result<(), NoMemory>
     requires linked { IsLinked (log_of (graph_of nodes.now) log.now) }
     requires graph { IsGraph (graph_of nodes.now) log.now }
@@ -195,7 +195,7 @@ pub(crate) fn cids_of(
     let mut place = last.saturating_add(1).min(log.len());
     let mut due = vec![in alloc; false; place]?;
     let mut cids = Vec::new(alloc);
-    let mut near = 0;
+    let mut near = Near::new();
     note_values(nodes, rows, var, values, &mut due);
     while place > 0 {
         place -= 1;
