@@ -5,7 +5,8 @@ use Rattle.palm_base.specs.First.{IsNone}
 use Rattle.palm_base.specs.declared.terms.Pair.{Pair}
 use Rattle.palm_book.specs.Book.{Contents}
 use Rattle.palm_claim.specs.Draft.{Draft, blank}
-use Rattle.palm_claim.specs.Verdict.{IsVerdict, Judges, Meets, Passes, ending, in_order}
+use Rattle.palm_claim.specs.Judging.{Judges, Passes, in_order}
+use Rattle.palm_claim.specs.Verdict.{IsVerdict, Meets, certificates, ending}
 use Rattle.palm_claim.specs.declared.statement.Stage.TheVariants.{Closed}
 use Rattle.palm_claim.specs.declared.statement.Statement.{Statement}
 use Rattle.palm_claim.specs.declared.verdict.Cause.TheVariants.{Malformed, Misdeclared, Beyond, Unproved, NotRight, NotReached}
@@ -23,7 +24,7 @@ use Rattle.palm_read.specs.declared.mode.Mode.TheVariants.{Two}
 -- the lines, all of plain bytes, lead from the one draft to the other
 abbrev pub Runs : Draft → List (List ℕ) → Draft → Type 0
 Runs d [] e = d ≡ e
-Runs d (line ∷ lines) e = (f : Draft) × Passes d line f × IsOfPlain line × Runs f lines e
+Runs d (line ∷ lines) e = (f : Draft) × Passes certificates d line f × IsOfPlain line × Runs f lines e
 
 -- so does a text of such lines
 pub record Reads (d : Draft) (text : List ℕ) (e : Draft) : Type 0 where
@@ -34,7 +35,7 @@ pub record Reads (d : Draft) (text : List ℕ) (e : Draft) : Type 0 where
 pub reads_none : (d e : Draft) → d ≡ e → Reads d [] e
 reads_none d e same = record { lines = []; cut = refl; runs = same }
 
-pub reads_line : (d e : Draft) (line text : List ℕ) → ended line ≡ text → IsOfPlain line → Passes d line e → Reads d text e
+pub reads_line : (d e : Draft) (line text : List ℕ) → ended line ≡ text → IsOfPlain line → Passes certificates d line e → Reads d text e
 reads_line d e line text ends plain passes = record { lines = line ∷ []; cut = append-nil (ended line) ∙ ends; runs = (e, passes, plain, refl) }
 
 runs_then : (xs ys : List (List ℕ)) (d e f : Draft) → Runs d xs e → Runs e ys f → Runs d (xs ++ ys) f
@@ -68,7 +69,7 @@ plain_lines : (lines : List (List ℕ)) (d e : Draft) → Runs d lines e → All
 plain_lines [] d e runs = All-nil IsOfPlain
 plain_lines (line ∷ lines) d e runs = All-cons IsOfPlain line lines runs.2 (plain_lines lines runs.0 e runs.3)
 
-judged : (lines : List (List ℕ)) (d : Draft) (n : ℕ) (claim : Claim) (book : Contents) (proved : List Pair) → Runs d lines (record { stage = Closed claim; book = book; proved = proved }) → Judges d n lines (Accepted (record { claim = claim; book = book }))
+judged : (lines : List (List ℕ)) (d : Draft) (n : ℕ) (claim : Claim) (book : Contents) (proved : List Pair) → Runs d lines (record { stage = Closed claim; book = book; proved = proved }) → Judges certificates d n lines (Accepted (record { claim = claim; book = book }))
 judged [] d n claim book proved runs = sym (ap (λ (z : Draft). ending z.stage z.book n) runs)
 judged (line ∷ lines) d n claim book proved runs = inr (runs.0, runs.1, judged lines runs.0 (n + 1) claim book proved runs.3)
 

@@ -1,4 +1,3 @@
-pub mod Hearing
-pub mod Judging
 pub mod Keeping
 pub mod Reading
+pub mod cited

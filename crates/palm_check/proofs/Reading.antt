@@ -1,14 +1,12 @@
 -- What the reader answers to a line, and numbers that are too large for it.
-use Rattle.std.proofs.Common.{◌≡◌, ℕ, ◌≤◌, Bool, true, false, Option, Some, None, Err, List, length, option_map, sym, ap, ◌∙◌, subst, arith}
+use Rattle.std.proofs.Common.{◌≡◌, ℕ, ◌≤◌, Bool, true, false, Option, Some, None, List, length, option_map, sym, ap, ◌∙◌, arith}
 use Rattle.std.proofs.lemmas.Int.{ints}
 use Rattle.palm_read.specs.Linear.{signed}
 use Rattle.palm_read.specs.Reading.{IsRead}
 use Rattle.palm_read.specs.Token.{Lexeme, tokens_of}
-use Rattle.palm_read.specs.Reader.Held.{GivesAll, HoldsAll}
+use Rattle.palm_read.specs.Reader.Held.{HoldsAll}
 use Rattle.palm_read.specs.declared.line.Line.{Line}
 use Rattle.palm_read.specs.declared.mode.Mode.TheVariants.{Two}
-use Rattle.palm_read.specs.declared.parse.LineError.{LineError}
-use Rattle.palm_read.specs.declared.parse.LineError.TheVariants.{Form as NoForm}
 use Rattle.palm_read.proofs.cited.SoundLines.{read_sound}
 use Rattle.palm_read.specs.declared.line.Line.TheVariants.{Var, Add}
 use Rattle.palm_claim.specs.Reader.{is_value, of_line, phrase_of}
@@ -26,9 +24,6 @@ line_read bytes line (Some r) read e = line_says bytes line r.statement read (sy
 
 pub phrase_read : (bytes : List ℕ) (s : Statement) → length bytes ≤ 65536 → HoldsAll (λ t. t) s (phrase_of (tokens_of bytes)) → Says bytes s
 phrase_read bytes s short h = led_says bytes s short (h.read ∙ ap Some (sym h.is))
-
-pub gives_none : {F X : Type 0} (view : F → X) (reading : Option F) (error : LineError) → error ≡ NoForm → GivesAll view (Err error) reading → reading ≡ None
-gives_none view reading error is g = subst (λ (e : LineError). GivesAll view (Err e) reading) is g
 
 spelled_alone : (tokens : List Lexeme) (s : Statement) → IsSpelled tokens s → IsBeyondAlone s → ⊥
 spelled_alone tokens Comment h b = b

@@ -1,6 +1,5 @@
 -- What the checker keeps of a certificate, and what it answers to a line.
 use Rattle.std.specs.Prelude.{ℕ, Option, Some, None, List, All, ⊤}
-use Rattle.palm_base.specs.First.{IsFirst, IsNone}
 use Rattle.palm_base.specs.declared.terms.Pair.{Pair}
 use Rattle.palm_book.specs.Book.{initial_of}
 use Rattle.palm_listed.specs.Lists.{IsListed}
@@ -9,9 +8,10 @@ use Rattle.palm_model.specs.Domains.{Has}
 use Rattle.palm_read.specs.Limits.{IsBeyond}
 use Rattle.palm_read.specs.Sound.{IsSound}
 use Rattle.palm_read.specs.declared.line.Line.TheVariants.{Var, Add}
-use Rattle.palm_claim.specs.Draft.{Draft, Leads}
+use Rattle.palm_claim.specs.Draft.{Draft}
 use Rattle.palm_claim.specs.Statement.{IsStepNumber, Says}
-use Rattle.palm_claim.specs.Verdict.{IsRefusedFor, Meets, Passes, in_order}
+use Rattle.palm_claim.specs.Taking as of_family
+use Rattle.palm_claim.specs.Verdict.{certificates}
 use Rattle.palm_claim.specs.declared.statement.Statement.{Statement}
 use Rattle.palm_claim.specs.declared.statement.Statement.TheVariants.{Variable, Constraint, Step}
 use Rattle.palm_claim.specs.declared.verdict.Cause.{Cause}
@@ -39,13 +39,11 @@ IsSoundStatement _ = ⊤
 
 -- what is answered to a statement: its first cause, or that it has none, and then the draft behind it
 abbrev pub TakesStatement : Draft → Statement → Option Cause → Draft → Type 0
-TakesStatement d s None e = IsNone (Meets d s) in_order × Leads d s e
-TakesStatement d s (Some cause) e = IsFirst (Meets d s) in_order cause
+TakesStatement d s o e = of_family.TakesStatement certificates d s o e
 
 -- and to a line
 abbrev pub TakesLine : Draft → List ℕ → Option Cause → Draft → Type 0
-TakesLine d line None e = Passes d line e
-TakesLine d line (Some cause) e = IsRefusedFor d line cause
+TakesLine d line o e = of_family.TakesLine certificates d line o e
 
 -- the statement breaks a limit by itself
 abbrev pub IsBeyondAlone : Statement → Type 0

@@ -9,4 +9,6 @@ mod statements;
 mod verdict;
 
 pub use palm_claim::{Cause, Proved, Verdict};
+pub use phrases::{read_reasons, read_value};
+pub use reasons::pairs_at;
 pub use verdict::check;

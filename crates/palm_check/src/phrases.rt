@@ -78,10 +78,10 @@ fn step(cursor: &mut Cursor<'_>, alloc: Global) -> Result<Statement, LineError>
     ensures { Gives (λ statement. statement) result cursor.new (step_at cursor.old) }
 {
     let name = cursor.owned_name(alloc)?;
-    let value = value(cursor)?;
+    let value = read_value(cursor)?;
     cursor.keyword(b"by")?;
     let by = cursor.owned_name(alloc)?;
-    let reasons = reasons(cursor, alloc)?;
+    let reasons = read_reasons(cursor, alloc)?;
     Ok(Statement::Step {
         name,
         value,
@@ -97,7 +97,7 @@ fn claim(cursor: &mut Cursor<'_>, alloc: Global) -> Result<Statement, LineError>
 {
     let first = cursor.owned_name(alloc)?;
     let Some(second) = cursor.name() else {
-        let value = value(cursor)?;
+        let value = read_value(cursor)?;
         return Ok(Statement::ValueClaim { name: first, value });
     };
     if first.as_slice() != b"conflict".as_slice() {
@@ -109,7 +109,7 @@ fn claim(cursor: &mut Cursor<'_>, alloc: Global) -> Result<Statement, LineError>
 
 /// Reads `from` and numbers of steps, if `from` stands in front.
 #[tactic(auto, unfolding(palm_claim::specs::Reader::reasons_at, palm_claim::specs::Reader::numbers_at, palm_read::specs::Reader::Steps::and_then, palm_read::specs::Reader::Steps::when, palm_read::specs::Reader::Steps::choose))]
-fn reasons(cursor: &mut Cursor<'_>, alloc: Global) -> Result<StepList, LineError>
+pub fn read_reasons(cursor: &mut Cursor<'_>, alloc: Global) -> Result<StepList, LineError>
     ensures { Gives (λ numbers. numbers) result cursor.new (reasons_at cursor.old) }
 {
     if !cursor.takes_word(b"from") {
@@ -163,7 +163,7 @@ fn step_number(digits: &[u8]) -> Option<u32>
 
 /// Reads a value of the language.
 #[tactic(auto, unfolding(palm_claim::specs::Reader::value_at, palm_read::specs::Reader::Steps::integer_at, palm_read::specs::Reader::Steps::natural_at, palm_read::specs::Reader::Steps::and_then, palm_read::specs::Reader::Steps::when, palm_read::specs::Reader::Steps::choose))]
-fn value(cursor: &mut Cursor<'_>) -> Result<Value, LineError>
+pub fn read_value(cursor: &mut Cursor<'_>) -> Result<Value, LineError>
     ensures { Gives (λ value. value) result cursor.new (value_at cursor.old) }
 {
     let is_negative = cursor.takes_sign(b"-");

@@ -1,5 +1,10 @@
 -- Lemmas that other crates cite.
+pub mod Asked
+pub mod Causes
 pub mod Explained
+pub mod Judged
+pub mod JudgedLines
 pub mod Phrases
+pub mod ProvedSteps
 pub mod Saying
 pub mod Unique

@@ -1,16 +1,16 @@
 -- The verdict on a text: the first line that has a cause, with its first cause, or that it is accepted.
-use Rattle.std.specs.Prelude.{◌≡◌, ℕ, ◌+◌, ◌<◌, ◌≤◌, ◌⊎◌, List, [], ◌∷◌, length, Any}
-use Rattle.palm_base.specs.First.{IsFirst, IsNone}
+use Rattle.std.specs.Prelude.{ℕ, ◌<◌, ◌≤◌, ◌⊎◌, List, length, Any}
 use Rattle.palm_base.specs.declared.terms.Pair.{Pair}
 use Rattle.palm_book.specs.Book.{Contents, HasConstraint, HasVariable}
 use Rattle.palm_book.specs.Named.{IsDeclared, IsPair, IsUnknownName, IsVariable}
 use Rattle.palm_book.specs.declared.limits.TheConstants.{MOST_VARIABLES, MOST_CONSTRAINTS}
 use Rattle.palm_read.specs.Limits.{IsBeyond, names_of}
-use Rattle.palm_read.specs.Lines.{AreLines}
 use Rattle.palm_read.specs.declared.line.Line.TheVariants.{Var, Add}
 use Rattle.palm_claim.specs.Draft.{Draft, Leads, MayStand, blank}
+use Rattle.palm_claim.specs.Judging.{Family, IsVerdictFrom}
 use Rattle.palm_claim.specs.Statement.{Says}
-use Rattle.palm_claim.specs.Step.{IsReached, IsRight}
+use Rattle.palm_claim.specs.Step.{IsReached, IsRightBy, nothing}
+use Rattle.palm_claim.specs.declared.ground.Ground.TheVariants.{By}
 use Rattle.palm_claim.specs.declared.statement.Statement.{Statement}
 use Rattle.palm_claim.specs.declared.statement.Statement.TheVariants.{Variable, Constraint, Step, ValueClaim, ConflictClaim}
 use Rattle.palm_claim.specs.declared.statement.Stage.{Stage}
@@ -45,7 +45,7 @@ HasUnproved d _ = ⊥
 
 -- the step is not right
 abbrev pub IsNotRight : Draft → Statement → Type 0
-IsNotRight d (Step name value by reasons) = (pair : Pair) × IsPair d.book.variables name value pair × (IsRight d.book d.proved pair by reasons → ⊥)
+IsNotRight d (Step name value by reasons) = (pair : Pair) × IsPair d.book.variables name value pair × (IsRightBy d.book nothing d.proved pair (By by reasons) → ⊥)
 IsNotRight d _ = ⊥
 
 -- the claim is not reached
@@ -63,25 +63,6 @@ Meets d statement Unproved = HasUnproved d statement
 Meets d statement NotRight = IsNotRight d statement
 Meets d statement NotReached = IsNotReached d statement
 
--- the order in which causes are looked for
-abbrev pub in_order : List Cause
-in_order = Malformed ∷ Misdeclared ∷ Beyond ∷ Unproved ∷ NotRight ∷ NotReached ∷ []
-
--- ---- lines
-
--- the line has a cause, and this is its first: it says nothing, or what it says meets it
-abbrev pub IsRefusedFor : Draft → List ℕ → Cause → Type 0
-IsRefusedFor d line cause =
-    (((statement : Statement) → Says line statement → ⊥) × (cause ≡ Malformed))
-    ⊎ ((statement : Statement) × Says line statement × IsFirst (Meets d statement) in_order cause)
-
--- the line has no cause, and this is the draft behind it
-pub record Passes (d : Draft) (line : List ℕ) (e : Draft) : Type 0 where
-  pub statement : Statement
-  pub says : Says line statement
-  pub none : IsNone (Meets d statement) in_order
-  pub leads : Leads d statement e
-
 -- ---- the text
 
 -- the verdict where the lines have ended, and n is the number of a next one
@@ -89,15 +70,10 @@ abbrev pub ending : Stage → Contents → ℕ → Verdict
 ending (Closed claim) book n = Accepted (record { claim = claim; book = book })
 ending stage book n = Refused n NotReached
 
--- the verdict on the lines that are left, the first of which has the number n
-abbrev pub Judges : Draft → ℕ → List (List ℕ) → Verdict → Type 0
-Judges d n [] verdict = verdict ≡ ending d.stage d.book n
-Judges d n (line ∷ lines) verdict =
-    ((cause : Cause) × IsRefusedFor d line cause × (verdict ≡ Refused n cause))
-    ⊎ ((e : Draft) × Passes d line e × Judges e (n + 1) lines verdict)
+-- certificates
+abbrev pub certificates : Family Draft Statement Verdict
+certificates = record { Says = Says; Meets = Meets; Leads = Leads; ending = λ d n. ending d.stage d.book n; refused = λ n cause. Refused n cause }
 
 -- the verdict on a text
-pub record IsVerdict (bytes : List ℕ) (verdict : Verdict) : Type 0 where
-  pub lines : List (List ℕ)
-  pub are_lines : AreLines bytes lines
-  pub judged : Judges blank 1 lines verdict
+abbrev pub IsVerdict : List ℕ → Verdict → Type 0
+IsVerdict bytes verdict = IsVerdictFrom certificates blank bytes verdict

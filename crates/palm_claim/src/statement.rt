@@ -1,10 +1,8 @@
 //! What a line of a certificate says, and how far a certificate has come.
+use crate::ground::StepList;
 use crate::verdict::Claim;
-use palm_base::{Sequence, Value};
+use palm_base::Value;
 use palm_read::{DomainText, Name, Shape};
-
-/// Numbers of steps, counted from 1.
-pub type StepList = Sequence<u32>;
 
 /// What a line of a certificate says.
 #[derive(Debug, Drop)]

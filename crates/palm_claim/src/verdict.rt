@@ -34,20 +34,20 @@ pub struct Proved {
     pub book: Book,
 }
 
-/// Why a line is refused, in the order in which the causes are looked for.
+/// Why a line of a certificate or of a proof is refused, in the order in which the causes are looked for.
 #[derive(Clone, Copy, Debug, PartialEq, Eq)]
 pub enum Cause {
-    /// C1: the line has no form of a certificate, or may not stand there.
+    /// C1, P1: the line has no form of such a text, or may not stand there.
     Malformed,
-    /// C2: a name or a value is not declared, or a name is declared a second time.
+    /// C2, P2: a name or a value is not declared, or a name is declared or a variable assumed a second time.
     Misdeclared,
-    /// C6: there are more values, variables, rows, entries or constraints than there may be.
+    /// C6, P6: there are more values, variables, rows, entries or constraints than there may be.
     Beyond,
-    /// C3: a reason is no earlier step.
+    /// C3, P3: a reason is no earlier step, or a lemma no earlier lemma.
     Unproved,
-    /// C4: the step is not right.
+    /// C4, P4: the step is not right.
     NotRight,
-    /// C5: the claim is not reached.
+    /// C5, P5: a claim, the wipe of a variable or the end is not reached.
     NotReached,
 }
 

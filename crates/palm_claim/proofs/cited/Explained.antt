@@ -19,7 +19,8 @@ use Rattle.palm_claim.specs.Claim.{HoldsIn, IsExplained, IsOver, IsOverItsBook, 
 use Rattle.palm_claim.specs.Draft.{Draft, Leads, MayStand, at_stage, blank, with_constraint, with_step, with_variable}
 use Rattle.palm_claim.specs.Statement.{IsStepNumber, Says}
 use Rattle.palm_claim.specs.Step.{IsReached, IsRight, pair_at, pairs_at}
-use Rattle.palm_claim.specs.Verdict.{IsVerdict, Judges, Meets, ending, in_order}
+use Rattle.palm_claim.specs.Judging.{Judges, in_order}
+use Rattle.palm_claim.specs.Verdict.{IsVerdict, Meets, certificates, ending}
 use Rattle.palm_claim.specs.declared.statement.Stage.{Stage}
 use Rattle.palm_claim.specs.declared.statement.Stage.TheVariants.{Unopened, Declaring, Listing, Proving, Claimed, Closed}
 use Rattle.palm_claim.specs.declared.statement.Statement.{Statement}
@@ -208,7 +209,7 @@ ended_claim (Closed c) book n proved e =
     let same : proved ≡ made = cc in
     (ap (λ (p : Proved). Closed p.claim) (sym same), ap (λ (p : Proved). p.book) same)
 
-judged_explained : (lines : List (List ℕ)) (d : Draft) (n : ℕ) (proved : Proved) → Keeps d → Judges d n lines (Accepted proved) → IsExplained proved.book proved.claim × IsOver proved.book proved.claim
+judged_explained : (lines : List (List ℕ)) (d : Draft) (n : ℕ) (proved : Proved) → Keeps d → Judges certificates d n lines (Accepted proved) → IsExplained proved.book proved.claim × IsOver proved.book proved.claim
 judged_explained [] d n proved keeps j =
     let is = ended_claim d.stage d.book n proved j in
     subst (λ (b : Contents). IsExplained b proved.claim × IsOver b proved.claim) (sym is.1) (keeps.claimed proved.claim (inr is.0), keeps.over proved.claim (inr is.0))

@@ -39,7 +39,7 @@ pub value-is_value : (v : ℤ) → IsValue v → is_value v ≡ true
 value-is_value v is =
     and_from (not (int_lt v (pos 0 -ℤ pos 1000000))) (not (int_lt (pos 1000000) v)) (to_test (pos 0 -ℤ pos 1000000) v is.above) (to_test v (pos 1000000) is.below)
 
-value_takes : (tokens : List Lexeme) (x : ℤ × List Lexeme) → value_at tokens ≡ Some x → (integer_at tokens ≡ Some x) × IsValue x.0
+pub value_takes : (tokens : List Lexeme) (x : ℤ × List Lexeme) → value_at tokens ≡ Some x → (integer_at tokens ≡ Some x) × IsValue x.0
 unfolding value_at
 value_takes tokens x e =
     let a = and_then_some e in
@@ -47,7 +47,7 @@ value_takes tokens x e =
     let same : a.0 ≡ x = same_Some a.0 x b.1 in
     (a.1 ∙ b.1, subst (λ (y : ℤ × List Lexeme). IsValue y.0) same (is_value-value a.0.0 b.0))
 
-value_again : {tokens rest : List Lexeme} {v : ℤ} → Starts tokens v rest → IsValue v → value_at tokens ≡ Some (v, rest)
+pub value_again : {tokens rest : List Lexeme} {v : ℤ} → Starts tokens v rest → IsValue v → value_at tokens ≡ Some (v, rest)
 unfolding value_at and_then choose
 value_again {v = v} s is = rw (integer_at-starts s, value-is_value v is) refl
 
@@ -127,7 +127,7 @@ from_pieces : (ks : List ℕ) → has_some ks ≡ true → Keyword (codes "from"
 from_pieces [] e = cc
 from_pieces (k ∷ ks) e = refl
 
-reasons_takes : (tokens : List Lexeme) (x : List ℕ × List Lexeme) → reasons_at tokens ≡ Some x → Begins tokens (reasons_pieces x.0) x.1 × All IsStepNumber x.0
+pub reasons_takes : (tokens : List Lexeme) (x : List ℕ × List Lexeme) → reasons_at tokens ≡ Some x → Begins tokens (reasons_pieces x.0) x.1 × All IsStepNumber x.0
 unfolding reasons_at
 reasons_takes tokens x e =
     let Taken : List ℕ × List Lexeme → Type 0 = λ y. Begins tokens (reasons_pieces y.0) y.1 × All IsStepNumber y.0 in
@@ -144,7 +144,7 @@ no_number : next_number [] ≡ Some (None, [])
 unfolding next_number token_at front_text and_then when
 no_number = refl
 
-reasons_again : (ks : List ℕ) (tokens : List Lexeme) → All IsStepNumber ks → Begins tokens (reasons_pieces ks) [] → reasons_at tokens ≡ Some (ks, [])
+pub reasons_again : (ks : List ℕ) (tokens : List Lexeme) → All IsStepNumber ks → Begins tokens (reasons_pieces ks) [] → reasons_at tokens ≡ Some (ks, [])
 unfolding reasons_at numbers_at behind token_at front_text and_then when choose
 reasons_again [] tokens is b = rw (begins_over b) refl
 reasons_again (k ∷ ks) tokens is b =
@@ -233,7 +233,7 @@ phrase_takes tokens x e =
       ]
     ]
 
-empty_is : (tokens : List Lexeme) → is_empty tokens ≡ true → tokens ≡ []
+pub empty_is : (tokens : List Lexeme) → is_empty tokens ≡ true → tokens ≡ []
 empty_is [] e = refl
 empty_is (t ∷ ts) e = absurd cc
 
@@ -318,7 +318,7 @@ is_phrase tokens s h range = ended tokens s (phrase_again tokens s h range)
 
 -- ---- none is a form of a session
 
-step_no_form : (name : List ℕ) (rest : List Lexeme) → form_at (word (codes "step") ∷ word name ∷ rest) ≡ None
+pub step_no_form : (name : List ℕ) (rest : List Lexeme) → form_at (word (codes "step") ∷ word name ∷ rest) ≡ None
 unfolding form_at line_at numbered_at integer_at natural_at behind token_at front_text and_then when choose
 step_no_form name rest = refl
 
@@ -326,7 +326,7 @@ claim_no_form : (rest : List Lexeme) → form_at (word (codes "claim") ∷ rest)
 unfolding form_at line_at bare_at behind token_at front_text and_then when choose
 claim_no_form rest = refl
 
-end_no_form : (rest : List Lexeme) → form_at (word (codes "end") ∷ rest) ≡ None
+pub end_no_form : (rest : List Lexeme) → form_at (word (codes "end") ∷ rest) ≡ None
 unfolding form_at line_at bare_at behind token_at front_text and_then when choose
 end_no_form rest = refl
 

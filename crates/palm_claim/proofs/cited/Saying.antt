@@ -49,7 +49,7 @@ no_comment : (form : Form) → CommentLine ≡ line_of form → ⊥
 no_comment (RelaxForm name) e = cc
 no_comment _ e = cc
 
-read_comment : (bytes : List ℕ) → IsRead Two bytes CommentLine → IsComment bytes
+pub read_comment : (bytes : List ℕ) → IsRead Two bytes CommentLine → IsComment bytes
 read_comment bytes (a_comment c) = c
 read_comment bytes (a_form form p h a r n t e) = absurd (no_comment form e)
 
@@ -152,7 +152,7 @@ each_said bytes = elim (each_answered Two bytes) [
 
 -- ---- the first word decides
 
-front_is : (tokens : List Lexeme) (w : List ℕ) → front_text Word tokens ≡ Some w → tokens ≡ word w ∷ drop 1 tokens
+pub front_is : (tokens : List Lexeme) (w : List ℕ) → front_text Word tokens ≡ Some w → tokens ≡ word w ∷ drop 1 tokens
 unfolding token_at and_then
 front_is tokens w e = token_is Word tokens (w, drop 1 tokens) (rw e refl)
 

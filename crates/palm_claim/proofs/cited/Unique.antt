@@ -1,47 +1,26 @@
 -- No text has two verdicts: no line says two things, each name names one variable, and a shape says one constraint.
-use Rattle.std.proofs.Common.{◌≡◌, ◌≢◌, ℕ, ◌+◌, ℤ, List, [], ◌∷◌, ◌++◌, get_or, Any, inl, inr, sym, ap, ◌∙◌, subst, arith}
+use Rattle.std.proofs.Common.{◌≡◌, ◌≢◌, ℕ, ℤ, List, [], ◌∷◌, ◌++◌, get_or, Any, sym, ap, ◌∙◌, subst, arith}
 use Rattle.std.proofs.lemmas.List.{get_or_default}
 use Rattle.std.proofs.lemmas.List.Quantifiers.{all_pairs_push}
-use Rattle.palm_base.proofs.cited.FirstCauses.{first_once, first_not_none}
-use Rattle.palm_base.specs.First.{IsFirst, IsNone}
+use Rattle.palm_base.specs.First.{IsNone}
 use Rattle.palm_base.specs.declared.terms.Pair.{Pair}
 use Rattle.palm_book.specs.Book.{BookVar}
 use Rattle.palm_model.specs.declared.constraint.Con.{Con}
 use Rattle.palm_read.specs.Domain.{values_in}
-use Rattle.palm_read.proofs.cited.Cutting.{lines_once}
 use Rattle.palm_claim.specs.Draft.{Draft, Leads, at_stage, blank, with_constraint, with_step}
-use Rattle.palm_claim.specs.Verdict.{IsRefusedFor, IsVerdict, Judges, Meets, Passes, in_order}
+use Rattle.palm_claim.specs.Judging.{in_order}
+use Rattle.palm_claim.specs.Verdict.{IsVerdict, Meets, certificates}
 use Rattle.palm_claim.specs.declared.statement.Stage.{Stage}
 use Rattle.palm_claim.specs.declared.statement.Stage.TheVariants.{Claimed, Closed}
 use Rattle.palm_claim.specs.declared.statement.Statement.{Statement}
 use Rattle.palm_claim.specs.declared.statement.Statement.TheVariants.{Comment, Header, Variable, Constraint, Step, ValueClaim, ConflictClaim, End}
 use Rattle.palm_claim.specs.declared.verdict.Claim.{Claim}
 use Rattle.palm_claim.specs.declared.verdict.Claim.TheVariants.{Gone, Conflict}
-use Rattle.palm_claim.specs.declared.verdict.Cause.{Cause}
 use Rattle.palm_claim.specs.declared.verdict.Verdict.{Verdict}
-use Rattle.palm_claim.specs.declared.verdict.Verdict.TheVariants.{Refused}
 use Rattle.palm_book.proofs.cited.Naming.{constraint_once}
 use Rattle.palm_book.proofs.cited.Pairs.{Apart, pair_is, variable_is}
+use Rattle.palm_claim.proofs.cited.Judged.{IsSingle, verdict_once}
 use Rattle.palm_claim.proofs.cited.Saying.{one_saying}
-
-refused_once : (d : Draft) (line : List ℕ) (a b : Cause) → IsRefusedFor d line a → IsRefusedFor d line b → a ≡ b
-refused_once d line a b p q = elim p [
-  | inl l ↦ elim q [ inl m ↦ l.1 ∙ sym m.1 | inr m ↦ absurd (l.0 m.0 m.1) ]
-  | inr l ↦ elim q [
-    | inl m ↦ absurd (m.0 l.0 l.1)
-    | inr m ↦
-        let same = one_saying line l.0 m.0 l.1 m.1 in
-        first_once (Meets d m.0) in_order a b (subst (λ (s : Statement). IsFirst (Meets d s) in_order a) same l.2) m.2
-  ]
-]
-
-refused_or_passes : (d : Draft) (line : List ℕ) (a : Cause) (e : Draft) → IsRefusedFor d line a → Passes d line e → ⊥
-refused_or_passes d line a e p passes = elim p [
-  | inl l ↦ l.0 passes.statement passes.says
-  | inr l ↦
-      let same = one_saying line l.0 passes.statement l.1 passes.says in
-      first_not_none (Meets d passes.statement) in_order a (subst (λ (s : Statement). IsFirst (Meets d s) in_order a) same l.2) passes.none
-]
 
 -- ---- names that differ
 
@@ -81,33 +60,17 @@ leads_once d e f (ConflictClaim name) apart p q =
 leads_once d e f End apart p q =
     p.2 ∙ ap (λ (c : Claim). at_stage d (Closed c)) (same_claimed p.0 q.0 (sym p.1 ∙ q.1)) ∙ sym q.2
 
-passes_once : (d e f : Draft) (line : List ℕ) → Apart d.book.variables → Passes d line e → Passes d line f → e ≡ f
-passes_once d e f line apart p q =
-    let same = one_saying line p.statement q.statement p.says q.says in
-    leads_once d e f q.statement apart (subst (λ (s : Statement). Leads d s e) same p.leads) q.leads
-
 -- ---- texts
-
-judged_once : (lines : List (List ℕ)) (d : Draft) (n : ℕ) (a b : Verdict) → Apart d.book.variables → Judges d n lines a → Judges d n lines b → a ≡ b
-judged_once [] d n a b apart p q = p ∙ sym q
-judged_once (line ∷ lines) d n a b apart p q = elim p [
-  | inl l ↦ elim q [
-    | inl m ↦ l.2 ∙ ap (λ (c : Cause). Refused n c) (refused_once d line l.0 m.0 l.1 m.1) ∙ sym m.2
-    | inr m ↦ absurd (refused_or_passes d line l.0 m.0 l.1 m.1)
-  ]
-  | inr l ↦ elim q [
-    | inl m ↦ absurd (refused_or_passes d line m.0 l.0 m.1 l.1)
-    | inr m ↦
-        let same : l.0 ≡ m.0 = passes_once d l.0 m.0 line apart l.1 m.1 in
-        judged_once lines m.0 (n + 1) a b (leads_apart d m.0 m.1.statement apart m.1.none m.1.leads)
-        (subst (λ (e : Draft). Judges e (n + 1) lines a) same l.2) m.2
-  ]
-]
 
 pub apart_none : Apart []
 apart_none i j d below lt = absurd (omega (arith, lt))
 
+certificates_single : IsSingle certificates (λ d. Apart d.book.variables)
+certificates_single = record {
+  kept = λ d e line s apart says none leads. leads_apart d e s apart none leads;
+  one_saying = one_saying;
+  one_lead = λ d e f s apart p q. leads_once d e f s apart p q;
+}
+
 pub one_verdict : (bytes : List ℕ) (a b : Verdict) → IsVerdict bytes a → IsVerdict bytes b → a ≡ b
-one_verdict bytes a b p q =
-    let same : p.lines ≡ q.lines = lines_once bytes p.lines q.lines p.are_lines q.are_lines in
-    judged_once q.lines blank 1 a b apart_none (subst (λ (ls : List (List ℕ)). Judges blank 1 ls a) same p.judged) q.judged
+one_verdict bytes a b p q = verdict_once Draft Statement Verdict certificates (λ d. Apart d.book.variables) certificates_single blank bytes a b apart_none p q

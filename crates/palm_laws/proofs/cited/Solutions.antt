@@ -47,33 +47,33 @@ pub formed_declared : (n : ℕ) (cs : List Con) → All (IsWellFormed n) cs → 
 formed_declared n cs formed c p x m k h = part_declared n c p x (well_formed_formed n c (All-contains (IsWellFormed n) cs c formed m)) k h
 
 -- the domains of the first n variables with the assignment's values alone
-points : Assignment → ℕ → Domains
+pub points : Assignment → ℕ → Domains
 points a zero = []
 points a (suc n) = (a 0 ∷ []) ∷ points (λ x. a (suc x)) n
 
-has_point : (a : Assignment) (n x : ℕ) → x < n → Has (points a n) x (a x)
+pub has_point : (a : Assignment) (n x : ℕ) → x < n → Has (points a n) x (a x)
 unfolding points
 has_point a zero x lt = absurd (omega arith)
 has_point a (suc n) zero lt = member_here (a 0) []
 has_point a (suc n) (suc x) lt = has_point (λ y. a (suc y)) n x (omega arith)
 
 -- what a variable has there
-record IsPoint (a : Assignment) (n x : ℕ) (v : ℤ) : Type 0 where
-  declared : x < n
-  value : a x ≡ v
+pub record IsPoint (a : Assignment) (n x : ℕ) (v : ℤ) : Type 0 where
+  pub declared : x < n
+  pub value : a x ≡ v
 
-point_has : (a : Assignment) (n x : ℕ) (v : ℤ) → Has (points a n) x v → IsPoint a n x v
+pub point_has : (a : Assignment) (n x : ℕ) (v : ℤ) → Has (points a n) x v → IsPoint a n x v
 unfolding points
 point_has a zero x v h = absurd (member_nil v h)
 point_has a (suc n) zero v h = record { declared = omega arith; value = member_single (a 0) v h }
 point_has a (suc n) (suc x) v h = let r = point_has (λ y. a (suc y)) n x v h in record { declared = omega (arith, r.declared); value = r.value }
 
-points_inside : (initial : Domains) (E : Con → Type 0) (a : Assignment) → IsSolution initial E a → IsInside (points a (length initial)) initial
+pub points_inside : (initial : Domains) (E : Con → Type 0) (a : Assignment) → IsSolution initial E a → IsInside (points a (length initial)) initial
 points_inside initial E a solution x v h =
     let r = point_has a (length initial) x v h in
     subst (λ w. Has initial x w) r.value (solution.within x r.declared)
 
-points_closed : (initial : Domains) (E : Con → Type 0) (a : Assignment) → AreDeclared (length initial) E → IsSolution initial E a → IsClosed E (points a (length initial))
+pub points_closed : (initial : Domains) (E : Con → Type 0) (a : Assignment) → AreDeclared (length initial) E → IsSolution initial E a → IsClosed E (points a (length initial))
 points_closed initial E a declared solution c p m k x v over h = record {
   assignment = a;
   within = λ y over_y. has_point a (length initial) y (declared c p y m k over_y);

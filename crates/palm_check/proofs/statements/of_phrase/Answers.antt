@@ -1,7 +1,8 @@
 use Rattle.palm_claim.specs.Reader.{phrase_of}
 use Rattle.palm_claim.specs.declared.statement.Statement.{Statement}
 use Rattle.palm_claim.proofs.cited.Saying.{led_says_nothing, long_says_nothing}
-use Rattle.palm_check.proofs.Reading.{gives_none, phrase_alone, phrase_read}
+use Rattle.palm_check.proofs.Reading.{phrase_alone, phrase_read}
+use Rattle.palm_check.proofs.cited.Giving.{gives_none}
 use Rattle.palm_check.proofs.statements.of_phrase.Goals as goal
 
 pub returns-then-bytes-gt-MOST_LINE_BYTES-clause-says : goal.returns-then-bytes-gt-MOST_LINE_BYTES-clause-says

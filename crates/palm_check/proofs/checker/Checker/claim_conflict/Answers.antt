@@ -6,8 +6,9 @@ use Rattle.palm_claim.specs.declared.statement.Stage.TheVariants.{Claimed}
 use Rattle.palm_claim.specs.declared.statement.Statement.TheVariants.{ConflictClaim}
 use Rattle.palm_claim.specs.declared.verdict.Claim.TheVariants.{Conflict}
 use Rattle.palm_book.proofs.cited.Pairs.{variable_is, variable_known}
+use Rattle.palm_claim.specs.Verdict.{Meets}
 use Rattle.palm_check.specs.Kept.{draft_of}
-use Rattle.palm_check.proofs.Hearing.{without_cause}
+use Rattle.palm_claim.proofs.cited.Causes.{without_cause}
 use Rattle.palm_check.proofs.checker.Checker.claim_conflict.Goals as goal
 
 pub returns-clause-takes : goal.returns-clause-takes
@@ -15,7 +16,7 @@ returns-clause-takes c =
     let book = c.args.self.now.listed.book in
     let x = c.in-Some.var in
     let is : IsVariable book.variables c.args.name.now x = record { declared = c.in-Some.ensures.found.0; named = c.in-Some.ensures.found.1 } in (
-      without_cause (draft_of c.args.self.now) (ConflictClaim c.args.name.now) c.requires.stands
+      without_cause (Meets (draft_of c.args.self.now) (ConflictClaim c.args.name.now)) (λ n. n c.requires.stands)
           (λ m. m (variable_known book.variables c.args.name.now x is))
           (λ h. h) (λ h. h) (λ h. h)
           (λ w. w.2 (subst (λ y. IsReached book c.args.self.now.proved.items (Conflict y)) (variable_is book.variables c.args.name.now x w.0 c.requires.kept.lists.formed.different_variables is w.1) c.if-not-is_empty.ensures.tells)),

@@ -5,7 +5,8 @@ use Rattle.palm_book.specs.Book.{initial_of}
 use Rattle.palm_claim.specs.Step.{pairs_at}
 use Rattle.palm_model.specs.Domains.{Has, without}
 use Rattle.palm_model.specs.Support.{LacksSupport}
-use Rattle.palm_check.proofs.Keeping.{keeps_book, pairs_declared}
+use Rattle.palm_claim.proofs.cited.ProvedSteps.{pairs_declared}
+use Rattle.palm_check.proofs.Keeping.{keeps_book}
 use Rattle.palm_check.proofs.checker.Checker.is_right.Goals as goal
 
 pub lacks_support-requires-clause-removed : goal.lacks_support-requires-clause-removed

@@ -1,8 +1,9 @@
 use Rattle.std.proofs.Common.{inl, inr, arith}
 use Rattle.palm_base.proofs.cited.Telling.{tells_false, tells_true}
 use Rattle.palm_book.proofs.cited.Resolving.{known}
+use Rattle.palm_claim.specs.Verdict.{Meets}
 use Rattle.palm_check.specs.Kept.{draft_of, IsBeyondAlone}
-use Rattle.palm_check.proofs.Hearing.{first_beyond, without_cause}
+use Rattle.palm_claim.proofs.cited.Causes.{first_beyond, without_cause}
 use Rattle.palm_book.proofs.cited.WellFormed.{well_formed}
 use Rattle.palm_claim.specs.declared.statement.Statement.TheVariants.{Constraint}
 use Rattle.palm_check.proofs.checker.Checker.list.Goals as goal
@@ -10,7 +11,7 @@ use Rattle.palm_check.proofs.checker.Checker.list.Goals.{then-is_beyond-via-then
 
 pub returns-then-is_beyond-clause-takes : goal.returns-then-is_beyond-clause-takes
 returns-then-is_beyond-clause-takes c =
-    first_beyond (draft_of c.args.self.now) (Constraint c.args.name c.args.shape) c.requires.stands
+    first_beyond (Meets (draft_of c.args.self.now) (Constraint c.args.name c.args.shape)) (λ n. n c.requires.stands)
     (λ m. elim m [ inl h ↦ c.if-has_constraint.ensures h | inr u ↦ known c.args.self.now.listed.book.variables c.args.shape c.in-Ok.con c.in-Ok.ensures.says u ])
     (elim c.then-is_beyond.branch [
       | then-is_beyond-via-then-is_beyond w ↦ inl (tells_true (IsBeyondAlone (Constraint c.args.name c.args.shape)) c.args.is_beyond c.requires.beyond w.if-is_beyond.true)
@@ -25,7 +26,7 @@ add_constraint-requires-clause-formed c =
 pub returns-clause-takes : goal.returns-clause-takes
 returns-clause-takes c =
     let within = tells_false (IsBeyondAlone (Constraint c.args.name c.args.shape)) c.args.is_beyond c.requires.beyond c.if-is_beyond.false in (
-      without_cause (draft_of c.args.self.now) (Constraint c.args.name c.args.shape) c.requires.stands
+      without_cause (Meets (draft_of c.args.self.now) (Constraint c.args.name c.args.shape)) (λ n. n c.requires.stands)
           (λ m. elim m [ inl h ↦ c.if-has_constraint.ensures h | inr u ↦ known c.args.self.now.listed.book.variables c.args.shape c.in-Ok.con c.in-Ok.ensures.says u ])
           (λ b. elim b [ inl h ↦ within h | inr h ↦ omega (arith, h, c.if-constraints-ge-MOST_CONSTRAINTS.false, c.constraints.ensures.count) ])
           (λ h. h) (λ h. h) (λ h. h),

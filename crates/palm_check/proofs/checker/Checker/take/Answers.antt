@@ -1,7 +1,8 @@
 use Rattle.std.proofs.Common.{inr, subst}
+use Rattle.palm_claim.proofs.cited.Causes.{first_malformed}
+use Rattle.palm_claim.proofs.cited.JudgedLines.{takes_all}
+use Rattle.palm_claim.specs.Verdict.{Meets, certificates}
 use Rattle.palm_check.specs.Kept.{SaysOrNot, draft_of}
-use Rattle.palm_check.proofs.Hearing.{first_malformed}
-use Rattle.palm_check.proofs.Judging.{takes_all}
 use Rattle.palm_check.proofs.Reading.{said_sound}
 use Rattle.palm_check.proofs.checker.Checker.take.Goals as goal
 
@@ -9,7 +10,7 @@ pub returns-then-not-may_stand-clause-takes : goal.returns-then-not-may_stand-cl
 returns-then-not-may_stand-clause-takes c =
     let s = c.in-Some.field-0.statement in
     let says = subst (SaysOrNot c.args.line.now) c.in-Some.is c.in_ok-statement.ensures.says in
-    inr (s, says, first_malformed (draft_of c.args.self.now) s c.if-not-may_stand.ensures)
+    inr (s, says, first_malformed (Meets (draft_of c.args.self.now) s) c.if-not-may_stand.ensures)
 
 pub hear-requires-clause-sound : goal.hear-requires-clause-sound
 hear-requires-clause-sound c =
@@ -18,4 +19,4 @@ hear-requires-clause-sound c =
 pub returns-clause-takes : goal.returns-clause-takes
 returns-clause-takes c =
     let says = subst (SaysOrNot c.args.line.now) c.in-Some.is c.in_ok-statement.ensures.says in
-    takes_all (draft_of c.args.self.now) (draft_of c.hear.new.self) c.args.line.now c.in-Some.field-0.statement c.hear.result says c.hear.ensures.takes
+    takes_all certificates (draft_of c.args.self.now) (draft_of c.hear.new.self) c.args.line.now c.in-Some.field-0.statement c.hear.result says c.hear.ensures.takes

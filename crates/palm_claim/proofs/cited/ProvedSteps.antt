@@ -1,41 +1,20 @@
--- First causes, and statements without one.
-use Rattle.std.proofs.Common.{◌≡◌, ◌≢◌, ℕ, ◌<◌, ◌≤◌, Option, Some, None, IfSome, List, length, get_or, slice_get, All, Any, AllPairs, Contains, ◌⊎◌, inl, inr, refl, sym, ap, ◌∙◌, subst, arith}
+-- What a checker finds of a step: the one constraint that has its name, whether its reasons are earlier, and that its pairs
+-- stay declared.
+use Rattle.std.proofs.Common.{◌≡◌, ◌≢◌, ℕ, zero, suc, ℤ, ◌<◌, ◌≤◌, Option, Some, None, IfSome, List, [], ◌∷◌, ◌++◌, length, get_or, slice_get, All, Any, AllPairs, Contains, ◌⊎◌, inl, inr, refl, sym, ap, ◌∙◌, subst, arith}
 use Rattle.std.proofs.lemmas.Bool.{cases_lt}
-use Rattle.std.proofs.lemmas.List.{get_or_default}
-use Rattle.std.proofs.lemmas.List.Elements.{All-contains}
+use Rattle.std.proofs.lemmas.List.{get_or_default, map_push}
+use Rattle.std.proofs.lemmas.List.Elements.{All-contains, All-weaker}
 use Rattle.std.proofs.lemmas.Option.{none-some, slice_get_cases}
-use Rattle.palm_base.specs.First.{IsFirst, IsNone}
 use Rattle.palm_base.specs.declared.terms.Pair.{Pair}
-use Rattle.palm_base.proofs.cited.Members.{Known, all_members, any_known, member_get}
-use Rattle.palm_book.specs.Book.{Contents, initial_of}
+use Rattle.palm_base.proofs.cited.Members.{Known, all_members, any_known, member_get, member_unmap}
+use Rattle.palm_book.specs.Book.{Contents, BookVar, initial_of, with_variable}
 use Rattle.palm_book.specs.declared.book.BookCon.{BookCon}
 use Rattle.palm_book.proofs.cited.Any.{any_member, member_any}
-use Rattle.palm_model.specs.Domains.{without}
+use Rattle.palm_model.specs.Domains.{Domains, Has, without}
 use Rattle.palm_model.specs.Support.{LacksSupport}
-use Rattle.palm_claim.specs.Draft.{Draft, MayStand}
 use Rattle.palm_claim.specs.Statement.{IsStepNumber}
-use Rattle.palm_claim.specs.Step.{IsRight, pairs_at}
-use Rattle.palm_claim.specs.Verdict.{HasUnproved, IsBeyondLimits, IsMisdeclared, IsNotReached, IsNotRight, Meets, in_order}
-use Rattle.palm_claim.specs.declared.statement.Statement.{Statement}
-use Rattle.palm_claim.specs.declared.verdict.Cause.TheVariants.{Malformed, Misdeclared, Beyond, Unproved, NotRight}
-
-pub first_malformed : (d : Draft) (s : Statement) → (MayStand d.stage s → ⊥) → IsFirst (Meets d s) in_order Malformed
-first_malformed d s n = inl (n, refl)
-
-pub first_misdeclared : (d : Draft) (s : Statement) → MayStand d.stage s → IsMisdeclared d s → IsFirst (Meets d s) in_order Misdeclared
-first_misdeclared d s stands m = inr (λ n. n stands, inl (m, refl))
-
-pub first_beyond : (d : Draft) (s : Statement) → MayStand d.stage s → (IsMisdeclared d s → ⊥) → IsBeyondLimits d s → IsFirst (Meets d s) in_order Beyond
-first_beyond d s stands declared b = inr (λ n. n stands, inr (declared, inl (b, refl)))
-
-pub first_unproved : (d : Draft) (s : Statement) → MayStand d.stage s → (IsMisdeclared d s → ⊥) → (IsBeyondLimits d s → ⊥) → HasUnproved d s → IsFirst (Meets d s) in_order Unproved
-first_unproved d s stands declared within u = inr (λ n. n stands, inr (declared, inr (within, inl (u, refl))))
-
-pub first_not_right : (d : Draft) (s : Statement) → MayStand d.stage s → (IsMisdeclared d s → ⊥) → (IsBeyondLimits d s → ⊥) → (HasUnproved d s → ⊥) → IsNotRight d s → IsFirst (Meets d s) in_order NotRight
-first_not_right d s stands declared within proved w = inr (λ n. n stands, inr (declared, inr (within, inr (proved, inl (w, refl)))))
-
-pub without_cause : (d : Draft) (s : Statement) → MayStand d.stage s → (IsMisdeclared d s → ⊥) → (IsBeyondLimits d s → ⊥) → (HasUnproved d s → ⊥) → (IsNotRight d s → ⊥) → (IsNotReached d s → ⊥) → IsNone (Meets d s) in_order
-without_cause d s stands declared within proved right reached = (λ n. n stands, (declared, (within, (proved, (right, (reached, tt))))))
+use Rattle.palm_claim.specs.Step.{IsRight, pair_at, pairs_at}
+use Rattle.palm_claim.proofs.cited.Explained.{proved_member}
 
 -- ---- names
 
@@ -43,7 +22,7 @@ pub constraint_known : (cs : List BookCon) (place : ℕ) (by : List ℕ) (c : Bo
 constraint_known cs place by c at named = any_member (λ (d : BookCon). d.name ≡ by) cs c (member_get cs place c at) named
 
 -- only one constraint has a name
-same_constraint : (cs : List BookCon) (c d : BookCon) → AllPairs (λ (a b : BookCon). a.name ≢ b.name) cs → Contains cs c → Contains cs d → c.name ≡ d.name → c ≡ d
+pub same_constraint : (cs : List BookCon) (c d : BookCon) → AllPairs (λ (a b : BookCon). a.name ≢ b.name) cs → Contains cs c → Contains cs d → c.name ≡ d.name → c ≡ d
 same_constraint cs c d apart m n e =
     elim (cases_lt m.0 n.0) [
       | inl l ↦ absurd (apart m.0 n.0 c l n.1 (ap (λ (z : BookCon). z.name) (m.2) ∙ e ∙ sym (ap (λ (z : BookCon). z.name) (get_or_default cs n.0 c d n.1 ∙ n.2))))
@@ -106,3 +85,27 @@ found_at cs place by found lt = go (slice_get cs place) refl found
         past : (slice_get cs place ≡ slice_get cs place) × (((c : BookCon) × (place < length cs) × (slice_get cs place ≡ Some c) × (get_or cs place c ≡ c)) ⊎ ((length cs ≤ place) × (slice_get cs place ≡ None))) → slice_get cs place ≡ None → ⊥
         past r e = elim r.1 [ inl s ↦ none-some s.0 (sym e ∙ s.2) | inr s ↦ omega (arith, s.0, lt) ]
     go (Some c) e f = (c, e, f)
+
+-- ---- declared pairs
+
+has_push : (d : Domains) (vs : List ℤ) (x : ℕ) (v : ℤ) → Has d x v → Has (d ++ vs ∷ []) x v
+has_push [] vs x v h = absurd (omega (arith, h.1))
+has_push (w ∷ ws) vs zero v h = h
+has_push (w ∷ ws) vs (suc x) v h = has_push ws vs x v h
+
+-- pairs stay declared where one more variable is
+pub still_declared : (book : Contents) (name : List ℕ) (vs : List ℤ) (proved : List Pair) → All (λ p. Has (initial_of book) p.var p.value) proved
+    → All (λ p. Has (initial_of (with_variable book name vs)) p.var p.value) proved
+still_declared book name vs proved declared =
+    let entry : BookVar = record { name = name; values = vs } in
+    let bigger : Contents = with_variable book name vs in
+    let pushed : initial_of bigger ≡ initial_of book ++ vs ∷ [] = map_push (λ (e : BookVar). e.values) book.variables entry in
+    All-weaker (λ (p : Pair). Has (initial_of book) p.var p.value) (λ (p : Pair). Has (initial_of bigger) p.var p.value)
+    (λ p h. subst (λ (ds : Domains). Has ds p.var p.value) (sym pushed) (has_push (initial_of book) vs p.var p.value h)) proved declared
+
+-- what holds of all pairs that were proved holds of those of the reasons
+pub pairs_declared : (P : Pair → Type 0) (proved : List Pair) (reasons : List ℕ) → All P proved → All (λ k. (1 ≤ k) × (k ≤ length proved)) reasons → All P (pairs_at proved reasons)
+pairs_declared P proved reasons all fit = all_members P (pairs_at proved reasons) (λ p m.
+    let u = member_unmap (pair_at proved) reasons p m in
+    let bounds = All-contains (λ k. (1 ≤ k) × (k ≤ length proved)) reasons u.0 fit u.1 in
+    subst P u.2 (All-contains P proved (pair_at proved u.0) all (proved_member proved u.0 bounds.0 bounds.1)))
