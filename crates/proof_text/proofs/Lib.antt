@@ -1,0 +1,6 @@
+pub mod cited
+pub mod Excluding
+pub mod Grounds
+pub mod Known
+pub mod Stages
+pub mod Steps

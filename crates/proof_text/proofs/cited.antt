@@ -1,0 +1,7 @@
+-- Lemmas that other crates cite.
+pub mod Accepted
+pub mod Names
+pub mod Phrases
+pub mod Saying
+pub mod Unique
+pub mod Using

@@ -1,0 +1,110 @@
+-- What the lines of a proof have said so far, which lines may follow, and what each adds.
+use Rattle.std.specs.Prelude.{◌≡◌, ℕ, ℤ, List, [], ◌∷◌, ◌++◌, map, Contains, ⊤}
+use Rattle.palm_base.specs.declared.terms.Pair.{Pair}
+use Rattle.palm_base.specs.declared.terms.Cid.{Cid}
+use Rattle.palm_base.specs.declared.terms.Cid.TheVariants.{User}
+use Rattle.palm_book.specs.Book.{BookVar, Contents, with_listed}
+use Rattle.palm_book.specs.Book as in_book
+use Rattle.palm_book.specs.Named.{IsPair, Resolves}
+use Rattle.palm_book.specs.declared.book.BookCon.{BookCon}
+use Rattle.palm_model.specs.declared.constraint.Con.{Con}
+use Rattle.palm_read.specs.Domain.{values_in}
+use Rattle.palm_claim.specs.Step.{Given}
+use Rattle.palm_claim.specs.declared.ground.Ground.{Ground}
+use Rattle.palm_claim.specs.declared.ground.Ground.TheVariants.{By, Assumed, OfLemma}
+use Rattle.proof_text.specs.Users.{AreUsed}
+use Rattle.proof_text.specs.declared.lemma.Lemma.{Lemma}
+use Rattle.proof_text.specs.declared.statement.NamedPair.{NamedPair}
+use Rattle.proof_text.specs.declared.statement.Stage.{Stage}
+use Rattle.proof_text.specs.declared.statement.Stage.TheVariants.{Unopened, Declaring, Listing, Reasoning, Wiped, Told, Closed}
+use Rattle.proof_text.specs.declared.statement.Statement.{Statement}
+use Rattle.proof_text.specs.declared.statement.Statement.TheVariants.{Comment, Header, Variable, Constraint, Lemma as LemmaLine, Step, Wipe, Users, End}
+
+-- a part of a proof: how far it has come, its variables and constraints, the lemmas that are done, and of the lemma begun
+-- what it has so far, and the pair that each of its steps proved
+pub record Draft : Type 0 where
+  pub stage : Stage
+  pub book : Contents
+  pub lemmas : List Lemma
+  pub begun : Lemma
+  pub proved : List Pair
+
+-- a lemma that has no step yet
+abbrev pub unproved : List Pair → Lemma
+unproved pairs = record { pairs = pairs; constraints = []; lemmas = [] }
+
+-- nothing was said
+abbrev pub blank : Draft
+blank = record { stage = Unopened; book = record { variables = []; constraints = [] }; lemmas = []; begun = unproved []; proved = [] }
+
+-- what is given to the steps of the lemma begun
+abbrev pub given_in : Draft → Given
+given_in d = record { pairs = d.begun.pairs; lemmas = map (λ l. l.pairs) d.lemmas }
+
+-- ---- the order of the lines
+
+-- a line that says this may stand there: the header first, then variables, constraints, lemmas each of which ends with its
+-- wipe, the users and the end
+abbrev pub MayStand : Stage → Statement → Type 0
+MayStand stage Comment = ⊤
+MayStand stage Header = stage ≡ Unopened
+MayStand stage (Variable name domain) = stage ≡ Declaring
+MayStand Declaring (Constraint name shape) = ⊤
+MayStand Listing (Constraint name shape) = ⊤
+MayStand stage (Constraint name shape) = ⊥
+MayStand Declaring (LemmaLine pairs) = ⊤
+MayStand Listing (LemmaLine pairs) = ⊤
+MayStand Wiped (LemmaLine pairs) = ⊤
+MayStand stage (LemmaLine pairs) = ⊥
+MayStand stage (Step name value why) = stage ≡ Reasoning
+MayStand stage (Wipe name) = stage ≡ Reasoning
+MayStand stage (Users names) = stage ≡ Wiped
+MayStand (Told users) End = ⊤
+MayStand stage End = ⊥
+
+-- ---- what a line adds
+
+abbrev pub with_variable : Draft → List ℕ → List ℤ → Draft
+with_variable d name values = record d { book = in_book.with_variable d.book name values }
+
+abbrev pub with_constraint : Draft → List ℕ → Con → Draft
+with_constraint d name con = record d { stage = Listing; book = with_listed d.book name con }
+
+abbrev pub with_lemma : Draft → List Pair → Draft
+with_lemma d pairs = record d { stage = Reasoning; begun = unproved pairs; proved = [] }
+
+abbrev pub with_step : Draft → Pair → Lemma → Draft
+with_step d pair lemma = record d { begun = lemma; proved = d.proved ++ pair ∷ [] }
+
+abbrev pub with_wipe : Draft → Draft
+with_wipe d = record d { stage = Wiped; lemmas = d.lemmas ++ d.begun ∷ [] }
+
+abbrev pub at_stage : Draft → Stage → Draft
+at_stage d stage = record d { stage = stage }
+
+-- the users of constraints
+abbrev pub users_of : List BookCon → List Cid
+users_of constraints = map (λ c. User c.number) constraints
+
+-- the pairs of the variables with these names
+abbrev pub ArePairs : List BookVar → List NamedPair → List Pair → Type 0
+ArePairs variables [] pairs = pairs ≡ []
+ArePairs variables (n ∷ ns) pairs = (pair : Pair) × (rest : List Pair) × IsPair variables n.name n.value pair × (pairs ≡ pair ∷ rest) × ArePairs variables ns rest
+
+-- the lemma begun, behind a step with the ground
+abbrev pub Notes : Draft → Ground → Lemma → Type 0
+Notes d (By name reasons) lemma = (c : BookCon) × Contains d.book.constraints c × (c.name ≡ name) × (lemma ≡ record d.begun { constraints = d.begun.constraints ++ c.number ∷ [] })
+Notes d Assumed lemma = lemma ≡ d.begun
+Notes d (OfLemma number) lemma = lemma ≡ record d.begun { lemmas = d.begun.lemmas ++ number ∷ [] }
+
+-- the draft behind a line that says this
+abbrev pub Leads : Draft → Statement → Draft → Type 0
+Leads d Comment e = e ≡ d
+Leads d Header e = e ≡ at_stage d Declaring
+Leads d (Variable name domain) e = e ≡ with_variable d name (values_in domain)
+Leads d (Constraint name shape) e = (con : Con) × Resolves d.book.variables shape con × (e ≡ with_constraint d name con)
+Leads d (LemmaLine named) e = (pairs : List Pair) × ArePairs d.book.variables named pairs × (e ≡ with_lemma d pairs)
+Leads d (Step name value why) e = (pair : Pair) × (lemma : Lemma) × IsPair d.book.variables name value pair × Notes d why lemma × (e ≡ with_step d pair lemma)
+Leads d (Wipe name) e = e ≡ with_wipe d
+Leads d (Users names) e = (used : List BookCon) × AreUsed d.book d.lemmas d.begun used × (e ≡ at_stage d (Told (users_of used)))
+Leads d End e = (users : List Cid) × (d.stage ≡ Told users) × (e ≡ at_stage d (Closed users))
