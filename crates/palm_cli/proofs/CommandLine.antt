@@ -1,4 +1,4 @@
--- What clap makes of words without a leading `-`, for a command with the subcommands `run`, `check` and `gen`.
+-- What clap makes of words without a leading `-`, for a command with the subcommands `run`, `check`, `proof` and `gen`.
 use Rattle.std.proofs.Common.{◌≡◌, ℕ, ◌++◌, Bool, true, false, List, [], ◌∷◌, fold, All, Option, Some, None, option_map, codes, refl, sym, ap, ap₂, ◌∙◌, subst, ◌||◌, ◌&&◌, inl, inr, option_and_then, if◌then◌else◌}
 use Rattle.std.specs.Option.{option_map_or}
 use Rattle.std.specs.Str.{bytes_eq}
@@ -26,7 +26,9 @@ use Rattle.clap.specs.Walk.{Held, Names, Row, Rule, Text, Walk, Step, idle, valu
 use Rattle.clap.specs.declared.error.kind.ErrorKind.{ErrorKind}
 use Rattle.clap.specs.declared.error.kind.ErrorKind.TheVariants as kind
 use Rattle.clap.proofs.OnLiterals.{clap_on_literals}
-use Rattle.palm_cli.specs.Words.{IsRun, IsCheck, IsNoCommand}
+use Rattle.palm_cli.specs.Words.{IsRun, IsJudge, IsNoCommand}
+use Rattle.palm_cli.specs.declared.words.Evidence.{Evidence}
+use Rattle.palm_cli.specs.declared.words.Evidence.TheVariants.{Certificate, Proof}
 use Rattle.palm_cli.proofs.WordLemmas.{IsBare, HasSize}
 
 -- ---- the command, and the same as it is built
@@ -36,6 +38,9 @@ run_text = codes "run"
 
 abbrev pub check_text : Text
 check_text = codes "check"
+
+abbrev pub proof_text : Text
+proof_text = codes "proof"
 
 abbrev pub gen_text : Text
 gen_text = codes "gen"
@@ -56,7 +61,7 @@ abbrev pub bare_app : App
 bare_app = record { top = plain_shape (codes "palm"); subs = [] }
 
 abbrev pub palm_app : App
-palm_app = with_subcommand (with_subcommand (with_subcommand bare_app (new_app run_text).top) (new_app check_text).top) gen_app.top
+palm_app = with_subcommand (with_subcommand (with_subcommand (with_subcommand bare_app (new_app run_text).top) (new_app check_text).top) (new_app proof_text).top) gen_app.top
 
 pub is_free : is_simple_and_free palm_app ≡ true
 unfolding clap_on_literals
@@ -77,10 +82,10 @@ abbrev top_shape : Shape
 top_shape = record (plain_shape (codes "palm")) { is_built = true; is_leaf = false }
 
 abbrev built_app : App
-built_app = record { top = top_shape; subs = alone_shape run_text ∷ alone_shape check_text ∷ gen_shape ∷ [] }
+built_app = record { top = top_shape; subs = alone_shape run_text ∷ alone_shape check_text ∷ alone_shape proof_text ∷ gen_shape ∷ [] }
 
 abbrev names : Names
-names = (run_text, []) ∷ (check_text, []) ∷ (gen_text, []) ∷ []
+names = (run_text, []) ∷ (check_text, []) ∷ (proof_text, []) ∷ (gen_text, []) ∷ []
 
 is_built : built palm_app ≡ built_app
 is_built = refl
@@ -152,8 +157,8 @@ plain_turn s subs h place w bare met =
     ap (λ (m : Option Text). or_else (other_fault s m w h) (step_fault s place (subcommand_or_other s.rules m idle place w h).0 (subcommand_or_other s.rules m idle place w h).1)) met
     ∙ ap₂ (λ (k : Kinds) (q : Held × Step). or_else k (step_fault s place q.0 q.1)) (no_fault s w h p) (is_value s.rules w place h p)
 
-no_name : (w : Text) → bytes_eq run_text w ≡ false → bytes_eq check_text w ≡ false → bytes_eq gen_text w ≡ false → subcommand_met names idle w ≡ None
-no_name w r c g = rw (r, c, g) refl
+no_name : (w : Text) → bytes_eq run_text w ≡ false → bytes_eq check_text w ≡ false → bytes_eq proof_text w ≡ false → bytes_eq gen_text w ≡ false → subcommand_met names idle w ≡ None
+no_name w r c p g = rw (r, c, p, g) refl
 
 -- ---- the fault of the subcommand that was met
 
@@ -172,6 +177,10 @@ meets_run ws = stopped [] names (walked [] names (walk_from nothing_held) run_te
 meets_check : (ws : List Text) → stop_after [] names (check_text ∷ ws) ≡ Some (check_text, ws)
 unfolding walked
 meets_check ws = stopped [] names (walked [] names (walk_from nothing_held) check_text) check_text [] ws refl
+
+meets_proof : (ws : List Text) → stop_after [] names (proof_text ∷ ws) ≡ Some (proof_text, ws)
+unfolding walked
+meets_proof ws = stopped [] names (walked [] names (walk_from nothing_held) proof_text) proof_text [] ws refl
 
 meets_gen : (ws : List Text) → stop_after [] names (gen_text ∷ ws) ≡ Some (gen_text, ws)
 unfolding walked
@@ -192,10 +201,10 @@ fails_here s subs w ws has below n e =
     fails_first (walk_fault s subs (walk_from nothing_held) (w ∷ ws)) _ (λ z. fails_first (turn_fault s subs (walk_from nothing_held) w) (walk_fault s subs (walked s.rules subs (walk_from nothing_held) w) ws) n z) e
 
 -- a first word that names no subcommand
-stray : (w : Text) (ws : List Text) → IsBare w → bytes_eq run_text w ≡ false → bytes_eq check_text w ≡ false → bytes_eq gen_text w ≡ false
+stray : (w : Text) (ws : List Text) → IsBare w → bytes_eq run_text w ≡ false → bytes_eq check_text w ≡ false → bytes_eq proof_text w ≡ false → bytes_eq gen_text w ≡ false
     → built_fault built_app nothing_held (w ∷ ws) ≡ [] → ⊥
-stray w ws bare r c g e =
-    fails_here top_shape names w ws _ _ (no_kinds _ kind.UnknownArgument (kind.InvalidSubcommand ∷ []) (plain_turn top_shape names nothing_held 1 w bare (no_name w r c g))) e
+stray w ws bare r c p g e =
+    fails_here top_shape names w ws _ _ (no_kinds _ kind.UnknownArgument (kind.InvalidSubcommand ∷ []) (plain_turn top_shape names nothing_held 1 w bare (no_name w r c p g))) e
 
 -- `run` takes no further word
 run_more : (x : Text) (xs : List Text) → IsBare x → entered_fault built_app (Some (run_text, x ∷ xs)) ≡ [] → ⊥
@@ -204,6 +213,10 @@ run_more x xs bare e = fails_here (alone_shape run_text) [] x xs false [] (no_ki
 -- nor does `check`
 check_more : (x : Text) (xs : List Text) → IsBare x → entered_fault built_app (Some (check_text, x ∷ xs)) ≡ [] → ⊥
 check_more x xs bare e = fails_here (alone_shape check_text) [] x xs false [] (no_kinds _ kind.UnknownArgument [] (plain_turn (alone_shape check_text) [] nothing_held 1 x bare refl)) e
+
+-- nor does `proof`
+proof_more : (x : Text) (xs : List Text) → IsBare x → entered_fault built_app (Some (proof_text, x ∷ xs)) ≡ [] → ⊥
+proof_more x xs bare e = fails_here (alone_shape proof_text) [] x xs false [] (no_kinds _ kind.UnknownArgument [] (plain_turn (alone_shape proof_text) [] nothing_held 1 x bare refl)) e
 
 -- ---- `gen` takes one, and no more
 
@@ -244,6 +257,14 @@ check_seen : seen (entered built_app (stop_after [] names (check_text ∷ []))) 
 unfolding clap_on_literals
 check_seen = refl
 
+proof_taken : built_fault built_app nothing_held (proof_text ∷ []) ≡ []
+unfolding clap_on_literals
+proof_taken = refl
+
+proof_seen : seen (entered built_app (stop_after [] names (proof_text ∷ []))) ≡ Some (proof_text, None)
+unfolding clap_on_literals
+proof_seen = refl
+
 no_words : seen (entered built_app (stop_after [] names [])) ≡ None
 no_words = refl
 
@@ -268,14 +289,19 @@ gen_seen x bare = ap (λ (w : Walk). Some (gen_text, first_of size_text (finishe
 
 -- ---- what the words come to
 
--- they are not `run`, not `check`, and not `gen` and another word
+-- they are not `run`, not `check` or `proof`, and not `gen` and another word
 pub record IsNeither (words : List Text) : Type 0 where
   pub no_run : IsRun words → ⊥
-  pub no_check : IsCheck words → ⊥
+  pub no_judge : (evidence : Evidence) → IsJudge words evidence → ⊥
   pub no_gen : (word : Text) → HasSize words word → ⊥
 
 no_command : (words : List Text) → IsNeither words → IsNoCommand words
-no_command words n = record { no_run = n.no_run; no_check = n.no_check; no_gen = λ size g. n.no_gen g.word g.whole }
+no_command words n = record { no_run = n.no_run; no_judge = n.no_judge; no_gen = λ size g. n.no_gen g.word g.whole }
+
+-- neither of the two words that judge a text
+no_judge_by : (words : List Text) → (words ≡ check_text ∷ [] → ⊥) → (words ≡ proof_text ∷ [] → ⊥) → (evidence : Evidence) → IsJudge words evidence → ⊥
+no_judge_by words c p Certificate e = c e
+no_judge_by words c p Proof e = p e
 
 -- the words are this one alone
 abbrev pub IsAlone : List Text → Text → Type 0
@@ -318,10 +344,13 @@ run_is_not_check = not_equal run_text check_text refl
 check_is_not_gen : check_text ≡ gen_text → ⊥
 check_is_not_gen = not_equal check_text gen_text refl
 
-other_words : (w : Text) (ws : List Text) → (run_text ≡ w → ⊥) → (check_text ≡ w → ⊥) → (gen_text ≡ w → ⊥) → IsNeither (w ∷ ws)
-other_words w ws r c g = record {
+proof_is_not_gen : proof_text ≡ gen_text → ⊥
+proof_is_not_gen = not_equal proof_text gen_text refl
+
+other_words : (w : Text) (ws : List Text) → (run_text ≡ w → ⊥) → (check_text ≡ w → ⊥) → (proof_text ≡ w → ⊥) → (gen_text ≡ w → ⊥) → IsNeither (w ∷ ws)
+other_words w ws r c p g = record {
   no_run = λ e. r (sym (heads w run_text ws [] e));
-  no_check = λ e. c (sym (heads w check_text ws [] e));
+  no_judge = no_judge_by (w ∷ ws) (λ e. c (sym (heads w check_text ws [] e))) (λ e. p (sym (heads w proof_text ws [] e)));
   no_gen = λ word e. g (sym (heads w gen_text ws (word ∷ []) e));
 }
 
@@ -331,7 +360,7 @@ runs (x ∷ xs) bare =
     refused_by (run_text ∷ x ∷ xs) (fails_below (run_text ∷ x ∷ xs) run_text (x ∷ xs) (meets_run (x ∷ xs)) (run_more x xs (All-head IsBare x xs bare)))
     (record {
       no_run = λ e. longer run_text x run_text xs e;
-      no_check = λ e. longer run_text x check_text xs e;
+      no_judge = no_judge_by (run_text ∷ x ∷ xs) (λ e. longer run_text x check_text xs e) (λ e. longer run_text x proof_text xs e);
       no_gen = λ word e. run_is_not_gen (heads run_text gen_text (x ∷ xs) (word ∷ []) e);
     })
 
@@ -341,8 +370,18 @@ checks (x ∷ xs) bare =
     refused_by (check_text ∷ x ∷ xs) (fails_below (check_text ∷ x ∷ xs) check_text (x ∷ xs) (meets_check (x ∷ xs)) (check_more x xs (All-head IsBare x xs bare)))
     (record {
       no_run = λ e. longer check_text x run_text xs e;
-      no_check = λ e. longer check_text x check_text xs e;
+      no_judge = no_judge_by (check_text ∷ x ∷ xs) (λ e. longer check_text x check_text xs e) (λ e. longer check_text x proof_text xs e);
       no_gen = λ word e. check_is_not_gen (heads check_text gen_text (x ∷ xs) (word ∷ []) e);
+    })
+
+proofs : (ws : List Text) → All IsBare ws → Outcome (proof_text ∷ ws)
+proofs [] bare = is_alone proof_text refl (fault_is (proof_text ∷ []) ∙ proof_taken) (sees (proof_text ∷ []) (Some (proof_text, None)) proof_seen)
+proofs (x ∷ xs) bare =
+    refused_by (proof_text ∷ x ∷ xs) (fails_below (proof_text ∷ x ∷ xs) proof_text (x ∷ xs) (meets_proof (x ∷ xs)) (proof_more x xs (All-head IsBare x xs bare)))
+    (record {
+      no_run = λ e. longer proof_text x run_text xs e;
+      no_judge = no_judge_by (proof_text ∷ x ∷ xs) (λ e. longer proof_text x check_text xs e) (λ e. longer proof_text x proof_text xs e);
+      no_gen = λ word e. proof_is_not_gen (heads proof_text gen_text (x ∷ xs) (word ∷ []) e);
     })
 
 gens : (ws : List Text) → All IsBare ws → Outcome (gen_text ∷ ws)
@@ -350,7 +389,7 @@ gens [] bare =
     refused_by (gen_text ∷ []) gen_none
     (record {
       no_run = λ e. run_is_not_gen (sym (heads gen_text run_text [] [] e));
-      no_check = λ e. check_is_not_gen (sym (heads gen_text check_text [] [] e));
+      no_judge = no_judge_by (gen_text ∷ []) (λ e. check_is_not_gen (sym (heads gen_text check_text [] [] e))) (λ e. proof_is_not_gen (sym (heads gen_text proof_text [] [] e)));
       no_gen = λ word e. shorter gen_text gen_text word e;
     })
 gens (x ∷ []) bare =
@@ -361,35 +400,37 @@ gens (x ∷ y ∷ ys) bare =
     (gen_more x y ys (All-head IsBare x (y ∷ ys) bare) (All-head IsBare y ys (All-tail IsBare x (y ∷ ys) bare))))
     (record {
       no_run = λ e. longer gen_text x run_text (y ∷ ys) e;
-      no_check = λ e. longer gen_text x check_text (y ∷ ys) e;
+      no_judge = no_judge_by (gen_text ∷ x ∷ y ∷ ys) (λ e. longer gen_text x check_text (y ∷ ys) e) (λ e. longer gen_text x proof_text (y ∷ ys) e);
       no_gen = λ word e. much_longer gen_text x y gen_text word ys e;
     })
 
-by_name : (w : Text) (ws : List Text) → All IsBare (w ∷ ws) → (r c g : Bool) → bytes_eq run_text w ≡ r → bytes_eq check_text w ≡ c → bytes_eq gen_text w ≡ g → Outcome (w ∷ ws)
-by_name w ws bare true c g is second third = subst (λ (z : Text). Outcome (z ∷ ws)) ((bytes_eq-Decides run_text w).0 is) (runs ws (All-tail IsBare w ws bare))
-by_name w ws bare false true g is second third = subst (λ (z : Text). Outcome (z ∷ ws)) ((bytes_eq-Decides check_text w).0 second) (checks ws (All-tail IsBare w ws bare))
-by_name w ws bare false false true is second third = subst (λ (z : Text). Outcome (z ∷ ws)) ((bytes_eq-Decides gen_text w).0 third) (gens ws (All-tail IsBare w ws bare))
-by_name w ws bare false false false is second third =
-    refused_by (w ∷ ws) (stray w ws (All-head IsBare w ws bare) is second third)
-    (other_words w ws (not_equal run_text w is) (not_equal check_text w second) (not_equal gen_text w third))
+by_name : (w : Text) (ws : List Text) → All IsBare (w ∷ ws) → (r c p g : Bool) → bytes_eq run_text w ≡ r → bytes_eq check_text w ≡ c → bytes_eq proof_text w ≡ p → bytes_eq gen_text w ≡ g → Outcome (w ∷ ws)
+by_name w ws bare true c p g is second third fourth = subst (λ (z : Text). Outcome (z ∷ ws)) ((bytes_eq-Decides run_text w).0 is) (runs ws (All-tail IsBare w ws bare))
+by_name w ws bare false true p g is second third fourth = subst (λ (z : Text). Outcome (z ∷ ws)) ((bytes_eq-Decides check_text w).0 second) (checks ws (All-tail IsBare w ws bare))
+by_name w ws bare false false true g is second third fourth = subst (λ (z : Text). Outcome (z ∷ ws)) ((bytes_eq-Decides proof_text w).0 third) (proofs ws (All-tail IsBare w ws bare))
+by_name w ws bare false false false true is second third fourth = subst (λ (z : Text). Outcome (z ∷ ws)) ((bytes_eq-Decides gen_text w).0 fourth) (gens ws (All-tail IsBare w ws bare))
+by_name w ws bare false false false false is second third fourth =
+    refused_by (w ∷ ws) (stray w ws (All-head IsBare w ws bare) is second third fourth)
+    (other_words w ws (not_equal run_text w is) (not_equal check_text w second) (not_equal proof_text w third) (not_equal gen_text w fourth))
 
 no_list : (a : Text) (xs : List Text) → [] ≡ a ∷ xs → ⊥
 no_list a xs e = cc
 
 pub outcome : (words : List Text) → All IsBare words → Outcome words
 outcome [] bare =
-    nothing (record { no_run = λ e. no_list run_text [] e; no_check = λ e. no_list check_text [] e; no_gen = λ word e. no_list gen_text (word ∷ []) e }) (sees [] None no_words)
-outcome (w ∷ ws) bare = by_name w ws bare (bytes_eq run_text w) (bytes_eq check_text w) (bytes_eq gen_text w) refl refl refl
+    nothing (record { no_run = λ e. no_list run_text [] e; no_judge = no_judge_by [] (λ e. no_list check_text [] e) (λ e. no_list proof_text [] e); no_gen = λ word e. no_list gen_text (word ∷ []) e }) (sees [] None no_words)
+outcome (w ∷ ws) bare = by_name w ws bare (bytes_eq run_text w) (bytes_eq check_text w) (bytes_eq proof_text w) (bytes_eq gen_text w) refl refl refl refl
 
 -- ---- the command as the code makes it
 
-pub palm_from : (size : Arg) (made generate run check p0 p1 p2 p3 p4 first second palm : Command)
+pub palm_from : (size : Arg) (made generate run check proof p0 p1 p2 p3 p4 first second third palm : Command)
     → rule_of size ≡ size_rule → size.global ≡ false → app_of made ≡ new_app gen_text → (out-Command made).has_globals ≡ false → AddsArg made size generate
-    → app_of run ≡ new_app run_text → (out-Command run).has_globals ≡ false → app_of check ≡ new_app check_text → (out-Command check).has_globals ≡ false → app_of p0 ≡ new_app (codes "palm")
+    → app_of run ≡ new_app run_text → (out-Command run).has_globals ≡ false → app_of check ≡ new_app check_text → (out-Command check).has_globals ≡ false
+    → app_of proof ≡ new_app proof_text → (out-Command proof).has_globals ≡ false → app_of p0 ≡ new_app (codes "palm")
     → out-Command p1 ≡ record (out-Command p0) { no_binary_name = true } → out-Command p2 ≡ record (out-Command p1) { disable_help_flag = true }
     → out-Command p3 ≡ record (out-Command p2) { disable_help_subcommand = true } → out-Command p4 ≡ record (out-Command p3) { disable_version_flag = true }
-    → AddsSubcommand p4 run first → AddsSubcommand first check second → AddsSubcommand second generate palm → app_of palm ≡ palm_app
-palm_from size made generate run check p0 p1 p2 p3 p4 first second palm rule local made_is made_local adds run_is run_local check_is check_local p0_is e1 e2 e3 e4 one two three =
+    → AddsSubcommand p4 run first → AddsSubcommand first check second → AddsSubcommand second proof third → AddsSubcommand third generate palm → app_of palm ≡ palm_app
+palm_from size made generate run check proof p0 p1 p2 p3 p4 first second third palm rule local made_is made_local adds run_is run_local check_is check_local proof_is proof_local p0_is e1 e2 e3 e4 one two three four =
     let gen_is : app_of generate ≡ gen_app = adds.shape local ∙ ap₂ with_rule made_is rule in
     let gen_local : (out-Command generate).has_globals ≡ false = adds.globals ∙ ap₂ (λ (a b : Bool). a || b) made_local local in
     let p1_is : app_of p1 ≡ on_top (λ s. record s { no_binary_name = true }) (app_of p0) = ap app_of_fields e1 in
@@ -402,7 +443,9 @@ palm_from size made generate run check p0 p1 p2 p3 p4 first second palm rule loc
     let first_is : app_of first ≡ with_subcommand bare_app (new_app run_text).top = one.shape run_local ∙ ap₂ with_subcommand bare_is (ap (λ (a : App). a.top) run_is) in
     let second_is : app_of second ≡ with_subcommand (with_subcommand bare_app (new_app run_text).top) (new_app check_text).top =
     two.shape check_local ∙ ap₂ with_subcommand first_is (ap (λ (a : App). a.top) check_is) in
-    three.shape gen_local ∙ ap₂ with_subcommand second_is (ap (λ (a : App). a.top) gen_is)
+    let third_is : app_of third ≡ with_subcommand (with_subcommand (with_subcommand bare_app (new_app run_text).top) (new_app check_text).top) (new_app proof_text).top =
+    three.shape proof_local ∙ ap₂ with_subcommand second_is (ap (λ (a : App). a.top) proof_is) in
+    four.shape gen_local ∙ ap₂ with_subcommand third_is (ap (λ (a : App). a.top) gen_is)
 
 -- ---- what a parse tells
 

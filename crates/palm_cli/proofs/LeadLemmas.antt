@@ -23,12 +23,12 @@ use Rattle.palm_cli.specs.Serving.{Pumps, PumpsPiece, ReadsEnd, ReadsPiece}
 use Rattle.palm_cli.specs.Words.{Asks, IsRun}
 use Rattle.palm_cli.proofs.Endings.{first_line, no_feed_within}
 use Rattle.palm_cli.proofs.RunLemmas.{Served, answered_lines, fed_text, lines_of, served_fresh, served_more, takes_more_nothing, whole_end, whole_text}
-use Rattle.palm_cli.proofs.WordLemmas.{run_no_check, run_no_gen}
+use Rattle.palm_cli.proofs.WordLemmas.{run_no_gen, run_no_judge}
 use Rattle.palm_cli.specs.declared.limits.TheConstants.{MOST_INPUT_BYTES}
 use Rattle.palm_cli.specs.declared.status.Status.{Status}
 use Rattle.palm_cli.specs.declared.status.Status.TheVariants.{Done, Refused, Usage, ReadFault, WriteFault, NoMemory, TooLong}
 use Rattle.palm_cli.specs.declared.words.Request.{Request}
-use Rattle.palm_cli.specs.declared.words.Request.TheVariants.{Run, Check, Gen}
+use Rattle.palm_cli.specs.declared.words.Request.TheVariants.{Run, Judge, Gen}
 
 -- ---- a text has one rest
 
@@ -190,5 +190,5 @@ module _ {G O : Type 0} (guiding : Guiding G) (ordering : Ordering O) where
         → IsRun words → RunsLead guiding ordering guides orders objects before after status
     leads_by words before after status None a o r = absurd (a.no_run r)
     leads_by words before after status (Some Run) a o r = o
-    leads_by words before after status (Some Check) a o r = absurd (run_no_check words r a)
+    leads_by words before after status (Some (Judge evidence)) a o r = absurd (run_no_judge words evidence r a)
     leads_by words before after status (Some (Gen size)) a o r = absurd (run_no_gen words size r a)

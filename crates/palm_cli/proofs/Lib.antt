@@ -1,7 +1,7 @@
-pub mod CheckLemmas
 pub mod CommandLine
 pub mod Endings
 pub mod InnerLines
+pub mod JudgeLemmas
 pub mod LeadLemmas
 pub mod NameLemmas
 pub mod QueenLines

@@ -7,7 +7,9 @@ use Rattle.std.proofs.lemmas.List.Elements.{All-map}
 use Rattle.palm_base.proofs.cited.Members.{all_members, member_cases, member_single, member_map}
 use Rattle.palm_base.specs.Numbers.{AreDigits, digits_number}
 use Rattle.palm_cli.specs.Generator.{IsSize}
-use Rattle.palm_cli.specs.Words.{IsRun, IsCheck, IsGen, IsNoCommand, BeginsWithDash, IsApart}
+use Rattle.palm_cli.specs.Words.{IsRun, IsJudge, IsGen, IsNoCommand, BeginsWithDash, IsApart, word_of}
+use Rattle.palm_cli.specs.declared.words.Evidence.{Evidence}
+use Rattle.palm_cli.specs.declared.words.Evidence.TheVariants.{Certificate, Proof}
 
 -- a word that does not begin with `-`
 abbrev pub IsBare : List ℕ → Type 0
@@ -37,8 +39,9 @@ apart_name name b bytes e other f (inr help) =
 run_stays : IsApart (codes "run") → ⊥
 run_stays a = apart_name (codes "run") 114 (codes "un") refl (λ e. absurd (omega (arith, e))) refl a
 
-check_stays : IsApart (codes "check") → ⊥
-check_stays a = apart_name (codes "check") 99 (codes "heck") refl (λ e. absurd (omega (arith, e))) refl a
+judge_stays : (evidence : Evidence) → IsApart (word_of evidence) → ⊥
+judge_stays Certificate a = apart_name (codes "check") 99 (codes "heck") refl (λ e. absurd (omega (arith, e))) refl a
+judge_stays Proof a = apart_name (codes "proof") 112 (codes "roof") refl (λ e. absurd (omega (arith, e))) refl a
 
 gen_stays : IsApart (codes "gen") → ⊥
 gen_stays a = apart_name (codes "gen") 103 (codes "en") refl (λ e. absurd (omega (arith, e))) refl a
@@ -57,9 +60,9 @@ apart_words words a =
       no_run = λ e.
           let is : codes "run" ≡ a.1 = member_single (codes "run") a.1 (subst (λ (z : List (List ℕ)). Contains z a.1) e m) in
           run_stays (subst IsApart (sym is) a.4);
-      no_check = λ e.
-          let is : codes "check" ≡ a.1 = member_single (codes "check") a.1 (subst (λ (z : List (List ℕ)). Contains z a.1) e m) in
-          check_stays (subst IsApart (sym is) a.4);
+      no_judge = λ evidence e.
+          let is : word_of evidence ≡ a.1 = member_single (word_of evidence) a.1 (subst (λ (z : List (List ℕ)). Contains z a.1) e m) in
+          judge_stays evidence (subst IsApart (sym is) a.4);
       no_gen = λ size g.
           elim (member_cases (codes "gen") (g.word ∷ []) a.1 (subst (λ (z : List (List ℕ)). Contains z a.1) g.whole m)) [
             | inl is ↦ gen_stays (subst IsApart (sym is) a.4)
@@ -94,8 +97,8 @@ lengths a b c e = cc
 pub run_no_gen : (words : List (List ℕ)) (n : ℕ) → IsRun words → IsGen words n → ⊥
 run_no_gen words n r g = lengths (codes "run") (codes "gen") g.word (sym r ∙ g.whole)
 
-pub check_no_gen : (words : List (List ℕ)) (n : ℕ) → IsCheck words → IsGen words n → ⊥
-check_no_gen words n c g = lengths (codes "check") (codes "gen") g.word (sym c ∙ g.whole)
+pub judge_no_gen : (words : List (List ℕ)) (evidence : Evidence) (n : ℕ) → IsJudge words evidence → IsGen words n → ⊥
+judge_no_gen words evidence n j g = lengths (word_of evidence) (codes "gen") g.word (sym j ∙ g.whole)
 
 only : (a b : List ℕ) → a ∷ [] ≡ b ∷ [] → a ≡ b
 only a b e = ap (λ (xs : List (List ℕ)). get_or xs 0 []) e
@@ -103,16 +106,34 @@ only a b e = ap (λ (xs : List (List ℕ)). get_or xs 0 []) e
 differs : (a b : List ℕ) → bytes_eq a b ≡ false → a ≡ b → ⊥
 differs a b f e = let t : bytes_eq a b ≡ true = (bytes_eq-Decides a b).1 e in cc
 
-pub run_no_check : (words : List (List ℕ)) → IsRun words → IsCheck words → ⊥
-run_no_check words r c = differs (codes "run") (codes "check") refl (only (codes "run") (codes "check") (sym r ∙ c))
+run_is_no_judge : (evidence : Evidence) → codes "run" ≡ word_of evidence → ⊥
+run_is_no_judge Certificate e = differs (codes "run") (codes "check") refl e
+run_is_no_judge Proof e = differs (codes "run") (codes "proof") refl e
+
+pub run_no_judge : (words : List (List ℕ)) (evidence : Evidence) → IsRun words → IsJudge words evidence → ⊥
+run_no_judge words evidence r j = run_is_no_judge evidence (only (codes "run") (word_of evidence) (sym r ∙ j))
+
+same_word : (a b : Evidence) → word_of a ≡ word_of b → a ≡ b
+same_word Certificate Certificate e = refl
+same_word Certificate Proof e = absurd (differs (codes "check") (codes "proof") refl e)
+same_word Proof Certificate e = absurd (differs (codes "proof") (codes "check") refl e)
+same_word Proof Proof e = refl
+
+-- words judge a text as one thing
+pub one_evidence : (words : List (List ℕ)) (a b : Evidence) → IsJudge words a → IsJudge words b → a ≡ b
+one_evidence words a b i j = same_word a b (only (word_of a) (word_of b) (sym i ∙ j))
 
 -- a word alone that is no command's
-pub other_alone : (word : List ℕ) → (word ≡ codes "run" → ⊥) → (word ≡ codes "check" → ⊥) → IsNoCommand (word ∷ [])
-other_alone word r c = record {
+pub other_alone : (word : List ℕ) → (word ≡ codes "run" → ⊥) → (word ≡ codes "check" → ⊥) → (word ≡ codes "proof" → ⊥) → IsNoCommand (word ∷ [])
+other_alone word r c p = record {
   no_run = λ e. r (only word (codes "run") e);
-  no_check = λ e. c (only word (codes "check") e);
+  no_judge = no_judge;
   no_gen = λ n g. lengths word (codes "gen") g.word g.whole;
 }
+  where
+    no_judge : (evidence : Evidence) → IsJudge (word ∷ []) evidence → ⊥
+    no_judge Certificate e = c (only word (codes "check") e)
+    no_judge Proof e = p (only word (codes "proof") e)
 
 -- the words `gen` and another one
 abbrev pub HasSize : List (List ℕ) → List ℕ → Type 0
@@ -124,7 +145,7 @@ gen_by words word n e s = record { word = word; whole = e; tells = s }
 pub no_gen_by : (words : List (List ℕ)) (word : List ℕ) → HasSize words word → ((n : ℕ) → IsSize word n → ⊥) → IsNoCommand words
 no_gen_by words word e none = record {
   no_run = λ r. lengths (codes "run") (codes "gen") word (sym r ∙ e);
-  no_check = λ c. lengths (codes "check") (codes "gen") word (sym c ∙ e);
+  no_judge = λ evidence j. lengths (word_of evidence) (codes "gen") word (sym j ∙ e);
   no_gen = λ n g. none n (subst (λ (w : List ℕ). IsSize w n) (second g.word word (sym g.whole ∙ e)) g.tells);
 }
 

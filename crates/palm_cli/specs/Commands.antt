@@ -1,11 +1,6 @@
 -- What the commands do: the bytes that are taken, the bytes that are written, and the cause of each status.
 use Rattle.std.specs.Prelude.{◌≡◌, ℕ, ◌<◌, ◌≤◌, ◌⊎◌, List, [], ◌∷◌, ◌++◌, ◌+◌, length, take, flat_map, codes, All, Option, Some, None, Result, Ok, Err, ⊤}
 use Rattle.palm_base.specs.Streams.{SourceState, SinkState, Consumes, Appended, AppendedProperFront, Rose}
-use Rattle.palm_claim.specs.Verdict.{IsVerdict}
-use Rattle.palm_claim.specs.declared.verdict.Cause.{Cause}
-use Rattle.palm_claim.specs.declared.verdict.Proved.{Proved}
-use Rattle.palm_claim.specs.declared.verdict.Verdict.{Verdict}
-use Rattle.palm_claim.specs.declared.verdict.Verdict.TheVariants as verdict
 use Rattle.palm_lang.specs.Reply.{ended}
 use Rattle.palm_lang.specs.Writing.{AppendedUntil}
 use Rattle.palm_session.specs.State.{SessionState, fresh}
@@ -15,10 +10,11 @@ use Rattle.palm_session.specs.Feeding.{FeedsOn, FeedsPart}
 use Rattle.palm_lang.specs.declared.stop.WriteStop.{WriteStop as Stop}
 use Rattle.palm_lang.specs.declared.stop.WriteStop.TheVariants as stops
 use Rattle.palm_cli.specs.Generator.{IsSummary}
-use Rattle.palm_cli.specs.Verdicts.{verdict_line, verdict_status}
+use Rattle.palm_cli.specs.Verdicts.{IsTold}
 use Rattle.palm_cli.specs.declared.limits.TheConstants.{MOST_INPUT_BYTES, PIECE}
+use Rattle.palm_cli.specs.declared.words.Evidence.{Evidence}
 use Rattle.palm_cli.specs.declared.words.Request.{Request}
-use Rattle.palm_cli.specs.declared.words.Request.TheVariants.{Run, Check, Gen}
+use Rattle.palm_cli.specs.declared.words.Request.TheVariants.{Run, Judge, Gen}
 use Rattle.palm_cli.specs.declared.status.Status.{Status}
 use Rattle.palm_cli.specs.declared.status.Status.TheVariants.{Done, Refused, Usage, ReadFault, WriteFault, NoMemory, TooLong}
 
@@ -46,7 +42,7 @@ pub record FailsToWrite (before after : Streams) : Type 0 where
   pub write : Rose before.sink.faults after.sink.faults
 
 abbrev pub usage_line : List ℕ
-usage_line = ended (codes "usage: palm run, palm check or palm gen N")
+usage_line = ended (codes "usage: palm run, palm check, palm proof or palm gen N")
 
 -- the bytes that can be answered of a text
 abbrev pub first_bytes : List ℕ → List ℕ
@@ -145,35 +141,37 @@ pub record TakesText (before after : SourceState) (text : List ℕ) : Type 0 whe
 abbrev pub IsInTime : List ℕ → Type 0
 IsInTime text = length text ≤ MOST_INPUT_BYTES + PIECE
 
--- the whole text was taken, and the line of its verdict was written
-pub record ChecksAll (before after : Streams) (told : Verdict) : Type 0 where
+-- the whole text was taken, and the line of its verdict was written, behind which the command ends so
+pub record JudgesAll (evidence : Evidence) (before after : Streams) (status : Status) : Type 0 where
   pub text : List ℕ
+  pub line : List ℕ
   pub takes : TakesText before.source after.source text
-  pub is : IsVerdict text told
-  pub written : Appended before.sink.written after.sink.written (verdict_line told)
+  pub is : IsTold evidence text line status
+  pub written : Appended before.sink.written after.sink.written line
 
 -- the whole text was taken, and a proper front of the line of its verdict was written
-pub record ChecksPart (before after : Streams) : Type 0 where
+pub record JudgesPart (evidence : Evidence) (before after : Streams) : Type 0 where
   pub text : List ℕ
-  pub told : Verdict
+  pub line : List ℕ
+  pub told : Status
   pub takes : TakesText before.source after.source text
-  pub is : IsVerdict text told
-  pub written : AppendedProperFront before.sink.written after.sink.written (verdict_line told)
+  pub is : IsTold evidence text line told
+  pub written : AppendedProperFront before.sink.written after.sink.written line
 
 -- these bytes were taken, and nothing was written
-pub record ChecksNone (before after : Streams) (text : List ℕ) : Type 0 where
+pub record JudgesNone (before after : Streams) (text : List ℕ) : Type 0 where
   pub takes : Consumes before.source.left after.source.left text
   pub unwritten : after.sink ≡ before.sink
 
--- what `check` does, by the status that it ends with
-abbrev pub Checks : Streams → Streams → Status → Type 0
-Checks before after Done = IsCalm before after × (proved : Proved) × ChecksAll before after (verdict.Accepted proved)
-Checks before after Refused = IsCalm before after × (line : ℕ) × (cause : Cause) × ChecksAll before after (verdict.Refused line cause)
-Checks before after Usage = ⊥
-Checks before after ReadFault = FailsToRead before after × (text : List ℕ) × ChecksNone before after text × (length text ≤ MOST_INPUT_BYTES)
-Checks before after WriteFault = FailsToWrite before after × ChecksPart before after
-Checks before after NoMemory = IsCalm before after × (text : List ℕ) × ChecksNone before after text × IsInTime text
-Checks before after TooLong = IsCalm before after × (text : List ℕ) × ChecksNone before after text × (MOST_INPUT_BYTES < length text) × IsInTime text
+-- what `check` and `proof` do, by the status that they end with
+abbrev pub JudgesSource : Evidence → Streams → Streams → Status → Type 0
+JudgesSource evidence before after Done = IsCalm before after × JudgesAll evidence before after Done
+JudgesSource evidence before after Refused = IsCalm before after × JudgesAll evidence before after Refused
+JudgesSource evidence before after Usage = ⊥
+JudgesSource evidence before after ReadFault = FailsToRead before after × (text : List ℕ) × JudgesNone before after text × (length text ≤ MOST_INPUT_BYTES)
+JudgesSource evidence before after WriteFault = FailsToWrite before after × JudgesPart evidence before after
+JudgesSource evidence before after NoMemory = IsCalm before after × (text : List ℕ) × JudgesNone before after text × IsInTime text
+JudgesSource evidence before after TooLong = IsCalm before after × (text : List ℕ) × JudgesNone before after text × (MOST_INPUT_BYTES < length text) × IsInTime text
 
 -- the usage line was written, or a proper front of it where a write failed, or nothing where memory ran out
 abbrev pub WritesUsage : SinkState → SinkState → Status → Type 0
@@ -206,7 +204,7 @@ pub record Generates (size : ℕ) (before after : Streams) (status : Status) : T
 abbrev pub Obeys : List ℕ → List ℕ → Option Request → Streams → Streams → Status → Type 0
 Obeys guides orders None before after status = Refuses before after status
 Obeys guides orders (Some Run) before after status = Runs guides orders before after status
-Obeys guides orders (Some Check) before after status = Checks before after status
+Obeys guides orders (Some (Judge evidence)) before after status = JudgesSource evidence before after status
 Obeys guides orders (Some (Gen size)) before after status = Generates size before after status
 
 -- the status of a command that stopped, or did not
@@ -249,14 +247,15 @@ IsCut TooLong = ⊤
 IsCut NoMemory = ⊤
 IsCut _ = ⊥
 
--- a source that tells its bytes gave a text within the limit that has this verdict
-pub record TakesJudged (before after : Streams) (told : Verdict) : Type 0 where
+-- a source that tells its bytes gave a text within the limit behind whose verdict the command ends so
+pub record TakesJudged (evidence : Evidence) (before after : Streams) (status : Status) : Type 0 where
   pub left : List ℕ
   pub text : List ℕ
+  pub line : List ℕ
   pub tells : before.source.left ≡ Some left
   pub takes : Consumes before.source.left after.source.left text
   pub short : length text ≤ MOST_INPUT_BYTES
-  pub is : IsVerdict text told
+  pub is : IsTold evidence text line status
 
 -- a source that tells its bytes gave more than may be
 pub record TakesOver (before after : Streams) : Type 0 where
@@ -266,6 +265,6 @@ pub record TakesOver (before after : Streams) : Type 0 where
   pub takes : Consumes before.source.left after.source.left text
   pub long : MOST_INPUT_BYTES < length text
 
--- the status of the verdict, or want of memory
-abbrev pub EndsWith : Verdict → Status → Type 0
-EndsWith told status = (status ≡ verdict_status told) ⊎ (status ≡ NoMemory)
+-- this status, or want of memory
+abbrev pub EndsWith : Status → Status → Type 0
+EndsWith told status = (status ≡ told) ⊎ (status ≡ NoMemory)

@@ -1,6 +1,6 @@
-pub mod Checking
 pub mod Commands
 pub mod Generator
+pub mod Judging
 pub mod Led
 pub mod Numbers
 pub mod Serving

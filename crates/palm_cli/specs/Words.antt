@@ -2,16 +2,23 @@
 use Rattle.std.specs.Prelude.{◌≡◌, ◌⊎◌, ◌≤◌, ⊤, ℕ, List, [], ◌∷◌, codes, Option, Some, None}
 use Rattle.palm_cli.specs.Generator.{IsSize}
 use Rattle.palm_cli.specs.declared.limits.TheConstants.{MOST_QUEENS}
+use Rattle.palm_cli.specs.declared.words.Evidence.{Evidence}
+use Rattle.palm_cli.specs.declared.words.Evidence.TheVariants.{Certificate, Proof}
 use Rattle.palm_cli.specs.declared.words.Request.{Request}
-use Rattle.palm_cli.specs.declared.words.Request.TheVariants.{Run, Check, Gen}
+use Rattle.palm_cli.specs.declared.words.Request.TheVariants.{Run, Judge, Gen}
 
 -- the words are those of the command `run`
 abbrev pub IsRun : List (List ℕ) → Type 0
 IsRun words = words ≡ codes "run" ∷ []
 
--- the words are those of the command `check`
-abbrev pub IsCheck : List (List ℕ) → Type 0
-IsCheck words = words ≡ codes "check" ∷ []
+-- the word of the command that judges a text as this
+abbrev pub word_of : Evidence → List ℕ
+word_of Certificate = codes "check"
+word_of Proof = codes "proof"
+
+-- the words are those of the command that judges a text as this
+abbrev pub IsJudge : List (List ℕ) → Evidence → Type 0
+IsJudge words evidence = words ≡ word_of evidence ∷ []
 
 -- the words are those of the command `gen` with so many queens
 pub record IsGen (words : List (List ℕ)) (size : ℕ) : Type 0 where
@@ -22,14 +29,14 @@ pub record IsGen (words : List (List ℕ)) (size : ℕ) : Type 0 where
 -- the words are those of no command
 pub record IsNoCommand (words : List (List ℕ)) : Type 0 where
   pub no_run : IsRun words → ⊥
-  pub no_check : IsCheck words → ⊥
+  pub no_judge : (evidence : Evidence) → IsJudge words evidence → ⊥
   pub no_gen : (size : ℕ) → IsGen words size → ⊥
 
 -- the words ask for this, or for nothing
 abbrev pub Asks : List (List ℕ) → Option Request → Type 0
 Asks words None = IsNoCommand words
 Asks words (Some Run) = IsRun words
-Asks words (Some Check) = IsCheck words
+Asks words (Some (Judge evidence)) = IsJudge words evidence
 Asks words (Some (Gen size)) = IsGen words size
 
 -- no more queens are asked for than may be

@@ -4,13 +4,14 @@ ghost use Rattle.palm_base.specs.Streams.{Rose};
 ghost use Rattle.palm_engine.specs.Following.{OrderFollows};
 ghost use Rattle.palm_search.specs.Following.{GuideFollows};
 ghost use Rattle.palm_session.specs.Objects.{numbered};
-ghost use Rattle.palm_claim.specs.declared.verdict.Verdict.{Verdict};
-ghost use Rattle.palm_cli.specs.Commands.{Checks, EndsWith, IsCut, IsWhole, Generates, HasNoFault, Obeys, Refuses, Runs, TakesAnswerable, TakesJudged, TakesOver, TakesTooMuch, WritesUsage, streams};
+ghost use Rattle.palm_cli.specs.declared.status.Status.{Status as StatusTerm};
+ghost use Rattle.palm_cli.specs.declared.words.Evidence.{Evidence};
+ghost use Rattle.palm_cli.specs.Commands.{EndsWith, IsCut, IsWhole, Generates, HasNoFault, JudgesSource, Obeys, Refuses, Runs, TakesAnswerable, TakesJudged, TakesOver, TakesTooMuch, WritesUsage, streams};
 ghost use Rattle.palm_cli.specs.Led.{ObeysLead, RunsLead, handed_in};
-ghost use Rattle.palm_cli.specs.Words.{IsCheck, IsFit, IsGen, IsNoCommand, IsRun};
+ghost use Rattle.palm_cli.specs.Words.{IsFit, IsGen, IsJudge, IsNoCommand, IsRun};
 
-use crate::checking::check;
 use crate::generator::generate;
+use crate::judging::judge;
 use crate::serving::run;
 use crate::status::Status;
 use crate::words::{Request, request_of};
@@ -38,9 +39,9 @@ pub fn top<S: Source, K: Sink, G: Guide, O: Order>(
         RunsLead (GuideFollows G.answers G.hears G.state) (OrderFollows O.answers O.hears O.state)
         (numbered (vec_len guides)) (numbered (vec_len orders)) (handed_in guides.items orders.items)
         (streams (S.state source.old) (K.state sink.old)) (streams (S.state source.new) (K.state sink.new)) result }
-    // `check` reads the source to its end, and writes the line of its verdict; every other end has its cause.
-    ensures checks { IsCheck (map string_bytes words.now) →
-        Checks (streams (S.state source.old) (K.state sink.old)) (streams (S.state source.new) (K.state sink.new)) result }
+    // `check` and `proof` read the source to its end, and write the line of its verdict; every other end has its cause.
+    ensures judges { (evidence : Evidence) → IsJudge (map string_bytes words.now) evidence →
+        JudgesSource evidence (streams (S.state source.old) (K.state sink.old)) (streams (S.state source.new) (K.state sink.new)) result }
     // `gen` reads nothing, and writes the summary of the session of so many queens.
     ensures generates { (size : ℕ) → IsGen (map string_bytes words.now) size →
         Generates size (streams (S.state source.old) (K.state sink.old)) (streams (S.state source.new) (K.state sink.new)) result }
@@ -63,11 +64,12 @@ pub fn top<S: Source, K: Sink, G: Guide, O: Order>(
     // Without a fault, the verdict on a text that is not too long is told, unless memory runs out.
     ensures judged { let before = streams (S.state source.old) (K.state sink.old) in
         let after = streams (S.state source.new) (K.state sink.new) in
-        (told : Verdict) → IsCheck (map string_bytes words.now) → HasNoFault before after → TakesJudged before after told → EndsWith told result }
+        (evidence : Evidence) (told : StatusTerm) → IsJudge (map string_bytes words.now) evidence → HasNoFault before after →
+        TakesJudged evidence before after told → EndsWith told result }
     // A text of which too much was taken is told to be too long.
     ensures over { let before = streams (S.state source.old) (K.state sink.old) in
         let after = streams (S.state source.new) (K.state sink.new) in
-        IsCheck (map string_bytes words.now) → TakesOver before after → IsCut result }
+        (evidence : Evidence) → IsJudge (map string_bytes words.now) evidence → TakesOver before after → IsCut result }
 {
     let Ok(request) = request_of(alloc, words) else {
         return Status::NoMemory;
@@ -93,7 +95,7 @@ fn obey<S: Source, K: Sink, G: Guide, O: Order>(
 {
     match request {
         Some(Request::Run) => run(alloc, source, sink, guides, orders),
-        Some(Request::Check) => check(alloc, source, sink),
+        Some(Request::Judge(evidence)) => judge(alloc, evidence, source, sink),
         Some(Request::Gen { size }) => generate(alloc, size, sink),
         None => refuse(sink),
     }
@@ -103,7 +105,10 @@ fn obey<S: Source, K: Sink, G: Guide, O: Order>(
 fn refuse<K: Sink>(sink: &mut K) -> Status
     ensures { WritesUsage (K.state sink.old) (K.state sink.new) result }
 {
-    match write_all(sink, b"usage: palm run, palm check or palm gen N\n") {
+    match write_all(
+        sink,
+        b"usage: palm run, palm check, palm proof or palm gen N\n",
+    ) {
         Ok(()) => Status::Usage,
         Err(Failed) => Status::WriteFault,
     }

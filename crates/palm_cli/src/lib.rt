@@ -1,9 +1,9 @@
 //! The commands of palm: words, a source and a sink in; a status out.
 #![tactic(auto)]
 
-mod checking;
 mod command;
 mod generator;
+mod judging;
 mod laws;
 mod limits;
 mod queens;

@@ -3,10 +3,10 @@
 /// How a command ends, and the process with it.
 #[derive(Clone, Copy, Debug, PartialEq, Eq)]
 pub enum Status {
-    /// 0: all was read, and all replies were written; or the certificate was accepted, and the line that says so was
-    /// written; or the summary was written.
+    /// 0: all was read, and all replies were written; or the certificate or proof was accepted, and the line that says
+    /// so was written; or the summary was written.
     Done,
-    /// 1: the text of a certificate was refused, and the line that says so was written.
+    /// 1: the certificate or proof was refused, and the line that says so was written.
     Refused,
     /// 2: the words are no command, and the usage line was written.
     Usage,

@@ -10,13 +10,22 @@ use clap::{Arg, Command};
 use palm_base::{NoMemory, read_int};
 use std::alloc::Global;
 
+/// What a text is judged as.
+#[derive(Clone, Copy, Debug, PartialEq, Eq)]
+pub enum Evidence {
+    /// `check`: a certificate.
+    Certificate,
+    /// `proof`: a proof that constraints have no solution.
+    Proof,
+}
+
 /// What words ask for.
 #[derive(Clone, Copy, Debug, PartialEq, Eq)]
 pub enum Request {
     /// `run`: the lines of the source are answered.
     Run,
-    /// `check`: the verdict on the source is told.
-    Check,
+    /// `check` or `proof`: the verdict on the source is told.
+    Judge(Evidence),
     /// `gen N`: the session of so many queens is made and summed up.
     Gen { size: u8 },
 }
@@ -64,6 +73,7 @@ fn parse(alloc: Global, words: &[String]) -> Result<Option<Request>, NoMemory>
         .disable_version_flag(true)
         .subcommand(Command::new(alloc, "run"))?
         .subcommand(Command::new(alloc, "check"))?
+        .subcommand(Command::new(alloc, "proof"))?
         .subcommand(generate)?;
     let matches = match palm.try_get_matches_from(words) {
         Ok(matches) => matches,
@@ -90,7 +100,8 @@ fn request_alone(word: &str) -> Option<Request>
 {
     match word {
         "run" => Some(Request::Run),
-        "check" => Some(Request::Check),
+        "check" => Some(Request::Judge(Evidence::Certificate)),
+        "proof" => Some(Request::Judge(Evidence::Proof)),
         _ => None,
     }
 }

@@ -1,9 +1,9 @@
 //! Certificates by the command `check`: the line that is written, and how it ends.
 ghost use Rattle.std.specs.Prelude.{◌<◌};
 
-use crate::words::{no_guides, no_orders, words_of};
-use palm_base::{ByteList, CallList, MemorySink, MemorySource, NoMemory};
-use palm_cli::{Status, top};
+use crate::judged::{Passing, ends, is_refused, put_lines};
+use palm_base::NoMemory;
+use palm_cli::Status;
 use std::alloc::Global;
 use std::test::Fail;
 
@@ -20,86 +20,13 @@ const LINES: [&str; 9] = [
     "end",
 ];
 
-/// Appends the first lines of the certificate, so many, with another line in the place of the one with this number.
-fn put_lines(text: &mut Vec<u8>, lines: usize, number: usize, other: &str) -> Result<(), NoMemory> {
-    for place in 0..LINES.len().min(lines) {
-        let line = if place + 1 == number {
-            other
-        } else {
-            LINES[place]
-        };
-        text.extend_from_slice(line.as_bytes())?;
-        text.extend_from_slice(b"\n")?;
-    }
-    Ok(())
-}
-
-/// The bytes of `check` on a text, in pieces of at most this many, and the calls of its source and of its sink that fail.
-#[derive(Clone, Copy)]
-struct Passing<'a> {
-    piece: usize,
-    reads: &'a [u64],
-    writes: &'a [u64],
-}
-
 /// The bytes in pieces of 7, of which no call fails.
 const WHOLE: Passing<'static> = Passing {
+    word: "check",
     piece: 7,
     reads: &[],
     writes: &[],
 };
-
-/// Whether `check` ends so on a text that passes so, and writes this.
-fn ends(
-    alloc: Global,
-    text: &[u8],
-    passing: &Passing<'_>,
-    status: Status,
-    output: &str,
-) -> Result<bool, NoMemory>
-    requires { 0 < passing.now.piece }
-{
-    let reads = CallList::from_slice(alloc, passing.reads)?;
-    let writes = CallList::from_slice(alloc, passing.writes)?;
-    let bytes = ByteList::from_slice(alloc, text)?;
-    let mut source = MemorySource::new(bytes, passing.piece, reads);
-    let mut sink = MemorySink::new(alloc, passing.piece, writes);
-    ends_over(alloc, &mut source, &mut sink, status, output)
-}
-
-/// Whether `check` ends so over these, and writes this.
-fn ends_over(
-    alloc: Global,
-    source: &mut MemorySource,
-    sink: &mut MemorySink,
-    status: Status,
-    output: &str,
-) -> Result<bool, NoMemory> {
-    sink.reserve(64)?;
-    let words = words_of(alloc, &["check"])?;
-    let ended = top(
-        alloc,
-        &words,
-        source,
-        sink,
-        no_guides(alloc),
-        no_orders(alloc),
-    );
-    Ok(ended == status && sink.bytes() == output.as_bytes())
-}
-
-/// Whether the text is refused by this line, in pieces of 1 and of 7 bytes.
-fn is_refused(alloc: Global, text: &[u8], line: &str) -> Result<bool, NoMemory> {
-    let bytewise = Passing {
-        piece: 1,
-        reads: &[],
-        writes: &[],
-    };
-    Ok(
-        ends(alloc, text, &bytewise, Status::Refused, line)?
-            && ends(alloc, text, &WHOLE, Status::Refused, line)?,
-    )
-}
 
 /// Whether the first lines, so many, with another in the place of one and an end behind them, are refused by this line.
 fn are_refused(
@@ -112,7 +39,7 @@ fn are_refused(
 ) -> Result<bool, NoMemory> {
     let mut text = Vec::new(alloc);
     put_text(&mut text, lines, number, other, end)?;
-    is_refused(alloc, &text, output)
+    is_refused(alloc, "check", &text, output)
 }
 
 /// Appends these lines, and an end behind them.
@@ -123,7 +50,7 @@ fn put_text(
     other: &str,
     end: &str,
 ) -> Result<(), NoMemory> {
-    put_lines(text, lines, number, other)?;
+    put_lines(text, &LINES, lines, number, other)?;
     text.extend_from_slice(end.as_bytes())?;
     Ok(())
 }
@@ -143,7 +70,7 @@ fn ends_whole(
     requires { 0 < passing.now.piece }
 {
     let mut text = Vec::new(alloc);
-    put_lines(&mut text, 9, 0, "")?;
+    put_lines(&mut text, &LINES, 9, 0, "")?;
     ends(alloc, &text, passing, status, output)
 }
 
@@ -205,6 +132,7 @@ fn ends_failing(
     output: &str,
 ) -> Result<bool, NoMemory> {
     let passing = Passing {
+        word: "check",
         piece: 7,
         reads,
         writes,

@@ -1,5 +1,5 @@
 //! Tests of the program's one call, `top`, over sources and sinks in memory: worked sessions with the expected replies,
-//! certificates, streams that fail, other words, limits, and the order of reads and writes.
+//! certificates, proofs, streams that fail, other words, limits, and the order of reads and writes.
 #![tactic(auto)]
 
 #[cfg(test)]
@@ -9,11 +9,15 @@ mod certified;
 #[cfg(test)]
 mod changes;
 #[cfg(test)]
+mod judged;
+#[cfg(test)]
 mod limits;
 #[cfg(test)]
 mod lines;
 #[cfg(test)]
 mod objects;
+#[cfg(test)]
+mod proofs;
 #[cfg(test)]
 mod reasons;
 #[cfg(test)]

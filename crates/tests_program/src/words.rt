@@ -52,7 +52,8 @@ fn is_refused(alloc: Global, words: &[&str]) -> Result<bool, NoMemory> {
     let status = ended(alloc, words, &mut sink)?;
     Ok(
         status == Status::Usage
-            && sink.bytes() == b"usage: palm run, palm check or palm gen N\n".as_slice(),
+            && sink.bytes()
+                == b"usage: palm run, palm check, palm proof or palm gen N\n".as_slice(),
     )
 }
 
@@ -72,7 +73,7 @@ fn sums_up(alloc: Global, number: &str, summary: &str) -> Result<bool, NoMemory>
 
 #[test]
 fn other_words_get_the_usage_line(rt: HostRuntime) -> Result<(), Fail> {
-    let lists: [&[&str]; 18] = [
+    let lists: [&[&str]; 20] = [
         &[],
         &["help"],
         &["runs"],
@@ -80,6 +81,8 @@ fn other_words_get_the_usage_line(rt: HostRuntime) -> Result<(), Fail> {
         &["run", "run"],
         &["check", "run"],
         &["checks"],
+        &["proof", "proof"],
+        &["proofs"],
         &["gen"],
         &["gen", "0"],
         &["gen", "000"],

@@ -1,0 +1,170 @@
+-- What the checker keeps stays so: more that is listed, a lemma begun, a pair assumed, a step, and a lemma that is done.
+use Rattle.std.proofs.Common.{◌≡◌, ℕ, zero, suc, ℤ, ◌+◌, ◌<◌, ◌≤◌, Option, Some, None, List, [], ◌∷◌, ◌++◌, length, All, ◌⊎◌, inl, inr, refl, sym, ap, ◌∙◌, subst, arith}
+use Rattle.std.specs.Prelude.{slice_get}
+use Rattle.std.proofs.lemmas.List.{length_push}
+use Rattle.std.proofs.lemmas.List.Elements.{All-nil, All-push, All-weaker}
+use Rattle.std.proofs.lemmas.Option.{none-some, same_Some}
+use Rattle.palm_base.specs.declared.terms.Pair.{Pair}
+use Rattle.palm_book.specs.Book.{BookVar, Contents, initial_of, listed, with_listed, with_variable}
+use Rattle.palm_claim.proofs.cited.ProvedSteps.{still_declared}
+use Rattle.palm_listed.specs.Lists.{IsListed}
+use Rattle.palm_listed.specs.declared.listed.Listed.{Listed}
+use Rattle.palm_model.specs.Domains.{Has}
+use Rattle.palm_model.specs.declared.constraint.Con.{Con}
+use Rattle.proof_text.specs.Draft.{unproved}
+use Rattle.proof_text.specs.declared.lemma.Lemma.{Lemma}
+use Rattle.proof_check.specs.Kept.{AreAssumed, AreBehind, AreKept, Forgets, IsBehind, Puts, assumed_at, noting_constraint, noting_lemma}
+use Rattle.proof_check.proofs.Assuming.{assumed_more, forgotten, none_assumed, still_assumed}
+
+-- ---- lemmas before a lemma
+
+more_room : (room more count : ℕ) (l : Lemma) → room ≤ more → IsBehind room count l → IsBehind more count l
+more_room room more count l le b = record {
+  constraints = All-weaker (λ n. n < room) (λ n. n < more) (λ n lt. omega (arith, le, lt)) l.constraints b.constraints;
+  lemmas = b.lemmas;
+}
+
+nothing_behind : (room count : ℕ) (pairs : List Pair) → IsBehind room count (unproved pairs)
+nothing_behind room count pairs = record { constraints = All-nil (λ n. n < room); lemmas = All-nil (λ k. (1 ≤ k) × (k ≤ count)) }
+
+noted_constraint : (room count : ℕ) (l : Lemma) (n : ℕ) → IsBehind room count l → n < room → IsBehind room count (noting_constraint l n)
+noted_constraint room count l n b lt = record { constraints = All-push (λ k. k < room) l.constraints n b.constraints lt; lemmas = b.lemmas }
+
+noted_lemma : (room count : ℕ) (l : Lemma) (k : ℕ) → IsBehind room count l → (1 ≤ k) × (k ≤ count) → IsBehind room count (noting_lemma l k)
+noted_lemma room count l k b early = record { constraints = b.constraints; lemmas = All-push (λ j. (1 ≤ j) × (j ≤ count)) l.lemmas k b.lemmas early }
+
+get_push : {X : Type 0} (xs : List X) (y : X) (i : ℕ) (x : X) → slice_get (xs ++ y ∷ []) i ≡ Some x → (slice_get xs i ≡ Some x) ⊎ ((i ≡ length xs) × (y ≡ x))
+get_push [] y zero x at = inr (refl, same_Some y x at)
+get_push [] y (suc i) x at = absurd (none-some x at)
+get_push (z ∷ zs) y zero x at = inl at
+get_push (z ∷ zs) y (suc i) x at = elim (get_push zs y i x at) [ inl l ↦ inl l | inr r ↦ inr (ap (λ (k : ℕ). suc k) r.0, r.1) ]
+
+behind_push : (room : ℕ) (lemmas : List Lemma) (l : Lemma) → AreBehind room lemmas → IsBehind room (length lemmas) l → AreBehind room (lemmas ++ l ∷ [])
+behind_push room lemmas l are b = record {
+  each = λ place m at. elim (get_push lemmas l place m at) [
+    | inl h ↦ are.each place m h
+    | inr h ↦ subst (λ (k : ℕ). IsBehind room k m) (sym h.0) (subst (λ (o : Lemma). IsBehind room (length lemmas) o) h.1 b)
+  ];
+}
+
+-- ---- what else is listed
+
+module _ (before after : Listed) (lemmas : List Lemma) (begun : Lemma) (assumed : List (Option ℤ)) (proved : List Pair) (kept : AreKept before lemmas begun assumed proved) (lists : IsListed after) where
+  -- the same book is listed
+  pub keeps_book : after.book ≡ before.book → AreKept after lemmas begun assumed proved
+  keeps_book same = record {
+    lists = lists;
+    declared = subst (λ (b : Contents). All (λ (p : Pair). Has (initial_of b) p.var p.value) proved) (sym same) kept.declared;
+    long = subst (λ (b : Contents). length assumed ≡ length b.variables) (sym same) kept.long;
+    assumes = kept.assumes;
+    behind = subst (λ (b : Contents). AreBehind (length b.constraints + 1) lemmas) (sym same) kept.behind;
+    last = subst (λ (b : Contents). IsBehind (length b.constraints + 1) (length lemmas) begun) (sym same) kept.last;
+  }
+
+  pub keeps_variable : (name : List ℕ) (vs : List ℤ) (more : List (Option ℤ)) → after.book ≡ with_variable before.book name vs → more ≡ assumed ++ None ∷ [] → AreKept after lemmas begun more proved
+  keeps_variable name vs more same grown =
+      let entry : BookVar = record { name = name; values = vs } in
+      let long : length more ≡ length (before.book.variables ++ entry ∷ []) =
+      ap (λ (xs : List (Option ℤ)). length xs) grown ∙ length_push assumed None ∙ ap (λ (n : ℕ). n + 1) kept.long ∙ sym (length_push before.book.variables entry) in
+      record {
+        lists = lists;
+        declared = subst (λ (b : Contents). All (λ (p : Pair). Has (initial_of b) p.var p.value) proved) (sym same) (still_declared before.book name vs proved kept.declared);
+        long = subst (λ (b : Contents). length more ≡ length b.variables) (sym same) long;
+        assumes = subst (λ (xs : List (Option ℤ)). AreAssumed begun.pairs xs) (sym grown) (still_assumed begun.pairs assumed kept.assumes);
+        behind = subst (λ (b : Contents). AreBehind (length b.constraints + 1) lemmas) (sym same) kept.behind;
+        last = subst (λ (b : Contents). IsBehind (length b.constraints + 1) (length lemmas) begun) (sym same) kept.last;
+      }
+
+  pub keeps_constraint : (name : List ℕ) (con : Con) → after.book ≡ with_listed before.book name con → AreKept after lemmas begun assumed proved
+  keeps_constraint name con same =
+      let longer : length (before.book.constraints ++ listed before.book name con ∷ []) ≡ length before.book.constraints + 1 = length_push before.book.constraints (listed before.book name con) in
+      let room = length before.book.constraints + 1 in
+      let more = length (before.book.constraints ++ listed before.book name con ∷ []) + 1 in
+      let le : room ≤ more = omega (arith, longer) in
+      record {
+        lists = lists;
+        declared = subst (λ (b : Contents). All (λ (p : Pair). Has (initial_of b) p.var p.value) proved) (sym same) kept.declared;
+        long = subst (λ (b : Contents). length assumed ≡ length b.variables) (sym same) kept.long;
+        assumes = kept.assumes;
+        behind = subst (λ (b : Contents). AreBehind (length b.constraints + 1) lemmas) (sym same) (record { each = λ place l at. more_room room more place l le (kept.behind.each place l at) });
+        last = subst (λ (b : Contents). IsBehind (length b.constraints + 1) (length lemmas) begun) (sym same) (more_room room more (length lemmas) begun le kept.last);
+      }
+
+-- ---- lemmas
+
+pub nothing_kept : (listed : Listed) (begun : Lemma) → IsListed listed → listed.book ≡ record { variables = []; constraints = [] } → begun ≡ unproved [] → AreKept listed [] begun [] []
+nothing_kept listed begun lists blank none = record {
+  lists = lists;
+  declared = All-nil (λ (p : Pair). Has (initial_of listed.book) p.var p.value);
+  long = subst (λ (b : Contents). 0 ≡ length b.variables) (sym blank) refl;
+  assumes = subst (λ (l : Lemma). AreAssumed l.pairs []) (sym none) none_assumed;
+  behind = record { each = λ place l at. absurd (none-some l at) };
+  last = subst (λ (l : Lemma). IsBehind (length listed.book.constraints + 1) 0 l) (sym none) (nothing_behind (length listed.book.constraints + 1) 0 []);
+}
+
+module _ (listed : Listed) (lemmas : List Lemma) (begun : Lemma) (assumed : List (Option ℤ)) (proved : List Pair) (kept : AreKept listed lemmas begun assumed proved) where
+  -- a lemma begins that assumes nothing
+  pub keeps_cleared : (new : Lemma) (after : List (Option ℤ)) (none : List Pair) → Forgets assumed after begun.pairs → new ≡ unproved [] → none ≡ [] → AreKept listed lemmas new after none
+  keeps_cleared new after none forgets fresh empty = record {
+    lists = kept.lists;
+    declared = subst (λ (ps : List Pair). All (λ (p : Pair). Has (initial_of listed.book) p.var p.value) ps) (sym empty) (All-nil (λ (p : Pair). Has (initial_of listed.book) p.var p.value));
+    long = forgets.long ∙ kept.long;
+    assumes = subst (λ (l : Lemma). AreAssumed l.pairs after) (sym fresh) (forgotten begun.pairs assumed after kept.assumes forgets);
+    behind = kept.behind;
+    last = subst (λ (l : Lemma). IsBehind (length listed.book.constraints + 1) (length lemmas) l) (sym fresh) (nothing_behind (length listed.book.constraints + 1) (length lemmas) []);
+  }
+
+  -- one more pair is assumed
+  pub keeps_assumed : (more : Lemma) (after : List (Option ℤ)) (pair : Pair) → assumed_at assumed pair.var ≡ None → Puts assumed after pair.var (Some pair.value) → more ≡ record begun { pairs = begun.pairs ++ pair ∷ [] }
+      → AreKept listed lemmas more after proved
+  keeps_assumed more after pair none puts grown = record {
+    lists = kept.lists;
+    declared = kept.declared;
+    long = puts.long ∙ kept.long;
+    assumes = subst (λ (l : Lemma). AreAssumed l.pairs after) (sym grown) (assumed_more begun.pairs assumed after pair kept.assumes none puts);
+    behind = kept.behind;
+    last = subst (λ (l : Lemma). IsBehind (length listed.book.constraints + 1) (length lemmas) l) (sym grown) (record { constraints = kept.last.constraints; lemmas = kept.last.lemmas });
+  }
+
+  keeps_step : (more : Lemma) (pair : Pair) (after : List Pair) → Has (initial_of listed.book) pair.var pair.value → after ≡ proved ++ pair ∷ [] → AreAssumed more.pairs assumed
+      → IsBehind (length listed.book.constraints + 1) (length lemmas) more → AreKept listed lemmas more assumed after
+  keeps_step more pair after has grown assumes last = record {
+    lists = kept.lists;
+    declared = subst (λ (ps : List Pair). All (λ (p : Pair). Has (initial_of listed.book) p.var p.value) ps) (sym grown) (All-push (λ (p : Pair). Has (initial_of listed.book) p.var p.value) proved pair kept.declared has);
+    long = kept.long;
+    assumes = assumes;
+    behind = kept.behind;
+    last = last;
+  }
+
+  pub keeps_step_assumed : (pair : Pair) (after : List Pair) → Has (initial_of listed.book) pair.var pair.value → after ≡ proved ++ pair ∷ [] → AreKept listed lemmas begun assumed after
+  keeps_step_assumed pair after has grown = keeps_step begun pair after has grown kept.assumes kept.last
+
+  pub keeps_step_by : (more : Lemma) (pair : Pair) (after : List Pair) (n : ℕ) → Has (initial_of listed.book) pair.var pair.value → after ≡ proved ++ pair ∷ [] → more ≡ noting_constraint begun n
+      → n < length listed.book.constraints + 1 → AreKept listed lemmas more assumed after
+  keeps_step_by more pair after n has grown noted lt =
+      keeps_step more pair after has grown (subst (λ (l : Lemma). AreAssumed l.pairs assumed) (sym noted) kept.assumes)
+      (subst (λ (l : Lemma). IsBehind (length listed.book.constraints + 1) (length lemmas) l) (sym noted) (noted_constraint (length listed.book.constraints + 1) (length lemmas) begun n kept.last lt))
+
+  pub keeps_step_of_lemma : (more : Lemma) (pair : Pair) (after : List Pair) (k : ℕ) → Has (initial_of listed.book) pair.var pair.value → after ≡ proved ++ pair ∷ [] → more ≡ noting_lemma begun k
+      → (1 ≤ k) × (k ≤ length lemmas) → AreKept listed lemmas more assumed after
+  keeps_step_of_lemma more pair after k has grown noted early =
+      keeps_step more pair after has grown (subst (λ (l : Lemma). AreAssumed l.pairs assumed) (sym noted) kept.assumes)
+      (subst (λ (l : Lemma). IsBehind (length listed.book.constraints + 1) (length lemmas) l) (sym noted) (noted_lemma (length listed.book.constraints + 1) (length lemmas) begun k kept.last early))
+
+  -- the lemma begun is done
+  pub keeps_lemma : (more : List Lemma) → more ≡ lemmas ++ begun ∷ [] → AreKept listed more begun assumed proved
+  keeps_lemma more grown =
+      let longer : length more ≡ length lemmas + 1 = ap (λ (ls : List Lemma). length ls) grown ∙ length_push lemmas begun in
+      record {
+        lists = kept.lists;
+        declared = kept.declared;
+        long = kept.long;
+        assumes = kept.assumes;
+        behind = subst (λ (ls : List Lemma). AreBehind (length listed.book.constraints + 1) ls) (sym grown) (behind_push (length listed.book.constraints + 1) lemmas begun kept.behind kept.last);
+        last = record {
+          constraints = kept.last.constraints;
+          lemmas = All-weaker (λ k. (1 ≤ k) × (k ≤ length lemmas)) (λ k. (1 ≤ k) × (k ≤ length more))
+              (λ k b. let most : k ≤ length lemmas = b.1 in let most_now : k ≤ length more = omega (arith, most, longer) in (b.0, most_now)) begun.lemmas kept.last.lemmas;
+        };
+      }

@@ -1,0 +1,59 @@
+//! Lemmas: one that has no step yet, a second one, and whether a pair stands by one.
+ghost use Rattle.std.specs.Prelude.{◌≡◌, Some, Contains, IfOk};
+ghost use Rattle.palm_base.specs.Tells.{Tells};
+ghost use Rattle.palm_base.specs.declared.terms.Pair.{Pair as PairTerm};
+ghost use Rattle.proof_check.specs.Kept.{IsByOthers, assumed_at};
+ghost use Rattle.proof_text.specs.Draft.{unproved};
+
+use crate::assumed::is_assumed;
+use palm_base::{NoMemory, Pair, Value};
+use proof_text::{Lemma, LemmaNumberList, NumberList, PairList};
+use std::alloc::Global;
+
+/// A lemma with these pairs and no step.
+pub fn unproved_lemma(alloc: Global, pairs: PairList) -> Lemma
+    ensures { result ≡ unproved pairs }
+{
+    Lemma {
+        pairs,
+        constraints: NumberList::new(alloc),
+        lemmas: LemmaNumberList::new(alloc),
+    }
+}
+
+/// The lemma again.
+pub fn copy_lemma(lemma: &Lemma) -> Result<Lemma, NoMemory>
+    ensures { IfOk result (λ copy. copy ≡ lemma.now) }
+{
+    let pairs = lemma.pairs.copy()?;
+    let constraints = lemma.constraints.copy()?;
+    let lemmas = lemma.lemmas.copy()?;
+    Ok(Lemma {
+        pairs,
+        constraints,
+        lemmas,
+    })
+}
+
+/// Whether the pair is one of these.
+fn is_among(pairs: &[Pair], pair: &Pair) -> bool
+    ensures { Tells result (Contains pairs.now pair.now) }
+{
+    pairs.iter().any(|p| p.is_same(pair))
+}
+
+/// Whether all of these pairs but this one are assumed.
+fn are_others_assumed(assumed: &[Option<Value>], pairs: &[Pair], pair: &Pair) -> bool
+    ensures { Tells result ((q : PairTerm) → Contains pairs.now q → (q ≡ pair.now → ⊥) → assumed_at assumed.now q.var ≡ Some q.value) }
+{
+    pairs
+        .iter()
+        .all(|p| p.is_same(pair) || is_assumed(assumed, p))
+}
+
+/// Whether the pair is one of these, and all others of them are assumed.
+pub fn is_by_others(assumed: &[Option<Value>], pairs: &[Pair], pair: &Pair) -> bool
+    ensures { Tells result (IsByOthers assumed.now pairs.now pair.now) }
+{
+    is_among(pairs, pair) && are_others_assumed(assumed, pairs, pair)
+}
