@@ -3,7 +3,7 @@
 _palm() {
     local word="${COMP_WORDS[COMP_CWORD]}"
     case "$COMP_CWORD:${COMP_WORDS[1]-}" in
-    1:*) mapfile -t COMPREPLY < <(compgen -W 'run check gen' -- "$word") ;;
+    1:*) mapfile -t COMPREPLY < <(compgen -W 'run check proof gen' -- "$word") ;;
     2:gen) mapfile -t COMPREPLY < <(compgen -W '1 2 3 4 5 6 7 8 9 10 11 12 13 14 15 16' -- "$word") ;;
     *) COMPREPLY=() ;;
     esac

@@ -8,7 +8,7 @@ use Rattle.proof_text.proofs.cited.Unique.{one_verdict as one_proof_verdict}
 use Rattle.palm_cli.proofs.Taking.{all_left, rose_after, told_once}
 use Rattle.palm_cli.specs.Judging.{ReadsOn, ReadsUnkept, KeepsPiece, ReadsText, StopsReading, WritesVerdict}
 use Rattle.palm_cli.specs.Commands.{Streams, EndsWith, HasNoFault, IsAll, IsCut, IsInTime, JudgesSource, JudgesAll, TakesJudged, TakesOver}
-use Rattle.palm_cli.specs.Verdicts.{IsTold, TellsCertificate, TellsProof, proof_status, verdict_status}
+use Rattle.palm_cli.specs.Verdicts.{IsTold, proof_status, verdict_status}
 use Rattle.palm_cli.specs.declared.limits.TheConstants.{MOST_INPUT_BYTES, PIECE}
 use Rattle.palm_cli.specs.declared.words.Evidence.{Evidence}
 use Rattle.palm_cli.specs.declared.words.Evidence.TheVariants.{Certificate, Proof}

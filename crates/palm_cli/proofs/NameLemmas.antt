@@ -1,9 +1,10 @@
 -- The names of the listed constraints, one after another.
-use Rattle.std.proofs.Common.{◌≡◌, ℕ, ◌+◌, ◌≤◌, List, [], ◌∷◌, ◌++◌, length, map, take, get_or, slice_get, Some, codes, sym, ap, ◌∙◌, append_assoc, append-nil}
+use Rattle.std.proofs.Common.{◌≡◌, ℕ, ◌+◌, ◌≤◌, List, [], ◌∷◌, ◌++◌, length, map, take, get_or, slice_get, Some, Result, Ok, Err, OnOk, codes, sym, ap, ◌∙◌, append_assoc, append-nil}
 use Rattle.std.proofs.lemmas.List.{map_more, take_all}
 use Rattle.std.proofs.lemmas.Option.{get_or_from_slice_get, slice_get_within}
 use Rattle.std.proofs.lemmas.List.Concat.{flat_map-append}
 use Rattle.palm_book.specs.declared.book.BookCon.{BookCon}
+use Rattle.palm_lang.specs.Print.{Appends}
 use Rattle.palm_read.specs.Words.{after_spaces}
 
 abbrev pub names_text : List BookCon → List ℕ
@@ -38,3 +39,8 @@ behind was text more mid now e f = f ∙ ap (λ (z : List ℕ). z ++ more) e ∙
 -- the same where the other is known by an equation
 pub behind_same : (was text more bytes mid now : List ℕ) → bytes ≡ more → mid ≡ was ++ text → now ≡ mid ++ bytes → now ≡ was ++ (text ++ more)
 behind_same was text more bytes mid now same e f = behind was text more mid now e (f ∙ ap (λ (z : List ℕ). mid ++ z) same)
+
+-- a text behind another one, which a call appends where it succeeds
+pub appends_behind : {T E : Type 0} (was lead text mid now : List ℕ) (r : Result T E) → mid ≡ was ++ lead → Appends mid now text r → OnOk r (now ≡ was ++ (lead ++ text))
+appends_behind was lead text mid now (Ok x) e a = behind was lead text mid now e a
+appends_behind was lead text mid now (Err x) e a = tt

@@ -1,5 +1,5 @@
 //! The commands `check` and `proof`, which judge the text of the source.
-ghost use Rattle.std.specs.Prelude.{◌≡◌, List, ℕ, length, MatchResult};
+ghost use Rattle.std.specs.Prelude.{◌≡◌, length, MatchResult};
 ghost use Rattle.palm_cli.specs.Commands.{JudgesSource, streams};
 ghost use Rattle.palm_cli.specs.Judging.{KeepsPiece, ReadsText, StopsReading, WritesVerdict};
 

@@ -1,5 +1,5 @@
 //! The line that tells the verdict on a text, and the status behind it.
-ghost use Rattle.std.specs.Prelude.{◌≡◌, ◌++◌, ◌⊎◌, map, decimal, OnOk, IfOk, All};
+ghost use Rattle.std.specs.Prelude.{◌≡◌, ◌++◌, ◌⊎◌, map, decimal, OnOk, IfOk};
 ghost use Rattle.palm_claim.specs.Claim.{IsOver, IsOverItsBook};
 ghost use Rattle.palm_lang.specs.Reply.{ended};
 ghost use Rattle.palm_read.specs.Words.{after_spaces};
