@@ -80,8 +80,12 @@ fn is_refused_without(
     output: &str,
 ) -> Result<bool, NoMemory> {
     let mut text = Vec::new(alloc);
-    put_lines(&mut text, &LINES, from.saturating_sub(1), 0, "")?;
-    put_lines(&mut text, LINES.get(to..).unwrap_or(&[]), 19, 0, "")?;
+    for (place, line) in LINES.iter().enumerate() {
+        if place + 1 < from || to < place + 1 {
+            text.extend_from_slice(line.as_bytes())?;
+            text.extend_from_slice(b"\n")?;
+        }
+    }
     is_refused(alloc, "proof", &text, output)
 }
 
