@@ -12,7 +12,7 @@ import os
 import subprocess
 
 BLANKS = " \t"
-MANY = ("domains", "list", "log", "cert")
+MANY = ("domains", "list", "log", "cert", "prove")
 SINGLE = ("contradiction", "paused", "present", "consistent")
 
 

@@ -18,8 +18,8 @@ use Rattle.palm_model.specs.Log.{Removal, log_pairs}
 use Rattle.palm_explain.specs.Explanations.{IsLinked}
 use Rattle.palm_cert.specs.Certificate.{asked, is_asked, is_cited, pairs_with}
 use Rattle.palm_cert.specs.Needs.{cites_of, marks_of}
-use Rattle.palm_cert.proofs.Links.{asked_member, linked_apart, member_asked, pair_logged, same_place}
-use Rattle.palm_cert.proofs.Numbers.{pair_at}
+use Rattle.palm_cert.proofs.cited.Links.{asked_member, linked_apart, member_asked, pair_logged, same_place}
+use Rattle.palm_cert.proofs.cited.Numbers.{pair_at}
 
 -- ---- one mark more
 

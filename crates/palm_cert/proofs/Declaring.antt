@@ -11,6 +11,7 @@ use Rattle.palm_book.proofs.cited.Any.{member_any}
 use Rattle.palm_book.proofs.cited.Resolving.{known}
 use Rattle.palm_claim.specs.Draft.{Draft, IsOpen, MayStand, blank}
 use Rattle.palm_claim.specs.Statement.{Says}
+use Rattle.palm_claim.specs.Verdict.{Meets, certificates}
 use Rattle.palm_claim.specs.declared.statement.Stage.{Stage}
 use Rattle.palm_claim.specs.declared.statement.Stage.TheVariants.{Claimed, Closed, Declaring, Listing, Proving, Unopened}
 use Rattle.palm_claim.specs.declared.statement.Statement.TheVariants.{Constraint, Header, Variable}
@@ -24,8 +25,8 @@ use Rattle.palm_cert.specs.Certificate.{added_line, declared_line, header_line}
 use Rattle.palm_cert.specs.Moved.{moved}
 use Rattle.palm_cert.specs.Readable.{IsDeclaredBy}
 use Rattle.palm_cert.specs.SameClaim.{names_of_constraints, shapes_of}
-use Rattle.palm_cert.proofs.Before.{Before, before_from, before_split}
-use Rattle.palm_cert.proofs.Passing.{Reads, no_cause, plain_read, reads_line, reads_none, reads_then}
+use Rattle.palm_cert.proofs.cited.Before.{Before, before_from, before_split}
+use Rattle.palm_claim.proofs.cited.Passing.{Reads, no_cause, plain_read, reads_line, reads_none, reads_then}
 use Rattle.palm_cert.proofs.Moving.{named_moved}
 use Rattle.palm_cert.proofs.Renumbering.{entries, entry, place_in, place_name, resolved}
 
@@ -67,10 +68,10 @@ list_open (Closed claim) may = may
 
 -- ---- the header
 
-header_reads : Says (codes "palm-cert 1") Header → Reads blank header_line (record { stage = Declaring; book = record { variables = []; constraints = [] }; proved = [] })
+header_reads : Says (codes "palm-cert 1") Header → Reads certificates blank header_line (record { stage = Declaring; book = record { variables = []; constraints = [] }; proved = [] })
 header_reads says =
-    reads_line blank (record { stage = Declaring; book = record { variables = []; constraints = [] }; proved = [] }) (codes "palm-cert 1") header_line refl says.0.plain
-    (record { statement = Header; says = says; none = no_cause blank Header (λ h. h refl) (λ h. h) (λ h. h) (λ h. h) (λ h. h) (λ h. h); leads = refl })
+    reads_line certificates blank (record { stage = Declaring; book = record { variables = []; constraints = [] }; proved = [] }) (codes "palm-cert 1") header_line refl says.0.plain
+    (record { statement = Header; says = says; none = no_cause (Meets blank Header) (λ h. h refl) (λ h. h) (λ h. h) (λ h. h) (λ h. h) (λ h. h); leads = refl })
 
 module _ (book : Contents) (us : List ℕ) (cs : List BookCon) (are : AreDeclared book us cs) where
   -- ---- variables
@@ -99,27 +100,27 @@ module _ (book : Contents) (us : List ℕ) (cs : List BookCon) (are : AreDeclare
       ∙ ap (λ (values : List ℤ). entries book.variables earlier ++ build values ∷ []) (sym d.values)
 
   variable_reads : (earlier : List ℕ) (x : ℕ) (later : List ℕ) (line : List ℕ) → us ≡ earlier ++ x ∷ later → IsDeclaredBy book.variables x line
-      → Reads (declaring earlier) (declared_line book.variables x) (declaring (earlier ++ x ∷ []))
+      → Reads certificates (declaring earlier) (declared_line book.variables x) (declaring (earlier ++ x ∷ []))
   variable_reads earlier x later line split d =
       let build : List BookVar → Draft = λ es. record { stage = Declaring; book = record { variables = es; constraints = [] }; proved = [] } in
-      reads_line (declaring earlier) (declaring (earlier ++ x ∷ [])) line (declared_line book.variables x) d.ends
+      reads_line certificates (declaring earlier) (declaring (earlier ++ x ∷ [])) line (declared_line book.variables x) d.ends
       (plain_read line (Var (name_of book.variables x) d.domain) (λ e. cc) d.says).plain
       (record {
         statement = Variable (name_of book.variables x) d.domain;
         says = d.says;
         none =
-            no_cause (declaring earlier) (Variable (name_of book.variables x) d.domain) (λ h. h refl) (variable_new earlier x later split)
+            no_cause (Meets (declaring earlier) (Variable (name_of book.variables x) d.domain)) (λ h. h refl) (variable_new earlier x later split)
             (λ h. elim h [ inl far ↦ d.near far | inr full ↦ variable_room earlier x later split full ]) (λ h. h) (λ h. h) (λ h. h);
         leads = ap build (variable_added earlier x line d);
       })
 
   variables_read : ((x : ℕ) → x < length book.variables → (line : List ℕ) × IsDeclaredBy book.variables x line) → (earlier later : List ℕ) → us ≡ earlier ++ later
-      → Reads (declaring earlier) (flat_map (declared_line book.variables) later) (declaring us)
-  variables_read each earlier [] split = reads_none (declaring earlier) (declaring us) (ap declaring (sym (split ∙ append-nil earlier)))
+      → Reads certificates (declaring earlier) (flat_map (declared_line book.variables) later) (declaring us)
+  variables_read each earlier [] split = reads_none certificates (declaring earlier) (declaring us) (ap declaring (sym (split ∙ append-nil earlier)))
   variables_read each earlier (x ∷ later) split =
       let here = subst (λ (zs : List ℕ). Contains zs x) (sym split) (Contains-append_right earlier (x ∷ later) x (member_here x later)) in
       let line = each x (are.variables x here) in
-      reads_then (declaring earlier) (declaring (earlier ++ x ∷ [])) (declaring us) (declared_line book.variables x) (flat_map (declared_line book.variables) later)
+      reads_then certificates (declaring earlier) (declaring (earlier ++ x ∷ [])) (declaring us) (declared_line book.variables x) (flat_map (declared_line book.variables) later)
       (variable_reads earlier x later line.0 split line.1)
       (variables_read each (earlier ++ x ∷ []) later (split ∙ sym (append_assoc earlier (x ∷ []) later)))
 
@@ -177,17 +178,17 @@ module _ (book : Contents) (us : List ℕ) (cs : List BookCon) (are : AreDeclare
 
   constraint_reads : (stage : Stage) → MayList stage → (earlier : List BookCon) (c : BookCon) (later acc : List BookCon) → cs ≡ earlier ++ c ∷ later → Contains cs c → Lists earlier acc
       → Says (text_of (Add c.name (named book.variables c.con))) (Constraint c.name (named book.variables c.con)) → (IsBeyond (Add c.name (named book.variables c.con)) → ⊥)
-      → Reads (listing stage acc) (added_line book.variables c) (listing Listing (next acc c))
+      → Reads certificates (listing stage acc) (added_line book.variables c) (listing Listing (next acc c))
   constraint_reads stage may earlier c later acc split m lists says near =
       let shape = named book.variables c.con in
       let says_what = resolved book.variables us c.con (are.scopes c m) in
-      reads_line (listing stage acc) (listing Listing (next acc c)) (text_of (Add c.name shape)) (added_line book.variables c) refl
+      reads_line certificates (listing stage acc) (listing Listing (next acc c)) (text_of (Add c.name shape)) (added_line book.variables c) refl
       (plain_read (text_of (Add c.name shape)) (Add c.name shape) (λ e. cc) says).plain
       (record {
         statement = Constraint c.name shape;
         says = says;
         none =
-            no_cause (listing stage acc) (Constraint c.name shape) (λ h. h (may_list stage c.name shape may))
+            no_cause (Meets (listing stage acc) (Constraint c.name shape)) (λ h. h (may_list stage c.name shape may))
             (λ h. elim h [ inl has ↦ constraint_new earlier c later acc split lists has | inr unknown ↦ known (entries book.variables us) shape (moved (place_in us) c.con) says_what unknown ])
             (λ h. elim h [ inl far ↦ near far | inr full ↦ constraint_room earlier c later acc split lists full ]) (λ h. h) (λ h. h) (λ h. h);
         leads = (moved (place_in us) c.con, says_what, refl);
@@ -199,7 +200,7 @@ module _ (book : Contents) (us : List ℕ) (cs : List BookCon) (are : AreDeclare
     pub may : MayList stage
     pub acc : List BookCon
     pub lists : Lists cs acc
-    pub reads : Reads d text (listing stage acc)
+    pub reads : Reads certificates d text (listing stage acc)
 
   module _ (says : (c : BookCon) → Contains book.constraints c → Says (text_of (Add c.name (named book.variables c.con))) (Constraint c.name (named book.variables c.con)))
       (near : (c : BookCon) → Contains book.constraints c → IsBeyond (Add c.name (named book.variables c.con)) → ⊥) where
@@ -209,7 +210,7 @@ module _ (book : Contents) (us : List ℕ) (cs : List BookCon) (are : AreDeclare
       may = may;
       acc = acc;
       lists = subst (λ (l : List BookCon). Lists l acc) (sym (split ∙ append-nil earlier)) lists;
-      reads = reads_none (listing stage acc) (listing stage acc) refl;
+      reads = reads_none certificates (listing stage acc) (listing stage acc) refl;
     }
     constraints_read stage may earlier (c ∷ later) acc split lists =
         let m = subst (λ (l : List BookCon). Contains l c) (sym split) (Contains-append_right earlier (c ∷ later) c (member_here c later)) in
@@ -221,7 +222,7 @@ module _ (book : Contents) (us : List ℕ) (cs : List BookCon) (are : AreDeclare
           may = rest.may;
           acc = rest.acc;
           lists = rest.lists;
-          reads = reads_then (listing stage acc) (listing Listing (next acc c)) (listing rest.stage rest.acc) (added_line book.variables c) (flat_map (added_line book.variables) later) first rest.reads;
+          reads = reads_then certificates (listing stage acc) (listing Listing (next acc c)) (listing rest.stage rest.acc) (added_line book.variables c) (flat_map (added_line book.variables) later) first rest.reads;
         }
 
     -- the header, the variables and the constraints
@@ -229,12 +230,12 @@ module _ (book : Contents) (us : List ℕ) (cs : List BookCon) (are : AreDeclare
         → HaveRead blank (header_line ++ flat_map (declared_line book.variables) us ++ flat_map (added_line book.variables) cs)
     declarations_read header each =
         let first = header_line ++ flat_map (declared_line book.variables) us in
-        let opened = reads_then blank (declaring []) (declaring us) header_line (flat_map (declared_line book.variables) us) (header_reads header) (variables_read each [] us refl) in
+        let opened = reads_then certificates blank (declaring []) (declaring us) header_line (flat_map (declared_line book.variables) us) (header_reads header) (variables_read each [] us refl) in
         let rest = constraints_read Declaring tt [] cs [] refl lists_none in
         record {
           stage = rest.stage;
           may = rest.may;
           acc = rest.acc;
           lists = rest.lists;
-          reads = reads_then blank (declaring us) (listing rest.stage rest.acc) first (flat_map (added_line book.variables) cs) opened rest.reads;
+          reads = reads_then certificates blank (declaring us) (listing rest.stage rest.acc) first (flat_map (added_line book.variables) cs) opened rest.reads;
         }

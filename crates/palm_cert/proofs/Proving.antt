@@ -10,6 +10,7 @@ use Rattle.palm_book.proofs.cited.Any.{any_member, member_any}
 use Rattle.palm_claim.specs.Draft.{Draft, IsOpen}
 use Rattle.palm_book.specs.Named.{IsDeclared, IsPair, IsVariable}
 use Rattle.palm_claim.specs.Statement.{Says}
+use Rattle.palm_claim.specs.Verdict.{Meets, certificates}
 use Rattle.palm_claim.specs.Step.{IsReached, IsRight, pair_at, pairs_at}
 use Rattle.palm_claim.specs.declared.statement.Stage.{Stage}
 use Rattle.palm_claim.specs.declared.statement.Stage.TheVariants.{Claimed, Closed, Proving}
@@ -31,8 +32,8 @@ use Rattle.palm_cert.specs.Moved.{moved}
 use Rattle.palm_cert.specs.Readable.{claim_statement}
 use Rattle.palm_cert.proofs.Declaring.{AreDeclared, Lists}
 use Rattle.palm_cert.proofs.Moving.{lacks_moved}
-use Rattle.palm_cert.proofs.Reached.{values_same}
-use Rattle.palm_cert.proofs.Passing.{Reads, no_cause, reads_line, reads_none, reads_then}
+use Rattle.palm_cert.proofs.cited.Reached.{values_same}
+use Rattle.palm_claim.proofs.cited.Passing.{Reads, no_cause, reads_line, reads_none, reads_then}
 use Rattle.palm_cert.proofs.Renumbering.{entries, entries_apart, entry, place_declared, place_in, place_member, place_name, place_values}
 
 -- a step, and the constraint of the certificate in which its pair lacks support behind the earlier steps
@@ -158,16 +159,16 @@ module _ (book : Contents) (us : List ℕ) (cs acc : List BookCon) (are : AreDec
     step_proved = ap (λ (ps : List Pair). map other_pair ps) (map-append (λ (s : Removal). s.pair) earlier (r ∷ [])) ∙ map-append other_pair (log_pairs earlier) (r.pair ∷ [])
 
     step_reads : (stage : Stage) (line text : List ℕ) → IsOpen stage → ended line ≡ text → Says line (Step (name_of book.variables r.pair.var) r.pair.value (user_name book.constraints r.by) numbers)
-        → Reads (proving stage (proved_by earlier)) text (proving Proving (proved_by (earlier ++ r ∷ [])))
+        → Reads certificates (proving stage (proved_by earlier)) text (proving Proving (proved_by (earlier ++ r ∷ [])))
     step_reads stage line text ready ends says =
         let name = name_of book.variables r.pair.var in
         let by = user_name book.constraints r.by in
-        reads_line (proving stage (proved_by earlier)) (proving Proving (proved_by (earlier ++ r ∷ []))) line text ends says.0.plain
+        reads_line certificates (proving stage (proved_by earlier)) (proving Proving (proved_by (earlier ++ r ∷ []))) line text ends says.0.plain
         (record {
           statement = Step name r.pair.value by numbers;
           says = says;
           none =
-              no_cause (proving stage (proved_by earlier)) (Step name r.pair.value by numbers) (λ h. h ready)
+              no_cause (Meets (proving stage (proved_by earlier)) (Step name r.pair.value by numbers)) (λ h. h ready)
               (λ h. elim h [ inl u ↦ u (own_declared r.pair step_used is.declared) | inr u ↦ u step_named ]) (λ h. h) step_numbered step_certain (λ h. h);
           leads = (other_pair r.pair, own_pair r.pair step_used, ap (λ (ps : List Pair). proving Proving ps) step_proved);
         })
@@ -178,7 +179,7 @@ module _ (book : Contents) (us : List ℕ) (cs acc : List BookCon) (are : AreDec
   pub record HaveProved (d : Draft) (text : List ℕ) (steps : List Removal) : Type 0 where
     pub stage : Stage
     pub ready : IsOpen stage
-    pub reads : Reads d text (proving stage (proved_by steps))
+    pub reads : Reads certificates d text (proving stage (proved_by steps))
 
   module _ (steps : List Removal)
       (each : (earlier : List Removal) (r : Removal) (later : List Removal) → steps ≡ earlier ++ r ∷ later → IsStep book cs earlier r (numbers_of steps r.reasons))
@@ -187,7 +188,7 @@ module _ (book : Contents) (us : List ℕ) (cs acc : List BookCon) (are : AreDec
     steps_from stage ready earlier [] split = record {
       stage = stage;
       ready = ready;
-      reads = reads_none (proving stage (proved_by earlier)) (proving stage (proved_by steps)) (ap (λ (l : List Removal). proving stage (proved_by l)) (sym (split ∙ append-nil earlier)));
+      reads = reads_none certificates (proving stage (proved_by earlier)) (proving stage (proved_by steps)) (ap (λ (l : List Removal). proving stage (proved_by l)) (sym (split ∙ append-nil earlier)));
     }
     steps_from stage ready earlier (r ∷ later) split =
         let m = subst (λ (l : List Removal). Contains l r) (sym split) (Contains-append_right earlier (r ∷ later) r (member_here r later)) in
@@ -198,7 +199,7 @@ module _ (book : Contents) (us : List ℕ) (cs acc : List BookCon) (are : AreDec
         record {
           stage = rest.stage;
           ready = rest.ready;
-          reads = reads_then (proving stage (proved_by earlier)) (proving Proving (proved_by (earlier ++ r ∷ []))) (proving rest.stage (proved_by steps)) (step_line book steps r) (flat_map (step_line book steps) later) first rest.reads;
+          reads = reads_then certificates (proving stage (proved_by earlier)) (proving Proving (proved_by (earlier ++ r ∷ []))) (proving rest.stage (proved_by steps)) (step_line book steps r) (flat_map (step_line book steps) later) first rest.reads;
         }
 
     pub steps_read : (stage : Stage) → IsOpen stage → HaveProved (proving stage []) (flat_map (step_line book steps) steps) steps
@@ -209,16 +210,16 @@ module _ (book : Contents) (us : List ℕ) (cs acc : List BookCon) (are : AreDec
   module _ (steps : List Removal) (stage : Stage) (ready : IsOpen stage) where
     gone_reads : (pair : Pair) → Contains us pair.var → Has (initial_of book) pair.var pair.value → IsReached book (log_pairs steps) (Gone pair)
         → Says (spaced (claim_words book.variables (Gone pair))) (claim_statement book.variables (Gone pair))
-        → Reads (proving stage (proved_by steps)) (claim_line book.variables (Gone pair)) (proving (Claimed (Gone (other_pair pair))) (proved_by steps))
+        → Reads certificates (proving stage (proved_by steps)) (claim_line book.variables (Gone pair)) (proving (Claimed (Gone (other_pair pair))) (proved_by steps))
     gone_reads pair used has reached says =
         let name = name_of book.variables pair.var in
         let mine = own_pair pair used in
-        reads_line (proving stage (proved_by steps)) (proving (Claimed (Gone (other_pair pair))) (proved_by steps)) (spaced (claim_words book.variables (Gone pair))) (claim_line book.variables (Gone pair)) refl says.0.plain
+        reads_line certificates (proving stage (proved_by steps)) (proving (Claimed (Gone (other_pair pair))) (proved_by steps)) (spaced (claim_words book.variables (Gone pair))) (claim_line book.variables (Gone pair)) refl says.0.plain
         (record {
           statement = ValueClaim name pair.value;
           says = says;
           none =
-              no_cause (proving stage (proved_by steps)) (ValueClaim name pair.value) (λ h. h ready)
+              no_cause (Meets (proving stage (proved_by steps)) (ValueClaim name pair.value)) (λ h. h ready)
               (λ h. h (own_declared pair used has)) (λ h. h) (λ h. h) (λ h. h)
               (λ h.
               let same = pair_is own.variables name pair.value (other_pair pair) h.0 apart mine h.1 in
@@ -231,16 +232,16 @@ module _ (book : Contents) (us : List ℕ) (cs acc : List BookCon) (are : AreDec
 
     conflict_reads : (x : ℕ) → Contains us x → IsReached book (log_pairs steps) (Conflict x)
         → Says (spaced (claim_words book.variables (Conflict x))) (claim_statement book.variables (Conflict x))
-        → Reads (proving stage (proved_by steps)) (claim_line book.variables (Conflict x)) (proving (Claimed (Conflict (other x))) (proved_by steps))
+        → Reads certificates (proving stage (proved_by steps)) (claim_line book.variables (Conflict x)) (proving (Claimed (Conflict (other x))) (proved_by steps))
     conflict_reads x used reached says =
         let name = name_of book.variables x in
         let mine = own_variable x used in
-        reads_line (proving stage (proved_by steps)) (proving (Claimed (Conflict (other x))) (proved_by steps)) (spaced (claim_words book.variables (Conflict x))) (claim_line book.variables (Conflict x)) refl says.0.plain
+        reads_line certificates (proving stage (proved_by steps)) (proving (Claimed (Conflict (other x))) (proved_by steps)) (spaced (claim_words book.variables (Conflict x))) (claim_line book.variables (Conflict x)) refl says.0.plain
         (record {
           statement = ConflictClaim name;
           says = says;
           none =
-              no_cause (proving stage (proved_by steps)) (ConflictClaim name) (λ h. h ready)
+              no_cause (Meets (proving stage (proved_by steps)) (ConflictClaim name)) (λ h. h ready)
               (λ h. h (own_named x used)) (λ h. h) (λ h. h) (λ h. h)
               (λ h.
               let same = variable_is own.variables name (other x) h.0 apart mine h.1 in
@@ -248,22 +249,22 @@ module _ (book : Contents) (us : List ℕ) (cs acc : List BookCon) (are : AreDec
           leads = (other x, mine, refl);
         })
 
-    end_reads : (claim : Claim) → Says (codes "end") End → Reads (proving (Claimed claim) (proved_by steps)) (fixed_text EndText) (proving (Closed claim) (proved_by steps))
+    end_reads : (claim : Claim) → Says (codes "end") End → Reads certificates (proving (Claimed claim) (proved_by steps)) (fixed_text EndText) (proving (Closed claim) (proved_by steps))
     end_reads claim says =
-        reads_line (proving (Claimed claim) (proved_by steps)) (proving (Closed claim) (proved_by steps)) (codes "end") (fixed_text EndText) refl says.0.plain
+        reads_line certificates (proving (Claimed claim) (proved_by steps)) (proving (Closed claim) (proved_by steps)) (codes "end") (fixed_text EndText) refl says.0.plain
         (record {
           statement = End;
           says = says;
-          none = no_cause (proving (Claimed claim) (proved_by steps)) End (λ h. h tt) (λ h. h) (λ h. h) (λ h. h) (λ h. h) (λ h. h);
+          none = no_cause (Meets (proving (Claimed claim) (proved_by steps)) End) (λ h. h tt) (λ h. h) (λ h. h) (λ h. h) (λ h. h) (λ h. h);
           leads = (claim, refl, refl);
         })
 
     pub claim_reads : (claim : Claim) → Contains us (claim_var claim) → IsClaimed book claim → IsReached book (log_pairs steps) claim
         → Says (spaced (claim_words book.variables claim)) (claim_statement book.variables claim) → Says (codes "end") End
-        → Reads (proving stage (proved_by steps)) (claim_line book.variables claim ++ fixed_text EndText) (proving (Closed (other_claim claim)) (proved_by steps))
+        → Reads certificates (proving stage (proved_by steps)) (claim_line book.variables claim ++ fixed_text EndText) (proving (Closed (other_claim claim)) (proved_by steps))
     claim_reads (Gone pair) used has reached says ends =
-        reads_then (proving stage (proved_by steps)) (proving (Claimed (other_claim (Gone pair))) (proved_by steps)) (proving (Closed (other_claim (Gone pair))) (proved_by steps))
+        reads_then certificates (proving stage (proved_by steps)) (proving (Claimed (other_claim (Gone pair))) (proved_by steps)) (proving (Closed (other_claim (Gone pair))) (proved_by steps))
         (claim_line book.variables (Gone pair)) (fixed_text EndText) (gone_reads pair used has reached says) (end_reads (other_claim (Gone pair)) ends)
     claim_reads (Conflict x) used has reached says ends =
-        reads_then (proving stage (proved_by steps)) (proving (Claimed (other_claim (Conflict x))) (proved_by steps)) (proving (Closed (other_claim (Conflict x))) (proved_by steps))
+        reads_then certificates (proving stage (proved_by steps)) (proving (Claimed (other_claim (Conflict x))) (proved_by steps)) (proving (Closed (other_claim (Conflict x))) (proved_by steps))
         (claim_line book.variables (Conflict x)) (fixed_text EndText) (conflict_reads x used reached says) (end_reads (other_claim (Conflict x)) ends)

@@ -7,7 +7,7 @@ use Rattle.std.proofs.lemmas.List.Folds.{list_any-append}
 use Rattle.palm_model.specs.Linear.{term_vars}
 use Rattle.palm_model.specs.declared.constraint.Term.{Term}
 use Rattle.palm_cert.specs.Needs.{has_term, has_var, marked, marked_at}
-use Rattle.palm_cert.proofs.Marked.{marked_false, marked_split, marked_step, marked_true}
+use Rattle.palm_cert.proofs.cited.Marked.{marked_false, marked_split, marked_step, marked_true}
 
 pub terms_have : (terms : List Term) (x : ℕ) → has_term terms x ≡ has_var (term_vars terms) x
 terms_have [] x = refl

@@ -10,6 +10,7 @@ use Rattle.palm_claim.specs.declared.verdict.Claim.TheVariants.{Gone, Conflict}
 use Rattle.palm_book.specs.declared.book.BookCon.{BookCon}
 use Rattle.palm_cert.specs.Certificate.{asked, claimed, declared_line, is_asked, is_cited, is_used, numbers_of}
 use Rattle.palm_cert.specs.declared.needs.Needs.{Needs}
+use Rattle.palm_cert.specs.declared.needs.StepMarks.{StepMarks}
 use Rattle.palm_explain.specs.Explanations.{IsLinked, reasons_of}
 use Rattle.palm_model.specs.Log.{Removal, log_pairs}
 use Rattle.palm_model.specs.declared.constraint.Term.{Term}
@@ -55,18 +56,22 @@ marked (false ∷ marks) (x ∷ xs) = marked marks xs
 abbrev pub marked_at : {X : Type 0} → List Bool → List X → ℕ → List X
 marked_at marks xs place = marked (take 1 (drop place marks)) (drop place xs)
 
+-- the marks of the removals that a claim of these pairs needs, and their numbers as steps
+pub record AreMarks (log : List Removal) (pairs : List Pair) (marks : StepMarks) : Type 0 where
+  pub steps : marks.steps.items ≡ marks_of log (asked log pairs)
+  pub numbers : marks.numbers.items ≡ numbered 1 marks.steps.items
+
 -- what the claim needs of the book and the log
 pub record AreNeeds (book : Contents) (log : List Removal) (claim : Claim) (needs : Needs) : Type 0 where
-  pub steps : needs.steps.items ≡ marks_of log (asked log (claimed book claim))
-  pub numbers : needs.numbers.items ≡ numbered 1 needs.steps.items
-  pub cited : needs.cited.items ≡ cites_of book (marked needs.steps.items log)
+  pub marks : AreMarks log (claimed book claim) needs.marks
+  pub cited : needs.cited.items ≡ cites_of book (marked needs.marks.steps.items log)
 
--- marks and numbers for each removal, where the reasons of the marked ones are pairs of marked ones
-pub record AreSteps (log : List Removal) (needs : Needs) : Type 0 where
+-- a mark and a number for each removal, where the reasons of the marked ones are pairs of marked ones
+pub record AreSteps (log : List Removal) (marks : StepMarks) : Type 0 where
   pub linked : IsLinked log
-  pub marks : length needs.steps.items ≡ length log
-  pub numbers : needs.numbers.items ≡ numbered 1 needs.steps.items
-  pub reasons : (r : Removal) (p : Pair) → Contains (marked needs.steps.items log) r → Contains r.reasons p → Contains (log_pairs (marked needs.steps.items log)) p
+  pub long : length marks.steps.items ≡ length log
+  pub numbers : marks.numbers.items ≡ numbered 1 marks.steps.items
+  pub reasons : (r : Removal) (p : Pair) → Contains (marked marks.steps.items log) r → Contains r.reasons p → Contains (log_pairs (marked marks.steps.items log)) p
 
 -- the step with the number, counted from 1, proved the pair
 pub record IsNumberOf (steps : List Removal) (k : ℕ) (p : Pair) : Type 0 where

@@ -10,7 +10,7 @@ ghost use Rattle.palm_model.specs.Constraint.{scope};
 ghost use Rattle.palm_read.specs.Words.{spaced};
 
 use crate::lines::{put_added, put_claim, put_header, put_step};
-use crate::needs::{Needs, claimed_var, collect_numbers, needs_of, number_of};
+use crate::needs::{StepMarks, claimed_var, collect_numbers, needs_of, number_of};
 use crate::usage::is_used;
 use palm_base::{NoMemory, Pair, Sink, Var};
 use palm_engine::Engine;
@@ -46,7 +46,7 @@ pub fn write_cert<F: Filter, K: Sink>(
     let mut buffer = Vec::new(alloc);
     write_declarations(book, &needs.cited, claimed_var(&claim), out, &mut buffer)?;
     let mut numbers = Vec::new(alloc);
-    write_steps(book, log, &needs, &mut numbers, out, &mut buffer)?;
+    write_steps(book, log, &needs.marks, &mut numbers, out, &mut buffer)?;
     write_claim(book, &claim, out, &mut buffer)?;
     write_fixed(Fixed::End, out, &mut buffer)
 }
@@ -146,8 +146,8 @@ fn write_constraint<K: Sink>(
     write_added(book, book.constraint(place), out, buffer)
 }
 
-/// Writes a constraint.
-fn write_added<K: Sink>(
+/// Writes the `add` line of a constraint.
+pub fn write_added<K: Sink>(
     book: &Book,
     entry: &BookCon,
     out: &mut K,
@@ -163,17 +163,17 @@ fn write_added<K: Sink>(
 fn write_steps<K: Sink>(
     book: &Book,
     log: &ExplainStore,
-    needs: &Needs,
+    marks: &StepMarks,
     numbers: &mut Vec<usize>,
     out: &mut K,
     buffer: &mut Vec<u8>,
 ) -> Result<(), CertStop>
-    requires steps { AreSteps log.now.log needs.now }
+    requires steps { AreSteps log.now.log marks.now }
     requires logged { All (IsOfBook book.now) log.now.log }
-    ensures { Writes (K.state out.old) (K.state out.new) (flat_map (step_line book.now (marked needs.now.steps.items log.now.log)) (marked needs.now.steps.items log.now.log)) result }
+    ensures { Writes (K.state out.old) (K.state out.new) (flat_map (step_line book.now (marked marks.now.steps.items log.now.log)) (marked marks.now.steps.items log.now.log)) result }
 {
     for place in 0..log.removals() {
-        write_step(book, log, needs, place, numbers, out, buffer)?;
+        write_step(book, log, marks, place, numbers, out, buffer)?;
     }
     Ok(())
 }
@@ -182,22 +182,22 @@ fn write_steps<K: Sink>(
 fn write_step<K: Sink>(
     book: &Book,
     log: &ExplainStore,
-    needs: &Needs,
+    marks: &StepMarks,
     place: usize,
     numbers: &mut Vec<usize>,
     out: &mut K,
     buffer: &mut Vec<u8>,
 ) -> Result<(), CertStop>
-    requires steps { AreSteps log.now.log needs.now }
+    requires steps { AreSteps log.now.log marks.now }
     requires logged { All (IsOfBook book.now) log.now.log }
     requires place { place < length log.now.log }
-    ensures { Writes (K.state out.old) (K.state out.new) (flat_map (step_line book.now (marked needs.now.steps.items log.now.log)) (marked_at needs.now.steps.items log.now.log place)) result }
+    ensures { Writes (K.state out.old) (K.state out.new) (flat_map (step_line book.now (marked marks.now.steps.items log.now.log)) (marked_at marks.now.steps.items log.now.log place)) result }
 {
-    let is_step = needs.steps[place];
+    let is_step = marks.steps[place];
     if !is_step {
         return Ok(());
     }
-    collect_numbers(log, needs, place, numbers)?;
+    collect_numbers(log, marks, place, numbers)?;
     let by = number_of(log.by_at(place));
     write_removal(book, &log.pair_at(place), by, numbers, out, buffer)
 }

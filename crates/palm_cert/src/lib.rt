@@ -1,4 +1,5 @@
-//! Certificates of what an engine has removed: the removals that a claim needs, written as text, line by line.
+//! Certificates of what an engine has removed: the removals that a claim needs, written as text, line by line. Which
+//! removals these are, and the lines of constraints and steps, are for writers of other texts too.
 #![tactic(auto)]
 
 mod certificate;
@@ -7,12 +8,13 @@ mod lines;
 mod needs;
 mod usage;
 
-pub use certificate::write_cert;
+pub use certificate::{write_added, write_cert};
 pub use laws::{
     certificates_are_accepted, claims_are_reached, constraints_are_those_of_the_explanation,
     lines_say_what_was_written, numbers_of_variables_do_not_matter,
     steps_are_right_behind_earlier_ones, steps_are_right_by_themselves,
     steps_are_what_the_claim_needs,
 };
-pub use needs::number_of;
+pub use lines::put_step;
+pub use needs::{StepMarks, collect_numbers, mark_steps, number_of};
 pub use palm_lang::WriteStop as CertStop;

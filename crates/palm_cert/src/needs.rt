@@ -1,8 +1,8 @@
 //! Which removals of a log a claim needs, which numbers they have as steps, and which constraints made them.
 ghost use Rattle.std.specs.Prelude.{◌≡◌, ◌+◌, ◌-◌, ◌^◌, ◌<◌, ◌++◌, List, [], ◌∷◌, length, replicate, true, false, All, Contains, IfOk, OnOk, Some, slice_get, slice_set, if◌then◌else◌};
 ghost use Rattle.palm_base.specs.declared.terms.Pair.{Pair as PairTerm};
-ghost use Rattle.palm_cert.specs.Certificate.{asked, claim_var, is_asked, pairs_with};
-ghost use Rattle.palm_cert.specs.Needs.{AreNeeds, AreSteps, IsNumbered, IsNumberOf, IsOfBook, cites_of, marked, marked_at, marks_of, numbered, numbers_at};
+ghost use Rattle.palm_cert.specs.Certificate.{asked, claim_var, claimed, is_asked, pairs_with};
+ghost use Rattle.palm_cert.specs.Needs.{AreMarks, AreNeeds, AreSteps, IsNumbered, IsNumberOf, IsOfBook, cites_of, marked, marked_at, marks_of, numbered, numbers_at};
 ghost use Rattle.palm_explain.specs.Explanations.{IsLinked, reasons_of};
 ghost use Rattle.palm_model.specs.Log.{Removal, log_pairs};
 
@@ -11,13 +11,33 @@ use palm_explain::ExplainStore;
 use palm_lang::{Book, Claim};
 use std::alloc::Global;
 
-/// What the claim of a certificate needs.
+/// Which removals of a log are steps, and the number that each has as one.
 #[derive(Debug, Drop)]
-pub struct Needs {
+pub struct StepMarks {
     /// For each removal of the log, whether it is a step.
     pub steps: Vec<bool>,
     /// For each removal, the number that it has if it is a step.
     pub numbers: Vec<usize>,
+}
+
+impl StepMarks {
+    /// No marks. They take no memory yet.
+    pub fn new(alloc: Global) -> StepMarks
+        ensures steps { result.steps.items ≡ [] }
+        ensures numbers { result.numbers.items ≡ [] }
+    {
+        StepMarks {
+            steps: Vec::new(alloc),
+            numbers: Vec::new(alloc),
+        }
+    }
+}
+
+/// What the claim of a certificate needs.
+#[derive(Debug, Drop)]
+pub struct Needs {
+    /// The removals that are steps.
+    pub marks: StepMarks,
     /// For each constraint of the book, whether it made a step.
     pub cited: Vec<bool>,
 }
@@ -34,46 +54,72 @@ pub fn needs_of(
     requires variable { claim_var claim.now < length book.now.variables }
     ensures { IfOk result (AreNeeds book.now log.now.log claim.now) }
 {
-    let steps = match claim {
-        Claim::Gone(pair) => steps_for(alloc, log, pair.var, &[pair.value])?,
-        Claim::Conflict(var) => steps_for(alloc, log, *var, book.initial(*var).as_slice())?,
-    };
-    let numbers = numbers_of(alloc, &steps)?;
-    let cited = cited_by(alloc, book, log, &steps)?;
-    Ok(Needs {
-        steps,
-        numbers,
-        cited,
-    })
+    let mut marks = StepMarks::new(alloc);
+    mark_claim(book, log, claim, &mut marks)?;
+    let cited = cited_by(alloc, book, log, &marks.steps)?;
+    Ok(Needs { marks, cited })
 }
 
-/// For each removal, whether the claim that the variable has lost these values needs it. The reasons of a removal stand
-/// before it, so one walk from the last removal to the first finds all.
-fn steps_for(
-    alloc: Global,
+/// Makes the marks those of the removals that the claim needs.
+fn mark_claim(
+    book: &Book,
+    log: &ExplainStore,
+    claim: &Claim,
+    marks: &mut StepMarks,
+) -> Result<(), NoMemory>
+    requires linked { IsLinked log.now.log }
+    requires variable { claim_var claim.now < length book.now.variables }
+    ensures { OnOk result (AreMarks log.now.log (claimed book.now claim.now) marks.new) }
+{
+    match claim {
+        Claim::Gone(pair) => mark_steps(log, pair.var, &[pair.value], marks),
+        Claim::Conflict(var) => mark_steps(log, *var, book.initial(*var).as_slice(), marks),
+    }
+}
+
+/// Makes the marks those of the removals that a claim needs: that the variable has lost these values. What an earlier call
+/// left in them goes, and its memory is used again.
+pub fn mark_steps(
     log: &ExplainStore,
     var: Var,
     values: &[Value],
-) -> Result<Vec<bool>, NoMemory>
+    marks: &mut StepMarks,
+) -> Result<(), NoMemory>
     requires { IsLinked log.now.log }
-    ensures { IfOk result (λ steps. steps.items ≡ marks_of log.now.log (asked log.now.log (pairs_with var values.now))) }
+    ensures { OnOk result (AreMarks log.now.log (pairs_with var values.now) marks.new) }
 {
-    let mut steps = unmarked(alloc, log.removals())?;
-    mark_values(log, var, values, &mut steps);
+    mark_needed(log, var, values, &mut marks.steps)?;
+    number_steps(&marks.steps, &mut marks.numbers)
+}
+
+/// Makes the list, for each removal, whether the claim that the variable has lost these values needs it. The reasons of a
+/// removal stand before it, so one walk from the last removal to the first finds all.
+fn mark_needed(
+    log: &ExplainStore,
+    var: Var,
+    values: &[Value],
+    steps: &mut Vec<bool>,
+) -> Result<(), NoMemory>
+    requires { IsLinked log.now.log }
+    ensures { OnOk result (steps.new.items ≡ marks_of log.now.log (asked log.now.log (pairs_with var values.now))) }
+{
+    unmark(log.removals(), steps)?;
+    mark_values(log, var, values, steps);
     let mut place = steps.len();
     while place > 0 {
         place -= 1;
-        mark_if_step(log, place, &mut steps);
+        mark_if_step(log, place, steps);
     }
-    Ok(steps)
+    Ok(())
 }
 
-/// As many marks, none of them set.
-fn unmarked(alloc: Global, count: usize) -> Result<Vec<bool>, NoMemory>
-    ensures { IfOk result (λ marks. marks.items ≡ replicate count false) }
+/// Makes the list as many marks, none of them set.
+fn unmark(count: usize, marks: &mut Vec<bool>) -> Result<(), NoMemory>
+    ensures { OnOk result (marks.new.items ≡ replicate count false) }
 {
-    let marks = vec![in alloc; false; count]?;
-    Ok(marks)
+    marks.clear();
+    marks.resize(count, false)?;
+    Ok(())
 }
 
 /// Marks the removals of these values of the variable.
@@ -132,17 +178,18 @@ fn set(marks: &mut Vec<bool>, place: usize)
     marks[place] = true;
 }
 
-/// For each removal, the number that it has if it is a step.
-fn numbers_of(alloc: Global, steps: &[bool]) -> Result<Vec<usize>, NoMemory>
-    ensures { IfOk result (λ numbers. numbers.items ≡ numbered 1 steps.now) }
+/// Makes the list, for each removal, the number that it has if it is a step.
+fn number_steps(steps: &[bool], numbers: &mut Vec<usize>) -> Result<(), NoMemory>
+    ensures { OnOk result (numbers.new.items ≡ numbered 1 steps.now) }
 {
-    let mut numbers = Vec::with_capacity(alloc, steps.len())?;
+    numbers.clear();
+    numbers.reserve(steps.len())?;
     let mut next = 1;
     for step in steps {
         numbers.push(next)?;
         next = after(next, *step);
     }
-    Ok(numbers)
+    Ok(())
 }
 
 /// The number that is free behind a removal with this one, which is a step or not.
@@ -164,7 +211,8 @@ fn cited_by(
     requires long { length steps.now ≡ length log.now.log }
     ensures { IfOk result (λ cited. cited.items ≡ cites_of book.now (marked steps.now log.now.log)) }
 {
-    let mut cited = unmarked(alloc, book.constraints())?;
+    let mut cited = Vec::new(alloc);
+    unmark(book.constraints(), &mut cited)?;
     for place in 0..log.removals() {
         cite_step(book, log, place, steps, &mut cited);
     }
@@ -220,18 +268,18 @@ pub fn claimed_var(claim: &Claim) -> Var
 /// Makes the list the numbers of the steps that proved the reasons of the one at a place, ascending.
 pub fn collect_numbers(
     log: &ExplainStore,
-    needs: &Needs,
+    marks: &StepMarks,
     place: usize,
     numbers: &mut Vec<usize>,
 ) -> Result<(), NoMemory>
-    requires steps { AreSteps log.now.log needs.now }
+    requires steps { AreSteps log.now.log marks.now }
     requires place { place < length log.now.log }
-    requires step { slice_get needs.now.steps.items place ≡ Some true }
-    ensures { OnOk result (numbers.new.items ≡ numbers_at needs.now.steps.items log.now.log place) }
+    requires step { slice_get marks.now.steps.items place ≡ Some true }
+    ensures { OnOk result (numbers.new.items ≡ numbers_at marks.now.steps.items log.now.log place) }
 {
     numbers.clear();
     for index in 0..log.reasons_at(place) {
-        numbers.push(number_at(log, needs, log.reason_at(place, index)))?;
+        numbers.push(number_at(log, marks, log.reason_at(place, index)))?;
     }
     numbers.sort_unstable();
     numbers.dedup();
@@ -239,13 +287,13 @@ pub fn collect_numbers(
 }
 
 /// The number of the step that proved the pair.
-fn number_at(log: &ExplainStore, needs: &Needs, pair: Pair) -> usize
-    requires steps { AreSteps log.now.log needs.now }
-    requires proved { Contains (log_pairs (marked needs.now.steps.items log.now.log)) pair }
-    ensures { IsNumberOf (marked needs.now.steps.items log.now.log) result pair }
+fn number_at(log: &ExplainStore, marks: &StepMarks, pair: Pair) -> usize
+    requires steps { AreSteps log.now.log marks.now }
+    requires proved { Contains (log_pairs (marked marks.now.steps.items log.now.log)) pair }
+    ensures { IsNumberOf (marked marks.now.steps.items log.now.log) result pair }
 {
     match log.place_of(pair) {
-        Some(place) => needs.numbers[place],
+        Some(place) => marks.numbers[place],
         None => unreachable!(),
     }
 }

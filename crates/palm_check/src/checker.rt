@@ -49,7 +49,7 @@ impl Checker {
         }
     }
 
-    /// TakesLine the next line, or answers its first cause.
+    /// Takes the next line, or answers its first cause.
     pub fn take(&mut self, line: &[u8]) -> Result<Option<Cause>, NoMemory>
         requires { IsChecker self.old }
         ensures takes { IfOk result (λ cause. TakesLine (draft_of self.old) line.now cause (draft_of self.new)) }
@@ -70,7 +70,7 @@ impl Checker {
         self.hear(statement, is_beyond)
     }
 
-    /// TakesLine what a line says that may stand there, or answers its first cause. It is told whether the line breaks a limit
+    /// Takes what a line says that may stand there, or answers its first cause. It is told whether the line breaks a limit
     /// by itself.
     fn hear(&mut self, statement: Statement, is_beyond: bool) -> Result<Option<Cause>, NoMemory>
         requires stands { MayStand self.old.stage statement }
@@ -103,7 +103,7 @@ impl Checker {
         }
     }
 
-    /// TakesLine a variable.
+    /// Takes a variable.
     fn declare(
         &mut self,
         name: Name,
@@ -142,7 +142,7 @@ impl Checker {
         Ok(())
     }
 
-    /// TakesLine a constraint.
+    /// Takes a constraint.
     fn list(&mut self, name: Name, shape: Shape, is_beyond: bool) -> Result<Option<Cause>, NoMemory>
         requires stands { MayStand self.old.stage (Statement.Constraint name shape) }
         requires sound { IsSoundStatement (Statement.Constraint name shape) }
@@ -182,7 +182,7 @@ impl Checker {
         Ok(())
     }
 
-    /// TakesLine a step.
+    /// Takes a step.
     fn prove(
         &mut self,
         name: &Name,
@@ -237,7 +237,7 @@ impl Checker {
         Ok(self.listed.lacks_support(pair, place, &pairs))
     }
 
-    /// TakesLine the claim that a value is gone.
+    /// Takes the claim that a value is gone.
     fn claim_value(&mut self, name: &Name, value: Value) -> Option<Cause>
         requires stands { MayStand self.old.stage (Statement.ValueClaim name.now value) }
         requires kept { IsChecker self.old }
@@ -254,7 +254,7 @@ impl Checker {
         None
     }
 
-    /// TakesLine the claim that a variable has no value.
+    /// Takes the claim that a variable has no value.
     fn claim_conflict(&mut self, name: &Name) -> Option<Cause>
         requires stands { MayStand self.old.stage (Statement.ConflictClaim name.now) }
         requires kept { IsChecker self.old }
@@ -293,7 +293,7 @@ impl Checker {
         self.listed.is_empty(var, &self.proved)
     }
 
-    /// TakesLine the end.
+    /// Takes the end.
     fn close(&mut self)
         requires stands { MayStand self.old.stage Statement.End }
         requires kept { IsChecker self.old }

@@ -5,3 +5,4 @@
 pub use palm_claim::Cause as ProofCause;
 pub use proof_check::check_proof;
 pub use proof_text::ProofVerdict;
+pub use proof_write::{ProofEnd, ProofStop, prove};

@@ -39,6 +39,7 @@ pub data Form : Type 0 where
   StepForm : (number : ℤ) → Form
   SolveDbtForm : (budget : Option ℤ) → Form
   SolveRepairForm : (tabu budget : ℤ) → Form
+  ProveForm : (budget : ℤ) → Form
   CertForm : (name : List ℕ) (value : ℤ) → Form
   CertConflictForm : Form
   GuideForm : (number : ℤ) → Form

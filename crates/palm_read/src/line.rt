@@ -151,6 +151,10 @@ pub enum Line {
         tabu: u32,
         budget: u64,
     },
+    /// `prove budget N`: a search as of `solve dbt`, whose reply is a proof
+    Prove {
+        budget: u64,
+    },
     /// `cert NAME VALUE`
     Cert {
         name: Name,

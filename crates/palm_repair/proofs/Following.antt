@@ -1,6 +1,6 @@
 -- What a guide and an order are asked and told along a repair, turn after turn.
 use Rattle.std.proofs.Common.{◌≡◌, ℕ, ◌≤◌, Bool, None, Some, Option, is_some, List, [], ◌∷◌, ◌++◌, length, refl, sym, ap, subst, arith}
-use Rattle.palm_model.specs.State.{EngineState, IsValid, present}
+use Rattle.palm_model.specs.State.{EngineState, IsValid}
 use Rattle.palm_model.specs.Event.{WithdrawsAll}
 use Rattle.palm_events.specs.Reasons.{ReasonsAreRight}
 use Rattle.palm_engine.specs.Engine.{View}
@@ -8,7 +8,7 @@ use Rattle.palm_engine.specs.Following.{Hearing, HasSettledBy, LeadsAlong, heari
 use Rattle.palm_engine.specs.declared.settle.Settle.{Settle}
 use Rattle.palm_engine.proofs.cited.Leading.{leads_split, leads_then}
 use Rattle.palm_search.specs.declared.turn.Turn.{Turn}
-use Rattle.palm_search.specs.Calls.{SearchView}
+use Rattle.palm_search.specs.Calls.{SearchView, search_state}
 use Rattle.palm_search.specs.Following.{Moment}
 use Rattle.palm_search.specs.Kept.{HasOnlyUsers}
 use Rattle.palm_search.specs.Search.{search_cids}
@@ -32,15 +32,15 @@ record TurnsOn {X Y : Type 0} (guiding : Moment → X → X → Type 0) (orderin
 
 turns_on : {X Y : Type 0} (guiding : Moment → X → X → Type 0) (ordering : Hearing → Y → Y → Type 0) (guided ordered : Bool) (tabu : ℕ) (a : RepairState) (turns : List Turn) (b : RepairState) (turn : Turn) (c : RepairState) (g h k : X) (o p q : Y)
     → (taken : RepairTurns guided ordered tabu a turns b) → LeadsAlong guiding (repair_moments guided ordered tabu a turns b taken) g h → LeadsAlong ordering (turned_hearings guided ordered tabu a turns b taken) o p
-    → (follows : RepairFollows guided ordered tabu b turn c) → guiding (record { domains = present b.search.engine; turn = turn }) h k → LeadsAlong ordering (settled_hearings ordered follows.middle c follows.settles) p q
+    → (follows : RepairFollows guided ordered tabu b turn c) → guiding (record { state = b.search; turn = turn }) h k → LeadsAlong ordering (settled_hearings ordered follows.middle c follows.settles) p q
     → TurnsOn guiding ordering guided ordered tabu a (turns ++ turn ∷ []) c g k o q
 turns_on guiding ordering guided ordered tabu a [] b turn c g h k o p q taken guide order follows step settled =
     let moved : (f : RepairFollows guided ordered tabu a turn c) × LeadsAlong ordering (settled_hearings ordered f.middle c f.settles) p q =
     subst (λ (z : RepairState). (f : RepairFollows guided ordered tabu z turn c) × LeadsAlong ordering (settled_hearings ordered f.middle c f.settles) p q) taken (follows, settled) in
-    let here = subst (λ (z : RepairState). guiding (record { domains = present z.search.engine; turn = turn }) h k) taken step in
+    let here = subst (λ (z : RepairState). guiding (record { state = z.search; turn = turn }) h k) taken step in
     record {
       taken = (c, moved.0, refl);
-      guide = (k, subst (λ x. guiding (record { domains = present a.search.engine; turn = turn }) x k) guide here, refl);
+      guide = (k, subst (λ x. guiding (record { state = a.search; turn = turn }) x k) guide here, refl);
       order = leads_then ordering (settled_hearings ordered moved.0.middle c moved.0.settles) [] o q q (subst (λ y. LeadsAlong ordering (settled_hearings ordered moved.0.middle c moved.0.settles) y q) order moved.1) refl;
     }
 turns_on guiding ordering guided ordered tabu a (first ∷ turns) b turn c g h k o p q taken guide order follows step settled =
@@ -90,7 +90,7 @@ run_starts_by right guiding ordering guide order_first order_now tabu budget ans
 
 pub run_goes_on_by : ReasonsAreRight → {G O : Type 0} (guiding : Moment → Option G → Option G → Type 0) (ordering : Hearing → Option O → Option O → Type 0) (guide_first guide_was guide_now : Option G) (order_first order_was order_now : Option O)
     (tabu budget : ℕ) (s m : EngineState) (before : SearchView) (learned now : LearnedView) (turn : Turn) (answer : Settle) (taken after : View) (search : SearchView) → IsRunningBy guiding ordering guide_first guide_was order_first order_was tabu budget s m before learned
-    → TakesRepairTurn (is_some guide_first) tabu turn (repair_state m before.decisions learned) before (repair_state taken.state search.decisions now) search → length search.journal ≤ budget → guiding (record { domains = present m; turn = turn }) guide_was guide_now
+    → TakesRepairTurn (is_some guide_first) tabu turn (repair_state m before.decisions learned) before (repair_state taken.state search.decisions now) search → length search.journal ≤ budget → guiding (record { state = search_state m before; turn = turn }) guide_was guide_now
     → SettlesOn ordering (is_some order_first) answer taken after order_was order_now → IsRunningBy guiding ordering guide_first guide_now order_first order_now tabu budget s after.state search now
 run_goes_on_by right guiding ordering guide_first guide_was guide_now order_first order_was order_now tabu budget s m before learned now turn answer taken after search by takes le step settles_on =
     let guided = is_some guide_first in

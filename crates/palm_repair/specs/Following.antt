@@ -1,6 +1,6 @@
 -- What a guide and an order are asked and told along a repair.
 use Rattle.std.specs.Prelude.{ℕ, Bool, is_some, List, [], ◌∷◌, ◌++◌, Option}
-use Rattle.palm_model.specs.State.{EngineState, present}
+use Rattle.palm_model.specs.State.{EngineState}
 use Rattle.palm_engine.specs.Following.{Hearing, LeadsAlong}
 use Rattle.palm_search.specs.declared.ending.SearchEnd.{SearchEnd}
 use Rattle.palm_search.specs.declared.turn.Turn.{Turn}
@@ -11,10 +11,10 @@ use Rattle.palm_repair.specs.Posting.{RepairState}
 use Rattle.palm_repair.specs.Repair.{RepairRun, RepairSettles, RepairTurns, repair_begun}
 use Rattle.palm_repair.specs.Turning.{HasRun}
 
--- the turns, each with the domains in which it was taken
+-- the turns, each with the state in which it was taken
 abbrev pub repair_moments : (guided ordered : Bool) (tabu : ℕ) (s : RepairState) (turns : List Turn) (t : RepairState) → RepairTurns guided ordered tabu s turns t → List Moment
 repair_moments guided ordered tabu s [] t taken = []
-repair_moments guided ordered tabu s (turn ∷ turns) t taken = record { domains = present s.search.engine; turn = turn } ∷ repair_moments guided ordered tabu taken.0 turns t taken.2
+repair_moments guided ordered tabu s (turn ∷ turns) t taken = record { state = s.search; turn = turn } ∷ repair_moments guided ordered tabu taken.0 turns t taken.2
 
 -- what is heard of a settling
 abbrev pub settled_hearings : (ordered : Bool) (s t : RepairState) → RepairSettles ordered s t → List Hearing

@@ -1,6 +1,6 @@
 -- One turn of a repair after another, and where want of memory may break them off.
 use Rattle.std.specs.Prelude.{◌≡◌, ℕ, ◌+◌, ◌<◌, ◌≤◌, Bool, Option, None, Some, List, [], ◌∷◌, ◌++◌, length, Contains}
-use Rattle.palm_model.specs.State.{EngineState, present}
+use Rattle.palm_model.specs.State.{EngineState}
 use Rattle.palm_model.specs.Event.{WithdrawsAll}
 use Rattle.palm_engine.specs.Settling.{Filters}
 use Rattle.palm_search.specs.declared.turn.Turn.{Turn}
@@ -54,7 +54,7 @@ pub record TakesRepairTurn (guided : Bool) (tabu : ℕ) (turn : Turn) (s : Repai
 -- guide from the one state to the other
 abbrev pub Advances : {G : Type 0} → (Moment → Option G → Option G → Type 0) → Option G → Option G → Bool → ℕ → ℕ → RepairState → SearchView → RepairState → SearchView → Option RepairAnswer → Type 0
 Advances guiding old new guided tabu budget s before t after None =
-    (turn : Turn) × (length before.journal < budget) × TakesRepairTurn guided tabu turn s before t after × guiding (record { domains = present s.search.engine; turn = turn }) old new
+    (turn : Turn) × (length before.journal < budget) × TakesRepairTurn guided tabu turn s before t after × guiding (record { state = s.search; turn = turn }) old new
 Advances guiding old new guided tabu budget s before t after (Some answer) = EndsWith budget (length before.journal) s.search.engine (end_of answer) × TellsDropped answer s.dropped × (t ≡ s) × (after ≡ before) × (new ≡ old)
 
 -- memory ran out before a turn, or within one that is the last of the journal: of the negations that follow its decision or

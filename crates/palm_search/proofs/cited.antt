@@ -10,5 +10,6 @@ pub mod Measuring
 pub mod Results
 pub mod Running
 pub mod Showing
+pub mod Taking
 pub mod Weighing
 pub mod Whole

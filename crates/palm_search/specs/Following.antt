@@ -15,9 +15,9 @@ use Rattle.palm_search.specs.Turns.{SearchState, SettlesAfter, Turns, decided_va
 
 -- ---- turns
 
--- a turn, and the domains in which it was taken
+-- a turn, and the state in which it was taken
 pub record Moment : Type 0 where
-  pub domains : Domains
+  pub state : SearchState
   pub turn : Turn
 
 -- by its own relations, at a decision a guide is asked once with the view of the domains, and its answer is the pick; at an
@@ -27,12 +27,12 @@ GuideTakes answers hears state d (TurnDecide pair pick) before after = Asks answ
 GuideTakes answers hears state d (TurnUndo gone conflict) before after = Hears hears state (decided_vars conflict) before after
 
 abbrev pub GuideFollows : {G : Type 0} → (G → List ViewRow → Option Pair → List ℕ → Type 0) → (G → List ℕ → List ℕ → Type 0) → (G → List ℕ) → Moment → Option G → Option G → Type 0
-GuideFollows answers hears state moment before after = GuideTakes answers hears state moment.domains moment.turn before after
+GuideFollows answers hears state moment before after = GuideTakes answers hears state (present moment.state.engine) moment.turn before after
 
--- the turns, each with the domains in which it was taken
+-- the turns, each with the state in which it was taken
 abbrev pub moments : (guided ordered : Bool) (s : SearchState) (turns : List Turn) (t : SearchState) → Turns guided ordered s turns t → List Moment
 moments guided ordered s [] t taken = []
-moments guided ordered s (turn ∷ turns) t taken = record { domains = present s.engine; turn = turn } ∷ moments guided ordered taken.0 turns t taken.2
+moments guided ordered s (turn ∷ turns) t taken = record { state = s; turn = turn } ∷ moments guided ordered taken.0 turns t taken.2
 
 -- ---- settlings
 

@@ -12,7 +12,7 @@ use Rattle.palm_search.specs.declared.turn.Turn.TheVariants.{Undo as TurnUndo}
 use Rattle.palm_search.specs.Calls.{SearchView, HoldsDecision, search_state}
 use Rattle.palm_search.specs.Kept.{HasNoneNegated, IsSearching}
 use Rattle.palm_search.specs.Search.{EndsWith}
-use Rattle.palm_search.specs.Turns.{SearchState, HasFlatConflict, IsOpen, Undoes, decided_vars}
+use Rattle.palm_search.specs.Turns.{SearchState, HasFlatConflict, IsOpen, Undoes}
 
 -- ---- after a settling
 

@@ -1,5 +1,5 @@
 -- What is decided of a line.
-use Rattle.std.proofs.Common.{◌≡◌, ℕ, List, Result, Ok, Err, IfOk, OnOk, refl, subst, sym}
+use Rattle.std.proofs.Common.{◌≡◌, ℕ, List, Result, Ok, Err, IfOk, OnOk, refl, ◌∙◌, subst, sym}
 use Rattle.palm_base.specs.First.{IsFirst}
 use Rattle.palm_base.proofs.cited.FirstCauses.{first_not_none}
 use Rattle.palm_lang.specs.declared.reply.Refusal.{Refusal}
@@ -10,20 +10,23 @@ use Rattle.palm_read.specs.declared.mode.Mode.{Mode}
 use Rattle.palm_read.specs.declared.mode.Mode.TheVariants.{One}
 use Rattle.palm_read.specs.declared.parse.LineError.{LineError}
 use Rattle.palm_session.specs.Answers.{Answers, misread, accepted}
-use Rattle.palm_session.specs.Feeding.{Decides}
+use Rattle.palm_session.specs.Feeding.{Decides, LineBecomes, TakenAsks, TakenDecides, TakenFits}
 use Rattle.palm_session.specs.ReplyText.{reply_text, IsRefusal}
 use Rattle.palm_session.specs.Asking.{Asks, asks_none, asks_search, asks_settling}
 use Rattle.palm_session.specs.Effects.{Changes, Next, Rests, Filters, Searches, next}
 use Rattle.palm_session.specs.Modes.{heard, misheard}
 use Rattle.palm_session.specs.Refusals.{Meets, in_order}
 use Rattle.palm_session.specs.Requests.{IsAdmitted, Requests}
-use Rattle.palm_session.specs.Serving.{AsksFor, asks_nothing, asks_after, AsksWithin, GoesAs, Takes}
+use Rattle.palm_session.specs.Serving.{AsksFor, asks_nothing, asks_after, AsksWithin, Becomes, GoesAs, Takes}
 use Rattle.palm_session.specs.State.{SessionState}
 use Rattle.palm_session.specs.declared.going.Going.{Going}
 use Rattle.palm_session.specs.declared.going.Going.TheVariants.{More, Quit}
 use Rattle.palm_session.specs.declared.reply.Reply.{Reply}
+use Rattle.palm_session.specs.declared.request.Procedure.TheVariants.{Proof}
 use Rattle.palm_session.specs.declared.request.Request.{Request}
 use Rattle.palm_session.specs.declared.request.Request.TheVariants.{Solve, Quit as QuitAsked}
+use Rattle.palm_session.specs.declared.taken.Taken.{Taken}
+use Rattle.palm_session.specs.declared.taken.Taken.TheVariants.{Said, ToProve}
 use Rattle.palm_session.specs.Answers.{WaitsFor}
 use Rattle.palm_session.proofs.Admitting.{free_of_refusals}
 use Rattle.palm_session.proofs.InModes.{read_where}
@@ -69,11 +72,11 @@ not_quit s line refusal first e =
 pub decides_refused : (mode : Mode) (s : SessionState) (bytes : List ℕ) (line : Line) (refusal : Refusal) → IsRead mode bytes line → IsFirst (Meets s line) in_order refusal → Decides More bytes
 decides_refused mode s bytes line refusal read first = goes_on_read mode bytes line read (not_quit s line refusal first)
 
-pub answers_refusal : (s : SessionState) (bytes : List ℕ) (error : LineError) → IsRefusedBy s.mode bytes error → (r : Reply × Going) → IsRefusal error r → Answers s bytes (reply_text (misheard s) r.0) (misheard s)
-answers_refusal s bytes error q r is = subst (λ (x : Reply). Answers s bytes (reply_text (misheard s) x) (misheard s)) (sym is.reply) (misread error is.refusal q is.of_error)
+pub answers_refusal : (s : SessionState) (bytes : List ℕ) (error : LineError) → IsRefusedBy s.mode bytes error → (taken : Taken) → IsRefusal error taken → LineBecomes s bytes (misheard s) taken
+answers_refusal s bytes error q taken is = subst (λ (x : Taken). LineBecomes s bytes (misheard s) x) (sym is.is) (misread error is.refusal q is.of_error)
 
-pub decides_refusal : (mode : Mode) (bytes : List ℕ) (error : LineError) → IsRefusedBy mode bytes error → (r : Reply × Going) → IsRefusal error r → Decides r.1 bytes
-decides_refusal mode bytes error q r is = subst (λ (g : Going). Decides g bytes) (sym is.going) (goes_on_refused mode bytes error is.refusal q is.of_error)
+pub decides_refusal : (mode : Mode) (bytes : List ℕ) (error : LineError) → IsRefusedBy mode bytes error → (taken : Taken) → IsRefusal error taken → TakenDecides bytes taken
+decides_refusal mode bytes error q taken is = subst (λ (x : Taken). TakenDecides bytes x) (sym is.is) (goes_on_refused mode bytes error is.refusal q is.of_error)
 
 -- ---- what is answered, and how often support was asked for
 
@@ -99,6 +102,34 @@ settling_asks s m t bytes line request asked (Filters limit) r a goes changes e 
 pub takes_asks : (s t : SessionState) (bytes : List ℕ) (line : Line) (request : Request) (asked : ℕ) → IsRead s.mode bytes line → IsAdmitted (heard s line) line request → AsksFor (heard s line) request t asked → Asks s bytes t asked
 takes_asks s t bytes line request asked r a (asks_nothing none) = asks_none none
 takes_asks s t bytes line request asked r a (asks_after m goes changes asks) = settling_asks s m t bytes line request asked (next m request) r a goes changes refl asks
+
+-- ---- what became of a line
+
+module _ (s t : SessionState) (bytes : List ℕ) (line : Line) (request : Request) (asked : ℕ) (read : IsRead s.mode bytes line) (admitted : IsAdmitted (heard s line) line request) where
+  pub line_becomes : (taken : Taken) → Becomes (heard s line) request t asked taken → LineBecomes s bytes t taken
+  line_becomes (Said reply going) takes = takes_answers s t bytes line request asked (reply, going) read admitted takes
+  line_becomes (ToProve budget) is = (
+    line,
+    read,
+    subst (λ (q : Request). IsAdmitted (heard s line) line q) is.is admitted,
+    awake_for (heard s line) (Solve (Proof budget)) tt (subst (λ (q : Request). WaitsFor (heard s line) q → ⊥) is.is is.goes),
+    is.same,
+  )
+
+  pub becomes_asks : (taken : Taken) → Becomes (heard s line) request t asked taken → TakenAsks s bytes t asked taken
+  becomes_asks (Said reply going) takes = takes_asks s t bytes line request asked read admitted takes.asks
+  becomes_asks (ToProve budget) is = is.quiet
+
+  pub becomes_decides : (taken : Taken) → Becomes (heard s line) request t asked taken → TakenDecides bytes taken
+  becomes_decides (Said reply going) takes = decides_taken s.mode (heard s line) going bytes line request read admitted.requests takes.goes
+  becomes_decides (ToProve budget) is = decides_taken s.mode (heard s line) More bytes line request read admitted.requests (λ e. not_the_end (sym is.is ∙ e))
+    where
+      not_the_end : Solve (Proof budget) ≡ QuitAsked → ⊥
+      not_the_end e = subst EndsAll (sym e) tt
+
+  pub becomes_fits : (taken : Taken) → Becomes (heard s line) request t asked taken → TakenFits t taken
+  becomes_fits (Said reply going) takes = takes.fits
+  becomes_fits (ToProve budget) is = tt
 
 -- what follows from each good answer follows where there is one
 pub on_ok : {T E : Type 0} (r : Result T E) (P : T → Type 0) (A : Type 0) → ((x : T) → P x → A) → IfOk r P → OnOk r A

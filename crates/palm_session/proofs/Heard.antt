@@ -11,6 +11,8 @@ use Rattle.palm_search.specs.declared.turn.Turn.{Turn}
 use Rattle.palm_repair.specs.Answers.{HasRepaired}
 use Rattle.palm_repair.specs.Following.{HasRepairedBy}
 use Rattle.palm_repair.specs.declared.answer.RepairAnswer.{RepairAnswer}
+use Rattle.palm_book.specs.Book.{Contents}
+use Rattle.proof_write.specs.Proving.{HasProved}
 use Rattle.palm_session.specs.Led.{Guiding, Ordering, SettlesBy}
 
 pub has_settled : {O E : Type 0} (follows : Hearing → Option O → Option O → Type 0) (limit : Option ℕ) (first last : Option O) (before after : View) (r : Result Settle E)
@@ -62,3 +64,8 @@ module _ {G O : Type 0} (guiding : Guiding G) (ordering : Ordering O) (guide_fir
       → IfOk r (HasRepairedBy guiding ordering guide_before guide_after order_before order_after tabu budget s turns t)
   repairs_by tabu budget s turns t (Ok answer) by = elsewhere (λ a b c d. HasRepairedBy guiding ordering a b c d tabu budget s turns t answer) by
   repairs_by tabu budget s turns t (Err e) by = tt
+
+  pub proof_by : (budget : ℕ) (book : Contents) (s : EngineState) (turns : List Turn) (end : SearchEnd) (t : EngineState) (before now : Option (List ℕ))
+      → HasProved guiding ordering guide_first guide_last order_first order_last budget book s turns end t before now
+      → (answer : SearchEnd) × SearchesBy guiding ordering guide_before guide_after order_before order_after budget s turns answer t
+  proof_by budget book s turns end t before now has = (end, elsewhere (λ a b c d. SearchesBy guiding ordering a b c d budget s turns end t) has.proves.by)

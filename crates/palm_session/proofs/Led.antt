@@ -17,7 +17,7 @@ use Rattle.palm_search.specs.declared.ending.SearchEnd.{SearchEnd}
 use Rattle.palm_read.specs.declared.mode.Mode.{Mode}
 use Rattle.palm_session.specs.Answers.{WaitsFor}
 use Rattle.palm_session.specs.Effects.{Next, next}
-use Rattle.palm_session.specs.Led.{Guiding, Ordering, SettlesBy, FiltersBy, SearchesOn, LeadsOn, next_left, objects_after, TakesLead, HasRequest, LineLeads}
+use Rattle.palm_session.specs.Led.{Guiding, Ordering, SettlesBy, FiltersBy, SearchesOn, LeadsOn, next_left, objects_after, TakesLead, BecomesLead, HasRequest, LineLeads, LineBecomesLead}
 use Rattle.palm_session.specs.Modes.{heard, misheard}
 use Rattle.palm_session.specs.Objects.{ObjectsView, HeldObjects, LendsChosen, chosen_object}
 use Rattle.palm_session.specs.Refusals.{Meets, in_order}
@@ -25,11 +25,11 @@ use Rattle.palm_session.specs.ReplyText.{IsRefusal}
 use Rattle.palm_session.specs.Requests.{IsAdmitted}
 use Rattle.palm_session.specs.Serving.{DeskView, desk_of, IsLeft, Obeys}
 use Rattle.palm_session.specs.State.{SessionState}
-use Rattle.palm_session.specs.declared.going.Going.{Going}
 use Rattle.palm_session.specs.declared.remainder.Remainder.{Remainder}
 use Rattle.palm_session.specs.declared.remainder.Remainder.TheVariants.{Say, Filter, Run, Search, End}
-use Rattle.palm_session.specs.declared.reply.Reply.{Reply}
-use Rattle.palm_session.specs.declared.request.Procedure.TheVariants.{Dbt, Repair}
+use Rattle.palm_session.specs.declared.taken.Taken.{Taken}
+use Rattle.palm_session.specs.declared.taken.Taken.TheVariants.{Said, ToProve}
+use Rattle.palm_session.specs.declared.request.Procedure.TheVariants.{Dbt, Repair, Proof}
 use Rattle.palm_session.specs.declared.request.Request.{Request}
 use Rattle.palm_session.proofs.ReadOnce.{read_or_refused}
 
@@ -61,6 +61,15 @@ repair_led {G = G} {O = O} guiding ordering mode book engine after accepted paus
     subst (λ (z : DeskView G O). SearchesOn guiding ordering (Repair tabu budget) z.state z.objects e.state e.objects) is (record { runs = (answer, by); guides = one; orders = two })
 repair_led guiding ordering mode book engine after accepted paused guides others orders more search done d tabu budget (Err x) is one two by = tt
 
+pub proof_led : {G O E : Type 0} (guiding : Guiding G) (ordering : Ordering O) (mode : Mode) (book : Contents) (engine after : View) (accepted : ℕ) (paused : Bool) (guides others : ObjectsView G) (orders more : ObjectsView O) (search done : SearchView) (d : DeskView G O)
+    (budget : ℕ) (r : Result Unit E) → desk_of mode book engine accepted paused guides orders search ≡ d → LendsChosen guides others → LendsChosen orders more
+    → OnOk r ((end : SearchEnd) × SearchesBy guiding ordering (chosen_object guides) (chosen_object others) (chosen_object orders) (chosen_object more) budget engine.state done.journal end after.state)
+    → OnOk r (SearchesOn guiding ordering (Proof budget) d.state d.objects (desk_of mode book after accepted paused others more done).state (desk_of mode book after accepted paused others more done).objects)
+proof_led {G = G} {O = O} guiding ordering mode book engine after accepted paused guides others orders more search done d budget (Ok answer) is one two by =
+    let e = desk_of mode book after accepted paused others more done in
+    subst (λ (z : DeskView G O). SearchesOn guiding ordering (Proof budget) z.state z.objects e.state e.objects) is (record { runs = by; guides = one; orders = two })
+proof_led guiding ordering mode book engine after accepted paused guides others orders more search done d budget (Err x) is one two by = tt
+
 -- ---- what is left of a request
 
 next_of_left : (m : SessionState) (request : Request) (remainder : Remainder) → IsLeft m request remainder → next m request ≡ next_left m remainder
@@ -89,8 +98,8 @@ module _ {G O : Type 0} (guiding : Guiding G) (ordering : Ordering O) (s : Sessi
 -- ---- lines
 
 -- a line that cannot be read is admitted with no request
-misread_none : (s : SessionState) (bytes : List ℕ) (error : LineError) (r : Reply × Going) → IsRefusedBy s.mode bytes error → IsRefusal error r → (request : Request) → HasRequest s bytes request → ⊥
-misread_none s bytes error r refused is request has = read_or_refused s.mode bytes has.line error is.refusal has.read refused is.of_error
+misread_none : (s : SessionState) (bytes : List ℕ) (error : LineError) (taken : Taken) → IsRefusedBy s.mode bytes error → IsRefusal error taken → (request : Request) → HasRequest s bytes request → ⊥
+misread_none s bytes error taken refused is request has = read_or_refused s.mode bytes has.line error is.refusal has.read refused is.of_error
 
 -- nor is one that meets a refusal
 refused_none : (s : SessionState) (bytes : List ℕ) (line : Line) (refusal : Refusal) → IsRead s.mode bytes line → IsFirst (Meets (heard s line) line) in_order refusal → (request : Request) → HasRequest s bytes request → ⊥
@@ -99,8 +108,8 @@ refused_none s bytes line refusal read first request has =
     first_not_none (Meets (heard s has.line) has.line) in_order refusal (subst (λ (l : Line). IsFirst (Meets (heard s l) l) in_order refusal) same first) has.admitted.none
 
 module _ {G O : Type 0} (guiding : Guiding G) (ordering : Ordering O) (s : SessionState) (bytes : List ℕ) (objects : HeldObjects G O) where
-  pub misread_led : {E : Type 0} (error : LineError) (r : Result (Reply × Going) E) → IsRefusedBy s.mode bytes error → IfOk r (IsRefusal error) → OnOk r (LineLeads guiding ordering s bytes objects (misheard s) objects)
-  misread_led error (Ok r) refused is = inl (misread_none s bytes error r refused is, refl)
+  pub misread_led : {E : Type 0} (error : LineError) (r : Result Taken E) → IsRefusedBy s.mode bytes error → IfOk r (IsRefusal error) → IfOk r (LineBecomesLead guiding ordering s bytes objects (misheard s) objects)
+  misread_led error (Ok taken) refused is = subst (λ (x : Taken). LineBecomesLead guiding ordering s bytes objects (misheard s) objects x) (sym is.is) (inl (misread_none s bytes error taken refused is, refl))
   misread_led error (Err e) refused is = tt
 
   pub refused_led : (line : Line) (refusal : Refusal) → IsRead s.mode bytes line → IsFirst (Meets (heard s line) line) in_order refusal → LineLeads guiding ordering s bytes objects (heard s line) objects
@@ -109,3 +118,8 @@ module _ {G O : Type 0} (guiding : Guiding G) (ordering : Ordering O) (s : Sessi
   pub line_led : (line : Line) (request : Request) (t : SessionState) (after : HeldObjects G O) → IsRead s.mode bytes line → IsAdmitted (heard s line) line request → TakesLead guiding ordering (heard s line) request objects t after
       → LineLeads guiding ordering s bytes objects t after
   line_led line request t after read admitted takes = inr (request, record { line = line; read = read; admitted = admitted }, takes)
+
+  pub becomes_led : (line : Line) (request : Request) (t : SessionState) (after : HeldObjects G O) → IsRead s.mode bytes line → IsAdmitted (heard s line) line request → (taken : Taken)
+      → BecomesLead guiding ordering (heard s line) request objects t after taken → LineBecomesLead guiding ordering s bytes objects t after taken
+  becomes_led line request t after read admitted (Said reply going) takes = line_led line request t after read admitted takes
+  becomes_led line request t after read admitted (ToProve budget) same = same

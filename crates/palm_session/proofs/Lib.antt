@@ -23,6 +23,7 @@ pub mod Made
 pub mod OneEmpty
 pub mod Places
 pub mod Presents
+pub mod Proving
 pub mod ReadOnce
 pub mod Requesting
 pub mod Retracting

@@ -27,7 +27,7 @@ use Rattle.palm_engine.proofs.cited.Settled.{settling_filters}
 use Rattle.palm_session.specs.State.{SessionState, IsHeld, IsState, fresh}
 use Rattle.palm_search.specs.declared.ending.SearchEnd.{SearchEnd}
 use Rattle.palm_search.specs.declared.turn.Turn.{Turn}
-use Rattle.palm_session.specs.Effects.{Effect, Nothing, Settled, Searched, Next, Rests, Filters, Searches, next, SettlesIn, SearchesIn, Follows, Does, Changes, WithdrawsActive}
+use Rattle.palm_session.specs.Effects.{Telling, Effect, Nothing, Settled, Searched, Next, Rests, Filters, Searches, next, SettlesIn, SearchesIn, Follows, Does, Changes, WithdrawsActive}
 use Rattle.palm_session.specs.Answers.{WaitsFor, Accepts, waits, contradicts, says, Answers, misread, refused, accepted}
 use Rattle.palm_session.specs.Replies.{Run}
 use Rattle.palm_session.proofs.cited.LawsOfAnswers.{answers_keep, read_admits}
@@ -166,10 +166,10 @@ settles_one m limit count e h one =
     let filters = settling_filters limit m.engine h.revisions e h.settles in run_one m.engine filters.steps e filters.filtering filters.run one
 
 -- a search leaves the domains
-searches_one : (m : SessionState) (by : Procedure) (turns : List Turn) (end : SearchEnd) (dropped : Option ℕ) (e : EngineState) → IsHeld m → IsStill m.engine → SearchesIn m by turns end dropped e → HasOne m → HasOneEmpty e
-searches_one m by turns end dropped e is still h one x y ex ey =
-    let rests = search_leaves_still m by turns end dropped e is h in
-    let same : present e ≡ present m.engine = ap (λ (d : Domains). without d (log_pairs e.log)) rests.initial ∙ ap (λ (l : List Removal). without m.engine.initial (log_pairs l)) (search_log m by turns end dropped e is h still) in
+searches_one : (m : SessionState) (by : Procedure) (turns : List Turn) (end : SearchEnd) (telling : Telling) (e : EngineState) → IsHeld m → IsStill m.engine → SearchesIn m by turns end telling e → HasOne m → HasOneEmpty e
+searches_one m by turns end telling e is still h one x y ex ey =
+    let rests = search_leaves_still m by turns end telling e is h in
+    let same : present e ≡ present m.engine = ap (λ (d : Domains). without d (log_pairs e.log)) rests.initial ∙ ap (λ (l : List Removal). without m.engine.initial (log_pairs l)) (search_log m by turns end telling e is h still) in
     one x y (subst (λ (d : Domains). IsEmptyAt d x) same ex) (subst (λ (d : Domains). IsEmptyAt d y) same ey)
 
 follows_one : (m : SessionState) (n : Next) (effect : Effect) (t : SessionState) → IsHeld m → ((by : Procedure) → n ≡ Searches by → IsStill m.engine) → Follows m n effect t → HasOne m → HasOne t

@@ -18,7 +18,7 @@ use Rattle.palm_search.specs.declared.ending.SearchEnd.{SearchEnd}
 use Rattle.palm_search.specs.declared.turn.Turn.{Turn}
 use Rattle.palm_engine.proofs.cited.Settled.{settling_filters}
 use Rattle.palm_session.specs.State.{SessionState, IsHeld, IsState, fresh}
-use Rattle.palm_session.specs.Effects.{Effect, Nothing, Settled, Searched, Next, Rests, Filters, Searches, next, next_constraint, next_within, SettlesIn, SearchesIn, Follows, Does, Changes, WithdrawsActive}
+use Rattle.palm_session.specs.Effects.{Telling, Effect, Nothing, Settled, Searched, Next, Rests, Filters, Searches, next, next_constraint, next_within, SettlesIn, SearchesIn, Follows, Does, Changes, WithdrawsActive}
 use Rattle.palm_session.specs.Answers.{WaitsFor, Accepts, waits, contradicts, says, Answers, misread, refused, accepted}
 use Rattle.palm_session.specs.Replies.{Run}
 use Rattle.palm_events.specs.Scoped.{IsScoped, HasScopedReasons}
@@ -91,10 +91,10 @@ settles_scoped m limit count e is h scoped =
     let filters = settling_filters limit m.engine h.revisions e h.settles in run_scoped m.engine filters.steps e filters.run is.valid scoped
 
 -- a search leaves the log and the active constraints
-searches_scoped : (m : SessionState) (by : Procedure) (turns : List Turn) (end : SearchEnd) (dropped : Option ℕ) (e : EngineState) → IsHeld m → IsStill m.engine → SearchesIn m by turns end dropped e → IsInScopes m → HasScopedReasons e
-searches_scoped m by turns end dropped e is still h scoped r logged =
-    let was : Contains m.engine.log r = subst (λ (l : List Removal). Contains l r) (search_log m by turns end dropped e is h still) logged in
-    subst (λ (l : List Active). IsScoped l r) (sym (search_leaves_still m by turns end dropped e is h).active) (scoped r was)
+searches_scoped : (m : SessionState) (by : Procedure) (turns : List Turn) (end : SearchEnd) (telling : Telling) (e : EngineState) → IsHeld m → IsStill m.engine → SearchesIn m by turns end telling e → IsInScopes m → HasScopedReasons e
+searches_scoped m by turns end telling e is still h scoped r logged =
+    let was : Contains m.engine.log r = subst (λ (l : List Removal). Contains l r) (search_log m by turns end telling e is h still) logged in
+    subst (λ (l : List Active). IsScoped l r) (sym (search_leaves_still m by turns end telling e is h).active) (scoped r was)
 
 follows_scoped : (m : SessionState) (n : Next) (effect : Effect) (t : SessionState) → IsHeld m → ((by : Procedure) → n ≡ Searches by → IsStill m.engine) → Follows m n effect t → IsInScopes m → IsInScopes t
 follows_scoped m Rests Nothing t is still f scoped = subst IsInScopes (sym f) scoped

@@ -8,7 +8,7 @@ use Rattle.palm_model.specs.Log.{Active, IsActive, Named, cons_of, log_pairs}
 use Rattle.palm_model.specs.State.{EngineState, is_user, present}
 use Rattle.palm_model.specs.Trial.{listed, value_count}
 use Rattle.palm_model.proofs.cited.Without.{length_without}
-use Rattle.palm_book.specs.Book.{BookVar, initial_of, active_of}
+use Rattle.palm_book.specs.Book.{BookVar, Contents, initial_of, active_of}
 use Rattle.palm_events.specs.Along.{IsStill}
 use Rattle.palm_events.proofs.cited.Reasons.{reasons_right}
 use Rattle.palm_search.specs.Measure.{most_turns}
@@ -29,19 +29,27 @@ use Rattle.palm_repair.proofs.cited.Alone.{repair_same}
 use Rattle.palm_repair.proofs.cited.Counting.{repair_run_spent}
 use Rattle.palm_repair.proofs.cited.Ending.{repair_ended, repair_leaves, repair_rests}
 use Rattle.palm_repair.proofs.cited.Existing.{repair_exists}
+use Rattle.proof_run.proofs.cited.GoingOn.{proofs_go_on}
+use Rattle.proof_run.proofs.cited.Same.{proof_same}
+use Rattle.proof_run.specs.SoFar.IsTextSoFar.{declaring}
+use Rattle.proof_run.specs.Text.{Proves, declarations}
 use Rattle.palm_session.specs.declared.request.Procedure.{Procedure}
-use Rattle.palm_session.specs.declared.request.Procedure.TheVariants.{Dbt, Repair}
+use Rattle.palm_session.specs.declared.request.Procedure.TheVariants.{Dbt, Repair, Proof}
 use Rattle.palm_session.specs.Requests.{HasTabu, budget_of}
-use Rattle.palm_session.specs.Effects.{SearchesByDbt, SearchesByRepair, SearchesIn, with_search}
-use Rattle.palm_session.specs.Told.{MaySpend}
+use Rattle.palm_session.specs.Effects.{Telling, InShort, InFull, SearchesByDbt, SearchesByRepair, SearchesByProof, SearchesIn, with_search}
+use Rattle.palm_session.specs.Told.{MaySpendSo}
 use Rattle.palm_session.specs.State.{SessionState, IsHeld, IsState}
 use Rattle.palm_session.proofs.ActiveLists.{active_member}
 
--- every active constraint of a session is a user's
-pub held_users : (s : SessionState) → IsHeld s → HasOnlyUsers s.engine
-held_users s is a m =
-    let r = active_member s.book a (subst (λ (l : List Active). Contains l a) is.active m) in
+-- every active constraint of a book is a user's
+pub book_users : (book : Contents) (s : EngineState) → s.active ≡ active_of book → HasOnlyUsers s
+book_users book s is a m =
+    let r = active_member book a (subst (λ (l : List Active). Contains l a) is m) in
     subst (λ (x : Active). is_user x.cid ≡ true) r.3 refl
+
+-- and so every active constraint of a session
+pub held_users : (s : SessionState) → IsHeld s → HasOnlyUsers s.engine
+held_users s is = book_users s.book s.engine is.active
 
 -- ---- there is a search
 
@@ -58,65 +66,79 @@ pick_fits false = tt
 pub record HasSearchIn (s : SessionState) (by : Procedure) : Type 0 where
   pub turns : List Turn
   pub end : SearchEnd
-  pub dropped : Option ℕ
+  pub telling : Telling
   pub engine : EngineState
-  pub searches : SearchesIn s by turns end dropped engine
+  pub searches : SearchesIn s by turns end telling engine
 
 pub search_in : (s : SessionState) → IsHeld s → (by : Procedure) → HasTabu by → HasSearchIn s by
 search_in s is (Dbt budget) some =
     let guided = is_some s.guide in
     let p = search_exists reasons_right guided (is_some s.order) (λ k. pick_of guided) (λ k. pick_fits guided) budget s.engine is.valid (held_users s is) in
-    let searches : SearchesByDbt s budget p.turns p.end None p.state = record { searches = p.searches; told = refl } in
-    record { turns = p.turns; end = p.end; dropped = None; engine = p.state; searches = searches }
+    let searches : SearchesByDbt s budget p.turns p.end (InShort None) p.state = record { searches = p.searches; told = refl } in
+    record { turns = p.turns; end = p.end; telling = InShort None; engine = p.state; searches = searches }
 search_in s is (Repair tabu budget) some =
     let guided = is_some s.guide in
     let p = repair_exists reasons_right guided (is_some s.order) tabu (λ k. pick_of guided) (λ k. pick_fits guided) budget s.engine some is.valid (held_users s is) in
-    let searches : SearchesByRepair s tabu budget p.turns p.end (Some p.dropped) p.state = record { count = p.dropped; repairs = p.repairs; told = refl } in
-    record { turns = p.turns; end = p.end; dropped = Some p.dropped; engine = p.state; searches = searches }
+    let searches : SearchesByRepair s tabu budget p.turns p.end (InShort (Some p.dropped)) p.state = record { count = p.dropped; repairs = p.repairs; told = refl } in
+    record { turns = p.turns; end = p.end; telling = InShort (Some p.dropped); engine = p.state; searches = searches }
+search_in s is (Proof budget) some =
+    let p = proofs_go_on (is_some s.guide) (is_some s.order) budget s.book s.engine [] (declarations s.book) is.valid (held_users s is) (declaring refl refl) in
+    let searches : SearchesByProof s budget p.0 p.1 (InFull p.3) p.2 = record { text = p.3; proves = p.5; told = refl } in
+    record { turns = p.0; end = p.1; telling = InFull p.3; engine = p.2; searches = searches }
 
 -- ---- without a guide and an order there is no other one
 
 -- two searches of the session are one
-pub record IsSameIn (turns others : List Turn) (end other : SearchEnd) (dropped lost : Option ℕ) (e f : EngineState) : Type 0 where
+pub record IsSameIn (turns others : List Turn) (end other : SearchEnd) (telling other_telling : Telling) (e f : EngineState) : Type 0 where
   pub turns_same : turns ≡ others
   pub end_same : end ≡ other
-  pub dropped_same : dropped ≡ lost
+  pub telling_same : telling ≡ other_telling
   pub engine_same : e ≡ f
 
 plain : (s : SessionState) (Runs : Bool → Bool → Type 0) → s.guide ≡ None → s.order ≡ None → Runs (is_some s.guide) (is_some s.order) → Runs false false
 plain s Runs unguided free runs =
     subst (λ (o : Option ℕ). Runs false (is_some o)) free (subst (λ (o : Option ℕ). Runs (is_some o) (is_some s.order)) unguided runs)
 
-pub search_once : (s : SessionState) (by : Procedure) (turns others : List Turn) (end other : SearchEnd) (dropped lost : Option ℕ) (e f : EngineState) → IsHeld s → s.guide ≡ None → s.order ≡ None
-    → SearchesIn s by turns end dropped e → SearchesIn s by others other lost f → IsSameIn turns others end other dropped lost e f
-search_once s (Dbt budget) turns others end other dropped lost e f is unguided free x y =
+pub search_once : (s : SessionState) (by : Procedure) (turns others : List Turn) (end other : SearchEnd) (telling told : Telling) (e f : EngineState) → IsHeld s → s.guide ≡ None → s.order ≡ None
+    → SearchesIn s by turns end telling e → SearchesIn s by others other told f → IsSameIn turns others end other telling told e f
+search_once s (Dbt budget) turns others end other telling told e f is unguided free x y =
     let same = search_same reasons_right budget s.engine turns end e others other f is.valid (held_users s is)
     (plain s (λ g o. SearchesWhole g o budget s.engine turns end e) unguided free x.searches)
     (plain s (λ g o. SearchesWhole g o budget s.engine others other f) unguided free y.searches) in
-    record { turns_same = same.turns_same; end_same = same.end_same; dropped_same = x.told ∙ sym y.told; engine_same = same.state_same }
-search_once s (Repair tabu budget) turns others end other dropped lost e f is unguided free x y =
+    record { turns_same = same.turns_same; end_same = same.end_same; telling_same = x.told ∙ sym y.told; engine_same = same.state_same }
+search_once s (Repair tabu budget) turns others end other telling told e f is unguided free x y =
     let same = repair_same reasons_right tabu budget s.engine turns end x.count e others other y.count f is.valid (held_users s is)
     (plain s (λ g o. Repairs g o tabu budget s.engine turns end x.count e) unguided free x.repairs)
     (plain s (λ g o. Repairs g o tabu budget s.engine others other y.count f) unguided free y.repairs) in
-    record { turns_same = same.turns_same; end_same = same.end_same; dropped_same = x.told ∙ ap Some same.dropped_same ∙ sym y.told; engine_same = same.state_same }
+    record { turns_same = same.turns_same; end_same = same.end_same; telling_same = x.told ∙ ap (λ (n : ℕ). InShort (Some n)) same.dropped_same ∙ sym y.told; engine_same = same.state_same }
+search_once s (Proof budget) turns others end other telling told e f is unguided free x y =
+    let one = plain s (λ g o. Proves g o budget s.book s.engine turns end e x.text) unguided free x.proves in
+    let two = plain s (λ g o. Proves g o budget s.book s.engine others other f y.text) unguided free y.proves in
+    let same = search_same reasons_right budget s.engine turns end e others other f is.valid (held_users s is) one.searches two.searches in
+    let text = proof_same budget s.book s.engine turns others end other e f x.text y.text is.valid (held_users s is) one two in
+    record { turns_same = same.turns_same; end_same = same.end_same; telling_same = x.told ∙ ap InFull text ∙ sym y.told; engine_same = same.state_same }
 
 -- ---- what it leaves
 
-pub search_leaves_still : (s : SessionState) (by : Procedure) (turns : List Turn) (end : SearchEnd) (dropped : Option ℕ) (e : EngineState) → IsHeld s → SearchesIn s by turns end dropped e → RestsAfter s.engine e
-search_leaves_still s (Dbt budget) turns end dropped e is search =
+pub search_leaves_still : (s : SessionState) (by : Procedure) (turns : List Turn) (end : SearchEnd) (telling : Telling) (e : EngineState) → IsHeld s → SearchesIn s by turns end telling e → RestsAfter s.engine e
+search_leaves_still s (Dbt budget) turns end telling e is search =
     search_rests reasons_right (is_some s.guide) (is_some s.order) budget s.engine turns end e (held_users s is) is.valid search.searches
-search_leaves_still s (Repair tabu budget) turns end dropped e is search =
+search_leaves_still s (Proof budget) turns end telling e is search =
+    search_rests reasons_right (is_some s.guide) (is_some s.order) budget s.engine turns end e (held_users s is) is.valid search.proves.searches
+search_leaves_still s (Repair tabu budget) turns end telling e is search =
     repair_rests reasons_right (is_some s.guide) (is_some s.order) tabu budget s.engine turns end search.count e (held_users s is) is.valid search.repairs
 
-pub search_log : (s : SessionState) (by : Procedure) (turns : List Turn) (end : SearchEnd) (dropped : Option ℕ) (e : EngineState) → IsHeld s → SearchesIn s by turns end dropped e → IsStill s.engine → e.log ≡ s.engine.log
-search_log s (Dbt budget) turns end dropped e is search still =
+pub search_log : (s : SessionState) (by : Procedure) (turns : List Turn) (end : SearchEnd) (telling : Telling) (e : EngineState) → IsHeld s → SearchesIn s by turns end telling e → IsStill s.engine → e.log ≡ s.engine.log
+search_log s (Dbt budget) turns end telling e is search still =
     search_leaves reasons_right (is_some s.guide) (is_some s.order) budget s.engine turns end e (held_users s is) is.valid still search.searches
-search_log s (Repair tabu budget) turns end dropped e is search still =
+search_log s (Proof budget) turns end telling e is search still =
+    search_leaves reasons_right (is_some s.guide) (is_some s.order) budget s.engine turns end e (held_users s is) is.valid still search.proves.searches
+search_log s (Repair tabu budget) turns end telling e is search still =
     repair_leaves reasons_right (is_some s.guide) (is_some s.order) tabu budget s.engine turns end search.count e (held_users s is) is.valid still search.repairs
 
-pub searched_state : (s : SessionState) (by : Procedure) (turns : List Turn) (end : SearchEnd) (dropped : Option ℕ) (e : EngineState) → IsHeld s → SearchesIn s by turns end dropped e → IsState (with_search s turns e)
-searched_state s by turns end dropped e is search =
-    let rests = search_leaves_still s by turns end dropped e is search in
+pub searched_state : (s : SessionState) (by : Procedure) (turns : List Turn) (end : SearchEnd) (telling : Telling) (e : EngineState) → IsHeld s → SearchesIn s by turns end telling e → IsState (with_search s turns e)
+searched_state s by turns end telling e is search =
+    let rests = search_leaves_still s by turns end telling e is search in
     record {
       held = record {
         book = is.book;
@@ -141,8 +163,8 @@ pub record HasEnd (s : SessionState) (end : SearchEnd) : Type 0 where
   pub reached : Ended s.engine last
   pub ends : EndsWith budget count last.engine end
 
-pub has_end : (s : SessionState) (by : Procedure) (turns : List Turn) (end : SearchEnd) (dropped : Option ℕ) (e : EngineState) → IsHeld s → SearchesIn s by turns end dropped e → HasEnd s end
-has_end s (Dbt budget) turns end dropped e is search =
+pub has_end : (s : SessionState) (by : Procedure) (turns : List Turn) (end : SearchEnd) (telling : Telling) (e : EngineState) → IsHeld s → SearchesIn s by turns end telling e → HasEnd s end
+has_end s (Dbt budget) turns end telling e is search =
     let run = search.searches.run in
     record {
       budget = budget;
@@ -151,7 +173,16 @@ has_end s (Dbt budget) turns end dropped e is search =
       reached = run_ended reasons_right (is_some s.guide) (is_some s.order) budget s.engine turns end search.searches.last (held_users s is) is.valid run;
       ends = run.ends;
     }
-has_end s (Repair tabu budget) turns end dropped e is search =
+has_end s (Proof budget) turns end telling e is search =
+    let searches = search.proves.searches in
+    record {
+      budget = budget;
+      count = length turns;
+      last = searches.last;
+      reached = run_ended reasons_right (is_some s.guide) (is_some s.order) budget s.engine turns end searches.last (held_users s is) is.valid searches.run;
+      ends = searches.run.ends;
+    }
+has_end s (Repair tabu budget) turns end telling e is search =
     let run = search.repairs.run in
     record {
       budget = budget;
@@ -210,11 +241,14 @@ module _ (s : SessionState) (is : IsHeld s) where
             (subst (λ (n : ℕ). (0 < dropped) ⊎ (n < most_repair_turns s.engine.initial)) small.0 small.1),
       )
 
-  pub spent_small : (by : Procedure) (turns : List Turn) (e : EngineState) (count : ℕ) (dropped : Option ℕ) → SearchesIn s by turns (Spent count) dropped e
-      → (count ≡ budget_of by) × MaySpend s.book by dropped
-  spent_small (Dbt budget) turns e count dropped search =
+  pub spent_small : (by : Procedure) (turns : List Turn) (e : EngineState) (count : ℕ) (telling : Telling) → SearchesIn s by turns (Spent count) telling e
+      → (count ≡ budget_of by) × MaySpendSo s.book by telling
+  spent_small (Dbt budget) turns e count telling search =
       let small = dbt_spent budget turns e count search.searches in
-      (small.0, subst (λ (d : Option ℕ). MaySpend s.book (Dbt budget) d) (sym search.told) small.1)
-  spent_small (Repair tabu budget) turns e count dropped search =
+      (small.0, subst (λ (d : Telling). MaySpendSo s.book (Dbt budget) d) (sym search.told) small.1)
+  spent_small (Repair tabu budget) turns e count telling search =
       let small = repair_spent tabu budget turns search.count e count search.repairs in
-      (small.0, subst (λ (d : Option ℕ). MaySpend s.book (Repair tabu budget) d) (sym search.told) small.1)
+      (small.0, subst (λ (d : Telling). MaySpendSo s.book (Repair tabu budget) d) (sym search.told) small.1)
+  spent_small (Proof budget) turns e count telling search =
+      let small = dbt_spent budget turns e count search.proves.searches in
+      (small.0, subst (λ (d : Telling). MaySpendSo s.book (Proof budget) d) (sym search.told) small.1)

@@ -13,12 +13,13 @@ use Rattle.palm_repair.specs.Answers.{HasRepaired, end_of}
 use Rattle.palm_repair.specs.declared.answer.RepairAnswer.{RepairAnswer}
 use Rattle.palm_repair.specs.declared.answer.RepairAnswer.TheVariants.{Found as RepairFound, NoSolution as RepairNoSolution, Spent as RepairSpent}
 use Rattle.palm_book.specs.Book.{Contents, IsUser}
+use Rattle.proof_run.specs.Text.{Proves}
 use Rattle.palm_lang.specs.declared.reply.Lead.TheVariants.{NoSolution as NoSolutionLead}
 use Rattle.palm_read.specs.declared.mode.Mode.{Mode}
 use Rattle.palm_session.specs.declared.reply.Reply.TheVariants.{Found as FoundReply, Users, Spent as SpentReply}
 use Rattle.palm_session.specs.declared.request.Procedure.{Procedure}
-use Rattle.palm_session.specs.declared.request.Procedure.TheVariants.{Dbt, Repair}
-use Rattle.palm_session.specs.Effects.{SearchesIn, SearchesByDbt, SearchesByRepair, with_search}
+use Rattle.palm_session.specs.declared.request.Procedure.TheVariants.{Dbt, Repair, Proof}
+use Rattle.palm_session.specs.Effects.{InShort, InFull, Telling, SearchesByProof, SearchesIn, SearchesByDbt, SearchesByRepair, with_search}
 use Rattle.palm_session.specs.Objects.{ObjectsView, LendsChosen}
 use Rattle.palm_session.specs.Serving.{DeskView, desk_of, HasRepairedIn, HasRun, HasSearched}
 use Rattle.palm_session.specs.State.{SessionState, IsHeld}
@@ -28,26 +29,26 @@ use Rattle.palm_session.proofs.Users.{active_user}
 -- ---- what is told is about what is in the book
 
 module _ (s t : SessionState) (by : Procedure) (dropped : Option ℕ) (is : IsHeld s) where
-  pub found_searched : (values : List ℤ) → HasRun s by (Found values) dropped t → HasSearched s by (FoundReply values) t
+  pub found_searched : (values : List ℤ) → HasRun s by (Found values) (InShort dropped) t → HasSearched s by (FoundReply values) t
   found_searched values h = record {
     end = Found values;
     dropped = dropped;
     run = h;
     told = refl;
-    fits = found_length s is values (has_end s by h.turns (Found values) dropped h.engine is h.searches) ∙ ap (λ (z : SessionState). length z.book.variables) (sym h.after);
+    fits = found_length s is values (has_end s by h.turns (Found values) (InShort dropped) h.engine is h.searches) ∙ ap (λ (z : SessionState). length z.book.variables) (sym h.after);
   }
 
-  pub none_searched : (users : List Cid) → HasRun s by (NoSolution users) dropped t → HasSearched s by (Users NoSolutionLead users) t
+  pub none_searched : (users : List Cid) → HasRun s by (NoSolution users) (InShort dropped) t → HasSearched s by (Users NoSolutionLead users) t
   none_searched users h = record {
     end = NoSolution users;
     dropped = dropped;
     run = h;
     told = refl;
     fits = subst (λ (z : SessionState). All (IsUser z.book) users) (sym h.after)
-        (all_members (IsUser s.book) users (λ c m. active_user s.book c (none_active s is users (has_end s by h.turns (NoSolution users) dropped h.engine is h.searches) c m)));
+        (all_members (IsUser s.book) users (λ c m. active_user s.book c (none_active s is users (has_end s by h.turns (NoSolution users) (InShort dropped) h.engine is h.searches) c m)));
   }
 
-  pub spent_searched : (turns : ℕ) → HasRun s by (Spent turns) dropped t → HasSearched s by (SpentReply turns dropped) t
+  pub spent_searched : (turns : ℕ) → HasRun s by (Spent turns) (InShort dropped) t → HasSearched s by (SpentReply turns dropped) t
   spent_searched turns h = record { end = Spent turns; dropped = dropped; run = h; told = refl; fits = tt }
 
 -- ---- the answers of decision-repair
@@ -67,14 +68,19 @@ module _ (s t : SessionState) (tabu budget : ℕ) (is : IsHeld s) where
 -- ---- what the calls of a search say of the desk
 
 pub dbt_searches : (s : SessionState) (budget : ℕ) (turns : List Turn) (e : EngineState) (answer : SearchEnd) → SearchesWhole (is_some s.guide) (is_some s.order) budget s.engine turns answer e
-    → SearchesIn s (Dbt budget) turns answer None e
+    → SearchesIn s (Dbt budget) turns answer (InShort None) e
 dbt_searches s budget turns e answer h =
-    let searches : SearchesByDbt s budget turns answer None e = record { searches = h; told = refl } in searches
+    let searches : SearchesByDbt s budget turns answer (InShort None) e = record { searches = h; told = refl } in searches
 
 pub repair_searches : (s : SessionState) (tabu budget : ℕ) (turns : List Turn) (e : EngineState) (answer : RepairAnswer)
-    → (h : HasRepaired (is_some s.guide) (is_some s.order) tabu budget s.engine turns e answer) → SearchesIn s (Repair tabu budget) turns (end_of answer) (Some h.dropped) e
+    → (h : HasRepaired (is_some s.guide) (is_some s.order) tabu budget s.engine turns e answer) → SearchesIn s (Repair tabu budget) turns (end_of answer) (InShort (Some h.dropped)) e
 repair_searches s tabu budget turns e answer h =
-    let searches : SearchesByRepair s tabu budget turns (end_of answer) (Some h.dropped) e = record { count = h.dropped; repairs = h.repairs; told = refl } in searches
+    let searches : SearchesByRepair s tabu budget turns (end_of answer) (InShort (Some h.dropped)) e = record { count = h.dropped; repairs = h.repairs; told = refl } in searches
+
+pub proof_searches : (s : SessionState) (budget : ℕ) (turns : List Turn) (end : SearchEnd) (text : List ℕ) (e : EngineState) → Proves (is_some s.guide) (is_some s.order) budget s.book s.engine turns end e text
+    → SearchesIn s (Proof budget) turns end (InFull text) e
+proof_searches s budget turns end text e h =
+    let searches : SearchesByProof s budget turns end (InFull text) e = record { text = text; proves = h; told = refl } in searches
 
 -- lent objects have the same numbers
 pub lent_state : {G O : Type 0} (mode : Mode) (book : Contents) (engine after : View) (accepted : ℕ) (paused : Bool) (guides others : ObjectsView G) (orders more : ObjectsView O) (search done : SearchView)
@@ -84,10 +90,10 @@ lent_state mode book engine after accepted paused guides others orders more sear
     rw (one.numbers, one.chosen, two.numbers, two.chosen) refl
 
 -- with what a desk holds
-pub searched_desk : {G O : Type 0} (mode : Mode) (book : Contents) (engine after : View) (accepted : ℕ) (paused : Bool) (guides others : ObjectsView G) (orders more : ObjectsView O) (search done : SearchView) (d : DeskView G O) (by : Procedure) (end : SearchEnd) (dropped : Option ℕ)
+pub searched_desk : {G O : Type 0} (mode : Mode) (book : Contents) (engine after : View) (accepted : ℕ) (paused : Bool) (guides others : ObjectsView G) (orders more : ObjectsView O) (search done : SearchView) (d : DeskView G O) (by : Procedure) (end : SearchEnd) (telling : Telling)
     → desk_of mode book engine accepted paused guides orders search ≡ d → LendsChosen guides others → LendsChosen orders more
-    → SearchesIn (desk_of mode book engine accepted paused guides orders search).state by done.journal end dropped after.state
-    → HasRun d.state by end dropped (desk_of mode book after accepted paused others more done).state
-searched_desk {G = G} {O = O} mode book engine after accepted paused guides others orders more search done d by end dropped is one two searches =
-    subst (λ (z : DeskView G O). HasRun z.state by end dropped (desk_of mode book after accepted paused others more done).state) is
+    → SearchesIn (desk_of mode book engine accepted paused guides orders search).state by done.journal end telling after.state
+    → HasRun d.state by end telling (desk_of mode book after accepted paused others more done).state
+searched_desk {G = G} {O = O} mode book engine after accepted paused guides others orders more search done d by end telling is one two searches =
+    subst (λ (z : DeskView G O). HasRun z.state by end telling (desk_of mode book after accepted paused others more done).state) is
     (record { turns = done.journal; engine = after.state; searches = searches; after = lent_state mode book engine after accepted paused guides others orders more search done one two })

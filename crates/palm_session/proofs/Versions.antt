@@ -53,7 +53,7 @@ changes_mode s m Quit h = same_mode s m h
 follows_mode : (m : SessionState) (n : Next) (effect : Effect) (t : SessionState) → Follows m n effect t → t.mode ≡ m.mode
 follows_mode m Rests Nothing t f = same_mode m t f
 follows_mode m (Filters limit) (Settled count) t f = same_mode _ t f.2
-follows_mode m (Searches by) (Searched end dropped) t f = same_mode _ t f.3
+follows_mode m (Searches by) (Searched end telling) t f = same_mode _ t f.3
 follows_mode m _ _ t f = absurd f
 
 does_mode : (s : SessionState) (request : Request) (effect : Effect) (t : SessionState) → Does s request effect t → t.mode ≡ s.mode
@@ -107,7 +107,7 @@ nothing_accepted s = says Nothing (λ w. w.pausable) (s, refl, refl) (λ c. c.co
 nothing_follows : (m : SessionState) (effect : Effect) (t : SessionState) → Follows m Rests effect t → t ≡ m
 nothing_follows m Nothing t f = f
 nothing_follows m (Settled count) t f = absurd f
-nothing_follows m (Searched end dropped) t f = absurd f
+nothing_follows m (Searched end telling) t f = absurd f
 
 nothing_once : (s : SessionState) (reply : List ℕ) (t : SessionState) → Accepts s NothingAsked reply t → (reply ≡ []) × (t ≡ s)
 nothing_once s reply t (waits w) = absurd w.pausable

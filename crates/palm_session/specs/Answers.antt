@@ -29,7 +29,7 @@ use Rattle.palm_search.specs.declared.ending.SearchEnd.TheVariants.{Found, NoSol
 use Rattle.palm_session.specs.Modes.{heard, misheard}
 use Rattle.palm_session.specs.Refusals.{Meets, in_order, refusal_of}
 use Rattle.palm_session.specs.Requests.{IsAdmitted}
-use Rattle.palm_session.specs.Effects.{Effect, Settled, Searched, Does}
+use Rattle.palm_session.specs.Effects.{Effect, Settled, Searched, Telling, InShort, InFull, Does}
 
 -- the questions that are answered by `paused` while filtering waits
 abbrev pub CanWait : Question → Type 0
@@ -90,6 +90,11 @@ abbrev pub end_text : Contents → SearchEnd → Option ℕ → List ℕ
 end_text book (Found values) dropped = found_line book.variables values
 end_text book (NoSolution users) dropped = users_text book NoSolutionLead users
 end_text book (Spent turns) dropped = spent_line turns dropped
+
+-- how a search is told
+abbrev pub told_text : Contents → SearchEnd → Telling → List ℕ
+told_text book end (InShort dropped) = end_text book end dropped
+told_text book end (InFull text) = text
 
 -- `present` where the value is one of the greatest closed domains, and else the explanation that the log keeps
 abbrev pub SaysWhy : SessionState → Domains → ℕ → ℤ → List ℕ → Type 0
@@ -162,7 +167,7 @@ Says s (Ask question) effect reply = IsAnswer s question reply
 Says s Pause effect reply = reply ≡ fixed_text Done
 Says s Resume effect reply = reply ≡ fixed_text Done
 Says s (Step count) (Settled revisions) reply = reply ≡ ran_text revisions
-Says s (Solve by) (Searched end dropped) reply = reply ≡ end_text s.book end dropped
+Says s (Solve by) (Searched end telling) reply = reply ≡ told_text s.book end telling
 Says s (ChooseGuide chosen) effect reply = reply ≡ fixed_text Done
 Says s (DropGuide number) effect reply = reply ≡ fixed_text Done
 Says s (ChooseOrder chosen) effect reply = reply ≡ fixed_text Done

@@ -11,23 +11,29 @@ use Rattle.palm_search.specs.declared.ending.SearchEnd.{SearchEnd}
 use Rattle.palm_search.specs.Search.{Searches as SearchesWhole}
 use Rattle.palm_search.specs.declared.turn.Turn.{Turn}
 use Rattle.palm_repair.specs.Repair.{Repairs}
+use Rattle.proof_run.specs.Text.{Proves}
 use Rattle.palm_book.specs.Book.{with_active, user_at}
 use Rattle.palm_book.specs.declared.book.BookCon.{BookCon}
 use Rattle.palm_read.specs.Domain.{values_in}
 use Rattle.palm_read.specs.declared.line.DomainText.{DomainText}
 use Rattle.palm_session.specs.declared.request.Procedure.{Procedure}
-use Rattle.palm_session.specs.declared.request.Procedure.TheVariants.{Dbt, Repair}
+use Rattle.palm_session.specs.declared.request.Procedure.TheVariants.{Dbt, Repair, Proof}
 use Rattle.palm_session.specs.declared.request.Request.{Request}
 use Rattle.palm_session.specs.declared.request.Request.TheVariants.{Nothing as NothingAsked, Header as HeaderAsked, Declare, DeclareIn, Add, Relax, Enforce, Retract, Ask, Pause, Resume, Step, Solve, ChooseGuide, DropGuide, ChooseOrder, DropOrder, Quit}
 use Rattle.palm_session.specs.Objects.{without_number, chosen_without}
 use Rattle.palm_session.specs.State.{SessionState}
 
--- what happened at a request, beside what is held after it: a settling of so many revisions, or a search that ended so, and
--- how many nogoods it dropped, where that is told
+-- how the end of a search is told: in a line, with how many nogoods it dropped, where that is told; or in full, by its proof
+pub data Telling : Type 0 where
+  InShort : (dropped : Option ℕ) → Telling
+  InFull : (text : List ℕ) → Telling
+
+-- what happened at a request, beside what is held after it: a settling of so many revisions, or a search that ended so and is
+-- told so
 pub data Effect : Type 0 where
   Nothing : Effect
   Settled : (revisions : ℕ) → Effect
-  Searched : (end : SearchEnd) (dropped : Option ℕ) → Effect
+  Searched : (end : SearchEnd) (telling : Telling) → Effect
 
 -- ---- what a request changes
 
@@ -152,24 +158,31 @@ pub record SettlesIn (s : SessionState) (limit : Option ℕ) (count : ℕ) (e : 
 
 -- the engine searches by mac-dbt, by the chosen guide and order or without them: it takes these turns, and ends so; how many
 -- nogoods were dropped is not told
-pub record SearchesByDbt (s : SessionState) (budget : ℕ) (turns : List Turn) (end : SearchEnd) (dropped : Option ℕ) (e : EngineState) : Type 0 where
+pub record SearchesByDbt (s : SessionState) (budget : ℕ) (turns : List Turn) (end : SearchEnd) (telling : Telling) (e : EngineState) : Type 0 where
   pub searches : SearchesWhole (is_some s.guide) (is_some s.order) budget s.engine turns end e
-  pub told : dropped ≡ None
+  pub told : telling ≡ InShort None
 
 -- the same by decision-repair, which tells how many nogoods it dropped
-pub record SearchesByRepair (s : SessionState) (tabu budget : ℕ) (turns : List Turn) (end : SearchEnd) (dropped : Option ℕ) (e : EngineState) : Type 0 where
+pub record SearchesByRepair (s : SessionState) (tabu budget : ℕ) (turns : List Turn) (end : SearchEnd) (telling : Telling) (e : EngineState) : Type 0 where
   pub count : ℕ
   pub repairs : Repairs (is_some s.guide) (is_some s.order) tabu budget s.engine turns end count e
-  pub told : dropped ≡ Some count
+  pub told : telling ≡ InShort (Some count)
 
-abbrev pub SearchesIn : SessionState → Procedure → List Turn → SearchEnd → Option ℕ → EngineState → Type 0
-SearchesIn s (Dbt budget) turns end dropped e = SearchesByDbt s budget turns end dropped e
-SearchesIn s (Repair tabu budget) turns end dropped e = SearchesByRepair s tabu budget turns end dropped e
+-- the same by mac-dbt, and the proof is told, which speaks of the book
+pub record SearchesByProof (s : SessionState) (budget : ℕ) (turns : List Turn) (end : SearchEnd) (telling : Telling) (e : EngineState) : Type 0 where
+  pub text : List ℕ
+  pub proves : Proves (is_some s.guide) (is_some s.order) budget s.book s.engine turns end e text
+  pub told : telling ≡ InFull text
+
+abbrev pub SearchesIn : SessionState → Procedure → List Turn → SearchEnd → Telling → EngineState → Type 0
+SearchesIn s (Dbt budget) turns end telling e = SearchesByDbt s budget turns end telling e
+SearchesIn s (Repair tabu budget) turns end telling e = SearchesByRepair s tabu budget turns end telling e
+SearchesIn s (Proof budget) turns end telling e = SearchesByProof s budget turns end telling e
 
 abbrev pub Follows : SessionState → Next → Effect → SessionState → Type 0
 Follows s Rests Nothing t = t ≡ s
 Follows s (Filters limit) (Settled count) t = (e : EngineState) × SettlesIn s limit count e × (t ≡ with_engine s e)
-Follows s (Searches by) (Searched end dropped) t = (turns : List Turn) × (e : EngineState) × SearchesIn s by turns end dropped e × (t ≡ with_search s turns e)
+Follows s (Searches by) (Searched end telling) t = (turns : List Turn) × (e : EngineState) × SearchesIn s by turns end telling e × (t ≡ with_search s turns e)
 Follows s _ _ t = ⊥
 
 -- what the session holds after an admitted request, and what happened

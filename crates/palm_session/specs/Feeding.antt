@@ -1,5 +1,5 @@
 -- What feeding bytes to a session does.
-use Rattle.std.specs.Prelude.{◌≡◌, ℕ, Bool, true, false, List, [], ◌∷◌, ◌++◌, ◌⊎◌, All, map, flat_map, ◌≤◌, ◌+◌, min, take, drop, length, Option, Result, Ok, Err}
+use Rattle.std.specs.Prelude.{◌≡◌, ℕ, ⊤, Bool, true, false, List, [], ◌∷◌, ◌++◌, ◌⊎◌, All, map, flat_map, ◌≤◌, ◌+◌, min, take, drop, length, Option, Result, Ok, Err}
 use Rattle.palm_base.specs.Streams.{Appended}
 use Rattle.palm_session.specs.Objects.{HeldObjects}
 use Rattle.palm_session.specs.Serving.{DeskView}
@@ -10,10 +10,19 @@ use Rattle.palm_lang.specs.Reply.{ended}
 use Rattle.palm_lang.specs.Writing.{AppendedUntil}
 use Rattle.palm_session.specs.Asking.{Asks, RunAsking}
 use Rattle.palm_read.specs.Lines.{HasNoFeed, without_return, last_line}
+use Rattle.palm_read.specs.Reading.{IsRead}
+use Rattle.palm_read.specs.declared.line.Line.{Line}
+use Rattle.palm_session.specs.Modes.{heard}
+use Rattle.palm_session.specs.Requests.{IsAdmitted}
+use Rattle.palm_session.specs.ReplyText.{reply_text, ReplyFits}
 use Rattle.palm_session.specs.Replies.{Run, Answered, GoesOn, Ends, KeepsOn}
 use Rattle.palm_session.specs.declared.limits.TheConstants.{MOST_KEPT_BYTES}
 use Rattle.palm_session.specs.declared.going.Going.{Going}
 use Rattle.palm_session.specs.declared.going.Going.TheVariants.{More, Quit}
+use Rattle.palm_session.specs.declared.request.Procedure.TheVariants.{Proof}
+use Rattle.palm_session.specs.declared.request.Request.TheVariants.{Solve}
+use Rattle.palm_session.specs.declared.taken.Taken.{Taken}
+use Rattle.palm_session.specs.declared.taken.Taken.TheVariants.{Said, ToProve}
 use Rattle.palm_lang.specs.declared.stop.WriteStop.{WriteStop as Stop}
 
 -- bytes of an unfinished line, as many as are kept of one
@@ -44,6 +53,27 @@ pub record IsSession {G O : Type 0} (v : View G O) : Type 0 where
 abbrev pub Decides : Going → List ℕ → Type 0
 Decides More line = GoesOn line
 Decides Quit line = Ends line
+
+-- what became of a line: its reply, or that the request that it is admitted with is to be proved
+abbrev pub LineBecomes : SessionState → List ℕ → SessionState → Taken → Type 0
+LineBecomes s bytes t (Said reply going) = Answers s bytes (reply_text t reply) t
+LineBecomes s bytes t (ToProve budget) =
+    (line : Line) × IsRead s.mode bytes line × IsAdmitted (heard s line) line (Solve (Proof budget)) × ((heard s line).paused ≡ false) × (t ≡ heard s line)
+
+-- a reply fits what is held
+abbrev pub TakenFits : SessionState → Taken → Type 0
+TakenFits t (Said reply going) = ReplyFits t reply
+TakenFits t (ToProve budget) = ⊤
+
+-- answering the line so far has asked for support so often
+abbrev pub TakenAsks : SessionState → List ℕ → SessionState → ℕ → Taken → Type 0
+TakenAsks s bytes t asked (Said reply going) = Asks s bytes t asked
+TakenAsks s bytes t asked (ToProve budget) = asked ≡ 0
+
+-- the session goes on as the line says
+abbrev pub TakenDecides : List ℕ → Taken → Type 0
+TakenDecides bytes (Said reply going) = Decides going bytes
+TakenDecides bytes (ToProve budget) = GoesOn bytes
 
 -- the line was answered, its reply written, and support asked for so often
 pub record AnswersLine (before : SessionState) (line : List ℕ) (was now : Option (List ℕ)) (going : Going) (after : SessionState) (asked : ℕ) : Type 0 where

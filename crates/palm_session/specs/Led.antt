@@ -25,8 +25,10 @@ use Rattle.palm_session.specs.declared.going.Going.TheVariants.{More, Quit}
 use Rattle.palm_session.specs.declared.remainder.Remainder.{Remainder}
 use Rattle.palm_session.specs.declared.remainder.Remainder.TheVariants.{Say, Filter, Run, Search, End}
 use Rattle.palm_session.specs.declared.request.Procedure.{Procedure}
-use Rattle.palm_session.specs.declared.request.Procedure.TheVariants.{Dbt, Repair}
+use Rattle.palm_session.specs.declared.request.Procedure.TheVariants.{Dbt, Repair, Proof}
 use Rattle.palm_session.specs.declared.request.Request.{Request}
+use Rattle.palm_session.specs.declared.taken.Taken.{Taken}
+use Rattle.palm_session.specs.declared.taken.Taken.TheVariants.{Said, ToProve}
 use Rattle.palm_session.specs.declared.request.Request.TheVariants.{ChooseGuide, DropGuide, ChooseOrder, DropOrder}
 
 -- how a guide is led from one state to another at a turn, and an order at a revision
@@ -51,11 +53,16 @@ pub record FiltersBy {G O : Type 0} (ordering : Ordering O) (limit : Option ℕ)
   pub orders : LendsChosen before.orders after.orders
   pub guides : after.guides ≡ before.guides
 
--- a search of the kept turns has run by the chosen guide and order, and led them
-abbrev pub RunsBy : {G O : Type 0} → Guiding G → Ordering O → Procedure → SessionState → HeldObjects G O → SessionState → HeldObjects G O → Type 0
-RunsBy guiding ordering (Dbt budget) s before t after =
+-- a search of the kept turns has run by mac-dbt, by the chosen guide and order, and led them
+abbrev pub RunsByDbt : {G O : Type 0} → Guiding G → Ordering O → ℕ → SessionState → HeldObjects G O → SessionState → HeldObjects G O → Type 0
+RunsByDbt guiding ordering budget s before t after =
     (end : SearchEnd) × SearchesBy guiding ordering (chosen_object before.guides) (chosen_object after.guides) (chosen_object before.orders) (chosen_object after.orders)
     budget s.engine t.journal end t.engine
+
+-- the same by any way of searching
+abbrev pub RunsBy : {G O : Type 0} → Guiding G → Ordering O → Procedure → SessionState → HeldObjects G O → SessionState → HeldObjects G O → Type 0
+RunsBy guiding ordering (Dbt budget) s before t after = RunsByDbt guiding ordering budget s before t after
+RunsBy guiding ordering (Proof budget) s before t after = RunsByDbt guiding ordering budget s before t after
 RunsBy guiding ordering (Repair tabu budget) s before t after =
     (answer : RepairAnswer) × HasRepairedBy guiding ordering (chosen_object before.guides) (chosen_object after.guides) (chosen_object before.orders) (chosen_object after.orders)
     tabu budget s.engine t.journal t.engine answer
@@ -101,6 +108,11 @@ pub record RequestLeads {G O : Type 0} (guiding : Guiding G) (ordering : Orderin
 abbrev pub TakesLead : {G O : Type 0} → Guiding G → Ordering O → SessionState → Request → HeldObjects G O → SessionState → HeldObjects G O → Type 0
 TakesLead guiding ordering s request before t after = (WaitsFor s request × (after ≡ before)) ⊎ RequestLeads guiding ordering s request before t after
 
+-- the same for what became of the request: where it is to be proved, the objects are as they were so far
+abbrev pub BecomesLead : {G O : Type 0} → Guiding G → Ordering O → SessionState → Request → HeldObjects G O → SessionState → HeldObjects G O → Taken → Type 0
+BecomesLead guiding ordering s request before t after (Said reply going) = TakesLead guiding ordering s request before t after
+BecomesLead guiding ordering s request before t after (ToProve budget) = after ≡ before
+
 -- ---- lines
 
 -- the line is admitted with the request
@@ -113,6 +125,11 @@ pub record HasRequest (s : SessionState) (bytes : List ℕ) (request : Request) 
 abbrev pub LineLeads : {G O : Type 0} → Guiding G → Ordering O → SessionState → List ℕ → HeldObjects G O → SessionState → HeldObjects G O → Type 0
 LineLeads guiding ordering s bytes before t after = (((request : Request) → HasRequest s bytes request → ⊥) × (after ≡ before))
     ⊎ ((request : Request) × (has : HasRequest s bytes request) × TakesLead guiding ordering (heard s has.line) request before t after)
+
+-- the same for what became of a line: where its request is to be proved, the objects are as they were so far
+abbrev pub LineBecomesLead : {G O : Type 0} → Guiding G → Ordering O → SessionState → List ℕ → HeldObjects G O → SessionState → HeldObjects G O → Taken → Type 0
+LineBecomesLead guiding ordering s bytes before t after (Said reply going) = LineLeads guiding ordering s bytes before t after
+LineBecomesLead guiding ordering s bytes before t after (ToProve budget) = after ≡ before
 
 -- from s the lines are answered one after another, with these replies in all, each leads the objects, and t is held in the end
 abbrev pub RunLeads : {G O : Type 0} → Guiding G → Ordering O → SessionState → List (List ℕ) → List ℕ → HeldObjects G O → SessionState → HeldObjects G O → Type 0

@@ -6,6 +6,7 @@ pub mod Led
 pub mod Logged
 pub mod Modes
 pub mod Objects
+pub mod Proved
 pub mod Refusals
 pub mod Replies
 pub mod ReplyText

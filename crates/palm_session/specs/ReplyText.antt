@@ -11,9 +11,10 @@ use Rattle.palm_session.specs.Refusals.{refusal_of}
 use Rattle.palm_session.specs.State.{SessionState}
 use Rattle.palm_read.specs.declared.parse.LineError.{LineError}
 use Rattle.palm_lang.specs.declared.reply.Refusal.{Refusal}
-use Rattle.palm_session.specs.declared.going.Going.{Going}
 use Rattle.palm_session.specs.declared.going.Going.TheVariants.{More}
 use Rattle.palm_session.specs.declared.reply.Reply.{Reply}
+use Rattle.palm_session.specs.declared.taken.Taken.{Taken}
+use Rattle.palm_session.specs.declared.taken.Taken.TheVariants.{Said}
 use Rattle.palm_session.specs.declared.reply.Reply.TheVariants.{Nothing, Word, Refused, Ran, Domains, Domain, Listing, Log, Users, Certificate, Found, Spent}
 
 -- the text of a reply to a line, by what is held after it
@@ -40,8 +41,7 @@ ReplyFits s (Found values) = length values ≡ length s.book.variables
 ReplyFits s _ = Unit {0}
 
 -- the refusal of a line that could not be read, after which the session goes on
-pub record IsRefusal (error : LineError) (answer : Reply × Going) : Type 0 where
+pub record IsRefusal (error : LineError) (taken : Taken) : Type 0 where
   pub refusal : Refusal
   pub of_error : refusal_of error ≡ Some refusal
-  pub reply : answer.0 ≡ Refused refusal
-  pub going : answer.1 ≡ More
+  pub is : taken ≡ Said (Refused refusal) More

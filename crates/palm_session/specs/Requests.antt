@@ -13,9 +13,9 @@ use Rattle.palm_read.specs.Domain.{IsLarge, IsSoundDomain, values_in}
 use Rattle.palm_read.specs.Name.{IsNameText}
 use Rattle.palm_read.specs.declared.line.DomainText.{DomainText}
 use Rattle.palm_read.specs.declared.line.Line.{Line}
-use Rattle.palm_read.specs.declared.line.Line.TheVariants.{Comment, Header, Var, VarIn, Add as AddLine, Relax as RelaxLine, Enforce as EnforceLine, Retract as RetractLine, Domains as DomainsLine, Domain as DomainLine, List as ListLine, Log as LogLine, Why as WhyLine, Conflict as ConflictLine, Minimal as MinimalLine, MinimalConflict as MinimalConflictLine, Cert as CertLine, CertConflict as CertConflictLine, Pause as PauseLine, Resume as ResumeLine, Step as StepLine, SolveDbt, SolveRepair, Guide, GuideNone, Order, OrderNone, DropGuide as DropGuideLine, DropOrder as DropOrderLine, Quit as QuitLine}
+use Rattle.palm_read.specs.declared.line.Line.TheVariants.{Comment, Header, Var, VarIn, Add as AddLine, Relax as RelaxLine, Enforce as EnforceLine, Retract as RetractLine, Domains as DomainsLine, Domain as DomainLine, List as ListLine, Log as LogLine, Why as WhyLine, Conflict as ConflictLine, Minimal as MinimalLine, MinimalConflict as MinimalConflictLine, Cert as CertLine, CertConflict as CertConflictLine, Pause as PauseLine, Resume as ResumeLine, Step as StepLine, SolveDbt, SolveRepair, Prove, Guide, GuideNone, Order, OrderNone, DropGuide as DropGuideLine, DropOrder as DropOrderLine, Quit as QuitLine}
 use Rattle.palm_session.specs.declared.request.Procedure.{Procedure}
-use Rattle.palm_session.specs.declared.request.Procedure.TheVariants.{Dbt, Repair}
+use Rattle.palm_session.specs.declared.request.Procedure.TheVariants.{Dbt, Repair, Proof}
 use Rattle.palm_session.specs.declared.request.Question.{Question}
 use Rattle.palm_session.specs.declared.request.Question.TheVariants.{Domains, Domain, List as Listed, Log, Why, Conflict, Minimal, MinimalConflict, Cert, CertConflict}
 use Rattle.palm_session.specs.declared.request.Request.{Request}
@@ -57,6 +57,7 @@ Requests s ResumeLine request = request ≡ Resume
 Requests s (StepLine count) request = request ≡ Step count
 Requests s (SolveDbt budget) request = request ≡ Solve (Dbt budget)
 Requests s (SolveRepair tabu budget) request = request ≡ Solve (Repair tabu budget)
+Requests s (Prove budget) request = request ≡ Solve (Proof budget)
 Requests s (Guide number) request = request ≡ ChooseGuide (Some number)
 Requests s GuideNone request = request ≡ ChooseGuide None
 Requests s (Order number) request = request ≡ ChooseOrder (Some number)
@@ -131,11 +132,24 @@ CanAsk s _ = ⊤
 abbrev pub HasTabu : Procedure → Type 0
 HasTabu (Dbt budget) = ⊤
 HasTabu (Repair tabu budget) = 0 < tabu
+HasTabu (Proof budget) = ⊤
 
 -- how many turns a search may take
 abbrev pub budget_of : Procedure → ℕ
 budget_of (Dbt budget) = budget
 budget_of (Repair tabu budget) = budget
+budget_of (Proof budget) = budget
+
+-- the reply to a search is a line that tells how it ended, and not its proof
+abbrev pub IsTold : Procedure → Type 0
+IsTold (Dbt budget) = ⊤
+IsTold (Repair tabu budget) = ⊤
+IsTold (Proof budget) = ⊥
+
+-- the request is no search whose reply is its proof
+abbrev pub IsToldAtOnce : Request → Type 0
+IsToldAtOnce (Solve by) = IsTold by
+IsToldAtOnce _ = ⊤
 
 -- the request can be obeyed in what is held
 abbrev pub Admits : SessionState → Request → Type 0

@@ -25,13 +25,15 @@ use Rattle.palm_session.specs.declared.remainder.Remainder.TheVariants.{Say, Fil
 use Rattle.palm_session.specs.declared.reply.Reply.{Reply}
 use Rattle.palm_session.specs.declared.reply.Reply.TheVariants.{Word, Ran as RanReply}
 use Rattle.palm_session.specs.declared.request.Procedure.{Procedure}
-use Rattle.palm_session.specs.declared.request.Procedure.TheVariants.{Repair}
+use Rattle.palm_session.specs.declared.request.Procedure.TheVariants.{Repair, Proof}
 use Rattle.palm_session.specs.declared.request.Request.{Request}
 use Rattle.palm_session.specs.declared.request.Request.TheVariants.{Ask, Step, Solve, Quit as QuitAsked}
-use Rattle.palm_session.specs.Effects.{Effect, Nothing, Changes, Next, Rests, Filters, Searches, SettlesIn, SearchesIn, Follows, next, unless_paused, with_engine, with_search}
+use Rattle.palm_session.specs.declared.taken.Taken.{Taken}
+use Rattle.palm_session.specs.declared.taken.Taken.TheVariants.{Said as SaidTaken, ToProve}
+use Rattle.palm_session.specs.Effects.{Effect, Telling, InShort, Nothing, Changes, Next, Rests, Filters, Searches, SettlesIn, SearchesIn, Follows, next, unless_paused, with_engine, with_search}
 use Rattle.palm_session.specs.Answers.{Accepts, Contradicts, IsAnswer, Says, WaitsFor, end_text}
 use Rattle.palm_session.specs.ReplyText.{reply_text, ReplyFits}
-use Rattle.palm_session.specs.Requests.{CanAsk, HasTabu}
+use Rattle.palm_session.specs.Requests.{CanAsk, HasTabu, IsTold}
 
 -- what a desk holds, how often its engine has asked for support, and the objects themselves
 pub record DeskView (G O : Type 0) : Type 0 where
@@ -99,23 +101,23 @@ pub record Followed (s : SessionState) (what : Next) (t : SessionState) (asked :
   pub asks : AsksWithin s.engine what t.engine asked
 
 -- the search has run by the chosen guide and order, or without them, and has ended so
-pub record HasRun (s : SessionState) (by : Procedure) (end : SearchEnd) (dropped : Option ℕ) (t : SessionState) : Type 0 where
+pub record HasRun (s : SessionState) (by : Procedure) (end : SearchEnd) (telling : Telling) (t : SessionState) : Type 0 where
   pub turns : List Turn
   pub engine : EngineState
-  pub searches : SearchesIn s by turns end dropped engine
+  pub searches : SearchesIn s by turns end telling engine
   pub after : t ≡ with_search s turns engine
 
 -- the same by decision-repair, which answers so
 pub record HasRepairedIn (s : SessionState) (tabu budget : ℕ) (answer : RepairAnswer) (t : SessionState) : Type 0 where
   pub dropped : ℕ
-  pub run : HasRun s (Repair tabu budget) (end_of answer) (Some dropped) t
+  pub run : HasRun s (Repair tabu budget) (end_of answer) (InShort (Some dropped)) t
   pub told : TellsDropped answer dropped
 
--- the search has run, and the reply tells how it ended
+-- the search has run, and the reply tells how it ended, and not its proof
 pub record HasSearched (s : SessionState) (by : Procedure) (reply : Reply) (t : SessionState) : Type 0 where
   pub end : SearchEnd
   pub dropped : Option ℕ
-  pub run : HasRun s by end dropped t
+  pub run : HasRun s by end (InShort dropped) t
   pub told : reply_text t reply ≡ end_text t.book end dropped
   pub fits : ReplyFits t reply
 
@@ -152,9 +154,9 @@ IsDone s (Run count) t asked said = (told : ℕ) × RanAll s count told t asked 
 IsDone s End t asked said = (t ≡ s) × (asked ≡ 0) × (said ≡ Said (Word Bye))
 IsDone s (Search by) t asked said = (reply : Reply) × HasSearched s by reply t × (said ≡ Said reply)
 
--- a search that is left has a tabu length above 0
+-- a search that is left has a tabu length above 0, and its reply is no proof
 abbrev pub CanDo : Remainder → Type 0
-CanDo (Search by) = HasTabu by
+CanDo (Search by) = HasTabu by × IsTold by
 CanDo _ = ⊤
 
 -- neither `paused` nor `contradiction` stands in place of the request's own reply
@@ -184,3 +186,15 @@ pub record Takes (s : SessionState) (request : Request) (t : SessionState) (aske
   pub asks : AsksFor s request t asked
   pub fits : ReplyFits t answer.0
   pub goes : GoesAs answer.1 request
+
+-- the request is a search whose proof is the reply, does not wait, and nothing has happened yet
+pub record IsToProve (s : SessionState) (request : Request) (budget : ℕ) (t : SessionState) (asked : ℕ) : Type 0 where
+  pub is : request ≡ Solve (Proof budget)
+  pub goes : WaitsFor s request → ⊥
+  pub same : t ≡ s
+  pub quiet : asked ≡ 0
+
+-- what became of a request: it was taken, or is to be proved
+abbrev pub Becomes : SessionState → Request → SessionState → ℕ → Taken → Type 0
+Becomes s request t asked (SaidTaken reply going) = Takes s request t asked (reply, going)
+Becomes s request t asked (ToProve budget) = IsToProve s request budget t asked

@@ -1,5 +1,5 @@
 -- What may be told of explanations and conflicts, and of their certificates.
-use Rattle.std.specs.Prelude.{◌≡◌, ℕ, ℤ, ◌<◌, ◌⊎◌, List, length, Contains, Option, Some, None}
+use Rattle.std.specs.Prelude.{◌≡◌, ℕ, ℤ, ◌<◌, ◌⊎◌, List, ◌++◌, length, Contains, Option, Some, None}
 use Rattle.palm_base.specs.declared.terms.Cid.{Cid}
 use Rattle.palm_model.specs.Closure.{Explains, IsConflict, IsSolution}
 use Rattle.palm_model.specs.Domains.{Assignment}
@@ -9,15 +9,17 @@ use Rattle.palm_cert.specs.Accepted.{IsAccepted}
 use Rattle.palm_claim.specs.declared.verdict.Claim.TheVariants.{Gone, Conflict as ConflictClaim}
 use Rattle.palm_book.specs.Book.{Contents, initial_of, active_of, name_of}
 use Rattle.palm_lang.specs.Reply.{fixed_text, found_line, spent_line}
-use Rattle.palm_lang.specs.declared.reply.Fixed.TheVariants.{Contradiction, Paused, Present, Consistent}
+use Rattle.palm_lang.specs.declared.reply.Fixed.TheVariants.{Contradiction, Paused, Present, Consistent, End}
 use Rattle.palm_lang.specs.declared.reply.Lead.TheVariants.{Because, Conflict as ConflictLead, NoSolution as NoSolutionLead}
 use Rattle.palm_model.specs.Minimal.{IsMinimalConflict, IsMinimalExplanation}
 use Rattle.palm_search.specs.Measure.{most_turns}
+use Rattle.palm_search.specs.declared.ending.SearchEnd.{SearchEnd}
+use Rattle.proof_run.specs.Accepted.{IsAcceptedAtNone}
 use Rattle.palm_repair.specs.Sets.{most_repair_turns}
-use Rattle.palm_session.specs.Answers.{users_text}
+use Rattle.palm_session.specs.Answers.{end_text, users_text}
 use Rattle.palm_session.specs.declared.request.Procedure.{Procedure}
-use Rattle.palm_session.specs.declared.request.Procedure.TheVariants.{Dbt, Repair}
-use Rattle.palm_session.specs.Effects.{with_search}
+use Rattle.palm_session.specs.declared.request.Procedure.TheVariants.{Dbt, Repair, Proof}
+use Rattle.palm_session.specs.Effects.{Telling, InShort, InFull, with_search}
 use Rattle.palm_session.specs.Requests.{budget_of}
 use Rattle.palm_session.specs.State.{SessionState}
 
@@ -51,6 +53,11 @@ MaySpend book (Dbt budget) None = budget < most_turns (length book.variables) (v
 MaySpend book (Repair tabu budget) (Some dropped) = (0 < dropped) ⊎ (budget < most_repair_turns (initial_of book))
 MaySpend book _ _ = ⊥
 
+-- the same, however it is told
+abbrev pub MaySpendSo : Contents → Procedure → Telling → Type 0
+MaySpendSo book by (InShort dropped) = MaySpend book by dropped
+MaySpendSo book by (InFull text) = MaySpend book (Dbt (budget_of by)) None
+
 -- what is told of a search: a word, values that satisfy all active constraints, active constraints without a common
 -- solution, or that all turns of the budget were taken
 pub data ToldSearch (book : Contents) (by : Procedure) (reply : List ℕ) : Type 0 where
@@ -59,6 +66,29 @@ pub data ToldSearch (book : Contents) (by : Procedure) (reply : List ℕ) : Type
       → reply ≡ found_line book.variables values → ToldSearch book by reply
   search_none : (users : List Cid) → AreUnsolvedIn book users → reply ≡ users_text book NoSolutionLead users → ToldSearch book by reply
   search_spent : (dropped : Option ℕ) → MaySpend book by dropped → reply ≡ spent_line (budget_of by) dropped → ToldSearch book by reply
+
+-- the reply ends with the line, and `end`
+pub record ClosesWith (reply line : List ℕ) : Type 0 where
+  pub front : List ℕ
+  pub is : reply ≡ front ++ line ++ fixed_text End
+
+-- what is told of a search by its proof: a word, or a proof that ends with what a search may tell
+pub data ToldProof (book : Contents) (budget : ℕ) (reply : List ℕ) : Type 0 where
+  proof_paused : reply ≡ fixed_text Paused → ToldProof book budget reply
+  proof_found : (values : List ℤ) → IsSolution (initial_of book) (Contains (cons_of (active_of book))) (listed values)
+      → ClosesWith reply (found_line book.variables values) → ToldProof book budget reply
+  proof_none : (users : List Cid) → AreUnsolvedIn book users → ClosesWith reply (users_text book NoSolutionLead users) → ToldProof book budget reply
+  proof_spent : MaySpend book (Dbt budget) None → ClosesWith reply (spent_line budget None) → ToldProof book budget reply
+
+-- what is told by a way of searching
+abbrev pub ToldBy : Contents → Procedure → List ℕ → Type 0
+ToldBy book (Proof budget) reply = ToldProof book budget reply
+ToldBy book by reply = ToldSearch book by reply
+
+-- a word, or a proof whose last line is that of the end, and which is accepted where there is no solution
+pub data ToldAccepted (book : Contents) (reply : List ℕ) : Type 0 where
+  accepted_paused : reply ≡ fixed_text Paused → ToldAccepted book reply
+  accepted_end : (end : SearchEnd) → ClosesWith reply (end_text book end None) → IsAcceptedAtNone book end reply → ToldAccepted book reply
 
 -- what is told of conflicts: a word, or a conflict
 pub data ToldConflict (book : Contents) (reply : List ℕ) : Type 0 where

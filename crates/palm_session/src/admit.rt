@@ -61,6 +61,7 @@ impl<G: Guide, O: Order> Desk<G, O> {
             Line::SolveRepair { tabu, budget } => {
                 Ok(Ok(Request::Solve(Procedure::Repair { tabu, budget })))
             }
+            Line::Prove { budget } => Ok(Ok(Request::Solve(Procedure::Proof { budget }))),
             Line::Guide(number) => Ok(self.admit_guide(number)),
             Line::GuideNone => Ok(Ok(Request::ChooseGuide(None))),
             Line::Order(number) => Ok(self.admit_order(number)),

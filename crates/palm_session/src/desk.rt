@@ -1,29 +1,33 @@
 //! What a session keeps between two lines. What keeps the book and the engine in step is here, and nowhere else.
-ghost use Rattle.std.specs.Prelude.{◌≡◌, ◌-◌, ◌<◌, ◌≤◌, None, true, false, Contains, IfOk, IfSome, OnOk, Some, length, slice_get};
+ghost use Rattle.std.specs.Prelude.{◌≡◌, ◌-◌, ◌<◌, ◌≤◌, None, true, false, Contains, IfErr, IfOk, IfSome, OnOk, Some, length, slice_get};
+ghost use Rattle.palm_base.specs.Streams.{IsSameSink};
 ghost use Rattle.palm_base.specs.Tells.{Tells};
 ghost use Rattle.palm_book.specs.Book.{AreValues, user_at};
 ghost use Rattle.palm_book.specs.declared.book.BookCon.{BookCon as BookConTerm};
 ghost use Rattle.palm_engine.specs.Engine.{KeepsCounts};
 ghost use Rattle.palm_engine.specs.Following.{OrderFollows};
+ghost use Rattle.palm_lang.specs.Writing.{IsCounted};
 ghost use Rattle.palm_model.specs.Event.{Declares, Posts, Withdraws};
 ghost use Rattle.palm_model.specs.Log.{IsActive};
 ghost use Rattle.palm_model.specs.State.{EngineState, IsValid};
 ghost use Rattle.palm_read.specs.Name.{IsNameText};
 ghost use Rattle.palm_search.specs.Following.{GuideFollows};
-ghost use Rattle.palm_session.specs.Effects.{WithdrawsActive, next_constraint, with_active_at, with_constraint, with_engine, with_variable, without_constraint, without_guide, without_order};
+ghost use Rattle.palm_session.specs.Effects.{InShort, WithdrawsActive, next_constraint, with_active_at, with_constraint, with_engine, with_variable, without_constraint, without_guide, without_order};
 ghost use Rattle.palm_session.specs.Led.{FiltersBy, SearchesOn, objects_after};
 ghost use Rattle.palm_session.specs.Modes.{heard, misheard};
 ghost use Rattle.palm_session.specs.Refusals.{IsFullOfVariables};
 ghost use Rattle.palm_session.specs.Requests.{CanAdd, StandsAt};
+ghost use Rattle.palm_session.specs.Proved.{HasProvedFront, HasProvedIn};
 ghost use Rattle.palm_session.specs.Serving.{HasRepairedIn, HasRun, Ran, Spends};
 ghost use Rattle.palm_session.specs.State.{HasVariable, IsHeld};
 ghost use Rattle.palm_session.specs.declared.request.Procedure.TheVariants as Procedure;
 ghost use Rattle.palm_session.specs.declared.request.Request.TheVariants as Request;
 
 use crate::modes::{begun, mode_after};
-use crate::objects::{Objects, repair_by, settle_by, solve_by};
+use crate::objects::{Objects, prove_by, repair_by, settle_by, solve_by};
+use crate::stop::Stop;
 use palm_agenda::Order;
-use palm_base::{Cid, NoMemory, Steps, ValueList};
+use palm_base::{Cid, NoMemory, Sink, Steps, ValueList};
 use palm_dbt::Answer;
 use palm_engine::Engine;
 use palm_guide::Guide;
@@ -329,7 +333,7 @@ impl<G: Guide, O: Order> Desk<G, O> {
         steps: &mut Steps<L>,
     ) -> Result<Answer, NoMemory>
         requires { IsHeld self.old.state }
-        ensures searched { IfOk result (λ answer. HasRun self.old.state (Procedure.Dbt budget) answer None self.new.state) }
+        ensures searched { IfOk result (λ answer. HasRun self.old.state (Procedure.Dbt budget) answer (InShort None) self.new.state) }
         ensures led { OnOk result (SearchesOn (GuideFollows G.answers G.hears G.state) (OrderFollows O.answers O.hears O.state) (Procedure.Dbt budget) self.old.state self.old.objects self.new.state self.new.objects) }
         ensures spends { Spends self.old self.new steps.old steps.new }
     {
@@ -341,6 +345,36 @@ impl<G: Guide, O: Order> Desk<G, O> {
             &mut self.guides,
             &mut self.orders,
             budget,
+            steps,
+        )
+    }
+
+    /// Searches by mac-dbt in the same way, and writes the proof meanwhile. At a stop a front of what some search from here
+    /// writes was written.
+    pub(crate) fn prove<K: Sink, L: Ledger>(
+        &mut self,
+        budget: u64,
+        out: &mut K,
+        steps: &mut Steps<L>,
+    ) -> Result<(), Stop>
+        requires { IsHeld self.old.state }
+        ensures proved { OnOk result (HasProvedIn self.old.state budget (K.state out.old).written (K.state out.new).written self.new.state) }
+        ensures front { IfErr result (λ stop. HasProvedFront stop self.old.state budget (K.state out.old).written (K.state out.new).written) }
+        ensures counted { IsCounted (K.state out.old).faults (K.state out.new).faults result }
+        ensures stands { IsSameSink (K.state out.old) (K.state out.new) result }
+        ensures led { OnOk result (SearchesOn (GuideFollows G.answers G.hears G.state) (OrderFollows O.answers O.hears O.state) (Procedure.Proof budget) self.old.state self.old.objects self.new.state self.new.objects) }
+        ensures spends { Spends self.old self.new steps.old steps.new }
+    {
+        self.search = Search::begin(self.alloc);
+        prove_by(
+            self.alloc,
+            &mut self.engine,
+            &mut self.search,
+            &self.book,
+            &mut self.guides,
+            &mut self.orders,
+            budget,
+            out,
             steps,
         )
     }

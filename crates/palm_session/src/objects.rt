@@ -1,5 +1,5 @@
 //! Objects that the caller handed in, and what is done by those that are chosen.
-ghost use Rattle.std.specs.Prelude.{◌≡◌, ◌+◌, ◌-◌, ◌<◌, ◌≤◌, [], Contains, IfOk, None, OnOk, Some, is_some, min};
+ghost use Rattle.std.specs.Prelude.{◌≡◌, ◌+◌, ◌-◌, ◌<◌, ◌≤◌, [], Contains, IfErr, IfOk, None, OnOk, Some, is_some, min};
 ghost use Rattle.palm_base.specs.Tells.{Tells};
 ghost use Rattle.palm_base.specs.declared.limits.TheConstants.{LAST_COUNT};
 ghost use Rattle.palm_engine.specs.Engine.{HasAsked, HasSettled};
@@ -11,16 +11,24 @@ ghost use Rattle.palm_search.specs.Following.{GuideFollows, SearchesBy};
 ghost use Rattle.palm_search.specs.Kept.{HasOnlyUsers};
 ghost use Rattle.palm_search.specs.Search.{Searches};
 ghost use Rattle.palm_session.specs.Led.{SettlesBy};
+ghost use Rattle.palm_session.specs.Proved.{WritesProof, WritesProofFront};
+ghost use Rattle.palm_book.specs.Book.{active_of, initial_of};
+ghost use Rattle.palm_lang.specs.Writing.{IsCounted};
+ghost use Rattle.palm_base.specs.Streams.{IsSameSink};
+ghost use Rattle.palm_search.specs.declared.ending.SearchEnd.{SearchEnd as SearchEndTerm};
 ghost use Rattle.palm_session.specs.Objects.{LendsChosen, all_placed, chosen_object, numbers_of, without_number, without_object};
 
+use crate::stop::Stop;
 use palm_agenda::Order;
-use palm_base::{NoMemory, Steps};
+use palm_base::{NoMemory, Sink, Steps};
 use palm_dbt::{Answer, solve};
 use palm_engine::{Engine, Settle};
 use palm_guide::Guide;
 use palm_kind::Kind;
+use palm_lang::Book;
 use palm_repair::{RepairAnswer, repair};
 use palm_search::Search;
+use proof_write::prove;
 use std::alloc::Global;
 use std::marker::Model;
 use std::sync::ledger::Ledger;
@@ -141,6 +149,51 @@ pub(crate) fn solve_by<G: Guide, O: Order, L: Ledger>(
         budget,
         steps,
     )
+}
+
+/// Searches by mac-dbt, by the guide and the order that are chosen, or without them, and writes the proof meanwhile.
+pub(crate) fn prove_by<G: Guide, O: Order, K: Sink, L: Ledger>(
+    alloc: Global,
+    engine: &mut Engine<Kind>,
+    search: &mut Search,
+    book: &Book,
+    guides: &mut Objects<G>,
+    orders: &mut Objects<O>,
+    budget: u64,
+    out: &mut K,
+    steps: &mut Steps<L>,
+) -> Result<(), Stop>
+    requires fresh { search.old ≡ record { decisions = []; journal = [] } }
+    requires initial { engine.old.state.initial ≡ initial_of book.now }
+    requires active { engine.old.state.active ≡ active_of book.now }
+    ensures ok { OnOk result (WritesProof (is_some guides.old.chosen) (is_some orders.old.chosen) budget book.now engine.old.state search.new.journal engine.new.state (K.state out.old).written (K.state out.new).written) }
+    ensures led { OnOk result ((end : SearchEndTerm) × SearchesBy (GuideFollows G.answers G.hears G.state) (OrderFollows O.answers O.hears O.state) (chosen_object guides.old) (chosen_object guides.new) (chosen_object orders.old) (chosen_object orders.new)
+        budget engine.old.state search.new.journal end engine.new.state) }
+    ensures front { IfErr result (λ stop. WritesProofFront stop (is_some guides.old.chosen) (is_some orders.old.chosen) budget book.now engine.old.state (K.state out.old).written (K.state out.new).written) }
+    ensures counted { IsCounted (K.state out.old).faults (K.state out.new).faults result }
+    ensures stands { IsSameSink (K.state out.old) (K.state out.new) result }
+    ensures later { steps.old ≤ steps.new }
+    ensures checks { engine.new.checks ≡ min (engine.old.checks + (steps.new - steps.old)) LAST_COUNT }
+    ensures guides { LendsChosen guides.old guides.new }
+    ensures orders { LendsChosen orders.old orders.new }
+    ensures valid { IsValid engine.new.state }
+{
+    // What holds of every engine is known once its store is read.
+    let _store = engine.store();
+    let guide = guides.chosen;
+    let order = orders.chosen;
+    prove(
+        alloc,
+        engine,
+        search,
+        book,
+        &mut guides.places[guide],
+        &mut orders.places[order],
+        budget,
+        out,
+        steps,
+    )?;
+    Ok(())
 }
 
 /// Searches by decision-repair, by the guide and the order that are chosen, or without them.

@@ -35,6 +35,8 @@ pub(crate) enum Procedure {
     Dbt { budget: u64 },
     /// Decision-repair by a list of at most so many nogoods, within so many turns.
     Repair { tabu: u32, budget: u64 },
+    /// mac-dbt, within so many turns, whose reply is its proof.
+    Proof { budget: u64 },
 }
 
 /// What is asked of a session. Constraints of the book are named by their places, guides and orders by their numbers.

@@ -6,7 +6,7 @@ ghost use Rattle.palm_session.specs.Effects.{unless_paused};
 ghost use Rattle.palm_session.specs.Led.{FiltersBy, LeadsOn, SearchesOn, next_left};
 ghost use Rattle.palm_session.specs.Serving.{CanDo, Followed, HasSearched, IsDone, RanAll, Spends};
 ghost use Rattle.palm_session.specs.State.{IsHeld};
-ghost use Rattle.palm_session.specs.Requests.{HasTabu};
+ghost use Rattle.palm_session.specs.Requests.{HasTabu, IsTold};
 ghost use Rattle.palm_session.specs.declared.request.Procedure.TheVariants as Procedure;
 
 use crate::desk::Desk;
@@ -68,10 +68,11 @@ impl<G: Guide, O: Order> Desk<G, O> {
         self.settle(Some(count), steps)
     }
 
-    /// Searches, and answers how the search ended.
+    /// Searches, and answers how the search ended. A proof is no answer: it is written while the search runs.
     fn search<L: Ledger>(&mut self, by: Procedure, steps: &mut Steps<L>) -> Result<Reply, NoMemory>
         requires held { IsHeld self.old.state }
         requires some { HasTabu by }
+        requires told { IsTold by }
         ensures searched { IfOk result (λ reply. HasSearched self.old.state by reply self.new.state) }
         ensures led { OnOk result (SearchesOn (GuideFollows G.answers G.hears G.state) (OrderFollows O.answers O.hears O.state) by self.old.state self.old.objects self.new.state self.new.objects) }
         ensures spends { Spends self.old self.new steps.old steps.new }
@@ -79,6 +80,7 @@ impl<G: Guide, O: Order> Desk<G, O> {
         match by {
             Procedure::Dbt { budget } => self.solve_by_dbt(budget, steps),
             Procedure::Repair { tabu, budget } => self.solve_by_repair(tabu, budget, steps),
+            Procedure::Proof { .. } => unreachable!(),
         }
     }
 

@@ -14,6 +14,8 @@ enum Reading {
     Within,
     /// One of the last two with too many values.
     Beyond,
+    /// A search for a proof.
+    Proof,
     /// A line of version 1.
     Older,
 }
@@ -35,6 +37,7 @@ fn tell(line: &Line) -> Reading {
             },
             _ => Reading::Older,
         },
+        Line::Prove { .. } => Reading::Proof,
         _ => Reading::Older,
     }
 }
@@ -103,6 +106,15 @@ const NEWER: &[(&str, Reading)] = &[
     ),
     ("add a : x in {}", Reading::Refused(LineError::Empty)),
     ("add a : x in 3..1", Reading::Refused(LineError::Empty)),
+    ("prove budget 1", Reading::Proof),
+    ("\tprove budget 010", Reading::Proof),
+    ("prove budget 18446744073709551615", Reading::Proof),
+    ("prove budget 0", Reading::Refused(LineError::Range)),
+    ("prove budget -1", Reading::Refused(LineError::Range)),
+    (
+        "prove budget 18446744073709551616",
+        Reading::Refused(LineError::Range),
+    ),
 ];
 
 #[test]
@@ -131,6 +143,13 @@ const SAME: &[(&str, Reading)] = &[
     ("add a : x in 3", UNKNOWN),
     ("add a : x y in 1..3", UNKNOWN),
     ("add in : x < 3", UNKNOWN),
+    ("relax prove", Reading::Older),
+    ("prove", UNKNOWN),
+    ("prove budget", UNKNOWN),
+    ("prove 10", UNKNOWN),
+    ("prove dbt budget 10", UNKNOWN),
+    ("prove budget 10 10", UNKNOWN),
+    ("solve prove budget 10", UNKNOWN),
 ];
 
 #[test]

@@ -1,4 +1,4 @@
-//! Lines of every form of version 1, lines with two faults, and the limits of a line.
+//! Lines of every form, and of version 1 those with faults and the limits of a line.
 use palm_base::NoMemory;
 use palm_lang::{Line, LineError, beyond, parse_line, print_line, token};
 use palm_read::Mode;
@@ -47,6 +47,15 @@ const EVERY_FORM: &[&str] = &[
     "quit",
 ];
 
+/// A line of each form that version 2 has beside those of version 1, as it is printed.
+const EVERY_NEWER_FORM: &[&str] = &[
+    "var x 1..3 in 2..5",
+    "var x {1,5} in {5}",
+    "add w : x in 1..3",
+    "prove budget 1",
+    "prove budget 18446744073709551615",
+];
+
 /// What bytes are read as.
 #[derive(Clone, Copy)]
 enum Reading {
@@ -72,31 +81,31 @@ fn tell(line: &Line, out: &mut Vec<u8>) -> Result<Reading, NoMemory> {
 
 /// What the bytes are read as; a line is printed to the end of the text. It alone owns a line, since each place that gives
 /// one up costs its proof.
-fn read(alloc: Global, bytes: &[u8], out: &mut Vec<u8>) -> Result<Reading, NoMemory> {
-    match parse_line(alloc, bytes, Mode::One) {
+fn read(alloc: Global, bytes: &[u8], mode: Mode, out: &mut Vec<u8>) -> Result<Reading, NoMemory> {
+    match parse_line(alloc, bytes, mode) {
         Ok(line) => tell(&line, out),
         Err(cause) => Ok(Reading::Refused(cause)),
     }
 }
 
-/// The same, where nobody asks what is printed.
+/// The same of version 1, where nobody asks what is printed.
 fn read_unprinted(alloc: Global, bytes: &[u8]) -> Result<Reading, NoMemory> {
     let mut out = Vec::new(alloc);
-    read(alloc, bytes, &mut out)
+    read(alloc, bytes, Mode::One, &mut out)
 }
 
 /// Whether the text is read as a line that is printed so.
-fn is_printed(alloc: Global, text: &str, printed: &str) -> Result<bool, NoMemory> {
+fn is_printed(alloc: Global, text: &str, mode: Mode, printed: &str) -> Result<bool, NoMemory> {
     let mut out = Vec::new(alloc);
-    Ok(match read(alloc, text.as_bytes(), &mut out)? {
+    Ok(match read(alloc, text.as_bytes(), mode, &mut out)? {
         Reading::Refused(_) => false,
         _ => out.as_slice() == printed.as_bytes(),
     })
 }
 
 /// Whether the text is read as a line that is printed so, and the printed text reads back.
-fn reads_as(alloc: Global, text: &str, printed: &str) -> Result<bool, NoMemory> {
-    Ok(is_printed(alloc, text, printed)? && is_printed(alloc, printed, printed)?)
+fn reads_as(alloc: Global, text: &str, mode: Mode, printed: &str) -> Result<bool, NoMemory> {
+    Ok(is_printed(alloc, text, mode, printed)? && is_printed(alloc, printed, mode, printed)?)
 }
 
 /// Whether the bytes are refused so.
@@ -125,7 +134,16 @@ fn is_within(alloc: Global, text: &str) -> Result<bool, NoMemory> {
 #[test]
 fn every_form_is_read(rt: HostRuntime) -> Result<(), Fail> {
     for line in EVERY_FORM {
-        assert!(rt; reads_as(rt.alloc(), line, line)?);
+        assert!(rt; reads_as(rt.alloc(), line, Mode::One, line)?);
+        assert!(rt; reads_as(rt.alloc(), line, Mode::Two, line)?);
+    }
+    Ok(())
+}
+
+#[test]
+fn every_form_of_version_2_is_read(rt: HostRuntime) -> Result<(), Fail> {
+    for line in EVERY_NEWER_FORM {
+        assert!(rt; reads_as(rt.alloc(), line, Mode::Two, line)?);
     }
     Ok(())
 }
@@ -152,7 +170,7 @@ const AT_THE_LIMITS: &[&str] = &[
 #[test]
 fn numbers_at_the_limits_are_read(rt: HostRuntime) -> Result<(), Fail> {
     for line in AT_THE_LIMITS {
-        assert!(rt; reads_as(rt.alloc(), line, line)?);
+        assert!(rt; reads_as(rt.alloc(), line, Mode::One, line)?);
     }
     Ok(())
 }
@@ -185,7 +203,7 @@ const WRITTEN_OTHERWISE: &[(&str, &str)] = &[
 #[test]
 fn spaces_zeros_and_order_do_not_matter(rt: HostRuntime) -> Result<(), Fail> {
     for (text, printed) in WRITTEN_OTHERWISE {
-        assert!(rt; reads_as(rt.alloc(), text, printed)?);
+        assert!(rt; reads_as(rt.alloc(), text, Mode::One, printed)?);
     }
     Ok(())
 }

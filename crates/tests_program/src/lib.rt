@@ -19,6 +19,8 @@ mod objects;
 #[cfg(test)]
 mod proofs;
 #[cfg(test)]
+mod proved;
+#[cfg(test)]
 mod reasons;
 #[cfg(test)]
 mod searches;

@@ -1,4 +1,4 @@
-//! Tests of proofs that constraints have no solution, over the checker's one call.
+//! Tests of proofs that constraints have no solution, over the checker's one call and the writer's.
 #![tactic(auto)]
 
 #[cfg(test)]
@@ -17,3 +17,5 @@ mod steps;
 mod told;
 #[cfg(test)]
 mod users;
+#[cfg(test)]
+mod written;

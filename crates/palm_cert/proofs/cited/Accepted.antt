@@ -16,10 +16,12 @@ use Rattle.palm_book.proofs.cited.Any.{any_member}
 use Rattle.palm_claim.specs.Draft.{blank}
 use Rattle.palm_claim.specs.Step.{pairs_at}
 use Rattle.palm_claim.specs.Claim.{IsOver}
+use Rattle.palm_claim.specs.Verdict.{certificates, ending}
 use Rattle.palm_claim.specs.declared.statement.Stage.TheVariants.{Closed}
 use Rattle.palm_claim.specs.declared.verdict.Claim.{Claim}
 use Rattle.palm_claim.specs.declared.verdict.Claim.TheVariants.{Conflict, Gone}
 use Rattle.palm_claim.specs.declared.statement.Statement.TheVariants.{ConflictClaim, ValueClaim}
+use Rattle.palm_claim.specs.declared.verdict.Verdict.TheVariants.{Accepted}
 use Rattle.palm_base.proofs.cited.CidOrder.{same_cid_itself}
 use Rattle.palm_lang.specs.Reply.{fixed_text}
 use Rattle.palm_lang.specs.declared.reply.Fixed.TheVariants.{End}
@@ -34,14 +36,14 @@ use Rattle.palm_cert.specs.Needs.{CanClaim}
 use Rattle.palm_cert.specs.Readable.{AreReadable, claim_statement}
 use Rattle.palm_cert.specs.Accepted.{IsAccepted}
 use Rattle.palm_cert.specs.SameClaim.{IsSameClaim}
-use Rattle.palm_cert.proofs.Before.{before_from, filter_shorter, range_has, range_rises, range_within}
+use Rattle.palm_cert.proofs.cited.Before.{before_from, filter_shorter, range_has, range_rises, range_within}
 use Rattle.palm_cert.proofs.Declaring.{AreDeclared, Lists, declarations_read, list_open}
-use Rattle.palm_cert.proofs.Earlier.{owner_named, step_declared, step_owner, steps_numbered}
-use Rattle.palm_cert.proofs.Links.{pair_removal}
+use Rattle.palm_cert.proofs.cited.Earlier.{owner_named, step_declared, step_owner, steps_numbered}
+use Rattle.palm_cert.proofs.cited.Links.{pair_removal}
 use Rattle.palm_cert.proofs.cited.Logged.{claim_declared, declared_from}
 use Rattle.palm_cert.proofs.Proving.{IsClaimed, IsStep, claim_reads, other_claim, own, proved_by, proving, steps_read}
-use Rattle.palm_cert.proofs.Reached.{claim_reached}
-use Rattle.palm_cert.proofs.Passing.{Reads, accepted, reads_then}
+use Rattle.palm_cert.proofs.cited.Reached.{claim_reached}
+use Rattle.palm_claim.proofs.cited.Passing.{Reads, reads_then, reads_verdict}
 use Rattle.palm_cert.proofs.Renumbering.{entry_member, place_declared, place_name}
 
 -- ---- the variables and constraints
@@ -134,6 +136,10 @@ module _ (book : Contents) (us : List ℕ) (cs acc : List BookCon) (are : AreDec
       over (Gone pair) used = place_declared book.variables us pair.var used
       over (Conflict x) used = place_declared book.variables us x used
 
+-- a draft that is closed ends with its claim
+closed_ends : (claim : Claim) (book : Contents) (n : ℕ) → ending (Closed claim) book n ≡ Accepted (record { claim = claim; book = book })
+closed_ends claim book n = refl
+
 -- a claimed pair was declared
 claimable : (s : EngineState) (book : Contents) → IsValid s → s.initial ≡ initial_of book → (claim : Claim) → CanClaim s claim → IsClaimed book claim
 claimable s book valid initial (Gone pair) can =
@@ -164,10 +170,10 @@ certificate_accepted s book claim is valid initial active can read =
     let end = proving book us cs acc are lists (Closed mine) proved in
     let listed = flat_map (step_line book steps) steps in
     let claims = claim_line book.variables claim in
-    let rest = subst (λ (t : List ℕ). Reads start t end) (sym (append_assoc listed claims (fixed_text End))) (reads_then start middle end listed (claims ++ fixed_text End) second.reads third) in
-    let whole = reads_then blank start end (declarations book cs x) (proof_lines book steps claim) first.reads rest in
+    let rest = subst (λ (t : List ℕ). Reads certificates start t end) (sym (append_assoc listed claims (fixed_text End))) (reads_then certificates start middle end listed (claims ++ fixed_text End) second.reads third) in
+    let whole = reads_then certificates blank start end (declarations book cs x) (proof_lines book steps claim) first.reads rest in
     record {
       proved = record { claim = mine; book = own book us cs acc are lists };
-      verdict = accepted (certificate_text book s.log claim) mine (own book us cs acc are lists) proved whole;
+      verdict = reads_verdict certificates blank (certificate_text book s.log claim) end (Accepted (record { claim = mine; book = own book us cs acc are lists })) (closed_ends mine (own book us cs acc are lists)) whole;
       same = same_claim book us cs acc are lists claim used;
     }

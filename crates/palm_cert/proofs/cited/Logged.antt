@@ -25,8 +25,8 @@ use Rattle.palm_claim.specs.declared.verdict.Claim.TheVariants.{Gone, Conflict}
 use Rattle.palm_events.proofs.cited.Conflicts.{cids_active}
 use Rattle.palm_cert.specs.Certificate.{claim_var, numbers_of, step_line, step_words}
 use Rattle.palm_cert.specs.Needs.{CanClaim, IsNumbered, IsOfBook}
-use Rattle.palm_cert.proofs.Links.{pair_removal}
-use Rattle.palm_cert.proofs.Numbers.{pair_at}
+use Rattle.palm_cert.proofs.cited.Links.{pair_removal}
+use Rattle.palm_cert.proofs.cited.Numbers.{pair_at}
 
 -- an active constraint of the book is one of its constraints
 pub active_user : (book : Contents) (c : Cid) → IsActive (active_of book) c → IsUser book c

@@ -1,5 +1,5 @@
 -- Each line of a certificate says what was written.
-use Rattle.std.proofs.Common.{◌≡◌, ℕ, ◌≤◌, Bool, true, false, cond, List, [], ◌∷◌, ◌++◌, ℤ, length, codes, filter, All, Any, Contains, inl, inr, refl, sym, ap, ◌∙◌, subst, arith, nat_eq}
+use Rattle.std.proofs.Common.{◌≡◌, ℕ, ◌≤◌, Bool, true, false, cond, List, [], ◌∷◌, ℤ, length, codes, filter, All, Any, Contains, inl, inr, refl, sym, ap, ◌∙◌, subst, arith, nat_eq}
 use Rattle.std.proofs.lemmas.Bool.{false≢true, eq-eqb}
 use Rattle.std.proofs.lemmas.List.{length-map}
 use Rattle.std.proofs.lemmas.List.Elements.{All-contains, All-head, All-tail}
@@ -7,20 +7,21 @@ use Rattle.std.proofs.lemmas.List.Sums.{AllPass-from_list_all}
 use Rattle.palm_base.specs.declared.terms.Pair.{Pair}
 use Rattle.palm_base.specs.declared.terms.Cid.{Cid}
 use Rattle.palm_base.specs.declared.terms.Cid.TheVariants.{User}
-use Rattle.palm_base.proofs.cited.Members.{filter_member, member_cases, member_nil, member_same, member_unmap}
+use Rattle.palm_base.proofs.cited.Members.{filter_member, member_same, member_unmap}
 use Rattle.palm_book.specs.Book.{Contents, BookVar, IsBook, active_of, initial_of, name_of, number_name, user_at, user_name, values_at}
 use Rattle.palm_book.specs.declared.book.BookCon.{BookCon}
 use Rattle.palm_book.proofs.cited.Any.{any_cases, any_member, any_none}
 use Rattle.palm_book.proofs.cited.WellFormed.{named_near}
-use Rattle.palm_claim.specs.Statement.{Says, header}
+use Rattle.palm_claim.specs.Statement.{IsStepNumber, Says, header}
 use Rattle.palm_claim.specs.declared.statement.Statement.TheVariants.{End, Header, Step}
 use Rattle.palm_claim.specs.declared.verdict.Claim.{Claim}
 use Rattle.palm_claim.specs.declared.verdict.Claim.TheVariants.{Gone, Conflict}
 use Rattle.palm_model.specs.Constraint.{IsWellFormed, scope}
 use Rattle.palm_model.specs.Domains.{Domains, Has}
 use Rattle.palm_model.specs.Limits.{IsValue}
-use Rattle.palm_model.specs.Log.{Active, AreRight, Removal, log_pairs}
+use Rattle.palm_model.specs.Log.{Active, Removal, log_pairs}
 use Rattle.palm_model.specs.State.{EngineState, IsValid, present}
+use Rattle.palm_model.specs.declared.constraint.Con.{Con}
 use Rattle.palm_model.proofs.cited.Without.{length_without}
 use Rattle.palm_read.specs.Bytes.{is_plain}
 use Rattle.palm_read.specs.Name.{IsNameText}
@@ -32,12 +33,13 @@ use Rattle.palm_cert.specs.Certificate.{asked, claim_words, claimed, is_asked, n
 use Rattle.palm_cert.specs.Needs.{CanClaim}
 use Rattle.palm_cert.specs.Readable.{AreReadable, claim_statement}
 use Rattle.palm_events.specs.Scoped.{HasScopedReasons}
-use Rattle.palm_cert.proofs.Declared.{are_values, name_text, named_read, variable_says}
-use Rattle.palm_cert.proofs.Lengths.{are_step_numbers, numbers_few, over_few, over_member, pairs_over, within_book}
-use Rattle.palm_cert.proofs.Links.{Apart, linked_apart, pair_logged, pair_removal}
-use Rattle.palm_cert.proofs.Needed.{right_linked, steps_founded}
-use Rattle.palm_cert.proofs.Reached.{values_same}
-use Rattle.palm_cert.proofs.Saying.{conflict_claim_length, conflict_claim_says, step_length, step_says, value_claim_length, value_claim_says}
+use Rattle.palm_cert.proofs.cited.Declared.{are_values, name_text, named_read, variable_says}
+use Rattle.palm_cert.proofs.cited.Lengths.{are_step_numbers, numbers_few, over_few, over_member, pairs_over, within_book}
+use Rattle.palm_cert.proofs.cited.Links.{Apart, linked_apart, pair_logged, pair_removal}
+use Rattle.palm_cert.proofs.cited.Logged.{declared_from}
+use Rattle.palm_cert.proofs.cited.Needed.{right_linked, steps_founded}
+use Rattle.palm_cert.proofs.cited.Reached.{values_same}
+use Rattle.palm_cert.proofs.cited.Saying.{conflict_claim_length, conflict_claim_says, step_length, step_says, value_claim_length, value_claim_says}
 
 -- ---- the first and the last line
 
@@ -68,65 +70,79 @@ number_text (c ∷ cs) n names some =
     name_cond (nat_eq c.number n) n c cs refl (All-head (λ (d : BookCon). IsNameText d.name) c cs names) some
     (number_text cs n (All-tail (λ (d : BookCon). IsNameText d.name) c cs names))
 
--- ---- the pairs of the log are declared
+-- ---- steps over the variables of a book
 
-declared_from : (initial : Domains) (active : List Active) (earlier later : List Removal) → AreRight initial active earlier later → (r : Removal) → Contains later r → Has initial r.pair.var r.pair.value
-declared_from initial active earlier [] right r m = absurd (member_nil r m)
-declared_from initial active earlier (s ∷ later) right r m = elim (member_cases s later r m) [
-  | inl e ↦ subst (λ (z : Removal). Has initial z.pair.var z.pair.value) e right.0.declared
-  | inr k ↦ declared_from initial active (earlier ++ s ∷ []) later right.1 r k
-]
+-- a pair of a value that its variable has in the book
+pub pair_name : (book : Contents) → IsBook book → (p : Pair) → Contains (values_at book.variables p.var) p.value → IsNameText (name_of book.variables p.var)
+pair_name book is p has = name_text book.variables p.var is.variable_names (within_book book.variables p.var p.value has)
+
+pub pair_value : (book : Contents) → IsBook book → (p : Pair) → Contains (values_at book.variables p.var) p.value → IsValue p.value
+pair_value book is p has =
+    let are = are_values book.variables p.var is.values (within_book book.variables p.var p.value has) in
+    All-contains IsValue (values_at book.variables p.var) p.value are.each has
+
+-- steps that prove no pair twice, and of such pairs alone
+module _ (book : Contents) (is : IsBook book) (steps : List Removal) (apart : Apart (log_pairs steps)) (declared : (p : Pair) → Contains (log_pairs steps) p → Contains (values_at book.variables p.var) p.value) where
+  -- the numbers of reasons are step numbers
+  pub reasons_numbered : (reasons : List Pair) → All IsStepNumber (numbers_of steps reasons)
+  reasons_numbered reasons = are_step_numbers book.variables steps reasons is.few_variables is.values apart declared
+
+  -- and few, where the reasons stand in the scope of a well-formed constraint
+  pub reasons_few : (reasons : List Pair) (c : Con) → IsWellFormed (length book.variables) c → ((p : Pair) → Contains reasons p → Contains (scope c) p.var) → length (numbers_of steps reasons) ≤ 4096
+  reasons_few reasons c formed over =
+      let short = numbers_few steps reasons (pairs_over book.variables (scope c)) apart (λ p m reason. over_member book.variables (scope c) p (over p reason) (declared p m)) in
+      omega (arith, short, formed.few, over_few book.variables (scope c) is.values)
+
+  -- so the line of a step by such a constraint is no longer than a line may be
+  pub step_short : (r : Removal) (by : List ℕ) (c : Con) → Contains (log_pairs steps) r.pair → IsNameText by → IsWellFormed (length book.variables) c → ((p : Pair) → Contains r.reasons p → Contains (scope c) p.var)
+      → length (spaced (step_words book.variables r.pair by (numbers_of steps r.reasons))) ≤ 65536
+  step_short r by c m text formed over =
+      let has = declared r.pair m in
+      omega (arith, step_length book.variables r.pair by (numbers_of steps r.reasons) (pair_name book is r.pair has) text (pair_value book is r.pair has) (reasons_numbered r.reasons), reasons_few r.reasons c formed over)
+
+-- ---- the steps of a log
+
+-- what an engine with the book's variables removed was declared
+pub pair_declared : (s : EngineState) (book : Contents) → IsValid s → s.initial ≡ initial_of book → (p : Pair) → Contains (log_pairs s.log) p → Contains (values_at book.variables p.var) p.value
+pair_declared s book valid initial p m =
+    let r = pair_removal s.log p m in
+    let has : Has s.initial p.var p.value = subst (λ (q : Pair). Has s.initial q.var q.value) r.2 (declared_from s.initial s.active [] s.log valid.founded r.0 r.1) in
+    let same : Has (initial_of book) p.var p.value = subst (λ (d : Domains). Has d p.var p.value) initial has in
+    subst (λ (vs : List ℤ). Contains vs p.value) (values_same book.variables p.var) same
+
+module _ (s : EngineState) (valid : IsValid s) (pairs : List Pair) where
+  pub step_logged : (r : Removal) → Contains (steps_of s.log pairs) r → Contains s.log r
+  step_logged r m = (filter_member (λ (q : Removal). is_asked (asked s.log pairs) q.pair) s.log r m).0
+
+  pub steps_apart : Apart (log_pairs (steps_of s.log pairs))
+  steps_apart =
+      let founded = steps_founded s.initial s.active s.log pairs valid.founded in
+      linked_apart (steps_of s.log pairs) (right_linked s.initial s.active [] (steps_of s.log pairs) founded)
+
+  pub steps_declared : (book : Contents) → s.initial ≡ initial_of book → (p : Pair) → Contains (log_pairs (steps_of s.log pairs)) p → Contains (values_at book.variables p.var) p.value
+  steps_declared book initial p m =
+      let r = pair_removal (steps_of s.log pairs) p m in
+      pair_declared s book valid initial p (member_same (log_pairs s.log) r.0.pair p r.2 (pair_logged s.log r.0 (step_logged r.0 r.1)))
+
+-- ---- the certificate of an engine with the book's constraints
 
 module _ (s : EngineState) (book : Contents) (is : IsBook book) (valid : IsValid s) (initial : s.initial ≡ initial_of book) (active : s.active ≡ active_of book) where
-  pair_declared : (p : Pair) → Contains (log_pairs s.log) p → Contains (values_at book.variables p.var) p.value
-  pair_declared p m =
-      let r = pair_removal s.log p m in
-      let has : Has s.initial p.var p.value = subst (λ (q : Pair). Has s.initial q.var q.value) r.2 (declared_from s.initial s.active [] s.log valid.founded r.0 r.1) in
-      let same : Has (initial_of book) p.var p.value = subst (λ (d : Domains). Has d p.var p.value) initial has in
-      subst (λ (vs : List ℤ). Contains vs p.value) (values_same book.variables p.var) same
-
-  pair_name : (p : Pair) → Contains (log_pairs s.log) p → IsNameText (name_of book.variables p.var)
-  pair_name p m = name_text book.variables p.var is.variable_names (within_book book.variables p.var p.value (pair_declared p m))
-
-  pair_value : (p : Pair) → Contains (log_pairs s.log) p → IsValue p.value
-  pair_value p m =
-      let has = pair_declared p m in
-      let are = are_values book.variables p.var is.values (within_book book.variables p.var p.value has) in
-      All-contains IsValue (values_at book.variables p.var) p.value are.each has
-
   -- an active constraint is one of the book
   owner_of : (a : Active) → Contains s.active a → (c : BookCon) × Contains book.constraints c × (user_at c ≡ a)
   owner_of a m =
       let r = member_unmap user_at (filter (λ (c : BookCon). c.active) book.constraints) a (subst (λ (list : List Active). Contains list a) active m) in
       (r.0, (filter_member (λ (c : BookCon). c.active) book.constraints r.0 r.1).0, r.2)
 
+  constraint_formed : (c : BookCon) → Contains book.constraints c → IsWellFormed (length book.variables) c.con
+  constraint_formed c m = All-contains (λ (d : BookCon). IsWellFormed (length book.variables) d.con) book.constraints c is.formed m
+
+  constraint_text : (c : BookCon) → Contains book.constraints c → IsNameText c.name
+  constraint_text c m = All-contains (λ (d : BookCon). IsNameText d.name) book.constraints c is.constraint_names m
+
   module _ (scoped : HasScopedReasons s) (pairs : List Pair) where
-    step_logged : (r : Removal) → Contains (steps_of s.log pairs) r → Contains s.log r
-    step_logged r m = (filter_member (λ (q : Removal). is_asked (asked s.log pairs) q.pair) s.log r m).0
-
-    steps_apart : Apart (log_pairs (steps_of s.log pairs))
-    steps_apart =
-        let founded = steps_founded s.initial s.active s.log pairs valid.founded in
-        linked_apart (steps_of s.log pairs) (right_linked s.initial s.active [] (steps_of s.log pairs) founded)
-
-    pair_of_log : (p : Pair) → Contains (log_pairs (steps_of s.log pairs)) p → Contains (log_pairs s.log) p
-    pair_of_log p m =
-        let r = pair_removal (steps_of s.log pairs) p m in
-        member_same (log_pairs s.log) r.0.pair p r.2 (pair_logged s.log r.0 (step_logged r.0 r.1))
-
-    few_reasons : (r : Removal) → Contains (steps_of s.log pairs) r → length (numbers_of (steps_of s.log pairs) r.reasons) ≤ 4096
-    few_reasons r m =
-        let own = scoped r (step_logged r m) in
-        let c = owner_of own.owner own.posted in
-        let formed = All-contains (λ (d : BookCon). IsWellFormed (length book.variables) d.con) book.constraints c.0 is.formed c.1 in
-        let few : length (scope own.owner.con) ≤ 16 = subst (λ (a : Active). length (scope a.con) ≤ 16) c.2 formed.few in
-        let short = numbers_few (steps_of s.log pairs) r.reasons (pairs_over book.variables (scope own.owner.con)) steps_apart
-        (λ p k reason. over_member book.variables (scope own.owner.con) p (own.others p reason).0 (pair_declared p (pair_of_log p k))) in
-        omega (arith, short, few, over_few book.variables (scope own.owner.con) is.values)
-
     by_name : (r : Removal) → Contains (steps_of s.log pairs) r → IsNameText (user_name book.constraints r.by)
     by_name r m =
-        let own = scoped r (step_logged r m) in
+        let own = scoped r (step_logged s valid pairs r m) in
         let c = owner_of own.owner own.posted in
         let by : User c.0.number ≡ r.by = ap (λ (a : Active). a.cid) c.2 ∙ own.named in
         subst (λ (cid : Cid). IsNameText (user_name book.constraints cid)) by
@@ -135,31 +151,29 @@ module _ (s : EngineState) (book : Contents) (is : IsBook book) (valid : IsValid
     step_readable : (r : Removal) → Contains (steps_of s.log pairs) r → Says (spaced (step_words book.variables r.pair (user_name book.constraints r.by) (numbers_of (steps_of s.log pairs) r.reasons)))
         (Step (name_of book.variables r.pair.var) r.pair.value (user_name book.constraints r.by) (numbers_of (steps_of s.log pairs) r.reasons))
     step_readable r m =
-        let numbers = numbers_of (steps_of s.log pairs) r.reasons in
+        let steps = steps_of s.log pairs in
         let by = user_name book.constraints r.by in
-        let pair = pair_logged s.log r (step_logged r m) in
-        let named = pair_name r.pair pair in
-        let value = pair_value r.pair pair in
-        let small = are_step_numbers book.variables (steps_of s.log pairs) r.reasons is.few_variables is.values steps_apart (λ p k. pair_declared p (pair_of_log p k)) in
-        let short : length (spaced (step_words book.variables r.pair by numbers)) ≤ 65536 = omega (arith, step_length book.variables r.pair by numbers named (by_name r m) value small, few_reasons r m) in
-        step_says book.variables r.pair by numbers named (by_name r m) value small short
+        let apart = steps_apart s valid pairs in
+        let declared = steps_declared s valid pairs book initial in
+        let pair = pair_logged steps r m in
+        let has = declared r.pair pair in
+        let own = scoped r (step_logged s valid pairs r m) in
+        let c = owner_of own.owner own.posted in
+        let formed : IsWellFormed (length book.variables) own.owner.con = subst (λ (a : Active). IsWellFormed (length book.variables) a.con) c.2 (constraint_formed c.0 c.1) in
+        let short = step_short book is steps apart declared r by own.owner.con pair (by_name r m) formed (λ p k. (own.others p k).0) in
+        step_says book.variables r.pair by (numbers_of steps r.reasons) (pair_name book is r.pair has) (by_name r m) (pair_value book is r.pair has) (reasons_numbered book is steps apart declared r.reasons) short
 
   claim_readable : (claim : Claim) → CanClaim s claim → Says (spaced (claim_words book.variables claim)) (claim_statement book.variables claim)
   claim_readable (Gone pair) can =
-      let named = pair_name pair can in
-      let value = pair_value pair can in
+      let has = pair_declared s book valid initial pair can in
+      let named = pair_name book is pair has in
+      let value = pair_value book is pair has in
       value_claim_says book.variables pair named value (omega (arith, value_claim_length book.variables pair named value))
   claim_readable (Conflict x) can =
       let exists = can.exists in
       let many : length (present s) ≡ length book.variables = length_without s.initial (log_pairs s.log) ∙ ap length initial ∙ length-map book.variables (λ (e : BookVar). e.values) in
       let named = name_text book.variables x is.variable_names (omega (arith, exists, many)) in
       conflict_claim_says book.variables x named (omega (arith, conflict_claim_length book.variables x named))
-
-  constraint_formed : (c : BookCon) → Contains book.constraints c → IsWellFormed (length book.variables) c.con
-  constraint_formed c m = All-contains (λ (d : BookCon). IsWellFormed (length book.variables) d.con) book.constraints c is.formed m
-
-  constraint_text : (c : BookCon) → Contains book.constraints c → IsNameText c.name
-  constraint_text c m = All-contains (λ (d : BookCon). IsNameText d.name) book.constraints c is.constraint_names m
 
   lines_readable : (claim : Claim) → CanClaim s claim → HasScopedReasons s → AreReadable book (steps_of s.log (claimed book claim)) claim
   lines_readable claim can scoped = record {

@@ -123,6 +123,7 @@ pub(crate) fn put_line(line: &Line, out: &mut Vec<u8>) -> Result<(), NoMemory>
         Line::Step(number) => put_numbered("step", *number, out),
         Line::SolveDbt { budget } => put_solve_dbt(*budget, out),
         Line::SolveRepair { tabu, budget } => put_solve_repair(*tabu, *budget, out),
+        Line::Prove { budget } => put_numbered("prove budget", *budget, out),
         Line::Cert { name, value } => put_query("cert", name, value, out),
         Line::CertConflict => put_text("cert conflict", out),
         Line::Guide(number) => put_numbered("guide", u64::from(*number), out),

@@ -3,7 +3,7 @@ use Rattle.std.specs.Prelude.{ℕ, ℤ, ◌&&◌, Option, Some, None, List, code
 use Rattle.std.specs.Str.{bytes_eq}
 use Rattle.palm_read.specs.declared.tokens.TokenKind.TheVariants.{Digits}
 use Rattle.palm_read.specs.Domain.{DomainForm}
-use Rattle.palm_read.specs.Form.{Form, HeaderForm, DeclareForm, DeclareInForm, AddForm, RelaxForm, EnforceForm, RetractForm, DomainsForm, DomainOfForm, ListForm, LogForm, WhyForm, ConflictForm, MinimalConflictForm, MinimalForm, PauseForm, ResumeForm, StepForm, SolveDbtForm, SolveRepairForm, CertForm, CertConflictForm, GuideForm, GuideNoneForm, OrderForm, OrderNoneForm, DropGuideForm, DropOrderForm, QuitForm}
+use Rattle.palm_read.specs.Form.{Form, HeaderForm, DeclareForm, DeclareInForm, AddForm, RelaxForm, EnforceForm, RetractForm, DomainsForm, DomainOfForm, ListForm, LogForm, WhyForm, ConflictForm, MinimalConflictForm, MinimalForm, PauseForm, ResumeForm, StepForm, SolveDbtForm, SolveRepairForm, ProveForm, CertForm, CertConflictForm, GuideForm, GuideNoneForm, OrderForm, OrderNoneForm, DropGuideForm, DropOrderForm, QuitForm}
 use Rattle.palm_read.specs.Token.{Lexeme}
 use Rattle.palm_read.specs.Reader.Steps.{Reading, ◌>>=◌, when, choose, is_empty, behind, keyword_at, mark_at, name_at, integer_at}
 use Rattle.palm_read.specs.Reader.Shapes.{domain_at, shape_at}
@@ -96,6 +96,13 @@ solve_at tokens =
     (when (keyword_at (codes "repair") tokens) repair_at
     None)
 
+-- the budget of a search for a proof
+unfoldable pub prove_at : List Lexeme → Reading Form
+prove_at tokens = do
+  rest ← keyword_at (codes "budget") tokens
+  budget ← integer_at rest
+  Some (ProveForm budget.0, budget.1)
+
 -- the forms of one word
 unfoldable pub bare_at : List Lexeme → Reading Form
 bare_at tokens =
@@ -120,12 +127,13 @@ line_at tokens =
     (when (keyword_at (codes "minimal") tokens) (query_at MinimalConflictForm MinimalForm)
     (when (keyword_at (codes "step") tokens) (numbered_at StepForm)
     (when (keyword_at (codes "solve") tokens) solve_at
+    (when (keyword_at (codes "prove") tokens) prove_at
     (when (keyword_at (codes "cert") tokens) (query_at CertConflictForm CertForm)
     (when (keyword_at (codes "guide") tokens) (choice_at GuideNoneForm GuideForm)
     (when (keyword_at (codes "order") tokens) (choice_at OrderNoneForm OrderForm)
     (when (keyword_at (codes "drop") tokens) drop_at
     (when (keyword_at (codes "palm") tokens) header_at
-    (bare_at tokens)))))))))))))))
+    (bare_at tokens))))))))))))))))
 
 -- the form of all tokens of a line
 unfoldable pub form_at : List Lexeme → Option Form

@@ -135,7 +135,7 @@ settles_same s t u valid one two =
     let lists : t.decisions ≡ u.decisions = one.decisions ∙ sym two.decisions in
     λ i. record { engine = same.state i; decisions = lists i }
 
-follows_same : (s : SearchState) → IsSearching s → (turn : Turn) (t : SearchState) (other : Turn) (u : SearchState) → Follows false false s turn t → Follows false false s other u → IsSameTurn turn t other u
+pub follows_same : (s : SearchState) → IsSearching s → (turn : Turn) (t : SearchState) (other : Turn) (u : SearchState) → Follows false false s turn t → Follows false false s other u → IsSameTurn turn t other u
 follows_same s searching turn t other u one two =
     let same = takes_same s turn one.middle other two.middle one.takes two.takes in
     let valid = (takes_keep false s other two.middle two.takes searching).valid in

@@ -106,7 +106,7 @@ others_taken earlier later gone p m = elim (Contains-append_cases earlier later 
   | inr k ↦ Contains-append_right earlier (gone ∷ later) p (member_there gone later p k)
 ]
 
-taken_others : (earlier later : List Pair) (gone p : Pair) → (gone ≡ p → ⊥) → Contains (earlier ++ gone ∷ later) p → Contains (earlier ++ later) p
+pub taken_others : (earlier later : List Pair) (gone p : Pair) → (gone ≡ p → ⊥) → Contains (earlier ++ gone ∷ later) p → Contains (earlier ++ later) p
 taken_others earlier later gone p ne m = elim (Contains-append_cases earlier (gone ∷ later) p m) [
   | inl k ↦ Contains-append_left earlier later p k
   | inr k ↦ elim (member_cases gone later p k) [

@@ -500,14 +500,14 @@ stands guided pick s fits searching none still = elim (turn_or_end s.engine sear
 -- ---- runs
 
 -- turns from a state to an end
-record TurnsTo (guided ordered : Bool) (f : ℕ → Pick) (budget n : ℕ) (s : SearchState) : Type 0 where
-  turns : List Turn
-  end : SearchEnd
-  state : SearchState
-  run : Turns guided ordered s turns state
-  within : n + length turns ≤ budget
-  ends : EndsWith budget (n + length turns) state.engine end
-  picked : IsPicked f turns
+pub record TurnsTo (guided ordered : Bool) (f : ℕ → Pick) (budget n : ℕ) (s : SearchState) : Type 0 where
+  pub turns : List Turn
+  pub end : SearchEnd
+  pub state : SearchState
+  pub run : Turns guided ordered s turns state
+  pub within : n + length turns ≤ budget
+  pub ends : EndsWith budget (n + length turns) state.engine end
+  pub picked : IsPicked f turns
 
 at_end : (guided ordered : Bool) (f : ℕ → Pick) (budget n : ℕ) (s : SearchState) (end : SearchEnd) → n ≤ budget → EndsWith budget n s.engine end → TurnsTo guided ordered f budget n s
 at_end guided ordered f budget n s end le ends = record {
@@ -540,7 +540,7 @@ one_more guided ordered f budget n s turn m picked rest follows =
     next : (n m : ℕ) → (n + 1) + m ≡ n + suc m
     next n m = omega arith
 
-turns_exist : ReasonsAreRight → (guided ordered : Bool) (left budget n : ℕ) (f : ℕ → Pick) (s : SearchState) → ((k : ℕ) → FitsGuide guided (f k)) → n + left ≡ budget
+pub turns_exist : ReasonsAreRight → (guided ordered : Bool) (left budget n : ℕ) (f : ℕ → Pick) (s : SearchState) → ((k : ℕ) → FitsGuide guided (f k)) → n + left ≡ budget
     → IsSearching s → HasNoneNegated s → IsStill s.engine → TurnsTo guided ordered f budget n s
 turns_exist right guided ordered zero budget n f s fits e searching none still = elim (stands guided (f 0) s (fits 0) searching none still) [
   | has_ended end ends ↦ at_end guided ordered f budget n s end (omega arith) (ends budget n)

@@ -35,7 +35,7 @@ turns_push : (guided ordered : Bool) (a : SearchState) (turns : List Turn) (b : 
 turns_push guided ordered a [] b turn c run follows = (c, subst (λ z. Follows guided ordered z turn c) run follows, refl)
 turns_push guided ordered a (first ∷ turns) b turn c run follows = (run.0, run.1, turns_push guided ordered run.0 turns b turn c run.2 follows)
 
-unnegated_takes : (guided : Bool) (s : SearchState) (turn : Turn) (t : SearchState) → Takes guided s turn t → IsBetween s → HasNoneNegated t
+pub unnegated_takes : (guided : Bool) (s : SearchState) (turn : Turn) (t : SearchState) → Takes guided s turn t → IsBetween s → HasNoneNegated t
 unnegated_takes guided s (TurnDecide pair pick) t takes between = decides_unnegated guided s pair pick t takes between.searching.valid quiet between.unnegated
   where
     quiet : s.engine.pending ≡ []
@@ -48,7 +48,7 @@ settled_after : (ordered : Bool) (answer : Settle) (before after : View) (decisi
     → SettlesAfter ordered (record { engine = before.state; decisions = decisions }) (record { engine = after.state; decisions = decisions })
 settled_after ordered answer before after decisions settled = record { revisions = settled.revisions; fits = settled.fits; settles = settled.settles; decisions = refl }
 
-settled_same : (ordered : Bool) (m t : SearchState) → SettlesAfter ordered m t → HasNoneNegated m → HasNoneNegated t
+pub settled_same : (ordered : Bool) (m t : SearchState) → SettlesAfter ordered m t → HasNoneNegated m → HasNoneNegated t
 settled_same ordered m t settles none p k is =
     let filters = settling_filters None m.engine settles.revisions t.engine settles.settles in
     none p (subst (λ l. Contains l p) settles.decisions k) (subst (λ l. IsActive l (Not p)) filters.active is)

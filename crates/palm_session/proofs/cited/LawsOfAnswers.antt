@@ -50,7 +50,7 @@ use Rattle.palm_session.specs.declared.request.Question.TheVariants.{Domains as 
 use Rattle.palm_session.specs.declared.request.Request.{Request}
 use Rattle.palm_session.specs.declared.request.Request.TheVariants.{Nothing as NothingAsked, Header as HeaderAsked, Declare as DeclareAsked, DeclareIn as DeclareInAsked, Add as AddAsked, Relax as RelaxAsked, Enforce as EnforceAsked, Retract as RetractAsked, Ask, Pause as PauseAsked, Resume as ResumeAsked, Step as StepAsked, Solve, ChooseGuide, DropGuide as DropGuideAsked, ChooseOrder, DropOrder as DropOrderAsked, Quit as QuitAsked}
 use Rattle.palm_session.specs.Requests.{Admits, IsAdmitted, Requests}
-use Rattle.palm_session.specs.Answers.{CanWait, IsPausable, AsksOfDomains, IsContradictable, IsAnswer, domains_text, list_text, log_text, users_text, SaysWhy, HasConflict, SaysConflict, SaysMinimal, SaysMinimalConflict, SaysCert, SaysCertConflict, end_text, Says, WaitsFor, Contradicts, Accepts, waits, contradicts, says, Answers, misread, refused, accepted}
+use Rattle.palm_session.specs.Answers.{CanWait, IsPausable, AsksOfDomains, IsContradictable, IsAnswer, domains_text, list_text, log_text, users_text, SaysWhy, HasConflict, SaysConflict, SaysMinimal, SaysMinimalConflict, SaysCert, SaysCertConflict, told_text, Says, WaitsFor, Contradicts, Accepts, waits, contradicts, says, Answers, misread, refused, accepted}
 use Rattle.palm_read.specs.Lines.{without_return}
 use Rattle.palm_session.specs.Replies.{ChoosesObject, chooses_guide, chooses_order}
 use Rattle.palm_session.specs.declared.limits.TheConstants.{MOST_KEPT_BYTES}
@@ -200,7 +200,7 @@ step_says m count (Searched k j) t f = absurd f
 search_says : (m : SessionState) (by : Procedure) (effect : Effect) (t : SessionState) → Follows m (Searches by) effect t → (reply : List ℕ) × Says t (Solve by) effect reply
 search_says m by Nothing t f = absurd f
 search_says m by (Settled k) t f = absurd f
-search_says m by (Searched end dropped) t f = (end_text t.book end dropped, refl)
+search_says m by (Searched end telling) t f = (told_text t.book end telling, refl)
 
 -- a question leaves the state
 pub query_same : (s m t : SessionState) (effect : Effect) → m ≡ s → Follows m Rests effect t → t ≡ s
@@ -480,7 +480,7 @@ step_same t count (Searched k j) a b x y = absurd x
 search_same : (t : SessionState) (by : Procedure) (effect : Effect) (a b : List ℕ) → Says t (Solve by) effect a → Says t (Solve by) effect b → a ≡ b
 search_same t by Nothing a b x y = absurd x
 search_same t by (Settled k) a b x y = absurd x
-search_same t by (Searched end dropped) a b x y = x ∙ sym y
+search_same t by (Searched end telling) a b x y = x ∙ sym y
 
 answer_same : (t : SessionState) (question : Question) (a b : List ℕ) → IsAnswer t question a → IsAnswer t question b → a ≡ b
 answer_same t DomainsAsked a b x y =

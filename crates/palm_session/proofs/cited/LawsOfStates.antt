@@ -76,16 +76,16 @@ pub follows_keeps : (m : SessionState) (n : Next) (effect : Effect) (t : Session
     → ((l : ℕ) → n ≡ Filters (Some l) → m.paused ≡ true) → Follows m n effect t → IsState t
 follows_keeps m Rests Nothing t is still limited f = subst IsState (sym f) (record { held = is; still = still refl })
 follows_keeps m Rests (Settled count) t is still limited f = absurd f
-follows_keeps m Rests (Searched end dropped) t is still limited f = absurd f
+follows_keeps m Rests (Searched end telling) t is still limited f = absurd f
 follows_keeps m (Filters limit) Nothing t is still limited f = absurd f
 follows_keeps m (Filters limit) (Settled count) t is still limited f = subst IsState (sym f.2) (record {
   held = settled_held m limit count f.0 is f.1;
   still = λ awake. settled_still m limit count f.0 f.1 (λ l e. limited l (ap Filters e)) awake;
 })
-follows_keeps m (Filters limit) (Searched end dropped) t is still limited f = absurd f
+follows_keeps m (Filters limit) (Searched end telling) t is still limited f = absurd f
 follows_keeps m (Searches by) Nothing t is still limited f = absurd f
 follows_keeps m (Searches by) (Settled count) t is still limited f = absurd f
-follows_keeps m (Searches by) (Searched end dropped) t is still limited f = subst IsState (sym f.3) (searched_state m by f.0 end dropped f.1 is f.2)
+follows_keeps m (Searches by) (Searched end telling) t is still limited f = subst IsState (sym f.3) (searched_state m by f.0 end telling f.1 is f.2)
 
 pub does_keeps : (s : SessionState) (request : Request) (effect : Effect) (t : SessionState) → IsState s → Admits s request → Does s request effect t → IsState t
 does_keeps s request effect t is can d =
@@ -107,7 +107,7 @@ follows_exist m (Filters limit) is some =
     (Settled (length p.revisions), with_engine m p.state, (p.state, settles, refl))
 follows_exist m (Searches by) is some =
     let p = search_in m is by (some by refl) in
-    (Searched p.end p.dropped, with_search m p.turns p.engine, (p.turns, p.engine, p.searches, refl))
+    (Searched p.end p.telling, with_search m p.turns p.engine, (p.turns, p.engine, p.searches, refl))
 
 -- a search that is admitted has a tabu length above 0
 tabu_of : (s m : SessionState) (request : Request) → Admits s request → (by : Procedure) → next m request ≡ Searches by → HasTabu by
@@ -155,7 +155,7 @@ follows_once m (Searches by) (Searched k j) Nothing t u plain is x y = absurd y
 follows_once m (Searches by) (Searched k j) (Settled l) t u plain is x y = absurd y
 follows_once m (Searches by) (Searched k j) (Searched l i) t u plain is x y =
     let same = search_once m by x.0 y.0 k l j i x.1 y.1 is plain.0 plain.1 x.2 y.2 in (
-      ap (λ (z : SearchEnd). Searched z j) same.end_same ∙ ap (Searched l) same.dropped_same,
+      ap (λ (z : SearchEnd). Searched z j) same.end_same ∙ ap (Searched l) same.telling_same,
       x.3 ∙ ap (λ (z : List Turn). with_search m z x.1) same.turns_same ∙ ap (λ (z : EngineState). with_search m y.0 z) same.engine_same ∙ sym y.3,
     )
 

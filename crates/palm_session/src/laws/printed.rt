@@ -1,6 +1,6 @@
 //! Laws of what a session prints: its engine's domains are the greatest closed ones, its explanations explain, its
 //! conflicts have no solution, and its certificates are accepted.
-ghost use Rattle.std.specs.Prelude.{◌≡◌, ◌↔◌, ℕ, ℤ, false, List};
+ghost use Rattle.std.specs.Prelude.{◌≡◌, ◌↔◌, ◌≤◌, ℕ, ℤ, false, List};
 ghost use Rattle.palm_events.specs.Scoped.{HasScopedReasons};
 ghost use Rattle.palm_model.specs.Domains.{Domains};
 ghost use Rattle.palm_model.specs.State.{HasEmpty, IsEmptyAt, present};
@@ -9,12 +9,13 @@ ghost use Rattle.palm_read.specs.declared.line.Shape.{Shape};
 ghost use Rattle.palm_session.specs.State.{SessionState, IsState, fresh, AreDomains, IsContradiction};
 ghost use Rattle.palm_session.specs.Requests.{IsAdmitted, Requests};
 ghost use Rattle.palm_session.specs.declared.request.Procedure.{Procedure};
+ghost use Rattle.palm_session.specs.declared.request.Procedure.TheVariants.{Proof};
 ghost use Rattle.palm_session.specs.declared.request.Question.TheVariants.{Domains as DomainsAsked, Conflict, MinimalConflict, CertConflict};
 ghost use Rattle.palm_session.specs.declared.request.Request.{Request};
 ghost use Rattle.palm_session.specs.declared.request.Request.TheVariants.{Ask, Solve};
 ghost use Rattle.palm_session.specs.Answers.{Accepts};
 ghost use Rattle.palm_session.specs.Replies.{Run};
-ghost use Rattle.palm_session.specs.Told.{KeepsAllButJournal, ToldCert, ToldCertConflict, ToldWhy, ToldConflict, ToldMinimal, ToldMinimalConflict, ToldSearch};
+ghost use Rattle.palm_session.specs.Told.{KeepsAllButJournal, ToldCert, ToldCertConflict, ToldWhy, ToldConflict, ToldMinimal, ToldMinimalConflict, ToldAccepted, ToldBy};
 
 /// While filtering does not wait and nothing contradicts, the engine's present domains are the greatest closed domains of
 /// the active constraints.
@@ -62,15 +63,22 @@ pub fn printed_certificates_are_accepted()
         → IsState s → HasScopedReasons s.engine → Accepts s (Ask CertConflict) reply t → ToldCertConflict s reply }
 {}
 
-/// The values that `solve` tells satisfy all active constraints, and the constraints that it names are active and have no
+/// The values that `solve` and `prove` tell satisfy all active constraints, and the constraints that it names are active and have no
 /// common solution. A budget that it tells as spent is below the bound of the search, or nogoods were dropped, and it tells
 /// how many.
 pub fn searches_tell_the_truth()
     ensures { (s t : SessionState) (by : Procedure) (reply : List ℕ)
-        → IsState s → Accepts s (Solve by) reply t → ToldSearch s.book by reply }
+        → IsState s → Accepts s (Solve by) reply t → ToldBy s.book by reply }
 {}
 
-/// After `solve` the book, the constraints of the engine and its log are those from before.
+/// A proof that `prove` tells is accepted by the checker's definition where its last line names constraints without a
+/// solution, and what is accepted is that just these have none.
+pub fn printed_proofs_are_accepted()
+    ensures { (s t : SessionState) (budget : ℕ) (reply : List ℕ)
+        → IsState s → HasScopedReasons s.engine → budget ≤ 18446744073709551615 → Accepts s (Solve (Proof budget)) reply t → ToldAccepted s.book reply }
+{}
+
+/// After `solve` and `prove` the book, the constraints of the engine and its log are those from before.
 pub fn searches_leave_all_but_the_journal()
     ensures { (s t : SessionState) (by : Procedure) (reply : List ℕ)
         → IsState s → Accepts s (Solve by) reply t → KeepsAllButJournal s t }

@@ -3,11 +3,11 @@ use Rattle.std.proofs.lemmas.Result.{err_from_is_err_and}
 use Rattle.palm_lang.specs.Reply.{fixed_text}
 use Rattle.palm_lang.specs.declared.reply.Fixed.TheVariants.{End}
 use Rattle.palm_model.specs.Log.{Removal}
-use Rattle.palm_cert.specs.Certificate.{certificate_text, claim_line, declarations, step_line}
+use Rattle.palm_cert.specs.Certificate.{certificate_text, claim_line, claimed, declarations, step_line}
 use Rattle.palm_cert.specs.Needs.{IsOfBook, marked}
 use Rattle.palm_cert.proofs.cited.Accepted.{certificate_accepted}
 use Rattle.palm_cert.proofs.cited.Logged.{claim_declared, log_of_book}
-use Rattle.palm_cert.proofs.Made.{at_ok, in_turn, steps_made, text_made}
+use Rattle.palm_cert.proofs.cited.Made.{at_ok, in_turn, steps_made, text_made}
 use Rattle.palm_cert.proofs.cited.Readable.{readable}
 use Rattle.palm_lang.proofs.cited.Writes.{writes_front, writes_text, writes_then, writes_within}
 use Rattle.palm_cert.proofs.certificate.write_cert.Goals as goal
@@ -23,7 +23,7 @@ needs_of-requires-clause-variable g c =
 
 pub write_steps-requires-clause-steps : goal.write_steps-requires-clause-steps
 write_steps-requires-clause-steps g c =
-    steps_made c.args.book.now c.log-log.result.now.log c.args.claim c.in_ok-needs.needs c.in_ok-needs.ensures c.removals.ensures.linked
+    steps_made c.log-log.result.now.log (claimed c.args.book.now c.args.claim) c.in_ok-needs.needs.marks c.in_ok-needs.ensures.marks c.removals.ensures.linked
 
 pub write_steps-requires-clause-logged : goal.write_steps-requires-clause-logged
 write_steps-requires-clause-logged g c =
@@ -39,7 +39,7 @@ returns-in_err-write_declarations-clause-text g c =
     let book = c.args.book.now in
     let log = c.log-log.result.now.log in
     let needs = c.in_ok-needs.needs in
-    let steps = marked needs.steps.items log in
+    let steps = marked needs.marks.steps.items log in
     let p = err_from_is_err_and c.from_residual-in_err-write_declarations.result c.from_residual-in_err-write_declarations.ensures.1 in
     let first = declarations book (marked c.deref.result.now book.constraints) c.claimed_var.result in
     let second = flat_map (step_line book steps) steps in
@@ -53,7 +53,7 @@ returns-in_err-write_steps-clause-text g c =
     let book = c.args.book.now in
     let log = c.log-log.result.now.log in
     let needs = c.in_ok-needs.needs in
-    let steps = marked needs.steps.items log in
+    let steps = marked needs.marks.steps.items log in
     let p = err_from_is_err_and c.from_residual-in_err-write_steps.result c.from_residual-in_err-write_steps.ensures.1 in
     let first = declarations book (marked c.deref.result.now book.constraints) c.claimed_var.result in
     let second = flat_map (step_line book steps) steps in
@@ -68,7 +68,7 @@ returns-in_err-write_claim-clause-text g c =
     let book = c.args.book.now in
     let log = c.log-log.result.now.log in
     let needs = c.in_ok-needs.needs in
-    let steps = marked needs.steps.items log in
+    let steps = marked needs.marks.steps.items log in
     let p = err_from_is_err_and c.from_residual-in_err-write_claim.result c.from_residual-in_err-write_claim.ensures.1 in
     let first = declarations book (marked c.deref.result.now book.constraints) c.claimed_var.result in
     let second = flat_map (step_line book steps) steps in
@@ -85,7 +85,7 @@ returns-clause-text g c =
     let book = c.args.book.now in
     let log = c.log-log.result.now.log in
     let needs = c.in_ok-needs.needs in
-    let steps = marked needs.steps.items log in
+    let steps = marked needs.marks.steps.items log in
     let first = declarations book (marked c.deref.result.now book.constraints) c.claimed_var.result in
     let second = flat_map (step_line book steps) steps in
     let third = claim_line book.variables c.args.claim in

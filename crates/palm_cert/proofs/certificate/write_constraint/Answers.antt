@@ -1,6 +1,6 @@
 use Rattle.std.proofs.Common.{◌<◌, length, true, false, arith}
 use Rattle.palm_cert.specs.Certificate.{added_line}
-use Rattle.palm_cert.proofs.Marked.{mark_read, text_gone, text_one}
+use Rattle.palm_cert.proofs.cited.Marked.{mark_read, text_gone, text_one}
 use Rattle.palm_lang.proofs.cited.Writes.{writes_none, writes_text}
 use Rattle.palm_cert.proofs.certificate.write_constraint.Goals as goal
 

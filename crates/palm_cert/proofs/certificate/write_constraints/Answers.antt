@@ -1,7 +1,7 @@
 use Rattle.std.proofs.Common.{arith}
 use Rattle.std.proofs.lemmas.Result.{err_from_is_err_and}
 use Rattle.palm_cert.specs.Certificate.{added_line}
-use Rattle.palm_cert.proofs.Marked.{text_all, text_split, text_step}
+use Rattle.palm_cert.proofs.cited.Marked.{text_all, text_split, text_step}
 use Rattle.palm_lang.proofs.cited.Writes.{writes_text, writes_then, writes_within}
 use Rattle.palm_cert.proofs.certificate.write_constraints.Goals as goal
 

@@ -2,7 +2,7 @@ use Rattle.std.proofs.Common.{◌<◌, ◌∙◌, length, true, sym, arith}
 use Rattle.palm_cert.specs.Certificate.{step_line}
 use Rattle.palm_cert.specs.Needs.{marked}
 use Rattle.palm_cert.proofs.cited.Logged.{numbered_user, some_removal, step_read, user_at_place, user_numbered, variable_at}
-use Rattle.palm_cert.proofs.Marked.{index_read, text_one}
+use Rattle.palm_cert.proofs.cited.Marked.{index_read, text_one}
 use Rattle.palm_lang.proofs.cited.Writes.{writes_text}
 use Rattle.palm_cert.proofs.certificate.write_step.Goals as goal
 
@@ -22,9 +22,9 @@ pub returns : goal.returns
 returns g c =
     let book = c.args.book.now in
     let log = c.args.log.now.log in
-    let marks = c.args.needs.now.steps.items in
+    let marks = c.args.marks.now.steps.items in
     let steps = marked marks log in
-    let lt : c.args.place < length marks = omega (arith, c.requires.place, c.requires.steps.marks) in
+    let lt : c.args.place < length marks = omega (arith, c.requires.place, c.requires.steps.long) in
     let r = some_removal log c.args.place c.requires.place in
     writes_text _ _ _ _ _
     (step_read book steps log c.args.place r.0 c.pair_at.result c.by_at.result c.number_of-by.result c.deref.result.now r.1 c.pair_at.ensures c.by_at.ensures c.number_of-by.ensures (c.deref.ensures.value ∙ c.in_ok-collect_numbers.ensures)

@@ -1,4 +1,4 @@
-use Rattle.palm_cert.proofs.Needed.{cited_explains, explains_cited}
+use Rattle.palm_cert.proofs.cited.Needed.{cited_explains, explains_cited}
 use Rattle.palm_cert.proofs.laws.constraints_are_those_of_the_explanation.Goals as goal
 
 pub returns : goal.returns

@@ -1,4 +1,4 @@
-use Rattle.palm_cert.proofs.Earlier.{step_right, steps_numbered}
+use Rattle.palm_cert.proofs.cited.Earlier.{step_right, steps_numbered}
 use Rattle.palm_cert.proofs.laws.steps_are_right_behind_earlier_ones.Goals as goal
 
 pub returns-clause-right : goal.returns-clause-right

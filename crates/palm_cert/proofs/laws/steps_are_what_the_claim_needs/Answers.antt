@@ -1,4 +1,4 @@
-use Rattle.palm_cert.proofs.Needed.{needed_step, step_needed}
+use Rattle.palm_cert.proofs.cited.Needed.{needed_step, step_needed}
 use Rattle.palm_cert.proofs.laws.steps_are_what_the_claim_needs.Goals as goal
 
 pub returns : goal.returns

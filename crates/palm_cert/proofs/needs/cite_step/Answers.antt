@@ -2,7 +2,7 @@ use Rattle.std.proofs.Common.{◌<◌, ◌∙◌, ◌++◌, List, length, true, 
 use Rattle.palm_model.specs.Log.{Removal}
 use Rattle.palm_cert.specs.Needs.{cites_of}
 use Rattle.palm_cert.proofs.cited.Logged.{by_of, some_removal, user_at_place, user_numbered}
-use Rattle.palm_cert.proofs.Marked.{mark_read, marked_true}
+use Rattle.palm_cert.proofs.cited.Marked.{mark_read, marked_true}
 use Rattle.palm_cert.proofs.needs.cite_step.Goals as goal
 
 pub number_of-requires : goal.number_of-requires

@@ -4,16 +4,16 @@ use Rattle.palm_base.proofs.cited.Members.{member_get}
 use Rattle.palm_explain.specs.Explanations.{reasons_of}
 use Rattle.palm_cert.specs.Certificate.{numbers_of}
 use Rattle.palm_cert.specs.Needs.{marked}
-use Rattle.palm_cert.proofs.Links.{apart_marked, linked_apart}
+use Rattle.palm_cert.proofs.cited.Links.{apart_marked, linked_apart}
 use Rattle.palm_cert.proofs.cited.Logged.{reasons_at, some_removal}
-use Rattle.palm_cert.proofs.Marked.{member_marked, take_some}
-use Rattle.palm_cert.proofs.Numbers.{Collects, collected, collects_more}
+use Rattle.palm_cert.proofs.cited.Marked.{member_marked, take_some}
+use Rattle.palm_cert.proofs.cited.Numbers.{Collects, collected, collects_more}
 use Rattle.palm_cert.proofs.needs.collect_numbers.Goals as goal
 
 pub number_at-requires-clause-proved : goal.number_at-requires-clause-proved
 number_at-requires-clause-proved c =
     let log = c.args.log.now.log in
-    let marks = c.args.needs.now.steps.items in
+    let marks = c.args.marks.now.steps.items in
     let place = c.args.place in
     let r = some_removal log place c.requires.place in
     let m = member_get (reasons_of log place) c.loop-index.index c.reason_at.result c.reason_at.ensures in
@@ -23,7 +23,7 @@ number_at-requires-clause-proved c =
 pub loop-index-preserved : goal.loop-index-preserved
 loop-index-preserved c =
     let log = c.args.log.now.log in
-    let steps = marked c.args.needs.now.steps.items log in
+    let steps = marked c.args.marks.now.steps.items log in
     let reasons = reasons_of log c.args.place in
     let i = c.loop-index.index in
     let old = c.loop-index.numbers.items in
@@ -36,7 +36,7 @@ loop-index-preserved c =
 pub returns : goal.returns
 returns c =
     let log = c.args.log.now.log in
-    let marks = c.args.needs.now.steps.items in
+    let marks = c.args.marks.now.steps.items in
     let steps = marked marks log in
     let reasons = reasons_of log c.args.place in
     collected steps _ _ _ (take c.loop-index.index reasons) (apart_marked marks log (linked_apart log c.requires.steps.linked)) c.loop-index.invariant c.sort_unstable.ensures.permutation c.sort_unstable.ensures.sorted c.dedup.ensures.filtered

@@ -2,7 +2,7 @@ use Rattle.std.proofs.Common.{◌∙◌, ◌++◌, ◌∷◌, [], List, take, ap
 use Rattle.palm_base.specs.declared.terms.Pair.{Pair}
 use Rattle.palm_cert.specs.Needs.{marks_of}
 use Rattle.palm_explain.specs.Explanations.{reasons_of}
-use Rattle.palm_cert.proofs.Marked.{take_some}
+use Rattle.palm_cert.proofs.cited.Marked.{take_some}
 use Rattle.palm_cert.proofs.needs.mark_reasons.Goals as goal
 
 pub loop-index-preserved : goal.loop-index-preserved

@@ -4,7 +4,7 @@ use Rattle.std.proofs.lemmas.Bool.{or_right}
 use Rattle.palm_book.specs.declared.book.BookCon.{BookCon}
 use Rattle.palm_model.specs.State.{is_over}
 use Rattle.palm_cert.specs.Needs.{marked}
-use Rattle.palm_cert.proofs.Marked.{mark_read}
+use Rattle.palm_cert.proofs.cited.Marked.{mark_read}
 use Rattle.palm_cert.proofs.Uses.{none_failed, none_unmarked, some_passed}
 use Rattle.palm_cert.proofs.usage.is_used.Goals as goal
 use Rattle.palm_cert.proofs.usage.is_used.Goals.{else-marks-place-via-then-marks-place+else-is_over, else-marks-place-via-else-marks-place}

@@ -2,17 +2,16 @@ use Rattle.std.proofs.Common.{None, Option, is_some, refl, rules, ◌∙◌, sub
 use Rattle.palm_events.proofs.cited.Reasons.{reasons_right}
 use Rattle.palm_engine.specs.Engine.{IsInterrupted}
 use Rattle.palm_engine.specs.Following.{Hearing, OrderFollows}
-use Rattle.palm_search.specs.declared.turn.Turn.TheVariants.{Decide, Undo}
 use Rattle.palm_search.specs.Calls.{TakesTurn}
 use Rattle.palm_search.specs.Following.{GuideFollows, Moment}
 use Rattle.palm_search.specs.Turning.{IsNext}
 use Rattle.palm_search.proofs.cited.Following.{run_ends_by, run_goes_on_by, run_starts_by, settled_alike}
 use Rattle.palm_search.proofs.cited.Results.{on_err}
 use Rattle.palm_search.proofs.cited.Running.{counts_then, cut_first, cut_here, cut_settling, cut_undoing, fresh_has, interrupted_has}
-use Rattle.palm_dbt.proofs.Taking.{HasTaken, taken_alike}
+use Rattle.palm_search.proofs.cited.Taking.{HasTaken, taken_alike, taken_deciding, taken_undoing}
 use Rattle.palm_dbt.proofs.solving.run.Given as given
 use Rattle.palm_dbt.proofs.solving.run.Goals as goal
-use Rattle.palm_dbt.proofs.solving.run.Goals.{in-Decide+in_ok-decide-in-Decide, in-Undo+in_ok-undo_latest-in-Undo}
+use Rattle.palm_dbt.proofs.solving.run.Goals.{After-settle-in-loop-end, in-Decide+in_ok-decide-in-Decide, in-Undo+in_ok-undo_latest-in-Undo}
 
 -- the guide's own relations, and the order's
 abbrev guiding : (g : given.Over) → Moment → Option g.row.G.Denot → Option g.row.G.Denot → Type 0
@@ -34,7 +33,7 @@ returns-in_err-settle-clause-decisions g c =
 
 pub loop-end-init : goal.loop-end-init
 loop-end-init g c = (
-  run_starts_by reasons_right (guiding g) (ordering g) c.args.guide.now c.args.order.now c.settle.new.order c.args.budget c.in_ok-settle.field-0 c.args.engine.now c.settle.new.self c.args.search.now
+  run_starts_by reasons_right (guiding g) (ordering g) (is_some c.args.guide.now) c.args.guide.now c.args.order.now c.settle.new.order c.args.budget c.in_ok-settle.field-0 c.args.engine.now c.settle.new.self c.args.search.now
       c.store-store.ensures.valid c.requires.users c.requires.fresh c.in_ok-settle.ensures.ok,
   record { later = c.settle.ensures.asked.later; checks = c.settle.ensures.checks },
   record { guide = refl; order = c.settle.ensures.stays },
@@ -62,28 +61,35 @@ returns-in_err-undo_latest-in-Undo-clause-err g c =
 
 -- ---- the settling after a turn
 
+-- the turn that was taken before it, in one of the two ways
+taken : (g : given.Over) (c : After-settle-in-loop-end g) → HasTaken (guiding g) c.args.budget c.loop-end.engine c.match-branch-3.engine c.loop-end.search c.match-branch-3.search c.loop-end.guide c.match-branch-3.guide
+taken g c =
+    let m = c.loop-end in
+    let answers = g.G.Guide.answers in
+    let hears = g.G.Guide.hears in
+    let state = g.G.Guide.state in
+    elim c.match-branch-3.branch [
+      | in-Decide+in_ok-decide-in-Decide w ↦
+          let done = w.in_ok-decide-in-Decide.ensures in
+          taken_alike w.engine-is w.search-is w.guide-is
+          (taken_deciding answers hears state c.args.budget m.engine _ m.search _ m.guide _ _ w.in_ok-decide-in-Decide.field-0 w.in-Decide.is c.in_ok-end.ensures done.ok done.decisions done.counts done.stays)
+      | in-Undo+in_ok-undo_latest-in-Undo w ↦
+          let done = w.in_ok-undo_latest-in-Undo.ensures in
+          taken_alike w.engine-is w.search-is w.guide-is
+          (taken_undoing answers hears state c.args.budget m.engine _ m.search _ m.guide _ _ w.in-Undo.conflict w.in-Undo.is c.in_ok-end.ensures done.ok done.told done.decisions done.counts done.stays)
+    ]
+
 pub loop-end-preserved : goal.loop-end-preserved
 loop-end-preserved g c =
     let m = c.loop-end.engine in
     let before = c.loop-end.search in
     let so_far = c.loop-end.invariant in
-    let taken : HasTaken (guiding g) c.args.budget m c.match-branch-3.engine before c.match-branch-3.search c.loop-end.guide c.match-branch-3.guide = elim c.match-branch-3.branch [
-      | in-Decide+in_ok-decide-in-Decide w ↦
-          let next = subst (IsNext c.args.budget m.state before) w.in-Decide.is c.in_ok-end.ensures in
-          let done = w.in_ok-decide-in-Decide.ensures in
-          taken_alike w.engine-is w.search-is w.guide-is
-          (record { turn = Decide w.in_ok-decide-in-Decide.field-0 done.ok.0; left = next.0; takes = done.ok.2; step = done.ok.1; decisions = done.decisions; counts = done.counts; stays = done.stays })
-      | in-Undo+in_ok-undo_latest-in-Undo w ↦
-          let next = subst (IsNext c.args.budget m.state before) w.in-Undo.is c.in_ok-end.ensures in
-          let done = w.in_ok-undo_latest-in-Undo.ensures in
-          taken_alike w.engine-is w.search-is w.guide-is
-          (record { turn = Undo done.ok.0 w.in-Undo.conflict; left = next.0; takes = done.ok.1; step = done.told; decisions = done.decisions; counts = done.counts; stays = done.stays })
-    ] in
+    let taken = taken g (goal.at.loop-end-preserved g c).After-settle-in-loop-end in
     let after = c.settle-in-loop-end.new.self in
     let settle = c.settle-in-loop-end.ensures in
     let takes = subst (λ b. TakesTurn b taken.turn m.state before c.match-branch-3.engine.state c.match-branch-3.search) so_far.2.guide taken.takes in
     let settled = settled_alike (ordering g) (is_some c.args.order.now) c.in_ok-settle-2.field-0 c.match-branch-3.engine after c.loop-end.order c.settle-in-loop-end.new.order so_far.2.order c.in_ok-settle-2.ensures.ok in (
-      run_goes_on_by reasons_right (guiding g) (ordering g) c.args.guide.now c.loop-end.guide c.match-branch-3.guide c.args.order.now c.loop-end.order c.settle-in-loop-end.new.order
+      run_goes_on_by reasons_right (guiding g) (ordering g) (is_some c.args.guide.now) c.args.guide.now c.loop-end.guide c.match-branch-3.guide c.args.order.now c.loop-end.order c.settle-in-loop-end.new.order
           c.args.budget c.args.engine.now.state m.state before taken.turn c.in_ok-settle-2.field-0 c.match-branch-3.engine after c.match-branch-3.search so_far.0 taken.left takes taken.step settled,
       counts_then c.args.engine.now m c.match-branch-3.engine after c.args.steps.now c.loop-end.steps c.settle-in-loop-end.new.steps so_far.1 taken.counts.checks settle.asked.later settle.checks,
       record { guide = taken.stays ∙ so_far.2.guide; order = settle.stays ∙ so_far.2.order },
@@ -94,18 +100,7 @@ returns-in_err-settle-2 g c =
     let m = c.loop-end.engine in
     let before = c.loop-end.search in
     let so_far = c.loop-end.invariant in
-    let taken : HasTaken (guiding g) c.args.budget m c.match-branch-3.engine before c.match-branch-3.search c.loop-end.guide c.match-branch-3.guide = elim c.match-branch-3.branch [
-      | in-Decide+in_ok-decide-in-Decide w ↦
-          let next = subst (IsNext c.args.budget m.state before) w.in-Decide.is c.in_ok-end.ensures in
-          let done = w.in_ok-decide-in-Decide.ensures in
-          taken_alike w.engine-is w.search-is w.guide-is
-          (record { turn = Decide w.in_ok-decide-in-Decide.field-0 done.ok.0; left = next.0; takes = done.ok.2; step = done.ok.1; decisions = done.decisions; counts = done.counts; stays = done.stays })
-      | in-Undo+in_ok-undo_latest-in-Undo w ↦
-          let next = subst (IsNext c.args.budget m.state before) w.in-Undo.is c.in_ok-end.ensures in
-          let done = w.in_ok-undo_latest-in-Undo.ensures in
-          taken_alike w.engine-is w.search-is w.guide-is
-          (record { turn = Undo done.ok.0 w.in-Undo.conflict; left = next.0; takes = done.ok.1; step = done.told; decisions = done.decisions; counts = done.counts; stays = done.stays })
-    ] in
+    let taken = taken g (goal.at.returns-in_err-settle-2 g c).After-settle-in-loop-end in
     let after = c.settle-in-loop-end.new.self in
     let settle = c.settle-in-loop-end.ensures in
     let guided = is_some c.args.guide.now in

@@ -1,4 +1,4 @@
-use Rattle.std.proofs.Common.{◌-◌, length}
+use Rattle.std.proofs.Common.{◌-◌, is_some, length}
 use Rattle.palm_engine.specs.Following.{OrderFollows}
 use Rattle.palm_search.specs.Following.{GuideFollows}
 use Rattle.palm_search.specs.Leaves.{Counts, Lent}
@@ -7,7 +7,7 @@ use Rattle.palm_dbt.proofs.solving.run.Given as goal
 
 abbrev pub invariant-loop-end : goal.invariant-loop-end
 invariant-loop-end g l =
-    IsRunningBy (GuideFollows g.G.Guide.answers g.G.Guide.hears g.G.Guide.state) (OrderFollows g.O.Order.answers g.O.Order.hears g.O.Order.state) l.fn.guide l.guide l.fn.order l.order l.budget l.fn.engine.state l.engine.state l.search
+    IsRunningBy (GuideFollows g.G.Guide.answers g.G.Guide.hears g.G.Guide.state) (OrderFollows g.O.Order.answers g.O.Order.hears g.O.Order.state) (is_some l.fn.guide) l.fn.guide l.guide l.fn.order l.order l.budget l.fn.engine.state l.engine.state l.search
     × Counts l.fn.engine l.engine l.fn.steps l.steps × Lent l.fn.guide l.guide l.fn.order l.order
 
 abbrev pub decreases-loop-end : goal.decreases-loop-end

@@ -1,4 +1,4 @@
-use Rattle.std.proofs.Common.{None, Option, is_some, rules, sym, ◌∙◌, subst}
+use Rattle.std.proofs.Common.{Option, is_some, rules, sym, ◌∙◌, subst}
 use Rattle.palm_events.proofs.cited.Reasons.{reasons_right}
 use Rattle.palm_engine.specs.Following.{Hearing, OrderFollows}
 use Rattle.palm_engine.proofs.cited.Walking.{filters_none}
@@ -9,7 +9,7 @@ use Rattle.palm_search.proofs.cited.Breaking.{broken_at_end, broken_leaves, sear
 use Rattle.palm_search.proofs.cited.Following.{searches_whole_by, settled_alike}
 use Rattle.palm_search.proofs.cited.Results.{on_err}
 use Rattle.palm_search.proofs.cited.Running.{counts_then, interrupted_filters}
-use Rattle.palm_dbt.proofs.Answering.{answer_true}
+use Rattle.palm_dbt.proofs.cited.Answering.{answer_true}
 use Rattle.palm_dbt.proofs.solving.solve.Given as given
 use Rattle.palm_dbt.proofs.solving.solve.Goals as goal
 

@@ -3,6 +3,7 @@ use Rattle.std.proofs.lemmas.Result.{IfOk-weaker}
 use Rattle.palm_search.specs.Search.{Searches}
 use Rattle.palm_session.specs.declared.request.Procedure.TheVariants.{Dbt}
 use Rattle.palm_session.specs.Serving.{DeskView, desk_of, HasRun}
+use Rattle.palm_session.specs.Effects.{InShort}
 use Rattle.palm_session.specs.State.{IsHeld}
 use Rattle.palm_session.proofs.Searching.{held_users}
 use Rattle.palm_session.proofs.Led.{dbt_led}
@@ -19,8 +20,8 @@ returns-clause-searched g c =
     let before = desk_of was.mode was.book was.engine was.accepted was.paused was.guides was.orders was.search in
     IfOk-weaker c.solve_by.result
     (λ answer. Searches (is_some was.guides.chosen) (is_some was.orders.chosen) c.args.budget was.engine.state now.search.journal answer now.engine.state)
-    (λ answer. HasRun c.args.self.now.state (Dbt c.args.budget) answer None (desk_of was.mode was.book now.engine was.accepted was.paused now.guides now.orders now.search).state)
-    (λ answer h. searched_desk was.mode was.book was.engine now.engine was.accepted was.paused was.guides now.guides was.orders now.orders was.search now.search c.args.self.now (Dbt c.args.budget) answer None c.self.view_is
+    (λ answer. HasRun c.args.self.now.state (Dbt c.args.budget) answer (InShort None) (desk_of was.mode was.book now.engine was.accepted was.paused now.guides now.orders now.search).state)
+    (λ answer h. searched_desk was.mode was.book was.engine now.engine was.accepted was.paused was.guides now.guides was.orders now.orders was.search now.search c.args.self.now (Dbt c.args.budget) answer (InShort None) c.self.view_is
     c.solve_by.ensures.guides c.solve_by.ensures.orders (dbt_searches before.state c.args.budget now.search.journal now.engine.state answer h)) c.solve_by.ensures.ok
 
 pub returns-clause-led : goal.returns-clause-led

@@ -2,6 +2,7 @@ use Rattle.std.proofs.Common.{Some, is_some, sym, subst}
 use Rattle.std.proofs.lemmas.Result.{IfOk-weaker}
 use Rattle.palm_repair.specs.Answers.{HasRepaired, end_of}
 use Rattle.palm_session.specs.declared.request.Procedure.TheVariants.{Repair}
+use Rattle.palm_session.specs.Effects.{InShort}
 use Rattle.palm_session.specs.Serving.{DeskView, desk_of, HasRepairedIn}
 use Rattle.palm_session.specs.State.{IsHeld}
 use Rattle.palm_session.proofs.Searching.{held_users}
@@ -22,7 +23,7 @@ returns-clause-searched g c =
     (λ answer. HasRepairedIn c.args.self.now.state c.args.tabu c.args.budget answer (desk_of was.mode was.book now.engine was.accepted was.paused now.guides now.orders now.search).state)
     (λ answer h. record {
       dropped = h.dropped;
-      run = searched_desk was.mode was.book was.engine now.engine was.accepted was.paused was.guides now.guides was.orders now.orders was.search now.search c.args.self.now (Repair c.args.tabu c.args.budget) (end_of answer) (Some h.dropped) c.self.view_is
+      run = searched_desk was.mode was.book was.engine now.engine was.accepted was.paused was.guides now.guides was.orders now.orders was.search now.search c.args.self.now (Repair c.args.tabu c.args.budget) (end_of answer) (InShort (Some h.dropped)) c.self.view_is
           c.repair_by.ensures.guides c.repair_by.ensures.orders (repair_searches before.state c.args.tabu c.args.budget now.search.journal now.engine.state answer h);
       told = h.told;
     }) c.repair_by.ensures.ok

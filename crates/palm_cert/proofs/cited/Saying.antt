@@ -1,0 +1,80 @@
+-- What the lines of a certificate say that are not those of a session: read by their tokens, they say what was written.
+use Rattle.std.proofs.Common.{ℕ, ℤ, ◌+◌, ◌*◌, ◌≤◌, List, [], ◌∷◌, length, map, codes, All, refl, arith, decimal}
+use Rattle.std.proofs.lemmas.List.Elements.{All-head, All-tail}
+use Rattle.palm_base.specs.declared.terms.Pair.{Pair}
+use Rattle.palm_book.specs.Book.{BookVar, name_of}
+use Rattle.palm_claim.specs.Statement.{IsStepNumber, Says, conflict_claim_pieces, reasons_pieces, step_pieces, value_claim_pieces}
+use Rattle.palm_claim.specs.declared.statement.Statement.TheVariants.{ConflictClaim, Step, ValueClaim}
+use Rattle.palm_claim.specs.declared.verdict.Claim.TheVariants.{Gone, Conflict}
+use Rattle.palm_model.specs.Limits.{IsValue}
+use Rattle.palm_read.specs.Bounds.{IsWithin, a_value}
+use Rattle.palm_read.specs.Name.{IsNameText}
+use Rattle.palm_read.specs.Piece.{Natural}
+use Rattle.palm_read.specs.Words.{spaced}
+use Rattle.palm_read.proofs.cited.Layouts.{Words, lays_natural, words_keyword, words_name, words_none, words_number, words_plain, words_short, words_spell, words_weaker}
+use Rattle.palm_read.proofs.cited.PrintedParts.{lays_value}
+use Rattle.palm_cert.specs.Certificate.{claim_words, from_words, step_words}
+
+pub value_within : (v : ℤ) → IsValue v → IsWithin (a_value v)
+value_within v is = (is.above, is.below)
+
+pub words_numbers : (ks : List ℕ) → All IsStepNumber ks → Words (length ks * 11) (map decimal ks) (map Natural ks)
+words_numbers [] small = words_none
+words_numbers (k ∷ ks) small =
+    let h = All-head IsStepNumber k ks small in
+    words_weaker (length (k ∷ ks) * 11) (words_number (lays_natural 10 k (omega arith) (omega (arith, h.1)) (omega (arith, h.1))) (words_numbers ks (All-tail IsStepNumber k ks small))) (omega arith)
+
+-- `from` and its numbers
+pub words_from : (ks : List ℕ) → All IsStepNumber ks → Words (5 + length ks * 11) (from_words ks) (reasons_pieces ks)
+words_from [] small = words_weaker 5 words_none (omega arith)
+words_from (k ∷ ks) small = words_keyword (codes "from") refl (words_numbers (k ∷ ks) small)
+
+module _ (variables : List BookVar) where
+  -- the words of a step, with how long they are at most
+  pub words_step : (pair : Pair) (by : List ℕ) (ks : List ℕ) → IsNameText (name_of variables pair.var) → IsNameText by → IsValue pair.value → All IsStepNumber ks
+      → Words (100 + length ks * 11) (step_words variables pair by ks) (step_pieces (name_of variables pair.var) pair.value by ks)
+  words_step pair by ks named cited value small =
+      words_weaker (100 + length ks * 11) (words_keyword (codes "step") refl (words_name (name_of variables pair.var) named (words_number (lays_value pair.value (value_within pair.value value)) (words_keyword (codes "by") refl (words_name by cited (words_from ks small)))))) (omega arith)
+
+  -- how long the line of a step is
+  pub step_length : (pair : Pair) (by : List ℕ) (ks : List ℕ) → IsNameText (name_of variables pair.var) → IsNameText by → IsValue pair.value → All IsStepNumber ks
+      → length (spaced (step_words variables pair by ks)) ≤ 100 + length ks * 11
+  step_length pair by ks named cited value small =
+      words_short (step_words variables pair by ks) (step_pieces (name_of variables pair.var) pair.value by ks) (words_step pair by ks named cited value small)
+
+  pub step_says : (pair : Pair) (by : List ℕ) (ks : List ℕ) → IsNameText (name_of variables pair.var) → IsNameText by → IsValue pair.value → All IsStepNumber ks
+      → length (spaced (step_words variables pair by ks)) ≤ 65536 → Says (spaced (step_words variables pair by ks)) (Step (name_of variables pair.var) pair.value by ks)
+  step_says pair by ks named cited value small short =
+      let words = words_step pair by ks named cited value small in
+      let pieces = step_pieces (name_of variables pair.var) pair.value by ks in
+      (record { short = short; says = refl; plain = words_plain (step_words variables pair by ks) pieces words }, words_spell (step_words variables pair by ks) pieces words, (value, small))
+
+  words_value_claim : (pair : Pair) → IsNameText (name_of variables pair.var) → IsValue pair.value → Words 100 (claim_words variables (Gone pair)) (value_claim_pieces (name_of variables pair.var) pair.value)
+  words_value_claim pair named value =
+      words_weaker 100 (words_keyword (codes "claim") refl (words_name (name_of variables pair.var) named (words_number (lays_value pair.value (value_within pair.value value)) words_none))) (omega arith)
+
+  pub value_claim_length : (pair : Pair) → IsNameText (name_of variables pair.var) → IsValue pair.value → length (spaced (claim_words variables (Gone pair))) ≤ 100
+  value_claim_length pair named value =
+      words_short (claim_words variables (Gone pair)) (value_claim_pieces (name_of variables pair.var) pair.value) (words_value_claim pair named value)
+
+  pub value_claim_says : (pair : Pair) → IsNameText (name_of variables pair.var) → IsValue pair.value
+      → length (spaced (claim_words variables (Gone pair))) ≤ 65536 → Says (spaced (claim_words variables (Gone pair))) (ValueClaim (name_of variables pair.var) pair.value)
+  value_claim_says pair named value short =
+      let words = words_value_claim pair named value in
+      let pieces = value_claim_pieces (name_of variables pair.var) pair.value in
+      (record { short = short; says = refl; plain = words_plain (claim_words variables (Gone pair)) pieces words }, words_spell (claim_words variables (Gone pair)) pieces words, value)
+
+  words_conflict_claim : (x : ℕ) → IsNameText (name_of variables x) → Words 100 (claim_words variables (Conflict x)) (conflict_claim_pieces (name_of variables x))
+  words_conflict_claim x named =
+      words_weaker 100 (words_keyword (codes "claim") refl (words_keyword (codes "conflict") refl (words_name (name_of variables x) named words_none))) (omega arith)
+
+  pub conflict_claim_length : (x : ℕ) → IsNameText (name_of variables x) → length (spaced (claim_words variables (Conflict x))) ≤ 100
+  conflict_claim_length x named =
+      words_short (claim_words variables (Conflict x)) (conflict_claim_pieces (name_of variables x)) (words_conflict_claim x named)
+
+  pub conflict_claim_says : (x : ℕ) → IsNameText (name_of variables x)
+      → length (spaced (claim_words variables (Conflict x))) ≤ 65536 → Says (spaced (claim_words variables (Conflict x))) (ConflictClaim (name_of variables x))
+  conflict_claim_says x named short =
+      let words = words_conflict_claim x named in
+      let pieces = conflict_claim_pieces (name_of variables x) in
+      (record { short = short; says = refl; plain = words_plain (claim_words variables (Conflict x)) pieces words }, words_spell (claim_words variables (Conflict x)) pieces words, tt)

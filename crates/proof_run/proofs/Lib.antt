@@ -1,0 +1,13 @@
+pub mod Choices
+pub mod cited
+pub mod Knowing
+pub mod Lasting
+pub mod Lines
+pub mod Listing
+pub mod Own
+pub mod Reasoning
+pub mod Rightness
+pub mod Shortness
+pub mod Situation
+pub mod Using
+pub mod Wiping

@@ -1,0 +1,4 @@
+pub mod Accepted
+pub mod Lemma
+pub mod SoFar
+pub mod Text

@@ -1,0 +1,7 @@
+pub mod Fitting
+pub mod Holding
+pub mod Lemmas
+pub mod Listing
+pub mod Numbering
+pub mod Reading
+pub mod Running

@@ -1,0 +1,98 @@
+use Rattle.std.proofs.Common.{Option, is_some, rules, sym, ◌∙◌, subst, arith}
+use Rattle.palm_engine.specs.Following.{Hearing, OrderFollows}
+use Rattle.palm_engine.proofs.cited.Walking.{filters_none}
+use Rattle.palm_events.proofs.cited.Reasons.{reasons_right}
+use Rattle.palm_lang.specs.declared.stop.WriteStop.TheVariants.{NoMemory}
+use Rattle.palm_search.specs.Breaking.{BreaksOff}
+use Rattle.palm_search.specs.Calls.{search_state}
+use Rattle.palm_search.specs.Following.{GuideFollows, Moment}
+use Rattle.palm_search.proofs.cited.Breaking.{broken_at_end, broken_leaves, searches_leaves}
+use Rattle.palm_search.proofs.cited.Following.{settled_alike}
+use Rattle.palm_search.proofs.cited.Results.{on_err}
+use Rattle.palm_search.proofs.cited.Running.{counts_then, interrupted_filters}
+use Rattle.palm_dbt.proofs.cited.Answering.{answer_true}
+use Rattle.proof_write.specs.Proving.{HasProved}
+use Rattle.proof_write.proofs.Fitting.{book_users}
+use Rattle.proof_write.proofs.Running.{Stops, accepted_at, behind_end, ended_quietly, run_proves, stopped_with}
+use Rattle.proof_write.proofs.proving.prove.Given as given
+use Rattle.proof_write.proofs.proving.prove.Goals as goal
+
+-- the guide's own relations, and the order's
+abbrev guiding : (g : given.Over) → Moment → Option g.row.G.Denot → Option g.row.G.Denot → Type 0
+guiding g = GuideFollows g.G.Guide.answers g.G.Guide.hears g.G.Guide.state
+
+abbrev ordering : (g : given.Over) → Hearing → Option g.row.O.Denot → Option g.row.O.Denot → Type 0
+ordering g = OrderFollows g.O.Order.answers g.O.Order.hears g.O.Order.state
+
+-- the run stopped
+pub returns-in_err-end-clause-leaves : goal.returns-in_err-end-clause-leaves
+returns-in_err-end-clause-leaves g c =
+    let s = c.args.engine.now.state in
+    let t = c.close.new.engine.state in
+    let guided = is_some c.args.guide.now in
+    let ordered = is_some c.args.order.now in
+    let turns = c.run-end.new.search.journal in
+    let broken : BreaksOff guided ordered c.args.budget s turns t = record { cut = c.run-end.new.engine.state; is = c.in_err-end.ensures.err; middle = t; withdraws = c.close.ensures.withdraws; filters = filters_none t } in
+    broken_leaves reasons_right guided ordered c.args.budget s turns t c.close.new.self c.from_residual.result (book_users c.args.book.now s c.requires.active) c.run-end.ensures.before broken c.close.ensures.valid c.close.ensures.decisions (search rules)
+
+-- memory ran out in the last settling
+pub returns-in_err-settle : goal.returns-in_err-settle
+returns-in_err-settle g c =
+    let s = c.args.engine.now in
+    let n = c.close.new.engine in
+    let t = c.settle.new.self in
+    let book = c.args.book.now in
+    let guided = is_some c.args.guide.now in
+    let ordered = is_some c.args.order.now in
+    let run = c.run-end.ensures in
+    let ran = c.in_ok-end.ensures in
+    let settle = c.settle.ensures in
+    let turns = c.run-end.new.search.journal in
+    let result = c.from_residual-in_err-settle.result in
+    let stops = stopped_with result NoMemory c.from_residual-in_err-settle.ensures.1 in
+    let broken = broken_at_end guided ordered c.args.budget s.state turns c.in_ok-end.end (search_state c.run-end.new.engine.state c.run-end.new.search) n.state t.state ran.ok.by.run c.close.ensures.withdraws
+    (interrupted_filters (is_some c.run-end.new.order) n t c.in_err-settle.ensures.err.interrupted) in
+    let quiet = ended_quietly book guided ordered c.args.budget s.state turns (g.K.Sink.state c.args.out.now) (g.K.Sink.state c.run-end.new.out) c.in_ok-end.end result stops (behind_end ran.ok) ran.counted ran.sink in
+    record {
+      ok = search rules;
+      holds = search rules;
+      err = on_err _ result (subst (λ l. BreaksOff guided ordered c.args.budget s.state l t.state) (sym c.close.ensures.journal) broken);
+      front = (subst (λ l. Stops book guided ordered c.args.budget s.state l (g.K.Sink.state c.args.out.now) (g.K.Sink.state c.run-end.new.out) result) (sym c.close.ensures.journal) quiet).front;
+      counted = quiet.counted;
+      sink = quiet.sink;
+      leaves = broken_leaves reasons_right guided ordered c.args.budget s.state turns t.state c.close.new.self result (book_users book s.state c.requires.active) run.before broken settle.valid c.close.ensures.decisions (search rules);
+      counts = counts_then s c.run-end.new.engine n t c.args.steps.now c.run-end.new.steps c.settle.new.steps run.counts c.close.ensures.counts.checks settle.asked.later settle.checks;
+      lent = record { guide = run.lent.guide; order = settle.stays ∙ run.lent.order };
+    }
+
+-- an answer
+pub returns : goal.returns
+returns g c =
+    let s = c.args.engine.now in
+    let n = c.close.new.engine in
+    let t = c.settle.new.self in
+    let book = c.args.book.now in
+    let guided = is_some c.args.guide.now in
+    let ordered = is_some c.args.order.now in
+    let end = c.in_ok-end.end in
+    let users = book_users book s.state c.requires.active in
+    let run = c.run-end.ensures in
+    let ran = c.in_ok-end.ensures in
+    let settle = c.settle.ensures in
+    let turns = c.run-end.new.search.journal in
+    let settled = settled_alike (ordering g) ordered c.in_ok-settle.field-0 n t c.run-end.new.order c.settle.new.order run.lent.order c.in_ok-settle.ensures.ok in
+    let proves = run_proves ran.ok c.settle.new.order c.in_ok-settle.field-0 n t c.close.ensures.withdraws settled in
+    let accepted = accepted_at c.args.budget book s.state turns end t.state ran.ok.text c.variables.ensures.valid run.before c.requires.initial c.requires.active run.scoped (omega (arith, c.ranges.budget.fits)) proves in
+    let searches = proves.by.searches in
+    record {
+      ok = subst (λ l. HasProved (guiding g) (ordering g) c.args.guide.now c.run-end.new.guide c.args.order.now c.settle.new.order c.args.budget book s.state l end t.state (g.K.Sink.state c.args.out.now).written (g.K.Sink.state c.run-end.new.out).written)
+          (sym c.close.ensures.journal) (record { text = ran.ok.text; proves = proves; accepted = accepted; written = ran.ok.written });
+      holds = answer_true reasons_right guided ordered c.args.budget s.state turns t.state end users run.before searches;
+      err = tt;
+      front = tt;
+      counted = ran.counted;
+      sink = ran.sink;
+      leaves = searches_leaves reasons_right guided ordered c.args.budget s.state turns end t.state c.close.new.self end users run.before searches settle.valid c.close.ensures.decisions;
+      counts = counts_then s c.run-end.new.engine n t c.args.steps.now c.run-end.new.steps c.settle.new.steps run.counts c.close.ensures.counts.checks settle.asked.later settle.checks;
+      lent = record { guide = run.lent.guide; order = settle.stays ∙ run.lent.order };
+    }

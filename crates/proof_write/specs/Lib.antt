@@ -1,0 +1,5 @@
+pub mod Ending
+pub mod Fitting
+pub mod Lines
+pub mod Numbers
+pub mod Proving
