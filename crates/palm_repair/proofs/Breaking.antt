@@ -1,5 +1,5 @@
 -- What is left after a repair that was broken off.
-use Rattle.std.proofs.Common.{◌≡◌, ℕ, Bool, List, [], sym, subst}
+use Rattle.std.proofs.Common.{◌≡◌, ℕ, Bool, not, List, [], sym, ap, subst}
 use Rattle.std.specs.Prelude.{Result, Ok, OnOk}
 use Rattle.palm_model.specs.State.{EngineState, IsValid}
 use Rattle.palm_model.specs.Event.{WithdrawsAll}
@@ -13,33 +13,34 @@ use Rattle.palm_search.specs.declared.ending.SearchEnd.{SearchEnd}
 use Rattle.palm_search.specs.Calls.{SearchView}
 use Rattle.palm_search.specs.Kept.{HasOnlyUsers}
 use Rattle.palm_search.specs.Leaves.{Leaves}
-use Rattle.palm_search.specs.Search.{search_cids}
-use Rattle.palm_search.proofs.cited.Leaving.{Remembers, Searched, closing_leaves, closing_returns, remembers_filtered, remembers_none, remembers_posted, remembers_withdrawn, searched_filtered, searched_none, users_later}
+use Rattle.palm_search.specs.Search.{of_search, search_cids}
+use Rattle.palm_search.proofs.cited.Leaving.{users_none}
+use Rattle.palm_search.proofs.cited.Owning.{Gains, Remembers, closing_leaves, closing_returns, gains_filtered, gains_none, others_new, remembers_filtered, remembers_none, remembers_posted, remembers_withdrawn, search_owns}
 use Rattle.palm_repair.specs.declared.answer.RepairAnswer.{RepairAnswer}
 use Rattle.palm_repair.specs.Posting.{RepairState}
 use Rattle.palm_repair.specs.Repair.{Repairs}
 use Rattle.palm_repair.specs.Turning.{BreaksOff, HasRun, HasTurned, IsCutOff}
 use Rattle.palm_repair.specs.Turning.IsCutOff.{before_turn, in_first_settling, in_settling, within_turn}
-use Rattle.palm_repair.proofs.cited.Ending.{IsKeptAlong, part_along, repair_leaves, repair_rests, searched_along, takes_along, turned_ended, turned_searched}
+use Rattle.palm_repair.proofs.cited.Ending.{IsKeptAlong, part_along, repair_leaves, repair_rests, gains_along, takes_along, turned_ended, turned_gains}
 
 -- ---- where a repair is cut off
 
 -- the engine is valid and remembers s
 record Knows (s t : EngineState) : Type 0 where
   valid : IsValid t
-  remembers : Remembers s t
+  remembers : Remembers of_search s t
 
 knows_along : (s : EngineState) → HasOnlyUsers s → IsKeptAlong (Knows s)
 knows_along s users = record {
-  posts = λ m a t f posts knows. record { valid = posts_valid m t a posts knows.valid; remembers = remembers_posted s m a t f posts knows.remembers };
+  posts = λ m a t f posts knows. record { valid = posts_valid m t a posts knows.valid; remembers = remembers_posted of_search s m a t (ap not f) posts knows.remembers };
   withdraws = λ m gone t may withdraws knows. record {
     valid = withdraws_all_valid m t gone may.keeps withdraws knows.valid;
-    remembers = remembers_withdrawn s m gone t (users_later s users gone may.none) withdraws knows.remembers;
+    remembers = remembers_withdrawn of_search s m gone t (others_new of_search s search_owns (users_none s users) gone may.none) withdraws knows.remembers;
   };
 }
 
 knows_filtered : ReasonsAreRight → (s m t : EngineState) → Filters m t → Knows s m → Knows s t
-knows_filtered right s m t filters knows = record { valid = filters_valid right m t filters knows.valid; remembers = remembers_filtered s m t filters knows.remembers }
+knows_filtered right s m t filters knows = record { valid = filters_valid right m t filters knows.valid; remembers = remembers_filtered of_search s m t filters knows.remembers }
 
 turned_knows : ReasonsAreRight → (guided ordered : Bool) (tabu budget : ℕ) (s : EngineState) (turns : List Turn) (m : RepairState) → HasOnlyUsers s → IsValid s → HasTurned guided ordered tabu budget s turns m → Knows s m.search.engine
 turned_knows right guided ordered tabu budget s turns m users valid turned =
@@ -47,7 +48,7 @@ turned_knows right guided ordered tabu budget s turns m users valid turned =
     record { valid = ended.searching.valid; remembers = ended.remembers }
 
 cut_knows : ReasonsAreRight → (guided ordered : Bool) (tabu budget : ℕ) (s : EngineState) (turns : List Turn) (t : EngineState) → HasOnlyUsers s → IsValid s → IsCutOff guided ordered tabu budget s turns t → Knows s t
-cut_knows right guided ordered tabu budget s turns t users valid (in_first_settling e filters) = knows_filtered right s s t filters (record { valid = valid; remembers = remembers_none s })
+cut_knows right guided ordered tabu budget s turns t users valid (in_first_settling e filters) = knows_filtered right s s t filters (record { valid = valid; remembers = remembers_none of_search s })
 cut_knows right guided ordered tabu budget s turns t users valid (before_turn m turned e) = subst (Knows s) (sym e) (turned_knows right guided ordered tabu budget s turns m users valid turned)
 cut_knows right guided ordered tabu budget s turns t users valid (within_turn m next before turn takes turned lt e some) =
     let knows = turned_knows right guided ordered tabu budget s before m users valid turned in
@@ -56,20 +57,20 @@ cut_knows right guided ordered tabu budget s turns t users valid (in_settling m 
     let knows = turned_knows right guided ordered tabu budget s before m users valid turned in
     knows_filtered right s next.search.engine t filters (takes_along (Knows s) (knows_along s users) guided tabu m turn next takes knows.valid knows)
 
-searched_here : ReasonsAreRight → (guided ordered : Bool) (tabu budget : ℕ) (s : EngineState) (turns : List Turn) (m : RepairState) → HasOnlyUsers s → IsValid s → IsStill s → HasTurned guided ordered tabu budget s turns m
-    → Searched s m.search.engine
-searched_here right guided ordered tabu budget s turns m users valid still turned = turned_searched right guided ordered tabu s turned.start turns m users valid still turned.settles turned.taken
+gains_here : ReasonsAreRight → (guided ordered : Bool) (tabu budget : ℕ) (s : EngineState) (turns : List Turn) (m : RepairState) → HasOnlyUsers s → IsValid s → IsStill s → HasTurned guided ordered tabu budget s turns m
+    → Gains of_search s m.search.engine
+gains_here right guided ordered tabu budget s turns m users valid still turned = turned_gains right guided ordered tabu s turned.start turns m users valid still turned.settles turned.taken
 
-cut_searched : ReasonsAreRight → (guided ordered : Bool) (tabu budget : ℕ) (s : EngineState) (turns : List Turn) (t : EngineState) → HasOnlyUsers s → IsValid s → IsStill s → IsCutOff guided ordered tabu budget s turns t → Searched s t
-cut_searched right guided ordered tabu budget s turns t users valid still (in_first_settling e filters) = searched_filtered right s s t filters valid still (searched_none s valid)
-cut_searched right guided ordered tabu budget s turns t users valid still (before_turn m turned e) =
-    subst (Searched s) (sym e) (searched_here right guided ordered tabu budget s turns m users valid still turned)
-cut_searched right guided ordered tabu budget s turns t users valid still (within_turn m next before turn takes turned lt e some) =
-    let searched = searched_here right guided ordered tabu budget s before m users valid still turned in
-    part_along (Searched s) (searched_along s users valid) guided tabu m turn next takes t searched.valid some searched
-cut_searched right guided ordered tabu budget s turns t users valid still (in_settling m next before turn takes turned lt e filters) =
-    let searched = searched_here right guided ordered tabu budget s before m users valid still turned in
-    searched_filtered right s next.search.engine t filters valid still (takes_along (Searched s) (searched_along s users valid) guided tabu m turn next takes searched.valid searched)
+cut_gains : ReasonsAreRight → (guided ordered : Bool) (tabu budget : ℕ) (s : EngineState) (turns : List Turn) (t : EngineState) → HasOnlyUsers s → IsValid s → IsStill s → IsCutOff guided ordered tabu budget s turns t → Gains of_search s t
+cut_gains right guided ordered tabu budget s turns t users valid still (in_first_settling e filters) = gains_filtered right of_search s s t filters valid still (gains_none of_search s valid)
+cut_gains right guided ordered tabu budget s turns t users valid still (before_turn m turned e) =
+    subst (Gains of_search s) (sym e) (gains_here right guided ordered tabu budget s turns m users valid still turned)
+cut_gains right guided ordered tabu budget s turns t users valid still (within_turn m next before turn takes turned lt e some) =
+    let gains = gains_here right guided ordered tabu budget s before m users valid still turned in
+    part_along (Gains of_search s) (gains_along s users valid) guided tabu m turn next takes t gains.valid some gains
+cut_gains right guided ordered tabu budget s turns t users valid still (in_settling m next before turn takes turned lt e filters) =
+    let gains = gains_here right guided ordered tabu budget s before m users valid still turned in
+    gains_filtered right of_search s next.search.engine t filters valid still (takes_along (Gains of_search s) (gains_along s users valid) guided tabu m turn next takes gains.valid gains)
 
 -- ---- and all its decisions and negations are withdrawn
 
@@ -78,11 +79,11 @@ pub broken_leaves : {T E : Type 0} → ReasonsAreRight → (guided ordered : Boo
     → BreaksOff guided ordered tabu budget s turns t → after.decisions ≡ [] → OnOk result (IsStill t) → Leaves s t after result
 broken_leaves right guided ordered tabu budget s turns t after result users valid broken none still =
     let knows = cut_knows right guided ordered tabu budget s turns broken.cut users valid broken.is in
-    let returns = closing_returns right s broken.cut broken.middle t users valid knows.valid knows.remembers broken.withdraws broken.filters in
+    let returns = closing_returns right of_search s broken.cut broken.middle t search_owns (users_none s users) valid knows.valid knows.remembers broken.withdraws broken.filters in
     record {
       active = returns.active;
       initial = returns.initial;
-      log = λ rest. closing_leaves right s broken.cut broken.middle t users valid rest (cut_searched right guided ordered tabu budget s turns broken.cut users valid rest broken.is) broken.withdraws broken.filters;
+      log = λ rest. closing_leaves right of_search s broken.cut broken.middle t search_owns (users_none s users) valid rest (cut_gains right guided ordered tabu budget s turns broken.cut users valid rest broken.is) broken.withdraws broken.filters;
       still = still;
       decisions = none;
       valid = returns.valid;

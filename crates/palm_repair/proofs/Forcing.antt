@@ -26,7 +26,7 @@ use Rattle.palm_search.specs.Turns.{SearchState}
 use Rattle.palm_search.specs.Kept.{IsSearching}
 use Rattle.palm_search.proofs.cited.Deciding.{posted_has}
 use Rattle.palm_search.proofs.cited.Keeping.{satisfies_negation}
-use Rattle.palm_search.proofs.cited.Leaving.{user_justifier}
+use Rattle.palm_search.proofs.cited.Owning.{user_justifier}
 use Rattle.palm_repair.specs.Posting.{Nogood, Origin, RepairState, PostsNegation, PostsFor, PostsFrom, PostsAll, is_decided, undecided, justification, with_origin}
 use Rattle.palm_repair.specs.Kept.{IsNogood, IsNumbered, ComesFrom, HasOrigins, IsRepairing}
 use Rattle.palm_repair.proofs.Refuting.{users_posted, nogood_kept}

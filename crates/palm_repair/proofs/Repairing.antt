@@ -27,7 +27,7 @@ use Rattle.palm_search.specs.Turns.{SearchState, Decides, HasFlatConflict, decid
 use Rattle.palm_search.specs.Kept.{HasOnlyUsers, IsSearching}
 use Rattle.palm_search.proofs.cited.Deciding.{withdrawn_has, others_taken}
 use Rattle.palm_search.proofs.cited.Keeping.{begins, user_not, takes_keep, settles_keep}
-use Rattle.palm_search.proofs.cited.Leaving.{gone_no_user}
+use Rattle.palm_search.proofs.cited.Owning.{gone_no_user}
 use Rattle.palm_repair.specs.Posting.{Nogood, Origin, RepairState, nogood_of, active_origins}
 use Rattle.palm_repair.specs.Repair.{RepairDecides, IsHeaviest, Drops, MakesRoom, RepairUndoes, RepairTakes, RepairSettles, RepairFollows, RepairTurns, raised_from, raised, negations_from, forced_by, repair_begun}
 use Rattle.palm_repair.specs.Kept.{IsNogood, IsNumbered, HasOrigins, IsRepairing}
@@ -120,7 +120,7 @@ undone s engine left vars = record s {
 
 -- what goes with a decision is no user
 pub decision_no_user : (s : EngineState) → IsValid s → (x : ℕ) (c : Cid) → Contains (gone_with s.active (Decide x)) c → is_user c ≡ true → ⊥
-decision_no_user s valid x c m user = gone_no_user (length s.initial) s.active x valid.formed c m user
+decision_no_user s valid x c m user = gone_no_user s valid x c m user
 
 undone_repairing : (s : RepairState) (gone : Pair) (earlier later : List Pair) (engine : EngineState) (vars : List ℕ) → s.search.decisions ≡ earlier ++ gone ∷ later
     → Withdraws s.search.engine (Decide gone.var) engine → IsRepairing s → IsRepairing (undone s engine (earlier ++ later) vars)

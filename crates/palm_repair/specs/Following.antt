@@ -4,6 +4,7 @@ use Rattle.palm_model.specs.State.{EngineState}
 use Rattle.palm_engine.specs.Following.{Hearing, LeadsAlong}
 use Rattle.palm_search.specs.declared.ending.SearchEnd.{SearchEnd}
 use Rattle.palm_search.specs.declared.turn.Turn.{Turn}
+use Rattle.palm_search.specs.Search.{of_search}
 use Rattle.palm_search.specs.Following.{Moment, closing_hearings, settling_hearings}
 use Rattle.palm_repair.specs.declared.answer.RepairAnswer.{RepairAnswer}
 use Rattle.palm_repair.specs.Answers.{HasRepaired, end_of}
@@ -42,4 +43,4 @@ pub record HasRepairedBy {G O : Type 0} (guiding : Moment → Option G → Optio
   pub repaired : HasRepaired (is_some guide_first) (is_some order_first) tabu budget s turns t answer
   pub guide : LeadsAlong guiding (repair_moments (is_some guide_first) (is_some order_first) tabu repaired.repairs.run.start turns repaired.repairs.last repaired.repairs.run.taken) guide_first guide_last
   pub order : LeadsAlong ordering (repair_hearings (is_some guide_first) (is_some order_first) tabu budget s turns (end_of answer) repaired.dropped repaired.repairs.last repaired.repairs.run
-      ++ closing_hearings (is_some order_first) repaired.repairs.last.search.engine t repaired.repairs.closes) order_first order_last
+      ++ closing_hearings of_search (is_some order_first) repaired.repairs.last.search.engine t repaired.repairs.closes) order_first order_last

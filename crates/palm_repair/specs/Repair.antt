@@ -12,7 +12,7 @@ use Rattle.palm_search.specs.declared.turn.Turn.{Turn}
 use Rattle.palm_search.specs.declared.turn.Turn.TheVariants.{Decide as TurnDecide, Undo as TurnUndo}
 use Rattle.palm_search.specs.Turns.{SearchState, HasFlatConflict, Decides, SettlesAfter, decided_vars}
 use Rattle.palm_search.specs.declared.ending.SearchEnd.{SearchEnd}
-use Rattle.palm_search.specs.Search.{EndsWith, Closes, IsPicked, begun}
+use Rattle.palm_search.specs.Search.{EndsWith, Closes, IsPicked, begun, of_search}
 use Rattle.palm_repair.specs.Posting.{Nogood, Origin, RepairState, PostsAll, nogood_of, active_origins}
 
 -- ---- decisions
@@ -134,7 +134,7 @@ pub record RepairRun (guided ordered : Bool) (tabu budget : ℕ) (s : EngineStat
 pub record Repairs (guided ordered : Bool) (tabu budget : ℕ) (s : EngineState) (turns : List Turn) (end : SearchEnd) (dropped : ℕ) (t : EngineState) : Type 0 where
   pub last : RepairState
   pub run : RepairRun guided ordered tabu budget s turns end dropped last
-  pub closes : Closes ordered last.search.engine t
+  pub closes : Closes of_search ordered last.search.engine t
 
 -- a repair from s with these picks, and how it ends
 pub record RepairsTo (guided ordered : Bool) (tabu : ℕ) (f : ℕ → Pick) (budget : ℕ) (s : EngineState) : Type 0 where

@@ -1,15 +1,19 @@
 -- Lemmas that other crates cite.
 pub mod Alone
 pub mod Breaking
+pub mod Closing
 pub mod Deciding
 pub mod Following
 pub mod Going
+pub mod Joining
 pub mod Keeping
 pub mod Leaving
 pub mod Measuring
+pub mod Owning
 pub mod Results
 pub mod Running
 pub mod Showing
+pub mod Solving
 pub mod Taking
 pub mod Weighing
 pub mod Whole

@@ -8,7 +8,7 @@ use Rattle.palm_model.specs.Event.{Withdraws, WithdrawsAll}
 use Rattle.palm_search.specs.declared.turn.Turn.{Turn}
 use Rattle.palm_search.specs.declared.turn.Turn.TheVariants.{Undo}
 use Rattle.palm_search.specs.Turns.{SearchState, Takes}
-use Rattle.palm_search.specs.Search.{search_cids}
+use Rattle.palm_search.specs.Search.{own_cids}
 
 -- the decisions in the order in which they were taken, and the turns so far
 pub record SearchView : Type 0 where
@@ -38,8 +38,8 @@ pub record TakesBack (conflict : List Cid) (place : ℕ) (s : EngineState) (befo
   pub decisions : after.decisions ≡ remove before.decisions place
   pub journal : after.journal ≡ before.journal ++ Undo gone conflict ∷ []
 
--- some decisions and negations were withdrawn, and no user's constraint
-pub record LetsGo (s t : EngineState) : Type 0 where
+-- some constraints that are a search's own were withdrawn, and no others
+pub record LetsGo (own : Cid → Bool) (s t : EngineState) : Type 0 where
   pub gone : List Cid
-  pub among : (c : Cid) → Contains gone c → Contains (search_cids s.active) c
+  pub among : (c : Cid) → Contains gone c → Contains (own_cids own s.active) c
   pub withdraws : WithdrawsAll s gone t

@@ -1,5 +1,6 @@
 -- What a guide and an order are asked and told along a search.
 use Rattle.std.specs.Prelude.{ℕ, Bool, is_some, List, [], ◌∷◌, ◌++◌, Option}
+use Rattle.palm_base.specs.declared.terms.Cid.{Cid}
 use Rattle.palm_base.specs.declared.terms.Pair.{Pair}
 use Rattle.palm_model.specs.Domains.{Domains}
 use Rattle.palm_model.specs.State.{EngineState, present}
@@ -9,7 +10,7 @@ use Rattle.palm_search.specs.declared.ending.SearchEnd.{SearchEnd}
 use Rattle.palm_search.specs.declared.turn.Turn.{Turn}
 use Rattle.palm_search.specs.declared.turn.Turn.TheVariants.{Decide as TurnDecide, Undo as TurnUndo}
 use Rattle.palm_search.specs.Asked.{Asks}
-use Rattle.palm_search.specs.Search.{Closes, SearchRun, Searches, begun}
+use Rattle.palm_search.specs.Search.{Closes, SearchRun, Searches, begun, of_search}
 use Rattle.palm_search.specs.Turning.{Hears}
 use Rattle.palm_search.specs.Turns.{SearchState, SettlesAfter, Turns, decided_vars}
 
@@ -50,8 +51,8 @@ abbrev pub run_hearings : (guided ordered : Bool) (budget : ℕ) (s : EngineStat
 run_hearings guided ordered budget s turns end t run = settling_hearings ordered (begun s) run.start run.settles ++ turns_hearings guided ordered run.start turns t run.taken
 
 -- and of the settling after the end
-abbrev pub closing_hearings : (ordered : Bool) (s t : EngineState) → Closes ordered s t → List Hearing
-closing_hearings ordered s t closes = hearings closes.middle closes.revisions t closes.settles.revisions
+abbrev pub closing_hearings : (own : Cid → Bool) (ordered : Bool) (s t : EngineState) → Closes own ordered s t → List Hearing
+closing_hearings own ordered s t closes = hearings closes.middle closes.revisions t closes.settles.revisions
 
 -- ---- whole searches
 
@@ -67,4 +68,4 @@ pub record SearchesBy {G O : Type 0} (guiding : Moment → Option G → Option G
     (budget : ℕ) (s : EngineState) (turns : List Turn) (end : SearchEnd) (t : EngineState) : Type 0 where
   pub searches : Searches (is_some guide_first) (is_some order_first) budget s turns end t
   pub guide : LeadsAlong guiding (moments (is_some guide_first) (is_some order_first) searches.run.start turns searches.last searches.run.taken) guide_first guide_last
-  pub order : LeadsAlong ordering (run_hearings (is_some guide_first) (is_some order_first) budget s turns end searches.last searches.run ++ closing_hearings (is_some order_first) searches.last.engine t searches.closes) order_first order_last
+  pub order : LeadsAlong ordering (run_hearings (is_some guide_first) (is_some order_first) budget s turns end searches.last searches.run ++ closing_hearings of_search (is_some order_first) searches.last.engine t searches.closes) order_first order_last

@@ -1,6 +1,7 @@
 -- What a search keeps from turn to turn.
-use Rattle.std.specs.Prelude.{◌≡◌, ℕ, true, Contains}
+use Rattle.std.specs.Prelude.{◌≡◌, ℕ, Bool, true, false, Contains}
 use Rattle.palm_base.specs.declared.terms.Pair.{Pair}
+use Rattle.palm_base.specs.declared.terms.Cid.{Cid}
 use Rattle.palm_base.specs.declared.terms.Cid.TheVariants.{Decide, Not}
 use Rattle.palm_model.specs.Domains.{Has}
 use Rattle.palm_model.specs.Constraint.{Distinct}
@@ -14,6 +15,10 @@ use Rattle.palm_search.specs.Turns.{SearchState}
 -- only constraints of users are active
 abbrev pub HasOnlyUsers : EngineState → Type 0
 HasOnlyUsers s = (a : Active) → Contains s.active a → is_user a.cid ≡ true
+
+-- no constraint is active that is a search's own
+abbrev pub HasNone : (Cid → Bool) → EngineState → Type 0
+HasNone own s = (a : Active) → Contains s.active a → own a.cid ≡ false
 
 -- the active decisions are those of the search, one a variable
 pub record HasDecisions (s : SearchState) : Type 0 where

@@ -58,14 +58,21 @@ pub record SearchRun (guided ordered : Bool) (budget : ℕ) (s : EngineState) (t
   pub within : length turns ≤ budget
   pub ends : EndsWith budget (length turns) t.engine end
 
--- the ids of all active decisions and negations
-abbrev pub search_cids : List Active → List Cid
-search_cids active = cids_of (filter (λ a. not (is_user a.cid)) active)
+-- a search's own constraints: its decisions and negations
+abbrev pub of_search : Cid → Bool
+of_search c = not (is_user c)
 
--- after the end all decisions and negations are withdrawn, and the engine settles once more
-pub record Closes (ordered : Bool) (s t : EngineState) : Type 0 where
+-- the ids of all active constraints that are a search's own
+abbrev pub own_cids : (Cid → Bool) → List Active → List Cid
+own_cids own active = cids_of (filter (λ a. own a.cid) active)
+
+abbrev pub search_cids : List Active → List Cid
+search_cids active = own_cids of_search active
+
+-- after the end all constraints that are a search's own are withdrawn, and the engine settles once more
+pub record Closes (own : Cid → Bool) (ordered : Bool) (s t : EngineState) : Type 0 where
   pub middle : EngineState
-  pub withdraws : WithdrawsAll s (search_cids s.active) middle
+  pub withdraws : WithdrawsAll s (own_cids own s.active) middle
   pub revisions : List Revision
   pub fits : FitsOrder ordered revisions
   pub settles : Settles None middle revisions t
@@ -74,7 +81,7 @@ pub record Closes (ordered : Bool) (s t : EngineState) : Type 0 where
 pub record Searches (guided ordered : Bool) (budget : ℕ) (s : EngineState) (turns : List Turn) (end : SearchEnd) (t : EngineState) : Type 0 where
   pub last : SearchState
   pub run : SearchRun guided ordered budget s turns end last
-  pub closes : Closes ordered last.engine t
+  pub closes : Closes of_search ordered last.engine t
 
 -- the k-th decision, counted from 0, was taken after the pick f k
 abbrev pub IsPicked : (ℕ → Pick) → List Turn → Type 0

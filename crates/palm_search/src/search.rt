@@ -11,7 +11,7 @@ ghost use Rattle.palm_search.specs.declared.turn.Turn.TheVariants.{Decide as Tur
 ghost use Rattle.palm_search.specs.Asked.{Asks, pick_of};
 ghost use Rattle.palm_search.specs.Calls.{HoldsDecision, LetsGo, TakesBack, TakesTurn, search_state};
 ghost use Rattle.palm_search.specs.Kept.{HasDecisions};
-ghost use Rattle.palm_search.specs.Search.{search_cids};
+ghost use Rattle.palm_search.specs.Search.{of_search, search_cids};
 ghost use Rattle.palm_search.specs.Turns.{HasFlatConflict, IsOpen};
 
 use crate::choice::decided_pair;
@@ -186,7 +186,7 @@ fn pick_of(answer: Option<Pair>) -> Pick
 /// Withdraws each of the decisions.
 fn withdraw_decisions<F: Filter>(decisions: &mut Vec<Pair>, engine: &mut Engine<F>)
     requires { HasDecisions (record { engine = engine.old.state; decisions = decisions.old.items }) }
-    ensures gone { LetsGo engine.old.state engine.new.state }
+    ensures gone { LetsGo of_search engine.old.state engine.new.state }
     ensures none { (x : ℕ) → IsActive engine.new.state.active (Cid.Decide x) → ⊥ }
     ensures decisions { decisions.new.items ≡ [] }
     ensures counts { KeepsCounts engine.old engine.new }
@@ -202,7 +202,7 @@ fn withdraw_decisions<F: Filter>(decisions: &mut Vec<Pair>, engine: &mut Engine<
 
 /// Withdraws each of the negations.
 fn withdraw_negations<F: Filter>(engine: &mut Engine<F>)
-    ensures gone { LetsGo engine.old.state engine.new.state }
+    ensures gone { LetsGo of_search engine.old.state engine.new.state }
     ensures none { (p : PairTerm) → IsActive engine.new.state.active (Cid.Not p) → ⊥ }
     ensures counts { KeepsCounts engine.old engine.new }
     ensures before { IsValid engine.old.state }

@@ -1,5 +1,5 @@
 -- What is known of a search that fits a book: all that is written of it has a name.
-use Rattle.std.proofs.Common.{◌≡◌, ℕ, ℤ, ◌<◌, Bool, true, false, Some, List, [], ◌∷◌, length, All, Contains, inl, inr, refl, sym, ap, ◌∙◌, subst}
+use Rattle.std.proofs.Common.{◌≡◌, ℕ, ℤ, ◌<◌, Bool, true, false, not, Some, List, [], ◌∷◌, length, All, Contains, inl, inr, refl, sym, ap, ◌∙◌, subst}
 use Rattle.std.proofs.lemmas.Bool.{cases_Bool, false≢true}
 use Rattle.std.specs.Prelude.{slice_get}
 use Rattle.std.proofs.lemmas.List.{length-map}
@@ -121,7 +121,7 @@ turned_fits right guided ordered budget book s turns t valid initial active turn
       initial = same;
       users = λ c is. elim (cases_Bool (is_user c)) [
         | inl user ↦ user_named book c (active_user book c (subst (λ (l : List Active). IsActive l c) active
-            (subst (λ (k : Cid). IsActive s.active k) is.named (ended.remembers.users is.owner is.posted (subst (λ (k : Cid). is_user k ≡ true) (sym is.named) user)))))
+            (subst (λ (k : Cid). IsActive s.active k) is.named (ended.remembers.others is.owner is.posted (ap not (subst (λ (k : Cid). is_user k ≡ true) (sym is.named) user))))))
         | inr other ↦ no_user_named book c other
       ];
       decided = λ p m. subst (λ (n : ℕ). p.var < n) count (has_declared t.engine.initial p.var p.value (ended.searching.declared.decided p m));

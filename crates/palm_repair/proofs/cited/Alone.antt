@@ -14,7 +14,7 @@ use Rattle.palm_search.specs.declared.turn.Turn.{Turn}
 use Rattle.palm_search.specs.declared.turn.Turn.TheVariants.{Decide as TurnDecide, Undo as TurnUndo}
 use Rattle.palm_search.specs.Turns.{decided_vars}
 use Rattle.palm_search.specs.declared.ending.SearchEnd.{SearchEnd}
-use Rattle.palm_search.specs.Search.{EndsWith, GoesOn, Closes}
+use Rattle.palm_search.specs.Search.{EndsWith, GoesOn, Closes, of_search}
 use Rattle.palm_search.specs.Search.GoesOn.{could_decide, could_undo}
 use Rattle.palm_search.specs.Kept.{HasOnlyUsers}
 use Rattle.palm_search.proofs.cited.Alone.{decides_same, flat_same, has_empty, settles_same, decided_open, end_stops, ends_same, head_same, tail_same, later_member}
@@ -235,5 +235,5 @@ repair_same right tabu budget s turns end dropped t others other lost u valid us
       turns_same = run.turns_same;
       end_same = run.end_same;
       dropped_same = one.run.drops ∙ ap (λ (z : RepairState). z.dropped) run.state ∙ sym two.run.drops;
-      state_same = closes_same two.last.search.engine t u last.searching.valid (subst (λ (z : RepairState). Closes false z.search.engine t) run.state one.closes) two.closes;
+      state_same = closes_same two.last.search.engine t u last.searching.valid (subst (λ (z : RepairState). Closes of_search false z.search.engine t) run.state one.closes) two.closes;
     }

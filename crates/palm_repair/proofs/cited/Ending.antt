@@ -1,5 +1,5 @@
 -- What the ends of a repair say, and what is left after it.
-use Rattle.std.proofs.Common.{◌≡◌, ℕ, Bool, true, false, None, List, [], ◌∷◌, ◌++◌, length, Contains, inl, inr, refl, sym, subst}
+use Rattle.std.proofs.Common.{◌≡◌, ℕ, Bool, true, false, not, None, List, [], ◌∷◌, ◌++◌, length, Contains, inl, inr, refl, sym, ap, subst}
 use Rattle.palm_base.specs.declared.terms.Cid.{Cid}
 use Rattle.palm_base.specs.declared.terms.Cid.TheVariants.{Decide}
 use Rattle.palm_model.specs.Log.{Active}
@@ -13,9 +13,10 @@ use Rattle.palm_search.specs.declared.turn.Turn.{Turn}
 use Rattle.palm_search.specs.declared.turn.Turn.TheVariants.{Decide as TurnDecide, Undo as TurnUndo}
 use Rattle.palm_search.specs.Turns.{decided_vars}
 use Rattle.palm_search.specs.declared.ending.SearchEnd.{SearchEnd}
-use Rattle.palm_search.specs.Search.{begun}
+use Rattle.palm_search.specs.Search.{begun, of_search}
 use Rattle.palm_search.specs.Kept.{HasOnlyUsers, Rests}
-use Rattle.palm_search.proofs.cited.Leaving.{Searched, searched_none, searched_posted, searched_withdrawn, searched_settles, closing_leaves, Remembers, remembers_none, remembers_posted, remembers_withdrawn, remembers_settles, users_later, Ended, ended_rests}
+use Rattle.palm_search.proofs.cited.Leaving.{Ended, ended_rests, users_none}
+use Rattle.palm_search.proofs.cited.Owning.{Gains, Remembers, closing_leaves, gains_none, gains_posted, gains_settles, gains_withdrawn, others_new, remembers_none, remembers_posted, remembers_settles, remembers_withdrawn, search_owns}
 use Rattle.palm_repair.specs.Posting.{Nogood, RepairState, PostsFrom, PostsSome, nogood_of}
 use Rattle.palm_repair.specs.Repair.{MakesRoom, RepairTakes, RepairSettles, RepairTurns, RepairRun, Repairs, forced_by, repair_begun}
 use Rattle.palm_repair.specs.Kept.{IsRepairing}
@@ -81,51 +82,51 @@ part_along Q kept guided tabu s turn next takes t valid some q =
 
 -- ---- the log
 
-pub searched_along : (s : EngineState) → HasOnlyUsers s → IsValid s → IsKeptAlong (Searched s)
-searched_along s users valid = record {
-  posts = λ m a t f posts searched. searched_posted s m a t f posts searched;
-  withdraws = λ m gone t may withdraws searched. searched_withdrawn s m gone t may.keeps (users_later s users gone may.none) withdraws valid searched;
+pub gains_along : (s : EngineState) → HasOnlyUsers s → IsValid s → IsKeptAlong (Gains of_search s)
+gains_along s users valid = record {
+  posts = λ m a t f posts gains. gains_posted of_search s m a t (ap not f) posts gains;
+  withdraws = λ m gone t may withdraws gains. gains_withdrawn of_search s m gone t may.keeps (others_new of_search s search_owns (users_none s users) gone may.none) withdraws valid gains;
 }
 
-searched_turns : ReasonsAreRight → (guided ordered : Bool) (tabu : ℕ) (s : EngineState) (m : RepairState) (turns : List Turn) (t : RepairState) → HasOnlyUsers s → IsValid s → IsStill s
-    → RepairTurns guided ordered tabu m turns t → Searched s m.search.engine → Searched s t.search.engine
-searched_turns right guided ordered tabu s m [] t users valid still run searched = subst (λ (z : RepairState). Searched s z.search.engine) (sym run) searched
-searched_turns right guided ordered tabu s m (turn ∷ turns) t users valid still run searched =
+gains_turns : ReasonsAreRight → (guided ordered : Bool) (tabu : ℕ) (s : EngineState) (m : RepairState) (turns : List Turn) (t : RepairState) → HasOnlyUsers s → IsValid s → IsStill s
+    → RepairTurns guided ordered tabu m turns t → Gains of_search s m.search.engine → Gains of_search s t.search.engine
+gains_turns right guided ordered tabu s m [] t users valid still run gains = subst (λ (z : RepairState). Gains of_search s z.search.engine) (sym run) gains
+gains_turns right guided ordered tabu s m (turn ∷ turns) t users valid still run gains =
     let follows = run.1 in
-    let taken = takes_along (Searched s) (searched_along s users valid) guided tabu m turn follows.middle follows.takes searched.valid searched in
-    searched_turns right guided ordered tabu s run.0 turns t users valid still run.2 (searched_settles right ordered s follows.middle.search run.0.search follows.settles.settles valid still taken)
+    let taken = takes_along (Gains of_search s) (gains_along s users valid) guided tabu m turn follows.middle follows.takes gains.valid gains in
+    gains_turns right guided ordered tabu s run.0 turns t users valid still run.2 (gains_settles right ordered of_search s follows.middle.search run.0.search follows.settles.settles valid still taken)
 
 -- a settling and turns lead from s to t
-pub turned_searched : ReasonsAreRight → (guided ordered : Bool) (tabu : ℕ) (s : EngineState) (start : RepairState) (turns : List Turn) (t : RepairState) → HasOnlyUsers s → IsValid s → IsStill s
-    → RepairSettles ordered (repair_begun s) start → RepairTurns guided ordered tabu start turns t → Searched s t.search.engine
-turned_searched right guided ordered tabu s start turns t users valid still settles taken =
-    searched_turns right guided ordered tabu s start turns t users valid still taken (searched_settles right ordered s (begun s) start.search settles.settles valid still (searched_none s valid))
+pub turned_gains : ReasonsAreRight → (guided ordered : Bool) (tabu : ℕ) (s : EngineState) (start : RepairState) (turns : List Turn) (t : RepairState) → HasOnlyUsers s → IsValid s → IsStill s
+    → RepairSettles ordered (repair_begun s) start → RepairTurns guided ordered tabu start turns t → Gains of_search s t.search.engine
+turned_gains right guided ordered tabu s start turns t users valid still settles taken =
+    gains_turns right guided ordered tabu s start turns t users valid still taken (gains_settles right ordered of_search s (begun s) start.search settles.settles valid still (gains_none of_search s valid))
 
 pub repair_leaves : ReasonsAreRight → (guided ordered : Bool) (tabu budget : ℕ) (s : EngineState) (turns : List Turn) (end : SearchEnd) (dropped : ℕ) (t : EngineState) → HasOnlyUsers s → IsValid s → IsStill s
     → Repairs guided ordered tabu budget s turns end dropped t → t.log ≡ s.log
 repair_leaves right guided ordered tabu budget s turns end dropped t users valid still repairs =
     let run = repairs.run in
-    let last = turned_searched right guided ordered tabu s run.start turns repairs.last users valid still run.settles run.taken in
+    let last = turned_gains right guided ordered tabu s run.start turns repairs.last users valid still run.settles run.taken in
     let closes = repairs.closes in
-    closing_leaves right s repairs.last.search.engine closes.middle t users valid still last closes.withdraws (settling_filters None closes.middle closes.revisions t closes.settles)
+    closing_leaves right of_search s repairs.last.search.engine closes.middle t search_owns (users_none s users) valid still last closes.withdraws (settling_filters None closes.middle closes.revisions t closes.settles)
 
 -- ---- the constraints
 
-remembers_along : (s : EngineState) → HasOnlyUsers s → IsKeptAlong (Remembers s)
+remembers_along : (s : EngineState) → HasOnlyUsers s → IsKeptAlong (Remembers of_search s)
 remembers_along s users = record {
-  posts = λ m a t f posts old. remembers_posted s m a t f posts old;
-  withdraws = λ m gone t may withdraws old. remembers_withdrawn s m gone t (users_later s users gone may.none) withdraws old;
+  posts = λ m a t f posts old. remembers_posted of_search s m a t (ap not f) posts old;
+  withdraws = λ m gone t may withdraws old. remembers_withdrawn of_search s m gone t (others_new of_search s search_owns (users_none s users) gone may.none) withdraws old;
 }
 
 remembers_turns : ReasonsAreRight → (guided ordered : Bool) (tabu : ℕ) (s : EngineState) (m : RepairState) (turns : List Turn) (t : RepairState) → HasOnlyUsers s → IsRepairing m
-    → RepairTurns guided ordered tabu m turns t → Remembers s m.search.engine → Remembers s t.search.engine
-remembers_turns right guided ordered tabu s m [] t users repairing run old = subst (λ (z : RepairState). Remembers s z.search.engine) (sym run) old
+    → RepairTurns guided ordered tabu m turns t → Remembers of_search s m.search.engine → Remembers of_search s t.search.engine
+remembers_turns right guided ordered tabu s m [] t users repairing run old = subst (λ (z : RepairState). Remembers of_search s z.search.engine) (sym run) old
 remembers_turns right guided ordered tabu s m (turn ∷ turns) t users repairing run old =
     let follows = run.1 in
-    let taken = takes_along (Remembers s) (remembers_along s users) guided tabu m turn follows.middle follows.takes repairing.searching.valid old in
+    let taken = takes_along (Remembers of_search s) (remembers_along s users) guided tabu m turn follows.middle follows.takes repairing.searching.valid old in
     let middle = repair_takes_keep guided tabu m turn follows.middle follows.takes repairing in
     remembers_turns right guided ordered tabu s run.0 turns t users (repair_settles_keep right ordered follows.middle run.0 follows.settles middle) run.2
-    (remembers_settles ordered s follows.middle.search run.0.search follows.settles.settles taken)
+    (remembers_settles ordered of_search s follows.middle.search run.0.search follows.settles.settles taken)
 
 -- a settling and turns lead from s to t
 pub turned_ended : ReasonsAreRight → (guided ordered : Bool) (tabu : ℕ) (s : EngineState) (start : RepairState) (turns : List Turn) (t : RepairState) → HasOnlyUsers s → IsValid s
@@ -133,7 +134,7 @@ pub turned_ended : ReasonsAreRight → (guided ordered : Bool) (tabu : ℕ) (s :
 turned_ended right guided ordered tabu s start turns t users valid settles taken =
     let at = starts_at_turn right ordered s start valid users settles in
     let last = turns_at_turn right guided ordered tabu start turns t taken at in
-    let first = remembers_settles ordered s (begun s) start.search settles.settles (remembers_none s) in
+    let first = remembers_settles ordered of_search s (begun s) start.search settles.settles (remembers_none of_search s) in
     record {
       searching = last.repairing.searching;
       still = last.still;

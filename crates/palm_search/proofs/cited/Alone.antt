@@ -26,7 +26,7 @@ use Rattle.palm_search.specs.declared.ending.SearchEnd.TheVariants.{Found, NoSol
 use Rattle.palm_search.specs.Search.GoesOn.{could_decide, could_undo}
 use Rattle.palm_search.specs.Kept.{HasOnlyUsers, IsSearching}
 use Rattle.palm_search.proofs.cited.Keeping.{begins, takes_keep, settles_keep}
-use Rattle.palm_search.proofs.Solving.{decided_member, found_filled}
+use Rattle.palm_search.proofs.cited.Solving.{decided_member, found_filled}
 
 -- ---- decisions
 

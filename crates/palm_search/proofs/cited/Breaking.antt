@@ -12,10 +12,11 @@ use Rattle.palm_engine.proofs.cited.Settled.{filters_valid}
 use Rattle.palm_search.specs.declared.turn.Turn.{Turn}
 use Rattle.palm_search.specs.Kept.{HasOnlyUsers}
 use Rattle.palm_search.specs.declared.ending.SearchEnd.{SearchEnd}
-use Rattle.palm_search.specs.Search.{SearchRun, Searches, search_cids}
+use Rattle.palm_search.specs.Search.{SearchRun, Searches, of_search, search_cids}
 use Rattle.palm_search.specs.Turns.{SearchState}
 use Rattle.palm_search.proofs.cited.Keeping.{takes_keep}
-use Rattle.palm_search.proofs.cited.Leaving.{Ended, Remembers, Searched, closing_leaves, closing_returns, remembers_filtered, remembers_none, remembers_takes, remembers_undone, search_leaves, search_rests, searched_filtered, searched_none, searched_takes, searched_undone, turned_ended, turned_searched}
+use Rattle.palm_search.proofs.cited.Leaving.{Ended, search_leaves, search_rests, turned_ended, turned_gains, users_none}
+use Rattle.palm_search.proofs.cited.Owning.{Gains, Remembers, closing_leaves, closing_returns, gains_filtered, gains_none, gains_takes, gains_undone, remembers_filtered, remembers_none, remembers_takes, remembers_undone, search_owns}
 use Rattle.palm_search.specs.Breaking.{BreaksOff, HasTurned, IsCutOff}
 use Rattle.palm_search.specs.Breaking.IsCutOff.{before_turn, in_first_settling, in_settling, in_undoing}
 use Rattle.palm_search.specs.Calls.{SearchView}
@@ -29,11 +30,11 @@ ended_here right guided ordered budget s turns m users valid turned = turned_end
 -- the engine is valid and remembers s
 record Knows (s t : EngineState) : Type 0 where
   valid : IsValid t
-  remembers : Remembers s t
+  remembers : Remembers of_search s t
 
 cut_knows : ReasonsAreRight → (guided ordered : Bool) (budget : ℕ) (s : EngineState) (turns : List Turn) (t : EngineState) → HasOnlyUsers s → IsValid s → IsCutOff guided ordered budget s turns t → Knows s t
 cut_knows right guided ordered budget s turns t users valid (in_first_settling e filters) =
-    record { valid = filters_valid right s t filters valid; remembers = remembers_filtered s s t filters (remembers_none s) }
+    record { valid = filters_valid right s t filters valid; remembers = remembers_filtered of_search s s t filters (remembers_none of_search s) }
 cut_knows right guided ordered budget s turns t users valid (before_turn m turned e) =
     let ended = ended_here right guided ordered budget s turns m users valid turned in
     subst (Knows s) (sym e) (record { valid = ended.searching.valid; remembers = ended.remembers })
@@ -41,26 +42,26 @@ cut_knows right guided ordered budget s turns t users valid (in_undoing m next b
     let ended = ended_here right guided ordered budget s before m users valid turned in
     subst (Knows s) (sym f) (record {
       valid = withdraws_valid m.engine undoes.middle (Decide gone.var) undoes.withdraws ended.searching.valid;
-      remembers = remembers_undone s m gone conflict next undoes users ended.searching.valid ended.remembers;
+      remembers = remembers_undone of_search s m gone conflict next undoes search_owns (users_none s users) ended.searching.valid ended.remembers;
     })
 cut_knows right guided ordered budget s turns t users valid (in_settling m next before turn turned lt takes e filters) =
     let ended = ended_here right guided ordered budget s before m users valid turned in
     record {
       valid = filters_valid right next.engine t filters (takes_keep guided m turn next takes ended.searching).valid;
-      remembers = remembers_filtered s next.engine t filters (remembers_takes guided s m turn next users ended.searching.valid takes ended.remembers);
+      remembers = remembers_filtered of_search s next.engine t filters (remembers_takes guided of_search s m turn next search_owns (users_none s users) ended.searching.valid takes ended.remembers);
     }
 
-searched_here : ReasonsAreRight → (guided ordered : Bool) (budget : ℕ) (s : EngineState) (turns : List Turn) (m : SearchState) → HasOnlyUsers s → IsValid s → IsStill s → HasTurned guided ordered budget s turns m → Searched s m.engine
-searched_here right guided ordered budget s turns m users valid still turned = turned_searched right guided ordered s turned.start turns m users valid still turned.settles turned.taken
+gains_here : ReasonsAreRight → (guided ordered : Bool) (budget : ℕ) (s : EngineState) (turns : List Turn) (m : SearchState) → HasOnlyUsers s → IsValid s → IsStill s → HasTurned guided ordered budget s turns m → Gains of_search s m.engine
+gains_here right guided ordered budget s turns m users valid still turned = turned_gains right guided ordered s turned.start turns m users valid still turned.settles turned.taken
 
-cut_searched : ReasonsAreRight → (guided ordered : Bool) (budget : ℕ) (s : EngineState) (turns : List Turn) (t : EngineState) → HasOnlyUsers s → IsValid s → IsStill s → IsCutOff guided ordered budget s turns t → Searched s t
-cut_searched right guided ordered budget s turns t users valid still (in_first_settling e filters) = searched_filtered right s s t filters valid still (searched_none s valid)
-cut_searched right guided ordered budget s turns t users valid still (before_turn m turned e) =
-    subst (Searched s) (sym e) (searched_here right guided ordered budget s turns m users valid still turned)
-cut_searched right guided ordered budget s turns t users valid still (in_undoing m next before gone conflict undoes turned lt e f) =
-    subst (Searched s) (sym f) (searched_undone s m gone conflict next undoes users valid (searched_here right guided ordered budget s before m users valid still turned))
-cut_searched right guided ordered budget s turns t users valid still (in_settling m next before turn turned lt takes e filters) =
-    searched_filtered right s next.engine t filters valid still (searched_takes guided s m turn next users valid takes (searched_here right guided ordered budget s before m users valid still turned))
+cut_gains : ReasonsAreRight → (guided ordered : Bool) (budget : ℕ) (s : EngineState) (turns : List Turn) (t : EngineState) → HasOnlyUsers s → IsValid s → IsStill s → IsCutOff guided ordered budget s turns t → Gains of_search s t
+cut_gains right guided ordered budget s turns t users valid still (in_first_settling e filters) = gains_filtered right of_search s s t filters valid still (gains_none of_search s valid)
+cut_gains right guided ordered budget s turns t users valid still (before_turn m turned e) =
+    subst (Gains of_search s) (sym e) (gains_here right guided ordered budget s turns m users valid still turned)
+cut_gains right guided ordered budget s turns t users valid still (in_undoing m next before gone conflict undoes turned lt e f) =
+    subst (Gains of_search s) (sym f) (gains_undone of_search s m gone conflict next undoes search_owns (users_none s users) valid (gains_here right guided ordered budget s before m users valid still turned))
+cut_gains right guided ordered budget s turns t users valid still (in_settling m next before turn turned lt takes e filters) =
+    gains_filtered right of_search s next.engine t filters valid still (gains_takes guided of_search s m turn next search_owns (users_none s users) valid takes (gains_here right guided ordered budget s before m users valid still turned))
 
 -- ---- and all its decisions and negations are withdrawn
 
@@ -68,11 +69,11 @@ pub broken_leaves : {T E : Type 0} → ReasonsAreRight → (guided ordered : Boo
     → BreaksOff guided ordered budget s turns t → IsValid t → after.decisions ≡ [] → OnOk result (IsStill t) → Leaves s t after result
 broken_leaves right guided ordered budget s turns t after result users valid broken valid_after none still =
     let knows = cut_knows right guided ordered budget s turns broken.cut users valid broken.is in
-    let returns = closing_returns right s broken.cut broken.middle t users valid knows.valid knows.remembers broken.withdraws broken.filters in
+    let returns = closing_returns right of_search s broken.cut broken.middle t search_owns (users_none s users) valid knows.valid knows.remembers broken.withdraws broken.filters in
     record {
       active = returns.active;
       initial = returns.initial;
-      log = λ rest. closing_leaves right s broken.cut broken.middle t users valid rest (cut_searched right guided ordered budget s turns broken.cut users valid rest broken.is) broken.withdraws broken.filters;
+      log = λ rest. closing_leaves right of_search s broken.cut broken.middle t search_owns (users_none s users) valid rest (cut_gains right guided ordered budget s turns broken.cut users valid rest broken.is) broken.withdraws broken.filters;
       still = still;
       decisions = none;
       valid = valid_after;

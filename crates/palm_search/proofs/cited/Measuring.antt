@@ -407,13 +407,13 @@ unfolding decides_in undoes_in
 undo_counted gone conflict turns = (refl, refl)
 
 -- the measure rises by the undoings at least, and the decisions grow by those taken and shrink by those undone
-record Weighs (s : SearchState) (turns : List Turn) (t : SearchState) : Type 0 where
-  rises : measure s + undoes_in turns ≤ measure t
-  decisions : length t.decisions + undoes_in turns ≡ length s.decisions + decides_in turns
-  searching : IsSearching t
-  initial : t.engine.initial ≡ s.engine.initial
+pub record Weighs (s : SearchState) (turns : List Turn) (t : SearchState) : Type 0 where
+  pub rises : measure s + undoes_in turns ≤ measure t
+  pub decisions : length t.decisions + undoes_in turns ≡ length s.decisions + decides_in turns
+  pub searching : IsSearching t
+  pub initial : t.engine.initial ≡ s.engine.initial
 
-turn_weighs : ReasonsAreRight → (guided ordered : Bool) (s : SearchState) (turn : Turn) (t : SearchState) → Follows guided ordered s turn t → IsSearching s → Weighs s (turn ∷ []) t
+pub turn_weighs : ReasonsAreRight → (guided ordered : Bool) (s : SearchState) (turn : Turn) (t : SearchState) → Follows guided ordered s turn t → IsSearching s → Weighs s (turn ∷ []) t
 unfolding decides_in undoes_in
 turn_weighs right guided ordered s (TurnDecide pair pick) t follows searching =
     let m = follows.middle in
@@ -451,12 +451,17 @@ unfolding decides_in undoes_in
 one_turn (TurnDecide pair pick) turns = (omega arith, omega arith)
 one_turn (TurnUndo gone conflict) turns = (omega arith, omega arith)
 
-turns_weigh : ReasonsAreRight → (guided ordered : Bool) (s : SearchState) (turns : List Turn) (t : SearchState) → Turns guided ordered s turns t → IsSearching s → Weighs s turns t
+-- no turn is taken, and the measure does not fall
+pub weighs_none : (s t : SearchState) → measure s ≤ measure t → length t.decisions ≡ length s.decisions → IsSearching t → t.engine.initial ≡ s.engine.initial → Weighs s [] t
 unfolding decides_in undoes_in
-turns_weigh right guided ordered s [] t run searching = subst (λ z. Weighs s [] z) (sym run) (record { rises = omega arith; decisions = omega arith; searching = searching; initial = refl })
-turns_weigh right guided ordered s (turn ∷ turns) t run searching =
-    let first = turn_weighs right guided ordered s turn run.0 run.1 searching in
-    let rest = turns_weigh right guided ordered run.0 turns t run.2 first.searching in
+weighs_none s t up same searching initial = record { rises = omega (arith, up); decisions = omega (arith, same); searching = searching; initial = initial }
+
+pub weighs_same : (s t : SearchState) → t ≡ s → IsSearching s → Weighs s [] t
+weighs_same s t e searching = subst (λ z. Weighs s [] z) (sym e) (weighs_none s s (omega arith) refl searching refl)
+
+-- some turns, and then others
+pub weighs_then : (s m t : SearchState) (turn : Turn) (turns : List Turn) → Weighs s (turn ∷ []) m → Weighs m turns t → Weighs s (turn ∷ turns) t
+weighs_then s m t turn turns first rest =
     let split = one_turn turn turns in
     let u = split.0 in
     let d = split.1 in
@@ -471,6 +476,27 @@ turns_weigh right guided ordered s (turn ∷ turns) t run searching =
       initial = rest.initial ∙ first.initial;
     }
 
+pub weighs_after : (s m t : SearchState) (turns : List Turn) → Weighs s [] m → Weighs m turns t → Weighs s turns t
+weighs_after s m t turns first rest =
+    let u = none_counted.0 in
+    let d = none_counted.1 in
+    let a = first.rises in
+    let b = rest.rises in
+    let x = first.decisions in
+    let y = rest.decisions in
+    record {
+      rises = omega (arith, u, a, b);
+      decisions = omega (arith, u, d, x, y);
+      searching = rest.searching;
+      initial = rest.initial ∙ first.initial;
+    }
+
+turns_weigh : ReasonsAreRight → (guided ordered : Bool) (s : SearchState) (turns : List Turn) (t : SearchState) → Turns guided ordered s turns t → IsSearching s → Weighs s turns t
+turns_weigh right guided ordered s [] t run searching = weighs_same s t run searching
+turns_weigh right guided ordered s (turn ∷ turns) t run searching =
+    let first = turn_weighs right guided ordered s turn run.0 run.1 searching in
+    weighs_then s run.0 t turn turns first (turns_weigh right guided ordered run.0 turns t run.2 first.searching)
+
 one_power : (n : ℕ) → (0 + 1) ^ n ≡ suc zero
 one_power zero = pow-zero 1
 one_power (suc n) =
@@ -483,10 +509,9 @@ no_variables [] e = refl
 no_variables (vs ∷ d) e = absurd (omega (arith, e))
 
 -- turns that begin with no decision are bounded
-pub turns_bounded : ReasonsAreRight → (guided ordered : Bool) (s : SearchState) (turns : List Turn) (t : SearchState) → Turns guided ordered s turns t → IsSearching s → s.decisions ≡ []
+pub weighs_bounded : (s : SearchState) (turns : List Turn) (t : SearchState) → Weighs s turns t → s.decisions ≡ []
     → length turns < most_turns (length s.engine.initial) (value_count s.engine.initial)
-turns_bounded right guided ordered s turns t run searching none =
-    let weighs = turns_weigh right guided ordered s turns t run searching in
+weighs_bounded s turns t weighs none =
     let n = length s.engine.initial in
     let top = value_count s.engine.initial in
     let bound = (top + 1) ^ (n + 1) in
@@ -506,6 +531,10 @@ turns_bounded right guided ordered s turns t run searching none =
     let total = turns_few n bound (undoes_in turns) (decides_in turns) undone decided zero_case in
     let count = turns_counted turns in
     omega (arith, total, count)
+
+pub turns_bounded : ReasonsAreRight → (guided ordered : Bool) (s : SearchState) (turns : List Turn) (t : SearchState) → Turns guided ordered s turns t → IsSearching s → s.decisions ≡ []
+    → length turns < most_turns (length s.engine.initial) (value_count s.engine.initial)
+turns_bounded right guided ordered s turns t run searching none = weighs_bounded s turns t (turns_weigh right guided ordered s turns t run searching) none
 
 -- ---- whole searches
 

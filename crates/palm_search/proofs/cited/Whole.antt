@@ -11,10 +11,10 @@ use Rattle.palm_search.specs.declared.turn.Pick.{Pick}
 use Rattle.palm_search.specs.declared.turn.Turn.{Turn}
 use Rattle.palm_search.specs.Turns.{SearchState, FitsGuide}
 use Rattle.palm_search.specs.declared.ending.SearchEnd.{SearchEnd}
-use Rattle.palm_search.specs.Search.{SearchRun, Closes, Searches, SearchesTo, IsSameSearch, begun, search_cids}
+use Rattle.palm_search.specs.Search.{SearchRun, Closes, Searches, SearchesTo, IsSameSearch, begun, of_search, search_cids}
 use Rattle.palm_search.specs.Kept.{HasOnlyUsers, IsSearching}
 use Rattle.palm_search.proofs.cited.Keeping.{begins, settles_keep, turns_keep}
-use Rattle.palm_search.proofs.cited.Leaving.{closing_keeps}
+use Rattle.palm_search.proofs.cited.Owning.{closing_keeps, search_owns}
 use Rattle.palm_search.proofs.cited.Alone.{run_same}
 use Rattle.palm_search.proofs.cited.Going.{order_fits, run_exists}
 
@@ -23,15 +23,15 @@ run_searching right guided ordered budget s turns end t valid users run =
     turns_keep right guided ordered run.start turns t run.taken (settles_keep right ordered (begun s) run.start run.settles (begins s valid users))
 
 closed_valid : (m t : EngineState) → IsValid m → WithdrawsAll m (search_cids m.active) t → IsValid t
-closed_valid m t valid withdraws = withdraws_all_valid m t (search_cids m.active) (closing_keeps m valid) withdraws valid
+closed_valid m t valid withdraws = withdraws_all_valid m t (search_cids m.active) (closing_keeps of_search search_owns m valid) withdraws valid
 
-pub closes_exist : (ordered : Bool) (m : EngineState) → IsValid m → (t : EngineState) × Closes ordered m t
+pub closes_exist : (ordered : Bool) (m : EngineState) → IsValid m → (t : EngineState) × Closes of_search ordered m t
 closes_exist ordered m valid =
     let w = withdrawal_exists m (search_cids m.active) valid in
     let r = plainly_exists None w.0 (closed_valid m w.0 valid w.1) in
     (r.state, record { middle = w.0; withdraws = w.1; revisions = r.revisions; fits = order_fits ordered r.revisions r.fits; settles = r.settles })
 
-pub closes_same : (m t u : EngineState) → IsValid m → Closes false m t → Closes false m u → t ≡ u
+pub closes_same : (m t u : EngineState) → IsValid m → Closes of_search false m t → Closes of_search false m u → t ≡ u
 closes_same m t u valid one two =
     let middle : one.middle ≡ two.middle = withdrawal_same m (search_cids m.active) one.middle two.middle one.withdraws two.withdraws in
     (plainly_same None two.middle one.revisions t two.revisions u (closed_valid m two.middle valid two.withdraws) one.fits two.fits (subst (λ z. Settles None z one.revisions t) middle one.settles) two.settles).state
@@ -50,5 +50,5 @@ search_same right budget s turns end t others other u valid users one two =
     record {
       turns_same = run.turns_same;
       end_same = run.end_same;
-      state_same = closes_same two.last.engine t u last (subst (λ (z : SearchState). Closes false z.engine t) run.state one.closes) two.closes;
+      state_same = closes_same two.last.engine t u last (subst (λ (z : SearchState). Closes of_search false z.engine t) run.state one.closes) two.closes;
     }

@@ -1,4 +1,4 @@
-use Rattle.palm_search.proofs.Joining.{joined_searching, joined_measure}
+use Rattle.palm_search.proofs.cited.Joining.{joined_searching, joined_measure}
 use Rattle.palm_search.proofs.laws.bound.posting_users_keeps_searching.Goals as goal
 
 pub returns : goal.returns

@@ -1,11 +1,11 @@
--- The decisions and negations are withdrawn one after another, until none is left.
+-- Constraints that are a search's own are withdrawn one after another, until none is left.
 use Rattle.std.proofs.Common.{◌≡◌, ℕ, ◌<◌, ◌≤◌, Bool, true, false, not, cond, List, [], ◌∷◌, ◌++◌, length, filter, Contains, inl, inr, refl, sym, ap, ◌∙◌, subst, arith}
-use Rattle.std.proofs.lemmas.Bool.{cases_Bool, false≢true, not-true}
+use Rattle.std.proofs.lemmas.Bool.{cases_Bool, false≢true}
 use Rattle.std.proofs.lemmas.List.Elements.{Contains-append_cases}
 use Rattle.palm_base.specs.declared.terms.Pair.{Pair}
 use Rattle.palm_base.specs.declared.terms.Cid.{Cid}
 use Rattle.palm_base.specs.declared.terms.Cid.TheVariants.{Decide, Not, User}
-use Rattle.palm_base.proofs.cited.Members.{member_nil, member_here, member_cases, member_same, member_map, member_unmap, member_filter, filter_member, filter_agree_members}
+use Rattle.palm_base.proofs.cited.Members.{member_nil, member_here, member_cases, member_same, member_unmap, filter_member, filter_agree_members}
 use Rattle.palm_model.specs.Log.{Active, IsActive, Removal, Loses, cids_of, is_named}
 use Rattle.palm_model.specs.Log.Loses.{none_left, is_lost, is_kept}
 use Rattle.palm_model.specs.State.{EngineState, IsValid, is_user, woken}
@@ -14,9 +14,10 @@ use Rattle.palm_events.proofs.cited.Names.{named_member, member_named}
 use Rattle.palm_events.proofs.cited.States.{without_cids_member, member_without_cids, held_not_justifier}
 use Rattle.palm_engine.proofs.cited.Withdrawing.{loses_none, without_none, none_lost, withdraws_then}
 use Rattle.palm_search.specs.Calls.{LetsGo}
-use Rattle.palm_search.specs.Search.{search_cids}
+use Rattle.palm_search.specs.Kept.{HasNone, HasOnlyUsers}
+use Rattle.palm_search.specs.Search.{of_search, own_cids}
 use Rattle.palm_search.proofs.cited.Deciding.{gone_itself}
-use Rattle.palm_search.proofs.cited.Leaving.{user_justifier}
+use Rattle.palm_search.proofs.cited.Owning.{OwnsSearch, member_own, user_justifier}
 
 pub no_members : {X : Type 0} (xs : List X) → ((x : X) → Contains xs x → ⊥) → xs ≡ []
 no_members [] none = refl
@@ -29,13 +30,9 @@ agree false false to from = refl
 
 -- ---- one after another
 
-member_search : (active : List Active) (a : Active) → Contains active a → is_user a.cid ≡ false → Contains (search_cids active) a.cid
-member_search active a m f =
-    member_map (λ (b : Active). b.cid) (filter (λ b. not (is_user b.cid)) active) a (member_filter (λ (b : Active). not (is_user b.cid)) active a m (ap not f))
-
--- no decision and no negation
-pub goes_none : (s : EngineState) → IsValid s → LetsGo s s
-goes_none s valid =
+-- none of them
+pub goes_none : (own : Cid → Bool) (s : EngineState) → IsValid s → LetsGo own s s
+goes_none own s valid =
     let active = without_none s.active in
     let vars : vars_of (lost_pairs s.log s.log) ≡ [] = no_members (vars_of (lost_pairs s.log s.log)) (none_lost s.log) in
     let pending : s.pending ≡ woken (without_cids [] s.active) s.pending (vars_of (lost_pairs s.log s.log)) = valid.waiting ∙ (λ i. woken (sym active i) s.pending (sym vars i)) in
@@ -46,35 +43,35 @@ goes_none s valid =
     }
 
 -- one of them, with what rests on it
-pub goes_one : (s t : EngineState) (cid : Cid) → IsValid s → IsActive s.active cid → is_user cid ≡ false → Withdraws s cid t → LetsGo s t
-goes_one s t cid valid is other withdraws = record {
+pub goes_one : (own : Cid → Bool) (s t : EngineState) (cid : Cid) → OwnsSearch own → IsValid s → IsActive s.active cid → own cid ≡ true → Withdraws s cid t → LetsGo own s t
+goes_one own s t cid owns valid is mine withdraws = record {
   gone = gone_with s.active cid;
   among = λ c m. elim (member_cases cid (cids_of (filter (λ b. is_named b.justification cid) s.active)) c m) [
-    | inl e ↦ member_same (search_cids s.active) is.owner.cid c (is.named ∙ e) (member_search s.active is.owner is.posted (subst (λ d. is_user d ≡ false) (sym is.named) other))
+    | inl e ↦ member_same (own_cids own s.active) is.owner.cid c (is.named ∙ e) (member_own own s.active is.owner is.posted (subst (λ d. own d ≡ true) (sym is.named) mine))
     | inr k ↦
         let r = member_unmap (λ (b : Active). b.cid) (filter (λ b. is_named b.justification cid) s.active) c k in
         let f = filter_member (λ (b : Active). is_named b.justification cid) s.active r.0 r.1 in
         elim (cases_Bool (is_user r.0.cid)) [
           | inl t ↦ absurd (held_not_justifier (length s.initial) s.active r.0 cid (valid.formed r.0 f.0) (named_member r.0.justification cid f.1) (user_justifier r.0.cid t))
-          | inr n ↦ member_same (search_cids s.active) r.0.cid c r.2 (member_search s.active r.0 f.0 n)
+          | inr n ↦ member_same (own_cids own s.active) r.0.cid c r.2 (member_own own s.active r.0 f.0 (owns r.0.cid n))
         ]
   ];
   withdraws = withdraws;
 }
 
 -- what is active after a withdrawal was so before it
-pub left_active : (s t : EngineState) (goes : LetsGo s t) (a : Active) → Contains t.active a → Contains s.active a × (Contains goes.gone a.cid → ⊥)
-left_active s t goes a m = without_cids_member goes.gone s.active a (subst (λ (z : EngineState). Contains z.active a) goes.withdraws.after m)
+pub left_active : (own : Cid → Bool) (s t : EngineState) (goes : LetsGo own s t) (a : Active) → Contains t.active a → Contains s.active a × (Contains goes.gone a.cid → ⊥)
+left_active own s t goes a m = without_cids_member goes.gone s.active a (subst (λ (z : EngineState). Contains z.active a) goes.withdraws.after m)
 
-pub goes_then : (s m t : EngineState) → IsValid s → LetsGo s m → LetsGo m t → LetsGo s t
-goes_then s m t valid one two = record {
+pub goes_then : (own : Cid → Bool) (s m t : EngineState) → IsValid s → LetsGo own s m → LetsGo own m t → LetsGo own s t
+goes_then own s m t valid one two = record {
   gone = one.gone ++ two.gone;
   among = λ c k. elim (Contains-append_cases one.gone two.gone c k) [
     | inl j ↦ one.among c j
     | inr j ↦
-        let r = member_unmap (λ (b : Active). b.cid) (filter (λ b. not (is_user b.cid)) m.active) c (two.among c j) in
-        let f = filter_member (λ (b : Active). not (is_user b.cid)) m.active r.0 r.1 in
-        member_same (search_cids s.active) r.0.cid c r.2 (member_search s.active r.0 (left_active s m one r.0 f.0).0 (not-true (is_user r.0.cid) f.1))
+        let r = member_unmap (λ (b : Active). b.cid) (filter (λ b. own b.cid) m.active) c (two.among c j) in
+        let f = filter_member (λ (b : Active). own b.cid) m.active r.0 r.1 in
+        member_same (own_cids own s.active) r.0.cid c r.2 (member_own own s.active r.0 (left_active own s m one r.0 f.0).0 f.1)
   ];
   withdraws = withdraws_then s m t one.gone two.gone valid.rising one.withdraws two.withdraws;
 }
@@ -89,39 +86,38 @@ loses_alike log gone more to from _ _ (is_lost r rest left cids loses) =
 loses_alike log gone more to from _ _ (is_kept r rest left keeps loses) =
     is_kept r rest left (λ some. keeps (record { cid = some.cid; among = from some.cid some.among; names = some.names })) (loses_alike log gone more to from rest left loses)
 
--- where only users are left, all of them went
-pub gone_all : (s t : EngineState) → LetsGo s t → ((a : Active) → Contains t.active a → is_user a.cid ≡ true) → WithdrawsAll s (search_cids s.active) t
-gone_all s t goes users =
-    let went = λ (a : Active) (m : Contains s.active a) (f : is_user a.cid ≡ false). member_gone s t goes users a m f in
-    let from : (c : Cid) → Contains (search_cids s.active) c → Contains goes.gone c = λ c k.
-    let r = member_unmap (λ (b : Active). b.cid) (filter (λ b. not (is_user b.cid)) s.active) c k in
-    let f = filter_member (λ (b : Active). not (is_user b.cid)) s.active r.0 r.1 in
-    member_same goes.gone r.0.cid c r.2 (went r.0 f.0 (not-true (is_user r.0.cid) f.1)) in
+-- where none of them is left, all of them went
+pub gone_all : (own : Cid → Bool) (s t : EngineState) → LetsGo own s t → HasNone own t → WithdrawsAll s (own_cids own s.active) t
+gone_all own s t goes none =
+    let from : (c : Cid) → Contains (own_cids own s.active) c → Contains goes.gone c = λ c k.
+    let r = member_unmap (λ (b : Active). b.cid) (filter (λ b. own b.cid) s.active) c k in
+    let f = filter_member (λ (b : Active). own b.cid) s.active r.0 r.1 in
+    member_same goes.gone r.0.cid c r.2 (member_gone own s t goes none r.0 f.0 f.1) in
     let left = goes.withdraws.left in
-    let active : without_cids goes.gone s.active ≡ without_cids (search_cids s.active) s.active =
-    filter_agree_members (λ (a : Active). not (is_named goes.gone a.cid)) (λ (a : Active). not (is_named (search_cids s.active) a.cid)) s.active
-    (λ a m. ap not (agree (is_named goes.gone a.cid) (is_named (search_cids s.active) a.cid)
-    (λ h. member_named (search_cids s.active) a.cid (goes.among a.cid (named_member goes.gone a.cid h)))
-    (λ h. member_named goes.gone a.cid (from a.cid (named_member (search_cids s.active) a.cid h))))) in
+    let active : without_cids goes.gone s.active ≡ without_cids (own_cids own s.active) s.active =
+    filter_agree_members (λ (a : Active). not (is_named goes.gone a.cid)) (λ (a : Active). not (is_named (own_cids own s.active) a.cid)) s.active
+    (λ a m. ap not (agree (is_named goes.gone a.cid) (is_named (own_cids own s.active) a.cid)
+    (λ h. member_named (own_cids own s.active) a.cid (goes.among a.cid (named_member goes.gone a.cid h)))
+    (λ h. member_named goes.gone a.cid (from a.cid (named_member (own_cids own s.active) a.cid h))))) in
     record {
       left = left;
-      loses = loses_alike s.log goes.gone (search_cids s.active) goes.among from s.log left goes.withdraws.loses;
+      loses = loses_alike s.log goes.gone (own_cids own s.active) goes.among from s.log left goes.withdraws.loses;
       after = goes.withdraws.after ∙ ap (λ l. record s { active = l; log = left; pending = woken l s.pending (vars_of (lost_pairs s.log left)) }) active;
     }
   where
-    member_gone : (s t : EngineState) (goes : LetsGo s t) → ((a : Active) → Contains t.active a → is_user a.cid ≡ true) → (a : Active) → Contains s.active a → is_user a.cid ≡ false → Contains goes.gone a.cid
-    member_gone s t goes users a m f = elim (cases_Bool (is_named goes.gone a.cid)) [
+    member_gone : (own : Cid → Bool) (s t : EngineState) (goes : LetsGo own s t) → HasNone own t → (a : Active) → Contains s.active a → own a.cid ≡ true → Contains goes.gone a.cid
+    member_gone own s t goes none a m mine = elim (cases_Bool (is_named goes.gone a.cid)) [
       | inl t' ↦ named_member goes.gone a.cid t'
-      | inr n ↦ absurd (false≢true (sym f ∙ users a (subst (λ (z : EngineState). Contains z.active a) (sym goes.withdraws.after)
-          (member_without_cids goes.gone s.active a m (λ k. false≢true (sym n ∙ member_named goes.gone a.cid k))))))
+      | inr n ↦ absurd (false≢true (sym (none a (subst (λ (z : EngineState). Contains z.active a) (sym goes.withdraws.after)
+          (member_without_cids goes.gone s.active a m (λ k. false≢true (sym n ∙ member_named goes.gone a.cid k))))) ∙ mine))
     ]
 
 -- where no decision and no negation is active, only users are
-pub users_left : (m t : EngineState) → LetsGo m t → ((x : ℕ) → IsActive m.active (Decide x) → ⊥) → ((p : Pair) → IsActive t.active (Not p) → ⊥) → (a : Active) → Contains t.active a → is_user a.cid ≡ true
+pub users_left : (m t : EngineState) → LetsGo of_search m t → ((x : ℕ) → IsActive m.active (Decide x) → ⊥) → ((p : Pair) → IsActive t.active (Not p) → ⊥) → HasOnlyUsers t
 users_left m t goes decided negated a k = by_cid a.cid refl
   where
     by_cid : (c : Cid) → a.cid ≡ c → is_user a.cid ≡ true
-    by_cid (Decide x) e = absurd (decided x (record { owner = a; posted = (left_active m t goes a k).0; named = e }))
+    by_cid (Decide x) e = absurd (decided x (record { owner = a; posted = (left_active of_search m t goes a k).0; named = e }))
     by_cid (Not p) e = absurd (negated p (record { owner = a; posted = k; named = e }))
     by_cid (User n) e = ap is_user e
 
