@@ -8,6 +8,8 @@ mod guides;
 #[cfg(test)]
 mod journal;
 #[cfg(test)]
+mod least;
+#[cfg(test)]
 mod problems;
 #[cfg(test)]
 mod repair;

@@ -1,0 +1,146 @@
+//! The whole minimization.
+ghost use Rattle.std.specs.Prelude.{◌≡◌, ℤ, ◌<◌, ◌≤◌, [], length, IfOk, OnErr, is_some};
+ghost use Rattle.palm_model.specs.Domains.{Has};
+ghost use Rattle.palm_model.specs.Limits.{IsValue};
+ghost use Rattle.palm_model.specs.State.{IsValid};
+ghost use Rattle.palm_engine.specs.Following.{OrderFollows};
+ghost use Rattle.palm_search.specs.Calls.{search_state};
+ghost use Rattle.palm_search.specs.Following.{GuideFollows};
+ghost use Rattle.palm_search.specs.Kept.{HasDecisions, HasNone};
+ghost use Rattle.palm_search.specs.Leaves.{Counts, Leaves, Lent};
+ghost use Rattle.palm_best.specs.Answers.{IsTrueOf};
+ghost use Rattle.palm_best.specs.Breaking.{BreaksOff, IsCutOff};
+ghost use Rattle.palm_best.specs.Cuts.{is_own};
+ghost use Rattle.palm_best.specs.Following.{HasRunBy, MinimizesBy};
+ghost use Rattle.palm_best.specs.Improving.{HasCuts, Proves};
+
+use crate::best::Best;
+use crate::cuts::{improve, withdraw_cuts, without_cuts};
+use crate::incumbent::Incumbent;
+use crate::limits::MOST_CUTS;
+use palm_agenda::Order;
+use palm_base::{CidList, NoMemory, Steps, Var};
+use palm_engine::Engine;
+use palm_guide::Guide;
+use palm_kind::Kind;
+use palm_search::{Next, Search, SearchEnd, next_of, undo_latest};
+use std::alloc::Global;
+use std::sync::ledger::Ledger;
+
+/// The answer at a conflict without decisions, of which these are the users. The incumbent is taken.
+fn proved(alloc: Global, incumbent: &mut Incumbent, users: CidList) -> Result<Best, NoMemory>
+    ensures ok { IfOk result (Proves incumbent.old.values users) }
+    ensures cuts { incumbent.new.cuts ≡ incumbent.old.cuts }
+{
+    match incumbent.values.take() {
+        None => Ok(Best::NoSolution(users)),
+        Some(values) => {
+            let users = without_cuts(alloc, users.as_slice())?;
+            Ok(Best::Least { values, users })
+        }
+    }
+}
+
+/// Settles, takes turns, and cuts below all values that are found, until the run ends.
+fn run<G: Guide, O: Order, L: Ledger>(
+    alloc: Global,
+    engine: &mut Engine<Kind>,
+    search: &mut Search,
+    target: Var,
+    guide: &mut Option<G>,
+    order: &mut Option<O>,
+    budget: u64,
+    incumbent: &mut Incumbent,
+    steps: &mut Steps<L>,
+) -> Result<Best, NoMemory>
+    requires fresh { search.old ≡ record { decisions = []; journal = [] } }
+    requires none { HasNone is_own engine.old.state }
+    requires target { target < length engine.old.state.initial }
+    requires values { (v : ℤ) → Has engine.old.state.initial target v → IsValue v }
+    requires opened { incumbent.old ≡ record { values = None; cuts = 0 } }
+    ensures ok { IfOk result (λ best. HasRunBy (GuideFollows G.answers G.hears G.state) (OrderFollows O.answers O.hears O.state) guide.old guide.new order.old order.new
+        target budget engine.old.state search.new.journal best (search_state engine.new.state search.new)) }
+    ensures err { OnErr result (IsCutOff (is_some guide.old) (is_some order.old) target budget engine.old.state search.new.journal engine.new.state) }
+    ensures decisions { HasDecisions (search_state engine.new.state search.new) }
+    ensures cuts { HasCuts incumbent.new.cuts engine.new.state }
+    ensures few { incumbent.new.cuts ≤ MOST_CUTS }
+    ensures counts { Counts engine.old engine.new steps.old steps.new }
+    ensures lent { Lent guide.old guide.new order.old order.new }
+    ensures before { IsValid engine.old.state }
+{
+    // What holds of every engine is known once its store is read.
+    let _store = engine.store();
+    engine.settle(order, None, steps)?;
+    loop {
+        match next_of(alloc, engine, search, budget)? {
+            Next::Ended(SearchEnd::Found(values)) => {
+                improve(alloc, engine, target, incumbent, values)?;
+            }
+            Next::Ended(SearchEnd::NoSolution(users)) => return proved(alloc, incumbent, users),
+            Next::Ended(SearchEnd::Spent(turns)) => {
+                return Ok(Best::Spent {
+                    turns,
+                    best: incumbent.values.take(),
+                });
+            }
+            Next::Decide => {
+                search.decide(engine, guide)?;
+            }
+            Next::Undo(conflict) => undo_latest(alloc, engine, search, guide, &conflict)?,
+        }
+        engine.settle(order, None, steps)?;
+    }
+}
+
+/// Searches for values that satisfy all constraints and give the target the least value, within so many turns. It searches as
+/// [`palm_dbt::solve`] does, and wherever each variable has one value, it keeps these values and posts a cut, the constraint
+/// that the target is less than it is there, until a conflict holds no decision or the budget is spent; a cut is no turn. Then
+/// all decisions, negations and cuts are withdrawn, and the engine settles once more. The journal holds the turns. The guide
+/// and the order are asked and told as in `solve`, and the settlings after cuts go through the order, too. After want of
+/// memory the decisions, negations and cuts are withdrawn too, the journal holds the turns so far, and constraints may be
+/// pending. (Branch and bound over the search of Jussien, Debruyne and Boizumault 2000)
+pub fn minimize<G: Guide, O: Order, L: Ledger>(
+    alloc: Global,
+    engine: &mut Engine<Kind>,
+    search: &mut Search,
+    target: Var,
+    guide: &mut Option<G>,
+    order: &mut Option<O>,
+    budget: u64,
+    steps: &mut Steps<L>,
+) -> Result<Best, NoMemory>
+    requires fresh { search.old ≡ record { decisions = []; journal = [] } }
+    requires none { HasNone is_own engine.old.state }
+    requires target { target < length engine.old.state.initial }
+    requires values { (v : ℤ) → Has engine.old.state.initial target v → IsValue v }
+    ensures ok { IfOk result (λ best. MinimizesBy (GuideFollows G.answers G.hears G.state) (OrderFollows O.answers O.hears O.state) guide.old guide.new order.old order.new
+        target budget engine.old.state search.new.journal best engine.new.state) }
+    ensures holds { IfOk result (IsTrueOf engine.old.state target budget) }
+    ensures err { OnErr result (BreaksOff (is_some guide.old) (is_some order.old) target budget engine.old.state search.new.journal engine.new.state) }
+    ensures leaves { Leaves engine.old.state engine.new.state search.new result }
+    ensures counts { Counts engine.old engine.new steps.old steps.new }
+    ensures lent { Lent guide.old guide.new order.old order.new }
+{
+    let mut incumbent = Incumbent {
+        values: None,
+        cuts: 0,
+    };
+    let best = run(
+        alloc,
+        engine,
+        search,
+        target,
+        guide,
+        order,
+        budget,
+        &mut incumbent,
+        steps,
+    );
+    // What holds of every engine is known once its store is read.
+    let _store = engine.store();
+    search.close(engine);
+    withdraw_cuts(engine, incumbent.cuts);
+    let best = best?;
+    engine.settle(order, None, steps)?;
+    Ok(best)
+}

@@ -1,0 +1,107 @@
+//! The least value of a variable, by the one call: an engine with one variable and no constraint.
+ghost use Rattle.std.specs.Prelude.{◌≡◌, ℤ, ◌<◌, [], length, OnOk};
+ghost use Rattle.palm_best.specs.Cuts.{is_own};
+ghost use Rattle.palm_model.specs.Domains.{Has};
+ghost use Rattle.palm_model.specs.Limits.{IsValue};
+ghost use Rattle.palm_search.specs.Kept.{HasNone};
+
+use palm_agenda::LastOrder;
+use palm_base::{NoMemory, Steps, Value, Var};
+use palm_best::{Best, minimize};
+use palm_engine::Engine;
+use palm_guide::FirstGuide;
+use palm_kind::Kind;
+use palm_search::Search;
+use std::alloc::Global;
+use std::marker::Brand;
+use std::sync::ledger::{Blank, Ledger};
+use std::test::Fail;
+
+/// A minimization of the first variable, counted from nothing.
+fn minimize_counted<L: Ledger>(
+    alloc: Global,
+    engine: &mut Engine<Kind>,
+    search: &mut Search,
+    budget: u64,
+    blank: Blank,
+) -> Result<Best, NoMemory>
+    requires named { blank.name ≡ L.name }
+    requires parts { blank.parts ≡ L.parts }
+    requires shared { 0 < L.parts }
+    requires fresh { search.old ≡ record { decisions = []; journal = [] } }
+    requires none { HasNone is_own engine.old.state }
+    requires target { 0 < length engine.old.state.initial }
+    requires values { (v : ℤ) → Has engine.old.state.initial 0 v → IsValue v }
+{
+    let mut steps = Steps::<L>::start(blank);
+    let mut guide: Option<FirstGuide> = None;
+    let mut order: Option<LastOrder> = None;
+    minimize(
+        alloc,
+        engine,
+        search,
+        Var(0),
+        &mut guide,
+        &mut order,
+        budget,
+        &mut steps,
+    )
+}
+
+/// Appends a variable with the values -1 and 2 to an engine without variables.
+fn add_variable(engine: &mut Engine<Kind>) -> Result<(), NoMemory>
+    requires empty { engine.old.state.initial ≡ [] }
+    requires none { engine.old.state.active ≡ [] }
+    ensures none { OnOk result (HasNone is_own engine.new.state) }
+    ensures target { OnOk result (0 < length engine.new.state.initial) }
+    ensures values { OnOk result ((v : ℤ) → Has engine.new.state.initial 0 v → IsValue v) }
+{
+    engine.add_variable(&[Value(-1), Value(2)])?;
+    Ok(())
+}
+
+/// How a minimization of that variable ends within so many turns, and how many it takes.
+fn minimized(alloc: Global, budget: u64) -> Result<(Best, usize), NoMemory> {
+    let mut engine = Engine::<Kind>::new(alloc);
+    let mut search = Search::begin(alloc);
+    add_variable(&mut engine)?;
+    let best = minimize_counted::<Brand>(alloc, &mut engine, &mut search, budget, Blank::new(1))?;
+    Ok((best, search.journal().len()))
+}
+
+/// Whether these are the best values, which no constraint proves.
+fn is_least(best: &Best, least: &[Value]) -> bool {
+    match best {
+        Best::Least { values, users } => {
+            values.as_slice() == least && users.as_slice().is_empty()
+        }
+        _ => false,
+    }
+}
+
+/// Whether so many turns were taken, and these are the best values so far.
+fn is_spent(best: &Best, count: u64, so_far: &[Value]) -> bool {
+    match best {
+        Best::Spent {
+            turns,
+            best: Some(values),
+        } => *turns == count && values.as_slice() == so_far,
+        _ => false,
+    }
+}
+
+#[test]
+fn the_least_value_is_proved_by_the_cut_alone(rt: HostRuntime) -> Result<(), Fail> {
+    let (best, turns) = minimized(rt.alloc(), 2)?;
+    assert!(rt; is_least(&best, &[Value(-1)]));
+    assert!(rt; turns == 2);
+    Ok(())
+}
+
+#[test]
+fn the_best_so_far_is_told(rt: HostRuntime) -> Result<(), Fail> {
+    let (best, turns) = minimized(rt.alloc(), 1)?;
+    assert!(rt; is_spent(&best, 1, &[Value(-1)]));
+    assert!(rt; turns == 1);
+    Ok(())
+}
