@@ -38,6 +38,14 @@ def has_reply(line):
     return len(bytes_of(line)) > 65536 or text != "" and not text.startswith("#")
 
 
+def goes_on(line, first):
+    """Whether lines up to `end` follow the first one of the reply to the line."""
+    form = (line.split() or [""])[0]
+    if form == "minimize":
+        return first.startswith("best ")
+    return form in MANY and first not in SINGLE and not first.startswith("error ")
+
+
 def bytes_of(line):
     return line.encode("utf-8", "surrogateescape")
 
@@ -62,7 +70,7 @@ class Session:
         if not has_reply(line):
             return []
         reply = [self.read()]
-        many = line.split()[:1] and line.split()[0] in MANY and reply[0] not in SINGLE and not reply[0].startswith("error ")
+        many = goes_on(line, reply[0])
         while many and reply[-1] != "end":
             reply.append(self.read())
         return reply

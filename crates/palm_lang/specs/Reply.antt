@@ -16,7 +16,7 @@ use Rattle.palm_lang.specs.declared.reply.Fixed.TheVariants.{Done, Contradiction
 use Rattle.palm_lang.specs.declared.reply.Refusal.{Refusal}
 use Rattle.palm_lang.specs.declared.reply.Refusal.TheVariants.{E1, E2, E3, E4, E5, E6, E7, E8, E9, E10, E11, E12}
 use Rattle.palm_lang.specs.declared.reply.Lead.{Lead}
-use Rattle.palm_lang.specs.declared.reply.Lead.TheVariants.{Because, Conflict, NoSolution}
+use Rattle.palm_lang.specs.declared.reply.Lead.TheVariants.{Because, Conflict, NoSolution, Proved}
 
 -- a reply of one word
 abbrev pub fixed_word : Fixed → List ℕ
@@ -95,8 +95,9 @@ abbrev pub lead_word : Lead → List ℕ
 lead_word Because = codes "because"
 lead_word Conflict = codes "conflict"
 lead_word NoSolution = codes "none"
+lead_word Proved = codes "proved by"
 
--- names of constraints behind a word
+-- names of constraints behind what leads them
 abbrev pub names_line : Lead → List (List ℕ) → List ℕ
 names_line lead names = ended (spaced (lead_word lead ∷ names))
 
@@ -104,11 +105,24 @@ names_line lead names = ended (spaced (lead_word lead ∷ names))
 abbrev pub assigned_text : BookVar × ℤ → List ℕ
 assigned_text assigned = assigned.0.name ++ codes "=" ++ signed_decimal assigned.1
 
--- an assignment to all variables
+-- an assignment to all variables behind a word
+abbrev pub assigned_line : List ℕ → List BookVar → List ℤ → List ℕ
+assigned_line word variables values = ended (spaced (word ∷ map assigned_text (zip variables values)))
+
+-- an assignment that was searched for
 abbrev pub found_line : List BookVar → List ℤ → List ℕ
-found_line variables values = ended (spaced (codes "found" ∷ map assigned_text (zip variables values)))
+found_line variables values = assigned_line (codes "found") variables values
+
+-- an assignment in which a variable is least
+abbrev pub best_line : List BookVar → List ℤ → List ℕ
+best_line variables values = assigned_line (codes "best") variables values
 
 -- the turns of a search that ended without an answer, and what was dropped on the way, if that is told
 abbrev pub spent_line : ℕ → Option ℕ → List ℕ
 spent_line turns None = ended (codes "spent " ++ decimal turns)
 spent_line turns (Some dropped) = ended (codes "spent " ++ decimal turns ++ codes " dropped " ++ decimal dropped)
+
+-- the turns of a search for a least value that ended without an answer, and the best assignment on the way
+abbrev pub spent_best_line : ℕ → List BookVar → List ℤ → List ℕ
+spent_best_line turns variables values =
+    ended (spaced (codes "spent" ∷ decimal turns ∷ codes "best" ∷ map assigned_text (zip variables values)))

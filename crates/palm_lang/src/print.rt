@@ -4,7 +4,7 @@
 ghost use Rattle.std.specs.Prelude.{◌≡◌, ◌<◌, length, map, take, All, OnOk, OnErr};
 ghost use Rattle.palm_read.specs.Text.{text_of};
 ghost use Rattle.palm_book.specs.Book.{number_name, user_name, IsUser, HasNumber};
-ghost use Rattle.palm_lang.specs.Reply.{con_text, fixed_text, refusal_text, ran_text, domain_line, var_line, entry_at, removal_line, names_line, found_line, spent_line};
+ghost use Rattle.palm_lang.specs.Reply.{con_text, fixed_text, refusal_text, ran_text, domain_line, var_line, entry_at, removal_line, names_line, found_line, best_line, spent_line, spent_best_line};
 ghost use Rattle.palm_lang.specs.Print.{Appends};
 ghost use Rattle.palm_model.specs.Constraint.{scope};
 ghost use Rattle.palm_model.specs.Domains.{Ascends};
@@ -27,8 +27,8 @@ mod words;
 use crate::print::cons::put_con;
 use crate::print::lines::put_line;
 use crate::print::replies::{
-    fixed_word, put_domain, put_entry, put_found, put_names, put_ran, put_removal, put_reply,
-    put_spent, put_var, refusal_words,
+    fixed_word, put_assigned_line, put_domain, put_entry, put_names, put_ran, put_removal,
+    put_reply, put_spent, put_spent_best, put_var, refusal_words,
 };
 pub use crate::print::words::{put_spaced_int, put_spaced_name, put_spaced_value, put_text};
 use crate::reply::{Fixed, Lead, Refusal};
@@ -143,7 +143,7 @@ pub fn print_removal(
     settled(outcome, length, out)
 }
 
-/// Prints the names of users' constraints behind a word.
+/// Prints the names of users' constraints behind what leads them.
 pub fn print_names(
     book: &Book,
     lead: Lead,
@@ -164,7 +164,17 @@ pub fn print_found(book: &Book, values: &ValueList, out: &mut Vec<u8>) -> Result
     ensures { Appends out.old.items out.new.items (found_line book.now.variables values.now) result }
 {
     let length = out.len();
-    let outcome = put_found(book, values, out);
+    let outcome = put_assigned_line(book, "found", values, out);
+    settled(outcome, length, out)
+}
+
+/// Prints an assignment to all variables in which one of them is least.
+pub fn print_best(book: &Book, values: &ValueList, out: &mut Vec<u8>) -> Result<(), NoMemory>
+    requires { length values.now ≡ length book.now.variables }
+    ensures { Appends out.old.items out.new.items (best_line book.now.variables values.now) result }
+{
+    let length = out.len();
+    let outcome = put_assigned_line(book, "best", values, out);
     settled(outcome, length, out)
 }
 
@@ -174,5 +184,20 @@ pub fn print_spent(turns: u64, dropped: Option<u64>, out: &mut Vec<u8>) -> Resul
 {
     let length = out.len();
     let outcome = put_spent(turns, dropped, out);
+    settled(outcome, length, out)
+}
+
+/// Prints that a search for a least value was spent after so many turns, with the best assignment on the way.
+pub fn print_spent_best(
+    book: &Book,
+    turns: u64,
+    values: &ValueList,
+    out: &mut Vec<u8>,
+) -> Result<(), NoMemory>
+    requires { length values.now ≡ length book.now.variables }
+    ensures { Appends out.old.items out.new.items (spent_best_line turns book.now.variables values.now) result }
+{
+    let length = out.len();
+    let outcome = put_spent_best(book, turns, values, out);
     settled(outcome, length, out)
 }

@@ -48,7 +48,7 @@ pub enum Refusal {
     E12,
 }
 
-/// The word before a list of constraints.
+/// What stands before a list of constraints.
 #[derive(Clone, Copy, Debug, PartialEq, Eq)]
 pub enum Lead {
     /// `because`
@@ -57,4 +57,6 @@ pub enum Lead {
     Conflict,
     /// `none`
     NoSolution,
+    /// `proved by`
+    Proved,
 }

@@ -40,6 +40,7 @@ pub data Form : Type 0 where
   SolveDbtForm : (budget : Option ℤ) → Form
   SolveRepairForm : (tabu budget : ℤ) → Form
   ProveForm : (budget : ℤ) → Form
+  MinimizeForm : (target : List ℕ) (budget : ℤ) → Form
   CertForm : (name : List ℕ) (value : ℤ) → Form
   CertConflictForm : Form
   GuideForm : (number : ℤ) → Form

@@ -5,7 +5,7 @@ use Rattle.palm_read.specs.Count.{count_pieces, IsProperCount}
 use Rattle.palm_read.specs.Differ.{differ_pieces, IsProperDiffer}
 use Rattle.palm_read.specs.Domain.{domain_pieces}
 use Rattle.palm_read.specs.Element.{element_pieces}
-use Rattle.palm_read.specs.Form.{ShapeForm, CompareVarForm, CompareConstForm, LinearForm, TableForm, ElementForm, CountForm, DifferForm, WithinForm, Form, HeaderForm, DeclareForm, DeclareInForm, AddForm, RelaxForm, EnforceForm, RetractForm, DomainsForm, DomainOfForm, ListForm, LogForm, WhyForm, ConflictForm, MinimalConflictForm, MinimalForm, PauseForm, ResumeForm, StepForm, SolveDbtForm, SolveRepairForm, ProveForm, CertForm, CertConflictForm, GuideForm, GuideNoneForm, OrderForm, OrderNoneForm, DropGuideForm, DropOrderForm, QuitForm}
+use Rattle.palm_read.specs.Form.{ShapeForm, CompareVarForm, CompareConstForm, LinearForm, TableForm, ElementForm, CountForm, DifferForm, WithinForm, Form, HeaderForm, DeclareForm, DeclareInForm, AddForm, RelaxForm, EnforceForm, RetractForm, DomainsForm, DomainOfForm, ListForm, LogForm, WhyForm, ConflictForm, MinimalConflictForm, MinimalForm, PauseForm, ResumeForm, StepForm, SolveDbtForm, SolveRepairForm, ProveForm, MinimizeForm, CertForm, CertConflictForm, GuideForm, GuideNoneForm, OrderForm, OrderNoneForm, DropGuideForm, DropOrderForm, QuitForm}
 use Rattle.palm_read.specs.Linear.{linear_pieces, IsProperLinear}
 use Rattle.palm_read.specs.Piece.{Piece, Keyword, Named, Mark, Integer, Numeral, Spells}
 use Rattle.palm_read.specs.Table.{table_pieces, IsProperTable}
@@ -52,6 +52,7 @@ pieces (SolveRepairForm tabu budget) =
     Keyword (codes "solve") ∷ Keyword (codes "repair") ∷ Keyword (codes "tabu") ∷ Integer tabu
     ∷ Keyword (codes "budget") ∷ Integer budget ∷ []
 pieces (ProveForm budget) = Keyword (codes "prove") ∷ Keyword (codes "budget") ∷ Integer budget ∷ []
+pieces (MinimizeForm target budget) = Keyword (codes "minimize") ∷ Named target ∷ Keyword (codes "budget") ∷ Integer budget ∷ []
 pieces (CertForm name value) = Keyword (codes "cert") ∷ Named name ∷ Integer value ∷ []
 pieces CertConflictForm = Keyword (codes "cert") ∷ Keyword (codes "conflict") ∷ []
 pieces (GuideForm number) = Keyword (codes "guide") ∷ Integer number ∷ []

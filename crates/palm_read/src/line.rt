@@ -155,6 +155,11 @@ pub enum Line {
     Prove {
         budget: u64,
     },
+    /// `minimize NAME budget N`: a search for an assignment in which the variable is least
+    Minimize {
+        target: Name,
+        budget: u64,
+    },
     /// `cert NAME VALUE`
     Cert {
         name: Name,

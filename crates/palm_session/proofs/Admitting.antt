@@ -12,10 +12,11 @@ use Rattle.palm_lang.specs.declared.reply.Refusal.{Refusal}
 use Rattle.palm_lang.specs.declared.reply.Refusal.TheVariants.{E3, E4, E5, E7, E10, E11, E12}
 use Rattle.palm_read.specs.Limits.{IsBeyond}
 use Rattle.palm_read.specs.declared.line.Line.{Line}
-use Rattle.palm_read.specs.declared.line.Line.TheVariants.{Relax, Enforce, Retract, Domain, Why, Minimal, Cert, Pause, Resume, Step, Guide, Order, DropGuide, DropOrder}
+use Rattle.palm_read.specs.declared.line.Line.TheVariants.{Relax, Enforce, Retract, Domain, Why, Minimal, Cert, Pause, Resume, Step, Minimize, Guide, Order, DropGuide, DropOrder}
+use Rattle.palm_session.specs.declared.request.Procedure.TheVariants.{Least}
 use Rattle.palm_session.specs.declared.request.Question.TheVariants.{Domain as DomainAsked, Why as WhyAsked, Minimal as MinimalAsked, Cert as CertAsked}
 use Rattle.palm_session.specs.declared.request.Request.{Request}
-use Rattle.palm_session.specs.declared.request.Request.TheVariants.{Relax as RelaxAsked, Enforce as EnforceAsked, Retract as RetractAsked, Ask, Pause as PauseAsked, Resume as ResumeAsked, Step as StepAsked, ChooseGuide, DropGuide as DropGuideAsked, ChooseOrder, DropOrder as DropOrderAsked}
+use Rattle.palm_session.specs.declared.request.Request.TheVariants.{Relax as RelaxAsked, Enforce as EnforceAsked, Retract as RetractAsked, Ask, Pause as PauseAsked, Resume as ResumeAsked, Step as StepAsked, Solve, ChooseGuide, DropGuide as DropGuideAsked, ChooseOrder, DropOrder as DropOrderAsked}
 use Rattle.palm_session.specs.Refusals.{TakesName, NamesNone, NamesNoConstraint, HasNoRoom, NamesNoObject, IsUndeclared, IsUnknown, AsksUndeclared, IsInWrongState, Meets, in_order}
 use Rattle.palm_session.specs.Requests.{FindsPair, IsAdmitted, IsPlaceOf, Requests}
 use Rattle.palm_session.specs.State.{SessionState, IsHeld}
@@ -120,6 +121,15 @@ domain_unknown s name none = name_unknown s (Domain name) (λ h. h) (none_named 
 pub domain_admitted : (s : SessionState) (name : List ℕ) (x : ℕ) → x < length s.book.variables → name_of s.book.variables x ≡ name → IsAdmitted s (Domain name) (Ask (DomainAsked x))
 domain_admitted s name x lt is = record {
   none = free_of_refusals s (Domain name) (λ h. h) (λ h. h) (λ none. none (some_named s.book.variables x name lt is)) (λ h. h) (λ h. h) (λ h. h) (λ h. h) (λ h. h);
+  requests = (x, record { declared = lt; named = is }, refl);
+}
+
+pub target_unknown : (s : SessionState) (name : List ℕ) (budget : ℕ) → All (λ e. e.name ≢ name) s.book.variables → IsFirst (Meets s (Minimize name budget)) in_order E4
+target_unknown s name budget none = name_unknown s (Minimize name budget) (λ h. h) (none_named s.book.variables name none)
+
+pub minimize_admitted : (s : SessionState) (name : List ℕ) (budget x : ℕ) → x < length s.book.variables → name_of s.book.variables x ≡ name → IsAdmitted s (Minimize name budget) (Solve (Least x budget))
+minimize_admitted s name budget x lt is = record {
+  none = free_of_refusals s (Minimize name budget) (λ h. h) (λ h. h) (λ none. none (some_named s.book.variables x name lt is)) (λ h. h) (λ h. h) (λ h. h) (λ h. h) (λ h. h);
   requests = (x, record { declared = lt; named = is }, refl);
 }
 

@@ -5,9 +5,11 @@ use Rattle.std.proofs.lemmas.Option.{get_or_from_slice_get}
 use Rattle.std.proofs.lemmas.Slice.Zip.{get_or-zip, length-zip}
 use Rattle.palm_model.specs.Domains.{Domains, values_of}
 use Rattle.palm_book.specs.Book.{BookVar, Contents, name_of}
-use Rattle.palm_lang.specs.Reply.{domain_line, entry_line, entry_at, var_line, fixed_text}
+use Rattle.palm_lang.specs.Reply.{best_line, domain_line, entry_line, entry_at, var_line, fixed_text}
 use Rattle.palm_lang.specs.declared.reply.Fixed.TheVariants.{End}
-use Rattle.palm_session.specs.Answers.{domains_text, list_text}
+use Rattle.palm_lang.specs.declared.reply.Lead.TheVariants.{Proved}
+use Rattle.palm_base.specs.declared.terms.Cid.{Cid}
+use Rattle.palm_session.specs.Answers.{domains_text, least_text, list_text, users_text}
 use Rattle.palm_book.specs.declared.book.BookCon.{BookCon}
 use Rattle.palm_cert.specs.Certificate.{certificate_text}
 use Rattle.palm_claim.specs.declared.verdict.Claim.{Claim}
@@ -64,6 +66,10 @@ pub list_parts : (book : Contents)
     → flat_map (λ (e : BookVar). var_line e.name e.values) book.variables ++ (flat_map (entry_line book.variables) book.constraints ++ fixed_text End) ≡ list_text book
 list_parts book =
     sym (append_assoc (flat_map (λ (e : BookVar). var_line e.name e.values) book.variables) (flat_map (entry_line book.variables) book.constraints) (fixed_text End))
+
+-- the text of the best values begins with them
+pub least_parts : (book : Contents) (values : List ℤ) (users : List Cid) → best_line book.variables values ++ (users_text book Proved users ++ fixed_text End) ≡ least_text book values users
+least_parts book values users = sym (append_assoc (best_line book.variables values) (users_text book Proved users) (fixed_text End))
 
 -- the values of all variables
 pub pairs_end : (variables : List BookVar) (d : Domains) (i : ℕ) → length d ≡ length variables → length variables ≤ i

@@ -8,6 +8,9 @@ use Rattle.palm_search.specs.Following.{Moment, SearchesBy}
 use Rattle.palm_search.specs.Search.{Searches}
 use Rattle.palm_search.specs.declared.ending.SearchEnd.{SearchEnd}
 use Rattle.palm_search.specs.declared.turn.Turn.{Turn}
+use Rattle.palm_best.specs.Ends.{Minimizes}
+use Rattle.palm_best.specs.Following.{MinimizesBy}
+use Rattle.palm_best.specs.declared.best.Best.{Best}
 use Rattle.palm_repair.specs.Answers.{HasRepaired}
 use Rattle.palm_repair.specs.Following.{HasRepairedBy}
 use Rattle.palm_repair.specs.declared.answer.RepairAnswer.{RepairAnswer}
@@ -33,6 +36,13 @@ pub has_repaired : {G O E : Type 0} (guiding : Moment → Option G → Option G 
     → IfOk r (HasRepaired (is_some guide_first) (is_some order_first) tabu budget s turns t)
 has_repaired guiding ordering guide_first guide_last order_first order_last tabu budget s turns t (Ok answer) by = by.repaired
 has_repaired guiding ordering guide_first guide_last order_first order_last tabu budget s turns t (Err e) by = tt
+
+pub has_minimized : {G O E : Type 0} (guiding : Moment → Option G → Option G → Type 0) (ordering : Hearing → Option O → Option O → Type 0) (guide_first guide_last : Option G) (order_first order_last : Option O)
+    (target budget : ℕ) (s : EngineState) (turns : List Turn) (t : EngineState) (r : Result Best E)
+    → IfOk r (λ best. MinimizesBy guiding ordering guide_first guide_last order_first order_last target budget s turns best t)
+    → IfOk r (λ best. Minimizes (is_some guide_first) (is_some order_first) target budget s turns best t)
+has_minimized guiding ordering guide_first guide_last order_first order_last target budget s turns t (Ok best) by = by.minimizes
+has_minimized guiding ordering guide_first guide_last order_first order_last target budget s turns t (Err e) by = tt
 
 -- ---- by objects that stand elsewhere
 
@@ -64,6 +74,12 @@ module _ {G O : Type 0} (guiding : Guiding G) (ordering : Ordering O) (guide_fir
       → IfOk r (HasRepairedBy guiding ordering guide_before guide_after order_before order_after tabu budget s turns t)
   repairs_by tabu budget s turns t (Ok answer) by = elsewhere (λ a b c d. HasRepairedBy guiding ordering a b c d tabu budget s turns t answer) by
   repairs_by tabu budget s turns t (Err e) by = tt
+
+  pub minimizes_by : {E : Type 0} (target budget : ℕ) (s : EngineState) (turns : List Turn) (t : EngineState) (r : Result Best E)
+      → IfOk r (λ best. MinimizesBy guiding ordering guide_first guide_last order_first order_last target budget s turns best t)
+      → IfOk r (λ best. MinimizesBy guiding ordering guide_before guide_after order_before order_after target budget s turns best t)
+  minimizes_by target budget s turns t (Ok best) by = elsewhere (λ a b c d. MinimizesBy guiding ordering a b c d target budget s turns best t) by
+  minimizes_by target budget s turns t (Err e) by = tt
 
   pub proof_by : (budget : ℕ) (book : Contents) (s : EngineState) (turns : List Turn) (end : SearchEnd) (t : EngineState) (before now : Option (List ℕ))
       → HasProved guiding ordering guide_first guide_last order_first order_last budget book s turns end t before now

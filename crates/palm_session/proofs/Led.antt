@@ -9,6 +9,8 @@ use Rattle.palm_read.specs.Reading.{IsRead, IsRefusedBy}
 use Rattle.palm_read.specs.declared.line.Line.{Line}
 use Rattle.palm_read.specs.declared.parse.LineError.{LineError}
 use Rattle.palm_read.proofs.cited.Parsing.{one_reading}
+use Rattle.palm_best.specs.Following.{MinimizesBy}
+use Rattle.palm_best.specs.declared.best.Best.{Best}
 use Rattle.palm_repair.specs.Following.{HasRepairedBy}
 use Rattle.palm_repair.specs.declared.answer.RepairAnswer.{RepairAnswer}
 use Rattle.palm_search.specs.Calls.{SearchView}
@@ -29,7 +31,7 @@ use Rattle.palm_session.specs.declared.remainder.Remainder.{Remainder}
 use Rattle.palm_session.specs.declared.remainder.Remainder.TheVariants.{Say, Filter, Run, Search, End}
 use Rattle.palm_session.specs.declared.taken.Taken.{Taken}
 use Rattle.palm_session.specs.declared.taken.Taken.TheVariants.{Said, ToProve}
-use Rattle.palm_session.specs.declared.request.Procedure.TheVariants.{Dbt, Repair, Proof}
+use Rattle.palm_session.specs.declared.request.Procedure.TheVariants.{Dbt, Repair, Proof, Least}
 use Rattle.palm_session.specs.declared.request.Request.{Request}
 use Rattle.palm_session.proofs.ReadOnce.{read_or_refused}
 
@@ -69,6 +71,15 @@ proof_led {G = G} {O = O} guiding ordering mode book engine after accepted pause
     let e = desk_of mode book after accepted paused others more done in
     subst (λ (z : DeskView G O). SearchesOn guiding ordering (Proof budget) z.state z.objects e.state e.objects) is (record { runs = by; guides = one; orders = two })
 proof_led guiding ordering mode book engine after accepted paused guides others orders more search done d budget (Err x) is one two by = tt
+
+pub least_led : {G O E : Type 0} (guiding : Guiding G) (ordering : Ordering O) (mode : Mode) (book : Contents) (engine after : View) (accepted : ℕ) (paused : Bool) (guides others : ObjectsView G) (orders more : ObjectsView O) (search done : SearchView) (d : DeskView G O)
+    (target budget : ℕ) (r : Result Best E) → desk_of mode book engine accepted paused guides orders search ≡ d → LendsChosen guides others → LendsChosen orders more
+    → IfOk r (λ best. MinimizesBy guiding ordering (chosen_object guides) (chosen_object others) (chosen_object orders) (chosen_object more) target budget engine.state done.journal best after.state)
+    → OnOk r (SearchesOn guiding ordering (Least target budget) d.state d.objects (desk_of mode book after accepted paused others more done).state (desk_of mode book after accepted paused others more done).objects)
+least_led {G = G} {O = O} guiding ordering mode book engine after accepted paused guides others orders more search done d target budget (Ok best) is one two by =
+    let e = desk_of mode book after accepted paused others more done in
+    subst (λ (z : DeskView G O). SearchesOn guiding ordering (Least target budget) z.state z.objects e.state e.objects) is (record { runs = (best, by); guides = one; orders = two })
+least_led guiding ordering mode book engine after accepted paused guides others orders more search done d target budget (Err x) is one two by = tt
 
 -- ---- what is left of a request
 

@@ -20,6 +20,7 @@ pub mod Led
 pub mod LedTexts
 pub mod Logging
 pub mod Made
+pub mod Minimizing
 pub mod OneEmpty
 pub mod Places
 pub mod Presents

@@ -1,5 +1,5 @@
 -- What a search that writes its proof does, from the call to the desk and to the line.
-use Rattle.std.proofs.Common.{◌≡◌, ℕ, Bool, false, is_some, Option, List, Result, Ok, Err, OnOk, refl, sym, ◌∙◌, inr, subst}
+use Rattle.std.proofs.Common.{◌≡◌, ℕ, Bool, is_some, Option, List, Result, Ok, Err, OnOk, refl, sym, ◌∙◌, inr, subst}
 use Rattle.std.specs.Prelude.{IfErr}
 use Rattle.std.proofs.lemmas.Bool.{false≢true}
 use Rattle.palm_model.specs.State.{EngineState, IsValid}

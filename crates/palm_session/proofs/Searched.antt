@@ -15,18 +15,20 @@ use Rattle.palm_session.specs.State.{SessionState, IsHeld, IsState}
 use Rattle.palm_search.specs.declared.ending.SearchEnd.{SearchEnd}
 use Rattle.palm_search.specs.declared.ending.SearchEnd.TheVariants.{Found, NoSolution, Spent}
 use Rattle.palm_session.specs.declared.request.Procedure.{Procedure}
-use Rattle.palm_session.specs.declared.request.Procedure.TheVariants.{Dbt, Repair, Proof}
+use Rattle.palm_session.specs.declared.request.Procedure.TheVariants.{Dbt, Repair, Proof, Least}
 use Rattle.palm_session.specs.declared.request.Request.{Request}
 use Rattle.palm_session.specs.declared.request.Request.TheVariants.{Solve}
-use Rattle.palm_session.specs.Effects.{Telling, InShort, Effect, Nothing, Settled, Searched, Changes, Searches, next, SearchesIn, Follows, with_search}
+use Rattle.palm_session.specs.Effects.{Telling, InShort, Effect, Nothing, Settled, Searched, Changes, Searches, next, SearchesIn, Follows, best_end, with_search}
 use Rattle.palm_session.specs.Answers.{WaitsFor, Accepts, waits, contradicts, says, Says, end_text, told_text, users_text}
 use Rattle.palm_session.specs.Told.{ClosesWith, KeepsAllButJournal, MaySpendSo, ToldAccepted, ToldBy, ToldProof, ToldSearch}
 use Rattle.palm_session.specs.Told.ToldAccepted.{accepted_end, accepted_paused}
+use Rattle.palm_session.specs.Told.ToldLeast.{best_paused}
 use Rattle.palm_session.specs.Told.ToldProof.{proof_found, proof_none, proof_paused, proof_spent}
 use Rattle.palm_session.specs.Told.ToldSearch.{search_paused, search_found, search_none, search_spent}
 use Rattle.palm_session.proofs.cited.LawsOfAnswers.{awake_for}
 use Rattle.palm_session.proofs.cited.LawsOfChanges.{searches_by}
-use Rattle.palm_session.proofs.Searching.{has_end, search_leaves_still, search_log, found_solves, none_active, none_unsolved, spent_small}
+use Rattle.palm_session.proofs.Minimizing.{best_told}
+use Rattle.palm_session.proofs.Searching.{end_holds, least_holds, search_leaves_still, search_log, spent_small}
 
 -- ---- what a search begins in
 
@@ -42,10 +44,8 @@ still_before s m request is goes h by e =
 
 short_told : (s : SessionState) → IsHeld s → (by : Procedure) (turns : List Turn) (end : SearchEnd) (dropped : Option ℕ) (e : EngineState) (reply : List ℕ) → SearchesIn s by turns end (InShort dropped) e
     → reply ≡ end_text s.book end dropped → ToldSearch s.book by reply
-short_told s is by turns (Found values) dropped e reply search r = search_found values (found_solves s is values (has_end s by turns (Found values) (InShort dropped) e is search)) r
-short_told s is by turns (NoSolution users) dropped e reply search r =
-    let ended = has_end s by turns (NoSolution users) (InShort dropped) e is search in
-    search_none users (record { active = none_active s is users ended; none = none_unsolved s is users ended }) r
+short_told s is by turns (Found values) dropped e reply search r = search_found values (end_holds s is by turns (Found values) (InShort dropped) e search).0 r
+short_told s is by turns (NoSolution users) dropped e reply search r = search_none users (end_holds s is by turns (NoSolution users) (InShort dropped) e search) r
 short_told s is by turns (Spent count) dropped e reply search r =
     let small = spent_small s is by turns e count (InShort dropped) search in
     search_spent dropped small.1 (r ∙ ap (λ (n : ℕ). spent_line n dropped) small.0)
@@ -76,10 +76,8 @@ proof_closes s budget turns (Spent count) e text proves =
 
 full_told : (s : SessionState) → IsHeld s → (budget : ℕ) (turns : List Turn) (end : SearchEnd) (telling : Telling) (e : EngineState) (reply : List ℕ) → SearchesIn s (Proof budget) turns end telling e
     → ClosesWith reply (end_text s.book end None) → ToldProof s.book budget reply
-full_told s is budget turns (Found values) telling e reply search closes = proof_found values (found_solves s is values (has_end s (Proof budget) turns (Found values) telling e is search)) closes
-full_told s is budget turns (NoSolution users) telling e reply search closes =
-    let ended = has_end s (Proof budget) turns (NoSolution users) telling e is search in
-    proof_none users (record { active = none_active s is users ended; none = none_unsolved s is users ended }) closes
+full_told s is budget turns (Found values) telling e reply search closes = proof_found values (end_holds s is (Proof budget) turns (Found values) telling e search).0 closes
+full_told s is budget turns (NoSolution users) telling e reply search closes = proof_none users (end_holds s is (Proof budget) turns (NoSolution users) telling e search) closes
 full_told s is budget turns (Spent count) telling e reply search closes =
     let small = spent_small s is (Proof budget) turns e count telling search in
     proof_spent (subst (λ (d : Telling). MaySpendSo s.book (Proof budget) d) search.told small.1) (subst (λ (n : ℕ). ClosesWith reply (spent_line n None)) small.0 closes)
@@ -99,6 +97,9 @@ end_told s is (Repair tabu budget) turns end telling e reply search r =
 end_told s is (Proof budget) turns end telling e reply search r =
     full_told s is budget turns end telling e reply search
     (subst (λ (t : List ℕ). ClosesWith t (end_text s.book end None)) (sym (told_in_full s budget turns end telling e reply search r)) (proof_closes s budget turns end e search.text search.proves))
+end_told s is (Least target budget) turns end telling e reply search r =
+    best_told s.book target budget search.best reply (least_holds s is target budget turns end telling e search)
+    (r ∙ ap (λ (z : SearchEnd). told_text s.book z telling) search.ended ∙ ap (λ (z : Telling). told_text s.book (best_end search.best) z) search.told)
 
 -- where the end is that there is no solution, the proof is accepted
 none_accepted : (s : SessionState) → IsHeld s → HasScopedReasons s.engine → (budget : ℕ) → budget ≤ 18446744073709551615 → (turns : List Turn) (end : SearchEnd) (e : EngineState) (text : List ℕ)
@@ -118,6 +119,7 @@ paused_told : (book : Contents) (by : Procedure) → ToldBy book by (fixed_text 
 paused_told book (Dbt budget) = search_paused refl
 paused_told book (Repair tabu budget) = search_paused refl
 paused_told book (Proof budget) = proof_paused refl
+paused_told book (Least target budget) = best_paused refl
 
 module _ (s : SessionState) (by : Procedure) (is : IsState s) where
   follows_told : (m : SessionState) (effect : Effect) (t : SessionState) (reply : List ℕ) → m ≡ s → Follows m (Searches by) effect t → Says t (Solve by) effect reply → ToldBy s.book by reply

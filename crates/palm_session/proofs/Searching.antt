@@ -23,6 +23,11 @@ use Rattle.palm_search.specs.declared.turn.Turn.{Turn}
 use Rattle.palm_search.proofs.cited.Leaving.{Ended, run_ended, run_found, run_unsolved, run_users, search_leaves, search_rests}
 use Rattle.palm_search.proofs.cited.Measuring.{run_spent}
 use Rattle.palm_search.proofs.cited.Whole.{search_exists, search_same}
+use Rattle.palm_best.specs.Ends.{Minimizes}
+use Rattle.palm_best.proofs.cited.Alone.{best_alone}
+use Rattle.palm_best.proofs.cited.Ending.{best_leaves, best_rests, best_true}
+use Rattle.palm_best.proofs.cited.Existing.{best_exists}
+use Rattle.palm_best.proofs.cited.Long.{best_long}
 use Rattle.palm_repair.specs.Repair.{Repairs}
 use Rattle.palm_repair.specs.Sets.{most_repair_turns}
 use Rattle.palm_repair.proofs.cited.Alone.{repair_same}
@@ -34,12 +39,13 @@ use Rattle.proof_run.proofs.cited.Same.{proof_same}
 use Rattle.proof_run.specs.SoFar.IsTextSoFar.{declaring}
 use Rattle.proof_run.specs.Text.{Proves, declarations}
 use Rattle.palm_session.specs.declared.request.Procedure.{Procedure}
-use Rattle.palm_session.specs.declared.request.Procedure.TheVariants.{Dbt, Repair, Proof}
-use Rattle.palm_session.specs.Requests.{HasTabu, budget_of}
-use Rattle.palm_session.specs.Effects.{Telling, InShort, InFull, SearchesByDbt, SearchesByRepair, SearchesByProof, SearchesIn, with_search}
+use Rattle.palm_session.specs.declared.request.Procedure.TheVariants.{Dbt, Repair, Proof, Least}
+use Rattle.palm_session.specs.Requests.{CanSearch, budget_of}
+use Rattle.palm_session.specs.Effects.{Telling, InShort, InFull, SearchesByDbt, SearchesByRepair, SearchesByProof, SearchesByLeast, SearchesIn, best_end, best_telling, with_search}
 use Rattle.palm_session.specs.Told.{MaySpendSo}
 use Rattle.palm_session.specs.State.{SessionState, IsHeld, IsState}
 use Rattle.palm_session.proofs.ActiveLists.{active_member}
+use Rattle.palm_session.proofs.Minimizing.{BestHolds, EndHolds, best_end_holds, best_end_spent, best_holds, held_none, held_target, held_values}
 
 -- every active constraint of a book is a user's
 pub book_users : (book : Contents) (s : EngineState) → s.active ≡ active_of book → HasOnlyUsers s
@@ -70,7 +76,7 @@ pub record HasSearchIn (s : SessionState) (by : Procedure) : Type 0 where
   pub engine : EngineState
   pub searches : SearchesIn s by turns end telling engine
 
-pub search_in : (s : SessionState) → IsHeld s → (by : Procedure) → HasTabu by → HasSearchIn s by
+pub search_in : (s : SessionState) → IsHeld s → (by : Procedure) → CanSearch s by → HasSearchIn s by
 search_in s is (Dbt budget) some =
     let guided = is_some s.guide in
     let p = search_exists reasons_right guided (is_some s.order) (λ k. pick_of guided) (λ k. pick_fits guided) budget s.engine is.valid (held_users s is) in
@@ -85,6 +91,11 @@ search_in s is (Proof budget) some =
     let p = proofs_go_on (is_some s.guide) (is_some s.order) budget s.book s.engine [] (declarations s.book) is.valid (held_users s is) (declaring refl refl) in
     let searches : SearchesByProof s budget p.0 p.1 (InFull p.3) p.2 = record { text = p.3; proves = p.5; told = refl } in
     record { turns = p.0; end = p.1; telling = InFull p.3; engine = p.2; searches = searches }
+search_in s is (Least target budget) declared =
+    let guided = is_some s.guide in
+    let p = best_exists reasons_right guided (is_some s.order) (pick_of guided) (pick_fits guided) target budget s.engine is.valid (held_none s is) (held_target s is target declared) (held_values s is target declared) in
+    let searches : SearchesByLeast s target budget p.turns (best_end p.best) (best_telling p.best) p.state = record { best = p.best; minimizes = p.minimizes; ended = refl; told = refl } in
+    record { turns = p.turns; end = best_end p.best; telling = best_telling p.best; engine = p.state; searches = searches }
 
 -- ---- without a guide and an order there is no other one
 
@@ -117,6 +128,16 @@ search_once s (Proof budget) turns others end other telling told e f is unguided
     let same = search_same reasons_right budget s.engine turns end e others other f is.valid (held_users s is) one.searches two.searches in
     let text = proof_same budget s.book s.engine turns others end other e f x.text y.text is.valid (held_users s is) one two in
     record { turns_same = same.turns_same; end_same = same.end_same; telling_same = x.told ∙ ap InFull text ∙ sym y.told; engine_same = same.state_same }
+search_once s (Least target budget) turns others end other telling told e f is unguided free x y =
+    let same = best_alone reasons_right target budget s.engine turns x.best e others y.best f is.valid (held_none s is)
+    (plain s (λ g o. Minimizes g o target budget s.engine turns x.best e) unguided free x.minimizes)
+    (plain s (λ g o. Minimizes g o target budget s.engine others y.best f) unguided free y.minimizes) in
+    record {
+      turns_same = same.turns_same;
+      end_same = x.ended ∙ ap best_end same.best_same ∙ sym y.ended;
+      telling_same = x.told ∙ ap best_telling same.best_same ∙ sym y.told;
+      engine_same = same.state_same;
+    }
 
 -- ---- what it leaves
 
@@ -127,6 +148,8 @@ search_leaves_still s (Proof budget) turns end telling e is search =
     search_rests reasons_right (is_some s.guide) (is_some s.order) budget s.engine turns end e (held_users s is) is.valid search.proves.searches
 search_leaves_still s (Repair tabu budget) turns end telling e is search =
     repair_rests reasons_right (is_some s.guide) (is_some s.order) tabu budget s.engine turns end search.count e (held_users s is) is.valid search.repairs
+search_leaves_still s (Least target budget) turns end telling e is search =
+    best_rests reasons_right (is_some s.guide) (is_some s.order) target budget s.engine turns search.best e (held_none s is) is.valid search.minimizes
 
 pub search_log : (s : SessionState) (by : Procedure) (turns : List Turn) (end : SearchEnd) (telling : Telling) (e : EngineState) → IsHeld s → SearchesIn s by turns end telling e → IsStill s.engine → e.log ≡ s.engine.log
 search_log s (Dbt budget) turns end telling e is search still =
@@ -135,6 +158,8 @@ search_log s (Proof budget) turns end telling e is search still =
     search_leaves reasons_right (is_some s.guide) (is_some s.order) budget s.engine turns end e (held_users s is) is.valid still search.proves.searches
 search_log s (Repair tabu budget) turns end telling e is search still =
     repair_leaves reasons_right (is_some s.guide) (is_some s.order) tabu budget s.engine turns end search.count e (held_users s is) is.valid still search.repairs
+search_log s (Least target budget) turns end telling e is search still =
+    best_leaves reasons_right (is_some s.guide) (is_some s.order) target budget s.engine turns search.best e (held_none s is) is.valid still search.minimizes
 
 pub searched_state : (s : SessionState) (by : Procedure) (turns : List Turn) (end : SearchEnd) (telling : Telling) (e : EngineState) → IsHeld s → SearchesIn s by turns end telling e → IsState (with_search s turns e)
 searched_state s by turns end telling e is search =
@@ -155,42 +180,31 @@ searched_state s by turns end telling e is search =
 
 -- ---- what its end says
 
--- a run from what the session holds, which ended so
-pub record HasEnd (s : SessionState) (end : SearchEnd) : Type 0 where
+-- a run of a search from what the session holds, which ended so
+record HasEnd (s : SessionState) (end : SearchEnd) : Type 0 where
   pub budget : ℕ
   pub count : ℕ
   pub last : SearchState
   pub reached : Ended s.engine last
   pub ends : EndsWith budget count last.engine end
 
-pub has_end : (s : SessionState) (by : Procedure) (turns : List Turn) (end : SearchEnd) (telling : Telling) (e : EngineState) → IsHeld s → SearchesIn s by turns end telling e → HasEnd s end
-has_end s (Dbt budget) turns end telling e is search =
-    let run = search.searches.run in
-    record {
-      budget = budget;
-      count = length turns;
-      last = search.searches.last;
-      reached = run_ended reasons_right (is_some s.guide) (is_some s.order) budget s.engine turns end search.searches.last (held_users s is) is.valid run;
-      ends = run.ends;
-    }
-has_end s (Proof budget) turns end telling e is search =
-    let searches = search.proves.searches in
-    record {
-      budget = budget;
-      count = length turns;
-      last = searches.last;
-      reached = run_ended reasons_right (is_some s.guide) (is_some s.order) budget s.engine turns end searches.last (held_users s is) is.valid searches.run;
-      ends = searches.run.ends;
-    }
-has_end s (Repair tabu budget) turns end telling e is search =
-    let run = search.repairs.run in
-    record {
-      budget = budget;
-      count = length turns;
-      last = search.repairs.last.search;
-      reached = repair_ended reasons_right (is_some s.guide) (is_some s.order) tabu budget s.engine turns end search.count search.repairs.last (held_users s is) is.valid run;
-      ends = run.ends;
-    }
+dbt_end : (s : SessionState) (budget : ℕ) (turns : List Turn) (end : SearchEnd) (e : EngineState) → IsHeld s → SearchesWhole (is_some s.guide) (is_some s.order) budget s.engine turns end e → HasEnd s end
+dbt_end s budget turns end e is searches = record {
+  budget = budget;
+  count = length turns;
+  last = searches.last;
+  reached = run_ended reasons_right (is_some s.guide) (is_some s.order) budget s.engine turns end searches.last (held_users s is) is.valid searches.run;
+  ends = searches.run.ends;
+}
+
+repair_end : (s : SessionState) (tabu budget : ℕ) (turns : List Turn) (end : SearchEnd) (dropped : ℕ) (e : EngineState) → IsHeld s → Repairs (is_some s.guide) (is_some s.order) tabu budget s.engine turns end dropped e → HasEnd s end
+repair_end s tabu budget turns end dropped e is repairs = record {
+  budget = budget;
+  count = length turns;
+  last = repairs.last.search;
+  reached = repair_ended reasons_right (is_some s.guide) (is_some s.order) tabu budget s.engine turns end dropped repairs.last (held_users s is) is.valid repairs.run;
+  ends = repairs.run.ends;
+}
 
 module _ (s : SessionState) (is : IsHeld s) where
   found_at : (values : List ℤ) (h : HasEnd s (Found values)) → IsFound (present h.last.engine) values
@@ -199,27 +213,48 @@ module _ (s : SessionState) (is : IsHeld s) where
   none_at : (users : List Cid) (h : HasEnd s (NoSolution users)) → HasNoSolution h.last.engine users
   none_at users h = h.ends
 
-  pub found_solves : (values : List ℤ) → HasEnd s (Found values) → IsSolution (initial_of s.book) (Contains (cons_of (active_of s.book))) (listed values)
+  found_solves : (values : List ℤ) → HasEnd s (Found values) → IsSolution (initial_of s.book) (Contains (cons_of (active_of s.book))) (listed values)
   found_solves values h =
       let here = run_found s.engine h.last values h.reached (found_at values h) in
       subst (λ (d : Domains). IsSolution d (Contains (cons_of (active_of s.book))) (listed values)) is.initial
       (subst (λ (l : List Active). IsSolution s.engine.initial (Contains (cons_of l)) (listed values)) is.active here)
 
   -- one value for each variable
-  pub found_length : (values : List ℤ) → HasEnd s (Found values) → length values ≡ length s.book.variables
+  found_length : (values : List ℤ) → HasEnd s (Found values) → length values ≡ length s.book.variables
   found_length values h =
       let last = h.last.engine in
       sym (length-map values (λ (v : ℤ). v ∷ [])) ∙ ap (λ (d : Domains). length d) (sym (found_at values h)) ∙ length_without last.initial (log_pairs last.log)
       ∙ ap (λ (d : Domains). length d) (h.reached.remembers.initial ∙ is.initial) ∙ length-map s.book.variables (λ (f : BookVar). f.values)
 
-  pub none_active : (users : List Cid) → HasEnd s (NoSolution users) → (c : Cid) → Contains users c → IsActive (active_of s.book) c
+  none_active : (users : List Cid) → HasEnd s (NoSolution users) → (c : Cid) → Contains users c → IsActive (active_of s.book) c
   none_active users h c m = subst (λ (l : List Active). IsActive l c) is.active (run_users s.engine h.last users h.reached (none_at users h) c m)
 
-  pub none_unsolved : (users : List Cid) → HasEnd s (NoSolution users) → (a : Assignment) → IsSolution (initial_of s.book) (Named (active_of s.book) (Contains users)) a → ⊥
+  none_unsolved : (users : List Cid) → HasEnd s (NoSolution users) → (a : Assignment) → IsSolution (initial_of s.book) (Named (active_of s.book) (Contains users)) a → ⊥
   none_unsolved users h a solution =
       run_unsolved s.engine h.last users h.reached (none_at users h) a
       (subst (λ (d : Domains). IsSolution d (Named s.engine.active (Contains users)) a) (sym is.initial)
       (subst (λ (l : List Active). IsSolution (initial_of s.book) (Named l (Contains users)) a) (sym is.active) solution))
+
+  run_holds : (end : SearchEnd) → HasEnd s end → EndHolds s.book end
+  run_holds (Found values) h = (found_solves values h, found_length values h)
+  run_holds (NoSolution users) h = record { active = none_active users h; none = none_unsolved users h }
+  run_holds (Spent count) h = tt
+
+  -- what the end of a minimization says
+  pub least_holds : (target budget : ℕ) (turns : List Turn) (end : SearchEnd) (telling : Telling) (e : EngineState) (search : SearchesByLeast s target budget turns end telling e) → BestHolds s.book target budget search.best
+  least_holds target budget turns end telling e search =
+      let guided = is_some s.guide in
+      let ordered = is_some s.order in
+      best_holds s is target budget search.best (best_true reasons_right guided ordered target budget s.engine turns search.best search.minimizes.last (held_none s is) is.valid search.minimizes.run)
+      (best_long reasons_right guided ordered target budget s.engine turns search.best search.minimizes.last (held_none s is) is.valid search.minimizes.run)
+
+  -- and that of any search
+  pub end_holds : (by : Procedure) (turns : List Turn) (end : SearchEnd) (telling : Telling) (e : EngineState) → SearchesIn s by turns end telling e → EndHolds s.book end
+  end_holds (Dbt budget) turns end telling e search = run_holds end (dbt_end s budget turns end e is search.searches)
+  end_holds (Proof budget) turns end telling e search = run_holds end (dbt_end s budget turns end e is search.proves.searches)
+  end_holds (Repair tabu budget) turns end telling e search = run_holds end (repair_end s tabu budget turns end search.count e is search.repairs)
+  end_holds (Least target budget) turns end telling e search =
+      subst (EndHolds s.book) (sym search.ended) (best_end_holds s.book target budget search.best (least_holds target budget turns end telling e search))
 
   dbt_spent : (budget : ℕ) (turns : List Turn) (e : EngineState) (count : ℕ) → SearchesWhole (is_some s.guide) (is_some s.order) budget s.engine turns (Spent count) e
       → (count ≡ budget) × (budget < most_turns (length s.book.variables) (value_count (initial_of s.book)))
@@ -252,3 +287,5 @@ module _ (s : SessionState) (is : IsHeld s) where
   spent_small (Proof budget) turns e count telling search =
       let small = dbt_spent budget turns e count search.proves.searches in
       (small.0, subst (λ (d : Telling). MaySpendSo s.book (Proof budget) d) (sym search.told) small.1)
+  spent_small (Least target budget) turns e count telling search =
+      best_end_spent s.book target budget search.best count telling (least_holds target budget turns (Spent count) telling e search) search.ended search.told

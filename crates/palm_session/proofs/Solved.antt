@@ -9,6 +9,8 @@ use Rattle.palm_search.specs.declared.ending.SearchEnd.{SearchEnd}
 use Rattle.palm_search.specs.declared.ending.SearchEnd.TheVariants.{Found, NoSolution, Spent}
 use Rattle.palm_model.specs.State.{EngineState}
 use Rattle.palm_search.specs.Search.{Searches as SearchesWhole}
+use Rattle.palm_best.specs.Ends.{Minimizes}
+use Rattle.palm_best.specs.declared.best.Best.{Best}
 use Rattle.palm_repair.specs.Answers.{HasRepaired, end_of}
 use Rattle.palm_repair.specs.declared.answer.RepairAnswer.{RepairAnswer}
 use Rattle.palm_repair.specs.declared.answer.RepairAnswer.TheVariants.{Found as RepairFound, NoSolution as RepairNoSolution, Spent as RepairSpent}
@@ -16,14 +18,15 @@ use Rattle.palm_book.specs.Book.{Contents, IsUser}
 use Rattle.proof_run.specs.Text.{Proves}
 use Rattle.palm_lang.specs.declared.reply.Lead.TheVariants.{NoSolution as NoSolutionLead}
 use Rattle.palm_read.specs.declared.mode.Mode.{Mode}
-use Rattle.palm_session.specs.declared.reply.Reply.TheVariants.{Found as FoundReply, Users, Spent as SpentReply}
+use Rattle.palm_session.specs.declared.reply.Reply.TheVariants.{Found as FoundReply, Users, Spent as SpentReply, Best as BestReply}
 use Rattle.palm_session.specs.declared.request.Procedure.{Procedure}
-use Rattle.palm_session.specs.declared.request.Procedure.TheVariants.{Dbt, Repair, Proof}
-use Rattle.palm_session.specs.Effects.{InShort, InFull, Telling, SearchesByProof, SearchesIn, SearchesByDbt, SearchesByRepair, with_search}
+use Rattle.palm_session.specs.declared.request.Procedure.TheVariants.{Dbt, Repair, Proof, Least}
+use Rattle.palm_session.specs.Effects.{InShort, InFull, AsLeast, SoFar, Telling, SearchesByProof, SearchesByLeast, SearchesIn, SearchesByDbt, SearchesByRepair, best_end, best_telling, with_search}
 use Rattle.palm_session.specs.Objects.{ObjectsView, LendsChosen}
-use Rattle.palm_session.specs.Serving.{DeskView, desk_of, HasRepairedIn, HasRun, HasSearched}
+use Rattle.palm_session.specs.Serving.{DeskView, desk_of, HasRepairedIn, HasRun, HasSearched, spent_reply}
 use Rattle.palm_session.specs.State.{SessionState, IsHeld}
-use Rattle.palm_session.proofs.Searching.{has_end, found_length, none_active}
+use Rattle.palm_session.proofs.Minimizing.{BestHolds, found_best, spent_so_far}
+use Rattle.palm_session.proofs.Searching.{end_holds, least_holds}
 use Rattle.palm_session.proofs.Users.{active_user}
 
 -- ---- what is told is about what is in the book
@@ -32,24 +35,24 @@ module _ (s t : SessionState) (by : Procedure) (dropped : Option ℕ) (is : IsHe
   pub found_searched : (values : List ℤ) → HasRun s by (Found values) (InShort dropped) t → HasSearched s by (FoundReply values) t
   found_searched values h = record {
     end = Found values;
-    dropped = dropped;
+    telling = InShort dropped;
     run = h;
     told = refl;
-    fits = found_length s is values (has_end s by h.turns (Found values) (InShort dropped) h.engine is h.searches) ∙ ap (λ (z : SessionState). length z.book.variables) (sym h.after);
+    fits = (end_holds s is by h.turns (Found values) (InShort dropped) h.engine h.searches).1 ∙ ap (λ (z : SessionState). length z.book.variables) (sym h.after);
   }
 
   pub none_searched : (users : List Cid) → HasRun s by (NoSolution users) (InShort dropped) t → HasSearched s by (Users NoSolutionLead users) t
   none_searched users h = record {
     end = NoSolution users;
-    dropped = dropped;
+    telling = InShort dropped;
     run = h;
     told = refl;
     fits = subst (λ (z : SessionState). All (IsUser z.book) users) (sym h.after)
-        (all_members (IsUser s.book) users (λ c m. active_user s.book c (none_active s is users (has_end s by h.turns (NoSolution users) (InShort dropped) h.engine is h.searches) c m)));
+        (all_members (IsUser s.book) users (λ c m. active_user s.book c ((end_holds s is by h.turns (NoSolution users) (InShort dropped) h.engine h.searches).active c m)));
   }
 
   pub spent_searched : (turns : ℕ) → HasRun s by (Spent turns) (InShort dropped) t → HasSearched s by (SpentReply turns dropped) t
-  spent_searched turns h = record { end = Spent turns; dropped = dropped; run = h; told = refl; fits = tt }
+  spent_searched turns h = record { end = Spent turns; telling = InShort dropped; run = h; told = refl; fits = tt }
 
 -- ---- the answers of decision-repair
 
@@ -64,6 +67,37 @@ module _ (s t : SessionState) (tabu budget : ℕ) (is : IsHeld s) where
   spent_repaired turns dropped h =
       subst (λ (n : ℕ). HasSearched s (Repair tabu budget) (SpentReply turns (Some n)) t) (sym h.told)
       (spent_searched s t (Repair tabu budget) (Some h.dropped) is turns h.run)
+
+-- ---- the ends of a minimization
+
+module _ (s t : SessionState) (target budget : ℕ) (is : IsHeld s) where
+  pub least_searched : (values : List ℤ) (users : List Cid) → HasRun s (Least target budget) (Found values) (AsLeast users) t → HasSearched s (Least target budget) (BestReply values users) t
+  least_searched values users h =
+      let holds = least_holds s is target budget h.turns (Found values) (AsLeast users) h.engine h.searches in
+      let best = subst (BestHolds s.book target budget) (found_best h.searches.best values users h.searches.ended h.searches.told) holds in
+      record {
+        end = Found values;
+        telling = AsLeast users;
+        run = h;
+        told = refl;
+        fits = (
+          best.1 ∙ ap (λ (z : SessionState). length z.book.variables) (sym h.after),
+          subst (λ (z : SessionState). All (IsUser z.book) users) (sym h.after) (all_members (IsUser s.book) users (λ c m. active_user s.book c (best.0.active c m))),
+        );
+      }
+
+  pub so_far_searched : (turns : ℕ) (best : Option (List ℤ)) → HasRun s (Least target budget) (Spent turns) (SoFar best) t → HasSearched s (Least target budget) (spent_reply turns best) t
+  so_far_searched turns None h = record { end = Spent turns; telling = SoFar None; run = h; told = refl; fits = tt }
+  so_far_searched turns (Some values) h =
+      let holds = least_holds s is target budget h.turns (Spent turns) (SoFar (Some values)) h.engine h.searches in
+      let best = subst (BestHolds s.book target budget) (spent_so_far h.searches.best turns (Some values) h.searches.ended h.searches.told) holds in
+      record {
+        end = Spent turns;
+        telling = SoFar (Some values);
+        run = h;
+        told = refl;
+        fits = best.2.1 ∙ ap (λ (z : SessionState). length z.book.variables) (sym h.after);
+      }
 
 -- ---- what the calls of a search say of the desk
 
@@ -81,6 +115,11 @@ pub proof_searches : (s : SessionState) (budget : ℕ) (turns : List Turn) (end 
     → SearchesIn s (Proof budget) turns end (InFull text) e
 proof_searches s budget turns end text e h =
     let searches : SearchesByProof s budget turns end (InFull text) e = record { text = text; proves = h; told = refl } in searches
+
+pub least_searches : (s : SessionState) (target budget : ℕ) (turns : List Turn) (e : EngineState) (best : Best) → Minimizes (is_some s.guide) (is_some s.order) target budget s.engine turns best e
+    → SearchesIn s (Least target budget) turns (best_end best) (best_telling best) e
+least_searches s target budget turns e best h =
+    let searches : SearchesByLeast s target budget turns (best_end best) (best_telling best) e = record { best = best; minimizes = h; ended = refl; told = refl } in searches
 
 -- lent objects have the same numbers
 pub lent_state : {G O : Type 0} (mode : Mode) (book : Contents) (engine after : View) (accepted : ℕ) (paused : Bool) (guides others : ObjectsView G) (orders more : ObjectsView O) (search done : SearchView)

@@ -16,9 +16,9 @@ use Rattle.palm_session.specs.declared.request.Request.{Request}
 use Rattle.palm_session.specs.declared.request.Request.TheVariants.{Ask, Step, Solve, Quit as QuitAsked}
 use Rattle.palm_lang.specs.declared.reply.Fixed.TheVariants.{Paused, Contradiction}
 use Rattle.palm_session.specs.Answers.{IsPausable, IsContradictable, Contradicts, Says, WaitsFor, waits, contradicts, says}
-use Rattle.palm_session.specs.Effects.{InShort, Effect, Nothing, Settled, Searched, Changes, Does, Follows, Next, Rests, next}
+use Rattle.palm_session.specs.Effects.{Effect, Nothing, Settled, Searched, Changes, Does, Follows, Next, Rests, next}
 use Rattle.palm_session.specs.ReplyText.{reply_text, ReplyFits}
-use Rattle.palm_session.specs.Requests.{Admits, CanAsk, IsToldAtOnce}
+use Rattle.palm_session.specs.Requests.{Admits, CanAsk, CanSearch, IsToldAtOnce}
 use Rattle.palm_session.specs.Serving.{AsksWithin, AsksFor, asks_nothing, asks_after, CanDo, CanSay, GoesAs, IsDone, IsLeft, IsOwn, IsSaid, Obeys, Takes}
 use Rattle.palm_session.specs.State.{SessionState, IsContradiction, IsState}
 use Rattle.palm_session.proofs.cited.LawsOfStates.{does_keeps, rests_same}
@@ -70,12 +70,12 @@ module _ (s m t : SessionState) (asked : ℕ) (own : Own) where
   solve_done by changes d =
       let h = d.1 in
       record {
-        effect = Searched h.end (InShort h.dropped);
+        effect = Searched h.end h.telling;
         changed = m;
         changes = changes;
         follows = (h.run.turns, h.run.engine, h.run.searches, h.run.after);
         asks = tt;
-        owns = subst (λ (o : Own). IsOwn t (Solve by) (Searched h.end (InShort h.dropped)) o) (sym d.2) (h.told, h.fits);
+        owns = subst (λ (o : Own). IsOwn t (Solve by) (Searched h.end h.telling) o) (sym d.2) (h.told, h.fits);
       }
 
   quit_done : Changes s QuitAsked m → IsDone m End t asked own → HasDone s QuitAsked t asked own
@@ -100,11 +100,13 @@ has_done s request m t End asked own o d =
     subst (λ (r : Request). HasDone s r t asked own) (sym o.left) (quit_done s m t asked own (subst (λ (r : Request). Changes s r m) o.left o.changes) d)
 
 -- what is left can be done
-pub can_do : (s : SessionState) (request : Request) (m : SessionState) (remainder : Remainder) → Admits s request → IsToldAtOnce request → Obeys s request m remainder → CanDo remainder
+pub can_do : (s : SessionState) (request : Request) (m : SessionState) (remainder : Remainder) → Admits s request → IsToldAtOnce request → Obeys s request m remainder → CanDo m remainder
 can_do s request m (Say own) can told o = tt
 can_do s request m Filter can told o = tt
 can_do s request m (Run count) can told o = tt
-can_do s request m (Search by) can told o = (subst (λ (r : Request). Admits s r) o.left can, subst (λ (r : Request). IsToldAtOnce r) o.left told)
+can_do s request m (Search by) can told o =
+    let same : m ≡ s = subst (λ (r : Request). Changes s r m) o.left o.changes in
+    (subst (λ (z : SessionState). CanSearch z by) (sym same) (subst (λ (r : Request). Admits s r) o.left can), subst (λ (r : Request). IsToldAtOnce r) o.left told)
 can_do s request m End can told o = tt
 
 -- ---- whether the session goes on

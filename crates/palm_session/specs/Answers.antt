@@ -1,5 +1,5 @@
 -- What a session answers to a line, and what it holds afterwards.
-use Rattle.std.specs.Prelude.{◌≡◌, ℕ, ℤ, ◌≤◌, ◌⊎◌, true, false, List, [], ◌++◌, map, flat_map, zip, Option, Some}
+use Rattle.std.specs.Prelude.{◌≡◌, ℕ, ℤ, ◌≤◌, ◌⊎◌, true, false, List, [], ◌++◌, map, flat_map, zip, Option, None, Some}
 use Rattle.palm_base.specs.First.{IsFirst}
 use Rattle.palm_base.specs.declared.terms.Cid.{Cid}
 use Rattle.palm_base.specs.declared.terms.Pair.{Pair}
@@ -12,9 +12,9 @@ use Rattle.palm_model.specs.Minimal.{AreConflict, DoExplain, IsMinimalConflict, 
 use Rattle.palm_claim.specs.declared.verdict.Claim.TheVariants.{Gone, Conflict as ConflictClaim}
 use Rattle.palm_cert.specs.Certificate.{certificate_text}
 use Rattle.palm_read.specs.Reading.{IsRead, IsRefusedBy}
-use Rattle.palm_lang.specs.Reply.{fixed_text, refusal_text, ran_text, domain_line, var_line, entry_line, removal_line, names_line, found_line, spent_line}
+use Rattle.palm_lang.specs.Reply.{fixed_text, refusal_text, ran_text, domain_line, var_line, entry_line, removal_line, names_line, best_line, found_line, spent_best_line, spent_line}
 use Rattle.palm_lang.specs.declared.reply.Lead.{Lead}
-use Rattle.palm_lang.specs.declared.reply.Lead.TheVariants.{Because, Conflict as ConflictLead, NoSolution as NoSolutionLead}
+use Rattle.palm_lang.specs.declared.reply.Lead.TheVariants.{Because, Conflict as ConflictLead, NoSolution as NoSolutionLead, Proved}
 use Rattle.palm_read.specs.declared.line.Line.{Line}
 use Rattle.palm_read.specs.declared.parse.LineError.{LineError}
 use Rattle.palm_lang.specs.declared.reply.Fixed.TheVariants.{Done, Contradiction, Paused, Present, Consistent, Bye, End}
@@ -29,7 +29,7 @@ use Rattle.palm_search.specs.declared.ending.SearchEnd.TheVariants.{Found, NoSol
 use Rattle.palm_session.specs.Modes.{heard, misheard}
 use Rattle.palm_session.specs.Refusals.{Meets, in_order, refusal_of}
 use Rattle.palm_session.specs.Requests.{IsAdmitted}
-use Rattle.palm_session.specs.Effects.{Effect, Settled, Searched, Telling, InShort, InFull, Does}
+use Rattle.palm_session.specs.Effects.{Effect, Settled, Searched, Telling, InShort, InFull, AsLeast, SoFar, Does}
 
 -- the questions that are answered by `paused` while filtering waits
 abbrev pub CanWait : Question → Type 0
@@ -91,10 +91,26 @@ end_text book (Found values) dropped = found_line book.variables values
 end_text book (NoSolution users) dropped = users_text book NoSolutionLead users
 end_text book (Spent turns) dropped = spent_line turns dropped
 
+-- a value for each variable, which is the best, the users' constraints that prove it, and `end`
+abbrev pub least_text : Contents → List ℤ → List Cid → List ℕ
+least_text book values users = best_line book.variables values ++ users_text book Proved users ++ fixed_text End
+
+-- where the end has values, that they are the best
+abbrev pub as_least_text : Contents → SearchEnd → List Cid → List ℕ
+as_least_text book (Found values) users = least_text book values users
+as_least_text book end users = end_text book end None
+
+-- where the budget was spent, how many turns were taken, and the best values so far, if some were found
+abbrev pub so_far_text : Contents → SearchEnd → Option (List ℤ) → List ℕ
+so_far_text book (Spent turns) (Some values) = spent_best_line turns book.variables values
+so_far_text book end best = end_text book end None
+
 -- how a search is told
 abbrev pub told_text : Contents → SearchEnd → Telling → List ℕ
 told_text book end (InShort dropped) = end_text book end dropped
 told_text book end (InFull text) = text
+told_text book end (AsLeast users) = as_least_text book end users
+told_text book end (SoFar best) = so_far_text book end best
 
 -- `present` where the value is one of the greatest closed domains, and else the explanation that the log keeps
 abbrev pub SaysWhy : SessionState → Domains → ℕ → ℤ → List ℕ → Type 0

@@ -8,25 +8,32 @@ use Rattle.palm_model.specs.declared.constraint.Con.{Con}
 use Rattle.palm_model.specs.declared.constraint.Con.TheVariants.{Within as WithinCon}
 use Rattle.palm_engine.specs.Settling.{Revision, Settles, FitsOrder}
 use Rattle.palm_search.specs.declared.ending.SearchEnd.{SearchEnd}
+use Rattle.palm_search.specs.declared.ending.SearchEnd.TheVariants.{Found, NoSolution, Spent}
 use Rattle.palm_search.specs.Search.{Searches as SearchesWhole}
 use Rattle.palm_search.specs.declared.turn.Turn.{Turn}
 use Rattle.palm_repair.specs.Repair.{Repairs}
+use Rattle.palm_best.specs.Ends.{Minimizes}
+use Rattle.palm_best.specs.declared.best.Best.{Best}
+use Rattle.palm_best.specs.declared.best.Best.TheVariants.{Least as LeastFound, NoSolution as NoneFound, Spent as SpentBest}
 use Rattle.proof_run.specs.Text.{Proves}
 use Rattle.palm_book.specs.Book.{with_active, user_at}
 use Rattle.palm_book.specs.declared.book.BookCon.{BookCon}
 use Rattle.palm_read.specs.Domain.{values_in}
 use Rattle.palm_read.specs.declared.line.DomainText.{DomainText}
 use Rattle.palm_session.specs.declared.request.Procedure.{Procedure}
-use Rattle.palm_session.specs.declared.request.Procedure.TheVariants.{Dbt, Repair, Proof}
+use Rattle.palm_session.specs.declared.request.Procedure.TheVariants.{Dbt, Repair, Proof, Least}
 use Rattle.palm_session.specs.declared.request.Request.{Request}
 use Rattle.palm_session.specs.declared.request.Request.TheVariants.{Nothing as NothingAsked, Header as HeaderAsked, Declare, DeclareIn, Add, Relax, Enforce, Retract, Ask, Pause, Resume, Step, Solve, ChooseGuide, DropGuide, ChooseOrder, DropOrder, Quit}
 use Rattle.palm_session.specs.Objects.{without_number, chosen_without}
 use Rattle.palm_session.specs.State.{SessionState}
 
--- how the end of a search is told: in a line, with how many nogoods it dropped, where that is told; or in full, by its proof
+-- how the end of a search is told: in a line, with how many nogoods it dropped, where that is told; in full, by its proof; as
+-- the best values, which these constraints prove; or with the best values so far, if some were found
 pub data Telling : Type 0 where
   InShort : (dropped : Option ℕ) → Telling
   InFull : (text : List ℕ) → Telling
+  AsLeast : (users : List Cid) → Telling
+  SoFar : (best : Option (List ℤ)) → Telling
 
 -- what happened at a request, beside what is held after it: a settling of so many revisions, or a search that ended so and is
 -- told so
@@ -174,10 +181,29 @@ pub record SearchesByProof (s : SessionState) (budget : ℕ) (turns : List Turn)
   pub proves : Proves (is_some s.guide) (is_some s.order) budget s.book s.engine turns end e text
   pub told : telling ≡ InFull text
 
+-- the end of a search that the end of a minimization is, and how that is told
+abbrev pub best_end : Best → SearchEnd
+best_end (LeastFound values users) = Found values
+best_end (NoneFound users) = NoSolution users
+best_end (SpentBest turns best) = Spent turns
+
+abbrev pub best_telling : Best → Telling
+best_telling (LeastFound values users) = AsLeast users
+best_telling (NoneFound users) = InShort None
+best_telling (SpentBest turns best) = SoFar best
+
+-- the same by mac-dbt that goes on below the values that it finds, until the variable has its least value
+pub record SearchesByLeast (s : SessionState) (target budget : ℕ) (turns : List Turn) (end : SearchEnd) (telling : Telling) (e : EngineState) : Type 0 where
+  pub best : Best
+  pub minimizes : Minimizes (is_some s.guide) (is_some s.order) target budget s.engine turns best e
+  pub ended : end ≡ best_end best
+  pub told : telling ≡ best_telling best
+
 abbrev pub SearchesIn : SessionState → Procedure → List Turn → SearchEnd → Telling → EngineState → Type 0
 SearchesIn s (Dbt budget) turns end telling e = SearchesByDbt s budget turns end telling e
 SearchesIn s (Repair tabu budget) turns end telling e = SearchesByRepair s tabu budget turns end telling e
 SearchesIn s (Proof budget) turns end telling e = SearchesByProof s budget turns end telling e
+SearchesIn s (Least target budget) turns end telling e = SearchesByLeast s target budget turns end telling e
 
 abbrev pub Follows : SessionState → Next → Effect → SessionState → Type 0
 Follows s Rests Nothing t = t ≡ s

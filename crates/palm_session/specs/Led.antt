@@ -7,6 +7,8 @@ use Rattle.palm_engine.specs.Following.{Hearing, LeadsAlong, hearings}
 use Rattle.palm_engine.specs.Settling.{Revision, Settles, FitsOrder}
 use Rattle.palm_search.specs.Following.{Moment, SearchesBy}
 use Rattle.palm_search.specs.declared.ending.SearchEnd.{SearchEnd}
+use Rattle.palm_best.specs.Following.{MinimizesBy}
+use Rattle.palm_best.specs.declared.best.Best.{Best}
 use Rattle.palm_repair.specs.Following.{HasRepairedBy}
 use Rattle.palm_repair.specs.declared.answer.RepairAnswer.{RepairAnswer}
 use Rattle.palm_read.specs.Lines.{HasNoFeed, without_return, last_line}
@@ -25,7 +27,7 @@ use Rattle.palm_session.specs.declared.going.Going.TheVariants.{More, Quit}
 use Rattle.palm_session.specs.declared.remainder.Remainder.{Remainder}
 use Rattle.palm_session.specs.declared.remainder.Remainder.TheVariants.{Say, Filter, Run, Search, End}
 use Rattle.palm_session.specs.declared.request.Procedure.{Procedure}
-use Rattle.palm_session.specs.declared.request.Procedure.TheVariants.{Dbt, Repair, Proof}
+use Rattle.palm_session.specs.declared.request.Procedure.TheVariants.{Dbt, Repair, Proof, Least}
 use Rattle.palm_session.specs.declared.request.Request.{Request}
 use Rattle.palm_session.specs.declared.taken.Taken.{Taken}
 use Rattle.palm_session.specs.declared.taken.Taken.TheVariants.{Said, ToProve}
@@ -66,6 +68,9 @@ RunsBy guiding ordering (Proof budget) s before t after = RunsByDbt guiding orde
 RunsBy guiding ordering (Repair tabu budget) s before t after =
     (answer : RepairAnswer) × HasRepairedBy guiding ordering (chosen_object before.guides) (chosen_object after.guides) (chosen_object before.orders) (chosen_object after.orders)
     tabu budget s.engine t.journal t.engine answer
+RunsBy guiding ordering (Least target budget) s before t after =
+    (best : Best) × MinimizesBy guiding ordering (chosen_object before.guides) (chosen_object after.guides) (chosen_object before.orders) (chosen_object after.orders)
+    target budget s.engine t.journal best t.engine
 
 -- the same, and each other object is as it was
 pub record SearchesOn {G O : Type 0} (guiding : Guiding G) (ordering : Ordering O) (by : Procedure) (s : SessionState) (before : HeldObjects G O) (t : SessionState) (after : HeldObjects G O) : Type 0 where

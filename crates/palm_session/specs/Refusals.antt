@@ -2,7 +2,7 @@
 use Rattle.std.specs.Prelude.{◌≡◌, ◌≤◌, Bool, true, false, List, [], ◌∷◌, ◌⊎◌, ℕ, ℤ, length, Any, Contains, Option, Some, None}
 use Rattle.palm_read.specs.Limits.{names_of, IsBeyond}
 use Rattle.palm_read.specs.declared.line.Line.{Line}
-use Rattle.palm_read.specs.declared.line.Line.TheVariants.{Var, VarIn, Add, Relax, Enforce, Retract, Domain, Why, Minimal, Cert, Pause, Resume, Step, Guide, Order, DropGuide, DropOrder}
+use Rattle.palm_read.specs.declared.line.Line.TheVariants.{Var, VarIn, Add, Relax, Enforce, Retract, Domain, Why, Minimal, Cert, Pause, Resume, Step, Minimize, Guide, Order, DropGuide, DropOrder}
 use Rattle.palm_read.specs.declared.parse.LineError.{LineError}
 use Rattle.palm_read.specs.declared.parse.LineError.TheVariants.{Bytes, Form, Range as OutOfRange, Empty, Repeated, NoMemory}
 use Rattle.palm_lang.specs.declared.reply.Refusal.{Refusal}
@@ -29,6 +29,7 @@ NamesNone s (Domain name) = IsUnknown s name
 NamesNone s (Why name value) = IsUnknown s name
 NamesNone s (Minimal name value) = IsUnknown s name
 NamesNone s (Cert name value) = IsUnknown s name
+NamesNone s (Minimize name budget) = IsUnknown s name
 NamesNone s _ = ⊥
 
 -- no present constraint has the name that the line gives

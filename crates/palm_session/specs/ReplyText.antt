@@ -5,8 +5,8 @@ use Rattle.palm_model.specs.State.{present}
 use Rattle.palm_book.specs.Book.{IsUser, name_of}
 use Rattle.palm_cert.specs.Certificate.{certificate_text}
 use Rattle.palm_cert.specs.Needs.{CanClaim}
-use Rattle.palm_lang.specs.Reply.{fixed_text, refusal_text, ran_text, domain_line, found_line, spent_line}
-use Rattle.palm_session.specs.Answers.{domains_text, list_text, log_text, users_text}
+use Rattle.palm_lang.specs.Reply.{fixed_text, refusal_text, ran_text, domain_line, found_line, spent_best_line, spent_line}
+use Rattle.palm_session.specs.Answers.{domains_text, least_text, list_text, log_text, users_text}
 use Rattle.palm_session.specs.Refusals.{refusal_of}
 use Rattle.palm_session.specs.State.{SessionState}
 use Rattle.palm_read.specs.declared.parse.LineError.{LineError}
@@ -15,7 +15,7 @@ use Rattle.palm_session.specs.declared.going.Going.TheVariants.{More}
 use Rattle.palm_session.specs.declared.reply.Reply.{Reply}
 use Rattle.palm_session.specs.declared.taken.Taken.{Taken}
 use Rattle.palm_session.specs.declared.taken.Taken.TheVariants.{Said}
-use Rattle.palm_session.specs.declared.reply.Reply.TheVariants.{Nothing, Word, Refused, Ran, Domains, Domain, Listing, Log, Users, Certificate, Found, Spent}
+use Rattle.palm_session.specs.declared.reply.Reply.TheVariants.{Nothing, Word, Refused, Ran, Domains, Domain, Listing, Log, Users, Certificate, Found, Spent, Best, SpentBest}
 
 -- the text of a reply to a line, by what is held after it
 abbrev pub reply_text : SessionState → Reply → List ℕ
@@ -31,6 +31,8 @@ reply_text s (Users lead users) = users_text s.book lead users
 reply_text s (Certificate claim) = certificate_text s.book s.engine.log claim
 reply_text s (Found values) = found_line s.book.variables values
 reply_text s (Spent turns dropped) = spent_line turns dropped
+reply_text s (Best values users) = least_text s.book values users
+reply_text s (SpentBest turns values) = spent_best_line turns s.book.variables values
 
 -- what a reply is about is in the book, and what a certificate claims holds
 abbrev pub ReplyFits : SessionState → Reply → Type 0
@@ -38,6 +40,8 @@ ReplyFits s (Domain x) = x < length s.book.variables
 ReplyFits s (Users lead users) = All (IsUser s.book) users
 ReplyFits s (Certificate claim) = CanClaim s.engine claim
 ReplyFits s (Found values) = length values ≡ length s.book.variables
+ReplyFits s (Best values users) = (length values ≡ length s.book.variables) × All (IsUser s.book) users
+ReplyFits s (SpentBest turns values) = length values ≡ length s.book.variables
 ReplyFits s _ = Unit {0}
 
 -- the refusal of a line that could not be read, after which the session goes on

@@ -13,9 +13,9 @@ use Rattle.palm_read.specs.Domain.{IsLarge, IsSoundDomain, values_in}
 use Rattle.palm_read.specs.Name.{IsNameText}
 use Rattle.palm_read.specs.declared.line.DomainText.{DomainText}
 use Rattle.palm_read.specs.declared.line.Line.{Line}
-use Rattle.palm_read.specs.declared.line.Line.TheVariants.{Comment, Header, Var, VarIn, Add as AddLine, Relax as RelaxLine, Enforce as EnforceLine, Retract as RetractLine, Domains as DomainsLine, Domain as DomainLine, List as ListLine, Log as LogLine, Why as WhyLine, Conflict as ConflictLine, Minimal as MinimalLine, MinimalConflict as MinimalConflictLine, Cert as CertLine, CertConflict as CertConflictLine, Pause as PauseLine, Resume as ResumeLine, Step as StepLine, SolveDbt, SolveRepair, Prove, Guide, GuideNone, Order, OrderNone, DropGuide as DropGuideLine, DropOrder as DropOrderLine, Quit as QuitLine}
+use Rattle.palm_read.specs.declared.line.Line.TheVariants.{Comment, Header, Var, VarIn, Add as AddLine, Relax as RelaxLine, Enforce as EnforceLine, Retract as RetractLine, Domains as DomainsLine, Domain as DomainLine, List as ListLine, Log as LogLine, Why as WhyLine, Conflict as ConflictLine, Minimal as MinimalLine, MinimalConflict as MinimalConflictLine, Cert as CertLine, CertConflict as CertConflictLine, Pause as PauseLine, Resume as ResumeLine, Step as StepLine, SolveDbt, SolveRepair, Prove, Minimize, Guide, GuideNone, Order, OrderNone, DropGuide as DropGuideLine, DropOrder as DropOrderLine, Quit as QuitLine}
 use Rattle.palm_session.specs.declared.request.Procedure.{Procedure}
-use Rattle.palm_session.specs.declared.request.Procedure.TheVariants.{Dbt, Repair, Proof}
+use Rattle.palm_session.specs.declared.request.Procedure.TheVariants.{Dbt, Repair, Proof, Least}
 use Rattle.palm_session.specs.declared.request.Question.{Question}
 use Rattle.palm_session.specs.declared.request.Question.TheVariants.{Domains, Domain, List as Listed, Log, Why, Conflict, Minimal, MinimalConflict, Cert, CertConflict}
 use Rattle.palm_session.specs.declared.request.Request.{Request}
@@ -58,6 +58,7 @@ Requests s (StepLine count) request = request ≡ Step count
 Requests s (SolveDbt budget) request = request ≡ Solve (Dbt budget)
 Requests s (SolveRepair tabu budget) request = request ≡ Solve (Repair tabu budget)
 Requests s (Prove budget) request = request ≡ Solve (Proof budget)
+Requests s (Minimize name budget) request = (x : ℕ) × IsVariable s.book.variables name x × (request ≡ Solve (Least x budget))
 Requests s (Guide number) request = request ≡ ChooseGuide (Some number)
 Requests s GuideNone request = request ≡ ChooseGuide None
 Requests s (Order number) request = request ≡ ChooseOrder (Some number)
@@ -128,23 +129,26 @@ CanAsk s (Minimal pair) = Has s.engine.initial pair.var pair.value
 CanAsk s (Cert pair) = Has s.engine.initial pair.var pair.value
 CanAsk s _ = ⊤
 
--- the tabu length of a search is above 0
-abbrev pub HasTabu : Procedure → Type 0
-HasTabu (Dbt budget) = ⊤
-HasTabu (Repair tabu budget) = 0 < tabu
-HasTabu (Proof budget) = ⊤
+-- the tabu length of a search is above 0, and the variable that is to have its least value is declared
+abbrev pub CanSearch : SessionState → Procedure → Type 0
+CanSearch s (Dbt budget) = ⊤
+CanSearch s (Repair tabu budget) = 0 < tabu
+CanSearch s (Proof budget) = ⊤
+CanSearch s (Least target budget) = target < length s.book.variables
 
 -- how many turns a search may take
 abbrev pub budget_of : Procedure → ℕ
 budget_of (Dbt budget) = budget
 budget_of (Repair tabu budget) = budget
 budget_of (Proof budget) = budget
+budget_of (Least target budget) = budget
 
--- the reply to a search is a line that tells how it ended, and not its proof
+-- the reply to a search tells how it ended, and is not its proof
 abbrev pub IsTold : Procedure → Type 0
 IsTold (Dbt budget) = ⊤
 IsTold (Repair tabu budget) = ⊤
 IsTold (Proof budget) = ⊥
+IsTold (Least target budget) = ⊤
 
 -- the request is no search whose reply is its proof
 abbrev pub IsToldAtOnce : Request → Type 0
@@ -163,7 +167,7 @@ Admits s (Ask question) = CanAsk s question
 Admits s Pause = s.paused ≡ false
 Admits s Resume = s.paused ≡ true
 Admits s (Step count) = s.paused ≡ true
-Admits s (Solve by) = HasTabu by
+Admits s (Solve by) = CanSearch s by
 Admits s (ChooseGuide chosen) = IfSome chosen (Contains s.guides)
 Admits s (DropGuide number) = Contains s.guides number
 Admits s (ChooseOrder chosen) = IfSome chosen (Contains s.orders)

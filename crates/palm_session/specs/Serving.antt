@@ -1,5 +1,5 @@
 -- What a desk is seen as, and what taking an admitted request does to it.
-use Rattle.std.specs.Prelude.{◌≡◌, ℕ, ◌+◌, ◌-◌, ◌≤◌, min, Bool, List, ◌++◌, ◌⊎◌, ⊤, Option, Some}
+use Rattle.std.specs.Prelude.{◌≡◌, ℕ, ◌+◌, ◌-◌, ◌≤◌, min, Bool, List, ◌++◌, ◌⊎◌, ⊤, ℤ, Option, None, Some}
 use Rattle.palm_base.specs.declared.limits.TheConstants.{LAST_COUNT}
 use Rattle.palm_model.specs.Log.{Removal, log_pairs}
 use Rattle.palm_model.specs.State.{EngineState}
@@ -23,7 +23,7 @@ use Rattle.palm_session.specs.declared.remainder.Own.TheVariants.{Said, Answer}
 use Rattle.palm_session.specs.declared.remainder.Remainder.{Remainder}
 use Rattle.palm_session.specs.declared.remainder.Remainder.TheVariants.{Say, Filter, Run, Search, End}
 use Rattle.palm_session.specs.declared.reply.Reply.{Reply}
-use Rattle.palm_session.specs.declared.reply.Reply.TheVariants.{Word, Ran as RanReply}
+use Rattle.palm_session.specs.declared.reply.Reply.TheVariants.{Word, Ran as RanReply, Spent as SpentReply, SpentBest as SpentBestReply}
 use Rattle.palm_session.specs.declared.request.Procedure.{Procedure}
 use Rattle.palm_session.specs.declared.request.Procedure.TheVariants.{Repair, Proof}
 use Rattle.palm_session.specs.declared.request.Request.{Request}
@@ -31,9 +31,9 @@ use Rattle.palm_session.specs.declared.request.Request.TheVariants.{Ask, Step, S
 use Rattle.palm_session.specs.declared.taken.Taken.{Taken}
 use Rattle.palm_session.specs.declared.taken.Taken.TheVariants.{Said as SaidTaken, ToProve}
 use Rattle.palm_session.specs.Effects.{Effect, Telling, InShort, Nothing, Changes, Next, Rests, Filters, Searches, SettlesIn, SearchesIn, Follows, next, unless_paused, with_engine, with_search}
-use Rattle.palm_session.specs.Answers.{Accepts, Contradicts, IsAnswer, Says, WaitsFor, end_text}
+use Rattle.palm_session.specs.Answers.{Accepts, Contradicts, IsAnswer, Says, WaitsFor, told_text}
 use Rattle.palm_session.specs.ReplyText.{reply_text, ReplyFits}
-use Rattle.palm_session.specs.Requests.{CanAsk, HasTabu, IsTold}
+use Rattle.palm_session.specs.Requests.{CanAsk, CanSearch, IsTold}
 
 -- what a desk holds, how often its engine has asked for support, and the objects themselves
 pub record DeskView (G O : Type 0) : Type 0 where
@@ -113,13 +113,18 @@ pub record HasRepairedIn (s : SessionState) (tabu budget : ℕ) (answer : Repair
   pub run : HasRun s (Repair tabu budget) (end_of answer) (InShort (Some dropped)) t
   pub told : TellsDropped answer dropped
 
--- the search has run, and the reply tells how it ended, and not its proof
+-- the search has run, and the reply tells how it ended
 pub record HasSearched (s : SessionState) (by : Procedure) (reply : Reply) (t : SessionState) : Type 0 where
   pub end : SearchEnd
-  pub dropped : Option ℕ
-  pub run : HasRun s by end (InShort dropped) t
-  pub told : reply_text t reply ≡ end_text t.book end dropped
+  pub telling : Telling
+  pub run : HasRun s by end telling t
+  pub told : reply_text t reply ≡ told_text t.book end telling
   pub fits : ReplyFits t reply
+
+-- the reply where the budget of a minimization was spent
+abbrev pub spent_reply : ℕ → Option (List ℤ) → Reply
+spent_reply turns None = SpentReply turns None
+spent_reply turns (Some values) = SpentBestReply turns values
 
 -- ---- requests, step by step
 
@@ -154,10 +159,10 @@ IsDone s (Run count) t asked said = (told : ℕ) × RanAll s count told t asked 
 IsDone s End t asked said = (t ≡ s) × (asked ≡ 0) × (said ≡ Said (Word Bye))
 IsDone s (Search by) t asked said = (reply : Reply) × HasSearched s by reply t × (said ≡ Said reply)
 
--- a search that is left has a tabu length above 0, and its reply is no proof
-abbrev pub CanDo : Remainder → Type 0
-CanDo (Search by) = HasTabu by × IsTold by
-CanDo _ = ⊤
+-- a search that is left can be begun, and its reply is no proof
+abbrev pub CanDo : SessionState → Remainder → Type 0
+CanDo s (Search by) = CanSearch s by × IsTold by
+CanDo s _ = ⊤
 
 -- neither `paused` nor `contradiction` stands in place of the request's own reply
 pub record IsOpen (s : SessionState) (request : Request) : Type 0 where

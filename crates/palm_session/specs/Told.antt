@@ -1,5 +1,5 @@
 -- What may be told of explanations and conflicts, and of their certificates.
-use Rattle.std.specs.Prelude.{◌≡◌, ℕ, ℤ, ◌<◌, ◌⊎◌, List, ◌++◌, length, Contains, Option, Some, None}
+use Rattle.std.specs.Prelude.{◌≡◌, ℕ, ℤ, ◌<◌, ◌<ℤ◌, ◌⊎◌, List, ◌++◌, length, Contains, Option, Some, None}
 use Rattle.palm_base.specs.declared.terms.Cid.{Cid}
 use Rattle.palm_model.specs.Closure.{Explains, IsConflict, IsSolution}
 use Rattle.palm_model.specs.Domains.{Assignment}
@@ -8,7 +8,7 @@ use Rattle.palm_model.specs.Log.{IsActive, Named, cons_of}
 use Rattle.palm_cert.specs.Accepted.{IsAccepted}
 use Rattle.palm_claim.specs.declared.verdict.Claim.TheVariants.{Gone, Conflict as ConflictClaim}
 use Rattle.palm_book.specs.Book.{Contents, initial_of, active_of, name_of}
-use Rattle.palm_lang.specs.Reply.{fixed_text, found_line, spent_line}
+use Rattle.palm_lang.specs.Reply.{fixed_text, found_line, spent_best_line, spent_line}
 use Rattle.palm_lang.specs.declared.reply.Fixed.TheVariants.{Contradiction, Paused, Present, Consistent, End}
 use Rattle.palm_lang.specs.declared.reply.Lead.TheVariants.{Because, Conflict as ConflictLead, NoSolution as NoSolutionLead}
 use Rattle.palm_model.specs.Minimal.{IsMinimalConflict, IsMinimalExplanation}
@@ -16,10 +16,10 @@ use Rattle.palm_search.specs.Measure.{most_turns}
 use Rattle.palm_search.specs.declared.ending.SearchEnd.{SearchEnd}
 use Rattle.proof_run.specs.Accepted.{IsAcceptedAtNone}
 use Rattle.palm_repair.specs.Sets.{most_repair_turns}
-use Rattle.palm_session.specs.Answers.{end_text, users_text}
+use Rattle.palm_session.specs.Answers.{end_text, least_text, users_text}
 use Rattle.palm_session.specs.declared.request.Procedure.{Procedure}
-use Rattle.palm_session.specs.declared.request.Procedure.TheVariants.{Dbt, Repair, Proof}
-use Rattle.palm_session.specs.Effects.{Telling, InShort, InFull, with_search}
+use Rattle.palm_session.specs.declared.request.Procedure.TheVariants.{Dbt, Repair, Proof, Least}
+use Rattle.palm_session.specs.Effects.{Telling, InShort, InFull, AsLeast, SoFar, with_search}
 use Rattle.palm_session.specs.Requests.{budget_of}
 use Rattle.palm_session.specs.State.{SessionState}
 
@@ -57,6 +57,8 @@ MaySpend book _ _ = ⊥
 abbrev pub MaySpendSo : Contents → Procedure → Telling → Type 0
 MaySpendSo book by (InShort dropped) = MaySpend book by dropped
 MaySpendSo book by (InFull text) = MaySpend book (Dbt (budget_of by)) None
+MaySpendSo book by (AsLeast users) = ⊥
+MaySpendSo book by (SoFar best) = MaySpend book (Dbt (budget_of by)) None
 
 -- what is told of a search: a word, values that satisfy all active constraints, active constraints without a common
 -- solution, or that all turns of the budget were taken
@@ -80,9 +82,27 @@ pub data ToldProof (book : Contents) (budget : ℕ) (reply : List ℕ) : Type 0 
   proof_none : (users : List Cid) → AreUnsolvedIn book users → ClosesWith reply (users_text book NoSolutionLead users) → ToldProof book budget reply
   proof_spent : MaySpend book (Dbt budget) None → ClosesWith reply (spent_line budget None) → ToldProof book budget reply
 
+-- the values satisfy all active constraints, the users are active constraints of the book, and no assignment inside the initial
+-- domains that satisfies these gives the variable a lesser value than these values do
+pub record AreBestIn (book : Contents) (target : ℕ) (values : List ℤ) (users : List Cid) : Type 0 where
+  pub solution : IsSolution (initial_of book) (Contains (cons_of (active_of book))) (listed values)
+  pub active : (c : Cid) → Contains users c → IsActive (active_of book) c
+  pub least : (a : Assignment) → IsSolution (initial_of book) (Named (active_of book) (Contains users)) a → a target <ℤ listed values target → ⊥
+
+-- what is told of the least value of a variable: a word, the best values and what proves it, active constraints without a common
+-- solution, or that all turns of the budget were taken, and the best values so far, if some were found
+pub data ToldLeast (book : Contents) (target budget : ℕ) (reply : List ℕ) : Type 0 where
+  best_paused : reply ≡ fixed_text Paused → ToldLeast book target budget reply
+  best_found : (values : List ℤ) (users : List Cid) → AreBestIn book target values users → reply ≡ least_text book values users → ToldLeast book target budget reply
+  best_none : (users : List Cid) → AreUnsolvedIn book users → reply ≡ users_text book NoSolutionLead users → ToldLeast book target budget reply
+  best_spent : MaySpend book (Dbt budget) None → reply ≡ spent_line budget None → ToldLeast book target budget reply
+  best_so_far : (values : List ℤ) → IsSolution (initial_of book) (Contains (cons_of (active_of book))) (listed values) → MaySpend book (Dbt budget) None
+      → reply ≡ spent_best_line budget book.variables values → ToldLeast book target budget reply
+
 -- what is told by a way of searching
 abbrev pub ToldBy : Contents → Procedure → List ℕ → Type 0
 ToldBy book (Proof budget) reply = ToldProof book budget reply
+ToldBy book (Least target budget) reply = ToldLeast book target budget reply
 ToldBy book by reply = ToldSearch book by reply
 
 -- a word, or a proof whose last line is that of the end, and which is accepted where there is no solution

@@ -62,6 +62,7 @@ impl<G: Guide, O: Order> Desk<G, O> {
                 Ok(Ok(Request::Solve(Procedure::Repair { tabu, budget })))
             }
             Line::Prove { budget } => Ok(Ok(Request::Solve(Procedure::Proof { budget }))),
+            Line::Minimize { target, budget } => Ok(self.admit_minimize(&target, budget)),
             Line::Guide(number) => Ok(self.admit_guide(number)),
             Line::GuideNone => Ok(Ok(Request::ChooseGuide(None))),
             Line::Order(number) => Ok(self.admit_order(number)),
@@ -227,6 +228,16 @@ impl<G: Guide, O: Order> Desk<G, O> {
     {
         match self.book().variable_named(name) {
             Some(var) => Ok(Request::Ask(Question::Domain(var))),
+            None => Err(Refusal::E4),
+        }
+    }
+
+    /// `minimize`: there is a variable with the name.
+    fn admit_minimize(&self, name: &Name, budget: u64) -> Result<Request, Refusal>
+        ensures { Admission self.now.state (Line.Minimize name.now budget) result }
+    {
+        match self.book().variable_named(name) {
+            Some(target) => Ok(Request::Solve(Procedure::Least { target, budget })),
             None => Err(Refusal::E4),
         }
     }

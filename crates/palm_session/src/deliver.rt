@@ -5,10 +5,10 @@ ghost use Rattle.palm_cert.specs.Certificate.{certificate_text};
 ghost use Rattle.palm_cert.specs.Needs.{CanClaim};
 ghost use Rattle.palm_domain.specs.Rows.{present_of, present_values};
 ghost use Rattle.palm_explain.specs.Explanations.{reasons_of};
-ghost use Rattle.palm_lang.specs.Reply.{refusal_text, ran_text, domain_line, var_line, entry_at, entry_line, removal_line, found_line, spent_line};
+ghost use Rattle.palm_lang.specs.Reply.{refusal_text, ran_text, domain_line, var_line, entry_at, entry_line, removal_line, best_line, found_line, spent_best_line, spent_line};
 ghost use Rattle.palm_lang.specs.Writing.{Writes};
 ghost use Rattle.palm_model.specs.Domains.{AllAscend, values_of};
-ghost use Rattle.palm_session.specs.Answers.{domains_text, list_text, log_text, users_text};
+ghost use Rattle.palm_session.specs.Answers.{domains_text, least_text, list_text, log_text, users_text};
 ghost use Rattle.palm_session.specs.Logged.{AreLogged, log_line_at};
 ghost use Rattle.palm_session.specs.ReplyText.{reply_text, ReplyFits};
 ghost use Rattle.palm_session.specs.State.{IsHeld};
@@ -23,8 +23,9 @@ use palm_domain::DomainStore;
 use palm_explain::ExplainStore;
 use palm_guide::Guide;
 use palm_lang::{
-    Book, Claim, Fixed, Lead, Refusal, print_domain, print_entry, print_found, print_names,
-    print_ran, print_refusal, print_removal, print_spent, write_fixed, write_line, write_var,
+    Book, Claim, Fixed, Lead, Refusal, print_best, print_domain, print_entry, print_found,
+    print_names, print_ran, print_refusal, print_removal, print_spent, print_spent_best,
+    write_fixed, write_line, write_var,
 };
 
 /// Writes a reply.
@@ -51,6 +52,10 @@ pub(crate) fn deliver<G: Guide, O: Order, K: Sink>(
         Reply::Certificate(claim) => write_certificate(desk, claim, out),
         Reply::Found(values) => write_found(desk.book(), values, out, buffer),
         Reply::Spent { turns, dropped } => write_spent(*turns, *dropped, out, buffer),
+        Reply::Best { values, users } => write_least(desk.book(), values, users, out, buffer),
+        Reply::SpentBest { turns, values } => {
+            write_spent_best(desk.book(), *turns, values, out, buffer)
+        }
     }
 }
 
@@ -118,6 +123,50 @@ fn write_spent<K: Sink>(
     ensures { Writes (K.state out.old) (K.state out.new) (spent_line turns dropped) result }
 {
     write_line!(out, buffer, print_spent(turns, dropped))
+}
+
+/// Writes a value for each variable, the users' constraints that prove that it is the best, and `end`.
+fn write_least<K: Sink>(
+    book: &Book,
+    values: &ValueList,
+    users: &CidList,
+    out: &mut K,
+    buffer: &mut Vec<u8>,
+) -> Result<(), Stop>
+    requires long { length values.now ≡ length book.now.variables }
+    requires users { All (IsUser book.now) users.now }
+    ensures { Writes (K.state out.old) (K.state out.new) (least_text book.now values.now users.now) result }
+{
+    write_best(book, values, out, buffer)?;
+    write_users(book, Lead::Proved, users, out, buffer)?;
+    write_fixed(Fixed::End, out, buffer)
+}
+
+/// Writes a value for each variable, which is the best.
+fn write_best<K: Sink>(
+    book: &Book,
+    values: &ValueList,
+    out: &mut K,
+    buffer: &mut Vec<u8>,
+) -> Result<(), Stop>
+    requires { length values.now ≡ length book.now.variables }
+    ensures { Writes (K.state out.old) (K.state out.new) (best_line book.now.variables values.now) result }
+{
+    write_line!(out, buffer, print_best(book, values))
+}
+
+/// Writes how many turns were taken, and the best values so far.
+fn write_spent_best<K: Sink>(
+    book: &Book,
+    turns: u64,
+    values: &ValueList,
+    out: &mut K,
+    buffer: &mut Vec<u8>,
+) -> Result<(), Stop>
+    requires { length values.now ≡ length book.now.variables }
+    ensures { Writes (K.state out.old) (K.state out.new) (spent_best_line turns book.now.variables values.now) result }
+{
+    write_line!(out, buffer, print_spent_best(book, turns, values))
 }
 
 /// Makes the list the present values of a variable.

@@ -12,7 +12,7 @@ ghost use Rattle.palm_model.specs.Log.{IsActive};
 ghost use Rattle.palm_model.specs.State.{EngineState, IsValid};
 ghost use Rattle.palm_read.specs.Name.{IsNameText};
 ghost use Rattle.palm_search.specs.Following.{GuideFollows};
-ghost use Rattle.palm_session.specs.Effects.{InShort, WithdrawsActive, next_constraint, with_active_at, with_constraint, with_engine, with_variable, without_constraint, without_guide, without_order};
+ghost use Rattle.palm_session.specs.Effects.{InShort, WithdrawsActive, best_end, best_telling, next_constraint, with_active_at, with_constraint, with_engine, with_variable, without_constraint, without_guide, without_order};
 ghost use Rattle.palm_session.specs.Led.{FiltersBy, SearchesOn, objects_after};
 ghost use Rattle.palm_session.specs.Modes.{heard, misheard};
 ghost use Rattle.palm_session.specs.Refusals.{IsFullOfVariables};
@@ -24,10 +24,11 @@ ghost use Rattle.palm_session.specs.declared.request.Procedure.TheVariants as Pr
 ghost use Rattle.palm_session.specs.declared.request.Request.TheVariants as Request;
 
 use crate::modes::{begun, mode_after};
-use crate::objects::{Objects, prove_by, repair_by, settle_by, solve_by};
+use crate::objects::{Objects, minimize_by, prove_by, repair_by, settle_by, solve_by};
 use crate::stop::Stop;
 use palm_agenda::Order;
-use palm_base::{Cid, NoMemory, Sink, Steps, ValueList};
+use palm_base::{Cid, NoMemory, Sink, Steps, ValueList, Var};
+use palm_best::Best;
 use palm_dbt::Answer;
 use palm_engine::Engine;
 use palm_guide::Guide;
@@ -400,6 +401,32 @@ impl<G: Guide, O: Order> Desk<G, O> {
             &mut self.guides,
             &mut self.orders,
             tabu,
+            budget,
+            steps,
+        )
+    }
+
+    /// Searches in the same way for values that give the variable the least one.
+    pub(crate) fn search_by_least<L: Ledger>(
+        &mut self,
+        target: Var,
+        budget: u64,
+        steps: &mut Steps<L>,
+    ) -> Result<Best, NoMemory>
+        requires held { IsHeld self.old.state }
+        requires declared { target < length self.old.state.book.variables }
+        ensures searched { IfOk result (λ best. HasRun self.old.state (Procedure.Least target budget) (best_end best) (best_telling best) self.new.state) }
+        ensures led { OnOk result (SearchesOn (GuideFollows G.answers G.hears G.state) (OrderFollows O.answers O.hears O.state) (Procedure.Least target budget) self.old.state self.old.objects self.new.state self.new.objects) }
+        ensures spends { Spends self.old self.new steps.old steps.new }
+    {
+        self.search = Search::begin(self.alloc);
+        minimize_by(
+            self.alloc,
+            &mut self.engine,
+            &mut self.search,
+            &mut self.guides,
+            &mut self.orders,
+            target,
             budget,
             steps,
         )

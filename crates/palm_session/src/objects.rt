@@ -1,14 +1,19 @@
 //! Objects that the caller handed in, and what is done by those that are chosen.
-ghost use Rattle.std.specs.Prelude.{◌≡◌, ◌+◌, ◌-◌, ◌<◌, ◌≤◌, [], Contains, IfErr, IfOk, None, OnOk, Some, is_some, min};
+ghost use Rattle.std.specs.Prelude.{◌≡◌, ℤ, ◌+◌, ◌-◌, ◌<◌, ◌≤◌, [], Contains, IfErr, IfOk, None, OnOk, Some, is_some, length, min};
 ghost use Rattle.palm_base.specs.Tells.{Tells};
 ghost use Rattle.palm_base.specs.declared.limits.TheConstants.{LAST_COUNT};
 ghost use Rattle.palm_engine.specs.Engine.{HasAsked, HasSettled};
 ghost use Rattle.palm_engine.specs.Following.{OrderFollows};
+ghost use Rattle.palm_best.specs.Cuts.{is_own};
+ghost use Rattle.palm_best.specs.Ends.{Minimizes};
+ghost use Rattle.palm_best.specs.Following.{MinimizesBy};
+ghost use Rattle.palm_model.specs.Domains.{Has};
+ghost use Rattle.palm_model.specs.Limits.{IsValue};
 ghost use Rattle.palm_model.specs.State.{IsValid};
 ghost use Rattle.palm_repair.specs.Answers.{HasRepaired};
 ghost use Rattle.palm_repair.specs.Following.{HasRepairedBy};
 ghost use Rattle.palm_search.specs.Following.{GuideFollows, SearchesBy};
-ghost use Rattle.palm_search.specs.Kept.{HasOnlyUsers};
+ghost use Rattle.palm_search.specs.Kept.{HasNone, HasOnlyUsers};
 ghost use Rattle.palm_search.specs.Search.{Searches};
 ghost use Rattle.palm_session.specs.Led.{SettlesBy};
 ghost use Rattle.palm_session.specs.Proved.{WritesProof, WritesProofFront};
@@ -20,7 +25,8 @@ ghost use Rattle.palm_session.specs.Objects.{LendsChosen, all_placed, chosen_obj
 
 use crate::stop::Stop;
 use palm_agenda::Order;
-use palm_base::{NoMemory, Sink, Steps};
+use palm_base::{NoMemory, Sink, Steps, Var};
+use palm_best::{Best, minimize};
 use palm_dbt::{Answer, solve};
 use palm_engine::{Engine, Settle};
 use palm_guide::Guide;
@@ -228,6 +234,44 @@ pub(crate) fn repair_by<G: Guide, O: Order, L: Ledger>(
         &mut guides.places[chosen_guide],
         &mut orders.places[chosen_order],
         tabu,
+        budget,
+        steps,
+    )
+}
+
+/// Searches for values that give the variable the least one, by the guide and the order that are chosen, or without them.
+pub(crate) fn minimize_by<G: Guide, O: Order, L: Ledger>(
+    alloc: Global,
+    engine: &mut Engine<Kind>,
+    search: &mut Search,
+    guides: &mut Objects<G>,
+    orders: &mut Objects<O>,
+    target: Var,
+    budget: u64,
+    steps: &mut Steps<L>,
+) -> Result<Best, NoMemory>
+    requires fresh { search.old ≡ record { decisions = []; journal = [] } }
+    requires none { HasNone is_own engine.old.state }
+    requires target { target < length engine.old.state.initial }
+    requires values { (v : ℤ) → Has engine.old.state.initial target v → IsValue v }
+    ensures ok { IfOk result (λ best. Minimizes (is_some guides.old.chosen) (is_some orders.old.chosen) target budget engine.old.state search.new.journal best engine.new.state) }
+    ensures led { IfOk result (λ best. MinimizesBy (GuideFollows G.answers G.hears G.state) (OrderFollows O.answers O.hears O.state) (chosen_object guides.old) (chosen_object guides.new) (chosen_object orders.old) (chosen_object orders.new)
+        target budget engine.old.state search.new.journal best engine.new.state) }
+    ensures later { steps.old ≤ steps.new }
+    ensures checks { engine.new.checks ≡ min (engine.old.checks + (steps.new - steps.old)) LAST_COUNT }
+    ensures guides { LendsChosen guides.old guides.new }
+    ensures orders { LendsChosen orders.old orders.new }
+    ensures valid { IsValid engine.new.state }
+{
+    let guide = guides.chosen;
+    let order = orders.chosen;
+    minimize(
+        alloc,
+        engine,
+        search,
+        target,
+        &mut guides.places[guide],
+        &mut orders.places[order],
         budget,
         steps,
     )

@@ -29,4 +29,8 @@ pub(crate) enum Reply {
     Found(ValueList),
     /// How many turns were taken, and how many nogoods dropped, where that is told.
     Spent { turns: u64, dropped: Option<u64> },
+    /// One value for each variable, one of them the least that it can have, and the users' constraints that prove it.
+    Best { values: ValueList, users: CidList },
+    /// How many turns were taken, and the best values so far.
+    SpentBest { turns: u64, values: ValueList },
 }

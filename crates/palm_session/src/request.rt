@@ -37,6 +37,8 @@ pub(crate) enum Procedure {
     Repair { tabu: u32, budget: u64 },
     /// mac-dbt, within so many turns, whose reply is its proof.
     Proof { budget: u64 },
+    /// mac-dbt that goes on below the values that it finds, within so many turns, until a variable has its least value.
+    Least { target: Var, budget: u64 },
 }
 
 /// What is asked of a session. Constraints of the book are named by their places, guides and orders by their numbers.

@@ -1,12 +1,12 @@
 //! What follows a change: filtering, so many revisions, or a search.
-ghost use Rattle.std.specs.Prelude.{◌≡◌, ◌-◌, ◌<◌, IfOk, OnOk};
+ghost use Rattle.std.specs.Prelude.{◌≡◌, ◌-◌, ◌<◌, IfOk, OnOk, length};
 ghost use Rattle.palm_engine.specs.Following.{OrderFollows};
 ghost use Rattle.palm_search.specs.Following.{GuideFollows};
 ghost use Rattle.palm_session.specs.Effects.{unless_paused};
 ghost use Rattle.palm_session.specs.Led.{FiltersBy, LeadsOn, SearchesOn, next_left};
-ghost use Rattle.palm_session.specs.Serving.{CanDo, Followed, HasSearched, IsDone, RanAll, Spends};
+ghost use Rattle.palm_session.specs.Serving.{CanDo, Followed, HasSearched, IsDone, RanAll, Spends, spent_reply};
 ghost use Rattle.palm_session.specs.State.{IsHeld};
-ghost use Rattle.palm_session.specs.Requests.{HasTabu, IsTold};
+ghost use Rattle.palm_session.specs.Requests.{CanSearch, IsTold};
 ghost use Rattle.palm_session.specs.declared.request.Procedure.TheVariants as Procedure;
 
 use crate::desk::Desk;
@@ -14,7 +14,8 @@ use crate::remainder::{Own, Remainder};
 use crate::reply::Reply;
 use crate::request::Procedure;
 use palm_agenda::Order;
-use palm_base::{NoMemory, Steps};
+use palm_base::{NoMemory, Steps, ValueList, Var};
+use palm_best::Best;
 use palm_dbt::Answer;
 use palm_guide::Guide;
 use palm_lang::{Fixed, Lead};
@@ -29,7 +30,7 @@ impl<G: Guide, O: Order> Desk<G, O> {
         steps: &mut Steps<L>,
     ) -> Result<Own, NoMemory>
         requires held { IsHeld self.old.state }
-        requires can { CanDo remainder }
+        requires can { CanDo self.old.state remainder }
         ensures done { IfOk result (IsDone self.old.state remainder self.new.state (steps.new - steps.old)) }
         ensures led { OnOk result (LeadsOn (GuideFollows G.answers G.hears G.state) (OrderFollows O.answers O.hears O.state) (next_left self.old.state remainder) self.old.state self.old.objects self.new.state self.new.objects) }
         ensures spends { Spends self.old self.new steps.old steps.new }
@@ -71,7 +72,7 @@ impl<G: Guide, O: Order> Desk<G, O> {
     /// Searches, and answers how the search ended. A proof is no answer: it is written while the search runs.
     fn search<L: Ledger>(&mut self, by: Procedure, steps: &mut Steps<L>) -> Result<Reply, NoMemory>
         requires held { IsHeld self.old.state }
-        requires some { HasTabu by }
+        requires can { CanSearch self.old.state by }
         requires told { IsTold by }
         ensures searched { IfOk result (λ reply. HasSearched self.old.state by reply self.new.state) }
         ensures led { OnOk result (SearchesOn (GuideFollows G.answers G.hears G.state) (OrderFollows O.answers O.hears O.state) by self.old.state self.old.objects self.new.state self.new.objects) }
@@ -81,6 +82,7 @@ impl<G: Guide, O: Order> Desk<G, O> {
             Procedure::Dbt { budget } => self.solve_by_dbt(budget, steps),
             Procedure::Repair { tabu, budget } => self.solve_by_repair(tabu, budget, steps),
             Procedure::Proof { .. } => unreachable!(),
+            Procedure::Least { target, budget } => self.solve_by_least(target, budget, steps),
         }
     }
 
@@ -132,5 +134,41 @@ impl<G: Guide, O: Order> Desk<G, O> {
                 dropped: Some(dropped),
             }),
         }
+    }
+
+    /// Searches by mac-dbt, within so many turns, for values that give the variable the least one.
+    fn solve_by_least<L: Ledger>(
+        &mut self,
+        target: Var,
+        budget: u64,
+        steps: &mut Steps<L>,
+    ) -> Result<Reply, NoMemory>
+        requires held { IsHeld self.old.state }
+        requires declared { target < length self.old.state.book.variables }
+        ensures searched { IfOk result (λ reply. HasSearched self.old.state (Procedure.Least target budget) reply self.new.state) }
+        ensures led { OnOk result (SearchesOn (GuideFollows G.answers G.hears G.state) (OrderFollows O.answers O.hears O.state) (Procedure.Least target budget) self.old.state self.old.objects self.new.state self.new.objects) }
+        ensures spends { Spends self.old self.new steps.old steps.new }
+    {
+        match self.search_by_least(target, budget, steps)? {
+            Best::Least { values, users } => Ok(Reply::Best { values, users }),
+            Best::NoSolution(users) => Ok(Reply::Users {
+                lead: Lead::NoSolution,
+                users,
+            }),
+            Best::Spent { turns, best } => Ok(spent_best(turns, best)),
+        }
+    }
+}
+
+/// The reply where the budget was spent: how many turns were taken, and the best values so far, if some were found.
+fn spent_best(turns: u64, best: Option<ValueList>) -> Reply
+    ensures { result ≡ spent_reply turns best }
+{
+    match best {
+        Some(values) => Reply::SpentBest { turns, values },
+        None => Reply::Spent {
+            turns,
+            dropped: None,
+        },
     }
 }

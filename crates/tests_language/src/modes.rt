@@ -16,6 +16,8 @@ enum Reading {
     Beyond,
     /// A search for a proof.
     Proof,
+    /// A search for a least value.
+    Least,
     /// A line of version 1.
     Older,
 }
@@ -38,6 +40,7 @@ fn tell(line: &Line) -> Reading {
             _ => Reading::Older,
         },
         Line::Prove { .. } => Reading::Proof,
+        Line::Minimize { .. } => Reading::Least,
         _ => Reading::Older,
     }
 }
@@ -115,6 +118,17 @@ const NEWER: &[(&str, Reading)] = &[
         "prove budget 18446744073709551616",
         Reading::Refused(LineError::Range),
     ),
+    ("minimize x budget 1", Reading::Least),
+    (" minimize\tx budget 01 ", Reading::Least),
+    ("minimize conflict budget 3", Reading::Least),
+    ("minimize budget budget 3", Reading::Least),
+    ("minimize x budget 18446744073709551615", Reading::Least),
+    ("minimize x budget 0", Reading::Refused(LineError::Range)),
+    ("minimize x budget -1", Reading::Refused(LineError::Range)),
+    (
+        "minimize x budget 18446744073709551616",
+        Reading::Refused(LineError::Range),
+    ),
 ];
 
 #[test]
@@ -150,6 +164,19 @@ const SAME: &[(&str, Reading)] = &[
     ("prove dbt budget 10", UNKNOWN),
     ("prove budget 10 10", UNKNOWN),
     ("solve prove budget 10", UNKNOWN),
+    ("relax minimize", Reading::Older),
+    ("minimize", UNKNOWN),
+    ("minimize x", UNKNOWN),
+    ("minimize x budget", UNKNOWN),
+    ("minimize x 10", UNKNOWN),
+    ("minimize budget 10", UNKNOWN),
+    ("minimize 1 budget 10", UNKNOWN),
+    ("minimize sum budget 10", UNKNOWN),
+    ("minimize x y budget 10", UNKNOWN),
+    ("minimize x budget 10 10", UNKNOWN),
+    ("minimise x budget 10", UNKNOWN),
+    ("minimal x budget 10", UNKNOWN),
+    ("solve minimize x budget 10", UNKNOWN),
 ];
 
 #[test]

@@ -6,8 +6,9 @@ ghost use Rattle.palm_base.specs.declared.terms.Cid.TheVariants.{User};
 use crate::samples::{Question, add_two, ask, declare_two, name};
 use palm_base::{Cid, CidList, NoMemory, Pair, Value, ValueList, Var};
 use palm_lang::{
-    Book, Fixed, Lead, Name, Refusal, print_con, print_domain, print_entry, print_fixed,
-    print_found, print_names, print_ran, print_refusal, print_removal, print_spent, print_var,
+    Book, Fixed, Lead, Name, Refusal, print_best, print_con, print_domain, print_entry,
+    print_fixed, print_found, print_names, print_ran, print_refusal, print_removal, print_spent,
+    print_spent_best, print_var,
 };
 use palm_model::Con;
 use std::alloc::Global;
@@ -210,7 +211,7 @@ fn two_users(alloc: Global) -> Result<CidList, NoMemory>
     CidList::from_slice(alloc, &[Cid::User(1), Cid::User(2)])
 }
 
-/// Prints both names behind each word that leads names.
+/// Prints both names behind each text that leads names.
 fn print_each_lead(alloc: Global, book: &Book, out: &mut Vec<u8>) -> Result<(), NoMemory>
     requires first { HasNumber book.now 1 }
     requires second { HasNumber book.now 2 }
@@ -218,7 +219,9 @@ fn print_each_lead(alloc: Global, book: &Book, out: &mut Vec<u8>) -> Result<(), 
     let users = two_users(alloc)?;
     print_names(book, Lead::Because, &users, out)?;
     print_names(book, Lead::Conflict, &users, out)?;
-    print_names(book, Lead::NoSolution, &users, out)
+    print_names(book, Lead::NoSolution, &users, out)?;
+    print_names(book, Lead::Proved, &users, out)?;
+    print_names(book, Lead::Proved, &CidList::new(alloc), out)
 }
 
 /// The names of the two constraints.
@@ -229,7 +232,7 @@ impl Question for Names {
         add_two(alloc, book)?;
         let mut out = Vec::new(alloc);
         print_each_lead(alloc, book, &mut out)?;
-        let text = "because s m\nconflict s m\nnone s m\n";
+        let text = "because s m\nconflict s m\nnone s m\nproved by s m\nproved by\n";
         Ok(out.as_slice() == text.as_bytes())
     }
 }
@@ -264,5 +267,36 @@ impl Question for Solutions {
 #[test]
 fn prints_solutions(rt: HostRuntime) -> Result<(), Fail> {
     assert!(rt; ask(rt.alloc(), &Solutions)?);
+    Ok(())
+}
+
+/// Prints the best solution and how far a search came with it, of no variable and of x and y.
+fn print_bests(alloc: Global, book: &mut Book, out: &mut Vec<u8>) -> Result<(), NoMemory>
+    requires { book.old ≡ record { variables = []; constraints = [] } }
+{
+    let none = ValueList::new(alloc);
+    print_best(book, &none, out)?;
+    print_spent_best(book, 1, &none, out)?;
+    declare_two(alloc, book)?;
+    let values = ValueList::from_slice(alloc, &[Value(-1), Value(2)])?;
+    print_best(book, &values, out)?;
+    print_spent_best(book, u64::MAX, &values, out)
+}
+
+/// Best solutions before and after the two variables are declared.
+struct Bests;
+
+impl Question for Bests {
+    fn is_answered(&self, alloc: Global, book: &mut Book) -> Result<bool, NoMemory> {
+        let mut out = Vec::new(alloc);
+        print_bests(alloc, book, &mut out)?;
+        let text = "best\nspent 1 best\nbest x=-1 y=2\nspent 18446744073709551615 best x=-1 y=2\n";
+        Ok(out.as_slice() == text.as_bytes())
+    }
+}
+
+#[test]
+fn prints_best_solutions(rt: HostRuntime) -> Result<(), Fail> {
+    assert!(rt; ask(rt.alloc(), &Bests)?);
     Ok(())
 }

@@ -54,6 +54,8 @@ const EVERY_NEWER_FORM: &[&str] = &[
     "add w : x in 1..3",
     "prove budget 1",
     "prove budget 18446744073709551615",
+    "minimize x budget 1",
+    "minimize name_of_32_bytes_is_the_longest_ budget 18446744073709551615",
 ];
 
 /// What bytes are read as.

@@ -11,6 +11,8 @@ mod changes;
 #[cfg(test)]
 mod judged;
 #[cfg(test)]
+mod least;
+#[cfg(test)]
 mod limits;
 #[cfg(test)]
 mod lines;

@@ -62,7 +62,7 @@ fn a_search_that_ends_otherwise_tells_so(rt: HostRuntime) -> Result<(), Fail> {
 const ROOM: usize = 65_536;
 
 /// What is answered to the text, with one guide and one order at hand.
-fn reply<G: Guide, O: Order>(
+pub fn reply<G: Guide, O: Order>(
     alloc: Global,
     text: &str,
     guide: G,

@@ -120,6 +120,34 @@ fn the_journal_is_that_of_the_last_search(rt: HostRuntime) -> Result<(), Fail> {
     Ok(())
 }
 
+// A cut is no turn. A whole run has one decision and its undoing here, and two cuts where the guide picks another value than the
+// least.
+#[test]
+fn a_search_for_the_least_value_leaves_its_turns(rt: HostRuntime) -> Result<(), Fail> {
+    let plain = Wanted {
+        turns: 2,
+        decided: &[pair_of(0, 1)],
+        picks: &[Pick::NoGuide],
+    };
+    let guided = Wanted {
+        turns: 2,
+        decided: &[pair_of(0, 2)],
+        picks: &[Pick::Asked(pair_of(0, 2))],
+    };
+    let spent = Wanted {
+        turns: 1,
+        decided: &[pair_of(0, 1)],
+        picks: &[Pick::NoGuide],
+    };
+    let text = b"palm 2\nvar x 1..3\nminimize x budget 9\npause\nminimize x budget 1\n";
+    assert!(rt; leaves(rt.alloc(), None, text, &plain)?);
+    let text = b"palm 2\nvar x 1..3\nguide 1\nminimize x budget 9\nminimize q budget 1\n";
+    assert!(rt; leaves(rt.alloc(), Some(pair_of(0, 2)), text, &guided)?);
+    let text = b"palm 2\nvar x 1..3\nsolve dbt\nminimize x budget 1\n";
+    assert!(rt; leaves(rt.alloc(), None, text, &spent)?);
+    Ok(())
+}
+
 #[test]
 fn a_guide_is_told_the_variables_of_conflicts(rt: HostRuntime) -> Result<(), Fail> {
     let by_dbt =

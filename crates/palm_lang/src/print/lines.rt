@@ -3,7 +3,7 @@
 
 ghost use Rattle.std.specs.Prelude.{[], ◌∷◌, codes, decimal};
 ghost use Rattle.std.specs.Fmt.{signed_decimal};
-ghost use Rattle.palm_read.specs.declared.line.Line.TheVariants.{SolveDbt, SolveRepair};
+ghost use Rattle.palm_read.specs.declared.line.Line.TheVariants.{SolveDbt, SolveRepair, Minimize};
 ghost use Rattle.palm_lang.specs.Print.{Puts};
 ghost use Rattle.palm_read.specs.Domain.{domain_text};
 ghost use Rattle.palm_read.specs.Text.{shape_words, text_of};
@@ -93,6 +93,14 @@ fn put_solve_repair(tabu: u32, budget: u64, out: &mut Vec<u8>) -> Result<(), NoM
     put_numbered(" budget", budget, out)
 }
 
+/// `minimize NAME budget N`
+fn put_minimize(target: &Name, budget: u64, out: &mut Vec<u8>) -> Result<(), NoMemory>
+    ensures { Puts out.old.items out.new.items (text_of (Minimize target.now budget)) result }
+{
+    put_named("minimize", target, out)?;
+    put_numbered(" budget", budget, out)
+}
+
 /// A line without a line feed.
 pub(crate) fn put_line(line: &Line, out: &mut Vec<u8>) -> Result<(), NoMemory>
     ensures { Puts out.old.items out.new.items (text_of line.now) result }
@@ -124,6 +132,7 @@ pub(crate) fn put_line(line: &Line, out: &mut Vec<u8>) -> Result<(), NoMemory>
         Line::SolveDbt { budget } => put_solve_dbt(*budget, out),
         Line::SolveRepair { tabu, budget } => put_solve_repair(*tabu, *budget, out),
         Line::Prove { budget } => put_numbered("prove budget", *budget, out),
+        Line::Minimize { target, budget } => put_minimize(target, *budget, out),
         Line::Cert { name, value } => put_query("cert", name, value, out),
         Line::CertConflict => put_text("cert conflict", out),
         Line::Guide(number) => put_numbered("guide", u64::from(*number), out),

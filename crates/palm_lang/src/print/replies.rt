@@ -5,7 +5,7 @@ ghost use Rattle.std.specs.Prelude.{◌≡◌, ◌<◌, ◌++◌, [], All, codes
 ghost use Rattle.std.specs.Fmt.{signed_decimal};
 ghost use Rattle.palm_book.specs.Book.{number_name, user_name, HasNumber, IsUser};
 ghost use Rattle.palm_lang.specs.Print.{Puts};
-ghost use Rattle.palm_lang.specs.Reply.{ended, fixed_word, refusal_words, ran_text, domain_line, var_line, entry_line, pair_text, reasons_text, removal_line, lead_word, names_line, assigned_text, found_line, spent_line};
+ghost use Rattle.palm_lang.specs.Reply.{ended, fixed_word, refusal_words, ran_text, domain_line, var_line, entry_line, pair_text, reasons_text, removal_line, lead_word, names_line, assigned_text, assigned_line, spent_line, spent_best_line};
 ghost use Rattle.palm_read.specs.Words.{after_spaces};
 ghost use Rattle.palm_model.specs.Constraint.{scope};
 ghost use Rattle.palm_model.specs.Domains.{Ascends};
@@ -55,7 +55,7 @@ pub(crate) fn refusal_words(refusal: Refusal) -> &'static str
     }
 }
 
-/// The word before a list of constraints.
+/// What stands before a list of constraints.
 fn lead_word(lead: Lead) -> &'static str
     ensures { result.now ≡ lead_word lead }
 {
@@ -63,6 +63,7 @@ fn lead_word(lead: Lead) -> &'static str
         Lead::Because => "because",
         Lead::Conflict => "conflict",
         Lead::NoSolution => "none",
+        Lead::Proved => "proved by",
     }
 }
 
@@ -228,7 +229,7 @@ fn put_users(book: &Book, users: &CidList, out: &mut Vec<u8>) -> Result<(), NoMe
     Ok(())
 }
 
-/// `because NAME NAME`, `conflict NAME NAME` or `none NAME NAME`
+/// `because NAME NAME`, `conflict NAME NAME`, `none NAME NAME` or `proved by NAME NAME`
 pub(crate) fn put_names(
     book: &Book,
     lead: Lead,
@@ -264,12 +265,33 @@ fn put_assignment(book: &Book, values: &ValueList, out: &mut Vec<u8>) -> Result<
     Ok(())
 }
 
-/// `found NAME=VALUE NAME=VALUE`
-pub(crate) fn put_found(book: &Book, values: &ValueList, out: &mut Vec<u8>) -> Result<(), NoMemory>
+/// `found NAME=VALUE NAME=VALUE` or `best NAME=VALUE NAME=VALUE`: a word and an assignment
+pub(crate) fn put_assigned_line(
+    book: &Book,
+    word: &str,
+    values: &ValueList,
+    out: &mut Vec<u8>,
+) -> Result<(), NoMemory>
     requires { length values.now ≡ length book.now.variables }
-    ensures { Puts out.old.items out.new.items (found_line book.now.variables values.now) result }
+    ensures { Puts out.old.items out.new.items (assigned_line word.now book.now.variables values.now) result }
 {
-    put_text("found", out)?;
+    put_text(word, out)?;
     put_assignment(book, values, out)?;
     put_text("\n", out)
+}
+
+/// `spent T best NAME=VALUE NAME=VALUE`
+pub(crate) fn put_spent_best(
+    book: &Book,
+    turns: u64,
+    values: &ValueList,
+    out: &mut Vec<u8>,
+) -> Result<(), NoMemory>
+    requires { length values.now ≡ length book.now.variables }
+    ensures { Puts out.old.items out.new.items (spent_best_line turns book.now.variables values.now) result }
+{
+    put_text("spent ", out)?;
+    put_int(i128::from(turns), out)?;
+    put_text(" ", out)?;
+    put_assigned_line(book, "best", values, out)
 }

@@ -8,8 +8,8 @@ use Rattle.palm_read.specs.Token.{Lexeme}
 use Rattle.palm_read.specs.Domain.{domain_pieces, DomainForm}
 use Rattle.palm_read.specs.Grammar.{shape_pieces, budget_pieces, pieces, IsProperShape, IsProper, IsForm}
 use Rattle.palm_read.specs.Piece.{Piece, Keyword, Named, Mark, Integer, Numeral, word}
-use Rattle.palm_read.specs.Form.{ShapeForm, Form, HeaderForm, DeclareForm, DeclareInForm, AddForm, RelaxForm, EnforceForm, RetractForm, DomainsForm, DomainOfForm, ListForm, LogForm, WhyForm, ConflictForm, MinimalConflictForm, MinimalForm, PauseForm, ResumeForm, StepForm, SolveDbtForm, SolveRepairForm, ProveForm, CertForm, CertConflictForm, GuideForm, GuideNoneForm, OrderForm, OrderNoneForm, DropGuideForm, DropOrderForm, QuitForm}
-use Rattle.palm_read.specs.Reader.Lines.{header_at, declare_at, declare_in_at, add_at, named_at, numbered_at, pair_at, query_at, choice_at, drop_at, dbt_at, repair_at, solve_at, prove_at, bare_at, line_at, form_at}
+use Rattle.palm_read.specs.Form.{ShapeForm, Form, HeaderForm, DeclareForm, DeclareInForm, AddForm, RelaxForm, EnforceForm, RetractForm, DomainsForm, DomainOfForm, ListForm, LogForm, WhyForm, ConflictForm, MinimalConflictForm, MinimalForm, PauseForm, ResumeForm, StepForm, SolveDbtForm, SolveRepairForm, ProveForm, MinimizeForm, CertForm, CertConflictForm, GuideForm, GuideNoneForm, OrderForm, OrderNoneForm, DropGuideForm, DropOrderForm, QuitForm}
+use Rattle.palm_read.specs.Reader.Lines.{header_at, declare_at, declare_in_at, add_at, named_at, numbered_at, pair_at, query_at, choice_at, drop_at, dbt_at, repair_at, solve_at, prove_at, minimize_at, bare_at, line_at, form_at}
 use Rattle.palm_read.specs.Reader.Steps.{Reading, and_then, when, choose, is_empty, front_text, token_at, behind, keyword_at, is_name, name_at}
 use Rattle.palm_read.proofs.cited.Front.{Starts, digits_first, minus_first, and_then_some, when_some, choose_some, guard_some, same_text, name_is, behind-cons, name_at-cons, integer_at-starts}
 use Rattle.palm_read.proofs.cited.Begins.{Begins, over, begins_over, begins_then, begins_split, begins_from_spells, spells_from_begins, by_keyword, by_mark, by_numeral, by_name, by_integer, keyword_first, mark_first, numeral_first, name_first, integer_first}
@@ -158,6 +158,14 @@ prove_takes tokens back x k e =
     let budget = and_then_some word.2 in
     moved tokens (ProveForm budget.0.0, budget.0.1) x budget.2 (by_keyword k (by_keyword word.1 (by_integer budget.1 over)), tt)
 
+minimize_takes : (tokens back : List Lexeme) (x : Form × List Lexeme) → keyword_at (codes "minimize") tokens ≡ Some back → minimize_at back ≡ Some x → Taken tokens x
+unfolding minimize_at
+minimize_takes tokens back x k e =
+    let name = and_then_some e in
+    let word = and_then_some name.2 in
+    let budget = and_then_some word.2 in
+    moved tokens (MinimizeForm name.0.0 budget.0.0, budget.0.1) x budget.2 (by_keyword k (by_name name.1 (by_keyword word.1 (by_integer budget.1 over))), tt)
+
 bare_takes : (tokens : List Lexeme) (x : Form × List Lexeme) → bare_at tokens ≡ Some x → Taken tokens x
 unfolding bare_at
 bare_takes tokens x e =
@@ -210,16 +218,19 @@ line_takes tokens x e =
                         | inr w10 ↦ elim (when_some w10.1) [
                           | inl w ↦ prove_takes tokens w.0 x w.1 w.2
                           | inr w11 ↦ elim (when_some w11.1) [
-                            | inl w ↦ query_takes (codes "cert") CertConflictForm CertForm refl tt (λ n v. refl) (λ n v. tt) tokens w.0 x w.1 w.2
+                            | inl w ↦ minimize_takes tokens w.0 x w.1 w.2
                             | inr w12 ↦ elim (when_some w12.1) [
-                              | inl w ↦ choice_takes (codes "guide") GuideNoneForm GuideForm refl tt (λ n. refl) (λ n. tt) tokens w.0 x w.1 w.2
+                              | inl w ↦ query_takes (codes "cert") CertConflictForm CertForm refl tt (λ n v. refl) (λ n v. tt) tokens w.0 x w.1 w.2
                               | inr w13 ↦ elim (when_some w13.1) [
-                                | inl w ↦ choice_takes (codes "order") OrderNoneForm OrderForm refl tt (λ n. refl) (λ n. tt) tokens w.0 x w.1 w.2
+                                | inl w ↦ choice_takes (codes "guide") GuideNoneForm GuideForm refl tt (λ n. refl) (λ n. tt) tokens w.0 x w.1 w.2
                                 | inr w14 ↦ elim (when_some w14.1) [
-                                  | inl w ↦ drop_takes tokens w.0 x w.1 w.2
+                                  | inl w ↦ choice_takes (codes "order") OrderNoneForm OrderForm refl tt (λ n. refl) (λ n. tt) tokens w.0 x w.1 w.2
                                   | inr w15 ↦ elim (when_some w15.1) [
-                                    | inl w ↦ header_takes tokens w.0 x w.1 w.2
-                                    | inr w ↦ bare_takes tokens x w.1
+                                    | inl w ↦ drop_takes tokens w.0 x w.1 w.2
+                                    | inr w16 ↦ elim (when_some w16.1) [
+                                      | inl w ↦ header_takes tokens w.0 x w.1 w.2
+                                      | inr w ↦ bare_takes tokens x w.1
+                                    ]
                                   ]
                                 ]
                               ]
@@ -370,6 +381,14 @@ prove_again budget back b =
     let i = integer_first k.2 in
     rw (k.1, behind-cons Word (codes "budget") k.0, integer_at-starts i.1, begins_over i.2) refl
 
+minimize_again : (target : List ℕ) (budget : ℤ) (back : List Lexeme) → Begins back (Named target ∷ Keyword (codes "budget") ∷ Integer budget ∷ []) [] → minimize_at back ≡ Some (MinimizeForm target budget, [])
+unfolding minimize_at and_then
+minimize_again target budget back b =
+    let n = name_first b in
+    let k = keyword_first n.3 in
+    let i = integer_first k.2 in
+    rw (n.1, name_at-cons target n.0 n.2, k.1, behind-cons Word (codes "budget") k.0, integer_at-starts i.1, begins_over i.2) refl
+
 -- the reader finds its way by the first words
 module _ (tokens : List Lexeme) where
   line_again : (form : Form) → IsProper form → Begins tokens (pieces form) [] → line_at tokens ≡ Some (form, [])
@@ -401,6 +420,7 @@ module _ (tokens : List Lexeme) where
       let l = keyword_first k.2 in
       rw (k.1, l.1) (repair_again tabu budget l.0 l.2)
   line_again (ProveForm budget) proper b = let k = keyword_first b in rw k.1 (prove_again budget k.0 k.2)
+  line_again (MinimizeForm target budget) proper b = let k = keyword_first b in rw k.1 (minimize_again target budget k.0 k.2)
   line_again (CertForm name value) proper b = let k = keyword_first b in rw k.1 (query_again CertConflictForm CertForm name value k.0 k.2)
   line_again CertConflictForm proper b = let k = keyword_first b in rw k.1 (query_alone CertConflictForm CertForm k.0 k.2)
   line_again (GuideForm number) proper b = let k = keyword_first b in rw k.1 (choice_again GuideNoneForm GuideForm number k.0 k.2)

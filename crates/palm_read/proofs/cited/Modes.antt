@@ -7,7 +7,7 @@ use Rattle.palm_read.specs.Modes.{Allows}
 use Rattle.palm_read.specs.Reading.{line_of, IsRead, a_comment, a_form, IsRefusedBy}
 use Rattle.palm_read.specs.Token.{tokens_of}
 use Rattle.palm_read.specs.declared.line.Line.{Line}
-use Rattle.palm_read.specs.declared.line.Line.TheVariants.{Header, VarIn, Add, Prove}
+use Rattle.palm_read.specs.declared.line.Line.TheVariants.{Header, VarIn, Add, Prove, Minimize}
 use Rattle.palm_read.specs.declared.line.Shape.TheVariants.{Within}
 use Rattle.palm_read.specs.declared.mode.Mode.{Mode}
 use Rattle.palm_read.specs.declared.mode.Mode.TheVariants.{First, One}
@@ -21,6 +21,7 @@ allowed_everywhere mode (VarIn name universe domain) a = absurd cc
 allowed_everywhere mode (Add name (Within var domain)) a = absurd cc
 allowed_everywhere mode (Add name shape) a = tt
 allowed_everywhere mode (Prove budget) a = absurd cc
+allowed_everywhere mode (Minimize target budget) a = absurd cc
 allowed_everywhere mode _ a = tt
 
 -- the first mode allows the header beside, and nothing more
@@ -30,6 +31,7 @@ allowed_in_one (VarIn name universe domain) a other = absurd cc
 allowed_in_one (Add name (Within var domain)) a other = absurd cc
 allowed_in_one (Add name shape) a other = tt
 allowed_in_one (Prove budget) a other = absurd cc
+allowed_in_one (Minimize target budget) a other = absurd cc
 allowed_in_one _ a other = tt
 
 pub read_everywhere : (mode : Mode) (bytes : List ℕ) (line : Line) → IsRead One bytes line → IsRead mode bytes line

@@ -11,7 +11,7 @@ use Rattle.palm_read.specs.declared.limits.TheConstants.{GREATEST_NUMBER, GREATE
 use Rattle.palm_read.specs.Comparison.{OffsetForm, NoOffset, Plus, Minus}
 use Rattle.palm_read.specs.Count.{TargetForm, Number, Variable}
 use Rattle.palm_read.specs.Domain.{DomainForm, Interval, Members}
-use Rattle.palm_read.specs.Form.{ShapeForm, CompareVarForm, CompareConstForm, LinearForm, TableForm, ElementForm, CountForm, DifferForm, WithinForm, Form, DeclareForm, DeclareInForm, AddForm, WhyForm, MinimalForm, StepForm, SolveDbtForm, SolveRepairForm, ProveForm, CertForm, GuideForm, OrderForm, DropGuideForm, DropOrderForm}
+use Rattle.palm_read.specs.Form.{ShapeForm, CompareVarForm, CompareConstForm, LinearForm, TableForm, ElementForm, CountForm, DifferForm, WithinForm, Form, DeclareForm, DeclareInForm, AddForm, WhyForm, MinimalForm, StepForm, SolveDbtForm, SolveRepairForm, ProveForm, MinimizeForm, CertForm, GuideForm, OrderForm, DropGuideForm, DropOrderForm}
 use Rattle.palm_read.specs.Linear.{TermForm}
 
 -- what was taken from the front, or nothing, and then nothing changed
@@ -107,6 +107,7 @@ held_form (StepForm number) = StepForm (counted GREATEST_NUMBER number)
 held_form (SolveDbtForm budget) = SolveDbtForm (option_map (counted NO_BUDGET) budget)
 held_form (SolveRepairForm tabu budget) = SolveRepairForm (counted GREATEST_TABU tabu) (counted NO_BUDGET budget)
 held_form (ProveForm budget) = ProveForm (counted NO_BUDGET budget)
+held_form (MinimizeForm target budget) = MinimizeForm target (counted NO_BUDGET budget)
 held_form (GuideForm number) = GuideForm (counted GREATEST_NUMBER number)
 held_form (OrderForm number) = OrderForm (counted GREATEST_NUMBER number)
 held_form (DropGuideForm number) = DropGuideForm (counted GREATEST_NUMBER number)

@@ -3,7 +3,7 @@ use Rattle.std.specs.Prelude.{ℕ, ℤ, ◌&&◌, Option, Some, None, List, code
 use Rattle.std.specs.Str.{bytes_eq}
 use Rattle.palm_read.specs.declared.tokens.TokenKind.TheVariants.{Digits}
 use Rattle.palm_read.specs.Domain.{DomainForm}
-use Rattle.palm_read.specs.Form.{Form, HeaderForm, DeclareForm, DeclareInForm, AddForm, RelaxForm, EnforceForm, RetractForm, DomainsForm, DomainOfForm, ListForm, LogForm, WhyForm, ConflictForm, MinimalConflictForm, MinimalForm, PauseForm, ResumeForm, StepForm, SolveDbtForm, SolveRepairForm, ProveForm, CertForm, CertConflictForm, GuideForm, GuideNoneForm, OrderForm, OrderNoneForm, DropGuideForm, DropOrderForm, QuitForm}
+use Rattle.palm_read.specs.Form.{Form, HeaderForm, DeclareForm, DeclareInForm, AddForm, RelaxForm, EnforceForm, RetractForm, DomainsForm, DomainOfForm, ListForm, LogForm, WhyForm, ConflictForm, MinimalConflictForm, MinimalForm, PauseForm, ResumeForm, StepForm, SolveDbtForm, SolveRepairForm, ProveForm, MinimizeForm, CertForm, CertConflictForm, GuideForm, GuideNoneForm, OrderForm, OrderNoneForm, DropGuideForm, DropOrderForm, QuitForm}
 use Rattle.palm_read.specs.Token.{Lexeme}
 use Rattle.palm_read.specs.Reader.Steps.{Reading, ◌>>=◌, when, choose, is_empty, behind, keyword_at, mark_at, name_at, integer_at}
 use Rattle.palm_read.specs.Reader.Shapes.{domain_at, shape_at}
@@ -103,6 +103,14 @@ prove_at tokens = do
   budget ← integer_at rest
   Some (ProveForm budget.0, budget.1)
 
+-- the variable whose least value is searched for, and the search's budget
+unfoldable pub minimize_at : List Lexeme → Reading Form
+minimize_at tokens = do
+  target ← name_at tokens
+  rest ← keyword_at (codes "budget") target.1
+  budget ← integer_at rest
+  Some (MinimizeForm target.0 budget.0, budget.1)
+
 -- the forms of one word
 unfoldable pub bare_at : List Lexeme → Reading Form
 bare_at tokens =
@@ -128,12 +136,13 @@ line_at tokens =
     (when (keyword_at (codes "step") tokens) (numbered_at StepForm)
     (when (keyword_at (codes "solve") tokens) solve_at
     (when (keyword_at (codes "prove") tokens) prove_at
+    (when (keyword_at (codes "minimize") tokens) minimize_at
     (when (keyword_at (codes "cert") tokens) (query_at CertConflictForm CertForm)
     (when (keyword_at (codes "guide") tokens) (choice_at GuideNoneForm GuideForm)
     (when (keyword_at (codes "order") tokens) (choice_at OrderNoneForm OrderForm)
     (when (keyword_at (codes "drop") tokens) drop_at
     (when (keyword_at (codes "palm") tokens) header_at
-    (bare_at tokens))))))))))))))))
+    (bare_at tokens)))))))))))))))))
 
 -- the form of all tokens of a line
 unfoldable pub form_at : List Lexeme → Option Form

@@ -20,7 +20,7 @@ pub fn is_allowed(line: &Line, mode: Mode) -> bool
     match line {
         Line::Header => matches!(mode, Mode::First),
         Line::VarIn { .. } => matches!(mode, Mode::Two),
-        Line::Prove { .. } => matches!(mode, Mode::Two),
+        Line::Prove { .. } | Line::Minimize { .. } => matches!(mode, Mode::Two),
         Line::Add { shape, .. } => !matches!(shape, Shape::Within { .. })
             || matches!(mode, Mode::Two),
         _ => true,
@@ -42,7 +42,8 @@ pub fn is_in_range(line: &Line) -> bool
         Line::Why { value, .. } | Line::Minimal { value, .. } | Line::Cert { value, .. } =>
             is_value(value),
         Line::Step(number) => is_from_one_to(GREATEST_NUMBER, *number),
-        Line::SolveDbt { budget } | Line::Prove { budget } => is_from_one_to(NO_BUDGET, *budget),
+        Line::SolveDbt { budget } | Line::Prove { budget } | Line::Minimize { budget, .. } =>
+            is_from_one_to(NO_BUDGET, *budget),
         Line::SolveRepair { tabu, budget } => is_from_one_to(GREATEST_TABU, u64::from(*tabu))
             && is_from_one_to(NO_BUDGET, *budget),
         Line::Guide(number)

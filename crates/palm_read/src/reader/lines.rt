@@ -3,7 +3,7 @@ ghost use Rattle.std.specs.Prelude.{◌≡◌, ◌&&◌, codes};
 ghost use Rattle.std.specs.Str.{bytes_eq};
 ghost use Rattle.palm_read.specs.Domain.{DomainForm, domain_of};
 ghost use Rattle.palm_read.specs.Reader.Held.{Gives, held_domain, held_line};
-ghost use Rattle.palm_read.specs.Reader.Lines.{declare_at, declare_in_at, header_at, add_at, named_at, numbered_at, pair_at, query_at, choice_at, drop_at, dbt_at, repair_at, solve_at, prove_at, bare_at, line_at};
+ghost use Rattle.palm_read.specs.Reader.Lines.{declare_at, declare_in_at, header_at, add_at, named_at, numbered_at, pair_at, query_at, choice_at, drop_at, dbt_at, repair_at, solve_at, prove_at, minimize_at, bare_at, line_at};
 ghost use Rattle.palm_read.specs.Reader.Steps.{is_empty};
 ghost use Rattle.palm_read.specs.Form as form;
 
@@ -41,6 +41,8 @@ impl<'a> Cursor<'a> {
             self.solve()
         } else if self.takes_word(b"prove") {
             self.prove()
+        } else if self.takes_word(b"minimize") {
+            self.minimize(alloc)
         } else if self.takes_word(b"cert") {
             self.cert(alloc)
         } else if self.takes_word(b"guide") {
@@ -286,5 +288,15 @@ impl<'a> Cursor<'a> {
         self.keyword(b"budget")?;
         let budget = self.counted(NO_BUDGET)?;
         Ok(Line::Prove { budget })
+    }
+
+    #[tactic(auto, unfolding(crate::specs::Reader::Lines::minimize_at, crate::specs::Reader::Steps::and_then))]
+    fn minimize(&mut self, alloc: Global) -> Result<Line, LineError>
+        ensures { Gives held_line result self.new (minimize_at self.old) }
+    {
+        let target = self.owned_name(alloc)?;
+        self.keyword(b"budget")?;
+        let budget = self.counted(NO_BUDGET)?;
+        Ok(Line::Minimize { target, budget })
     }
 }

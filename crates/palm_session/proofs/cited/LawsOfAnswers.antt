@@ -29,7 +29,7 @@ use Rattle.palm_read.specs.Limits.{names_of}
 use Rattle.palm_read.specs.Reading.{IsRead, IsRefusedBy}
 use Rattle.palm_lang.specs.Reply.{fixed_text, refusal_text, ran_text, domain_line}
 use Rattle.palm_read.specs.declared.line.Line.{Line}
-use Rattle.palm_read.specs.declared.line.Line.TheVariants.{Var, VarIn, Add, Relax, Enforce, Retract, Domain, Why, Minimal, Pause, Resume, Step, Cert, Guide, Order, DropGuide, DropOrder}
+use Rattle.palm_read.specs.declared.line.Line.TheVariants.{Var, VarIn, Add, Relax, Enforce, Retract, Domain, Why, Minimal, Pause, Resume, Step, Cert, Minimize, Guide, Order, DropGuide, DropOrder}
 use Rattle.palm_read.specs.declared.mode.Mode.{Mode}
 use Rattle.palm_read.specs.declared.mode.Mode.TheVariants.{One}
 use Rattle.palm_read.specs.declared.parse.LineError.{LineError}
@@ -81,6 +81,7 @@ names_known s (Domain name) = known_not (variable_known s name)
 names_known s (Why name value) = known_not (variable_known s name)
 names_known s (Minimal name value) = known_not (variable_known s name)
 names_known s (Cert name value) = known_not (variable_known s name)
+names_known s (Minimize name budget) = known_not (variable_known s name)
 names_known s _ = inr (λ h. h)
 
 constraints_known : (s : SessionState) (line : Line) → Known (NamesNoConstraint s line)
@@ -378,6 +379,7 @@ guide_line s (Domain name) number r = absurd (subst ChoosesGuide r.2 tt)
 guide_line s (Why name value) number r = absurd (subst ChoosesGuide r.2 tt)
 guide_line s (Minimal name value) number r = absurd (subst ChoosesGuide r.2 tt)
 guide_line s (Cert name value) number r = absurd (subst ChoosesGuide r.2 tt)
+guide_line s (Minimize name budget) number r = absurd (subst ChoosesGuide r.2 tt)
 guide_line s _ number r = absurd (subst ChoosesGuide r tt)
 
 abbrev ChoosesOrder : Request → Type 0
@@ -394,6 +396,7 @@ order_line s (Domain name) number r = absurd (subst ChoosesOrder r.2 tt)
 order_line s (Why name value) number r = absurd (subst ChoosesOrder r.2 tt)
 order_line s (Minimal name value) number r = absurd (subst ChoosesOrder r.2 tt)
 order_line s (Cert name value) number r = absurd (subst ChoosesOrder r.2 tt)
+order_line s (Minimize name budget) number r = absurd (subst ChoosesOrder r.2 tt)
 order_line s _ number r = absurd (subst ChoosesOrder r tt)
 
 without_in : (guides orders : List ℕ) (mode : Mode) (s : SessionState) → IsWithout guides orders s → IsWithout guides orders (in_mode mode s)

@@ -10,7 +10,7 @@ use Rattle.palm_book.specs.Book.{initial_of, active_of}
 use Rattle.palm_book.proofs.cited.Actives.{initial_ascend}
 use Rattle.palm_session.specs.declared.request.Procedure.{Procedure}
 use Rattle.palm_session.specs.declared.request.Request.{Request}
-use Rattle.palm_session.specs.Requests.{Admits, HasTabu}
+use Rattle.palm_session.specs.Requests.{Admits, CanSearch}
 use Rattle.palm_laws.proofs.cited.Existence.{greatest_exists}
 use Rattle.palm_laws.proofs.cited.Uniqueness.{greatest_unique}
 use Rattle.palm_events.specs.Along.{IsStill}
@@ -98,7 +98,7 @@ fits_any : (b : Bool) (rs : List Revision) → FitsOrder false rs → FitsOrder 
 fits_any false rs fits = fits
 fits_any true rs fits = tt
 
-follows_exist : (m : SessionState) (n : Next) → IsHeld m → ((by : Procedure) → n ≡ Searches by → HasTabu by) → (effect : Effect) × (t : SessionState) × Follows m n effect t
+follows_exist : (m : SessionState) (n : Next) → IsHeld m → ((by : Procedure) → n ≡ Searches by → CanSearch m by) → (effect : Effect) × (t : SessionState) × Follows m n effect t
 follows_exist m Rests is some = (Nothing, m, refl)
 follows_exist m (Filters limit) is some =
     let p = plainly_exists limit m.engine is.valid in
@@ -109,14 +109,17 @@ follows_exist m (Searches by) is some =
     let p = search_in m is by (some by refl) in
     (Searched p.end p.telling, with_search m p.turns p.engine, (p.turns, p.engine, p.searches, refl))
 
--- a search that is admitted has a tabu length above 0
-tabu_of : (s m : SessionState) (request : Request) → Admits s request → (by : Procedure) → next m request ≡ Searches by → HasTabu by
-tabu_of s m request can by e = subst (λ (r : Request). Admits s r) (searches_by m request by e) can
+-- a search that is admitted can be begun
+can_search : (s m : SessionState) (request : Request) → Admits s request → Changes s request m → (by : Procedure) → next m request ≡ Searches by → CanSearch m by
+can_search s m request can changes by e =
+    let is_search = searches_by m request by e in
+    let same : m ≡ s = subst (λ (r : Request). Changes s r m) is_search changes in
+    subst (λ (z : SessionState). CanSearch z by) (sym same) (subst (λ (r : Request). Admits s r) is_search can)
 
 pub does_exist : (s : SessionState) (request : Request) → IsState s → Admits s request → (effect : Effect) × (t : SessionState) × Does s request effect t
 does_exist s request is can =
     let c = changes_exist s request is.held can in
-    let f = follows_exist c.0 (next c.0 request) (changes_keep s c.0 request is.held can c.1) (λ by e. tabu_of s c.0 request can by e) in
+    let f = follows_exist c.0 (next c.0 request) (changes_keep s c.0 request is.held can c.1) (λ by e. can_search s c.0 request can c.1 by e) in
     (f.0, f.1, (c.0, c.1, f.2))
 
 -- ---- and without an order object nothing else

@@ -63,9 +63,10 @@ pub fn printed_certificates_are_accepted()
         → IsState s → HasScopedReasons s.engine → Accepts s (Ask CertConflict) reply t → ToldCertConflict s reply }
 {}
 
-/// The values that `solve` and `prove` tell satisfy all active constraints, and the constraints that it names are active and have no
-/// common solution. A budget that it tells as spent is below the bound of the search, or nogoods were dropped, and it tells
-/// how many.
+/// The values that `solve`, `prove` and `minimize` tell satisfy all active constraints, and the constraints that they name are
+/// active and have no common solution. A budget that they tell as spent is below the bound of the search, or nogoods were
+/// dropped, and it is told how many. Where `minimize` tells the best values, the constraints behind `proved by` are active, and
+/// no assignment inside the initial domains that satisfies them gives the variable a lesser value.
 pub fn searches_tell_the_truth()
     ensures { (s t : SessionState) (by : Procedure) (reply : List ℕ)
         → IsState s → Accepts s (Solve by) reply t → ToldBy s.book by reply }
@@ -78,7 +79,7 @@ pub fn printed_proofs_are_accepted()
         → IsState s → HasScopedReasons s.engine → budget ≤ 18446744073709551615 → Accepts s (Solve (Proof budget)) reply t → ToldAccepted s.book reply }
 {}
 
-/// After `solve` and `prove` the book, the constraints of the engine and its log are those from before.
+/// After `solve`, `prove` and `minimize` the book, the constraints of the engine and its log are those from before.
 pub fn searches_leave_all_but_the_journal()
     ensures { (s t : SessionState) (by : Procedure) (reply : List ℕ)
         → IsState s → Accepts s (Solve by) reply t → KeepsAllButJournal s t }

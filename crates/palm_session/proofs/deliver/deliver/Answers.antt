@@ -1,3 +1,7 @@
+use Rattle.std.proofs.Common.{subst}
+use Rattle.palm_book.specs.Book.{Contents}
+use Rattle.palm_lang.specs.Writing.{Writes}
+use Rattle.palm_session.specs.Answers.{least_text}
 use Rattle.palm_session.proofs.deliver.deliver.Goals as goal
 
 pub returns-in-Word : goal.returns-in-Word
@@ -32,3 +36,11 @@ returns-in-Found g c = rw c.in-Found.is (rw c.book-in-Found.ensures at c.write_f
 
 pub returns-in-Spent : goal.returns-in-Spent
 returns-in-Spent g c = rw c.in-Spent.is c.write_spent.ensures
+
+pub returns-in-Best : goal.returns-in-Best
+returns-in-Best g c =
+    rw c.in-Best.is
+    (subst (λ (book : Contents). Writes (g.K.Sink.state c.args.out.now) (g.K.Sink.state c.write_least.new.out) (least_text book c.in-Best.values c.in-Best.users) c.write_least.result) c.book-in-Best.ensures c.write_least.ensures)
+
+pub returns-in-SpentBest : goal.returns-in-SpentBest
+returns-in-SpentBest g c = rw c.in-SpentBest.is (rw c.book-in-SpentBest.ensures at c.write_spent_best.ensures)

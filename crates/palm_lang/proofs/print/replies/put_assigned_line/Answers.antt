@@ -1,5 +1,5 @@
 use Rattle.palm_lang.proofs.PrintLemmas.{Keeps-more, Puts-kept}
-use Rattle.palm_lang.proofs.print.replies.put_found.Goals as goal
+use Rattle.palm_lang.proofs.print.replies.put_assigned_line.Goals as goal
 
 pub returns-in_err-put_assignment : goal.returns-in_err-put_assignment
 returns-in_err-put_assignment c =
