@@ -3,3 +3,4 @@ pub mod Cores
 pub mod Filling
 pub mod Passing
 pub mod Splitting
+pub mod cited

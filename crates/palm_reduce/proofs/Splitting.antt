@@ -23,7 +23,7 @@ actives_joined xs ys =
 after_place : (cs : List BookCon) (i : ℕ) (c : BookCon) → slice_get cs i ≡ Some c → drop i cs ≡ c ∷ drop (i + 1) cs
 after_place cs i c at = drop_more cs i c (slice_get_within cs i c at) ∙ ap (λ (d : BookCon). d ∷ drop (i + 1) cs) (get_or_from_slice_get cs i c c at)
 
-before_next : (cs : List BookCon) (i : ℕ) (c : BookCon) → slice_get cs i ≡ Some c → take (i + 1) cs ≡ take i cs ++ c ∷ []
+pub before_next : (cs : List BookCon) (i : ℕ) (c : BookCon) → slice_get cs i ≡ Some c → take (i + 1) cs ≡ take i cs ++ c ∷ []
 before_next cs i c at = take_more cs i c (slice_get_within cs i c at) ∙ ap (λ (d : BookCon). take i cs ++ d ∷ []) (get_or_from_slice_get cs i c c at)
 
 alone : (c : BookCon) (b : Bool) → c.active ≡ b → actives (c ∷ []) ≡ cond b (user_at c ∷ []) []

@@ -1,2 +1,3 @@
+pub mod Marked
 pub mod Properties
 pub mod Walked

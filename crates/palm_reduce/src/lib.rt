@@ -1,9 +1,11 @@
-//! Minimal sets: of the active constraints of a book, those without any of which the rest is no conflict, or does not
-//! explain the absence of a value.
+//! Minimal sets: of the active constraints of a book, or of those at marked places, the ones without any of which the rest
+//! is no conflict, or does not explain the absence of a value.
 #![tactic(auto)]
 
 mod posting;
 mod property;
 mod reduce;
 
-pub use reduce::{minimal_conflict, minimal_why};
+pub use posting::{engine_of, post};
+pub use property::are_conflict;
+pub use reduce::{active_marks, minimal_conflict, minimal_conflict_among, minimal_why};

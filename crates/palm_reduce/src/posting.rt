@@ -1,10 +1,11 @@
-//! An engine over the variables and the active constraints of a book.
+//! An engine over the variables and the marked constraints of a book.
 ghost use Rattle.std.specs.Prelude.{◌≡◌, ◌<◌, [], length, slice_get, Some, IfOk, OnOk};
 ghost use Rattle.palm_book.specs.Book.{active_of, initial_of, user_at};
 ghost use Rattle.palm_book.specs.declared.book.BookCon.{BookCon as BookConTerm};
 ghost use Rattle.palm_model.specs.Event.{Posts};
 ghost use Rattle.palm_model.specs.Log.{IsActive};
 ghost use Rattle.palm_model.specs.State.{blank};
+ghost use Rattle.palm_reduce.specs.Marked.{marked};
 ghost use Rattle.palm_reduce.specs.Walked.{AreSame};
 
 use palm_base::{NoMemory, Var};
@@ -41,27 +42,34 @@ pub fn post(
     Ok(())
 }
 
-/// Makes the active constraints of the book active and pending.
-fn post_all(alloc: Global, engine: &mut Engine<Kind>, book: &Book) -> Result<(), NoMemory>
-    requires { engine.old.state ≡ blank (initial_of book.now) }
+/// Makes the marked constraints of the book active and pending.
+fn post_all(
+    alloc: Global,
+    engine: &mut Engine<Kind>,
+    book: &Book,
+    marks: &[bool],
+) -> Result<(), NoMemory>
+    requires blank { engine.old.state ≡ blank (initial_of book.now) }
+    requires whole { length marks.now ≡ length book.now.constraints }
     ensures initial { OnOk result (engine.new.state.initial ≡ initial_of book.now) }
-    ensures active { OnOk result (AreSame engine.new.state.active (active_of book.now)) }
+    ensures active { OnOk result (AreSame engine.new.state.active (active_of (marked book.now marks.now))) }
 {
     for place in 0..book.constraints() {
-        if book.constraint(place).active {
+        if marks[place] {
             post(alloc, engine, book, place)?;
         }
     }
     Ok(())
 }
 
-/// An engine with the variables and the active constraints of a book, all of them pending.
-pub fn engine_of(alloc: Global, book: &Book) -> Result<Engine<Kind>, NoMemory>
+/// An engine with the variables and the marked constraints of a book, all of them pending.
+pub fn engine_of(alloc: Global, book: &Book, marks: &[bool]) -> Result<Engine<Kind>, NoMemory>
+    requires { length marks.now ≡ length book.now.constraints }
     ensures initial { IfOk result (λ engine. engine.state.initial ≡ initial_of book.now) }
-    ensures active { IfOk result (λ engine. AreSame engine.state.active (active_of book.now)) }
+    ensures active { IfOk result (λ engine. AreSame engine.state.active (active_of (marked book.now marks.now))) }
 {
     let mut engine = Engine::new(alloc);
     declare_all(&mut engine, book)?;
-    post_all(alloc, &mut engine, book)?;
+    post_all(alloc, &mut engine, book, marks)?;
     Ok(engine)
 }

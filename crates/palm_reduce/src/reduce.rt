@@ -1,10 +1,11 @@
-//! The walk over the active constraints of a book, from the highest number down.
-ghost use Rattle.std.specs.Prelude.{◌≡◌, ◌+◌, ◌<◌, Contains, length, MatchOption, IfOk, OnOk};
+//! The walk over the marked constraints of a book, from the highest number down.
+ghost use Rattle.std.specs.Prelude.{◌≡◌, ◌+◌, ◌<◌, Contains, length, map, MatchOption, IfOk, OnOk};
 ghost use Rattle.palm_base.specs.Tells.{Tells};
 ghost use Rattle.palm_book.specs.Book.{IsBook, active_of, initial_of};
 ghost use Rattle.palm_model.specs.Domains.{Has};
 ghost use Rattle.palm_base.specs.Order.{Rises};
 ghost use Rattle.palm_model.specs.Minimal.{AreConflict, DoExplain, IsMinimal, IsMinimalConflict, IsMinimalExplanation};
+ghost use Rattle.palm_reduce.specs.Marked.{marked};
 ghost use Rattle.palm_reduce.specs.Properties.{HasProperty, IsCore, MayBeAsked};
 ghost use Rattle.palm_reduce.specs.Walked.{AreSame, HasWalked};
 
@@ -38,8 +39,8 @@ fn is_among(cid: &Cid, cids: &CidList) -> bool
 /// Takes the walk past the constraint at a place: it is left out where the rest has the property without it. Nothing is
 /// filtered for a constraint without which the known core stands.
 fn pass<L: Ledger>(
-    alloc: Global,
     book: &Book,
+    marks: &[bool],
     property: &Property,
     place: usize,
     engine: &mut Engine<Kind>,
@@ -47,13 +48,14 @@ fn pass<L: Ledger>(
     steps: &mut Steps<L>,
 ) -> Result<(), NoMemory>
     requires book { IsBook book.now }
+    requires whole { length marks.now ≡ length book.now.constraints }
     requires within { place < length book.now.constraints }
-    requires allowed { MayBeAsked property.now (initial_of book.now) (active_of book.now) }
-    requires walked { HasWalked property.now book.now (place + 1) found.old engine.old.state }
-    ensures { OnOk result (HasWalked property.now book.now place found.new engine.new.state) }
+    requires allowed { MayBeAsked property.now (initial_of book.now) (active_of (marked book.now marks.now)) }
+    requires walked { HasWalked property.now (marked book.now marks.now) (place + 1) found.old engine.old.state }
+    ensures { OnOk result (HasWalked property.now (marked book.now marks.now) place found.new engine.new.state) }
 {
     let entry = book.constraint(place);
-    if !entry.active {
+    if !marks[place] {
         return Ok(());
     }
     let cid = Cid::User(entry.number);
@@ -64,26 +66,28 @@ fn pass<L: Ledger>(
     if has_property(property, engine, &mut found.core, steps)? {
         return Ok(());
     }
-    post(alloc, engine, book, place)?;
+    post(*found.cids.allocator(), engine, book, place)?;
     found.cids.push(cid)?;
     Ok(())
 }
 
-/// Walks over all of the constraints, some of which are known to have the property by themselves, and answers the ids
+/// Walks over all of the marked constraints, some of which are known to have the property by themselves, and answers the ids
 /// of those that stay, by rising id.
 fn walk<L: Ledger>(
     alloc: Global,
     book: &Book,
+    marks: &[bool],
     property: &Property,
     engine: &mut Engine<Kind>,
     core: CidList,
     steps: &mut Steps<L>,
 ) -> Result<CidList, NoMemory>
-    requires allowed { MayBeAsked property.now (initial_of book.now) (active_of book.now) }
+    requires whole { length marks.now ≡ length book.now.constraints }
+    requires allowed { MayBeAsked property.now (initial_of book.now) (active_of (marked book.now marks.now)) }
     requires initial { engine.old.state.initial ≡ initial_of book.now }
-    requires active { AreSame engine.old.state.active (active_of book.now) }
-    requires core { IsCore property.now (initial_of book.now) (active_of book.now) core }
-    ensures { IfOk result (λ cids. IsMinimal (HasProperty property.now (initial_of book.now)) (active_of book.now) cids) }
+    requires active { AreSame engine.old.state.active (active_of (marked book.now marks.now)) }
+    requires core { IsCore property.now (initial_of book.now) (active_of (marked book.now marks.now)) core }
+    ensures { IfOk result (λ cids. IsMinimal (HasProperty property.now (initial_of book.now)) (active_of (marked book.now marks.now)) cids) }
 {
     let mut found = Found {
         cids: Vec::new(alloc),
@@ -92,36 +96,67 @@ fn walk<L: Ledger>(
     let mut place = book.constraints();
     while place > 0 {
         place -= 1;
-        pass(alloc, book, property, place, engine, &mut found, steps)?;
+        pass(book, marks, property, place, engine, &mut found, steps)?;
     }
     let Found { mut cids, .. } = found;
     cids.reverse();
     Ok(CidList::from_vec(cids))
 }
 
-/// The minimal set for a property, with a counter of its own.
+/// The minimal set of the marked constraints for a property, with a counter of its own.
 fn reduce<L: Ledger>(
     alloc: Global,
     book: &Book,
+    marks: &[bool],
     property: &Property,
     blank: Blank,
 ) -> Result<Option<CidList>, NoMemory>
     requires named { blank.name ≡ L.name }
     requires parts { blank.parts ≡ L.parts }
     requires shared { 0 < L.parts }
-    requires allowed { MayBeAsked property.now (initial_of book.now) (active_of book.now) }
+    requires whole { length marks.now ≡ length book.now.constraints }
+    requires allowed { MayBeAsked property.now (initial_of book.now) (active_of (marked book.now marks.now)) }
     ensures { IfOk result (λ answer. MatchOption answer
-        (HasProperty property.now (initial_of book.now) (active_of book.now) → ⊥)
-        (IsMinimal (HasProperty property.now (initial_of book.now)) (active_of book.now))) }
+        (HasProperty property.now (initial_of book.now) (active_of (marked book.now marks.now)) → ⊥)
+        (IsMinimal (HasProperty property.now (initial_of book.now)) (active_of (marked book.now marks.now)))) }
 {
     let mut steps = Steps::<L>::start(blank);
-    let mut engine = engine_of(alloc, book)?;
+    let mut engine = engine_of(alloc, book, marks)?;
     let mut core = CidList::new(alloc);
     if !has_property(property, &mut engine, &mut core, &mut steps)? {
         return Ok(None);
     }
-    let cids = walk(alloc, book, property, &mut engine, core, &mut steps)?;
+    let cids = walk(alloc, book, marks, property, &mut engine, core, &mut steps)?;
     Ok(Some(cids))
+}
+
+/// The marks of the active constraints. What it ensures besides holds of every book.
+pub fn active_marks(alloc: Global, book: &Book) -> Result<Vec<bool>, NoMemory>
+    ensures marks { IfOk result (λ marks. marks.items ≡ map (λ c. c.active) book.now.constraints) }
+    ensures valid { IsBook book.now }
+{
+    let mut marks = Vec::new(alloc);
+    for place in 0..book.constraints() {
+        marks.push(book.constraint(place).active)?;
+    }
+    Ok(marks)
+}
+
+/// The minimal conflict of the constraints at the marked places of a book, by rising id, whether they are active in the
+/// book or relaxed: a walk from the highest number down leaves each of them out without which the rest is still a
+/// conflict. There is none exactly where they are no conflict. It filters with an engine of its own and without an
+/// order.
+pub fn minimal_conflict_among(
+    alloc: Global,
+    book: &Book,
+    marks: &[bool],
+) -> Result<Option<CidList>, NoMemory>
+    requires { length marks.now ≡ length book.now.constraints }
+    ensures { IfOk result (λ answer. MatchOption answer
+        (AreConflict (initial_of book.now) (active_of (marked book.now marks.now)) → ⊥)
+        (IsMinimalConflict (initial_of book.now) (active_of (marked book.now marks.now)))) }
+{
+    reduce::<Brand>(alloc, book, marks, &Property::Conflict, Blank::new(1))
 }
 
 /// The minimal conflict of the active constraints of a book, by rising id: a walk from the highest number down leaves
@@ -132,7 +167,8 @@ pub fn minimal_conflict(alloc: Global, book: &Book) -> Result<Option<CidList>, N
         (AreConflict (initial_of book.now) (active_of book.now) → ⊥)
         (IsMinimalConflict (initial_of book.now) (active_of book.now))) }
 {
-    reduce::<Brand>(alloc, book, &Property::Conflict, Blank::new(1))
+    let marks = active_marks(alloc, book)?;
+    minimal_conflict_among(alloc, book, marks.as_slice())
 }
 
 /// The minimal explanation of the absence of a pair by the active constraints of a book, by rising id: a walk from the
@@ -146,5 +182,12 @@ pub fn minimal_why(alloc: Global, book: &Book, pair: Pair) -> Result<Option<CidL
         (DoExplain (initial_of book.now) pair (active_of book.now) → ⊥)
         (IsMinimalExplanation (initial_of book.now) (active_of book.now) pair)) }
 {
-    reduce::<Brand>(alloc, book, &Property::Absence(pair), Blank::new(1))
+    let marks = active_marks(alloc, book)?;
+    reduce::<Brand>(
+        alloc,
+        book,
+        marks.as_slice(),
+        &Property::Absence(pair),
+        Blank::new(1),
+    )
 }

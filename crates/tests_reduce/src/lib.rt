@@ -1,7 +1,9 @@
-//! Tests of minimal sets, over their public calls.
+//! Tests of minimal sets and of what is preferred, over their public calls.
 #![tactic(auto)]
 
 #[cfg(test)]
 mod minimal;
 #[cfg(test)]
 mod samples;
+#[cfg(test)]
+mod weighing;

@@ -142,3 +142,50 @@ pub(crate) fn add_four(alloc: Global, book: &mut Book) -> Result<(), NoMemory>
     };
     add(book, entry(alloc, 4, "e", con)?)
 }
+
+/// Declares the variables in a fresh book, and adds `a : x != 1` with the number 1.
+fn add_first(alloc: Global, book: &mut Book) -> Result<(), NoMemory>
+    requires { book.old ≡ record { variables = []; constraints = [] } }
+    ensures variables { OnOk result (length book.new.variables ≡ 2) }
+    ensures names { OnOk result (map (λ c. c.name) book.new.constraints ≡ codes "a" ∷ []) }
+    ensures numbers { OnOk result (map (λ c. c.number) book.new.constraints ≡ 1 ∷ []) }
+{
+    declare_two(alloc, book)?;
+    let con = Con::CompareConst {
+        left: Var(0),
+        op: Op::Ne,
+        value: Value(1),
+    };
+    add(book, entry(alloc, 1, "a", con)?)
+}
+
+/// And `b : x = y` with the number 2.
+fn add_second(alloc: Global, book: &mut Book) -> Result<(), NoMemory>
+    requires { book.old ≡ record { variables = []; constraints = [] } }
+    ensures variables { OnOk result (length book.new.variables ≡ 2) }
+    ensures names { OnOk result (map (λ c. c.name) book.new.constraints ≡ codes "a" ∷ codes "b" ∷ []) }
+    ensures numbers { OnOk result (map (λ c. c.number) book.new.constraints ≡ 1 ∷ 2 ∷ []) }
+{
+    add_first(alloc, book)?;
+    let con = Con::CompareVar {
+        left: Var(0),
+        op: Op::Eq,
+        right: Var(1),
+        offset: 0,
+    };
+    add(book, entry(alloc, 2, "b", con)?)
+}
+
+/// And `e : y != 2` with the number 3.
+pub(crate) fn add_conflict(alloc: Global, book: &mut Book) -> Result<(), NoMemory>
+    requires { book.old ≡ record { variables = []; constraints = [] } }
+    ensures { OnOk result (2 < length book.new.constraints) }
+{
+    add_second(alloc, book)?;
+    let con = Con::CompareConst {
+        left: Var(1),
+        op: Op::Ne,
+        value: Value(2),
+    };
+    add(book, entry(alloc, 3, "e", con)?)
+}

@@ -1,33 +1,43 @@
-use Rattle.std.proofs.Common.{◌≡◌, ◌+◌, true, take, subst, sym, arith}
+use Rattle.std.proofs.Common.{◌≡◌, ◌+◌, true, false, take, refl, subst, sym, arith}
 use Rattle.palm_book.specs.Book.{initial_of}
 use Rattle.palm_book.specs.declared.book.BookCon.{BookCon}
 use Rattle.palm_engine.specs.Engine.{View}
+use Rattle.palm_reduce.specs.Marked.{marked}
 use Rattle.palm_reduce.specs.Walked.{AreSame, actives}
-use Rattle.palm_reduce.proofs.Filling.{entry_same, filled_all, filled_next, filled_relaxed, not_yet}
+use Rattle.palm_reduce.proofs.Filling.{filled_all, filled_next, filled_relaxed, not_yet}
+use Rattle.palm_reduce.proofs.cited.Marking.{entry_within, marked_here, marked_is_book, marked_length}
 use Rattle.palm_reduce.proofs.posting.post_all.Goals as goal
-use Rattle.palm_reduce.proofs.posting.post_all.Goals.{then-constraint+in_ok-post, else-constraint}
+use Rattle.palm_reduce.proofs.posting.post_all.Goals.{then-marks-place+in_ok-post, else-marks-place}
 
 pub post-requires-clause-inactive : goal.post-requires-clause-inactive
 post-requires-clause-inactive c d too =
-    let same = entry_same c.args.book.now.constraints c.loop-place.place c.constraint.result.now d c.constraint.ensures.at too in
-    not_yet c.args.book.now c.constraints-place-end.ensures.valid c.loop-place.place d too c.loop-place.engine.state.active c.loop-place.invariant.1
-    (subst (λ (z : BookCon). z.active ≡ true) same c.if-constraint.true)
+    let book = marked c.args.book.now c.args.marks.now in
+    let is = marked_is_book c.args.book.now c.args.marks.now c.constraints-place-end.ensures.valid in
+    not_yet book is c.loop-place.place (record d { active = true })
+    (marked_here c.args.book.now.constraints c.args.marks.now c.loop-place.place d true c.requires.whole too c.if-marks-place.true)
+    c.loop-place.engine.state.active c.loop-place.invariant.1 refl
 
 pub loop-place-preserved : goal.loop-place-preserved
 loop-place-preserved c =
-    let book = c.args.book.now in
+    let book = marked c.args.book.now c.args.marks.now in
+    let is = marked_is_book c.args.book.now c.args.marks.now c.constraints-place-end.ensures.valid in
     let place = c.loop-place.place in
-    let entry = c.constraint.result.now in
-    let at = c.constraint.ensures.at in
-    elim c.if-constraint.branch [
-      | then-constraint+in_ok-post w ↦
+    let found = entry_within c.args.book.now.constraints place (omega (arith, c.loop-place-test.true, c.constraints-place-end.ensures.count)) in
+    elim c.if-marks-place.branch [
+      | then-marks-place+in_ok-post w ↦
+          let entry : BookCon = record found.0 { active = true } in
+          let at = marked_here c.args.book.now.constraints c.args.marks.now place found.0 true c.requires.whole found.1 w.if-marks-place.true in
           subst (λ (v : View). (v.state.initial ≡ initial_of book) × AreSame v.state.active (actives (take (place + 1) book.constraints))) (sym w.engine-is)
-          (filled_next book c.constraints-place-end.ensures.valid place entry at c.loop-place.engine.state w.post.new.engine.state c.loop-place.invariant.0 c.loop-place.invariant.1 w.if-constraint.true (w.in_ok-post.ensures entry at))
-      | else-constraint w ↦
+          (filled_next book is place entry at c.loop-place.engine.state w.post.new.engine.state c.loop-place.invariant.0 c.loop-place.invariant.1 refl (w.in_ok-post.ensures found.0 found.1))
+      | else-marks-place w ↦
+          let entry : BookCon = record found.0 { active = false } in
+          let at = marked_here c.args.book.now.constraints c.args.marks.now place found.0 false c.requires.whole found.1 w.if-marks-place.false in
           subst (λ (v : View). (v.state.initial ≡ initial_of book) × AreSame v.state.active (actives (take (place + 1) book.constraints))) (sym w.engine-is)
-          (c.loop-place.invariant.0, filled_relaxed book c.constraints-place-end.ensures.valid place entry at c.loop-place.engine.state.active c.loop-place.invariant.1 w.if-constraint.false)
+          (c.loop-place.invariant.0, filled_relaxed book is place entry at c.loop-place.engine.state.active c.loop-place.invariant.1 refl)
     ]
 
 pub returns-clause-active : goal.returns-clause-active
 returns-clause-active c =
-    filled_all c.args.book.now c.loop-place.place c.loop-place.engine.state.active (omega (arith, c.loop-place-test.false, c.constraints-place-end.ensures.count)) c.loop-place.invariant.1
+    let book = marked c.args.book.now c.args.marks.now in
+    filled_all book c.loop-place.place c.loop-place.engine.state.active
+    (omega (arith, c.loop-place-test.false, c.constraints-place-end.ensures.count, marked_length c.args.book.now.constraints c.args.marks.now)) c.loop-place.invariant.1

@@ -1,4 +1,4 @@
-use Rattle.palm_reduce.proofs.reduce.minimal_conflict.Given as goal
+use Rattle.palm_reduce.proofs.reduce.minimal_conflict_among.Given as goal
 
 -- the ledger is the one that the blank names
 abbrev pub ghosts-reduce : goal.ghosts-reduce

@@ -1,0 +1,5 @@
+use Rattle.palm_prefer.proofs.Keeping.{conflicts_tight}
+use Rattle.palm_prefer.proofs.laws.conflicts_are_tight.Goals as goal
+
+pub returns : goal.returns
+returns c = conflicts_tight

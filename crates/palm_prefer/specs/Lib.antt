@@ -1,0 +1,4 @@
+pub mod Laws
+pub mod Preferred
+pub mod Softs
+pub mod Walked

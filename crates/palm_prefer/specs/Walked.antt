@@ -1,0 +1,29 @@
+-- How far a walk has come.
+use Rattle.std.specs.Prelude.{◌≡◌, ℕ, false, List, [], length, map, slice_index_or}
+use Rattle.palm_book.specs.Book.{Contents, active_of, initial_of}
+use Rattle.palm_book.specs.declared.book.BookCon.{BookCon}
+use Rattle.palm_model.specs.Log.{Active}
+use Rattle.palm_model.specs.declared.constraint.Con.TheVariants.{Differ}
+use Rattle.palm_reduce.specs.Marked.{marked}
+use Rattle.palm_reduce.specs.Walked.{AreSame}
+use Rattle.palm_prefer.specs.Preferred.{Walks}
+use Rattle.palm_prefer.specs.declared.order.Soft.{Soft}
+use Rattle.palm_prefer.specs.declared.walking.Walk.{Walk}
+
+-- the constraint at a place, and one over nothing behind the last one
+abbrev pub con_at : List BookCon → ℕ → BookCon
+con_at constraints place = slice_index_or constraints place (record { number = 0; name = []; active = false; con = Differ [] })
+
+-- the constraints at the places
+abbrev pub cons_at : List BookCon → List Soft → List BookCon
+cons_at constraints softs = map (λ soft. con_at constraints soft.place) softs
+
+-- there is a mark for each constraint, and the engine has exactly the marked ones
+pub record FitsBook (book : Contents) (w : Walk) : Type 0 where
+  pub whole : length w.marks.items ≡ length book.constraints
+  pub initial : w.engine.state.initial ≡ initial_of book
+  pub active : AreSame w.engine.state.active (active_of (marked book w.marks.items))
+
+-- from the first constraints on these were walked; the marked ones are kept
+abbrev pub HasWalked : Contents → List Active → List BookCon → Walk → Type 0
+HasWalked book first walked w = Walks (initial_of book) first walked (active_of (marked book w.marks.items)) w.left
