@@ -43,6 +43,8 @@ def goes_on(line, first):
     form = (line.split() or [""])[0]
     if form == "minimize":
         return first.startswith("best ")
+    if form == "preferred":
+        return first.split()[:1] == ["keep"]
     return form in MANY and first not in SINGLE and not first.startswith("error ")
 
 

@@ -16,7 +16,7 @@ use Rattle.palm_lang.specs.declared.reply.Fixed.TheVariants.{Done, Contradiction
 use Rattle.palm_lang.specs.declared.reply.Refusal.{Refusal}
 use Rattle.palm_lang.specs.declared.reply.Refusal.TheVariants.{E1, E2, E3, E4, E5, E6, E7, E8, E9, E10, E11, E12}
 use Rattle.palm_lang.specs.declared.reply.Lead.{Lead}
-use Rattle.palm_lang.specs.declared.reply.Lead.TheVariants.{Because, Conflict, NoSolution, Proved}
+use Rattle.palm_lang.specs.declared.reply.Lead.TheVariants.{Because, Conflict, NoSolution, Proved, HardConflict, Keep}
 
 -- a reply of one word
 abbrev pub fixed_word : Fixed → List ℕ
@@ -96,10 +96,16 @@ lead_word Because = codes "because"
 lead_word Conflict = codes "conflict"
 lead_word NoSolution = codes "none"
 lead_word Proved = codes "proved by"
+lead_word HardConflict = codes "hard conflict"
+lead_word Keep = codes "keep"
 
 -- names of constraints behind what leads them
 abbrev pub names_line : Lead → List (List ℕ) → List ℕ
 names_line lead names = ended (spaced (lead_word lead ∷ names))
+
+-- a constraint that is left out, and the names of those with which it is a conflict, itself among them
+abbrev pub leave_line : List ℕ → List (List ℕ) → List ℕ
+leave_line name names = ended (spaced (codes "leave" ∷ name ∷ codes "conflict" ∷ names))
 
 -- NAME=VALUE
 abbrev pub assigned_text : BookVar × ℤ → List ℕ

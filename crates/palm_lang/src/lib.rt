@@ -17,9 +17,9 @@ pub use palm_read::{
     NameTermList, Shape, Token, TokenKind, beyond, next_feed, parse_line, token, without_return,
 };
 pub use print::{
-    print_best, print_con, print_domain, print_entry, print_fixed, print_found, print_line,
-    print_names, print_ran, print_refusal, print_removal, print_spent, print_spent_best, print_var,
-    put_spaced_int, put_spaced_name, put_spaced_value, put_text,
+    print_best, print_con, print_domain, print_entry, print_fixed, print_found, print_leave,
+    print_line, print_names, print_ran, print_refusal, print_removal, print_spent,
+    print_spent_best, print_var, put_spaced_int, put_spaced_name, put_spaced_value, put_text,
 };
 pub use reply::{Fixed, Lead, Refusal};
 pub use stop::WriteStop;

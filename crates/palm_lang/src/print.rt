@@ -4,7 +4,7 @@
 ghost use Rattle.std.specs.Prelude.{◌≡◌, ◌<◌, length, map, take, All, OnOk, OnErr};
 ghost use Rattle.palm_read.specs.Text.{text_of};
 ghost use Rattle.palm_book.specs.Book.{number_name, user_name, IsUser, HasNumber};
-ghost use Rattle.palm_lang.specs.Reply.{con_text, fixed_text, refusal_text, ran_text, domain_line, var_line, entry_at, removal_line, names_line, found_line, best_line, spent_line, spent_best_line};
+ghost use Rattle.palm_lang.specs.Reply.{con_text, fixed_text, refusal_text, ran_text, domain_line, var_line, entry_at, removal_line, names_line, leave_line, found_line, best_line, spent_line, spent_best_line};
 ghost use Rattle.palm_lang.specs.Print.{Appends};
 ghost use Rattle.palm_model.specs.Constraint.{scope};
 ghost use Rattle.palm_model.specs.Domains.{Ascends};
@@ -27,8 +27,8 @@ mod words;
 use crate::print::cons::put_con;
 use crate::print::lines::put_line;
 use crate::print::replies::{
-    fixed_word, put_assigned_line, put_domain, put_entry, put_names, put_ran, put_removal,
-    put_reply, put_spent, put_spent_best, put_var, refusal_words,
+    fixed_word, put_assigned_line, put_domain, put_entry, put_leave, put_names, put_ran,
+    put_removal, put_reply, put_spent, put_spent_best, put_var, refusal_words,
 };
 pub use crate::print::words::{put_spaced_int, put_spaced_name, put_spaced_value, put_text};
 use crate::reply::{Fixed, Lead, Refusal};
@@ -155,6 +155,22 @@ pub fn print_names(
 {
     let length = out.len();
     let outcome = put_names(book, lead, users, out);
+    settled(outcome, length, out)
+}
+
+/// Prints that a constraint is left out, and the names of those with which it is a conflict.
+pub fn print_leave(
+    book: &Book,
+    number: u32,
+    users: &CidList,
+    out: &mut Vec<u8>,
+) -> Result<(), NoMemory>
+    requires constraint { HasNumber book.now number }
+    requires users { All (IsUser book.now) users.now }
+    ensures { Appends out.old.items out.new.items (leave_line (number_name book.now.constraints number) (map (user_name book.now.constraints) users.now)) result }
+{
+    let length = out.len();
+    let outcome = put_leave(book, number, users, out);
     settled(outcome, length, out)
 }
 

@@ -59,4 +59,8 @@ pub enum Lead {
     NoSolution,
     /// `proved by`
     Proved,
+    /// `hard conflict`
+    HardConflict,
+    /// `keep`
+    Keep,
 }

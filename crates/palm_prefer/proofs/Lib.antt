@@ -1,7 +1,6 @@
+pub mod cited
 mod Joining
-mod Keeping
 mod Moving
 mod Naming
 mod Ordering
-mod Uniqueness
 mod Weighing

@@ -1,8 +1,8 @@
 -- The engine of a walk, and its laws.
 use Rattle.std.proofs.Common.{◌≡◌, ℕ, List, [], ◌∷◌, ◌++◌, filter, get_or, set, length, slice_get, Some, Contains, Bool, true, false, inl, inr, refl, sym, ap, ◌∙◌, subst, ◌⊎◌}
-use Rattle.std.proofs.lemmas.List.{set-get_or, set-set}
+use Rattle.std.proofs.lemmas.List.{get_or-set_other, set-get_or, set-set}
 use Rattle.std.proofs.lemmas.Option.{get_or_from_slice_get}
-use Rattle.std.proofs.lemmas.Bool.{false≢true}
+use Rattle.std.proofs.lemmas.Bool.{cases_eq, false≢true}
 use Rattle.palm_base.proofs.cited.Members.{filter_member, member_cases, member_here, member_same, member_unmap}
 use Rattle.palm_base.specs.declared.terms.Cid.{Cid}
 use Rattle.palm_base.specs.Tells.{Tells}
@@ -16,8 +16,10 @@ use Rattle.palm_model.specs.Minimal.{AreConflict, IsMinimalConflict}
 use Rattle.palm_model.specs.State.{EngineState}
 use Rattle.palm_book.specs.Book.{Contents, IsBook, active_of, initial_of, user_at}
 use Rattle.palm_book.specs.declared.book.BookCon.{BookCon}
+use Rattle.palm_reduce.specs.Kept.{AreKept, IsKeptAt}
 use Rattle.palm_reduce.specs.Marked.{marked}
 use Rattle.palm_reduce.specs.Walked.{AreSame}
+use Rattle.palm_reduce.specs.declared.kinds.Kinds.{Kinds}
 use Rattle.palm_prefer.specs.Preferred.{Walks}
 use Rattle.palm_prefer.specs.Preferred.Walks.{joins, leaves}
 use Rattle.palm_prefer.specs.declared.answer.LeftOut.{LeftOut}
@@ -94,6 +96,13 @@ same_from xs ys zs e same b = (λ m. (same b).0 (subst (λ (z : List Active). Co
 same_to : (xs ys zs : List Active) → AreSame xs ys → ys ≡ zs → AreSame xs zs
 same_to xs ys zs same e b = (λ m. subst (λ (z : List Active). Contains z b) e ((same b).0 m), λ m. (same b).1 (subst (λ (z : List Active). Contains z b) (sym e) m))
 
+-- one more filter is kept
+pub kept_more : (book : Contents) (kinds : Kinds) (marks : List Bool) (place : ℕ) → AreKept book marks kinds → IsKeptAt book place kinds → AreKept book (set marks place true) kinds
+kept_more book kinds marks place kept here other on = elim (cases_eq other place) [
+  | inl e ↦ subst (λ (n : ℕ). IsKeptAt book n kinds) (sym e) here
+  | inr n ↦ kept other (sym (get_or-set_other marks place other true false n) ∙ on)
+]
+
 pub entry_same : (cs : List BookCon) (i : ℕ) (c d : BookCon) → slice_get cs i ≡ Some c → slice_get cs i ≡ Some d → c ≡ d
 entry_same cs i c d at too = sym (get_or_from_slice_get cs i c c at) ∙ get_or_from_slice_get cs i d c too
 
@@ -106,6 +115,9 @@ module _ (book : Contents) (is : IsBook book) (marks : List Bool) (place : ℕ) 
 
   pub marks_back : set (set marks place true) place false ≡ marks
   marks_back = set-set marks place true false ∙ ap (λ (b : Bool). set marks place b) (sym off) ∙ set-get_or marks place false
+
+  pub kept_back : (kinds : Kinds) → AreKept book marks kinds → AreKept book (set (set marks place true) place false) kinds
+  kept_back kinds kept = subst (λ (z : List Bool). AreKept book z kinds) (sym marks_back) kept
 
   module _ (whole : length marks ≡ length book.constraints) where
     pub more_kept : active_of (marked book (set marks place true)) ≡ with_posted (user_at c) kept

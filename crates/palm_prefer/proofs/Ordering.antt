@@ -1,5 +1,5 @@
 -- The active constraints with a weight, in order.
-use Rattle.std.proofs.Common.{◌≡◌, ◌≢◌, ◌<◌, ℕ, Bool, true, false, List, [], ◌∷◌, ◌++◌, map, get_or, length, slice_get, Some, All, AllPairs, Contains, Ordering, nat_cmp, is_lt, eqb, eq-eqb, eqb-true, ◌⊎◌, inl, inr, refl, sym, ap, ◌∙◌, subst, arith}
+use Rattle.std.proofs.Common.{◌≡◌, ◌≢◌, ◌<◌, ℕ, zero, suc, Bool, ◌&&◌, not, true, false, List, [], ◌∷◌, ◌++◌, map, get_or, length, slice_get, Some, All, AllPairs, Contains, Ordering, nat_cmp, is_lt, eqb, eq-eqb, eqb-true, ◌⊎◌, inl, inr, refl, sym, ap, ◌∙◌, subst, arith}
 use Rattle.std.specs.Cmp.{IsTotalOrder}
 use Rattle.std.specs.List.Sorted.{IsPermutation, IsSortedBy}
 use Rattle.std.specs.Ordering.{ordering_then}
@@ -10,14 +10,16 @@ use Rattle.std.proofs.lemmas.List.Quantifiers.{all_pairs_push}
 use Rattle.std.proofs.lemmas.Map.Keys.{IsDistinct-IsPermutation}
 use Rattle.std.proofs.lemmas.Map.Made.{AllPairs-from_IsDistinct, IsDistinct-from_AllPairs}
 use Rattle.std.proofs.lemmas.List.{get_or-map, length-map}
-use Rattle.std.proofs.lemmas.List.Elements.{Contains-get_or, Contains-push_cases, Contains-append_left, Contains-push}
+use Rattle.std.proofs.lemmas.List.Elements.{All-weaker, Contains-get_or, Contains-push_cases, Contains-append_left, Contains-push}
 use Rattle.std.proofs.lemmas.List.Sorted.{Contains-permutation, IsPermutation-map, IsPermutation-sym, ranks_by, sorted_far}
 use Rattle.std.proofs.lemmas.Option.{get_or_from_slice_get, slice_get_within}
 use Rattle.palm_base.proofs.cited.Members.{all_members, member_get, member_map, member_nil, member_place, member_same, member_unmap}
 use Rattle.palm_book.specs.Book.{Contents, active_of}
 use Rattle.palm_book.specs.declared.book.BookCon.{BookCon}
+use Rattle.palm_reduce.specs.Kept.{AreKept, IsKeptAt}
 use Rattle.palm_reduce.specs.Marked.{marked}
-use Rattle.palm_prefer.specs.Preferred.{AreWeights, GoesBefore, IsOrder, IsSoft, hard, is_hard, weight_of}
+use Rattle.palm_reduce.specs.declared.kinds.Kinds.{Kinds}
+use Rattle.palm_prefer.specs.Preferred.{AreWeights, GoesBefore, IsOrder, IsSoft, has_weight, hard, is_hard, weight_of}
 use Rattle.palm_prefer.specs.Softs.{AreOrdered, AreSofts, IsSoftFor}
 use Rattle.palm_prefer.specs.Walked.{con_at, cons_at}
 use Rattle.palm_prefer.specs.declared.order.Soft.{Soft}
@@ -186,6 +188,33 @@ softs_unmarked cs ws softs marks are is = all_members (λ (s : Soft). get_or mar
     ∙ get_or-map (is_hard ws) cs s.place con false (slice_get_within cs s.place con r.2.at)
     ∙ ap (is_hard ws) (get_or_from_slice_get cs s.place con con r.2.at)
     ∙ weighed_soft ws con (weight_there ws con r.0 r.1 (sym r.2.numbered)))
+
+-- each stands where a constraint is active
+pub softs_active : (cs : List BookCon) (ws : List Weight) (softs : List Soft) → AreSofts cs ws softs → All (λ s. get_or (map (λ (c : BookCon). c.active) cs) s.place false ≡ true) softs
+softs_active cs ws softs are = all_members (λ (s : Soft). get_or (map (λ (c : BookCon). c.active) cs) s.place false ≡ true) softs (λ s m.
+    let r = are.sound s m in
+    let con = r.2.con in
+    get_or-map (λ (c : BookCon). c.active) cs s.place con false (slice_get_within cs s.place con r.2.at)
+    ∙ ap (λ (c : BookCon). c.active) (get_or_from_slice_get cs s.place con con r.2.at)
+    ∙ r.2.active)
+
+-- those without a weight are among the active ones
+hard_active : (ws : List Weight) (cs : List BookCon) (place : ℕ) → get_or (map (is_hard ws) cs) place false ≡ true → get_or (map (λ (c : BookCon). c.active) cs) place false ≡ true
+hard_active ws [] place on = absurd (false≢true on)
+hard_active ws (c ∷ cs) zero on = both_left c.active (not (has_weight ws c)) on
+  where
+    both_left : (a b : Bool) → (a && b) ≡ true → a ≡ true
+    both_left true b e = refl
+    both_left false b e = e
+hard_active ws (c ∷ cs) (suc place) on = hard_active ws cs place on
+
+pub hard_kept : (book : Contents) (ws : List Weight) (kinds : Kinds) (marks : List Bool) → marks ≡ map (is_hard ws) book.constraints → AreKept book (map (λ (c : BookCon). c.active) book.constraints) kinds → AreKept book marks kinds
+hard_kept book ws kinds marks is kept place on = kept place (hard_active ws book.constraints place (subst (λ (z : List Bool). get_or z place false ≡ true) is on))
+
+pub softs_kept : (book : Contents) (ws : List Weight) (kinds : Kinds) (softs : List Soft) → AreSofts book.constraints ws softs → AreKept book (map (λ (c : BookCon). c.active) book.constraints) kinds → All (λ s. IsKeptAt book s.place kinds) softs
+softs_kept book ws kinds softs are kept =
+    All-weaker (λ (s : Soft). get_or (map (λ (c : BookCon). c.active) book.constraints) s.place false ≡ true) (λ (s : Soft). IsKeptAt book s.place kinds) (λ s on. kept s.place on) softs
+    (softs_active book.constraints ws softs are)
 
 -- the marked ones are those without a weight
 pub hard_book : (book : Contents) (ws : List Weight) (marks : List Bool) → marks ≡ map (is_hard ws) book.constraints → active_of (marked book marks) ≡ hard book ws

@@ -4,8 +4,10 @@ use Rattle.palm_book.specs.Book.{Contents, active_of, initial_of}
 use Rattle.palm_book.specs.declared.book.BookCon.{BookCon}
 use Rattle.palm_model.specs.Log.{Active}
 use Rattle.palm_model.specs.declared.constraint.Con.TheVariants.{Differ}
+use Rattle.palm_reduce.specs.Kept.{AreKept}
 use Rattle.palm_reduce.specs.Marked.{marked}
 use Rattle.palm_reduce.specs.Walked.{AreSame}
+use Rattle.palm_reduce.specs.declared.kinds.Kinds.{Kinds}
 use Rattle.palm_prefer.specs.Preferred.{Walks}
 use Rattle.palm_prefer.specs.declared.order.Soft.{Soft}
 use Rattle.palm_prefer.specs.declared.walking.Walk.{Walk}
@@ -18,9 +20,10 @@ con_at constraints place = slice_index_or constraints place (record { number = 0
 abbrev pub cons_at : List BookCon → List Soft → List BookCon
 cons_at constraints softs = map (λ soft. con_at constraints soft.place) softs
 
--- there is a mark for each constraint, and the engine has exactly the marked ones
-pub record FitsBook (book : Contents) (w : Walk) : Type 0 where
+-- there is a mark for each constraint, a filter of each marked one is kept, and the engine has exactly these
+pub record FitsBook (book : Contents) (kinds : Kinds) (w : Walk) : Type 0 where
   pub whole : length w.marks.items ≡ length book.constraints
+  pub kept : AreKept book w.marks.items kinds
   pub initial : w.engine.state.initial ≡ initial_of book
   pub active : AreSame w.engine.state.active (active_of (marked book w.marks.items))
 

@@ -2,6 +2,8 @@
 ghost use Rattle.std.specs.Prelude.{◌≡◌, ◌<◌, map, IfOk};
 ghost use Rattle.palm_book.specs.Book.{IsBook, initial_of};
 ghost use Rattle.palm_model.specs.Minimal.{AreConflict};
+ghost use Rattle.palm_reduce.specs.Kept.{AreKept};
+ghost use Rattle.palm_reduce.specs.Walked.{HasMarked};
 ghost use Rattle.palm_prefer.specs.Preferred.{AreWeights, IsPreferred, hard, is_hard};
 
 use crate::answer::Preferred;
@@ -10,36 +12,68 @@ use crate::walking::{marked_cids, walk_over};
 use crate::weights::{WeightList, hard_marks};
 use palm_base::{NoMemory, Steps};
 use palm_book::Book;
-use palm_reduce::minimal_conflict_among;
+use palm_engine::Engine;
+use palm_reduce::{Kinds, Lent, active_marks, engine_of, minimal_conflict_in};
 use std::alloc::Global;
 use std::marker::Brand;
 use std::sync::ledger::{Blank, Ledger};
 
-/// What is kept from the marked constraints on, with a counter of its own.
-fn keep_most<L: Ledger>(
+/// What is kept from the marked constraints on, which an engine has.
+fn keep_most<'a, L: Ledger>(
     alloc: Global,
     book: &Book,
+    kinds: &'a Kinds,
     weights: &WeightList,
+    engine: Engine<Lent<'a>>,
     marks: Vec<bool>,
-    blank: Blank,
+    steps: &mut Steps<L>,
 ) -> Result<Preferred, NoMemory>
-    requires named { blank.name ≡ L.name }
-    requires parts { blank.parts ≡ L.parts }
-    requires shared { 0 < L.parts }
     requires book { IsBook book.now }
     requires weights { AreWeights book.now weights.now }
+    requires kept { AreKept book.now (map (λ c. c.active) book.now.constraints) kinds.now }
     requires marks { marks.items ≡ map (is_hard weights.now) book.now.constraints }
+    requires filled { HasMarked book.now marks.items engine.state }
     requires free { AreConflict (initial_of book.now) (hard book.now weights.now) → ⊥ }
     ensures { IfOk result (IsPreferred book.now weights.now) }
 {
-    let mut steps = Steps::<L>::start(blank);
     let order = ordered(alloc, book, weights)?;
-    let walk = walk_over(alloc, book, order.as_slice(), marks, &mut steps)?;
+    let walk = walk_over(alloc, book, kinds, order.as_slice(), engine, marks, steps)?;
     let keep = marked_cids(alloc, book, walk.marks.as_slice())?;
     Ok(Preferred::Kept {
         keep,
         left: walk.left,
     })
+}
+
+/// What is preferred, with the filters of the active constraints and a counter of its own.
+fn choose<L: Ledger>(
+    alloc: Global,
+    book: &Book,
+    kinds: &Kinds,
+    weights: &WeightList,
+    blank: Blank,
+) -> Result<Preferred, NoMemory>
+    requires named { blank.name ≡ L.name }
+    requires parts { blank.parts ≡ L.parts }
+    requires shared { 0 < L.parts }
+    requires weights { AreWeights book.now weights.now }
+    requires kept { AreKept book.now (map (λ c. c.active) book.now.constraints) kinds.now }
+    ensures { IfOk result (IsPreferred book.now weights.now) }
+{
+    let mut steps = Steps::<L>::start(blank);
+    let marks = hard_marks(alloc, book, weights)?;
+    let mut engine = engine_of(alloc, book, kinds, marks.as_slice())?;
+    match minimal_conflict_in(
+        alloc,
+        book,
+        kinds,
+        marks.as_slice(),
+        &mut engine,
+        &mut steps,
+    )? {
+        Some(conflict) => Ok(Preferred::Hard(conflict)),
+        None => keep_most(alloc, book, kinds, weights, engine, marks, &mut steps),
+    }
 }
 
 /// What is preferred of the active constraints of a book, by these weights, which are of different constraints of the
@@ -52,9 +86,7 @@ pub fn preferred(alloc: Global, book: &Book, weights: &WeightList) -> Result<Pre
     requires { AreWeights book.now weights.now }
     ensures { IfOk result (IsPreferred book.now weights.now) }
 {
-    let marks = hard_marks(alloc, book, weights)?;
-    match minimal_conflict_among(alloc, book, marks.as_slice())? {
-        Some(conflict) => Ok(Preferred::Hard(conflict)),
-        None => keep_most::<Brand>(alloc, book, weights, marks, Blank::new(1)),
-    }
+    let marks = active_marks(alloc, book)?;
+    let kinds = Kinds::new(alloc, book, marks.as_slice())?;
+    choose::<Brand>(alloc, book, &kinds, weights, Blank::new(1))
 }

@@ -1,9 +1,12 @@
 //! The walk over the constraints with a weight.
-ghost use Rattle.std.specs.Prelude.{◌≡◌, ◌++◌, ◌<◌, ◌∷◌, ◌≢◌, [], ℕ, List, All, AllPairs, false, length, slice_index_or, slice_get, Some, IfOk, OnOk};
-ghost use Rattle.palm_book.specs.Book.{IsBook, active_of};
+ghost use Rattle.std.specs.Prelude.{◌≡◌, ◌++◌, ◌<◌, ◌∷◌, ◌≢◌, [], ℕ, List, All, AllPairs, false, length, slice_index_or, slice_get, MatchOption, Some, IfOk, OnOk};
+ghost use Rattle.palm_book.specs.Book.{IsBook, active_of, initial_of};
 ghost use Rattle.palm_book.specs.declared.book.BookCon.{BookCon as BookConTerm};
 ghost use Rattle.palm_model.specs.Log.{Active, cids_of};
+ghost use Rattle.palm_model.specs.Minimal.{AreConflict, IsMinimalConflict};
+ghost use Rattle.palm_reduce.specs.Kept.{AreKept, IsKeptAt};
 ghost use Rattle.palm_reduce.specs.Marked.{marked};
+ghost use Rattle.palm_reduce.specs.Walked.{HasMarked};
 ghost use Rattle.palm_prefer.specs.Walked.{FitsBook, HasWalked, cons_at};
 
 use crate::answer::{LeftList, LeftOut};
@@ -11,48 +14,67 @@ use crate::order::Soft;
 use palm_base::{Cid, CidList, NoMemory, Steps};
 use palm_book::Book;
 use palm_engine::Engine;
-use palm_kind::Kind;
-use palm_reduce::{are_conflict, engine_of, minimal_conflict_among, post};
+use palm_reduce::{Kinds, Lent, are_conflict, engine_of, minimal_conflict_in, post};
 use std::alloc::Global;
 use std::sync::ledger::Ledger;
 
 /// How far a walk has come.
 #[derive(Drop)]
-pub(crate) struct Walk {
+pub(crate) struct Walk<'a> {
     /// The kept constraints.
-    engine: Engine<Kind>,
+    engine: Engine<Lent<'a>>,
     /// Their marks.
     pub(crate) marks: Vec<bool>,
     /// Those that are left out.
     pub(crate) left: LeftList,
 }
 
-/// Takes the walk past the constraint at a place: it is kept where it makes no conflict with those kept before it, and
-/// left out elsewhere.
-fn pass<L: Ledger>(
+/// The minimal conflict of the marked constraints, by an engine of its own.
+fn conflict_of<L: Ledger>(
     alloc: Global,
     book: &Book,
+    kinds: &Kinds,
+    marks: &[bool],
+    steps: &mut Steps<L>,
+) -> Result<Option<CidList>, NoMemory>
+    requires whole { length marks.now ≡ length book.now.constraints }
+    requires kept { AreKept book.now marks.now kinds.now }
+    ensures { IfOk result (λ answer. MatchOption answer
+        (AreConflict (initial_of book.now) (active_of (marked book.now marks.now)) → ⊥)
+        (IsMinimalConflict (initial_of book.now) (active_of (marked book.now marks.now)))) }
+{
+    let mut engine = engine_of(alloc, book, kinds, marks)?;
+    minimal_conflict_in(alloc, book, kinds, marks, &mut engine, steps)
+}
+
+/// Takes the walk past the constraint at a place: it is kept where it makes no conflict with those kept before it, and
+/// left out elsewhere.
+fn pass<'a, L: Ledger>(
+    alloc: Global,
+    book: &Book,
+    kinds: &'a Kinds,
     place: usize,
-    walk: &mut Walk,
+    walk: &mut Walk<'a>,
     steps: &mut Steps<L>,
 ) -> Result<(), NoMemory>
     requires book { IsBook book.now }
     requires within { place < length book.now.constraints }
-    requires fits { FitsBook book.now walk.old }
+    requires kept { IsKeptAt book.now place kinds.now }
+    requires fits { FitsBook book.now kinds.now walk.old }
     requires unmarked { slice_index_or walk.old.marks.items place false ≡ false }
     ensures walked { OnOk result ((start : List Active) (walked : List BookConTerm) (c : BookConTerm) → slice_get book.now.constraints place ≡ Some c
         → HasWalked book.now start walked walk.old → HasWalked book.now start (walked ++ c ∷ []) walk.new) }
-    ensures fits { OnOk result (FitsBook book.now walk.new) }
+    ensures fits { OnOk result (FitsBook book.now kinds.now walk.new) }
     ensures others { OnOk result ((other : ℕ) → other ≢ place → slice_index_or walk.new.marks.items other false ≡ slice_index_or walk.old.marks.items other false) }
 {
-    post(alloc, &mut walk.engine, book, place)?;
+    post(&mut walk.engine, book, kinds, place)?;
     walk.marks[place] = true;
     if !are_conflict(&mut walk.engine, steps)? {
         return Ok(());
     }
     let number = book.constraint(place).number;
     walk.engine.withdraw(Cid::User(number));
-    match minimal_conflict_among(alloc, book, walk.marks.as_slice())? {
+    match conflict_of(alloc, book, kinds, walk.marks.as_slice(), steps)? {
         Some(conflict) => {
             walk.marks[place] = false;
             walk.left.push(LeftOut { number, conflict })?;
@@ -62,30 +84,34 @@ fn pass<L: Ledger>(
     }
 }
 
-/// Walks over constraints of the book in this order, from the marked ones on.
-pub(crate) fn walk_over<L: Ledger>(
+/// Walks over constraints of the book in this order, from the marked ones on, which an engine has.
+pub(crate) fn walk_over<'a, L: Ledger>(
     alloc: Global,
     book: &Book,
+    kinds: &'a Kinds,
     order: &[Soft],
+    engine: Engine<Lent<'a>>,
     marks: Vec<bool>,
     steps: &mut Steps<L>,
-) -> Result<Walk, NoMemory>
+) -> Result<Walk<'a>, NoMemory>
     requires book { IsBook book.now }
     requires whole { length marks.items ≡ length book.now.constraints }
+    requires kept { AreKept book.now marks.items kinds.now }
+    requires filled { HasMarked book.now marks.items engine.state }
     requires within { All (λ soft. soft.place < length book.now.constraints) order.now }
+    requires lent { All (λ soft. IsKeptAt book.now soft.place kinds.now) order.now }
     requires unmarked { All (λ soft. slice_index_or marks.items soft.place false ≡ false) order.now }
     requires different { AllPairs (λ soft other. soft.place ≢ other.place) order.now }
-    ensures fits { IfOk result (λ walk. FitsBook book.now walk) }
+    ensures fits { IfOk result (λ walk. FitsBook book.now kinds.now walk) }
     ensures walked { IfOk result (λ walk. HasWalked book.now (active_of (marked book.now marks.items)) (cons_at book.now.constraints order.now) walk) }
 {
-    let engine = engine_of(alloc, book, marks.as_slice())?;
     let mut walk = Walk {
         engine,
         marks,
         left: LeftList::new(alloc),
     };
     for rank in 0..order.len() {
-        pass(alloc, book, order[rank].place, &mut walk, steps)?;
+        pass(alloc, book, kinds, order[rank].place, &mut walk, steps)?;
     }
     Ok(walk)
 }

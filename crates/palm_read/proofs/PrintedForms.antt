@@ -8,7 +8,7 @@ use Rattle.std.proofs.lemmas.List.{length-map, length-append, append-nil}
 use Rattle.std.proofs.lemmas.List.Elements.{All-weaker}
 use Rattle.palm_read.specs.Name.{IsNameText}
 use Rattle.palm_read.specs.Domain.{DomainForm, Interval, Members, domain_pieces, domain_numbers, IsLarge, set_of, count_in, domain_of, domain_text}
-use Rattle.palm_read.specs.Form.{ShapeForm, CompareVarForm, CompareConstForm, LinearForm, TableForm, ElementForm, CountForm, DifferForm, WithinForm, Form, HeaderForm, DeclareForm, DeclareInForm, AddForm, RelaxForm, EnforceForm, RetractForm, DomainsForm, DomainOfForm, ListForm, LogForm, WhyForm, ConflictForm, MinimalConflictForm, MinimalForm, PauseForm, ResumeForm, StepForm, SolveDbtForm, SolveRepairForm, ProveForm, MinimizeForm, CertForm, CertConflictForm, GuideForm, GuideNoneForm, OrderForm, OrderNoneForm, DropGuideForm, DropOrderForm, QuitForm}
+use Rattle.palm_read.specs.Form.{ShapeForm, CompareVarForm, CompareConstForm, LinearForm, TableForm, ElementForm, CountForm, DifferForm, WithinForm, Form, HeaderForm, DeclareForm, DeclareInForm, AddForm, RelaxForm, EnforceForm, RetractForm, DomainsForm, DomainOfForm, ListForm, LogForm, WhyForm, ConflictForm, MinimalConflictForm, MinimalForm, PauseForm, ResumeForm, StepForm, SolveDbtForm, SolveRepairForm, ProveForm, MinimizeForm, PreferForm, PreferNoneForm, PreferredForm, CertForm, CertConflictForm, GuideForm, GuideNoneForm, OrderForm, OrderNoneForm, DropGuideForm, DropOrderForm, QuitForm}
 use Rattle.palm_read.specs.Linear.{TermForm, linear_terms, term_of}
 use Rattle.palm_read.specs.Count.{target_pieces, line_target_names, line_target}
 use Rattle.palm_read.specs.Grammar.{shape_pieces, budget_pieces, pieces, IsProper, IsProperShape}
@@ -154,6 +154,12 @@ words_line (ProveForm b) p some w h near =
 words_line (MinimizeForm target b) p some w h near =
     let budget = words_keyword (codes "budget") refl (words_number (lays_counted NO_BUDGET b (omega arith) w.0) words_none) in
     words_weaker 50000 (words_keyword (codes "minimize") refl (words_name target h.0 budget)) (omega arith)
+words_line (PreferForm name z) p some w h near =
+    let weight = words_number (lays_counted 1000000 z (omega arith) w.0) words_none in
+    words_weaker 50000 (words_keyword (codes "prefer") refl (words_name name h.0 weight)) (omega arith)
+words_line (PreferNoneForm name) p some w h near =
+    words_weaker 50000 (words_keyword (codes "prefer") refl (words_name name h.0 (words_keyword (codes "none") refl words_none))) (omega arith)
+words_line PreferredForm p some w h near = words_weaker 50000 (words_alone (codes "preferred") refl (omega arith)) (omega arith)
 words_line (CertForm name v) p some w h near = words_weaker 50000 (words_pair (codes "cert") name v refl (omega arith) h.0 w.0) (omega arith)
 words_line CertConflictForm p some w h near = words_weaker 50000 (words_two (codes "cert") (codes "conflict") refl refl (omega arith) (omega arith)) (omega arith)
 words_line (GuideForm z) p some w h near = words_weaker 50000 (words_number_of (codes "guide") z refl (omega arith) w.0) (omega arith)

@@ -12,7 +12,7 @@ use Rattle.palm_read.specs.Comparison.{offset_numbers, OffsetForm, NoOffset, Plu
 use Rattle.palm_read.specs.Count.{IsSoundTarget, target_numbers, TargetForm, Number, Variable, line_target}
 use Rattle.palm_read.specs.Domain.{domain_numbers, DomainForm, Interval, Members, set_of, count_in, domain_of}
 use Rattle.palm_read.specs.Limits.{shape_numbers, numbers, IsDomainInRange, IsInRange, IsShapeInRange}
-use Rattle.palm_read.specs.Form.{ShapeForm, CompareVarForm, CompareConstForm, LinearForm, TableForm, ElementForm, CountForm, DifferForm, WithinForm, Form, DeclareForm, DeclareInForm, AddForm, WhyForm, MinimalForm, StepForm, SolveDbtForm, SolveRepairForm, ProveForm, MinimizeForm, CertForm, GuideForm, OrderForm, DropGuideForm, DropOrderForm}
+use Rattle.palm_read.specs.Form.{ShapeForm, CompareVarForm, CompareConstForm, LinearForm, TableForm, ElementForm, CountForm, DifferForm, WithinForm, Form, DeclareForm, DeclareInForm, AddForm, WhyForm, MinimalForm, StepForm, SolveDbtForm, SolveRepairForm, ProveForm, MinimizeForm, PreferForm, CertForm, GuideForm, OrderForm, DropGuideForm, DropOrderForm}
 use Rattle.palm_read.specs.Linear.{TermForm, signed, term_of}
 use Rattle.palm_read.specs.Reading.{shape_of, line_of}
 use Rattle.palm_read.specs.declared.limits.TheConstants.{NO_BUDGET}
@@ -281,6 +281,9 @@ in_shape (WithinForm var domain) h = in_domain domain h
 abbrev a_step : ℤ → Bounded
 a_step z = from_one_to 1000000 z
 
+abbrev a_weight : ℤ → Bounded
+a_weight z = from_one_to 1000000 z
+
 abbrev a_budget : ℤ → Bounded
 a_budget z = from_one_to NO_BUDGET z
 
@@ -297,6 +300,7 @@ same_form (SolveDbtForm (Some n)) h = ap (λ z. SolveDbtForm (Some z)) (same_cou
 same_form (SolveRepairForm t n) h = rw (same_counted 1024 t h.0, same_counted NO_BUDGET n h.1) refl
 same_form (ProveForm n) h = ap ProveForm (same_counted NO_BUDGET n h)
 same_form (MinimizeForm target n) h = ap (MinimizeForm target) (same_counted NO_BUDGET n h)
+same_form (PreferForm name n) h = ap (PreferForm name) (same_counted 1000000 n h)
 same_form (CertForm name v) h = ap (CertForm name) (same_value v h)
 same_form (GuideForm n) h = ap GuideForm (same_counted 1000000 n h)
 same_form (OrderForm n) h = ap OrderForm (same_counted 1000000 n h)
@@ -319,6 +323,7 @@ numbers_in (SolveRepairForm t n) w =
     (counted_in 1024 t (All-head IsWithin (from_one_to 1024 t) (a_budget n ∷ []) w), counted_in NO_BUDGET n (one_number (a_budget n) (All-tail IsWithin (from_one_to 1024 t) (a_budget n ∷ []) w)))
 numbers_in (ProveForm n) w = counted_in NO_BUDGET n (one_number (a_budget n) w)
 numbers_in (MinimizeForm target n) w = counted_in NO_BUDGET n (one_number (a_budget n) w)
+numbers_in (PreferForm name n) w = counted_in 1000000 n (one_number (a_weight n) w)
 numbers_in (CertForm name v) w = value_in v (one_number (a_value v) w)
 numbers_in (GuideForm n) w = counted_in 1000000 n (one_number (a_step n) w)
 numbers_in (OrderForm n) w = counted_in 1000000 n (one_number (a_step n) w)
@@ -341,6 +346,7 @@ in_numbers (SolveRepairForm t n) h =
     All-cons IsWithin (from_one_to 1024 t) (a_budget n ∷ []) (in_counted 1024 t h.0) (number_one (a_budget n) (in_counted NO_BUDGET n h.1))
 in_numbers (ProveForm n) h = number_one (a_budget n) (in_counted NO_BUDGET n h)
 in_numbers (MinimizeForm target n) h = number_one (a_budget n) (in_counted NO_BUDGET n h)
+in_numbers (PreferForm name n) h = number_one (a_weight n) (in_counted 1000000 n h)
 in_numbers (CertForm name v) h = number_one (a_value v) (in_value v h)
 in_numbers (GuideForm n) h = number_one (a_step n) (in_counted 1000000 n h)
 in_numbers (OrderForm n) h = number_one (a_step n) (in_counted 1000000 n h)

@@ -41,6 +41,9 @@ pub data Form : Type 0 where
   SolveRepairForm : (tabu budget : ℤ) → Form
   ProveForm : (budget : ℤ) → Form
   MinimizeForm : (target : List ℕ) (budget : ℤ) → Form
+  PreferForm : (name : List ℕ) (weight : ℤ) → Form
+  PreferNoneForm : (name : List ℕ) → Form
+  PreferredForm : Form
   CertForm : (name : List ℕ) (value : ℤ) → Form
   CertConflictForm : Form
   GuideForm : (number : ℤ) → Form

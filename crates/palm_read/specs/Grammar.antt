@@ -5,7 +5,7 @@ use Rattle.palm_read.specs.Count.{count_pieces, IsProperCount}
 use Rattle.palm_read.specs.Differ.{differ_pieces, IsProperDiffer}
 use Rattle.palm_read.specs.Domain.{domain_pieces}
 use Rattle.palm_read.specs.Element.{element_pieces}
-use Rattle.palm_read.specs.Form.{ShapeForm, CompareVarForm, CompareConstForm, LinearForm, TableForm, ElementForm, CountForm, DifferForm, WithinForm, Form, HeaderForm, DeclareForm, DeclareInForm, AddForm, RelaxForm, EnforceForm, RetractForm, DomainsForm, DomainOfForm, ListForm, LogForm, WhyForm, ConflictForm, MinimalConflictForm, MinimalForm, PauseForm, ResumeForm, StepForm, SolveDbtForm, SolveRepairForm, ProveForm, MinimizeForm, CertForm, CertConflictForm, GuideForm, GuideNoneForm, OrderForm, OrderNoneForm, DropGuideForm, DropOrderForm, QuitForm}
+use Rattle.palm_read.specs.Form.{ShapeForm, CompareVarForm, CompareConstForm, LinearForm, TableForm, ElementForm, CountForm, DifferForm, WithinForm, Form, HeaderForm, DeclareForm, DeclareInForm, AddForm, RelaxForm, EnforceForm, RetractForm, DomainsForm, DomainOfForm, ListForm, LogForm, WhyForm, ConflictForm, MinimalConflictForm, MinimalForm, PauseForm, ResumeForm, StepForm, SolveDbtForm, SolveRepairForm, ProveForm, MinimizeForm, PreferForm, PreferNoneForm, PreferredForm, CertForm, CertConflictForm, GuideForm, GuideNoneForm, OrderForm, OrderNoneForm, DropGuideForm, DropOrderForm, QuitForm}
 use Rattle.palm_read.specs.Linear.{linear_pieces, IsProperLinear}
 use Rattle.palm_read.specs.Piece.{Piece, Keyword, Named, Mark, Integer, Numeral, Spells}
 use Rattle.palm_read.specs.Table.{table_pieces, IsProperTable}
@@ -53,6 +53,9 @@ pieces (SolveRepairForm tabu budget) =
     ∷ Keyword (codes "budget") ∷ Integer budget ∷ []
 pieces (ProveForm budget) = Keyword (codes "prove") ∷ Keyword (codes "budget") ∷ Integer budget ∷ []
 pieces (MinimizeForm target budget) = Keyword (codes "minimize") ∷ Named target ∷ Keyword (codes "budget") ∷ Integer budget ∷ []
+pieces (PreferForm name weight) = Keyword (codes "prefer") ∷ Named name ∷ Integer weight ∷ []
+pieces (PreferNoneForm name) = Keyword (codes "prefer") ∷ Named name ∷ Keyword (codes "none") ∷ []
+pieces PreferredForm = Keyword (codes "preferred") ∷ []
 pieces (CertForm name value) = Keyword (codes "cert") ∷ Named name ∷ Integer value ∷ []
 pieces CertConflictForm = Keyword (codes "cert") ∷ Keyword (codes "conflict") ∷ []
 pieces (GuideForm number) = Keyword (codes "guide") ∷ Integer number ∷ []

@@ -8,14 +8,14 @@ use Rattle.palm_read.specs.Comparison.{offset_numbers, compare_const_numbers}
 use Rattle.palm_read.specs.Count.{IsSoundTarget, count_numbers, line_target_names}
 use Rattle.palm_read.specs.Domain.{domain_numbers, IsLarge}
 use Rattle.palm_read.specs.Element.{element_numbers, HasManyEntries}
-use Rattle.palm_read.specs.Form.{ShapeForm, CompareVarForm, CompareConstForm, LinearForm, TableForm, ElementForm, CountForm, DifferForm, WithinForm, Form, DeclareForm, DeclareInForm, AddForm, WhyForm, MinimalForm, StepForm, SolveDbtForm, SolveRepairForm, ProveForm, MinimizeForm, CertForm, GuideForm, OrderForm, DropGuideForm, DropOrderForm}
+use Rattle.palm_read.specs.Form.{ShapeForm, CompareVarForm, CompareConstForm, LinearForm, TableForm, ElementForm, CountForm, DifferForm, WithinForm, Form, DeclareForm, DeclareInForm, AddForm, WhyForm, MinimalForm, StepForm, SolveDbtForm, SolveRepairForm, ProveForm, MinimizeForm, PreferForm, CertForm, GuideForm, OrderForm, DropGuideForm, DropOrderForm}
 use Rattle.palm_read.specs.Linear.{linear_numbers}
 use Rattle.palm_read.specs.Table.{table_numbers, HasManyTableRows}
-use Rattle.palm_read.specs.declared.limits.TheConstants.{GREATEST_NUMBER, GREATEST_TABU, NO_BUDGET}
+use Rattle.palm_read.specs.declared.limits.TheConstants.{GREATEST_NUMBER, GREATEST_TABU, GREATEST_WEIGHT, NO_BUDGET}
 use Rattle.palm_read.specs.declared.line.DomainText.{DomainText}
 use Rattle.palm_read.specs.declared.line.DomainText.TheVariants.{Range, Set}
 use Rattle.palm_read.specs.declared.line.Line.{Line}
-use Rattle.palm_read.specs.declared.line.Line.TheVariants.{Var, VarIn, Add, Why, Minimal, Step, SolveDbt, SolveRepair, Prove, Minimize, Cert, Guide, Order, DropGuide, DropOrder}
+use Rattle.palm_read.specs.declared.line.Line.TheVariants.{Var, VarIn, Add, Why, Minimal, Step, SolveDbt, SolveRepair, Prove, Minimize, Prefer, Cert, Guide, Order, DropGuide, DropOrder}
 use Rattle.palm_read.specs.declared.line.Shape.{Shape}
 use Rattle.palm_read.specs.declared.line.Shape.TheVariants.{CompareVar, CompareConst, Linear, Table, Element, Count, Differ, Within}
 
@@ -48,6 +48,7 @@ IsInRange (SolveDbt budget) = IsFromOneTo NO_BUDGET budget
 IsInRange (SolveRepair tabu budget) = IsFromOneTo GREATEST_TABU tabu × IsFromOneTo NO_BUDGET budget
 IsInRange (Prove budget) = IsFromOneTo NO_BUDGET budget
 IsInRange (Minimize target budget) = IsFromOneTo NO_BUDGET budget
+IsInRange (Prefer name weight) = IsFromOneTo GREATEST_WEIGHT weight
 IsInRange (Guide number) = IsFromOneTo GREATEST_NUMBER number
 IsInRange (Order number) = IsFromOneTo GREATEST_NUMBER number
 IsInRange (DropGuide number) = IsFromOneTo GREATEST_NUMBER number
@@ -130,6 +131,7 @@ numbers (SolveDbtForm budget) = map (from_one_to NO_BUDGET) (option_to_list budg
 numbers (SolveRepairForm tabu budget) = from_one_to GREATEST_TABU tabu ∷ from_one_to NO_BUDGET budget ∷ []
 numbers (ProveForm budget) = from_one_to NO_BUDGET budget ∷ []
 numbers (MinimizeForm target budget) = from_one_to NO_BUDGET budget ∷ []
+numbers (PreferForm name weight) = from_one_to GREATEST_WEIGHT weight ∷ []
 numbers (GuideForm number) = from_one_to GREATEST_NUMBER number ∷ []
 numbers (OrderForm number) = from_one_to GREATEST_NUMBER number ∷ []
 numbers (DropGuideForm number) = from_one_to GREATEST_NUMBER number ∷ []

@@ -6,7 +6,7 @@ use Rattle.palm_read.specs.Count.{count_shape}
 use Rattle.palm_read.specs.Differ.{differ_shape}
 use Rattle.palm_read.specs.Domain.{domain_of, count_in}
 use Rattle.palm_read.specs.Element.{element_shape}
-use Rattle.palm_read.specs.Form.{ShapeForm, CompareVarForm, CompareConstForm, LinearForm, TableForm, ElementForm, CountForm, DifferForm, WithinForm, Form, HeaderForm, DeclareForm, DeclareInForm, AddForm, RelaxForm, EnforceForm, RetractForm, DomainsForm, DomainOfForm, ListForm, LogForm, WhyForm, ConflictForm, MinimalConflictForm, MinimalForm, PauseForm, ResumeForm, StepForm, SolveDbtForm, SolveRepairForm, ProveForm, MinimizeForm, CertForm, CertConflictForm, GuideForm, GuideNoneForm, OrderForm, OrderNoneForm, DropGuideForm, DropOrderForm, QuitForm}
+use Rattle.palm_read.specs.Form.{ShapeForm, CompareVarForm, CompareConstForm, LinearForm, TableForm, ElementForm, CountForm, DifferForm, WithinForm, Form, HeaderForm, DeclareForm, DeclareInForm, AddForm, RelaxForm, EnforceForm, RetractForm, DomainsForm, DomainOfForm, ListForm, LogForm, WhyForm, ConflictForm, MinimalConflictForm, MinimalForm, PauseForm, ResumeForm, StepForm, SolveDbtForm, SolveRepairForm, ProveForm, MinimizeForm, PreferForm, PreferNoneForm, PreferredForm, CertForm, CertConflictForm, GuideForm, GuideNoneForm, OrderForm, OrderNoneForm, DropGuideForm, DropOrderForm, QuitForm}
 use Rattle.palm_read.specs.Grammar.{IsForm}
 use Rattle.palm_read.specs.Limits.{IsInRange, HasNothing, HasRepeat}
 use Rattle.palm_read.specs.Linear.{linear_shape}
@@ -16,7 +16,7 @@ use Rattle.palm_read.specs.Token.{tokens_of}
 use Rattle.palm_read.specs.Within.{within_shape}
 use Rattle.palm_read.specs.declared.limits.TheConstants.{NO_BUDGET}
 use Rattle.palm_read.specs.declared.line.Line.{Line}
-use Rattle.palm_read.specs.declared.line.Line.TheVariants.{Comment, Header, Var, VarIn, Add, Relax, Enforce, Retract, Domains, Domain, List as ListLine, Log, Why, Conflict, MinimalConflict, Minimal, Pause, Resume, Step, SolveDbt, SolveRepair, Prove, Minimize, Cert, CertConflict, Guide, GuideNone, Order, OrderNone, DropGuide, DropOrder, Quit}
+use Rattle.palm_read.specs.declared.line.Line.TheVariants.{Comment, Header, Var, VarIn, Add, Relax, Enforce, Retract, Domains, Domain, List as ListLine, Log, Why, Conflict, MinimalConflict, Minimal, Pause, Resume, Step, SolveDbt, SolveRepair, Prove, Minimize, Prefer, PreferNone, Preferred, Cert, CertConflict, Guide, GuideNone, Order, OrderNone, DropGuide, DropOrder, Quit}
 use Rattle.palm_read.specs.declared.line.Shape.{Shape}
 use Rattle.palm_read.specs.declared.mode.Mode.{Mode}
 use Rattle.palm_read.specs.declared.parse.LineError.{LineError}
@@ -60,6 +60,9 @@ line_of (SolveDbtForm budget) = SolveDbt (budget_of budget)
 line_of (SolveRepairForm tabu budget) = SolveRepair (count_in tabu) (count_in budget)
 line_of (ProveForm budget) = Prove (count_in budget)
 line_of (MinimizeForm target budget) = Minimize target (count_in budget)
+line_of (PreferForm name weight) = Prefer name (count_in weight)
+line_of (PreferNoneForm name) = PreferNone name
+line_of PreferredForm = Preferred
 line_of (CertForm name value) = Cert name value
 line_of CertConflictForm = CertConflict
 line_of (GuideForm number) = Guide (count_in number)

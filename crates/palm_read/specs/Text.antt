@@ -12,7 +12,7 @@ use Rattle.palm_read.specs.Within.{within_words}
 use Rattle.palm_read.specs.Words.{spaced}
 use Rattle.palm_read.specs.declared.limits.TheConstants.{NO_BUDGET}
 use Rattle.palm_read.specs.declared.line.Line.{Line}
-use Rattle.palm_read.specs.declared.line.Line.TheVariants.{Comment, Header, Var, VarIn, Add, Relax, Enforce, Retract, Domains, Domain, List as ListLine, Log, Why, Conflict, MinimalConflict, Minimal, Pause, Resume, Step, SolveDbt, SolveRepair, Prove, Minimize, Cert, CertConflict, Guide, GuideNone, Order, OrderNone, DropGuide, DropOrder, Quit}
+use Rattle.palm_read.specs.declared.line.Line.TheVariants.{Comment, Header, Var, VarIn, Add, Relax, Enforce, Retract, Domains, Domain, List as ListLine, Log, Why, Conflict, MinimalConflict, Minimal, Pause, Resume, Step, SolveDbt, SolveRepair, Prove, Minimize, Prefer, PreferNone, Preferred, Cert, CertConflict, Guide, GuideNone, Order, OrderNone, DropGuide, DropOrder, Quit}
 use Rattle.palm_read.specs.declared.line.Shape.{Shape}
 use Rattle.palm_read.specs.declared.line.Shape.TheVariants.{CompareVar, CompareConst, Linear, Table, Element, Count, Differ, Within}
 
@@ -54,6 +54,9 @@ line_words (SolveRepair tabu budget) =
     codes "solve" ∷ codes "repair" ∷ codes "tabu" ∷ decimal tabu ∷ codes "budget" ∷ decimal budget ∷ []
 line_words (Prove budget) = codes "prove" ∷ codes "budget" ∷ decimal budget ∷ []
 line_words (Minimize target budget) = codes "minimize" ∷ target ∷ codes "budget" ∷ decimal budget ∷ []
+line_words (Prefer name weight) = codes "prefer" ∷ name ∷ decimal weight ∷ []
+line_words (PreferNone name) = codes "prefer" ∷ name ∷ codes "none" ∷ []
+line_words Preferred = codes "preferred" ∷ []
 line_words (Cert name value) = codes "cert" ∷ name ∷ signed_decimal value ∷ []
 line_words CertConflict = codes "cert" ∷ codes "conflict" ∷ []
 line_words (Guide number) = codes "guide" ∷ decimal number ∷ []

@@ -22,7 +22,7 @@ ghost use Rattle.palm_read.specs.Linear.{TermForm, term_of};
 ghost use Rattle.palm_read.specs.Reading.{IsRead, IsRefusedBy, line_of};
 ghost use Rattle.palm_read.specs.Text.{text_of};
 ghost use Rattle.palm_read.specs.Token.{Lexeme, IsFirstToken, IsLongest, IsNoToken, lexeme_of};
-ghost use Rattle.palm_read.specs.declared.limits.TheConstants.{GREATEST_NUMBER, GREATEST_TABU, MOST_LINE_BYTES, MOST_NAME_BYTES, MOST_VALUES, NO_BUDGET};
+ghost use Rattle.palm_read.specs.declared.limits.TheConstants.{GREATEST_NUMBER, GREATEST_TABU, GREATEST_WEIGHT, MOST_LINE_BYTES, MOST_NAME_BYTES, MOST_VALUES, NO_BUDGET};
 
 /// The numbers of the limits on lines, names, domains and numbers.
 pub fn limits_are_these_numbers()
@@ -31,6 +31,7 @@ pub fn limits_are_these_numbers()
     ensures values { MOST_VALUES ≡ 256 }
     ensures number { GREATEST_NUMBER ≡ 1000000 }
     ensures tabu { GREATEST_TABU ≡ 1024 }
+    ensures weight { GREATEST_WEIGHT ≡ 1000000 }
     ensures budget { NO_BUDGET ≡ 18446744073709551615 }
 {}
 

@@ -16,7 +16,8 @@ mod tokens;
 pub use amounts::{beyond, is_large};
 pub use interval::is_interval;
 pub use limits::{
-    GREATEST_NUMBER, GREATEST_TABU, MOST_LINE_BYTES, MOST_NAME_BYTES, MOST_VALUES, NO_BUDGET,
+    GREATEST_NUMBER, GREATEST_TABU, GREATEST_WEIGHT, MOST_LINE_BYTES, MOST_NAME_BYTES, MOST_VALUES,
+    NO_BUDGET,
 };
 pub use line::{DomainText, Line, Name, NameList, NameTarget, NameTerm, NameTermList, Shape};
 pub use lines::{next_feed, next_line, without_return};

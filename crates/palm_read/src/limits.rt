@@ -15,5 +15,8 @@ pub const GREATEST_NUMBER: u64 = 1_000_000;
 /// The greatest length of a list of nogoods.
 pub const GREATEST_TABU: u64 = 1_024;
 
+/// The greatest weight of a constraint.
+pub const GREATEST_WEIGHT: u64 = 1_000_000;
+
 /// The greatest budget of a search, and that of one without a limit.
 pub const NO_BUDGET: u64 = u64::MAX;

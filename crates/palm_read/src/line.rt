@@ -160,6 +160,15 @@ pub enum Line {
         target: Name,
         budget: u64,
     },
+    /// `prefer NAME N`: the constraint has this weight
+    Prefer {
+        name: Name,
+        weight: u32,
+    },
+    /// `prefer NAME none`: the constraint has no weight
+    PreferNone(Name),
+    /// `preferred`
+    Preferred,
     /// `cert NAME VALUE`
     Cert {
         name: Name,

@@ -1,3 +1,4 @@
+pub mod Kept
 pub mod Marked
 pub mod Properties
 pub mod Walked

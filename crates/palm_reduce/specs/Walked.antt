@@ -1,10 +1,11 @@
 -- How far a walk has come, and what an engine has then.
-use Rattle.std.specs.Prelude.{◌≡◌, ◌↔◌, ℕ, List, ◌++◌, Contains, drop, filter, map, reverse, take}
-use Rattle.palm_book.specs.Book.{Contents, initial_of, user_at}
+use Rattle.std.specs.Prelude.{◌≡◌, ◌↔◌, ℕ, Bool, List, ◌++◌, Contains, drop, filter, map, reverse, take}
+use Rattle.palm_book.specs.Book.{Contents, active_of, initial_of, user_at}
 use Rattle.palm_book.specs.declared.book.BookCon.{BookCon}
 use Rattle.palm_model.specs.Log.{Active, cids_of}
 use Rattle.palm_model.specs.Minimal.{WalkLeaves}
 use Rattle.palm_model.specs.State.{EngineState}
+use Rattle.palm_reduce.specs.Marked.{marked}
 use Rattle.palm_reduce.specs.Properties.{HasProperty, IsCore}
 use Rattle.palm_reduce.specs.declared.property.Property.{Property}
 use Rattle.palm_reduce.specs.declared.reduce.Found.{Found}
@@ -16,6 +17,11 @@ AreSame xs ys = (a : Active) → Contains xs a ↔ Contains ys a
 -- the active ones among these constraints of a book
 abbrev pub actives : List BookCon → List Active
 actives constraints = map user_at (filter (λ c. c.active) constraints)
+
+-- an engine has the variables of the book, and exactly its marked constraints
+pub record HasMarked (book : Contents) (marks : List Bool) (s : EngineState) : Type 0 where
+  pub initial : s.initial ≡ initial_of book
+  pub active : AreSame s.active (active_of (marked book marks))
 
 -- the walk has come down to this place of the book: it found the ids of what it left there, the highest first, and a
 -- core among all that the engine has, which are these constraints and the active ones of all earlier places

@@ -2,10 +2,14 @@
 //! is no conflict, or does not explain the absence of a value.
 #![tactic(auto)]
 
+mod kinds;
 mod posting;
 mod property;
 mod reduce;
 
+pub use kinds::{Kinds, Lent};
 pub use posting::{engine_of, post};
 pub use property::are_conflict;
-pub use reduce::{active_marks, minimal_conflict, minimal_conflict_among, minimal_why};
+pub use reduce::{
+    active_marks, minimal_conflict, minimal_conflict_among, minimal_conflict_in, minimal_why,
+};

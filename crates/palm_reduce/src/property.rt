@@ -7,10 +7,10 @@ ghost use Rattle.palm_model.specs.Minimal.{AreConflict};
 ghost use Rattle.palm_model.specs.State.{IsValid, present};
 ghost use Rattle.palm_reduce.specs.Properties.{HasProperty, IsCore, MayBeAsked};
 
+use crate::kinds::Lent;
 use palm_agenda::LastOrder;
 use palm_base::{CidList, NoMemory, Pair, Steps};
 use palm_engine::Engine;
-use palm_kind::Kind;
 use std::sync::ledger::Ledger;
 
 /// What constraints may have together. More constraints have it where fewer have it.
@@ -23,7 +23,7 @@ pub enum Property {
 }
 
 /// Whether the pair is absent.
-fn is_absent(engine: &Engine<Kind>, pair: &Pair) -> bool
+fn is_absent(engine: &Engine<Lent<'_>>, pair: &Pair) -> bool
     requires { pair.now.var < length engine.now.state.initial }
     ensures { Tells result (Has (present engine.now.state) pair.now.var pair.now.value → ⊥) }
 {
@@ -32,7 +32,7 @@ fn is_absent(engine: &Engine<Kind>, pair: &Pair) -> bool
 }
 
 /// Whether the constraints of an engine have the property, after a settling without a limit.
-fn is_met(property: &Property, engine: &Engine<Kind>) -> bool
+fn is_met(property: &Property, engine: &Engine<Lent<'_>>) -> bool
     requires valid { IsValid engine.now.state }
     requires still { IsStill engine.now.state }
     requires allowed { MayBeAsked property.now engine.now.state.initial engine.now.state.active }
@@ -45,7 +45,11 @@ fn is_met(property: &Property, engine: &Engine<Kind>) -> bool
 }
 
 /// Makes `core` the ids of constraints that have the property by themselves, as a settled engine keeps them.
-fn tell_core(property: &Property, engine: &Engine<Kind>, core: &mut CidList) -> Result<(), NoMemory>
+fn tell_core(
+    property: &Property,
+    engine: &Engine<Lent<'_>>,
+    core: &mut CidList,
+) -> Result<(), NoMemory>
     requires valid { IsValid engine.now.state }
     requires still { IsStill engine.now.state }
     requires allowed { MayBeAsked property.now engine.now.state.initial engine.now.state.active }
@@ -62,7 +66,7 @@ fn tell_core(property: &Property, engine: &Engine<Kind>, core: &mut CidList) -> 
 /// ids of some that have it by themselves.
 pub fn has_property<L: Ledger>(
     property: &Property,
-    engine: &mut Engine<Kind>,
+    engine: &mut Engine<Lent<'_>>,
     core: &mut CidList,
     steps: &mut Steps<L>,
 ) -> Result<bool, NoMemory>
@@ -85,7 +89,7 @@ pub fn has_property<L: Ledger>(
 
 /// Settles an engine, and answers whether its constraints are a conflict.
 pub fn are_conflict<L: Ledger>(
-    engine: &mut Engine<Kind>,
+    engine: &mut Engine<Lent<'_>>,
     steps: &mut Steps<L>,
 ) -> Result<bool, NoMemory>
     ensures tells { IfOk result (λ are. Tells are (AreConflict engine.old.state.initial engine.old.state.active)) }

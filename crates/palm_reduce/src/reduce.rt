@@ -1,20 +1,21 @@
 //! The walk over the marked constraints of a book, from the highest number down.
-ghost use Rattle.std.specs.Prelude.{◌≡◌, ◌+◌, ◌<◌, Contains, length, map, MatchOption, IfOk, OnOk};
+ghost use Rattle.std.specs.Prelude.{◌≡◌, ◌+◌, ◌<◌, Contains, length, map, MatchOption, IfNone, IfOk, OnOk};
 ghost use Rattle.palm_base.specs.Tells.{Tells};
 ghost use Rattle.palm_book.specs.Book.{IsBook, active_of, initial_of};
 ghost use Rattle.palm_model.specs.Domains.{Has};
 ghost use Rattle.palm_base.specs.Order.{Rises};
 ghost use Rattle.palm_model.specs.Minimal.{AreConflict, DoExplain, IsMinimal, IsMinimalConflict, IsMinimalExplanation};
+ghost use Rattle.palm_reduce.specs.Kept.{AreKept};
 ghost use Rattle.palm_reduce.specs.Marked.{marked};
 ghost use Rattle.palm_reduce.specs.Properties.{HasProperty, IsCore, MayBeAsked};
-ghost use Rattle.palm_reduce.specs.Walked.{AreSame, HasWalked};
+ghost use Rattle.palm_reduce.specs.Walked.{AreSame, HasMarked, HasWalked};
 
+use crate::kinds::{Kinds, Lent};
 use crate::posting::{engine_of, post};
 use crate::property::{Property, has_property};
 use palm_base::{Cid, CidList, NoMemory, Pair, Steps};
 use palm_book::Book;
 use palm_engine::Engine;
-use palm_kind::Kind;
 use std::alloc::Global;
 use std::marker::Brand;
 use std::sync::ledger::{Blank, Ledger};
@@ -38,17 +39,19 @@ fn is_among(cid: &Cid, cids: &CidList) -> bool
 
 /// Takes the walk past the constraint at a place: it is left out where the rest has the property without it. Nothing is
 /// filtered for a constraint without which the known core stands.
-fn pass<L: Ledger>(
+fn pass<'a, L: Ledger>(
     book: &Book,
+    kinds: &'a Kinds,
     marks: &[bool],
     property: &Property,
     place: usize,
-    engine: &mut Engine<Kind>,
+    engine: &mut Engine<Lent<'a>>,
     found: &mut Found,
     steps: &mut Steps<L>,
 ) -> Result<(), NoMemory>
     requires book { IsBook book.now }
     requires whole { length marks.now ≡ length book.now.constraints }
+    requires kept { AreKept book.now marks.now kinds.now }
     requires within { place < length book.now.constraints }
     requires allowed { MayBeAsked property.now (initial_of book.now) (active_of (marked book.now marks.now)) }
     requires walked { HasWalked property.now (marked book.now marks.now) (place + 1) found.old engine.old.state }
@@ -66,23 +69,25 @@ fn pass<L: Ledger>(
     if has_property(property, engine, &mut found.core, steps)? {
         return Ok(());
     }
-    post(*found.cids.allocator(), engine, book, place)?;
+    post(engine, book, kinds, place)?;
     found.cids.push(cid)?;
     Ok(())
 }
 
 /// Walks over all of the marked constraints, some of which are known to have the property by themselves, and answers the ids
 /// of those that stay, by rising id.
-fn walk<L: Ledger>(
+fn walk<'a, L: Ledger>(
     alloc: Global,
     book: &Book,
+    kinds: &'a Kinds,
     marks: &[bool],
     property: &Property,
-    engine: &mut Engine<Kind>,
+    engine: &mut Engine<Lent<'a>>,
     core: CidList,
     steps: &mut Steps<L>,
 ) -> Result<CidList, NoMemory>
     requires whole { length marks.now ≡ length book.now.constraints }
+    requires kept { AreKept book.now marks.now kinds.now }
     requires allowed { MayBeAsked property.now (initial_of book.now) (active_of (marked book.now marks.now)) }
     requires initial { engine.old.state.initial ≡ initial_of book.now }
     requires active { AreSame engine.old.state.active (active_of (marked book.now marks.now)) }
@@ -96,14 +101,44 @@ fn walk<L: Ledger>(
     let mut place = book.constraints();
     while place > 0 {
         place -= 1;
-        pass(book, marks, property, place, engine, &mut found, steps)?;
+        pass(
+            book, kinds, marks, property, place, engine, &mut found, steps,
+        )?;
     }
     let Found { mut cids, .. } = found;
     cids.reverse();
     Ok(CidList::from_vec(cids))
 }
 
-/// The minimal set of the marked constraints for a property, with a counter of its own.
+/// The minimal set of the marked constraints for a property, which an engine has. Where they do not have it they stay in the
+/// engine.
+fn reduce_in<'a, L: Ledger>(
+    alloc: Global,
+    book: &Book,
+    kinds: &'a Kinds,
+    marks: &[bool],
+    property: &Property,
+    engine: &mut Engine<Lent<'a>>,
+    steps: &mut Steps<L>,
+) -> Result<Option<CidList>, NoMemory>
+    requires whole { length marks.now ≡ length book.now.constraints }
+    requires kept { AreKept book.now marks.now kinds.now }
+    requires allowed { MayBeAsked property.now (initial_of book.now) (active_of (marked book.now marks.now)) }
+    requires filled { HasMarked book.now marks.now engine.old.state }
+    ensures answer { IfOk result (λ answer. MatchOption answer
+        (HasProperty property.now (initial_of book.now) (active_of (marked book.now marks.now)) → ⊥)
+        (IsMinimal (HasProperty property.now (initial_of book.now)) (active_of (marked book.now marks.now)))) }
+    ensures stay { IfOk result (λ answer. IfNone answer (HasMarked book.now marks.now engine.new.state)) }
+{
+    let mut core = CidList::new(alloc);
+    if !has_property(property, engine, &mut core, steps)? {
+        return Ok(None);
+    }
+    let cids = walk(alloc, book, kinds, marks, property, engine, core, steps)?;
+    Ok(Some(cids))
+}
+
+/// The minimal set of the marked constraints for a property, with filters, an engine and a counter of its own.
 fn reduce<L: Ledger>(
     alloc: Global,
     book: &Book,
@@ -121,13 +156,46 @@ fn reduce<L: Ledger>(
         (IsMinimal (HasProperty property.now (initial_of book.now)) (active_of (marked book.now marks.now)))) }
 {
     let mut steps = Steps::<L>::start(blank);
-    let mut engine = engine_of(alloc, book, marks)?;
-    let mut core = CidList::new(alloc);
-    if !has_property(property, &mut engine, &mut core, &mut steps)? {
-        return Ok(None);
-    }
-    let cids = walk(alloc, book, marks, property, &mut engine, core, &mut steps)?;
-    Ok(Some(cids))
+    let kinds = Kinds::new(alloc, book, marks)?;
+    let mut engine = engine_of(alloc, book, &kinds, marks)?;
+    reduce_in(
+        alloc,
+        book,
+        &kinds,
+        marks,
+        property,
+        &mut engine,
+        &mut steps,
+    )
+}
+
+/// The minimal conflict of the constraints at the marked places of a book, by rising id, which an engine has. There is none
+/// exactly where they are no conflict, and then they stay in the engine.
+pub fn minimal_conflict_in<'a, L: Ledger>(
+    alloc: Global,
+    book: &Book,
+    kinds: &'a Kinds,
+    marks: &[bool],
+    engine: &mut Engine<Lent<'a>>,
+    steps: &mut Steps<L>,
+) -> Result<Option<CidList>, NoMemory>
+    requires whole { length marks.now ≡ length book.now.constraints }
+    requires kept { AreKept book.now marks.now kinds.now }
+    requires filled { HasMarked book.now marks.now engine.old.state }
+    ensures answer { IfOk result (λ answer. MatchOption answer
+        (AreConflict (initial_of book.now) (active_of (marked book.now marks.now)) → ⊥)
+        (IsMinimalConflict (initial_of book.now) (active_of (marked book.now marks.now)))) }
+    ensures stay { IfOk result (λ answer. IfNone answer (HasMarked book.now marks.now engine.new.state)) }
+{
+    reduce_in(
+        alloc,
+        book,
+        kinds,
+        marks,
+        &Property::Conflict,
+        engine,
+        steps,
+    )
 }
 
 /// The marks of the active constraints. What it ensures besides holds of every book.

@@ -39,13 +39,13 @@ turned_cases (a ∷ cs) (suc place) b c d at m = elim (member_cases a (with_acti
   | inr k ↦ elim (turned_cases cs place b c d at k) [ inl e ↦ inl e | inr r ↦ inr (member_there a (remove cs place) d r) ]
 ]
 
-turned_here : (cs : List BookCon) (place : ℕ) (b : Bool) (c : BookCon) → slice_get cs place ≡ Some c → Contains (with_active cs place b) (turned c b)
+pub turned_here : (cs : List BookCon) (place : ℕ) (b : Bool) (c : BookCon) → slice_get cs place ≡ Some c → Contains (with_active cs place b) (turned c b)
 turned_here [] place b c at = absurd (none-some c at)
 turned_here (a ∷ cs) zero b c at =
     member_same (turned a b ∷ cs) (turned a b) (turned c b) (ap (λ (x : BookCon). turned x b) (same_Some a c at)) (member_here (turned a b) cs)
 turned_here (a ∷ cs) (suc place) b c at = member_there a (with_active cs place b) (turned c b) (turned_here cs place b c at)
 
-turned_there : (cs : List BookCon) (place : ℕ) (b : Bool) (d : BookCon) → Contains (remove cs place) d → Contains (with_active cs place b) d
+pub turned_there : (cs : List BookCon) (place : ℕ) (b : Bool) (d : BookCon) → Contains (remove cs place) d → Contains (with_active cs place b) d
 turned_there [] place b d m = absurd (member_nil d (remove_member [] place d m))
 turned_there (a ∷ cs) zero b d m = member_there (turned a b) cs d m
 turned_there (a ∷ cs) (suc place) b d m = elim (member_cases a (remove cs place) d m) [

@@ -1,5 +1,5 @@
 -- What is admitted, and which refusal comes first, by the tests that a line passed.
-use Rattle.std.proofs.Common.{◌≡◌, ◌≢◌, ◌<◌, ℕ, ℤ, true, false, List, [], length, get_or, All, Any, ◌⊎◌, Contains, Err, Ok, Some, inl, inr, refl, sym, ◌∙◌, subst}
+use Rattle.std.proofs.Common.{◌≡◌, ◌≢◌, ◌<◌, ℕ, ℤ, true, false, List, [], length, get_or, All, Any, ◌⊎◌, Contains, Err, None, Ok, Some, inl, inr, refl, sym, ◌∙◌, subst}
 use Rattle.std.proofs.lemmas.Bool.{false≢true}
 use Rattle.std.proofs.lemmas.List.Elements.{Contains-get_or}
 use Rattle.std.specs.Prelude.{slice_get}
@@ -12,11 +12,11 @@ use Rattle.palm_lang.specs.declared.reply.Refusal.{Refusal}
 use Rattle.palm_lang.specs.declared.reply.Refusal.TheVariants.{E3, E4, E5, E7, E10, E11, E12}
 use Rattle.palm_read.specs.Limits.{IsBeyond}
 use Rattle.palm_read.specs.declared.line.Line.{Line}
-use Rattle.palm_read.specs.declared.line.Line.TheVariants.{Relax, Enforce, Retract, Domain, Why, Minimal, Cert, Pause, Resume, Step, Minimize, Guide, Order, DropGuide, DropOrder}
+use Rattle.palm_read.specs.declared.line.Line.TheVariants.{Relax, Enforce, Retract, Domain, Why, Minimal, Cert, Pause, Resume, Step, Minimize, Prefer, PreferNone, Guide, Order, DropGuide, DropOrder}
 use Rattle.palm_session.specs.declared.request.Procedure.TheVariants.{Least}
 use Rattle.palm_session.specs.declared.request.Question.TheVariants.{Domain as DomainAsked, Why as WhyAsked, Minimal as MinimalAsked, Cert as CertAsked}
 use Rattle.palm_session.specs.declared.request.Request.{Request}
-use Rattle.palm_session.specs.declared.request.Request.TheVariants.{Relax as RelaxAsked, Enforce as EnforceAsked, Retract as RetractAsked, Ask, Pause as PauseAsked, Resume as ResumeAsked, Step as StepAsked, Solve, ChooseGuide, DropGuide as DropGuideAsked, ChooseOrder, DropOrder as DropOrderAsked}
+use Rattle.palm_session.specs.declared.request.Request.TheVariants.{Relax as RelaxAsked, Enforce as EnforceAsked, Retract as RetractAsked, Ask, Pause as PauseAsked, Resume as ResumeAsked, Step as StepAsked, Solve, ChooseGuide, DropGuide as DropGuideAsked, ChooseOrder, DropOrder as DropOrderAsked, Prefer as PreferAsked}
 use Rattle.palm_session.specs.Refusals.{TakesName, NamesNone, NamesNoConstraint, HasNoRoom, NamesNoObject, IsUndeclared, IsUnknown, AsksUndeclared, IsInWrongState, Meets, in_order}
 use Rattle.palm_session.specs.Requests.{FindsPair, IsAdmitted, IsPlaceOf, Requests}
 use Rattle.palm_session.specs.State.{SessionState, IsHeld}
@@ -71,6 +71,12 @@ enforce_unnamed s name none = constraint_unknown s (Enforce name) (λ h. h) (λ 
 pub retract_unnamed : (s : SessionState) (name : List ℕ) → All (λ c. c.name ≢ name) s.book.constraints → IsFirst (Meets s (Retract name)) in_order E5
 retract_unnamed s name none = constraint_unknown s (Retract name) (λ h. h) (λ h. h) (no_constraint s.book.constraints name none)
 
+pub prefer_unnamed : (s : SessionState) (name : List ℕ) (weight : ℕ) → All (λ c. c.name ≢ name) s.book.constraints → IsFirst (Meets s (Prefer name weight)) in_order E5
+prefer_unnamed s name weight none = constraint_unknown s (Prefer name weight) (λ h. h) (λ h. h) (no_constraint s.book.constraints name none)
+
+pub prefer_none_unnamed : (s : SessionState) (name : List ℕ) → All (λ c. c.name ≢ name) s.book.constraints → IsFirst (Meets s (PreferNone name)) in_order E5
+prefer_none_unnamed s name none = constraint_unknown s (PreferNone name) (λ h. h) (λ h. h) (no_constraint s.book.constraints name none)
+
 module _ (s : SessionState) (name : List ℕ) (place : ℕ) (c : BookCon) (at : slice_get s.book.constraints place ≡ Some c) (named : c.name ≡ name) where
   found : IsPlaceOf s name place
   found = record { constraint = c; at = at; named = named }
@@ -102,6 +108,18 @@ module _ (s : SessionState) (name : List ℕ) (place : ℕ) (c : BookCon) (at : 
   pub retract_admitted : IsAdmitted s (Retract name) (RetractAsked place)
   retract_admitted = record {
     none = free_of_refusals s (Retract name) (λ h. h) (λ h. h) (λ h. h) (λ none. none (has_constraint s name place c at named)) (λ h. h) (λ h. h) (λ h. h) (λ h. h);
+    requests = (place, found, refl);
+  }
+
+  pub prefer_admitted : (weight : ℕ) → IsAdmitted s (Prefer name weight) (PreferAsked place (Some weight))
+  prefer_admitted weight = record {
+    none = free_of_refusals s (Prefer name weight) (λ h. h) (λ h. h) (λ h. h) (λ none. none (has_constraint s name place c at named)) (λ h. h) (λ h. h) (λ h. h) (λ h. h);
+    requests = (place, found, refl);
+  }
+
+  pub prefer_none_admitted : IsAdmitted s (PreferNone name) (PreferAsked place None)
+  prefer_none_admitted = record {
+    none = free_of_refusals s (PreferNone name) (λ h. h) (λ h. h) (λ h. h) (λ none. none (has_constraint s name place c at named)) (λ h. h) (λ h. h) (λ h. h) (λ h. h);
     requests = (place, found, refl);
   }
 

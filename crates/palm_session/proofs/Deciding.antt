@@ -5,7 +5,7 @@ use Rattle.palm_base.proofs.cited.FirstCauses.{first_not_none}
 use Rattle.palm_lang.specs.declared.reply.Refusal.{Refusal}
 use Rattle.palm_read.specs.Reading.{IsRead, IsRefusedBy}
 use Rattle.palm_read.specs.declared.line.Line.{Line}
-use Rattle.palm_read.specs.declared.line.Line.TheVariants.{Add, Relax, Enforce, Retract, Domain, Why, Minimal, Cert, Minimize, Quit as QuitLine}
+use Rattle.palm_read.specs.declared.line.Line.TheVariants.{Add, Relax, Enforce, Retract, Domain, Why, Minimal, Cert, Minimize, Prefer, PreferNone, Quit as QuitLine}
 use Rattle.palm_read.specs.declared.mode.Mode.{Mode}
 use Rattle.palm_read.specs.declared.mode.Mode.TheVariants.{One}
 use Rattle.palm_read.specs.declared.parse.LineError.{LineError}
@@ -52,6 +52,8 @@ quit_line s (Why name value) r = absurd (subst EndsAll r.2 tt)
 quit_line s (Minimal name value) r = absurd (subst EndsAll r.2 tt)
 quit_line s (Cert name value) r = absurd (subst EndsAll r.2 tt)
 quit_line s (Minimize name budget) r = absurd (subst EndsAll r.2 tt)
+quit_line s (Prefer name weight) r = absurd (subst EndsAll r.2 tt)
+quit_line s (PreferNone name) r = absurd (subst EndsAll r.2 tt)
 quit_line s _ r = absurd (subst EndsAll r tt)
 
 -- `quit` asks for the end

@@ -7,10 +7,12 @@ use Rattle.palm_model.specs.Domains.{Domains, values_of}
 use Rattle.palm_book.specs.Book.{BookVar, Contents, name_of}
 use Rattle.palm_lang.specs.Reply.{best_line, domain_line, entry_line, entry_at, var_line, fixed_text}
 use Rattle.palm_lang.specs.declared.reply.Fixed.TheVariants.{End}
-use Rattle.palm_lang.specs.declared.reply.Lead.TheVariants.{Proved}
+use Rattle.palm_lang.specs.declared.reply.Lead.TheVariants.{Keep, Proved}
 use Rattle.palm_base.specs.declared.terms.Cid.{Cid}
-use Rattle.palm_session.specs.Answers.{domains_text, least_text, list_text, users_text}
+use Rattle.palm_session.specs.Answers.{domains_text, least_text, left_text, list_text, preferred_text, users_text}
 use Rattle.palm_book.specs.declared.book.BookCon.{BookCon}
+use Rattle.palm_prefer.specs.declared.answer.LeftOut.{LeftOut}
+use Rattle.palm_prefer.specs.declared.answer.Preferred.TheVariants.{Kept}
 use Rattle.palm_cert.specs.Certificate.{certificate_text}
 use Rattle.palm_claim.specs.declared.verdict.Claim.{Claim}
 use Rattle.palm_model.specs.Log.{Removal}
@@ -70,6 +72,10 @@ list_parts book =
 -- the text of the best values begins with them
 pub least_parts : (book : Contents) (values : List ℤ) (users : List Cid) → best_line book.variables values ++ (users_text book Proved users ++ fixed_text End) ≡ least_text book values users
 least_parts book values users = sym (append_assoc (best_line book.variables values) (users_text book Proved users) (fixed_text End))
+
+-- the text of what is preferred begins with what is kept
+pub kept_parts : (book : Contents) (keep : List Cid) (left : List LeftOut) → users_text book Keep keep ++ (flat_map (left_text book) left ++ fixed_text End) ≡ preferred_text book (Kept keep left)
+kept_parts book keep left = sym (append_assoc (users_text book Keep keep) (flat_map (left_text book) left) (fixed_text End))
 
 -- the values of all variables
 pub pairs_end : (variables : List BookVar) (d : Domains) (i : ℕ) → length d ≡ length variables → length variables ≤ i

@@ -5,6 +5,7 @@ use Rattle.palm_book.specs.Book.{Contents}
 use Rattle.palm_engine.specs.Engine.{View}
 use Rattle.palm_search.specs.Calls.{SearchView}
 use Rattle.palm_read.specs.declared.mode.Mode.{Mode}
+use Rattle.palm_prefer.specs.declared.weights.Weight.{Weight}
 use Rattle.palm_session.specs.Effects.{without_guide, without_order}
 use Rattle.palm_session.specs.Objects.{ObjectsView, numbers_of, without_number, chosen_without, without_object}
 use Rattle.palm_session.specs.Serving.{DeskView, desk_of}
@@ -31,6 +32,7 @@ left_chosen number numbers (Some n) there = by (n == number) refl
 pub held_guides : (s : SessionState) (numbers : List ℕ) (chosen : Option ℕ) → IfSome chosen (Contains numbers) → IsHeld s → IsHeld (record s { guides = numbers; guide = chosen })
 held_guides s numbers chosen there is = record {
   book = is.book;
+  weights = is.weights;
   accepted = is.accepted;
   numbered = is.numbered;
   guide = there;
@@ -44,6 +46,7 @@ held_guides s numbers chosen there is = record {
 pub held_orders : (s : SessionState) (numbers : List ℕ) (chosen : Option ℕ) → IfSome chosen (Contains numbers) → IsHeld s → IsHeld (record s { orders = numbers; order = chosen })
 held_orders s numbers chosen there is = record {
   book = is.book;
+  weights = is.weights;
   accepted = is.accepted;
   numbered = is.numbered;
   guide = is.guide;
@@ -63,17 +66,17 @@ with_orders : (s : SessionState) (ns ms : List ℕ) (a b : Option ℕ) → ns �
 with_orders s ns ms a b e f =
     ap (λ (ks : List ℕ). record s { orders = ks; order = a }) e ∙ ap (λ (o : Option ℕ). record s { orders = ms; order = o }) f
 
-module _ {G O : Type 0} (mode : Mode) (book : Contents) (engine : View) (accepted : ℕ) (paused : Bool) (guides : ObjectsView G) (orders : ObjectsView O) (search : SearchView) (d : DeskView G O) (is : desk_of mode book engine accepted paused guides orders search ≡ d) (number : ℕ) where
+module _ {G O : Type 0} (mode : Mode) (book : Contents) (weights : List Weight) (engine : View) (accepted : ℕ) (paused : Bool) (guides : ObjectsView G) (orders : ObjectsView O) (search : SearchView) (d : DeskView G O) (is : desk_of mode book weights engine accepted paused guides orders search ≡ d) (number : ℕ) where
   pub guide_dropped : (left : ObjectsView G) → left ≡ without_object number guides → numbers_of left.places ≡ without_number number (numbers_of guides.places)
-      → (desk_of mode book engine accepted paused left orders search).state ≡ without_guide d.state number
+      → (desk_of mode book weights engine accepted paused left orders search).state ≡ without_guide d.state number
   guide_dropped left e numbers =
-      subst (λ (z : DeskView G O). (desk_of mode book engine accepted paused left orders search).state ≡ without_guide z.state number) is
-      (with_guides (desk_of mode book engine accepted paused guides orders search).state (numbers_of left.places) (without_number number (numbers_of guides.places)) left.chosen (chosen_without number guides.chosen) numbers
+      subst (λ (z : DeskView G O). (desk_of mode book weights engine accepted paused left orders search).state ≡ without_guide z.state number) is
+      (with_guides (desk_of mode book weights engine accepted paused guides orders search).state (numbers_of left.places) (without_number number (numbers_of guides.places)) left.chosen (chosen_without number guides.chosen) numbers
       (ap (λ (v : ObjectsView G). v.chosen) e))
 
   pub order_dropped : (left : ObjectsView O) → left ≡ without_object number orders → numbers_of left.places ≡ without_number number (numbers_of orders.places)
-      → (desk_of mode book engine accepted paused guides left search).state ≡ without_order d.state number
+      → (desk_of mode book weights engine accepted paused guides left search).state ≡ without_order d.state number
   order_dropped left e numbers =
-      subst (λ (z : DeskView G O). (desk_of mode book engine accepted paused guides left search).state ≡ without_order z.state number) is
-      (with_orders (desk_of mode book engine accepted paused guides orders search).state (numbers_of left.places) (without_number number (numbers_of orders.places)) left.chosen (chosen_without number orders.chosen) numbers
+      subst (λ (z : DeskView G O). (desk_of mode book weights engine accepted paused guides left search).state ≡ without_order z.state number) is
+      (with_orders (desk_of mode book weights engine accepted paused guides orders search).state (numbers_of left.places) (without_number number (numbers_of orders.places)) left.chosen (chosen_without number orders.chosen) numbers
       (ap (λ (v : ObjectsView O). v.chosen) e))

@@ -10,6 +10,7 @@ use Rattle.palm_session.specs.State.{SessionState, IsHeld, IsState}
 pub held_in : (mode : Mode) (s : SessionState) → IsHeld s → IsHeld (in_mode mode s)
 held_in mode s is = record {
   book = is.book;
+  weights = is.weights;
   accepted = is.accepted;
   numbered = is.numbered;
   guide = is.guide;

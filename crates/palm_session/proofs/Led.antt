@@ -17,6 +17,7 @@ use Rattle.palm_search.specs.Calls.{SearchView}
 use Rattle.palm_search.specs.Following.{SearchesBy}
 use Rattle.palm_search.specs.declared.ending.SearchEnd.{SearchEnd}
 use Rattle.palm_read.specs.declared.mode.Mode.{Mode}
+use Rattle.palm_prefer.specs.declared.weights.Weight.{Weight}
 use Rattle.palm_session.specs.Answers.{WaitsFor}
 use Rattle.palm_session.specs.Effects.{Next, next}
 use Rattle.palm_session.specs.Led.{Guiding, Ordering, SettlesBy, FiltersBy, SearchesOn, LeadsOn, next_left, objects_after, TakesLead, BecomesLead, HasRequest, LineLeads, LineBecomesLead}
@@ -37,49 +38,49 @@ use Rattle.palm_session.proofs.ReadOnce.{read_or_refused}
 
 -- ---- the calls of a desk
 
-pub settle_led : {G O : Type 0} (ordering : Ordering O) (mode : Mode) (book : Contents) (engine after : View) (accepted : ℕ) (paused : Bool) (guides : ObjectsView G) (orders more : ObjectsView O) (search : SearchView) (d : DeskView G O) (limit : Option ℕ)
-    → desk_of mode book engine accepted paused guides orders search ≡ d → LendsChosen orders more
+pub settle_led : {G O : Type 0} (ordering : Ordering O) (mode : Mode) (book : Contents) (weights : List Weight) (engine after : View) (accepted : ℕ) (paused : Bool) (guides : ObjectsView G) (orders more : ObjectsView O) (search : SearchView) (d : DeskView G O) (limit : Option ℕ)
+    → desk_of mode book weights engine accepted paused guides orders search ≡ d → LendsChosen orders more
     → SettlesBy ordering limit (chosen_object orders) (chosen_object more) engine.state after.state
-    → FiltersBy ordering limit d.state.engine d.objects (desk_of mode book after accepted paused guides more search).state.engine (desk_of mode book after accepted paused guides more search).objects
-settle_led {G = G} {O = O} ordering mode book engine after accepted paused guides orders more search d limit is lends by =
-    let e = desk_of mode book after accepted paused guides more search in
+    → FiltersBy ordering limit d.state.engine d.objects (desk_of mode book weights after accepted paused guides more search).state.engine (desk_of mode book weights after accepted paused guides more search).objects
+settle_led {G = G} {O = O} ordering mode book weights engine after accepted paused guides orders more search d limit is lends by =
+    let e = desk_of mode book weights after accepted paused guides more search in
     subst (λ (z : DeskView G O). FiltersBy ordering limit z.state.engine z.objects e.state.engine e.objects) is (record { settles = by; orders = lends; guides = refl })
 
-pub dbt_led : {G O E : Type 0} (guiding : Guiding G) (ordering : Ordering O) (mode : Mode) (book : Contents) (engine after : View) (accepted : ℕ) (paused : Bool) (guides others : ObjectsView G) (orders more : ObjectsView O) (search done : SearchView) (d : DeskView G O)
-    (budget : ℕ) (r : Result SearchEnd E) → desk_of mode book engine accepted paused guides orders search ≡ d → LendsChosen guides others → LendsChosen orders more
+pub dbt_led : {G O E : Type 0} (guiding : Guiding G) (ordering : Ordering O) (mode : Mode) (book : Contents) (weights : List Weight) (engine after : View) (accepted : ℕ) (paused : Bool) (guides others : ObjectsView G) (orders more : ObjectsView O) (search done : SearchView) (d : DeskView G O)
+    (budget : ℕ) (r : Result SearchEnd E) → desk_of mode book weights engine accepted paused guides orders search ≡ d → LendsChosen guides others → LendsChosen orders more
     → IfOk r (λ answer. SearchesBy guiding ordering (chosen_object guides) (chosen_object others) (chosen_object orders) (chosen_object more) budget engine.state done.journal answer after.state)
-    → OnOk r (SearchesOn guiding ordering (Dbt budget) d.state d.objects (desk_of mode book after accepted paused others more done).state (desk_of mode book after accepted paused others more done).objects)
-dbt_led {G = G} {O = O} guiding ordering mode book engine after accepted paused guides others orders more search done d budget (Ok answer) is one two by =
-    let e = desk_of mode book after accepted paused others more done in
+    → OnOk r (SearchesOn guiding ordering (Dbt budget) d.state d.objects (desk_of mode book weights after accepted paused others more done).state (desk_of mode book weights after accepted paused others more done).objects)
+dbt_led {G = G} {O = O} guiding ordering mode book weights engine after accepted paused guides others orders more search done d budget (Ok answer) is one two by =
+    let e = desk_of mode book weights after accepted paused others more done in
     subst (λ (z : DeskView G O). SearchesOn guiding ordering (Dbt budget) z.state z.objects e.state e.objects) is (record { runs = (answer, by); guides = one; orders = two })
-dbt_led guiding ordering mode book engine after accepted paused guides others orders more search done d budget (Err x) is one two by = tt
+dbt_led guiding ordering mode book weights engine after accepted paused guides others orders more search done d budget (Err x) is one two by = tt
 
-pub repair_led : {G O E : Type 0} (guiding : Guiding G) (ordering : Ordering O) (mode : Mode) (book : Contents) (engine after : View) (accepted : ℕ) (paused : Bool) (guides others : ObjectsView G) (orders more : ObjectsView O) (search done : SearchView) (d : DeskView G O)
-    (tabu budget : ℕ) (r : Result RepairAnswer E) → desk_of mode book engine accepted paused guides orders search ≡ d → LendsChosen guides others → LendsChosen orders more
+pub repair_led : {G O E : Type 0} (guiding : Guiding G) (ordering : Ordering O) (mode : Mode) (book : Contents) (weights : List Weight) (engine after : View) (accepted : ℕ) (paused : Bool) (guides others : ObjectsView G) (orders more : ObjectsView O) (search done : SearchView) (d : DeskView G O)
+    (tabu budget : ℕ) (r : Result RepairAnswer E) → desk_of mode book weights engine accepted paused guides orders search ≡ d → LendsChosen guides others → LendsChosen orders more
     → IfOk r (HasRepairedBy guiding ordering (chosen_object guides) (chosen_object others) (chosen_object orders) (chosen_object more) tabu budget engine.state done.journal after.state)
-    → OnOk r (SearchesOn guiding ordering (Repair tabu budget) d.state d.objects (desk_of mode book after accepted paused others more done).state (desk_of mode book after accepted paused others more done).objects)
-repair_led {G = G} {O = O} guiding ordering mode book engine after accepted paused guides others orders more search done d tabu budget (Ok answer) is one two by =
-    let e = desk_of mode book after accepted paused others more done in
+    → OnOk r (SearchesOn guiding ordering (Repair tabu budget) d.state d.objects (desk_of mode book weights after accepted paused others more done).state (desk_of mode book weights after accepted paused others more done).objects)
+repair_led {G = G} {O = O} guiding ordering mode book weights engine after accepted paused guides others orders more search done d tabu budget (Ok answer) is one two by =
+    let e = desk_of mode book weights after accepted paused others more done in
     subst (λ (z : DeskView G O). SearchesOn guiding ordering (Repair tabu budget) z.state z.objects e.state e.objects) is (record { runs = (answer, by); guides = one; orders = two })
-repair_led guiding ordering mode book engine after accepted paused guides others orders more search done d tabu budget (Err x) is one two by = tt
+repair_led guiding ordering mode book weights engine after accepted paused guides others orders more search done d tabu budget (Err x) is one two by = tt
 
-pub proof_led : {G O E : Type 0} (guiding : Guiding G) (ordering : Ordering O) (mode : Mode) (book : Contents) (engine after : View) (accepted : ℕ) (paused : Bool) (guides others : ObjectsView G) (orders more : ObjectsView O) (search done : SearchView) (d : DeskView G O)
-    (budget : ℕ) (r : Result Unit E) → desk_of mode book engine accepted paused guides orders search ≡ d → LendsChosen guides others → LendsChosen orders more
+pub proof_led : {G O E : Type 0} (guiding : Guiding G) (ordering : Ordering O) (mode : Mode) (book : Contents) (weights : List Weight) (engine after : View) (accepted : ℕ) (paused : Bool) (guides others : ObjectsView G) (orders more : ObjectsView O) (search done : SearchView) (d : DeskView G O)
+    (budget : ℕ) (r : Result Unit E) → desk_of mode book weights engine accepted paused guides orders search ≡ d → LendsChosen guides others → LendsChosen orders more
     → OnOk r ((end : SearchEnd) × SearchesBy guiding ordering (chosen_object guides) (chosen_object others) (chosen_object orders) (chosen_object more) budget engine.state done.journal end after.state)
-    → OnOk r (SearchesOn guiding ordering (Proof budget) d.state d.objects (desk_of mode book after accepted paused others more done).state (desk_of mode book after accepted paused others more done).objects)
-proof_led {G = G} {O = O} guiding ordering mode book engine after accepted paused guides others orders more search done d budget (Ok answer) is one two by =
-    let e = desk_of mode book after accepted paused others more done in
+    → OnOk r (SearchesOn guiding ordering (Proof budget) d.state d.objects (desk_of mode book weights after accepted paused others more done).state (desk_of mode book weights after accepted paused others more done).objects)
+proof_led {G = G} {O = O} guiding ordering mode book weights engine after accepted paused guides others orders more search done d budget (Ok answer) is one two by =
+    let e = desk_of mode book weights after accepted paused others more done in
     subst (λ (z : DeskView G O). SearchesOn guiding ordering (Proof budget) z.state z.objects e.state e.objects) is (record { runs = by; guides = one; orders = two })
-proof_led guiding ordering mode book engine after accepted paused guides others orders more search done d budget (Err x) is one two by = tt
+proof_led guiding ordering mode book weights engine after accepted paused guides others orders more search done d budget (Err x) is one two by = tt
 
-pub least_led : {G O E : Type 0} (guiding : Guiding G) (ordering : Ordering O) (mode : Mode) (book : Contents) (engine after : View) (accepted : ℕ) (paused : Bool) (guides others : ObjectsView G) (orders more : ObjectsView O) (search done : SearchView) (d : DeskView G O)
-    (target budget : ℕ) (r : Result Best E) → desk_of mode book engine accepted paused guides orders search ≡ d → LendsChosen guides others → LendsChosen orders more
+pub least_led : {G O E : Type 0} (guiding : Guiding G) (ordering : Ordering O) (mode : Mode) (book : Contents) (weights : List Weight) (engine after : View) (accepted : ℕ) (paused : Bool) (guides others : ObjectsView G) (orders more : ObjectsView O) (search done : SearchView) (d : DeskView G O)
+    (target budget : ℕ) (r : Result Best E) → desk_of mode book weights engine accepted paused guides orders search ≡ d → LendsChosen guides others → LendsChosen orders more
     → IfOk r (λ best. MinimizesBy guiding ordering (chosen_object guides) (chosen_object others) (chosen_object orders) (chosen_object more) target budget engine.state done.journal best after.state)
-    → OnOk r (SearchesOn guiding ordering (Least target budget) d.state d.objects (desk_of mode book after accepted paused others more done).state (desk_of mode book after accepted paused others more done).objects)
-least_led {G = G} {O = O} guiding ordering mode book engine after accepted paused guides others orders more search done d target budget (Ok best) is one two by =
-    let e = desk_of mode book after accepted paused others more done in
+    → OnOk r (SearchesOn guiding ordering (Least target budget) d.state d.objects (desk_of mode book weights after accepted paused others more done).state (desk_of mode book weights after accepted paused others more done).objects)
+least_led {G = G} {O = O} guiding ordering mode book weights engine after accepted paused guides others orders more search done d target budget (Ok best) is one two by =
+    let e = desk_of mode book weights after accepted paused others more done in
     subst (λ (z : DeskView G O). SearchesOn guiding ordering (Least target budget) z.state z.objects e.state e.objects) is (record { runs = (best, by); guides = one; orders = two })
-least_led guiding ordering mode book engine after accepted paused guides others orders more search done d target budget (Err x) is one two by = tt
+least_led guiding ordering mode book weights engine after accepted paused guides others orders more search done d target budget (Err x) is one two by = tt
 
 -- ---- what is left of a request
 

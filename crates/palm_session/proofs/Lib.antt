@@ -23,6 +23,7 @@ pub mod Made
 pub mod Minimizing
 pub mod OneEmpty
 pub mod Places
+mod Preferring
 pub mod Presents
 pub mod Proving
 pub mod ReadOnce
@@ -38,3 +39,4 @@ pub mod Taking
 pub mod Telling
 pub mod Users
 pub mod Versions
+mod Weighted

@@ -17,7 +17,7 @@ use Rattle.palm_book.specs.declared.book.BookCon.{BookCon}
 use Rattle.palm_read.specs.Domain.{values_in}
 use Rattle.palm_session.specs.declared.request.Procedure.{Procedure}
 use Rattle.palm_session.specs.declared.request.Request.{Request}
-use Rattle.palm_session.specs.declared.request.Request.TheVariants.{Nothing as NothingAsked, Header as HeaderAsked, Declare as DeclareAsked, DeclareIn, Add, Relax, Enforce, Retract, Ask, Pause, Resume, Step as StepAsked, Solve, ChooseGuide, DropGuide, ChooseOrder, DropOrder, Quit}
+use Rattle.palm_session.specs.declared.request.Request.TheVariants.{Nothing as NothingAsked, Header as HeaderAsked, Declare as DeclareAsked, DeclareIn, Add, Relax, Enforce, Retract, Ask, Pause, Resume, Step as StepAsked, Solve, ChooseGuide, DropGuide, ChooseOrder, DropOrder, Prefer, Quit}
 use Rattle.palm_session.specs.Requests.{Admits}
 use Rattle.palm_events.specs.Along.{IsFiltering, IsStill}
 use Rattle.palm_events.proofs.cited.Agreeing.{values_of_more}
@@ -159,6 +159,7 @@ changes_one s m (ChooseGuide chosen) is can h one = subst HasOne (sym h) one
 changes_one s m (DropGuide number) is can h one = subst HasOne (sym h) one
 changes_one s m (ChooseOrder chosen) is can h one = subst HasOne (sym h) one
 changes_one s m (DropOrder number) is can h one = subst HasOne (sym h) one
+changes_one s m (Prefer place weight) is can h one = subst HasOne (sym h.2) one
 changes_one s m Quit is can h one = subst HasOne (sym h) one
 
 settles_one : (m : SessionState) (limit : Option ℕ) (count : ℕ) (e : EngineState) → SettlesIn m limit count e → HasOne m → HasOneEmpty e

@@ -17,6 +17,7 @@ use Rattle.palm_search.specs.declared.ending.SearchEnd.{SearchEnd}
 use Rattle.palm_search.specs.declared.turn.Turn.{Turn}
 use Rattle.proof_run.proofs.cited.GoingOn.{proofs_go_on}
 use Rattle.proof_write.specs.Proving.{HasProved, HasWrittenSoFar}
+use Rattle.palm_prefer.specs.declared.weights.Weight.{Weight}
 use Rattle.palm_session.specs.Answers.{Answers, accepted, says}
 use Rattle.palm_session.specs.Asking.{asks_search}
 use Rattle.palm_session.specs.Effects.{InFull, Searched, with_search}
@@ -59,16 +60,16 @@ writes_front stop guided ordered budget book s turns before now valid users has 
 
 -- ---- the desk
 
-module _ {G O : Type 0} (mode : Mode) (book : Contents) (engine after : View) (accepted : ℕ) (paused : Bool) (guides others : ObjectsView G) (orders more : ObjectsView O) (search done : SearchView) (d : DeskView G O)
-    (budget : ℕ) (is : desk_of mode book engine accepted paused guides orders search ≡ d) (before now : Option (List ℕ)) where
+module _ {G O : Type 0} (mode : Mode) (book : Contents) (weights : List Weight) (engine after : View) (accepted : ℕ) (paused : Bool) (guides others : ObjectsView G) (orders more : ObjectsView O) (search done : SearchView) (d : DeskView G O)
+    (budget : ℕ) (is : desk_of mode book weights engine accepted paused guides orders search ≡ d) (before now : Option (List ℕ)) where
   pub desk_proved : {E : Type 0} (r : Result Unit E) → LendsChosen guides others → LendsChosen orders more
       → OnOk r (WritesProof (is_some guides.chosen) (is_some orders.chosen) budget book engine.state done.journal after.state before now)
-      → OnOk r (HasProvedIn d.state budget before now (desk_of mode book after accepted paused others more done).state)
+      → OnOk r (HasProvedIn d.state budget before now (desk_of mode book weights after accepted paused others more done).state)
   desk_proved (Ok x) one two writes = record {
     end = writes.end;
     text = writes.text;
-    run = searched_desk mode book engine after accepted paused guides others orders more search done d (Proof budget) writes.end (InFull writes.text) is one two
-        (proof_searches (desk_of mode book engine accepted paused guides orders search).state budget done.journal writes.end writes.text after.state writes.proves);
+    run = searched_desk mode book weights engine after accepted paused guides others orders more search done d (Proof budget) writes.end (InFull writes.text) is one two
+        (proof_searches (desk_of mode book weights engine accepted paused guides orders search).state budget done.journal writes.end writes.text after.state writes.proves);
     written = writes.written;
   }
   desk_proved (Err e) one two writes = tt
@@ -77,7 +78,7 @@ module _ {G O : Type 0} (mode : Mode) (book : Contents) (engine after : View) (a
       → IfErr r (λ stop. HasProvedFront stop d.state budget before now)
   desk_front (Ok x) writes = tt
   desk_front (Err stop) writes =
-      let was = (desk_of mode book engine accepted paused guides orders search).state in
+      let was = (desk_of mode book weights engine accepted paused guides orders search).state in
       subst (λ (z : DeskView G O). HasProvedFront stop z.state budget before now) is (record {
         end = writes.end;
         text = writes.text;

@@ -23,11 +23,11 @@ use Rattle.palm_read.specs.Domain.{values_in}
 use Rattle.palm_read.specs.Limits.{names_of}
 use Rattle.palm_read.specs.Sound.{IsSound}
 use Rattle.palm_read.specs.declared.line.Line.{Line}
-use Rattle.palm_read.specs.declared.line.Line.TheVariants.{Comment, Header, Var, VarIn, Add as AddLine, Relax as RelaxLine, Enforce as EnforceLine, Retract as RetractLine, Domains as DomainsLine, Domain as DomainLine, List as ListLine, Log as LogLine, Why as WhyLine, Conflict as ConflictLine, Minimal as MinimalLine, MinimalConflict as MinimalConflictLine, Cert as CertLine, CertConflict as CertConflictLine, Pause as PauseLine, Resume as ResumeLine, Step as StepLine, SolveDbt, SolveRepair, Prove, Minimize, Guide, GuideNone, Order, OrderNone, DropGuide as DropGuideLine, DropOrder as DropOrderLine, Quit as QuitLine}
+use Rattle.palm_read.specs.declared.line.Line.TheVariants.{Comment, Header, Var, VarIn, Add as AddLine, Relax as RelaxLine, Enforce as EnforceLine, Retract as RetractLine, Domains as DomainsLine, Domain as DomainLine, List as ListLine, Log as LogLine, Why as WhyLine, Conflict as ConflictLine, Minimal as MinimalLine, MinimalConflict as MinimalConflictLine, Cert as CertLine, CertConflict as CertConflictLine, Pause as PauseLine, Resume as ResumeLine, Step as StepLine, SolveDbt, SolveRepair, Prove, Minimize, Prefer as PreferLine, PreferNone, Preferred as PreferredLine, Guide, GuideNone, Order, OrderNone, DropGuide as DropGuideLine, DropOrder as DropOrderLine, Quit as QuitLine}
 use Rattle.palm_session.specs.declared.request.Procedure.TheVariants.{Dbt, Repair, Proof, Least}
-use Rattle.palm_session.specs.declared.request.Question.TheVariants.{Domains as DomainsAsked, Domain, List as Listed, Log, Why, Conflict, Minimal, MinimalConflict, Cert, CertConflict}
+use Rattle.palm_session.specs.declared.request.Question.TheVariants.{Domains as DomainsAsked, Domain, List as Listed, Log, Why, Conflict, Minimal, MinimalConflict, Cert, CertConflict, Preferred}
 use Rattle.palm_session.specs.declared.request.Request.{Request}
-use Rattle.palm_session.specs.declared.request.Request.TheVariants.{Nothing as NothingAsked, Header as HeaderAsked, Declare, DeclareIn, Add, Relax, Enforce, Retract, Ask, Pause, Resume, Step, Solve, ChooseGuide, DropGuide, ChooseOrder, DropOrder, Quit}
+use Rattle.palm_session.specs.declared.request.Request.TheVariants.{Nothing as NothingAsked, Header as HeaderAsked, Declare, DeclareIn, Add, Relax, Enforce, Retract, Ask, Pause, Resume, Step, Solve, ChooseGuide, DropGuide, ChooseOrder, DropOrder, Prefer, Quit}
 use Rattle.palm_session.specs.State.{SessionState, IsHeld, HasConstraint, HasVariable}
 use Rattle.palm_session.specs.Refusals.{HasActive, IsUndeclared, IsUnknown, Meets, in_order}
 use Rattle.palm_session.specs.Requests.{Admits, IsAdmitted, IsPlaceOf, Requests}
@@ -94,6 +94,9 @@ request_exists s (SolveDbt budget) none = (Solve (Dbt budget), refl)
 request_exists s (SolveRepair tabu budget) none = (Solve (Repair tabu budget), refl)
 request_exists s (Prove budget) none = (Solve (Proof budget), refl)
 request_exists s (Minimize name budget) none = let x = variable_exists s name none.1.0 in (Solve (Least x.0 budget), (x.0, x.1, refl))
+request_exists s (PreferLine name weight) none = let p = place_exists s name none.1.1.0 in (Prefer p.0 (Some weight), (p.0, p.1, refl))
+request_exists s (PreferNone name) none = let p = place_exists s name none.1.1.0 in (Prefer p.0 None, (p.0, p.1, refl))
+request_exists s PreferredLine none = (Ask Preferred, refl)
 request_exists s (Guide number) none = (ChooseGuide (Some number), refl)
 request_exists s GuideNone none = (ChooseGuide None, refl)
 request_exists s (Order number) none = (ChooseOrder (Some number), refl)
@@ -160,6 +163,9 @@ module _ (s : SessionState) (is : IsHeld s) where
   request_once (Prove budget) a b x y = x ∙ sym y
   request_once (Minimize name budget) a b x y =
       x.2 ∙ ap (λ (v : ℕ). Solve (Least v budget)) (variable_is s.book.variables name x.0 y.0 is.book.different_variables x.1 y.1) ∙ sym y.2
+  request_once (PreferLine name weight) a b x y = named_once name (λ place. Prefer place (Some weight)) a b x y
+  request_once (PreferNone name) a b x y = named_once name (λ place. Prefer place None) a b x y
+  request_once PreferredLine a b x y = x ∙ sym y
   request_once (Guide number) a b x y = x ∙ sym y
   request_once GuideNone a b x y = x ∙ sym y
   request_once (Order number) a b x y = x ∙ sym y
@@ -280,6 +286,13 @@ module _ (s : SessionState) (is : IsHeld s) where
   admits (SolveRepair length budget) request sound tabu a = subst (Admits s) (sym a.requests) tabu
   admits (Prove budget) request sound tabu a = subst (Admits s) (sym a.requests) tt
   admits (Minimize name budget) request sound tabu a = subst (Admits s) (sym a.requests.2) a.requests.1.declared
+  admits (PreferLine name weight) request sound tabu a =
+      let p = a.requests.1 in
+      subst (Admits s) (sym a.requests.2) (slice_get_within s.book.constraints a.requests.0 p.constraint p.at)
+  admits (PreferNone name) request sound tabu a =
+      let p = a.requests.1 in
+      subst (Admits s) (sym a.requests.2) (slice_get_within s.book.constraints a.requests.0 p.constraint p.at)
+  admits PreferredLine request sound tabu a = subst (Admits s) (sym a.requests) tt
   admits (Guide number) request sound tabu a = subst (Admits s) (sym a.requests) (listed s.guides number a.none.1.1.1.1.0)
   admits GuideNone request sound tabu a = subst (Admits s) (sym a.requests) tt
   admits (Order number) request sound tabu a = subst (Admits s) (sym a.requests) (listed s.orders number a.none.1.1.1.1.0)

@@ -11,7 +11,7 @@ use Rattle.palm_book.specs.declared.book.BookCon.{BookCon}
 use Rattle.palm_read.specs.Domain.{values_in}
 use Rattle.palm_session.specs.declared.request.Procedure.{Procedure}
 use Rattle.palm_session.specs.declared.request.Request.{Request}
-use Rattle.palm_session.specs.declared.request.Request.TheVariants.{Nothing as NothingAsked, Header as HeaderAsked, Declare as DeclareAsked, DeclareIn, Add, Relax, Enforce, Retract, Ask, Pause, Resume, Step as StepAsked, Solve, ChooseGuide, DropGuide, ChooseOrder, DropOrder, Quit}
+use Rattle.palm_session.specs.declared.request.Request.TheVariants.{Nothing as NothingAsked, Header as HeaderAsked, Declare as DeclareAsked, DeclareIn, Add, Relax, Enforce, Retract, Ask, Pause, Resume, Step as StepAsked, Solve, ChooseGuide, DropGuide, ChooseOrder, DropOrder, Prefer, Quit}
 use Rattle.palm_session.specs.Requests.{Admits}
 use Rattle.palm_events.specs.Along.{IsStill}
 use Rattle.palm_search.specs.declared.ending.SearchEnd.{SearchEnd}
@@ -76,6 +76,7 @@ changes_run s m (ChooseGuide chosen) h = by_none s m (ap (λ (z : SessionState).
 changes_run s m (DropGuide number) h = by_none s m (ap (λ (z : SessionState). z.engine) h)
 changes_run s m (ChooseOrder chosen) h = by_none s m (ap (λ (z : SessionState). z.engine) h)
 changes_run s m (DropOrder number) h = by_none s m (ap (λ (z : SessionState). z.engine) h)
+changes_run s m (Prefer place weight) h = by_none s m (ap (λ (z : SessionState). z.engine) h.2)
 changes_run s m Quit h = by_none s m (engine_same s m h)
 
 -- ---- requests

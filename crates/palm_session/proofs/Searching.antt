@@ -167,6 +167,7 @@ searched_state s by turns end telling e is search =
     record {
       held = record {
         book = is.book;
+        weights = is.weights;
         accepted = is.accepted;
         numbered = is.numbered;
         guide = is.guide;

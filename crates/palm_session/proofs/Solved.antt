@@ -18,6 +18,7 @@ use Rattle.palm_book.specs.Book.{Contents, IsUser}
 use Rattle.proof_run.specs.Text.{Proves}
 use Rattle.palm_lang.specs.declared.reply.Lead.TheVariants.{NoSolution as NoSolutionLead}
 use Rattle.palm_read.specs.declared.mode.Mode.{Mode}
+use Rattle.palm_prefer.specs.declared.weights.Weight.{Weight}
 use Rattle.palm_session.specs.declared.reply.Reply.TheVariants.{Found as FoundReply, Users, Spent as SpentReply, Best as BestReply}
 use Rattle.palm_session.specs.declared.request.Procedure.{Procedure}
 use Rattle.palm_session.specs.declared.request.Procedure.TheVariants.{Dbt, Repair, Proof, Least}
@@ -122,17 +123,17 @@ least_searches s target budget turns e best h =
     let searches : SearchesByLeast s target budget turns (best_end best) (best_telling best) e = record { best = best; minimizes = h; ended = refl; told = refl } in searches
 
 -- lent objects have the same numbers
-pub lent_state : {G O : Type 0} (mode : Mode) (book : Contents) (engine after : View) (accepted : ℕ) (paused : Bool) (guides others : ObjectsView G) (orders more : ObjectsView O) (search done : SearchView)
+pub lent_state : {G O : Type 0} (mode : Mode) (book : Contents) (weights : List Weight) (engine after : View) (accepted : ℕ) (paused : Bool) (guides others : ObjectsView G) (orders more : ObjectsView O) (search done : SearchView)
     → LendsChosen guides others → LendsChosen orders more
-    → (desk_of mode book after accepted paused others more done).state ≡ with_search (desk_of mode book engine accepted paused guides orders search).state done.journal after.state
-lent_state mode book engine after accepted paused guides others orders more search done one two =
+    → (desk_of mode book weights after accepted paused others more done).state ≡ with_search (desk_of mode book weights engine accepted paused guides orders search).state done.journal after.state
+lent_state mode book weights engine after accepted paused guides others orders more search done one two =
     rw (one.numbers, one.chosen, two.numbers, two.chosen) refl
 
 -- with what a desk holds
-pub searched_desk : {G O : Type 0} (mode : Mode) (book : Contents) (engine after : View) (accepted : ℕ) (paused : Bool) (guides others : ObjectsView G) (orders more : ObjectsView O) (search done : SearchView) (d : DeskView G O) (by : Procedure) (end : SearchEnd) (telling : Telling)
-    → desk_of mode book engine accepted paused guides orders search ≡ d → LendsChosen guides others → LendsChosen orders more
-    → SearchesIn (desk_of mode book engine accepted paused guides orders search).state by done.journal end telling after.state
-    → HasRun d.state by end telling (desk_of mode book after accepted paused others more done).state
-searched_desk {G = G} {O = O} mode book engine after accepted paused guides others orders more search done d by end telling is one two searches =
-    subst (λ (z : DeskView G O). HasRun z.state by end telling (desk_of mode book after accepted paused others more done).state) is
-    (record { turns = done.journal; engine = after.state; searches = searches; after = lent_state mode book engine after accepted paused guides others orders more search done one two })
+pub searched_desk : {G O : Type 0} (mode : Mode) (book : Contents) (weights : List Weight) (engine after : View) (accepted : ℕ) (paused : Bool) (guides others : ObjectsView G) (orders more : ObjectsView O) (search done : SearchView) (d : DeskView G O) (by : Procedure) (end : SearchEnd) (telling : Telling)
+    → desk_of mode book weights engine accepted paused guides orders search ≡ d → LendsChosen guides others → LendsChosen orders more
+    → SearchesIn (desk_of mode book weights engine accepted paused guides orders search).state by done.journal end telling after.state
+    → HasRun d.state by end telling (desk_of mode book weights after accepted paused others more done).state
+searched_desk {G = G} {O = O} mode book weights engine after accepted paused guides others orders more search done d by end telling is one two searches =
+    subst (λ (z : DeskView G O). HasRun z.state by end telling (desk_of mode book weights after accepted paused others more done).state) is
+    (record { turns = done.journal; engine = after.state; searches = searches; after = lent_state mode book weights engine after accepted paused guides others orders more search done one two })

@@ -21,7 +21,7 @@ use Rattle.palm_session.specs.Requests.{IsAdmitted}
 use Rattle.palm_session.specs.Replies.{AreAnswered, BeginsVersion2, Replies, RepliesFrom, Run}
 use Rattle.palm_session.specs.State.{SessionState, fresh}
 use Rattle.palm_session.specs.declared.request.Request.{Request}
-use Rattle.palm_session.specs.declared.request.Request.TheVariants.{Nothing as NothingAsked, Header as HeaderAsked, Declare, DeclareIn, Add, Relax, Enforce, Retract, Ask, Pause, Resume, Step, Solve, ChooseGuide, DropGuide, ChooseOrder, DropOrder, Quit}
+use Rattle.palm_session.specs.declared.request.Request.TheVariants.{Nothing as NothingAsked, Header as HeaderAsked, Declare, DeclareIn, Add, Relax, Enforce, Retract, Ask, Pause, Resume, Step, Solve, ChooseGuide, DropGuide, ChooseOrder, DropOrder, Prefer, Quit}
 use Rattle.palm_session.proofs.Admitting.{free_of_refusals}
 use Rattle.palm_session.proofs.cited.LawsOfTexts.{front_of}
 
@@ -48,6 +48,7 @@ changes_mode s m (ChooseGuide chosen) h = same_mode _ m h
 changes_mode s m (DropGuide number) h = same_mode _ m h
 changes_mode s m (ChooseOrder chosen) h = same_mode _ m h
 changes_mode s m (DropOrder number) h = same_mode _ m h
+changes_mode s m (Prefer place weight) h = same_mode _ m h.2
 changes_mode s m Quit h = same_mode s m h
 
 follows_mode : (m : SessionState) (n : Next) (effect : Effect) (t : SessionState) → Follows m n effect t → t.mode ≡ m.mode

@@ -7,23 +7,27 @@ use Rattle.palm_model.specs.Domains.{Domains, Has, values_of}
 use Rattle.palm_model.specs.Log.{Removal, NamesOfPair, IsListOf}
 use Rattle.palm_model.specs.State.{IsEmptyAt, present}
 use Rattle.palm_model.specs.Conflict.{IsKeptConflict}
-use Rattle.palm_book.specs.Book.{BookVar, Contents, active_of, initial_of, name_of, user_name}
+use Rattle.palm_book.specs.Book.{BookVar, Contents, active_of, initial_of, name_of, number_name, user_name}
 use Rattle.palm_model.specs.Minimal.{AreConflict, DoExplain, IsMinimalConflict, IsMinimalExplanation}
 use Rattle.palm_claim.specs.declared.verdict.Claim.TheVariants.{Gone, Conflict as ConflictClaim}
 use Rattle.palm_cert.specs.Certificate.{certificate_text}
 use Rattle.palm_read.specs.Reading.{IsRead, IsRefusedBy}
-use Rattle.palm_lang.specs.Reply.{fixed_text, refusal_text, ran_text, domain_line, var_line, entry_line, removal_line, names_line, best_line, found_line, spent_best_line, spent_line}
+use Rattle.palm_lang.specs.Reply.{fixed_text, refusal_text, ran_text, domain_line, var_line, entry_line, removal_line, names_line, best_line, leave_line, found_line, spent_best_line, spent_line}
 use Rattle.palm_lang.specs.declared.reply.Lead.{Lead}
-use Rattle.palm_lang.specs.declared.reply.Lead.TheVariants.{Because, Conflict as ConflictLead, NoSolution as NoSolutionLead, Proved}
+use Rattle.palm_lang.specs.declared.reply.Lead.TheVariants.{Because, Conflict as ConflictLead, NoSolution as NoSolutionLead, Proved, HardConflict, Keep}
+use Rattle.palm_prefer.specs.Preferred.{IsPreferred}
+use Rattle.palm_prefer.specs.declared.answer.LeftOut.{LeftOut}
+use Rattle.palm_prefer.specs.declared.answer.Preferred.{Preferred}
+use Rattle.palm_prefer.specs.declared.answer.Preferred.TheVariants.{Hard, Kept}
 use Rattle.palm_read.specs.declared.line.Line.{Line}
 use Rattle.palm_read.specs.declared.parse.LineError.{LineError}
 use Rattle.palm_lang.specs.declared.reply.Fixed.TheVariants.{Done, Contradiction, Paused, Present, Consistent, Bye, End}
 use Rattle.palm_lang.specs.declared.reply.Refusal.{Refusal}
 use Rattle.palm_session.specs.State.{SessionState, AreDomains, IsContradiction, has_empty}
 use Rattle.palm_session.specs.declared.request.Question.{Question}
-use Rattle.palm_session.specs.declared.request.Question.TheVariants.{Domains as DomainsAsked, Domain, List as Listed, Log, Why, Conflict, Minimal, MinimalConflict, Cert, CertConflict}
+use Rattle.palm_session.specs.declared.request.Question.TheVariants.{Domains as DomainsAsked, Domain, List as Listed, Log, Why, Conflict, Minimal, MinimalConflict, Cert, CertConflict, Preferred as PreferredAsked}
 use Rattle.palm_session.specs.declared.request.Request.{Request}
-use Rattle.palm_session.specs.declared.request.Request.TheVariants.{Nothing as NothingAsked, Header as HeaderAsked, Declare, DeclareIn, Add, Relax, Enforce, Retract, Ask, Pause, Resume, Step, Solve, ChooseGuide, DropGuide, ChooseOrder, DropOrder, Quit}
+use Rattle.palm_session.specs.declared.request.Request.TheVariants.{Nothing as NothingAsked, Header as HeaderAsked, Declare, DeclareIn, Add, Relax, Enforce, Retract, Ask, Pause, Resume, Step, Solve, ChooseGuide, DropGuide, ChooseOrder, DropOrder, Prefer, Quit}
 use Rattle.palm_search.specs.declared.ending.SearchEnd.{SearchEnd}
 use Rattle.palm_search.specs.declared.ending.SearchEnd.TheVariants.{Found, NoSolution, Spent}
 use Rattle.palm_session.specs.Modes.{heard, misheard}
@@ -155,6 +159,19 @@ abbrev pub SaysCertConflict : SessionState → Domains → List ℕ → Type 0
 SaysCertConflict s d reply = ((has_empty d ≡ false) × (reply ≡ fixed_text Consistent))
     ⊎ ((has_empty d ≡ true) × (x : ℕ) × IsLowestEmpty s x × (reply ≡ certificate_text s.book s.engine.log (ConflictClaim x)))
 
+-- a constraint that is left out, with the conflict for which it is
+abbrev pub left_text : Contents → LeftOut → List ℕ
+left_text book out = leave_line (number_name book.constraints out.number) (map (user_name book.constraints) out.conflict)
+
+-- the conflict of the constraints without a weight; or those that are kept, a line for each that is left out, and `end`
+abbrev pub preferred_text : Contents → Preferred → List ℕ
+preferred_text book (Hard conflict) = users_text book HardConflict conflict
+preferred_text book (Kept keep left) = users_text book Keep keep ++ flat_map (left_text book) left ++ fixed_text End
+
+-- what is preferred of the active constraints by the weights
+abbrev pub SaysPreferred : SessionState → List ℕ → Type 0
+SaysPreferred s reply = (preferred : Preferred) × IsPreferred s.book s.weights preferred × (reply ≡ preferred_text s.book preferred)
+
 -- the answer to a question, by what is held
 abbrev pub IsAnswer : SessionState → Question → List ℕ → Type 0
 IsAnswer s DomainsAsked reply = (d : Domains) × AreDomains s d × (reply ≡ domains_text s.book.variables d)
@@ -167,6 +184,7 @@ IsAnswer s (Minimal pair) reply = SaysMinimal s.book pair reply
 IsAnswer s MinimalConflict reply = SaysMinimalConflict s.book reply
 IsAnswer s (Cert pair) reply = (d : Domains) × AreDomains s d × SaysCert s d pair reply
 IsAnswer s CertConflict reply = (d : Domains) × AreDomains s d × SaysCertConflict s d reply
+IsAnswer s PreferredAsked reply = SaysPreferred s reply
 
 -- the reply of the request's own, by what is held after it and by what happened; an effect that the request cannot have has
 -- no reply
@@ -188,6 +206,7 @@ Says s (ChooseGuide chosen) effect reply = reply ≡ fixed_text Done
 Says s (DropGuide number) effect reply = reply ≡ fixed_text Done
 Says s (ChooseOrder chosen) effect reply = reply ≡ fixed_text Done
 Says s (DropOrder number) effect reply = reply ≡ fixed_text Done
+Says s (Prefer place weight) effect reply = reply ≡ fixed_text Done
 Says s Quit effect reply = reply ≡ fixed_text Bye
 Says s _ _ reply = ⊥
 

@@ -1,5 +1,5 @@
 -- What an admitted request does.
-use Rattle.std.specs.Prelude.{◌≡◌, ℕ, ℤ, ◌+◌, Bool, true, false, List, [], ◌∷◌, ◌++◌, length, Option, Some, None, is_some, slice_get, remove, if◌then◌else◌}
+use Rattle.std.specs.Prelude.{◌≡◌, ℕ, ℤ, ◌+◌, ◌==◌, not, filter, Bool, true, false, List, [], ◌∷◌, ◌++◌, length, Option, Some, None, is_some, slice_get, remove, if◌then◌else◌}
 use Rattle.palm_base.specs.declared.terms.Cid.{Cid}
 use Rattle.palm_base.specs.declared.terms.Cid.TheVariants.{User}
 use Rattle.palm_model.specs.State.{EngineState}
@@ -18,12 +18,13 @@ use Rattle.palm_best.specs.declared.best.Best.TheVariants.{Least as LeastFound, 
 use Rattle.proof_run.specs.Text.{Proves}
 use Rattle.palm_book.specs.Book.{with_active, user_at}
 use Rattle.palm_book.specs.declared.book.BookCon.{BookCon}
+use Rattle.palm_prefer.specs.declared.weights.Weight.{Weight}
 use Rattle.palm_read.specs.Domain.{values_in}
 use Rattle.palm_read.specs.declared.line.DomainText.{DomainText}
 use Rattle.palm_session.specs.declared.request.Procedure.{Procedure}
 use Rattle.palm_session.specs.declared.request.Procedure.TheVariants.{Dbt, Repair, Proof, Least}
 use Rattle.palm_session.specs.declared.request.Request.{Request}
-use Rattle.palm_session.specs.declared.request.Request.TheVariants.{Nothing as NothingAsked, Header as HeaderAsked, Declare, DeclareIn, Add, Relax, Enforce, Retract, Ask, Pause, Resume, Step, Solve, ChooseGuide, DropGuide, ChooseOrder, DropOrder, Quit}
+use Rattle.palm_session.specs.declared.request.Request.TheVariants.{Nothing as NothingAsked, Header as HeaderAsked, Declare, DeclareIn, Add, Relax, Enforce, Retract, Ask, Pause, Resume, Step, Solve, ChooseGuide, DropGuide, ChooseOrder, DropOrder, Prefer, Quit}
 use Rattle.palm_session.specs.Objects.{without_number, chosen_without}
 use Rattle.palm_session.specs.State.{SessionState}
 
@@ -73,9 +74,25 @@ with_constraint s name con = record s {
 abbrev pub with_active_at : SessionState → ℕ → Bool → SessionState
 with_active_at s place active = record s { book = record s.book { constraints = with_active s.book.constraints place active } }
 
--- the constraint at the place is taken out of the book
-abbrev pub without_constraint : SessionState → ℕ → SessionState
-without_constraint s place = record s { book = record s.book { constraints = remove s.book.constraints place } }
+-- the weights without that of the constraint with the number
+abbrev pub without_weight : ℕ → List Weight → List Weight
+without_weight number weights = filter (λ w. not (w.number == number)) weights
+
+-- the weights where the constraint with the number has this one, or none
+abbrev pub weighing : ℕ → Option ℕ → List Weight → List Weight
+weighing number None weights = without_weight number weights
+weighing number (Some weight) weights = without_weight number weights ++ record { number = number; weight = weight } ∷ []
+
+-- the constraint has this weight, or none
+abbrev pub with_weight : SessionState → BookCon → Option ℕ → SessionState
+with_weight s c weight = record s { weights = weighing c.number weight s.weights }
+
+-- the constraint at the place is taken out of the book, and its weight with it
+abbrev pub without_constraint : SessionState → ℕ → BookCon → SessionState
+without_constraint s place c = record s {
+  book = record s.book { constraints = remove s.book.constraints place };
+  weights = without_weight c.number s.weights;
+}
 
 -- the guide with the number is there no longer, and where it was chosen, none is
 abbrev pub without_guide : SessionState → ℕ → SessionState
@@ -120,7 +137,7 @@ Changes s (Enforce place) t =
     × (t ≡ with_engine (with_active_at s place true) e)
 Changes s (Retract place) t =
     (c : BookCon) × (e : EngineState) × (slice_get s.book.constraints place ≡ Some c) × WithdrawsActive s.engine c e
-    × (t ≡ with_engine (without_constraint s place) e)
+    × (t ≡ with_engine (without_constraint s place c) e)
 Changes s (Ask question) t = t ≡ s
 Changes s Pause t = t ≡ record s { paused = true }
 Changes s Resume t = t ≡ record s { paused = false }
@@ -130,6 +147,7 @@ Changes s (ChooseGuide chosen) t = t ≡ record s { guide = chosen }
 Changes s (DropGuide number) t = t ≡ without_guide s number
 Changes s (ChooseOrder chosen) t = t ≡ record s { order = chosen }
 Changes s (DropOrder number) t = t ≡ without_order s number
+Changes s (Prefer place weight) t = (c : BookCon) × (slice_get s.book.constraints place ≡ Some c) × (t ≡ with_weight s c weight)
 Changes s Quit t = t ≡ s
 
 -- ---- what follows

@@ -2,7 +2,7 @@
 use Rattle.std.specs.Prelude.{◌≡◌, ◌≤◌, Bool, true, false, List, [], ◌∷◌, ◌⊎◌, ℕ, ℤ, length, Any, Contains, Option, Some, None}
 use Rattle.palm_read.specs.Limits.{names_of, IsBeyond}
 use Rattle.palm_read.specs.declared.line.Line.{Line}
-use Rattle.palm_read.specs.declared.line.Line.TheVariants.{Var, VarIn, Add, Relax, Enforce, Retract, Domain, Why, Minimal, Cert, Pause, Resume, Step, Minimize, Guide, Order, DropGuide, DropOrder}
+use Rattle.palm_read.specs.declared.line.Line.TheVariants.{Var, VarIn, Add, Relax, Enforce, Retract, Domain, Why, Minimal, Cert, Pause, Resume, Step, Minimize, Prefer, PreferNone, Guide, Order, DropGuide, DropOrder}
 use Rattle.palm_read.specs.declared.parse.LineError.{LineError}
 use Rattle.palm_read.specs.declared.parse.LineError.TheVariants.{Bytes, Form, Range as OutOfRange, Empty, Repeated, NoMemory}
 use Rattle.palm_lang.specs.declared.reply.Refusal.{Refusal}
@@ -37,6 +37,8 @@ abbrev pub NamesNoConstraint : SessionState → Line → Type 0
 NamesNoConstraint s (Relax name) = HasConstraint s name → ⊥
 NamesNoConstraint s (Enforce name) = HasConstraint s name → ⊥
 NamesNoConstraint s (Retract name) = HasConstraint s name → ⊥
+NamesNoConstraint s (Prefer name weight) = HasConstraint s name → ⊥
+NamesNoConstraint s (PreferNone name) = HasConstraint s name → ⊥
 NamesNoConstraint s _ = ⊥
 
 -- there are as many variables as its mode allows

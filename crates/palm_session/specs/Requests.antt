@@ -13,13 +13,13 @@ use Rattle.palm_read.specs.Domain.{IsLarge, IsSoundDomain, values_in}
 use Rattle.palm_read.specs.Name.{IsNameText}
 use Rattle.palm_read.specs.declared.line.DomainText.{DomainText}
 use Rattle.palm_read.specs.declared.line.Line.{Line}
-use Rattle.palm_read.specs.declared.line.Line.TheVariants.{Comment, Header, Var, VarIn, Add as AddLine, Relax as RelaxLine, Enforce as EnforceLine, Retract as RetractLine, Domains as DomainsLine, Domain as DomainLine, List as ListLine, Log as LogLine, Why as WhyLine, Conflict as ConflictLine, Minimal as MinimalLine, MinimalConflict as MinimalConflictLine, Cert as CertLine, CertConflict as CertConflictLine, Pause as PauseLine, Resume as ResumeLine, Step as StepLine, SolveDbt, SolveRepair, Prove, Minimize, Guide, GuideNone, Order, OrderNone, DropGuide as DropGuideLine, DropOrder as DropOrderLine, Quit as QuitLine}
+use Rattle.palm_read.specs.declared.line.Line.TheVariants.{Comment, Header, Var, VarIn, Add as AddLine, Relax as RelaxLine, Enforce as EnforceLine, Retract as RetractLine, Domains as DomainsLine, Domain as DomainLine, List as ListLine, Log as LogLine, Why as WhyLine, Conflict as ConflictLine, Minimal as MinimalLine, MinimalConflict as MinimalConflictLine, Cert as CertLine, CertConflict as CertConflictLine, Pause as PauseLine, Resume as ResumeLine, Step as StepLine, SolveDbt, SolveRepair, Prove, Minimize, Prefer as PreferLine, PreferNone, Preferred as PreferredLine, Guide, GuideNone, Order, OrderNone, DropGuide as DropGuideLine, DropOrder as DropOrderLine, Quit as QuitLine}
 use Rattle.palm_session.specs.declared.request.Procedure.{Procedure}
 use Rattle.palm_session.specs.declared.request.Procedure.TheVariants.{Dbt, Repair, Proof, Least}
 use Rattle.palm_session.specs.declared.request.Question.{Question}
-use Rattle.palm_session.specs.declared.request.Question.TheVariants.{Domains, Domain, List as Listed, Log, Why, Conflict, Minimal, MinimalConflict, Cert, CertConflict}
+use Rattle.palm_session.specs.declared.request.Question.TheVariants.{Domains, Domain, List as Listed, Log, Why, Conflict, Minimal, MinimalConflict, Cert, CertConflict, Preferred}
 use Rattle.palm_session.specs.declared.request.Request.{Request}
-use Rattle.palm_session.specs.declared.request.Request.TheVariants.{Nothing as NothingAsked, Header as HeaderAsked, Declare, DeclareIn, Add, Relax, Enforce, Retract, Ask, Pause, Resume, Step, Solve, ChooseGuide, DropGuide, ChooseOrder, DropOrder, Quit}
+use Rattle.palm_session.specs.declared.request.Request.TheVariants.{Nothing as NothingAsked, Header as HeaderAsked, Declare, DeclareIn, Add, Relax, Enforce, Retract, Ask, Pause, Resume, Step, Solve, ChooseGuide, DropGuide, ChooseOrder, DropOrder, Prefer, Quit}
 use Rattle.palm_session.specs.State.{SessionState, HasVariable, HasConstraint}
 use Rattle.palm_session.specs.Effects.{next_within, with_variable}
 use Rattle.palm_session.specs.Refusals.{IsFullOfConstraints, IsFullOfVariables, IsUndeclared, IsUnknown, Meets, in_order}
@@ -59,6 +59,9 @@ Requests s (SolveDbt budget) request = request ≡ Solve (Dbt budget)
 Requests s (SolveRepair tabu budget) request = request ≡ Solve (Repair tabu budget)
 Requests s (Prove budget) request = request ≡ Solve (Proof budget)
 Requests s (Minimize name budget) request = (x : ℕ) × IsVariable s.book.variables name x × (request ≡ Solve (Least x budget))
+Requests s (PreferLine name weight) request = (place : ℕ) × IsPlaceOf s name place × (request ≡ Prefer place (Some weight))
+Requests s (PreferNone name) request = (place : ℕ) × IsPlaceOf s name place × (request ≡ Prefer place None)
+Requests s PreferredLine request = request ≡ Ask Preferred
 Requests s (Guide number) request = request ≡ ChooseGuide (Some number)
 Requests s GuideNone request = request ≡ ChooseGuide None
 Requests s (Order number) request = request ≡ ChooseOrder (Some number)
@@ -172,4 +175,5 @@ Admits s (ChooseGuide chosen) = IfSome chosen (Contains s.guides)
 Admits s (DropGuide number) = Contains s.guides number
 Admits s (ChooseOrder chosen) = IfSome chosen (Contains s.orders)
 Admits s (DropOrder number) = Contains s.orders number
+Admits s (Prefer place weight) = place < length s.book.constraints
 Admits s _ = ⊤

@@ -13,6 +13,7 @@ use Rattle.palm_repair.specs.declared.answer.RepairAnswer.{RepairAnswer}
 use Rattle.palm_book.specs.Book.{Contents}
 use Rattle.palm_lang.specs.Reply.{fixed_text}
 use Rattle.palm_lang.specs.declared.reply.Fixed.TheVariants.{Done, Bye}
+use Rattle.palm_prefer.specs.declared.weights.Weight.{Weight}
 use Rattle.palm_read.specs.declared.mode.Mode.{Mode}
 use Rattle.palm_session.specs.Objects.{ObjectsView, HeldObjects, numbers_of}
 use Rattle.palm_session.specs.State.{SessionState, fresh}
@@ -42,11 +43,12 @@ pub record DeskView (G O : Type 0) : Type 0 where
   pub objects : HeldObjects G O
 
 -- what is seen of the parts of a desk
-abbrev pub desk_of : {G O : Type 0} → Mode → Contents → View → ℕ → Bool → ObjectsView G → ObjectsView O → SearchView → DeskView G O
-desk_of mode book engine accepted paused guides orders search = record {
+abbrev pub desk_of : {G O : Type 0} → Mode → Contents → List Weight → View → ℕ → Bool → ObjectsView G → ObjectsView O → SearchView → DeskView G O
+desk_of mode book weights engine accepted paused guides orders search = record {
   state = record (fresh (numbers_of guides.places) (numbers_of orders.places)) {
     mode = mode;
     book = book;
+    weights = weights;
     accepted = accepted;
     paused = paused;
     guide = guides.chosen;

@@ -10,14 +10,18 @@ use Rattle.palm_book.specs.declared.limits.TheConstants.{MOST_ADDED}
 use Rattle.palm_read.specs.declared.mode.Mode.{Mode}
 use Rattle.palm_read.specs.declared.mode.Mode.TheVariants.{First}
 use Rattle.palm_search.specs.declared.turn.Turn.{Turn}
+use Rattle.palm_prefer.specs.Preferred.{AreWeights}
+use Rattle.palm_prefer.specs.declared.weights.Weight.{Weight}
 use Rattle.palm_book.specs.Book.{Contents, IsBook, initial_of, active_of}
 use Rattle.palm_book.specs.Book as in_book
 
--- the mode in which the next line is read, the book, how many accepted lines added a constraint, whether filtering waits, the guides and orders (the numbers of those
--- that are there, and which one is chosen), the turns of the last search, and what the engine holds
+-- the mode in which the next line is read, the book, the weights of its constraints, how many accepted lines added a constraint,
+-- whether filtering waits, the guides and orders (the numbers of those that are there, and which one is chosen), the turns of the
+-- last search, and what the engine holds
 pub record SessionState : Type 0 where
   pub mode : Mode
   pub book : Contents
+  pub weights : List Weight
   pub accepted : ℕ
   pub paused : Bool
   pub guides : List ℕ
@@ -27,12 +31,13 @@ pub record SessionState : Type 0 where
   pub journal : List Turn
   pub engine : EngineState
 
--- no line, no variable, no constraint, no search so far; the guides and orders that were handed in are there, and none is
+-- no line, no variable, no constraint, no weight, no search so far; the guides and orders that were handed in are there, and none is
 -- chosen
 abbrev pub fresh : List ℕ → List ℕ → SessionState
 fresh guides orders = record {
   mode = First;
   book = record { variables = []; constraints = [] };
+  weights = [];
   accepted = 0;
   paused = false;
   guides = guides;
@@ -43,10 +48,11 @@ fresh guides orders = record {
   engine = blank [];
 }
 
--- what a session holds, also in the midst of a line: the engine has the book's variables and its active constraints, and
--- no decision and no negation
+-- what a session holds, also in the midst of a line: the weights are of present constraints, and the engine has the book's
+-- variables and its active constraints, and no decision and no negation
 pub record IsHeld (s : SessionState) : Type 0 where
   pub book : IsBook s.book
+  pub weights : AreWeights s.book s.weights
   pub accepted : s.accepted ≤ MOST_ADDED
   pub numbered : All (λ c. c.number ≤ s.accepted) s.book.constraints
   pub guide : IfSome s.guide (Contains s.guides)

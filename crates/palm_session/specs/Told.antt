@@ -1,22 +1,26 @@
 -- What may be told of explanations and conflicts, and of their certificates.
-use Rattle.std.specs.Prelude.{◌≡◌, ℕ, ℤ, ◌<◌, ◌<ℤ◌, ◌⊎◌, List, ◌++◌, length, Contains, Option, Some, None}
+use Rattle.std.specs.Prelude.{◌≡◌, ℕ, ℤ, ◌<◌, ◌<ℤ◌, ◌⊎◌, List, ◌++◌, All, length, Contains, Option, Some, None}
 use Rattle.palm_base.specs.declared.terms.Cid.{Cid}
+use Rattle.palm_base.specs.declared.terms.Cid.TheVariants.{User}
 use Rattle.palm_model.specs.Closure.{Explains, IsConflict, IsSolution}
 use Rattle.palm_model.specs.Domains.{Assignment}
 use Rattle.palm_model.specs.Trial.{listed, value_count}
-use Rattle.palm_model.specs.Log.{IsActive, Named, cons_of}
+use Rattle.palm_model.specs.Log.{Active, IsActive, Named, cids_of, cons_of}
 use Rattle.palm_cert.specs.Accepted.{IsAccepted}
 use Rattle.palm_claim.specs.declared.verdict.Claim.TheVariants.{Gone, Conflict as ConflictClaim}
 use Rattle.palm_book.specs.Book.{Contents, initial_of, active_of, name_of}
 use Rattle.palm_lang.specs.Reply.{fixed_text, found_line, spent_best_line, spent_line}
 use Rattle.palm_lang.specs.declared.reply.Fixed.TheVariants.{Contradiction, Paused, Present, Consistent, End}
-use Rattle.palm_lang.specs.declared.reply.Lead.TheVariants.{Because, Conflict as ConflictLead, NoSolution as NoSolutionLead}
-use Rattle.palm_model.specs.Minimal.{IsMinimalConflict, IsMinimalExplanation}
+use Rattle.palm_lang.specs.declared.reply.Lead.TheVariants.{Because, Conflict as ConflictLead, NoSolution as NoSolutionLead, HardConflict}
+use Rattle.palm_model.specs.Minimal.{AreConflict, IsMinimalConflict, IsMinimalExplanation}
 use Rattle.palm_search.specs.Measure.{most_turns}
 use Rattle.palm_search.specs.declared.ending.SearchEnd.{SearchEnd}
 use Rattle.proof_run.specs.Accepted.{IsAcceptedAtNone}
 use Rattle.palm_repair.specs.Sets.{most_repair_turns}
-use Rattle.palm_session.specs.Answers.{end_text, least_text, users_text}
+use Rattle.palm_prefer.specs.Laws.{IsTight}
+use Rattle.palm_prefer.specs.declared.answer.LeftOut.{LeftOut}
+use Rattle.palm_prefer.specs.declared.answer.Preferred.TheVariants.{Kept}
+use Rattle.palm_session.specs.Answers.{end_text, least_text, preferred_text, users_text}
 use Rattle.palm_session.specs.declared.request.Procedure.{Procedure}
 use Rattle.palm_session.specs.declared.request.Procedure.TheVariants.{Dbt, Repair, Proof, Least}
 use Rattle.palm_session.specs.Effects.{Telling, InShort, InFull, AsLeast, SoFar, with_search}
@@ -131,6 +135,24 @@ pub data ToldMinimalConflict (book : Contents) (reply : List ℕ) : Type 0 where
   least_none : reply ≡ fixed_text Consistent → ToldMinimalConflict book reply
   least_named : (users : List Cid) → IsConflictOf book users → IsMinimalConflict (initial_of book) (active_of book) users
       → reply ≡ users_text book ConflictLead users → ToldMinimalConflict book reply
+
+-- a constraint that is left out with its minimal conflict, which holds it
+pub record IsLeftOut (book : Contents) (out : LeftOut) : Type 0 where
+  pub tight : IsTight book out.conflict
+  pub among : Contains out.conflict (User out.number)
+
+-- active constraints of the book that are no conflict
+pub record AreFree (book : Contents) (kept : List Active) : Type 0 where
+  pub within : (a : Active) → Contains kept a → Contains (active_of book) a
+  pub free : AreConflict (initial_of book) kept → ⊥
+
+-- what is told of preferences: a word; a conflict that cannot lose a member and has no common solution; or active constraints that
+-- are no conflict, and others, each with such a conflict that holds it
+pub data ToldPreferred (book : Contents) (reply : List ℕ) : Type 0 where
+  preferred_paused : reply ≡ fixed_text Paused → ToldPreferred book reply
+  preferred_hard : (conflict : List Cid) → IsTight book conflict → reply ≡ users_text book HardConflict conflict → ToldPreferred book reply
+  preferred_kept : (kept : List Active) (left : List LeftOut) → AreFree book kept → All (IsLeftOut book) left
+      → reply ≡ preferred_text book (Kept (cids_of kept) left) → ToldPreferred book reply
 
 -- what is told of a value by a certificate: a word, or a text that is accepted with the claim that the value is gone
 pub data ToldCert (s : SessionState) (name : List ℕ) (value : ℤ) (reply : List ℕ) : Type 0 where

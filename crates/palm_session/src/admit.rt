@@ -63,6 +63,9 @@ impl<G: Guide, O: Order> Desk<G, O> {
             }
             Line::Prove { budget } => Ok(Ok(Request::Solve(Procedure::Proof { budget }))),
             Line::Minimize { target, budget } => Ok(self.admit_minimize(&target, budget)),
+            Line::Prefer { name, weight } => Ok(self.admit_prefer(&name, weight)),
+            Line::PreferNone(name) => Ok(self.admit_prefer_none(&name)),
+            Line::Preferred => Ok(Ok(Request::Ask(Question::Preferred))),
             Line::Guide(number) => Ok(self.admit_guide(number)),
             Line::GuideNone => Ok(Ok(Request::ChooseGuide(None))),
             Line::Order(number) => Ok(self.admit_order(number)),
@@ -218,6 +221,32 @@ impl<G: Guide, O: Order> Desk<G, O> {
     {
         match self.book().constraint_named(name) {
             Some(place) => Ok(Request::Retract(place)),
+            None => Err(Refusal::E5),
+        }
+    }
+
+    /// `prefer`: there is a constraint with the name.
+    fn admit_prefer(&self, name: &Name, weight: u32) -> Result<Request, Refusal>
+        ensures { Admission self.now.state (Line.Prefer name.now weight) result }
+    {
+        match self.book().constraint_named(name) {
+            Some(place) => Ok(Request::Prefer {
+                place,
+                weight: Some(weight),
+            }),
+            None => Err(Refusal::E5),
+        }
+    }
+
+    /// `prefer` with `none`: there is a constraint with the name.
+    fn admit_prefer_none(&self, name: &Name) -> Result<Request, Refusal>
+        ensures { Admission self.now.state (Line.PreferNone name.now) result }
+    {
+        match self.book().constraint_named(name) {
+            Some(place) => Ok(Request::Prefer {
+                place,
+                weight: None,
+            }),
             None => Err(Refusal::E5),
         }
     }

@@ -8,9 +8,9 @@ ghost use Rattle.palm_explain.specs.Explanations.{reasons_of};
 ghost use Rattle.palm_lang.specs.Reply.{refusal_text, ran_text, domain_line, var_line, entry_at, entry_line, removal_line, best_line, found_line, spent_best_line, spent_line};
 ghost use Rattle.palm_lang.specs.Writing.{Writes};
 ghost use Rattle.palm_model.specs.Domains.{AllAscend, values_of};
-ghost use Rattle.palm_session.specs.Answers.{domains_text, least_text, list_text, log_text, users_text};
+ghost use Rattle.palm_session.specs.Answers.{domains_text, least_text, left_text, list_text, log_text, preferred_text, users_text};
 ghost use Rattle.palm_session.specs.Logged.{AreLogged, log_line_at};
-ghost use Rattle.palm_session.specs.ReplyText.{reply_text, ReplyFits};
+ghost use Rattle.palm_session.specs.ReplyText.{reply_text, LeavesUsers, NamesUsers, ReplyFits};
 ghost use Rattle.palm_session.specs.State.{IsHeld};
 
 use crate::desk::Desk;
@@ -24,9 +24,10 @@ use palm_explain::ExplainStore;
 use palm_guide::Guide;
 use palm_lang::{
     Book, Claim, Fixed, Lead, Refusal, print_best, print_domain, print_entry, print_found,
-    print_names, print_ran, print_refusal, print_removal, print_spent, print_spent_best,
-    write_fixed, write_line, write_var,
+    print_leave, print_names, print_ran, print_refusal, print_removal, print_spent,
+    print_spent_best, write_fixed, write_line, write_var,
 };
+use palm_prefer::{LeftList, LeftOut, Preferred};
 
 /// Writes a reply.
 pub(crate) fn deliver<G: Guide, O: Order, K: Sink>(
@@ -56,6 +57,7 @@ pub(crate) fn deliver<G: Guide, O: Order, K: Sink>(
         Reply::SpentBest { turns, values } => {
             write_spent_best(desk.book(), *turns, values, out, buffer)
         }
+        Reply::Weighed(preferred) => write_preferred(desk.book(), preferred, out, buffer),
     }
 }
 
@@ -167,6 +169,68 @@ fn write_spent_best<K: Sink>(
     ensures { Writes (K.state out.old) (K.state out.new) (spent_best_line turns book.now.variables values.now) result }
 {
     write_line!(out, buffer, print_spent_best(book, turns, values))
+}
+
+/// Writes what is preferred.
+fn write_preferred<K: Sink>(
+    book: &Book,
+    preferred: &Preferred,
+    out: &mut K,
+    buffer: &mut Vec<u8>,
+) -> Result<(), Stop>
+    requires { NamesUsers book.now preferred.now }
+    ensures { Writes (K.state out.old) (K.state out.new) (preferred_text book.now preferred.now) result }
+{
+    match preferred {
+        Preferred::Hard(conflict) => write_users(book, Lead::HardConflict, conflict, out, buffer),
+        Preferred::Kept { keep, left } => write_kept(book, keep, left, out, buffer),
+    }
+}
+
+/// Writes which constraints are kept, those that are left out, and `end`.
+fn write_kept<K: Sink>(
+    book: &Book,
+    keep: &CidList,
+    left: &LeftList,
+    out: &mut K,
+    buffer: &mut Vec<u8>,
+) -> Result<(), Stop>
+    requires users { All (IsUser book.now) keep.now }
+    requires left { All (LeavesUsers book.now) left.now }
+    ensures { Writes (K.state out.old) (K.state out.new) (preferred_text book.now (Preferred.Kept keep.now left.now)) result }
+{
+    write_users(book, Lead::Keep, keep, out, buffer)?;
+    write_all_left(book, left, out, buffer)?;
+    write_fixed(Fixed::End, out, buffer)
+}
+
+/// Writes each constraint that is left out, with its conflict.
+fn write_all_left<K: Sink>(
+    book: &Book,
+    left: &LeftList,
+    out: &mut K,
+    buffer: &mut Vec<u8>,
+) -> Result<(), Stop>
+    requires { All (LeavesUsers book.now) left.now }
+    ensures { Writes (K.state out.old) (K.state out.new) (flat_map (left_text book.now) left.now) result }
+{
+    for entry in left.as_slice() {
+        write_left(book, entry, out, buffer)?;
+    }
+    Ok(())
+}
+
+/// Writes a constraint that is left out, with its conflict.
+fn write_left<K: Sink>(
+    book: &Book,
+    left: &LeftOut,
+    out: &mut K,
+    buffer: &mut Vec<u8>,
+) -> Result<(), Stop>
+    requires { LeavesUsers book.now left.now }
+    ensures { Writes (K.state out.old) (K.state out.new) (left_text book.now left.now) result }
+{
+    write_line!(out, buffer, print_leave(book, left.number, &left.conflict))
 }
 
 /// Makes the list the present values of a variable.

@@ -12,7 +12,7 @@ ghost use Rattle.palm_model.specs.Log.{IsActive};
 ghost use Rattle.palm_model.specs.State.{EngineState, IsValid};
 ghost use Rattle.palm_read.specs.Name.{IsNameText};
 ghost use Rattle.palm_search.specs.Following.{GuideFollows};
-ghost use Rattle.palm_session.specs.Effects.{InShort, WithdrawsActive, best_end, best_telling, next_constraint, with_active_at, with_constraint, with_engine, with_variable, without_constraint, without_guide, without_order};
+ghost use Rattle.palm_session.specs.Effects.{InShort, WithdrawsActive, best_end, best_telling, next_constraint, with_active_at, with_constraint, with_engine, with_variable, with_weight, without_constraint, without_guide, without_order};
 ghost use Rattle.palm_session.specs.Led.{FiltersBy, SearchesOn, objects_after};
 ghost use Rattle.palm_session.specs.Modes.{heard, misheard};
 ghost use Rattle.palm_session.specs.Refusals.{IsFullOfVariables};
@@ -26,6 +26,7 @@ ghost use Rattle.palm_session.specs.declared.request.Request.TheVariants as Requ
 use crate::modes::{begun, mode_after};
 use crate::objects::{Objects, minimize_by, prove_by, repair_by, settle_by, solve_by};
 use crate::stop::Stop;
+use crate::weights::Weights;
 use palm_agenda::Order;
 use palm_base::{Cid, NoMemory, Sink, Steps, ValueList, Var};
 use palm_best::Best;
@@ -41,13 +42,15 @@ use std::alloc::Global;
 use std::marker::Model;
 use std::sync::ledger::Ledger;
 
-/// The mode in which the next line is read, the book, the engine that filters its active constraints, how many accepted
-/// lines added a constraint, whether filtering waits, the guides and orders that were handed in, and the last search.
+/// The mode in which the next line is read, the book, the weights of its constraints, the engine that filters the active ones,
+/// how many accepted lines added a constraint, whether filtering waits, the guides and orders that were handed in, and the last
+/// search.
 #[derive(Drop)]
 pub(crate) struct Desk<G: Guide, O: Order> {
     alloc: Global,
     mode: Mode,
     book: Book,
+    weights: Weights,
     engine: Engine<Kind>,
     accepted: u32,
     paused: bool,
@@ -62,7 +65,7 @@ impl<G: Guide, O: Order> Model for Desk<G, O> {
 
     ghost Value = { DeskView G O };
 
-    ghost view = { λ d. desk_of d.mode d.book d.engine d.accepted d.paused d.guides d.orders d.search };
+    ghost view = { λ d. desk_of d.mode d.book d.weights d.engine d.accepted d.paused d.guides d.orders d.search };
 
     ghost invariant = { λ d. IsValid d.engine.state };
 }
@@ -86,6 +89,7 @@ impl<G: Guide, O: Order> Desk<G, O> {
             alloc,
             mode: Mode::First,
             book: Book::new(alloc),
+            weights: Weights::new(alloc),
             engine: Engine::new(alloc),
             accepted: 0,
             paused: false,
@@ -130,6 +134,13 @@ impl<G: Guide, O: Order> Desk<G, O> {
         ensures { result.now ≡ self.now.state.book }
     {
         &self.book
+    }
+
+    /// The weights of constraints.
+    pub(crate) fn weights(&self) -> &Weights
+        ensures { result.now ≡ self.now.state.weights }
+    {
+        &self.weights
     }
 
     /// The turns of the last search, and none before one.
@@ -243,17 +254,31 @@ impl<G: Guide, O: Order> Desk<G, O> {
         Ok(())
     }
 
-    /// Takes the constraint at a place out of the book, and where it is active out of the engine.
+    /// Takes the constraint at a place out of the book, with its weight, and where it is active out of the engine.
     pub(crate) fn retract(&mut self, place: usize)
         requires held { IsHeld self.old.state }
         requires within { place < length self.old.state.book.constraints }
         ensures retracts { (c : BookConTerm) → slice_get self.old.state.book.constraints place ≡ Some c → (e : EngineState)
-            × WithdrawsActive self.old.state.engine c e × (self.new.state ≡ with_engine (without_constraint self.old.state place) e) }
+            × WithdrawsActive self.old.state.engine c e × (self.new.state ≡ with_engine (without_constraint self.old.state place c) e) }
         ensures checks { self.new.checks ≡ self.old.checks }
         ensures objects { self.new.objects ≡ self.old.objects }
     {
-        withdraw_active(&mut self.engine, self.book.constraint(place));
+        let entry = self.book.constraint(place);
+        let number = entry.number;
+        withdraw_active(&mut self.engine, entry);
         self.book.remove(place);
+        self.weights.forget(number);
+    }
+
+    /// Gives the constraint at a place a weight, or takes it away.
+    pub(crate) fn weigh(&mut self, place: usize, weight: Option<u32>) -> Result<(), NoMemory>
+        requires { place < length self.old.state.book.constraints }
+        ensures weighs { OnOk result ((c : BookConTerm) → slice_get self.old.state.book.constraints place ≡ Some c → self.new.state ≡ with_weight self.old.state c weight) }
+        ensures checks { self.new.checks ≡ self.old.checks }
+        ensures objects { self.new.objects ≡ self.old.objects }
+    {
+        let number = self.book.constraint(place).number;
+        self.weights.set(number, weight)
     }
 
     /// Lets filtering wait, or wait no longer.

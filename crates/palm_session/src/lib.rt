@@ -20,15 +20,16 @@ mod session;
 mod settling;
 mod stop;
 mod taken;
+mod weights;
 mod withhold;
 
 pub use going::Going;
 pub use laws::printed::{
     adding_and_retracting_gives_back_the_domains, contradictions_are_empty_domains,
     kept_conflicts_conflict, kept_explanations_explain, minimal_conflicts_conflict,
-    minimal_explanations_explain, one_domain_is_empty_at_most, printed_certificates_are_accepted,
-    printed_domains_are_the_engines, printed_proofs_are_accepted,
-    searches_leave_all_but_the_journal, searches_tell_the_truth,
+    minimal_explanations_explain, one_domain_is_empty_at_most, preferences_are_told_truly,
+    printed_certificates_are_accepted, printed_domains_are_the_engines,
+    printed_proofs_are_accepted, searches_leave_all_but_the_journal, searches_tell_the_truth,
 };
 pub use laws::{
     a_text_has_an_output, a_text_has_one_output, each_line_has_an_answer, fresh_states_are_states,

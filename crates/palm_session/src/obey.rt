@@ -54,6 +54,7 @@ impl<G: Guide, O: Order> Desk<G, O> {
             Request::DropGuide(number) => Ok(self.obey_drop_guide(number)),
             Request::ChooseOrder(chosen) => Ok(self.obey_choose_order(chosen)),
             Request::DropOrder(number) => Ok(self.obey_drop_order(number)),
+            Request::Prefer { place, weight } => self.obey_prefer(place, weight),
             Request::Quit => Ok(Remainder::End),
         }
     }
@@ -204,5 +205,16 @@ impl<G: Guide, O: Order> Desk<G, O> {
     {
         self.drop_order(number);
         say(Reply::Word(Fixed::Done))
+    }
+
+    /// A weight of a constraint, or none.
+    fn obey_prefer(&mut self, place: usize, weight: Option<u32>) -> Result<Remainder, NoMemory>
+        requires { place < length self.old.state.book.constraints }
+        ensures obeys { IfOk result (Obeys self.old.state (Request.Prefer place weight) self.new.state) }
+        ensures checks { self.new.checks ≡ self.old.checks }
+        ensures objects { self.new.objects ≡ self.old.objects }
+    {
+        self.weigh(place, weight)?;
+        Ok(say(Reply::Word(Fixed::Done)))
     }
 }

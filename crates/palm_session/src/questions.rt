@@ -4,7 +4,7 @@ ghost use Rattle.palm_book.specs.Book.{active_of, initial_of};
 ghost use Rattle.palm_model.specs.Domains.{Has};
 ghost use Rattle.palm_model.specs.Minimal.{AreConflict};
 ghost use Rattle.palm_model.specs.State.{present};
-ghost use Rattle.palm_session.specs.Answers.{IsAnswer, SaysCert, SaysMinimal, SaysMinimalConflict, SaysWhy};
+ghost use Rattle.palm_session.specs.Answers.{IsAnswer, SaysCert, SaysMinimal, SaysMinimalConflict, SaysPreferred, SaysWhy};
 ghost use Rattle.palm_session.specs.ReplyText.{reply_text, ReplyFits};
 ghost use Rattle.palm_session.specs.Requests.{CanAsk};
 ghost use Rattle.palm_session.specs.Serving.{IsOpen};
@@ -19,6 +19,7 @@ use palm_agenda::Order;
 use palm_base::{CidList, NoMemory, Pair};
 use palm_guide::Guide;
 use palm_lang::{Claim, Fixed, Lead};
+use palm_prefer::preferred;
 use palm_reduce::{minimal_conflict, minimal_why};
 
 impl<G: Guide, O: Order> Desk<G, O> {
@@ -41,6 +42,7 @@ impl<G: Guide, O: Order> Desk<G, O> {
             Question::MinimalConflict => self.minimal_conflict(),
             Question::Cert(pair) => Ok(self.cert(pair)),
             Question::CertConflict => Ok(self.cert_conflict()),
+            Question::Preferred => self.preferred(),
         }
     }
 
@@ -93,6 +95,17 @@ impl<G: Guide, O: Order> Desk<G, O> {
             }),
             None => Ok(Reply::Word(Fixed::Consistent)),
         }
+    }
+
+    /// What is preferred, by the weights.
+    fn preferred(&self) -> Result<Reply, NoMemory>
+        requires { IsHeld self.now.state }
+        ensures tells { IfOk result (λ reply. SaysPreferred self.now.state (reply_text self.now.state reply)) }
+        ensures fits { IfOk result (ReplyFits self.now.state) }
+    {
+        let weights = self.weights().to_list(self.alloc())?;
+        let preferred = preferred(self.alloc(), self.book(), &weights)?;
+        Ok(Reply::Weighed(preferred))
     }
 
     /// `consistent`, or the conflict that the engine keeps.

@@ -1,6 +1,7 @@
 //! What is replied to a line, before it is written.
 use palm_base::{CidList, ValueList, Var};
 use palm_lang::{Claim, Fixed, Lead, Refusal};
+use palm_prefer::Preferred;
 
 /// A reply. What it shows of the book, the domains and the log is read when it is written.
 #[derive(Debug, Drop)]
@@ -33,4 +34,6 @@ pub(crate) enum Reply {
     Best { values: ValueList, users: CidList },
     /// How many turns were taken, and the best values so far.
     SpentBest { turns: u64, values: ValueList },
+    /// What is preferred, by the weights.
+    Weighed(Preferred),
 }

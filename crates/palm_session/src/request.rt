@@ -26,6 +26,8 @@ pub(crate) enum Question {
     Cert(Pair),
     /// The certificate of the kept conflict.
     CertConflict,
+    /// Which constraints are kept where not all can be.
+    Preferred,
 }
 
 /// A way of searching.
@@ -88,6 +90,11 @@ pub(crate) enum Request {
     ChooseOrder(Option<u32>),
     /// That an order goes.
     DropOrder(u32),
+    /// That a constraint has this weight, or none.
+    Prefer {
+        place: usize,
+        weight: Option<u32>,
+    },
     /// The end of the session.
     Quit,
 }

@@ -18,6 +18,12 @@ enum Reading {
     Proof,
     /// A search for a least value.
     Least,
+    /// A weight that a constraint gets.
+    Weight(u32),
+    /// That a constraint has no weight.
+    NoWeight,
+    /// A question that the weights decide.
+    Preferred,
     /// A line of version 1.
     Older,
 }
@@ -41,6 +47,9 @@ fn tell(line: &Line) -> Reading {
         },
         Line::Prove { .. } => Reading::Proof,
         Line::Minimize { .. } => Reading::Least,
+        Line::Prefer { weight, .. } => Reading::Weight(*weight),
+        Line::PreferNone(_) => Reading::NoWeight,
+        Line::Preferred => Reading::Preferred,
         _ => Reading::Older,
     }
 }
@@ -129,6 +138,19 @@ const NEWER: &[(&str, Reading)] = &[
         "minimize x budget 18446744073709551616",
         Reading::Refused(LineError::Range),
     ),
+    ("prefer a 1", Reading::Weight(1)),
+    (" prefer\ta 02 ", Reading::Weight(2)),
+    ("prefer a 1000000", Reading::Weight(1_000_000)),
+    ("prefer none 3", Reading::Weight(3)),
+    ("prefer preferred 3", Reading::Weight(3)),
+    ("prefer a 0", Reading::Refused(LineError::Range)),
+    ("prefer a -1", Reading::Refused(LineError::Range)),
+    ("prefer a 1000001", Reading::Refused(LineError::Range)),
+    ("prefer a 4294967297", Reading::Refused(LineError::Range)),
+    ("prefer a none", Reading::NoWeight),
+    ("prefer none none", Reading::NoWeight),
+    ("preferred", Reading::Preferred),
+    ("\tpreferred ", Reading::Preferred),
 ];
 
 #[test]
@@ -177,6 +199,23 @@ const SAME: &[(&str, Reading)] = &[
     ("minimise x budget 10", UNKNOWN),
     ("minimal x budget 10", UNKNOWN),
     ("solve minimize x budget 10", UNKNOWN),
+    ("relax prefer", Reading::Older),
+    ("relax preferred", Reading::Older),
+    ("prefer", UNKNOWN),
+    ("prefer a", UNKNOWN),
+    ("prefer none", UNKNOWN),
+    ("prefer 3", UNKNOWN),
+    ("prefer 3 a", UNKNOWN),
+    ("prefer sum 3", UNKNOWN),
+    ("prefer a b", UNKNOWN),
+    ("prefer a b 3", UNKNOWN),
+    ("prefer a +3", UNKNOWN),
+    ("prefer a 3 3", UNKNOWN),
+    ("prefer a none 3", UNKNOWN),
+    ("prefer a 3 none", UNKNOWN),
+    ("prefer a none none", UNKNOWN),
+    ("preferred a", UNKNOWN),
+    ("preferred preferred", UNKNOWN),
 ];
 
 #[test]

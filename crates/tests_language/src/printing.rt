@@ -7,8 +7,8 @@ use crate::samples::{Question, add_two, ask, declare_two, name};
 use palm_base::{Cid, CidList, NoMemory, Pair, Value, ValueList, Var};
 use palm_lang::{
     Book, Fixed, Lead, Name, Refusal, print_best, print_con, print_domain, print_entry,
-    print_fixed, print_found, print_names, print_ran, print_refusal, print_removal, print_spent,
-    print_spent_best, print_var,
+    print_fixed, print_found, print_leave, print_names, print_ran, print_refusal, print_removal,
+    print_spent, print_spent_best, print_var,
 };
 use palm_model::Con;
 use std::alloc::Global;
@@ -211,6 +211,12 @@ fn two_users(alloc: Global) -> Result<CidList, NoMemory>
     CidList::from_slice(alloc, &[Cid::User(1), Cid::User(2)])
 }
 
+fn one_user(alloc: Global) -> Result<CidList, NoMemory>
+    ensures { IfOk result (λ users. users ≡ User 2 ∷ []) }
+{
+    CidList::from_slice(alloc, &[Cid::User(2)])
+}
+
 /// Prints both names behind each text that leads names.
 fn print_each_lead(alloc: Global, book: &Book, out: &mut Vec<u8>) -> Result<(), NoMemory>
     requires first { HasNumber book.now 1 }
@@ -221,7 +227,10 @@ fn print_each_lead(alloc: Global, book: &Book, out: &mut Vec<u8>) -> Result<(), 
     print_names(book, Lead::Conflict, &users, out)?;
     print_names(book, Lead::NoSolution, &users, out)?;
     print_names(book, Lead::Proved, &users, out)?;
-    print_names(book, Lead::Proved, &CidList::new(alloc), out)
+    print_names(book, Lead::Proved, &CidList::new(alloc), out)?;
+    print_names(book, Lead::HardConflict, &users, out)?;
+    print_names(book, Lead::Keep, &users, out)?;
+    print_names(book, Lead::Keep, &CidList::new(alloc), out)
 }
 
 /// The names of the two constraints.
@@ -232,7 +241,8 @@ impl Question for Names {
         add_two(alloc, book)?;
         let mut out = Vec::new(alloc);
         print_each_lead(alloc, book, &mut out)?;
-        let text = "because s m\nconflict s m\nnone s m\nproved by s m\nproved by\n";
+        let text =
+            "because s m\nconflict s m\nnone s m\nproved by s m\nproved by\nhard conflict s m\nkeep s m\nkeep\n";
         Ok(out.as_slice() == text.as_bytes())
     }
 }
@@ -240,6 +250,33 @@ impl Question for Names {
 #[test]
 fn prints_names(rt: HostRuntime) -> Result<(), Fail> {
     assert!(rt; ask(rt.alloc(), &Names)?);
+    Ok(())
+}
+
+/// Prints that each of the two constraints is left out: the first with both, and the second alone.
+fn print_leaves(alloc: Global, book: &Book, out: &mut Vec<u8>) -> Result<(), NoMemory>
+    requires first { HasNumber book.now 1 }
+    requires second { HasNumber book.now 2 }
+{
+    print_leave(book, 1, &two_users(alloc)?, out)?;
+    print_leave(book, 2, &one_user(alloc)?, out)
+}
+
+/// The two constraints left out.
+struct Leaves;
+
+impl Question for Leaves {
+    fn is_answered(&self, alloc: Global, book: &mut Book) -> Result<bool, NoMemory> {
+        add_two(alloc, book)?;
+        let mut out = Vec::new(alloc);
+        print_leaves(alloc, book, &mut out)?;
+        Ok(out.as_slice() == b"leave s conflict s m\nleave m conflict m\n".as_slice())
+    }
+}
+
+#[test]
+fn prints_what_is_left_out(rt: HostRuntime) -> Result<(), Fail> {
+    assert!(rt; ask(rt.alloc(), &Leaves)?);
     Ok(())
 }
 

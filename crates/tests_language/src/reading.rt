@@ -56,6 +56,12 @@ const EVERY_NEWER_FORM: &[&str] = &[
     "prove budget 18446744073709551615",
     "minimize x budget 1",
     "minimize name_of_32_bytes_is_the_longest_ budget 18446744073709551615",
+    "prefer a 1",
+    "prefer name_of_32_bytes_is_the_longest_ 1000000",
+    "prefer none 3",
+    "prefer a none",
+    "prefer none none",
+    "preferred",
 ];
 
 /// What bytes are read as.

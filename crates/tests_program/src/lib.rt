@@ -19,6 +19,8 @@ mod lines;
 #[cfg(test)]
 mod objects;
 #[cfg(test)]
+mod preferred;
+#[cfg(test)]
 mod proofs;
 #[cfg(test)]
 mod proved;

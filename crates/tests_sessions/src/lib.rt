@@ -1,5 +1,5 @@
-//! Tests of sessions, over their public calls: pieces that cut lines, the journal of the last search, the two versions of the
-//! language, and the filters beside the slow way.
+//! Tests of sessions, over their public calls: pieces that cut lines, the journal of the last search, how often the engine
+//! asks for support, the two versions of the language, and the filters beside the slow way.
 #![tactic(auto)]
 
 #[cfg(test)]
@@ -12,5 +12,7 @@ mod guides;
 mod journals;
 #[cfg(test)]
 mod pieces;
+#[cfg(test)]
+mod questions;
 #[cfg(test)]
 mod versions;

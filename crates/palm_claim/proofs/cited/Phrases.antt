@@ -10,7 +10,7 @@ use Rattle.palm_read.specs.declared.tokens.TokenKind.TheVariants.{Word, Digits, 
 use Rattle.palm_read.specs.Form.{Form}
 use Rattle.palm_read.specs.Grammar.{IsForm}
 use Rattle.palm_read.specs.Piece.{Piece, Keyword, Named, Integer, Natural, word, sign, digits_number}
-use Rattle.palm_read.specs.Reader.Lines.{header_at as session_header_at, numbered_at, bare_at, line_at, form_at}
+use Rattle.palm_read.specs.Reader.Lines.{header_at as session_header_at, numbered_at, bare_at, search_form_at, line_at, form_at}
 use Rattle.palm_read.specs.Reader.Steps.{Reading, and_then, when, choose, is_empty, is_name, front_text, token_at, behind, keyword_at, name_at, natural_at, integer_at}
 use Rattle.palm_read.specs.Token.{Lexeme}
 use Rattle.palm_read.proofs.cited.Begins.{Begins, over, begins_over, begins_from_spells, spells_from_begins, by_keyword, by_name, by_digits, by_integer, keyword_first, name_first, natural_first, integer_first}
@@ -323,11 +323,11 @@ unfolding form_at line_at numbered_at integer_at natural_at behind token_at fron
 step_no_form name rest = refl
 
 claim_no_form : (rest : List Lexeme) → form_at (word (codes "claim") ∷ rest) ≡ None
-unfolding form_at line_at bare_at behind token_at front_text and_then when choose
+unfolding form_at line_at search_form_at bare_at behind token_at front_text and_then when choose
 claim_no_form rest = refl
 
 pub end_no_form : (rest : List Lexeme) → form_at (word (codes "end") ∷ rest) ≡ None
-unfolding form_at line_at bare_at behind token_at front_text and_then when choose
+unfolding form_at line_at search_form_at bare_at behind token_at front_text and_then when choose
 end_no_form rest = refl
 
 header_no_form : form_at header ≡ None

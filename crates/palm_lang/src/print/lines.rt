@@ -1,10 +1,10 @@
 //! Lines at the end of what was written.
 #![tactic(auto, using(crate::proofs::PrintLemmas::keeping))]
 
-ghost use Rattle.std.specs.Prelude.{[], ◌∷◌, codes, decimal};
+ghost use Rattle.std.specs.Prelude.{◌≡◌, [], ◌∷◌, codes, decimal};
 ghost use Rattle.std.specs.Fmt.{signed_decimal};
-ghost use Rattle.palm_read.specs.declared.line.Line.TheVariants.{SolveDbt, SolveRepair, Minimize};
-ghost use Rattle.palm_lang.specs.Print.{Puts};
+ghost use Rattle.palm_read.specs.declared.line.Line.TheVariants.{SolveDbt, SolveRepair, Minimize, Prefer, PreferNone};
+ghost use Rattle.palm_lang.specs.Print.{Puts, bare_words};
 ghost use Rattle.palm_read.specs.Domain.{domain_text};
 ghost use Rattle.palm_read.specs.Text.{shape_words, text_of};
 ghost use Rattle.palm_read.specs.Words.{spaced};
@@ -101,13 +101,49 @@ fn put_minimize(target: &Name, budget: u64, out: &mut Vec<u8>) -> Result<(), NoM
     put_numbered(" budget", budget, out)
 }
 
+/// `prefer NAME N`
+fn put_prefer(name: &Name, weight: u32, out: &mut Vec<u8>) -> Result<(), NoMemory>
+    ensures { Puts out.old.items out.new.items (text_of (Prefer name.now weight)) result }
+{
+    put_named("prefer", name, out)?;
+    put_spaced_int(i128::from(weight), out)
+}
+
+/// `prefer NAME none`
+fn put_prefer_none(name: &Name, out: &mut Vec<u8>) -> Result<(), NoMemory>
+    ensures { Puts out.old.items out.new.items (text_of (PreferNone name.now)) result }
+{
+    put_named("prefer", name, out)?;
+    put_text(" none", out)
+}
+
+/// The words of a line that is always printed alike, and none of another line.
+fn bare_words(line: &Line) -> &'static str
+    ensures { result.now ≡ bare_words line.now }
+{
+    match line {
+        Line::Header => "palm 2",
+        Line::Domains => "domains",
+        Line::List => "list",
+        Line::Log => "log",
+        Line::Conflict => "conflict",
+        Line::MinimalConflict => "minimal conflict",
+        Line::Pause => "pause",
+        Line::Resume => "resume",
+        Line::Preferred => "preferred",
+        Line::CertConflict => "cert conflict",
+        Line::GuideNone => "guide none",
+        Line::OrderNone => "order none",
+        Line::Quit => "quit",
+        _ => "",
+    }
+}
+
 /// A line without a line feed.
 pub(crate) fn put_line(line: &Line, out: &mut Vec<u8>) -> Result<(), NoMemory>
     ensures { Puts out.old.items out.new.items (text_of line.now) result }
 {
     match line {
-        Line::Comment => Ok(()),
-        Line::Header => put_text("palm 2", out),
         Line::Var { name, domain } => put_declaration(name, domain, out),
         Line::VarIn {
             name,
@@ -118,29 +154,21 @@ pub(crate) fn put_line(line: &Line, out: &mut Vec<u8>) -> Result<(), NoMemory>
         Line::Relax(name) => put_named("relax", name, out),
         Line::Enforce(name) => put_named("enforce", name, out),
         Line::Retract(name) => put_named("retract", name, out),
-        Line::Domains => put_text("domains", out),
+        Line::Prefer { name, weight } => put_prefer(name, *weight, out),
+        Line::PreferNone(name) => put_prefer_none(name, out),
         Line::Domain(name) => put_named("domain", name, out),
-        Line::List => put_text("list", out),
-        Line::Log => put_text("log", out),
         Line::Why { name, value } => put_query("why", name, value, out),
-        Line::Conflict => put_text("conflict", out),
-        Line::MinimalConflict => put_text("minimal conflict", out),
         Line::Minimal { name, value } => put_query("minimal", name, value, out),
-        Line::Pause => put_text("pause", out),
-        Line::Resume => put_text("resume", out),
+        Line::Cert { name, value } => put_query("cert", name, value, out),
         Line::Step(number) => put_numbered("step", *number, out),
         Line::SolveDbt { budget } => put_solve_dbt(*budget, out),
         Line::SolveRepair { tabu, budget } => put_solve_repair(*tabu, *budget, out),
         Line::Prove { budget } => put_numbered("prove budget", *budget, out),
         Line::Minimize { target, budget } => put_minimize(target, *budget, out),
-        Line::Cert { name, value } => put_query("cert", name, value, out),
-        Line::CertConflict => put_text("cert conflict", out),
         Line::Guide(number) => put_numbered("guide", u64::from(*number), out),
-        Line::GuideNone => put_text("guide none", out),
         Line::Order(number) => put_numbered("order", u64::from(*number), out),
-        Line::OrderNone => put_text("order none", out),
         Line::DropGuide(number) => put_numbered("drop guide", u64::from(*number), out),
         Line::DropOrder(number) => put_numbered("drop order", u64::from(*number), out),
-        Line::Quit => put_text("quit", out),
+        _ => put_text(bare_words(line), out),
     }
 }

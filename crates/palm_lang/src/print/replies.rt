@@ -5,7 +5,7 @@ ghost use Rattle.std.specs.Prelude.{◌≡◌, ◌<◌, ◌++◌, [], All, codes
 ghost use Rattle.std.specs.Fmt.{signed_decimal};
 ghost use Rattle.palm_book.specs.Book.{number_name, user_name, HasNumber, IsUser};
 ghost use Rattle.palm_lang.specs.Print.{Puts};
-ghost use Rattle.palm_lang.specs.Reply.{ended, fixed_word, refusal_words, ran_text, domain_line, var_line, entry_line, pair_text, reasons_text, removal_line, lead_word, names_line, assigned_text, assigned_line, spent_line, spent_best_line};
+ghost use Rattle.palm_lang.specs.Reply.{ended, fixed_word, refusal_words, ran_text, domain_line, var_line, entry_line, pair_text, reasons_text, removal_line, lead_word, names_line, leave_line, assigned_text, assigned_line, spent_line, spent_best_line};
 ghost use Rattle.palm_read.specs.Words.{after_spaces};
 ghost use Rattle.palm_model.specs.Constraint.{scope};
 ghost use Rattle.palm_model.specs.Domains.{Ascends};
@@ -64,6 +64,8 @@ fn lead_word(lead: Lead) -> &'static str
         Lead::Conflict => "conflict",
         Lead::NoSolution => "none",
         Lead::Proved => "proved by",
+        Lead::HardConflict => "hard conflict",
+        Lead::Keep => "keep",
     }
 }
 
@@ -229,7 +231,7 @@ fn put_users(book: &Book, users: &CidList, out: &mut Vec<u8>) -> Result<(), NoMe
     Ok(())
 }
 
-/// `because NAME NAME`, `conflict NAME NAME`, `none NAME NAME` or `proved by NAME NAME`
+/// What leads names of constraints, and these: `because NAME NAME`
 pub(crate) fn put_names(
     book: &Book,
     lead: Lead,
@@ -240,6 +242,24 @@ pub(crate) fn put_names(
     ensures { Puts out.old.items out.new.items (names_line lead (map (user_name book.now.constraints) users.now)) result }
 {
     put_text(lead_word(lead), out)?;
+    put_users(book, users, out)?;
+    put_text("\n", out)
+}
+
+/// `leave NAME conflict NAME NAME`
+pub(crate) fn put_leave(
+    book: &Book,
+    number: u32,
+    users: &CidList,
+    out: &mut Vec<u8>,
+) -> Result<(), NoMemory>
+    requires constraint { HasNumber book.now number }
+    requires users { All (IsUser book.now) users.now }
+    ensures { Puts out.old.items out.new.items (leave_line (number_name book.now.constraints number) (map (user_name book.now.constraints) users.now)) result }
+{
+    put_text("leave ", out)?;
+    put_name(book.constraint_name(number), out)?;
+    put_text(" conflict", out)?;
     put_users(book, users, out)?;
     put_text("\n", out)
 }

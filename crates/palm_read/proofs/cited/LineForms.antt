@@ -8,8 +8,8 @@ use Rattle.palm_read.specs.Token.{Lexeme}
 use Rattle.palm_read.specs.Domain.{domain_pieces, DomainForm}
 use Rattle.palm_read.specs.Grammar.{shape_pieces, budget_pieces, pieces, IsProperShape, IsProper, IsForm}
 use Rattle.palm_read.specs.Piece.{Piece, Keyword, Named, Mark, Integer, Numeral, word}
-use Rattle.palm_read.specs.Form.{ShapeForm, Form, HeaderForm, DeclareForm, DeclareInForm, AddForm, RelaxForm, EnforceForm, RetractForm, DomainsForm, DomainOfForm, ListForm, LogForm, WhyForm, ConflictForm, MinimalConflictForm, MinimalForm, PauseForm, ResumeForm, StepForm, SolveDbtForm, SolveRepairForm, ProveForm, MinimizeForm, CertForm, CertConflictForm, GuideForm, GuideNoneForm, OrderForm, OrderNoneForm, DropGuideForm, DropOrderForm, QuitForm}
-use Rattle.palm_read.specs.Reader.Lines.{header_at, declare_at, declare_in_at, add_at, named_at, numbered_at, pair_at, query_at, choice_at, drop_at, dbt_at, repair_at, solve_at, prove_at, minimize_at, bare_at, line_at, form_at}
+use Rattle.palm_read.specs.Form.{ShapeForm, Form, HeaderForm, DeclareForm, DeclareInForm, AddForm, RelaxForm, EnforceForm, RetractForm, DomainsForm, DomainOfForm, ListForm, LogForm, WhyForm, ConflictForm, MinimalConflictForm, MinimalForm, PauseForm, ResumeForm, StepForm, SolveDbtForm, SolveRepairForm, ProveForm, MinimizeForm, PreferForm, PreferNoneForm, PreferredForm, CertForm, CertConflictForm, GuideForm, GuideNoneForm, OrderForm, OrderNoneForm, DropGuideForm, DropOrderForm, QuitForm}
+use Rattle.palm_read.specs.Reader.Lines.{header_at, declare_at, declare_in_at, add_at, named_at, numbered_at, pair_at, query_at, choice_at, drop_at, dbt_at, repair_at, solve_at, prove_at, minimize_at, prefer_at, bare_at, search_form_at, line_at, form_at}
 use Rattle.palm_read.specs.Reader.Steps.{Reading, and_then, when, choose, is_empty, front_text, token_at, behind, keyword_at, is_name, name_at}
 use Rattle.palm_read.proofs.cited.Front.{Starts, digits_first, minus_first, and_then_some, when_some, choose_some, guard_some, same_text, name_is, behind-cons, name_at-cons, integer_at-starts}
 use Rattle.palm_read.proofs.cited.Begins.{Begins, over, begins_over, begins_then, begins_split, begins_from_spells, spells_from_begins, by_keyword, by_mark, by_numeral, by_name, by_integer, keyword_first, mark_first, numeral_first, name_first, integer_first}
@@ -100,14 +100,14 @@ query_takes text conflict form alone fine spelled proper tokens back x k e =
           moved tokens (form name.0.0 value.0.0, value.0.1) x value.2 (begins, proper name.0.0 value.0.0)
     ]
 
-choice_takes : (text : List ℕ) (alone : Form) (form : ℤ → Form) → (pieces alone ≡ Keyword text ∷ Keyword (codes "none") ∷ []) → IsProper alone → ((number : ℤ) → pieces (form number) ≡ Keyword text ∷ Integer number ∷ []) → ((number : ℤ) → IsProper (form number)) → (tokens back : List Lexeme) (x : Form × List Lexeme) → keyword_at text tokens ≡ Some back → choice_at alone form back ≡ Some x → Taken tokens x
+choice_takes : (first : List Piece) (alone : Form) (form : ℤ → Form) → (pieces alone ≡ first ++ Keyword (codes "none") ∷ []) → IsProper alone → ((number : ℤ) → pieces (form number) ≡ first ++ Integer number ∷ []) → ((number : ℤ) → IsProper (form number)) → (tokens back : List Lexeme) (x : Form × List Lexeme) → Begins tokens first back → choice_at alone form back ≡ Some x → Taken tokens x
 unfolding choice_at
-choice_takes text alone form none fine spelled proper tokens back x k e =
+choice_takes first alone form none fine spelled proper tokens back x b e =
     elim (when_some e) [
       | inl w ↦
-          let begins = subst (λ ps. Begins tokens ps w.0) (sym none) (by_keyword k (by_keyword w.1 over)) in
+          let begins = subst (λ ps. Begins tokens ps w.0) (sym none) (begins_then b (by_keyword w.1 over)) in
           moved tokens (alone, w.0) x w.2 (begins, fine)
-      | inr w ↦ numbered_takes (Keyword text ∷ []) form spelled proper tokens back x (by_keyword k over) w.1
+      | inr w ↦ numbered_takes first form spelled proper tokens back x b w.1
     ]
 
 drop_takes : (tokens back : List Lexeme) (x : Form × List Lexeme) → keyword_at (codes "drop") tokens ≡ Some back → drop_at back ≡ Some x → Taken tokens x
@@ -166,6 +166,13 @@ minimize_takes tokens back x k e =
     let budget = and_then_some word.2 in
     moved tokens (MinimizeForm name.0.0 budget.0.0, budget.0.1) x budget.2 (by_keyword k (by_name name.1 (by_keyword word.1 (by_integer budget.1 over))), tt)
 
+-- the constraint's name stands before the choice
+prefer_takes : (tokens back : List Lexeme) (x : Form × List Lexeme) → keyword_at (codes "prefer") tokens ≡ Some back → prefer_at back ≡ Some x → Taken tokens x
+unfolding prefer_at
+prefer_takes tokens back x k e =
+    let name = and_then_some e in
+    choice_takes (Keyword (codes "prefer") ∷ Named name.0.0 ∷ []) (PreferNoneForm name.0.0) (PreferForm name.0.0) refl tt (λ n. refl) (λ n. tt) tokens name.0.1 x (by_keyword k (by_name name.1 over)) name.2
+
 bare_takes : (tokens : List Lexeme) (x : Form × List Lexeme) → bare_at tokens ≡ Some x → Taken tokens x
 unfolding bare_at
 bare_takes tokens x e =
@@ -182,9 +189,35 @@ bare_takes tokens x e =
               | inr w5 ↦ elim (when_some w5.1) [
                 | inl w ↦ moved tokens (ResumeForm, w.0) x w.2 (by_keyword w.1 over, tt)
                 | inr w6 ↦ elim (when_some w6.1) [
-                  | inl w ↦ moved tokens (QuitForm, w.0) x w.2 (by_keyword w.1 over, tt)
-                  | inr w ↦ nothing w.1
+                  | inl w ↦ moved tokens (PreferredForm, w.0) x w.2 (by_keyword w.1 over, tt)
+                  | inr w7 ↦ elim (when_some w7.1) [
+                    | inl w ↦ moved tokens (QuitForm, w.0) x w.2 (by_keyword w.1 over, tt)
+                    | inr w ↦ nothing w.1
+                  ]
                 ]
+              ]
+            ]
+          ]
+        ]
+      ]
+    ]
+
+search_form_takes : (tokens : List Lexeme) (x : Form × List Lexeme) → search_form_at tokens ≡ Some x → Taken tokens x
+unfolding search_form_at
+search_form_takes tokens x e =
+    elim (when_some e) [
+      | inl w ↦ solve_takes tokens w.0 x w.1 w.2
+      | inr w1 ↦ elim (when_some w1.1) [
+        | inl w ↦ prove_takes tokens w.0 x w.1 w.2
+        | inr w2 ↦ elim (when_some w2.1) [
+          | inl w ↦ minimize_takes tokens w.0 x w.1 w.2
+          | inr w3 ↦ elim (when_some w3.1) [
+            | inl w ↦ choice_takes (Keyword (codes "guide") ∷ []) GuideNoneForm GuideForm refl tt (λ n. refl) (λ n. tt) tokens w.0 x (by_keyword w.1 over) w.2
+            | inr w4 ↦ elim (when_some w4.1) [
+              | inl w ↦ choice_takes (Keyword (codes "order") ∷ []) OrderNoneForm OrderForm refl tt (λ n. refl) (λ n. tt) tokens w.0 x (by_keyword w.1 over) w.2
+              | inr w5 ↦ elim (when_some w5.1) [
+                | inl w ↦ drop_takes tokens w.0 x w.1 w.2
+                | inr w ↦ bare_takes tokens x w.1
               ]
             ]
           ]
@@ -206,35 +239,20 @@ line_takes tokens x e =
             | inr w4 ↦ elim (when_some w4.1) [
               | inl w ↦ named_takes (codes "retract") RetractForm (λ n. refl) (λ n. tt) tokens w.0 x w.1 w.2
               | inr w5 ↦ elim (when_some w5.1) [
-                | inl w ↦ named_takes (codes "domain") DomainOfForm (λ n. refl) (λ n. tt) tokens w.0 x w.1 w.2
+                | inl w ↦ prefer_takes tokens w.0 x w.1 w.2
                 | inr w6 ↦ elim (when_some w6.1) [
-                  | inl w ↦ pair_takes (codes "why") WhyForm (λ n v. refl) (λ n v. tt) tokens w.0 x w.1 w.2
+                  | inl w ↦ named_takes (codes "domain") DomainOfForm (λ n. refl) (λ n. tt) tokens w.0 x w.1 w.2
                   | inr w7 ↦ elim (when_some w7.1) [
-                    | inl w ↦ query_takes (codes "minimal") MinimalConflictForm MinimalForm refl tt (λ n v. refl) (λ n v. tt) tokens w.0 x w.1 w.2
+                    | inl w ↦ pair_takes (codes "why") WhyForm (λ n v. refl) (λ n v. tt) tokens w.0 x w.1 w.2
                     | inr w8 ↦ elim (when_some w8.1) [
-                      | inl w ↦ numbered_takes (Keyword (codes "step") ∷ []) StepForm (λ n. refl) (λ n. tt) tokens w.0 x (by_keyword w.1 over) w.2
+                      | inl w ↦ query_takes (codes "minimal") MinimalConflictForm MinimalForm refl tt (λ n v. refl) (λ n v. tt) tokens w.0 x w.1 w.2
                       | inr w9 ↦ elim (when_some w9.1) [
-                        | inl w ↦ solve_takes tokens w.0 x w.1 w.2
+                        | inl w ↦ query_takes (codes "cert") CertConflictForm CertForm refl tt (λ n v. refl) (λ n v. tt) tokens w.0 x w.1 w.2
                         | inr w10 ↦ elim (when_some w10.1) [
-                          | inl w ↦ prove_takes tokens w.0 x w.1 w.2
+                          | inl w ↦ numbered_takes (Keyword (codes "step") ∷ []) StepForm (λ n. refl) (λ n. tt) tokens w.0 x (by_keyword w.1 over) w.2
                           | inr w11 ↦ elim (when_some w11.1) [
-                            | inl w ↦ minimize_takes tokens w.0 x w.1 w.2
-                            | inr w12 ↦ elim (when_some w12.1) [
-                              | inl w ↦ query_takes (codes "cert") CertConflictForm CertForm refl tt (λ n v. refl) (λ n v. tt) tokens w.0 x w.1 w.2
-                              | inr w13 ↦ elim (when_some w13.1) [
-                                | inl w ↦ choice_takes (codes "guide") GuideNoneForm GuideForm refl tt (λ n. refl) (λ n. tt) tokens w.0 x w.1 w.2
-                                | inr w14 ↦ elim (when_some w14.1) [
-                                  | inl w ↦ choice_takes (codes "order") OrderNoneForm OrderForm refl tt (λ n. refl) (λ n. tt) tokens w.0 x w.1 w.2
-                                  | inr w15 ↦ elim (when_some w15.1) [
-                                    | inl w ↦ drop_takes tokens w.0 x w.1 w.2
-                                    | inr w16 ↦ elim (when_some w16.1) [
-                                      | inl w ↦ header_takes tokens w.0 x w.1 w.2
-                                      | inr w ↦ bare_takes tokens x w.1
-                                    ]
-                                  ]
-                                ]
-                              ]
-                            ]
+                            | inl w ↦ header_takes tokens w.0 x w.1 w.2
+                            | inr w ↦ search_form_takes tokens x w.1
                           ]
                         ]
                       ]
@@ -389,10 +407,22 @@ minimize_again target budget back b =
     let i = integer_first k.2 in
     rw (n.1, name_at-cons target n.0 n.2, k.1, behind-cons Word (codes "budget") k.0, integer_at-starts i.1, begins_over i.2) refl
 
+prefer_again : (name : List ℕ) (weight : ℤ) (back : List Lexeme) → Begins back (Named name ∷ Integer weight ∷ []) [] → prefer_at back ≡ Some (PreferForm name weight, [])
+unfolding prefer_at and_then
+prefer_again name weight back b =
+    let n = name_first b in
+    rw (n.1, name_at-cons name n.0 n.2) (choice_again (PreferNoneForm name) (PreferForm name) weight n.0 n.3)
+
+prefer_alone : (name : List ℕ) (back : List Lexeme) → Begins back (Named name ∷ Keyword (codes "none") ∷ []) [] → prefer_at back ≡ Some (PreferNoneForm name, [])
+unfolding prefer_at and_then
+prefer_alone name back b =
+    let n = name_first b in
+    rw (n.1, name_at-cons name n.0 n.2) (choice_alone (PreferNoneForm name) (PreferForm name) n.0 n.3)
+
 -- the reader finds its way by the first words
 module _ (tokens : List Lexeme) where
   line_again : (form : Form) → IsProper form → Begins tokens (pieces form) [] → line_at tokens ≡ Some (form, [])
-  unfolding line_at bare_at solve_at drop_at behind token_at front_text and_then when choose
+  unfolding line_at search_form_at bare_at solve_at drop_at behind token_at front_text and_then when choose
   line_again HeaderForm proper b = let k = keyword_first b in rw k.1 (header_again k.0 k.2)
   line_again (DeclareForm name domain) proper b = let k = keyword_first b in rw k.1 (declare_again name domain k.0 k.2)
   line_again (DeclareInForm name universe domain) proper b = let k = keyword_first b in rw k.1 (declare_in_again name universe domain k.0 k.2)
@@ -421,6 +451,9 @@ module _ (tokens : List Lexeme) where
       rw (k.1, l.1) (repair_again tabu budget l.0 l.2)
   line_again (ProveForm budget) proper b = let k = keyword_first b in rw k.1 (prove_again budget k.0 k.2)
   line_again (MinimizeForm target budget) proper b = let k = keyword_first b in rw k.1 (minimize_again target budget k.0 k.2)
+  line_again (PreferForm name weight) proper b = let k = keyword_first b in rw k.1 (prefer_again name weight k.0 k.2)
+  line_again (PreferNoneForm name) proper b = let k = keyword_first b in rw k.1 (prefer_alone name k.0 k.2)
+  line_again PreferredForm proper b = let k = keyword_first b in rw (k.1, begins_over k.2) refl
   line_again (CertForm name value) proper b = let k = keyword_first b in rw k.1 (query_again CertConflictForm CertForm name value k.0 k.2)
   line_again CertConflictForm proper b = let k = keyword_first b in rw k.1 (query_alone CertConflictForm CertForm k.0 k.2)
   line_again (GuideForm number) proper b = let k = keyword_first b in rw k.1 (choice_again GuideNoneForm GuideForm number k.0 k.2)

@@ -7,7 +7,7 @@ use Rattle.palm_read.specs.Modes.{Allows}
 use Rattle.palm_read.specs.Reading.{line_of, IsRead, a_comment, a_form, IsRefusedBy}
 use Rattle.palm_read.specs.Token.{tokens_of}
 use Rattle.palm_read.specs.declared.line.Line.{Line}
-use Rattle.palm_read.specs.declared.line.Line.TheVariants.{Header, VarIn, Add, Prove, Minimize}
+use Rattle.palm_read.specs.declared.line.Line.TheVariants.{Header, VarIn, Add, Prove, Minimize, Prefer, PreferNone, Preferred}
 use Rattle.palm_read.specs.declared.line.Shape.TheVariants.{Within}
 use Rattle.palm_read.specs.declared.mode.Mode.{Mode}
 use Rattle.palm_read.specs.declared.mode.Mode.TheVariants.{First, One}
@@ -22,6 +22,9 @@ allowed_everywhere mode (Add name (Within var domain)) a = absurd cc
 allowed_everywhere mode (Add name shape) a = tt
 allowed_everywhere mode (Prove budget) a = absurd cc
 allowed_everywhere mode (Minimize target budget) a = absurd cc
+allowed_everywhere mode (Prefer name weight) a = absurd cc
+allowed_everywhere mode (PreferNone name) a = absurd cc
+allowed_everywhere mode Preferred a = absurd cc
 allowed_everywhere mode _ a = tt
 
 -- the first mode allows the header beside, and nothing more
@@ -32,6 +35,9 @@ allowed_in_one (Add name (Within var domain)) a other = absurd cc
 allowed_in_one (Add name shape) a other = tt
 allowed_in_one (Prove budget) a other = absurd cc
 allowed_in_one (Minimize target budget) a other = absurd cc
+allowed_in_one (Prefer name weight) a other = absurd cc
+allowed_in_one (PreferNone name) a other = absurd cc
+allowed_in_one Preferred a other = absurd cc
 allowed_in_one _ a other = tt
 
 pub read_everywhere : (mode : Mode) (bytes : List ℕ) (line : Line) → IsRead One bytes line → IsRead mode bytes line

@@ -6,7 +6,7 @@ use Rattle.std.proofs.lemmas.List.{drop_all, drop_more}
 use Rattle.std.proofs.lemmas.List.Elements.{All-nil, All-cons, All-head, All-tail}
 use Rattle.std.proofs.lemmas.Option.{none-some}
 use Rattle.palm_read.specs.declared.line.Line.{Line}
-use Rattle.palm_read.specs.declared.line.Line.TheVariants.{Comment, Header, VarIn, Add, Prove, Minimize}
+use Rattle.palm_read.specs.declared.line.Line.TheVariants.{Comment, Header, VarIn, Add, Prove, Minimize, Prefer, PreferNone, Preferred}
 use Rattle.palm_read.specs.declared.line.Shape.TheVariants.{Within}
 use Rattle.palm_read.specs.declared.parse.LineError.{LineError}
 use Rattle.palm_read.specs.declared.parse.LineError.TheVariants.{Bytes, Form as NoForm, Range as OutOfRange, Empty, Repeated, NoMemory}
@@ -216,6 +216,9 @@ allowed_decided mode (Add name (Within var domain)) = two_decided mode
 allowed_decided mode (Add name shape) = inl tt
 allowed_decided mode (Prove budget) = two_decided mode
 allowed_decided mode (Minimize target budget) = two_decided mode
+allowed_decided mode (Prefer name weight) = two_decided mode
+allowed_decided mode (PreferNone name) = two_decided mode
+allowed_decided mode Preferred = two_decided mode
 allowed_decided mode _ = inl tt
 
 module _ (mode : Mode) (bytes : List ℕ) (plain : IsPlain bytes) where

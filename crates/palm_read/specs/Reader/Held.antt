@@ -7,11 +7,11 @@ use Rattle.palm_read.specs.Token.{Lexeme}
 use Rattle.palm_read.specs.Reader.Steps.{Reading}
 use Rattle.palm_read.specs.Reading.{line_of}
 use Rattle.palm_model.specs.declared.limits.TheConstants.{GREATEST_VALUE, GREATEST_OFFSET, GREATEST_FACTOR, GREATEST_BOUND}
-use Rattle.palm_read.specs.declared.limits.TheConstants.{GREATEST_NUMBER, GREATEST_TABU, NO_BUDGET}
+use Rattle.palm_read.specs.declared.limits.TheConstants.{GREATEST_NUMBER, GREATEST_TABU, GREATEST_WEIGHT, NO_BUDGET}
 use Rattle.palm_read.specs.Comparison.{OffsetForm, NoOffset, Plus, Minus}
 use Rattle.palm_read.specs.Count.{TargetForm, Number, Variable}
 use Rattle.palm_read.specs.Domain.{DomainForm, Interval, Members}
-use Rattle.palm_read.specs.Form.{ShapeForm, CompareVarForm, CompareConstForm, LinearForm, TableForm, ElementForm, CountForm, DifferForm, WithinForm, Form, DeclareForm, DeclareInForm, AddForm, WhyForm, MinimalForm, StepForm, SolveDbtForm, SolveRepairForm, ProveForm, MinimizeForm, CertForm, GuideForm, OrderForm, DropGuideForm, DropOrderForm}
+use Rattle.palm_read.specs.Form.{ShapeForm, CompareVarForm, CompareConstForm, LinearForm, TableForm, ElementForm, CountForm, DifferForm, WithinForm, Form, DeclareForm, DeclareInForm, AddForm, WhyForm, MinimalForm, StepForm, SolveDbtForm, SolveRepairForm, ProveForm, MinimizeForm, PreferForm, CertForm, GuideForm, OrderForm, DropGuideForm, DropOrderForm}
 use Rattle.palm_read.specs.Linear.{TermForm}
 
 -- what was taken from the front, or nothing, and then nothing changed
@@ -108,6 +108,7 @@ held_form (SolveDbtForm budget) = SolveDbtForm (option_map (counted NO_BUDGET) b
 held_form (SolveRepairForm tabu budget) = SolveRepairForm (counted GREATEST_TABU tabu) (counted NO_BUDGET budget)
 held_form (ProveForm budget) = ProveForm (counted NO_BUDGET budget)
 held_form (MinimizeForm target budget) = MinimizeForm target (counted NO_BUDGET budget)
+held_form (PreferForm name weight) = PreferForm name (counted GREATEST_WEIGHT weight)
 held_form (GuideForm number) = GuideForm (counted GREATEST_NUMBER number)
 held_form (OrderForm number) = OrderForm (counted GREATEST_NUMBER number)
 held_form (DropGuideForm number) = DropGuideForm (counted GREATEST_NUMBER number)

@@ -3,7 +3,7 @@ use Rattle.std.specs.Prelude.{ℕ, ℤ, ◌&&◌, Option, Some, None, List, code
 use Rattle.std.specs.Str.{bytes_eq}
 use Rattle.palm_read.specs.declared.tokens.TokenKind.TheVariants.{Digits}
 use Rattle.palm_read.specs.Domain.{DomainForm}
-use Rattle.palm_read.specs.Form.{Form, HeaderForm, DeclareForm, DeclareInForm, AddForm, RelaxForm, EnforceForm, RetractForm, DomainsForm, DomainOfForm, ListForm, LogForm, WhyForm, ConflictForm, MinimalConflictForm, MinimalForm, PauseForm, ResumeForm, StepForm, SolveDbtForm, SolveRepairForm, ProveForm, MinimizeForm, CertForm, CertConflictForm, GuideForm, GuideNoneForm, OrderForm, OrderNoneForm, DropGuideForm, DropOrderForm, QuitForm}
+use Rattle.palm_read.specs.Form.{Form, HeaderForm, DeclareForm, DeclareInForm, AddForm, RelaxForm, EnforceForm, RetractForm, DomainsForm, DomainOfForm, ListForm, LogForm, WhyForm, ConflictForm, MinimalConflictForm, MinimalForm, PauseForm, ResumeForm, StepForm, SolveDbtForm, SolveRepairForm, ProveForm, MinimizeForm, PreferForm, PreferNoneForm, PreferredForm, CertForm, CertConflictForm, GuideForm, GuideNoneForm, OrderForm, OrderNoneForm, DropGuideForm, DropOrderForm, QuitForm}
 use Rattle.palm_read.specs.Token.{Lexeme}
 use Rattle.palm_read.specs.Reader.Steps.{Reading, ◌>>=◌, when, choose, is_empty, behind, keyword_at, mark_at, name_at, integer_at}
 use Rattle.palm_read.specs.Reader.Shapes.{domain_at, shape_at}
@@ -111,6 +111,12 @@ minimize_at tokens = do
   budget ← integer_at rest
   Some (MinimizeForm target.0 budget.0, budget.1)
 
+-- the constraint that has a weight, and this weight or none
+unfoldable pub prefer_at : List Lexeme → Reading Form
+prefer_at tokens = do
+  name ← name_at tokens
+  choice_at (PreferNoneForm name.0) (PreferForm name.0) name.1
+
 -- the forms of one word
 unfoldable pub bare_at : List Lexeme → Reading Form
 bare_at tokens =
@@ -120,8 +126,20 @@ bare_at tokens =
     (when (keyword_at (codes "conflict") tokens) (λ rest. Some (ConflictForm, rest))
     (when (keyword_at (codes "pause") tokens) (λ rest. Some (PauseForm, rest))
     (when (keyword_at (codes "resume") tokens) (λ rest. Some (ResumeForm, rest))
+    (when (keyword_at (codes "preferred") tokens) (λ rest. Some (PreferredForm, rest))
     (when (keyword_at (codes "quit") tokens) (λ rest. Some (QuitForm, rest))
-    None))))))
+    None)))))))
+
+-- the forms of searches, of guides and orders, and of one word
+unfoldable pub search_form_at : List Lexeme → Reading Form
+search_form_at tokens =
+    when (keyword_at (codes "solve") tokens) solve_at
+    (when (keyword_at (codes "prove") tokens) prove_at
+    (when (keyword_at (codes "minimize") tokens) minimize_at
+    (when (keyword_at (codes "guide") tokens) (choice_at GuideNoneForm GuideForm)
+    (when (keyword_at (codes "order") tokens) (choice_at OrderNoneForm OrderForm)
+    (when (keyword_at (codes "drop") tokens) drop_at
+    (bare_at tokens))))))
 
 unfoldable pub line_at : List Lexeme → Reading Form
 line_at tokens =
@@ -130,19 +148,14 @@ line_at tokens =
     (when (keyword_at (codes "relax") tokens) (named_at RelaxForm)
     (when (keyword_at (codes "enforce") tokens) (named_at EnforceForm)
     (when (keyword_at (codes "retract") tokens) (named_at RetractForm)
+    (when (keyword_at (codes "prefer") tokens) prefer_at
     (when (keyword_at (codes "domain") tokens) (named_at DomainOfForm)
     (when (keyword_at (codes "why") tokens) (pair_at WhyForm)
     (when (keyword_at (codes "minimal") tokens) (query_at MinimalConflictForm MinimalForm)
-    (when (keyword_at (codes "step") tokens) (numbered_at StepForm)
-    (when (keyword_at (codes "solve") tokens) solve_at
-    (when (keyword_at (codes "prove") tokens) prove_at
-    (when (keyword_at (codes "minimize") tokens) minimize_at
     (when (keyword_at (codes "cert") tokens) (query_at CertConflictForm CertForm)
-    (when (keyword_at (codes "guide") tokens) (choice_at GuideNoneForm GuideForm)
-    (when (keyword_at (codes "order") tokens) (choice_at OrderNoneForm OrderForm)
-    (when (keyword_at (codes "drop") tokens) drop_at
+    (when (keyword_at (codes "step") tokens) (numbered_at StepForm)
     (when (keyword_at (codes "palm") tokens) header_at
-    (bare_at tokens)))))))))))))))))
+    (search_form_at tokens))))))))))))
 
 -- the form of all tokens of a line
 unfoldable pub form_at : List Lexeme → Option Form

@@ -7,7 +7,7 @@ ghost use Rattle.palm_read.specs.Limits.{HasNoValue, HasNothing, IsDomainInRange
 ghost use Rattle.palm_read.specs.Modes.{Allows};
 ghost use Rattle.palm_model.specs.Limits.{IsUpTo, IsValue};
 
-use crate::limits::{GREATEST_NUMBER, GREATEST_TABU, NO_BUDGET};
+use crate::limits::{GREATEST_NUMBER, GREATEST_TABU, GREATEST_WEIGHT, NO_BUDGET};
 use crate::line::{DomainText, Line, NameTarget, NameTerm, Shape};
 use crate::mode::Mode;
 use palm_base::Value;
@@ -20,7 +20,11 @@ pub fn is_allowed(line: &Line, mode: Mode) -> bool
     match line {
         Line::Header => matches!(mode, Mode::First),
         Line::VarIn { .. } => matches!(mode, Mode::Two),
-        Line::Prove { .. } | Line::Minimize { .. } => matches!(mode, Mode::Two),
+        Line::Prove { .. }
+        | Line::Minimize { .. }
+        | Line::Prefer { .. }
+        | Line::PreferNone(_)
+        | Line::Preferred => matches!(mode, Mode::Two),
         Line::Add { shape, .. } => !matches!(shape, Shape::Within { .. })
             || matches!(mode, Mode::Two),
         _ => true,
@@ -46,6 +50,7 @@ pub fn is_in_range(line: &Line) -> bool
             is_from_one_to(NO_BUDGET, *budget),
         Line::SolveRepair { tabu, budget } => is_from_one_to(GREATEST_TABU, u64::from(*tabu))
             && is_from_one_to(NO_BUDGET, *budget),
+        Line::Prefer { weight, .. } => is_from_one_to(GREATEST_WEIGHT, u64::from(*weight)),
         Line::Guide(number)
         | Line::Order(number)
         | Line::DropGuide(number)

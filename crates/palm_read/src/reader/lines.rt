@@ -3,11 +3,11 @@ ghost use Rattle.std.specs.Prelude.{◌≡◌, ◌&&◌, codes};
 ghost use Rattle.std.specs.Str.{bytes_eq};
 ghost use Rattle.palm_read.specs.Domain.{DomainForm, domain_of};
 ghost use Rattle.palm_read.specs.Reader.Held.{Gives, held_domain, held_line};
-ghost use Rattle.palm_read.specs.Reader.Lines.{declare_at, declare_in_at, header_at, add_at, named_at, numbered_at, pair_at, query_at, choice_at, drop_at, dbt_at, repair_at, solve_at, prove_at, minimize_at, bare_at, line_at};
+ghost use Rattle.palm_read.specs.Reader.Lines.{declare_at, declare_in_at, header_at, add_at, named_at, numbered_at, pair_at, query_at, choice_at, drop_at, dbt_at, repair_at, solve_at, prove_at, minimize_at, prefer_at, bare_at, search_form_at, line_at};
 ghost use Rattle.palm_read.specs.Reader.Steps.{is_empty};
 ghost use Rattle.palm_read.specs.Form as form;
 
-use crate::limits::{GREATEST_NUMBER, GREATEST_TABU, NO_BUDGET};
+use crate::limits::{GREATEST_NUMBER, GREATEST_TABU, GREATEST_WEIGHT, NO_BUDGET};
 use crate::line::{DomainText, Line, Name};
 use crate::parse::LineError;
 use crate::reader::cursor::Cursor;
@@ -29,30 +29,42 @@ impl<'a> Cursor<'a> {
             self.enforce(alloc)
         } else if self.takes_word(b"retract") {
             self.retract(alloc)
+        } else if self.takes_word(b"prefer") {
+            self.prefer(alloc)
         } else if self.takes_word(b"domain") {
             self.domain_of(alloc)
         } else if self.takes_word(b"why") {
             self.why(alloc)
         } else if self.takes_word(b"minimal") {
             self.minimal(alloc)
+        } else if self.takes_word(b"cert") {
+            self.cert(alloc)
         } else if self.takes_word(b"step") {
             self.step()
-        } else if self.takes_word(b"solve") {
+        } else if self.takes_word(b"palm") {
+            self.header()
+        } else {
+            self.search_form(alloc)
+        }
+    }
+
+    /// Reads a form of a search, of a guide or an order, or of one word.
+    #[tactic(auto, unfolding(crate::specs::Reader::Lines::search_form_at, crate::specs::Reader::Steps::when))]
+    fn search_form(&mut self, alloc: Global) -> Result<Line, LineError>
+        ensures { Gives held_line result self.new (search_form_at self.old) }
+    {
+        if self.takes_word(b"solve") {
             self.solve()
         } else if self.takes_word(b"prove") {
             self.prove()
         } else if self.takes_word(b"minimize") {
             self.minimize(alloc)
-        } else if self.takes_word(b"cert") {
-            self.cert(alloc)
         } else if self.takes_word(b"guide") {
             self.guide()
         } else if self.takes_word(b"order") {
             self.order()
         } else if self.takes_word(b"drop") {
             self.drop_object()
-        } else if self.takes_word(b"palm") {
-            self.header()
         } else {
             self.bare()
         }
@@ -75,6 +87,8 @@ impl<'a> Cursor<'a> {
             Ok(Line::Pause)
         } else if self.takes_word(b"resume") {
             Ok(Line::Resume)
+        } else if self.takes_word(b"preferred") {
+            Ok(Line::Preferred)
         } else if self.takes_word(b"quit") {
             Ok(Line::Quit)
         } else {
@@ -153,6 +167,18 @@ impl<'a> Cursor<'a> {
         ensures { Gives held_line result self.new (named_at form.RetractForm self.old) }
     {
         Ok(Line::Retract(self.owned_name(alloc)?))
+    }
+
+    #[tactic(auto, unfolding(crate::specs::Reader::Lines::prefer_at, crate::specs::Reader::Lines::choice_at, crate::specs::Reader::Lines::numbered_at, crate::specs::Reader::Steps::when, crate::specs::Reader::Steps::and_then))]
+    fn prefer(&mut self, alloc: Global) -> Result<Line, LineError>
+        ensures { Gives held_line result self.new (prefer_at self.old) }
+    {
+        let name = self.owned_name(alloc)?;
+        if self.takes_word(b"none") {
+            return Ok(Line::PreferNone(name));
+        }
+        let weight = self.counted(GREATEST_WEIGHT)? as u32;
+        Ok(Line::Prefer { name, weight })
     }
 
     #[tactic(auto, unfolding(crate::specs::Reader::Lines::named_at, crate::specs::Reader::Steps::and_then))]

@@ -25,11 +25,13 @@ use Rattle.palm_claim.specs.declared.verdict.Claim.TheVariants.{Gone, Conflict a
 use Rattle.palm_model.specs.Minimal.{AreConflict, DoExplain}
 use Rattle.palm_laws.proofs.cited.Growing.{conflict_known, explanation_known}
 use Rattle.palm_laws.proofs.cited.Reducing.{minimal_one, minimal_some}
+use Rattle.palm_prefer.proofs.cited.Existing.{preferred_exists}
+use Rattle.palm_prefer.proofs.cited.Uniqueness.{one_answer}
 use Rattle.palm_read.specs.Limits.{names_of}
 use Rattle.palm_read.specs.Reading.{IsRead, IsRefusedBy}
 use Rattle.palm_lang.specs.Reply.{fixed_text, refusal_text, ran_text, domain_line}
 use Rattle.palm_read.specs.declared.line.Line.{Line}
-use Rattle.palm_read.specs.declared.line.Line.TheVariants.{Var, VarIn, Add, Relax, Enforce, Retract, Domain, Why, Minimal, Pause, Resume, Step, Cert, Minimize, Guide, Order, DropGuide, DropOrder}
+use Rattle.palm_read.specs.declared.line.Line.TheVariants.{Var, VarIn, Add, Relax, Enforce, Retract, Domain, Why, Minimal, Pause, Resume, Step, Cert, Minimize, Prefer, PreferNone, Guide, Order, DropGuide, DropOrder}
 use Rattle.palm_read.specs.declared.mode.Mode.{Mode}
 use Rattle.palm_read.specs.declared.mode.Mode.TheVariants.{One}
 use Rattle.palm_read.specs.declared.parse.LineError.{LineError}
@@ -46,11 +48,11 @@ use Rattle.palm_session.specs.Refusals.{IsUnknown, TakesName, NamesNone, NamesNo
 use Rattle.palm_session.specs.Effects.{Effect, Nothing, Settled, Searched, Rests, Filters, Searches, Follows, Does}
 use Rattle.palm_session.specs.declared.request.Procedure.{Procedure}
 use Rattle.palm_session.specs.declared.request.Question.{Question}
-use Rattle.palm_session.specs.declared.request.Question.TheVariants.{Domains as DomainsAsked, Domain as DomainAsked, List as ListAsked, Log as LogAsked, Why as WhyAsked, Conflict as ConflictAsked, Minimal as MinimalAsked, MinimalConflict as MinimalConflictAsked, Cert as CertAsked, CertConflict as CertConflictAsked}
+use Rattle.palm_session.specs.declared.request.Question.TheVariants.{Domains as DomainsAsked, Domain as DomainAsked, List as ListAsked, Log as LogAsked, Why as WhyAsked, Conflict as ConflictAsked, Minimal as MinimalAsked, MinimalConflict as MinimalConflictAsked, Cert as CertAsked, CertConflict as CertConflictAsked, Preferred as PreferredAsked}
 use Rattle.palm_session.specs.declared.request.Request.{Request}
-use Rattle.palm_session.specs.declared.request.Request.TheVariants.{Nothing as NothingAsked, Header as HeaderAsked, Declare as DeclareAsked, DeclareIn as DeclareInAsked, Add as AddAsked, Relax as RelaxAsked, Enforce as EnforceAsked, Retract as RetractAsked, Ask, Pause as PauseAsked, Resume as ResumeAsked, Step as StepAsked, Solve, ChooseGuide, DropGuide as DropGuideAsked, ChooseOrder, DropOrder as DropOrderAsked, Quit as QuitAsked}
+use Rattle.palm_session.specs.declared.request.Request.TheVariants.{Nothing as NothingAsked, Header as HeaderAsked, Declare as DeclareAsked, DeclareIn as DeclareInAsked, Add as AddAsked, Relax as RelaxAsked, Enforce as EnforceAsked, Retract as RetractAsked, Ask, Pause as PauseAsked, Resume as ResumeAsked, Step as StepAsked, Solve, ChooseGuide, DropGuide as DropGuideAsked, ChooseOrder, DropOrder as DropOrderAsked, Prefer as PreferAsked, Quit as QuitAsked}
 use Rattle.palm_session.specs.Requests.{Admits, IsAdmitted, Requests}
-use Rattle.palm_session.specs.Answers.{CanWait, IsPausable, AsksOfDomains, IsContradictable, IsAnswer, domains_text, list_text, log_text, users_text, SaysWhy, HasConflict, SaysConflict, SaysMinimal, SaysMinimalConflict, SaysCert, SaysCertConflict, told_text, Says, WaitsFor, Contradicts, Accepts, waits, contradicts, says, Answers, misread, refused, accepted}
+use Rattle.palm_session.specs.Answers.{CanWait, IsPausable, AsksOfDomains, IsContradictable, IsAnswer, domains_text, list_text, log_text, users_text, preferred_text, SaysWhy, HasConflict, SaysConflict, SaysMinimal, SaysMinimalConflict, SaysPreferred, SaysCert, SaysCertConflict, told_text, Says, WaitsFor, Contradicts, Accepts, waits, contradicts, says, Answers, misread, refused, accepted}
 use Rattle.palm_read.specs.Lines.{without_return}
 use Rattle.palm_session.specs.Replies.{ChoosesObject, chooses_guide, chooses_order}
 use Rattle.palm_session.specs.declared.limits.TheConstants.{MOST_KEPT_BYTES}
@@ -88,6 +90,8 @@ constraints_known : (s : SessionState) (line : Line) → Known (NamesNoConstrain
 constraints_known s (Relax name) = known_not (constraint_known s name)
 constraints_known s (Enforce name) = known_not (constraint_known s name)
 constraints_known s (Retract name) = known_not (constraint_known s name)
+constraints_known s (Prefer name weight) = known_not (constraint_known s name)
+constraints_known s (PreferNone name) = known_not (constraint_known s name)
 constraints_known s _ = inr (λ h. h)
 
 full_known : (s : SessionState) → Known (IsFullOfConstraints s)
@@ -231,6 +235,9 @@ answer_exists t is CertConflictAsked awake =
     let d = domains_exist t is.held in
     let c = cert_conflict_says t is (awake tt) d.0 d.1 in
     (c.0, (d.0, d.1, c.1))
+answer_exists t is PreferredAsked awake =
+    let p = preferred_exists t.book t.weights is.held.book in
+    (preferred_text t.book p.0, (p.0, p.1, refl))
 
 says_exist : (s : SessionState) (request : Request) (effect : Effect) (t : SessionState) → IsState t → (WaitsFor s request → ⊥) → Does s request effect t
     → (reply : List ℕ) × Says t request effect reply
@@ -253,6 +260,7 @@ says_exist s (ChooseGuide chosen) effect t is goes does = (fixed_text Done, refl
 says_exist s (DropGuideAsked number) effect t is goes does = (fixed_text Done, refl)
 says_exist s (ChooseOrder chosen) effect t is goes does = (fixed_text Done, refl)
 says_exist s (DropOrderAsked number) effect t is goes does = (fixed_text Done, refl)
+says_exist s (PreferAsked place weight) effect t is goes does = (fixed_text Done, refl)
 says_exist s QuitAsked effect t is goes does = (fixed_text Bye, refl)
 
 waiting_known : (question : Question) → Known (CanWait question)
@@ -380,6 +388,8 @@ guide_line s (Why name value) number r = absurd (subst ChoosesGuide r.2 tt)
 guide_line s (Minimal name value) number r = absurd (subst ChoosesGuide r.2 tt)
 guide_line s (Cert name value) number r = absurd (subst ChoosesGuide r.2 tt)
 guide_line s (Minimize name budget) number r = absurd (subst ChoosesGuide r.2 tt)
+guide_line s (Prefer name weight) number r = absurd (subst ChoosesGuide r.2 tt)
+guide_line s (PreferNone name) number r = absurd (subst ChoosesGuide r.2 tt)
 guide_line s _ number r = absurd (subst ChoosesGuide r tt)
 
 abbrev ChoosesOrder : Request → Type 0
@@ -397,6 +407,8 @@ order_line s (Why name value) number r = absurd (subst ChoosesOrder r.2 tt)
 order_line s (Minimal name value) number r = absurd (subst ChoosesOrder r.2 tt)
 order_line s (Cert name value) number r = absurd (subst ChoosesOrder r.2 tt)
 order_line s (Minimize name budget) number r = absurd (subst ChoosesOrder r.2 tt)
+order_line s (Prefer name weight) number r = absurd (subst ChoosesOrder r.2 tt)
+order_line s (PreferNone name) number r = absurd (subst ChoosesOrder r.2 tt)
 order_line s _ number r = absurd (subst ChoosesOrder r tt)
 
 without_in : (guides orders : List ℕ) (mode : Mode) (s : SessionState) → IsWithout guides orders s → IsWithout guides orders (in_mode mode s)
@@ -459,6 +471,9 @@ minimal_conflict_same book a b (inr p) (inr q) =
     let cids : p.0 ≡ q.0 = minimal_one (AreConflict (initial_of book)) (active_of book) p.0 q.0 p.1 q.1 in
     p.2 ∙ ap (λ (z : List Cid). users_text book ConflictLead z) cids ∙ sym q.2
 
+preferred_same : (t : SessionState) (a b : List ℕ) → SaysPreferred t a → SaysPreferred t b → a ≡ b
+preferred_same t a b x y = x.2 ∙ ap (preferred_text t.book) (one_answer t.book t.weights x.0 y.0 x.1 y.1) ∙ sym y.2
+
 cert_same : (t : SessionState) (d : Domains) (pair : Pair) (a b : List ℕ) → SaysCert t d pair a → SaysCert t d pair b → a ≡ b
 cert_same t d pair a b (inl p) (inl q) = p.1 ∙ sym q.1
 cert_same t d pair a b (inl p) (inr q) = absurd (q.0 p.0)
@@ -502,6 +517,7 @@ answer_same t (CertAsked pair) a b x y =
     cert_same t y.0 pair a b (subst (λ (z : Domains). SaysCert t z pair a) (domains_once t x.0 y.0 x.1 y.1) x.2) y.2
 answer_same t CertConflictAsked a b x y =
     cert_conflict_same t y.0 a b (subst (λ (z : Domains). SaysCertConflict t z a) (domains_once t x.0 y.0 x.1 y.1) x.2) y.2
+answer_same t PreferredAsked a b x y = preferred_same t a b x y
 
 says_same : (t : SessionState) (request : Request) (effect : Effect) (a b : List ℕ) → Says t request effect a → Says t request effect b → a ≡ b
 says_same t NothingAsked effect a b x y = x ∙ sym y
@@ -521,6 +537,7 @@ says_same t (ChooseGuide chosen) effect a b x y = x ∙ sym y
 says_same t (DropGuideAsked number) effect a b x y = x ∙ sym y
 says_same t (ChooseOrder chosen) effect a b x y = x ∙ sym y
 says_same t (DropOrderAsked number) effect a b x y = x ∙ sym y
+says_same t (PreferAsked place weight) effect a b x y = x ∙ sym y
 says_same t QuitAsked effect a b x y = x ∙ sym y
 
 abbrev AreOne : List ℕ → List ℕ → SessionState → SessionState → Type 0

@@ -1,5 +1,5 @@
 -- What a request changes: it can be done, in one way, and leaves what a session can hold in the midst of a line.
-use Rattle.std.proofs.Common.{◌≡◌, ◌≢◌, ℕ, ◌+◌, ◌<◌, ◌≤◌, ℤ, Bool, true, false, not, if◌then◌else◌, Some, None, List, [], ◌∷◌, ◌++◌, length, filter, slice_get, remove, All, Any, Contains, ◌⊎◌, inl, inr, refl, sym, ap, ◌∙◌, subst, arith, length-append}
+use Rattle.std.proofs.Common.{◌≡◌, ◌≢◌, ℕ, ◌+◌, ◌<◌, ◌≤◌, ℤ, Bool, true, false, not, if◌then◌else◌, Option, Some, None, List, [], ◌∷◌, ◌++◌, length, filter, slice_get, remove, All, Any, Contains, ◌⊎◌, inl, inr, refl, sym, ap, ◌∙◌, subst, arith, length-append}
 use Rattle.std.proofs.lemmas.Bool.{false≢true}
 use Rattle.std.proofs.lemmas.List.{length-map, map-append}
 use Rattle.std.proofs.lemmas.List.Elements.{All-push, All-weaker, All-contains}
@@ -30,12 +30,13 @@ use Rattle.palm_events.proofs.cited.Valid.{declares_valid, posts_valid, withdraw
 use Rattle.palm_session.specs.State.{SessionState, IsHeld, IsState}
 use Rattle.palm_session.specs.declared.request.Procedure.{Procedure}
 use Rattle.palm_session.specs.declared.request.Request.{Request}
-use Rattle.palm_session.specs.declared.request.Request.TheVariants.{Nothing as NothingAsked, Header as HeaderAsked, Declare, DeclareIn, Add, Relax, Enforce, Retract, Ask, Pause, Resume, Step, Solve, ChooseGuide, DropGuide, ChooseOrder, DropOrder, Quit}
+use Rattle.palm_session.specs.declared.request.Request.TheVariants.{Nothing as NothingAsked, Header as HeaderAsked, Declare, DeclareIn, Add, Relax, Enforce, Retract, Ask, Pause, Resume, Step, Solve, ChooseGuide, DropGuide, ChooseOrder, DropOrder, Prefer, Quit}
 use Rattle.palm_session.specs.Requests.{Admits, CanAdd, CanDeclare, CanDeclareIn, StandsAt}
-use Rattle.palm_session.specs.Effects.{with_engine, with_variable, with_constraint, with_active_at, without_constraint, without_guide, without_order, next_constraint, WithdrawsWhere, WithdrawsActive, next_within, DeclaresNext, AddsNext, Changes, Rests, Filters, Searches, next, unless_paused}
+use Rattle.palm_session.specs.Effects.{with_engine, with_variable, with_constraint, with_active_at, with_weight, without_constraint, without_guide, without_order, next_constraint, WithdrawsWhere, WithdrawsActive, next_within, DeclaresNext, AddsNext, Changes, Rests, Filters, Searches, next, unless_paused}
 use Rattle.palm_session.specs.Objects.{without_number, chosen_without}
 use Rattle.palm_session.proofs.ActiveLists.{turned_cases, active_member, active_added, active_enforced, active_relaxed, active_retracted, active_alike, relaxed_inactive, user_same}
 use Rattle.palm_session.proofs.Standing.{some_entry}
+use Rattle.palm_session.proofs.Weighted.{weights_added, weights_declared, weights_less, weights_set, weights_turned}
 use Rattle.palm_session.proofs.HeldObjects.{left_inside, left_chosen, held_guides, held_orders}
 use Rattle.palm_book.proofs.cited.Intervals.{domain_values}
 
@@ -68,6 +69,7 @@ module _ (s : SessionState) (name : List ℕ) (domain : DomainText) (can : CanDe
         book = IsBook-with_variable s.book s.book refl is.book entry (s.book.variables ++ entry ∷ []) can.text
             (none_named (λ (f : BookVar). f.name) s.book.variables name can.free)
             declared_values room refl;
+        weights = weights_declared s.book (s.book.variables ++ entry ∷ []) s.weights is.weights;
         accepted = is.accepted;
         numbered = is.numbered;
         guide = is.guide;
@@ -136,6 +138,7 @@ module _ (s : SessionState) (name : List ℕ) (con : Con) (is : IsHeld s) (can :
       let counts : MOST_ADDED ≤ s.accepted → ⊥ = λ h. can.room (inr h) in
       record {
         book = added_book;
+        weights = weights_added s.book c s.weights is.weights;
         accepted = omega (arith, counts);
         numbered = All-push (λ (d : BookCon). d.number ≤ s.accepted + 1) s.book.constraints c
             (All-weaker (λ (d : BookCon). d.number ≤ s.accepted) (λ (d : BookCon). d.number ≤ s.accepted + 1) (λ d h. omega (arith, h)) s.book.constraints is.numbered)
@@ -207,6 +210,7 @@ module _ (s : SessionState) (is : IsHeld s) (place : ℕ) (c : BookCon) (at : sl
   keeps_relaxed : (e : EngineState) → Withdraws s.engine (User c.number) e → IsHeld (with_engine (with_active_at s place false) e)
   keeps_relaxed e w = record {
     book = turned_book false;
+    weights = weights_turned s.book place c at s.weights is.weights false;
     accepted = is.accepted;
     numbered = turned_numbered false;
     guide = is.guide;
@@ -220,6 +224,7 @@ module _ (s : SessionState) (is : IsHeld s) (place : ℕ) (c : BookCon) (at : sl
   keeps_enforced : (e : EngineState) → c.active ≡ false → Posts s.engine (user_at c) e → IsHeld (with_engine (with_active_at s place true) e)
   keeps_enforced e off posts = record {
     book = turned_book true;
+    weights = weights_turned s.book place c at s.weights is.weights true;
     accepted = is.accepted;
     numbered = turned_numbered true;
     guide = is.guide;
@@ -230,9 +235,10 @@ module _ (s : SessionState) (is : IsHeld s) (place : ℕ) (c : BookCon) (at : sl
     valid = posts_valid s.engine e (user_at c) posts is.valid;
   }
 
-  less_held : (e : EngineState) → ((c.active ≡ true) × Withdraws s.engine (User c.number) e) ⊎ ((c.active ≡ false) × (e ≡ s.engine)) → IsHeld (with_engine (without_constraint s place) e)
+  less_held : (e : EngineState) → ((c.active ≡ true) × Withdraws s.engine (User c.number) e) ⊎ ((c.active ≡ false) × (e ≡ s.engine)) → IsHeld (with_engine (without_constraint s place c) e)
   less_held e (inl w) = record {
     book = less_book;
+    weights = weights_less s.book place c at s.weights is.weights;
     accepted = is.accepted;
     numbered = All-remove (λ (d : BookCon). d.number ≤ s.accepted) s.book.constraints place is.numbered;
     guide = is.guide;
@@ -244,6 +250,7 @@ module _ (s : SessionState) (is : IsHeld s) (place : ℕ) (c : BookCon) (at : sl
   }
   less_held e (inr w) = record {
     book = less_book;
+    weights = weights_less s.book place c at s.weights is.weights;
     accepted = is.accepted;
     numbered = All-remove (λ (d : BookCon). d.number ≤ s.accepted) s.book.constraints place is.numbered;
     guide = is.guide;
@@ -253,7 +260,7 @@ module _ (s : SessionState) (is : IsHeld s) (place : ℕ) (c : BookCon) (at : sl
     valid = subst (λ (z : EngineState). IsValid z) (sym w.1) is.valid;
   }
 
-  keeps_retracted : (e : EngineState) → WithdrawsActive s.engine c e → IsHeld (with_engine (without_constraint s place) e)
+  keeps_retracted : (e : EngineState) → WithdrawsActive s.engine c e → IsHeld (with_engine (without_constraint s place c) e)
   keeps_retracted e w = less_held e (withdraws_cases s.engine c e w)
 
 -- what stands at a place is active or relaxed
@@ -263,6 +270,21 @@ stands_so s place active c stands at = ap (λ (d : BookCon). d.active) (same_Som
 held_paused : (s : SessionState) (b : Bool) → IsHeld s → IsHeld (record s { paused = b })
 held_paused s b is = record {
   book = is.book;
+  weights = is.weights;
+  accepted = is.accepted;
+  numbered = is.numbered;
+  guide = is.guide;
+  order = is.order;
+  initial = is.initial;
+  active = is.active;
+  valid = is.valid;
+}
+
+-- another weight of a constraint
+held_weighed : (s : SessionState) → IsHeld s → (place : ℕ) (c : BookCon) → slice_get s.book.constraints place ≡ Some c → (weight : Option ℕ) → IsHeld (with_weight s c weight)
+held_weighed s is place c at weight = record {
+  book = is.book;
+  weights = weights_set s.book place c at s.weights is.weights weight;
   accepted = is.accepted;
   numbered = is.numbered;
   guide = is.guide;
@@ -295,6 +317,7 @@ changes_keep s m (DropGuide number) is can h =
 changes_keep s m (ChooseOrder chosen) is can h = subst IsHeld (sym h) (held_orders s s.orders chosen can is)
 changes_keep s m (DropOrder number) is can h =
     subst IsHeld (sym h) (held_orders s (without_number number s.orders) (chosen_without number s.order) (left_chosen number s.orders s.order is.order) is)
+changes_keep s m (Prefer place weight) is can h = subst IsHeld (sym h.2) (held_weighed s is place h.0 h.1 weight)
 changes_keep s m Quit is can h = subst IsHeld (sym h) is
 
 -- ---- where nothing follows, nothing waits for filtering
@@ -329,6 +352,7 @@ changes_still s m (ChooseGuide chosen) is h rests awake = untouched_still s m is
 changes_still s m (DropGuide number) is h rests awake = untouched_still s m is (ap (λ (z : SessionState). z.engine) h) (ap (λ (z : SessionState). z.paused) h) awake
 changes_still s m (ChooseOrder chosen) is h rests awake = untouched_still s m is (ap (λ (z : SessionState). z.engine) h) (ap (λ (z : SessionState). z.paused) h) awake
 changes_still s m (DropOrder number) is h rests awake = untouched_still s m is (ap (λ (z : SessionState). z.engine) h) (ap (λ (z : SessionState). z.paused) h) awake
+changes_still s m (Prefer place weight) is h rests awake = untouched_still s m is (ap (λ (z : SessionState). z.engine) h.2) (ap (λ (z : SessionState). z.paused) h.2) awake
 changes_still s m Quit is h rests awake = stays_still s m is h awake
 
 -- filtering has a limit only while the session is paused
@@ -357,6 +381,7 @@ changes_limited s m (ChooseGuide chosen) can h limit e = absurd (rests_not_limit
 changes_limited s m (DropGuide number) can h limit e = absurd (rests_not_limited limit e)
 changes_limited s m (ChooseOrder chosen) can h limit e = absurd (rests_not_limited limit e)
 changes_limited s m (DropOrder number) can h limit e = absurd (rests_not_limited limit e)
+changes_limited s m (Prefer place weight) can h limit e = absurd (rests_not_limited limit e)
 changes_limited s m Quit can h limit e = absurd (rests_not_limited limit e)
 
 -- ---- the change can be made
@@ -391,7 +416,7 @@ changes_exist s (Enforce place) is can =
 changes_exist s (Retract place) is can =
     let n = some_entry s.book.constraints place can in
     let w = withdraws_exist s is n.0 in
-    (with_engine (without_constraint s place) w.0, (n.0, w.0, n.1, w.1, refl))
+    (with_engine (without_constraint s place n.0) w.0, (n.0, w.0, n.1, w.1, refl))
 changes_exist s (Ask question) is can = (s, refl)
 changes_exist s Pause is can = (record s { paused = true }, refl)
 changes_exist s Resume is can = (record s { paused = false }, refl)
@@ -401,6 +426,7 @@ changes_exist s (ChooseGuide chosen) is can = (record s { guide = chosen }, refl
 changes_exist s (DropGuide number) is can = (without_guide s number, refl)
 changes_exist s (ChooseOrder chosen) is can = (record s { order = chosen }, refl)
 changes_exist s (DropOrder number) is can = (without_order s number, refl)
+changes_exist s (Prefer place weight) is can = let n = some_entry s.book.constraints place can in (with_weight s n.0 weight, (n.0, n.1, refl))
 changes_exist s Quit is can = (s, refl)
 
 -- ---- in one way
@@ -439,7 +465,7 @@ changes_once s m n (Enforce place) h k =
 changes_once s m n (Retract place) h k =
     let c : h.0 ≡ k.0 = one_at s place h.0 k.0 h.2 k.2 in
     let e : h.1 ≡ k.1 = withdraws_once s.engine k.0 h.1 k.1 (subst (λ (x : BookCon). WithdrawsActive s.engine x h.1) c h.3) k.3 in
-    h.4 ∙ ap (λ (x : EngineState). with_engine (without_constraint s place) x) e ∙ sym k.4
+    h.4 ∙ ap (λ (x : EngineState). with_engine (without_constraint s place h.0) x) e ∙ ap (λ (x : BookCon). with_engine (without_constraint s place x) k.1) c ∙ sym k.4
 changes_once s m n (Ask question) h k = h ∙ sym k
 changes_once s m n Pause h k = h ∙ sym k
 changes_once s m n Resume h k = h ∙ sym k
@@ -449,6 +475,7 @@ changes_once s m n (ChooseGuide chosen) h k = h ∙ sym k
 changes_once s m n (DropGuide number) h k = h ∙ sym k
 changes_once s m n (ChooseOrder chosen) h k = h ∙ sym k
 changes_once s m n (DropOrder number) h k = h ∙ sym k
+changes_once s m n (Prefer place weight) h k = h.2 ∙ ap (λ (c : BookCon). with_weight s c weight) (one_at s place h.0 k.0 h.1 k.1) ∙ sym k.2
 changes_once s m n Quit h k = h ∙ sym k
 
 -- ---- which objects are there, and which are chosen
@@ -482,7 +509,7 @@ changes_objects s m (DeclareIn name universe domain) h =
 changes_objects s m (Add name con) h = inr (alike s m (with_engine (with_constraint s name con) h.0) h.2 (record { guides = refl; orders = refl; guide = refl; order = refl }))
 changes_objects s m (Relax place) h = inr (alike s m (with_engine (with_active_at s place false) h.1) h.4 (record { guides = refl; orders = refl; guide = refl; order = refl }))
 changes_objects s m (Enforce place) h = inr (alike s m (with_engine (with_active_at s place true) h.1) h.4 (record { guides = refl; orders = refl; guide = refl; order = refl }))
-changes_objects s m (Retract place) h = inr (alike s m (with_engine (without_constraint s place) h.1) h.4 (record { guides = refl; orders = refl; guide = refl; order = refl }))
+changes_objects s m (Retract place) h = inr (alike s m (with_engine (without_constraint s place h.0) h.1) h.4 (record { guides = refl; orders = refl; guide = refl; order = refl }))
 changes_objects s m (Ask question) h = inr (alike s m s h (record { guides = refl; orders = refl; guide = refl; order = refl }))
 changes_objects s m Pause h = inr (alike s m (record s { paused = true }) h (record { guides = refl; orders = refl; guide = refl; order = refl }))
 changes_objects s m Resume h = inr (alike s m (record s { paused = false }) h (record { guides = refl; orders = refl; guide = refl; order = refl }))
@@ -492,6 +519,7 @@ changes_objects s m (ChooseGuide chosen) h = inl tt
 changes_objects s m (DropGuide number) h = inl tt
 changes_objects s m (ChooseOrder chosen) h = inl tt
 changes_objects s m (DropOrder number) h = inl tt
+changes_objects s m (Prefer place weight) h = inr (alike s m (with_weight s h.0 weight) h.2 (record { guides = refl; orders = refl; guide = refl; order = refl }))
 changes_objects s m Quit h = inr (alike s m s h (record { guides = refl; orders = refl; guide = refl; order = refl }))
 
 -- nothing follows a request about objects

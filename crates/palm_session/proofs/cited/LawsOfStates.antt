@@ -23,6 +23,7 @@ use Rattle.palm_session.specs.Effects.{Effect, Nothing, Settled, Searched, with_
 use Rattle.palm_search.specs.declared.ending.SearchEnd.{SearchEnd}
 use Rattle.palm_search.specs.declared.turn.Turn.{Turn}
 use Rattle.palm_session.proofs.Searching.{search_in, search_once, searched_state}
+use Rattle.palm_session.proofs.Weighted.{no_weights}
 use Rattle.palm_session.proofs.cited.LawsOfChanges.{changes_keep, changes_still, changes_limited, changes_exist, changes_once, KeepsObjects, changes_objects, objects_rest, searches_by, IsOther, IsWithout, kept_without, changes_without}
 
 -- ---- a fresh session
@@ -41,6 +42,7 @@ fresh_is guides orders = record {
       rising = λ i j d l h. absurd (omega (arith, h));
       formed = λ k d h. absurd (omega (arith, h));
     };
+    weights = no_weights;
     accepted = omega arith;
     numbered = λ k d h. absurd (omega (arith, h));
     guide = tt;
@@ -59,6 +61,7 @@ settled_held m limit count e is settles =
     let filters = settling_filters limit m.engine settles.revisions e settles.settles in
     record {
       book = is.book;
+      weights = is.weights;
       accepted = is.accepted;
       numbered = is.numbered;
       guide = is.guide;

@@ -10,12 +10,12 @@ ghost use Rattle.palm_session.specs.State.{SessionState, IsState, fresh, AreDoma
 ghost use Rattle.palm_session.specs.Requests.{IsAdmitted, Requests};
 ghost use Rattle.palm_session.specs.declared.request.Procedure.{Procedure};
 ghost use Rattle.palm_session.specs.declared.request.Procedure.TheVariants.{Proof};
-ghost use Rattle.palm_session.specs.declared.request.Question.TheVariants.{Domains as DomainsAsked, Conflict, MinimalConflict, CertConflict};
+ghost use Rattle.palm_session.specs.declared.request.Question.TheVariants.{Domains as DomainsAsked, Conflict, MinimalConflict, CertConflict, Preferred};
 ghost use Rattle.palm_session.specs.declared.request.Request.{Request};
 ghost use Rattle.palm_session.specs.declared.request.Request.TheVariants.{Ask, Solve};
 ghost use Rattle.palm_session.specs.Answers.{Accepts};
 ghost use Rattle.palm_session.specs.Replies.{Run};
-ghost use Rattle.palm_session.specs.Told.{KeepsAllButJournal, ToldCert, ToldCertConflict, ToldWhy, ToldConflict, ToldMinimal, ToldMinimalConflict, ToldAccepted, ToldBy};
+ghost use Rattle.palm_session.specs.Told.{KeepsAllButJournal, ToldCert, ToldCertConflict, ToldWhy, ToldConflict, ToldMinimal, ToldMinimalConflict, ToldPreferred, ToldAccepted, ToldBy};
 
 /// While filtering does not wait and nothing contradicts, the engine's present domains are the greatest closed domains of
 /// the active constraints.
@@ -83,6 +83,14 @@ pub fn printed_proofs_are_accepted()
 pub fn searches_leave_all_but_the_journal()
     ensures { (s t : SessionState) (by : Procedure) (reply : List ℕ)
         → IsState s → Accepts s (Solve by) reply t → KeepsAllButJournal s t }
+{}
+
+/// What `preferred` tells to be kept are active constraints that are no conflict. Each constraint that it leaves out is told
+/// with a conflict that holds it. Such a conflict, and one of constraints without a weight, is of active constraints, cannot
+/// lose a member and has no common solution.
+pub fn preferences_are_told_truly()
+    ensures { (s t : SessionState) (reply : List ℕ)
+        → IsState s → Accepts s (Ask Preferred) reply t → ToldPreferred s.book reply }
 {}
 
 /// From a fresh session on at most one variable has no value, so `conflict` names the constraints of the one conflict that

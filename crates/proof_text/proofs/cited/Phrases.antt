@@ -10,7 +10,7 @@ use Rattle.palm_read.specs.declared.tokens.TokenKind.TheVariants.{Word, Digits, 
 use Rattle.palm_read.specs.Form.{Form}
 use Rattle.palm_read.specs.Grammar.{IsForm}
 use Rattle.palm_read.specs.Piece.{Keyword, Named, Integer, word, sign}
-use Rattle.palm_read.specs.Reader.Lines.{header_at as session_header_at, bare_at, line_at, form_at}
+use Rattle.palm_read.specs.Reader.Lines.{header_at as session_header_at, bare_at, search_form_at, line_at, form_at}
 use Rattle.palm_read.specs.Reader.Lists.{names_at, next_name}
 use Rattle.palm_read.specs.Reader.Steps.{Reading, and_then, when, choose, front_text, token_at, behind, keyword_at, name_at}
 use Rattle.palm_read.specs.Token.{Lexeme}
@@ -260,15 +260,15 @@ is_phrase tokens s h range = ended tokens s (phrase_again tokens s h range)
 -- ---- none is a form of a session
 
 lemma_no_form : (rest : List Lexeme) → form_at (word (codes "lemma") ∷ rest) ≡ None
-unfolding form_at line_at bare_at behind token_at front_text and_then when choose
+unfolding form_at line_at search_form_at bare_at behind token_at front_text and_then when choose
 lemma_no_form rest = refl
 
 wipe_no_form : (rest : List Lexeme) → form_at (word (codes "wipe") ∷ rest) ≡ None
-unfolding form_at line_at bare_at behind token_at front_text and_then when choose
+unfolding form_at line_at search_form_at bare_at behind token_at front_text and_then when choose
 wipe_no_form rest = refl
 
 users_no_form : (rest : List Lexeme) → form_at (word (codes "none") ∷ rest) ≡ None
-unfolding form_at line_at bare_at behind token_at front_text and_then when choose
+unfolding form_at line_at search_form_at bare_at behind token_at front_text and_then when choose
 users_no_form rest = refl
 
 header_no_form : form_at header ≡ None

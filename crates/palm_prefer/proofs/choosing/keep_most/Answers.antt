@@ -1,11 +1,12 @@
 use Rattle.std.proofs.Common.{◌<◌, ◌≡◌, List, All, false, get_or, length, sym, ap, ◌∙◌, subst}
 use Rattle.palm_book.specs.Book.{active_of, initial_of}
 use Rattle.palm_model.specs.Log.{Active, cids_of}
+use Rattle.palm_reduce.specs.Kept.{IsKeptAt}
 use Rattle.palm_reduce.specs.Marked.{marked}
 use Rattle.palm_prefer.specs.Preferred.{Walks}
 use Rattle.palm_prefer.specs.Walked.{cons_at}
 use Rattle.palm_prefer.specs.declared.order.Soft.{Soft}
-use Rattle.palm_prefer.proofs.Ordering.{hard_book, is_order, softs_unmarked, softs_within}
+use Rattle.palm_prefer.proofs.Ordering.{hard_book, hard_kept, is_order, softs_kept, softs_unmarked, softs_within}
 use Rattle.palm_prefer.proofs.choosing.keep_most.Goals as goal
 
 pub walk_over-requires-clause-within : goal.walk_over-requires-clause-within
@@ -17,6 +18,14 @@ pub walk_over-requires-clause-unmarked : goal.walk_over-requires-clause-unmarked
 walk_over-requires-clause-unmarked g c =
     subst (λ (z : List Soft). All (λ s. get_or c.args.marks.items s.place false ≡ false) z) (sym c.as_slice.ensures.value)
     (softs_unmarked c.args.book.now.constraints c.args.weights.now c.in_ok-order.order.items c.args.marks.items c.in_ok-order.ensures.are c.requires.marks)
+
+pub walk_over-requires-clause-kept : goal.walk_over-requires-clause-kept
+walk_over-requires-clause-kept g c = hard_kept c.args.book.now c.args.weights.now c.args.kinds.now c.args.marks.items c.requires.marks c.requires.kept
+
+pub walk_over-requires-clause-lent : goal.walk_over-requires-clause-lent
+walk_over-requires-clause-lent g c =
+    subst (λ (z : List Soft). All (λ s. IsKeptAt c.args.book.now s.place c.args.kinds.now) z) (sym c.as_slice.ensures.value)
+    (softs_kept c.args.book.now c.args.weights.now c.args.kinds.now c.in_ok-order.order.items c.in_ok-order.ensures.are c.requires.kept)
 
 pub returns : goal.returns
 returns g c =

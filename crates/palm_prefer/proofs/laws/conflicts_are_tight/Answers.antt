@@ -1,4 +1,4 @@
-use Rattle.palm_prefer.proofs.Keeping.{conflicts_tight}
+use Rattle.palm_prefer.proofs.cited.Keeping.{conflicts_tight}
 use Rattle.palm_prefer.proofs.laws.conflicts_are_tight.Goals as goal
 
 pub returns : goal.returns

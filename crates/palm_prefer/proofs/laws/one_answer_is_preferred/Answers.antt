@@ -1,4 +1,4 @@
-use Rattle.palm_prefer.proofs.Uniqueness.{one_answer}
+use Rattle.palm_prefer.proofs.cited.Uniqueness.{one_answer}
 use Rattle.palm_prefer.proofs.laws.one_answer_is_preferred.Goals as goal
 
 pub returns : goal.returns

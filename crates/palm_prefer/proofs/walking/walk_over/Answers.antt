@@ -3,7 +3,6 @@ use Rattle.std.proofs.lemmas.List.{get_or_default, map_more}
 use Rattle.palm_book.specs.Book.{active_of, initial_of}
 use Rattle.palm_book.specs.declared.book.BookCon.{BookCon}
 use Rattle.palm_reduce.specs.Marked.{marked}
-use Rattle.palm_reduce.specs.Walked.{AreSame}
 use Rattle.palm_prefer.specs.Preferred.{Walks}
 use Rattle.palm_prefer.specs.Preferred.Walks.{starts}
 use Rattle.palm_prefer.specs.Walked.{HasWalked, con_at, cons_at}
@@ -18,12 +17,16 @@ loop-rank-init g c =
     let start = active_of (marked book c.args.marks.items) in (
       record {
         whole = c.requires.whole;
-        initial = c.in_ok-engine.ensures.initial;
-        active = subst (λ z. AreSame c.in_ok-engine.engine.state.active (active_of (marked book z))) c.as_slice.ensures.value c.in_ok-engine.ensures.active;
+        kept = c.requires.kept;
+        initial = c.requires.filled.initial;
+        active = c.requires.filled.active;
       },
       subst (λ (z : List LeftOut). Walks (initial_of book) start [] start z) (sym c.new.ensures) starts,
       λ k d from within. c.requires.unmarked k d within,
     )
+
+pub pass-requires-clause-kept : goal.pass-requires-clause-kept
+pass-requires-clause-kept g c = c.requires.lent c.loop-rank.rank (record { weight = 0; place = 0 }) c.loop-rank-test.true
 
 pub loop-rank-preserved : goal.loop-rank-preserved
 loop-rank-preserved g c =

@@ -7,6 +7,6 @@ use Rattle.palm_prefer.proofs.walking.walk_over.Given as goal
 
 -- what is walked so far, and that the later ones are unmarked
 abbrev pub invariant-loop-rank : goal.invariant-loop-rank
-invariant-loop-rank g l = FitsBook l.book l.walk
+invariant-loop-rank g l = FitsBook l.book l.kinds l.walk
     × HasWalked l.book (active_of (marked l.book l.fn.marks.items)) (cons_at l.book.constraints (take l.rank l.order)) l.walk
     × ((k : ℕ) (d : Soft) → l.rank ≤ k → k < length l.order → slice_index_or l.walk.marks.items (slice_index_or l.order k d).place false ≡ false)

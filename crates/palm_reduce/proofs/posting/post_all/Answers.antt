@@ -17,6 +17,9 @@ post-requires-clause-inactive c d too =
     (marked_here c.args.book.now.constraints c.args.marks.now c.loop-place.place d true c.requires.whole too c.if-marks-place.true)
     c.loop-place.engine.state.active c.loop-place.invariant.1 refl
 
+pub post-requires-clause-kept : goal.post-requires-clause-kept
+post-requires-clause-kept c = c.requires.kept c.loop-place.place c.if-marks-place.true
+
 pub loop-place-preserved : goal.loop-place-preserved
 loop-place-preserved c =
     let book = marked c.args.book.now c.args.marks.now in

@@ -75,6 +75,9 @@ post-requires-clause-inactive g c d too =
     subst (λ (z : BookCon). IsActive c.has_property.new.engine.state.active (user_at z).cid → ⊥)
     (entry_same c.args.book.now.constraints c.args.place c.constraint-entry.result.now d c.constraint-entry.ensures.at too) gone
 
+pub post-requires-clause-kept : goal.post-requires-clause-kept
+post-requires-clause-kept g c = c.requires.kept c.args.place c.if-not-marks-place.false
+
 pub returns : goal.returns
 returns g c =
     let book = marked c.args.book.now c.args.marks.now in

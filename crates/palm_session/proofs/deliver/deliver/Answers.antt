@@ -44,3 +44,6 @@ returns-in-Best g c =
 
 pub returns-in-SpentBest : goal.returns-in-SpentBest
 returns-in-SpentBest g c = rw c.in-SpentBest.is (rw c.book-in-SpentBest.ensures at c.write_spent_best.ensures)
+
+pub returns-in-Weighed : goal.returns-in-Weighed
+returns-in-Weighed g c = rw c.in-Weighed.is (rw c.book-in-Weighed.ensures at c.write_preferred.ensures)

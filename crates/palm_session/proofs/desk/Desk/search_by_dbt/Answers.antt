@@ -17,16 +17,16 @@ pub returns-clause-searched : goal.returns-clause-searched
 returns-clause-searched g c =
     let was = c.self.inside in
     let now = c.solve_by.new in
-    let before = desk_of was.mode was.book was.engine was.accepted was.paused was.guides was.orders was.search in
+    let before = desk_of was.mode was.book was.weights was.engine was.accepted was.paused was.guides was.orders was.search in
     IfOk-weaker c.solve_by.result
     (λ answer. Searches (is_some was.guides.chosen) (is_some was.orders.chosen) c.args.budget was.engine.state now.search.journal answer now.engine.state)
-    (λ answer. HasRun c.args.self.now.state (Dbt c.args.budget) answer (InShort None) (desk_of was.mode was.book now.engine was.accepted was.paused now.guides now.orders now.search).state)
-    (λ answer h. searched_desk was.mode was.book was.engine now.engine was.accepted was.paused was.guides now.guides was.orders now.orders was.search now.search c.args.self.now (Dbt c.args.budget) answer (InShort None) c.self.view_is
+    (λ answer. HasRun c.args.self.now.state (Dbt c.args.budget) answer (InShort None) (desk_of was.mode was.book was.weights now.engine was.accepted was.paused now.guides now.orders now.search).state)
+    (λ answer h. searched_desk was.mode was.book was.weights was.engine now.engine was.accepted was.paused was.guides now.guides was.orders now.orders was.search now.search c.args.self.now (Dbt c.args.budget) answer (InShort None) c.self.view_is
     c.solve_by.ensures.guides c.solve_by.ensures.orders (dbt_searches before.state c.args.budget now.search.journal now.engine.state answer h)) c.solve_by.ensures.ok
 
 pub returns-clause-led : goal.returns-clause-led
 returns-clause-led g c =
     let was = c.self.inside in
     let now = c.solve_by.new in
-    dbt_led _ _ was.mode was.book was.engine now.engine was.accepted was.paused was.guides now.guides was.orders now.orders was.search now.search c.args.self.now c.args.budget c.solve_by.result c.self.view_is
+    dbt_led _ _ was.mode was.book was.weights was.engine now.engine was.accepted was.paused was.guides now.guides was.orders now.orders was.search now.search c.args.self.now c.args.budget c.solve_by.result c.self.view_is
     c.solve_by.ensures.guides c.solve_by.ensures.orders c.solve_by.ensures.led

@@ -27,16 +27,16 @@ pub returns-clause-searched : goal.returns-clause-searched
 returns-clause-searched g c =
     let was = c.self.inside in
     let now = c.minimize_by.new in
-    let before = desk_of was.mode was.book was.engine was.accepted was.paused was.guides was.orders was.search in
+    let before = desk_of was.mode was.book was.weights was.engine was.accepted was.paused was.guides was.orders was.search in
     IfOk-weaker c.minimize_by.result
     (λ best. Minimizes (is_some was.guides.chosen) (is_some was.orders.chosen) c.args.target c.args.budget was.engine.state now.search.journal best now.engine.state)
-    (λ best. HasRun c.args.self.now.state (Least c.args.target c.args.budget) (best_end best) (best_telling best) (desk_of was.mode was.book now.engine was.accepted was.paused now.guides now.orders now.search).state)
-    (λ best h. searched_desk was.mode was.book was.engine now.engine was.accepted was.paused was.guides now.guides was.orders now.orders was.search now.search c.args.self.now (Least c.args.target c.args.budget) (best_end best) (best_telling best) c.self.view_is
+    (λ best. HasRun c.args.self.now.state (Least c.args.target c.args.budget) (best_end best) (best_telling best) (desk_of was.mode was.book was.weights now.engine was.accepted was.paused now.guides now.orders now.search).state)
+    (λ best h. searched_desk was.mode was.book was.weights was.engine now.engine was.accepted was.paused was.guides now.guides was.orders now.orders was.search now.search c.args.self.now (Least c.args.target c.args.budget) (best_end best) (best_telling best) c.self.view_is
     c.minimize_by.ensures.guides c.minimize_by.ensures.orders (least_searches before.state c.args.target c.args.budget now.search.journal now.engine.state best h)) c.minimize_by.ensures.ok
 
 pub returns-clause-led : goal.returns-clause-led
 returns-clause-led g c =
     let was = c.self.inside in
     let now = c.minimize_by.new in
-    least_led _ _ was.mode was.book was.engine now.engine was.accepted was.paused was.guides now.guides was.orders now.orders was.search now.search c.args.self.now c.args.target c.args.budget c.minimize_by.result c.self.view_is
+    least_led _ _ was.mode was.book was.weights was.engine now.engine was.accepted was.paused was.guides now.guides was.orders now.orders was.search now.search c.args.self.now c.args.target c.args.budget c.minimize_by.result c.self.view_is
     c.minimize_by.ensures.guides c.minimize_by.ensures.orders c.minimize_by.ensures.led

@@ -17,13 +17,13 @@ pub returns-clause-searched : goal.returns-clause-searched
 returns-clause-searched g c =
     let was = c.self.inside in
     let now = c.repair_by.new in
-    let before = desk_of was.mode was.book was.engine was.accepted was.paused was.guides was.orders was.search in
+    let before = desk_of was.mode was.book was.weights was.engine was.accepted was.paused was.guides was.orders was.search in
     IfOk-weaker c.repair_by.result
     (HasRepaired (is_some was.guides.chosen) (is_some was.orders.chosen) c.args.tabu c.args.budget was.engine.state now.search.journal now.engine.state)
-    (λ answer. HasRepairedIn c.args.self.now.state c.args.tabu c.args.budget answer (desk_of was.mode was.book now.engine was.accepted was.paused now.guides now.orders now.search).state)
+    (λ answer. HasRepairedIn c.args.self.now.state c.args.tabu c.args.budget answer (desk_of was.mode was.book was.weights now.engine was.accepted was.paused now.guides now.orders now.search).state)
     (λ answer h. record {
       dropped = h.dropped;
-      run = searched_desk was.mode was.book was.engine now.engine was.accepted was.paused was.guides now.guides was.orders now.orders was.search now.search c.args.self.now (Repair c.args.tabu c.args.budget) (end_of answer) (InShort (Some h.dropped)) c.self.view_is
+      run = searched_desk was.mode was.book was.weights was.engine now.engine was.accepted was.paused was.guides now.guides was.orders now.orders was.search now.search c.args.self.now (Repair c.args.tabu c.args.budget) (end_of answer) (InShort (Some h.dropped)) c.self.view_is
           c.repair_by.ensures.guides c.repair_by.ensures.orders (repair_searches before.state c.args.tabu c.args.budget now.search.journal now.engine.state answer h);
       told = h.told;
     }) c.repair_by.ensures.ok
@@ -32,5 +32,5 @@ pub returns-clause-led : goal.returns-clause-led
 returns-clause-led g c =
     let was = c.self.inside in
     let now = c.repair_by.new in
-    repair_led _ _ was.mode was.book was.engine now.engine was.accepted was.paused was.guides now.guides was.orders now.orders was.search now.search c.args.self.now c.args.tabu c.args.budget c.repair_by.result c.self.view_is
+    repair_led _ _ was.mode was.book was.weights was.engine now.engine was.accepted was.paused was.guides now.guides was.orders now.orders was.search now.search c.args.self.now c.args.tabu c.args.budget c.repair_by.result c.self.view_is
     c.repair_by.ensures.guides c.repair_by.ensures.orders c.repair_by.ensures.led

@@ -7,11 +7,11 @@ returns-clause-ran g c =
     let was = c.self.inside in
     let now = c.settle_by.new in
     rw c.revisions.ensures
-    (settled_desk was.mode was.book was.engine now.engine was.accepted was.paused was.guides was.orders now.orders was.search c.args.self.now c.args.limit _ c.args.steps.now now.steps c.self.view_is
+    (settled_desk was.mode was.book was.weights was.engine now.engine was.accepted was.paused was.guides was.orders now.orders was.search c.args.self.now c.args.limit _ c.args.steps.now now.steps c.self.view_is
     c.settle_by.ensures.orders c.in_ok-settle_by.ensures.ok c.settle_by.ensures.asked)
 
 pub returns-clause-led : goal.returns-clause-led
 returns-clause-led g c =
     let was = c.self.inside in
     let now = c.settle_by.new in
-    settle_led _ was.mode was.book was.engine now.engine was.accepted was.paused was.guides was.orders now.orders was.search c.args.self.now c.args.limit c.self.view_is c.settle_by.ensures.orders c.in_ok-settle_by.ensures.led
+    settle_led _ was.mode was.book was.weights was.engine now.engine was.accepted was.paused was.guides was.orders now.orders was.search c.args.self.now c.args.limit c.self.view_is c.settle_by.ensures.orders c.in_ok-settle_by.ensures.led

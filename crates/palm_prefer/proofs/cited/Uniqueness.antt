@@ -17,6 +17,16 @@ use Rattle.palm_prefer.specs.declared.answer.Preferred.{Preferred}
 use Rattle.palm_prefer.specs.declared.answer.Preferred.TheVariants.{Hard, Kept}
 use Rattle.palm_prefer.specs.declared.weights.Weight.{Weight}
 
+-- ---- related in pairs
+
+-- the first one to each later one
+pub pairs_first : {X : Type 0} (R : X → X → Type 0) (x : X) (xs : List X) → AllPairs R (x ∷ xs) → (y : X) → Contains xs y → R x y
+pairs_first R x xs pairs y m = All-contains (R x) xs y (λ k d lt. pairs 0 (suc k) d (omega arith) (omega (arith, lt))) m
+
+-- and these among them
+pub pairs_rest : {X : Type 0} (R : X → X → Type 0) (x : X) (xs : List X) → AllPairs R (x ∷ xs) → AllPairs R xs
+pairs_rest R x xs pairs = λ i j d before within. pairs (suc i) (suc j) d (omega (arith, before)) (omega (arith, within))
+
 -- ---- the order
 
 not_both : (ws : List Weight) (c d : BookCon) → GoesBefore ws c d → GoesBefore ws d c → ⊥
@@ -24,12 +34,6 @@ not_both ws c d one two = elim one [
   | inl lt ↦ elim two [ inl gt ↦ omega (arith, lt, gt) | inr same ↦ let e = same.0 in omega (arith, lt, e) ]
   | inr same ↦ elim two [ inl gt ↦ let e = same.0 in omega (arith, gt, e) | inr too ↦ let l = same.1 in let g = too.1 in omega (arith, l, g) ]
 ]
-
-firsts : (ws : List Weight) (c : BookCon) (cs : List BookCon) → AllPairs (GoesBefore ws) (c ∷ cs) → (d : BookCon) → Contains cs d → GoesBefore ws c d
-firsts ws c cs falling d m = All-contains (GoesBefore ws c) cs d (λ k e lt. falling 0 (suc k) e (omega arith) (omega (arith, lt))) m
-
-rest : (ws : List Weight) (c : BookCon) (cs : List BookCon) → AllPairs (GoesBefore ws) (c ∷ cs) → AllPairs (GoesBefore ws) cs
-rest ws c cs falling = λ i j d before within. falling (suc i) (suc j) d (omega (arith, before)) (omega (arith, within))
 
 same_order : (ws : List Weight) (xs ys : List BookCon) → AllPairs (GoesBefore ws) xs → AllPairs (GoesBefore ws) ys → ((c : BookCon) → Contains xs c → Contains ys c) → ((c : BookCon) → Contains ys c → Contains xs c) → xs ≡ ys
 same_order ws [] [] fall too to back = refl
@@ -40,13 +44,13 @@ same_order ws (x ∷ xs) (y ∷ ys) fall too to back =
       | inl e ↦ sym e
       | inr m ↦ elim (member_cases x xs y (back y (member_here y ys))) [
         | inl e ↦ e
-        | inr n ↦ absurd (not_both ws x y (firsts ws x xs fall y n) (firsts ws y ys too x m))
+        | inr n ↦ absurd (not_both ws x y (pairs_first (GoesBefore ws) x xs fall y n) (pairs_first (GoesBefore ws) y ys too x m))
       ]
     ] in
     ap (λ (z : BookCon). z ∷ xs) first
-    ∙ ap (λ (zs : List BookCon). y ∷ zs) (same_order ws xs ys (rest ws x xs fall) (rest ws y ys too)
-    (λ c m. member_tail y ys c (λ e. let b = firsts ws x xs fall c m in let s = subst (λ (z : BookCon). GoesBefore ws z c) (first ∙ e) b in not_both ws c c s s) (to c (member_there x xs c m)))
-    (λ c m. member_tail x xs c (λ e. let b = firsts ws y ys too c m in let s = subst (λ (z : BookCon). GoesBefore ws z c) (sym first ∙ e) b in not_both ws c c s s) (back c (member_there y ys c m))))
+    ∙ ap (λ (zs : List BookCon). y ∷ zs) (same_order ws xs ys (pairs_rest (GoesBefore ws) x xs fall) (pairs_rest (GoesBefore ws) y ys too)
+    (λ c m. member_tail y ys c (λ e. let b = pairs_first (GoesBefore ws) x xs fall c m in let s = subst (λ (z : BookCon). GoesBefore ws z c) (first ∙ e) b in not_both ws c c s s) (to c (member_there x xs c m)))
+    (λ c m. member_tail x xs c (λ e. let b = pairs_first (GoesBefore ws) y ys too c m in let s = subst (λ (z : BookCon). GoesBefore ws z c) (sym first ∙ e) b in not_both ws c c s s) (back c (member_there y ys c m))))
 
 pub one_order : (book : Contents) (ws : List Weight) (order other : List BookCon) → IsOrder book ws order → IsOrder book ws other → order ≡ other
 one_order book ws order other is too =

@@ -20,7 +20,7 @@ use Rattle.palm_model.specs.Event.{with_posted}
 use Rattle.palm_model.specs.Log.{Active, cids_of, cons_of}
 use Rattle.palm_model.specs.Minimal.{AreConflict, IsMinimalConflict}
 use Rattle.palm_prefer.specs.Laws.{IsTight, conflicts_of}
-use Rattle.palm_prefer.specs.Preferred.{IsKept, IsPreferred, Walks, hard, has_weight, is_hard}
+use Rattle.palm_prefer.specs.Preferred.{IsKept, IsOrder, IsPreferred, Walks, hard, has_weight, is_hard}
 use Rattle.palm_prefer.specs.Preferred.Walks.{starts, joins, leaves}
 use Rattle.palm_prefer.specs.declared.answer.LeftOut.{LeftOut}
 use Rattle.palm_prefer.specs.declared.answer.Preferred.{Preferred}
@@ -72,7 +72,7 @@ conflicts_hold book weights keep left is = hold_own (initial_of book) (hard book
 
 -- ---- active constraints of a book
 
-hard_active : (book : Contents) (weights : List Weight) (a : Active) → Contains (hard book weights) a → Contains (active_of book) a
+pub hard_active : (book : Contents) (weights : List Weight) (a : Active) → Contains (hard book weights) a → Contains (active_of book) a
 hard_active book weights a m =
     let r = member_unmap user_at (filter (is_hard weights) book.constraints) a m in
     let f = filter_member (is_hard weights) book.constraints r.0 r.1 in
@@ -80,7 +80,12 @@ hard_active book weights a m =
     (member_map user_at (filter (λ (c : BookCon). c.active) book.constraints) r.0
     (member_filter (λ (c : BookCon). c.active) book.constraints r.0 f.0 (and_parts r.0.active (not (has_weight weights r.0)) f.1).0))
 
-walked_active : (initial : Domains) (all first : List Active) (walked : List BookCon) (kept : List Active) (left : List LeftOut) → ((a : Active) → Contains first a → Contains all a) → ((c : BookCon) → Contains walked c → Contains all (user_at c))
+pub order_active : (book : Contents) (weights : List Weight) (order : List BookCon) → IsOrder book weights order → (c : BookCon) → Contains order c → Contains (active_of book) (user_at c)
+order_active book weights order ordered c m =
+    let soft = (ordered.each c).0 m in
+    member_map user_at (filter (λ (d : BookCon). d.active) book.constraints) c (member_filter (λ (d : BookCon). d.active) book.constraints c soft.among soft.active)
+
+pub walked_active : (initial : Domains) (all first : List Active) (walked : List BookCon) (kept : List Active) (left : List LeftOut) → ((a : Active) → Contains first a → Contains all a) → ((c : BookCon) → Contains walked c → Contains all (user_at c))
     → Walks initial first walked kept left → (a : Active) → Contains kept a → Contains all a
 walked_active initial all first _ _ _ from soft starts a m = from a m
 walked_active initial all first _ _ _ from soft (joins walked c kept left before none) a m = elim (with_posted_cases (user_at c) kept a m) [
@@ -113,14 +118,16 @@ tight book is among conflict sub minimal =
           (subst (λ n. place < n) (sym (ap length minimal.named ∙ length-map minimal.left (λ (b : Active). b.cid))) lt);
     }
 
-all_tight : (book : Contents) → IsBook book → (first : List Active) (walked : List BookCon) (kept : List Active) (left : List LeftOut) → ((a : Active) → Contains first a → Contains (active_of book) a) → ((c : BookCon) → Contains walked c → Contains (active_of book) (user_at c))
-    → Walks (initial_of book) first walked kept left → All (λ out. IsTight book out.conflict) left
-all_tight book is first _ _ _ from soft starts = All-nil (λ (out : LeftOut). IsTight book out.conflict)
-all_tight book is first _ _ _ from soft (joins walked c kept left before none) = all_tight book is first walked kept left from (λ d n. soft d (Contains-append_left walked (c ∷ []) d n)) before
-all_tight book is first _ _ _ from soft (leaves walked c kept left conflict before minimal) =
-    all_pushed (λ (out : LeftOut). IsTight book out.conflict) left (record { number = c.number; conflict = conflict })
-    (all_tight book is first walked kept left from (λ d n. soft d (Contains-append_left walked (c ∷ []) d n)) before)
-    (tight book is (with_posted (user_at c) kept) conflict
+-- what holds of each minimal conflict of active constraints holds of those of the ones that are left out
+pub all_left : (book : Contents) (P : List Cid → Type 0) → ((among : List Active) (conflict : List Cid) → ((a : Active) → Contains among a → Contains (active_of book) a) → IsMinimalConflict (initial_of book) among conflict → P conflict)
+    → (first : List Active) (walked : List BookCon) (kept : List Active) (left : List LeftOut) → ((a : Active) → Contains first a → Contains (active_of book) a) → ((c : BookCon) → Contains walked c → Contains (active_of book) (user_at c))
+    → Walks (initial_of book) first walked kept left → All (λ out. P out.conflict) left
+all_left book P each first _ _ _ from soft starts = All-nil (λ (out : LeftOut). P out.conflict)
+all_left book P each first _ _ _ from soft (joins walked c kept left before none) = all_left book P each first walked kept left from (λ d n. soft d (Contains-append_left walked (c ∷ []) d n)) before
+all_left book P each first _ _ _ from soft (leaves walked c kept left conflict before minimal) =
+    all_pushed (λ (out : LeftOut). P out.conflict) left (record { number = c.number; conflict = conflict })
+    (all_left book P each first walked kept left from (λ d n. soft d (Contains-append_left walked (c ∷ []) d n)) before)
+    (each (with_posted (user_at c) kept) conflict
     (λ a m. elim (with_posted_cases (user_at c) kept a m) [
       | inl e ↦ member_same (active_of book) (user_at c) a e (soft c (Contains-push walked c))
       | inr k ↦ walked_active (initial_of book) (active_of book) first walked kept left from (λ d n. soft d (Contains-append_left walked (c ∷ []) d n)) before a k
@@ -131,8 +138,5 @@ conflicts_tight book weights (Hard conflict) is minimal =
     All-cons (IsTight book) conflict [] (tight book is (hard book weights) conflict (hard_active book weights) minimal) (All-nil (IsTight book))
 conflicts_tight book weights (Kept keep left) is kept =
     All-map (IsTight book) (λ (out : LeftOut). out.conflict) left
-    (all_tight book is (hard book weights) kept.order kept.kept left (hard_active book weights)
-    (λ c m.
-    let soft = (kept.ordered.each c).0 m in
-    member_map user_at (filter (λ (d : BookCon). d.active) book.constraints) c (member_filter (λ (d : BookCon). d.active) book.constraints c soft.among soft.active))
-    kept.walk)
+    (all_left book (IsTight book) (tight book is) (hard book weights) kept.order kept.kept left (hard_active book weights)
+    (order_active book weights kept.order kept.ordered) kept.walk)

@@ -1,0 +1,5 @@
+-- Lemmas that other crates cite.
+pub mod Existing
+pub mod Keeping
+pub mod Uniqueness
+pub mod Users

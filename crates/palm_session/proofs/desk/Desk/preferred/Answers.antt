@@ -1,0 +1,20 @@
+use Rattle.std.proofs.Common.{List, refl, sym, subst}
+use Rattle.palm_book.specs.Book.{Contents}
+use Rattle.palm_prefer.specs.Preferred.{AreWeights, IsPreferred}
+use Rattle.palm_prefer.specs.declared.weights.Weight.{Weight}
+use Rattle.palm_session.proofs.Preferring.{names_users}
+use Rattle.palm_session.proofs.desk.Desk.preferred.Goals as goal
+
+pub preferred-requires : goal.preferred-requires
+preferred-requires g c = rw (c.book.ensures, c.in_ok-weights.ensures, c.weights.ensures) c.requires.weights
+
+pub returns-clause-tells : goal.returns-clause-tells
+returns-clause-tells g c =
+    let is = rw (c.book.ensures, c.in_ok-weights.ensures, c.weights.ensures) at c.in_ok-preferred.ensures in
+    (c.in_ok-preferred.preferred, is, refl)
+
+pub returns-clause-fits : goal.returns-clause-fits
+returns-clause-fits g c =
+    let s = c.args.self.now.state in
+    let is = rw (c.book.ensures, c.in_ok-weights.ensures, c.weights.ensures) at c.in_ok-preferred.ensures in
+    names_users s.book s.weights c.in_ok-preferred.preferred is
