@@ -1,16 +1,12 @@
 //! The program `palm`: standard input to standard output, by the one call of palm_cli.
 #![tactic(auto)]
 
-#[cfg(test)]
-mod interrupted;
-mod retrying;
-
-use crate::retrying::Retrying;
 use palm_agenda::{LastOrder, Order, RotateOrder};
 use palm_base::{NoMemory, StdSink, StdSource};
 use palm_book::MOST_VARIABLES;
 use palm_cli::{Status, top};
 use palm_guide::{FirstGuide, Guide, MostConflicts, SmallestGuide};
+use palm_retry::Retrying;
 use std::alloc::Global;
 use std::env;
 use std::io::ErrorKind;

@@ -1,9 +1,9 @@
 //! The walk over the constraints with a weight.
-ghost use Rattle.std.specs.Prelude.{◌≡◌, ◌++◌, ◌<◌, ◌∷◌, ◌≢◌, [], ℕ, List, All, AllPairs, false, length, slice_index_or, slice_get, MatchOption, Some, IfOk, OnOk};
+ghost use Rattle.std.specs.Prelude.{◌≡◌, ◌++◌, ◌<◌, ◌∷◌, ◌≢◌, [], ℕ, List, All, AllPairs, false, length, slice_index_or, slice_get, Some, IfOk, OnOk};
 ghost use Rattle.palm_book.specs.Book.{IsBook, active_of, initial_of};
 ghost use Rattle.palm_book.specs.declared.book.BookCon.{BookCon as BookConTerm};
 ghost use Rattle.palm_model.specs.Log.{Active, cids_of};
-ghost use Rattle.palm_model.specs.Minimal.{AreConflict, IsMinimalConflict};
+ghost use Rattle.palm_model.specs.Minimal.{AreConflict};
 ghost use Rattle.palm_reduce.specs.Kept.{AreKept, IsKeptAt};
 ghost use Rattle.palm_reduce.specs.Marked.{marked};
 ghost use Rattle.palm_reduce.specs.Walked.{HasMarked};
@@ -14,7 +14,7 @@ use crate::order::Soft;
 use palm_base::{Cid, CidList, NoMemory, Steps};
 use palm_book::Book;
 use palm_engine::Engine;
-use palm_reduce::{Kinds, Lent, are_conflict, engine_of, minimal_conflict_in, post};
+use palm_reduce::{Kinds, Lent, minimal_conflict_in, post, post_others};
 use std::alloc::Global;
 use std::sync::ledger::Ledger;
 
@@ -29,26 +29,8 @@ pub(crate) struct Walk<'a> {
     pub(crate) left: LeftList,
 }
 
-/// The minimal conflict of the marked constraints, by an engine of its own.
-fn conflict_of<L: Ledger>(
-    alloc: Global,
-    book: &Book,
-    kinds: &Kinds,
-    marks: &[bool],
-    steps: &mut Steps<L>,
-) -> Result<Option<CidList>, NoMemory>
-    requires whole { length marks.now ≡ length book.now.constraints }
-    requires kept { AreKept book.now marks.now kinds.now }
-    ensures { IfOk result (λ answer. MatchOption answer
-        (AreConflict (initial_of book.now) (active_of (marked book.now marks.now)) → ⊥)
-        (IsMinimalConflict (initial_of book.now) (active_of (marked book.now marks.now)))) }
-{
-    let mut engine = engine_of(alloc, book, kinds, marks)?;
-    minimal_conflict_in(alloc, book, kinds, marks, &mut engine, steps)
-}
-
 /// Takes the walk past the constraint at a place: it is kept where it makes no conflict with those kept before it, and
-/// left out elsewhere.
+/// left out elsewhere. The engine has only the minimal conflict then, and gets the other kept ones again.
 fn pass<'a, L: Ledger>(
     alloc: Global,
     book: &Book,
@@ -69,18 +51,29 @@ fn pass<'a, L: Ledger>(
 {
     post(&mut walk.engine, book, kinds, place)?;
     walk.marks[place] = true;
-    if !are_conflict(&mut walk.engine, steps)? {
-        return Ok(());
-    }
-    let number = book.constraint(place).number;
-    walk.engine.withdraw(Cid::User(number));
-    match conflict_of(alloc, book, kinds, walk.marks.as_slice(), steps)? {
+    match minimal_conflict_in(
+        alloc,
+        book,
+        kinds,
+        walk.marks.as_slice(),
+        &mut walk.engine,
+        steps,
+    )? {
         Some(conflict) => {
+            let number = book.constraint(place).number;
+            walk.engine.withdraw(Cid::User(number));
             walk.marks[place] = false;
+            post_others(
+                &mut walk.engine,
+                book,
+                kinds,
+                walk.marks.as_slice(),
+                conflict.as_slice(),
+            )?;
             walk.left.push(LeftOut { number, conflict })?;
             Ok(())
         }
-        None => unreachable!(),
+        None => Ok(()),
     }
 }
 
@@ -98,6 +91,7 @@ pub(crate) fn walk_over<'a, L: Ledger>(
     requires whole { length marks.items ≡ length book.now.constraints }
     requires kept { AreKept book.now marks.items kinds.now }
     requires filled { HasMarked book.now marks.items engine.state }
+    requires free { AreConflict (initial_of book.now) (active_of (marked book.now marks.items)) → ⊥ }
     requires within { All (λ soft. soft.place < length book.now.constraints) order.now }
     requires lent { All (λ soft. IsKeptAt book.now soft.place kinds.now) order.now }
     requires unmarked { All (λ soft. slice_index_or marks.items soft.place false ≡ false) order.now }

@@ -1,9 +1,8 @@
 -- The filters that are kept of the constraints of a book.
-use Rattle.std.proofs.Common.{◌≡◌, ℕ, ◌+◌, ◌-◌, ◌<◌, ◌≤◌, Bool, false, true, List, [], ◌∷◌, ◌++◌, Option, None, Some, length, get_or, slice_get, inl, inr, refl, sym, ap, ◌∙◌, subst, arith}
+use Rattle.std.proofs.Common.{◌≡◌, ℕ, ◌+◌, ◌-◌, ◌<◌, ◌≤◌, Bool, false, true, List, [], ◌∷◌, ◌++◌, Option, None, Some, length, get_or, slice_get, inl, inr, sym, ap, ◌∙◌, subst, arith}
 use Rattle.std.proofs.lemmas.Bool.{cases_eq}
 use Rattle.std.proofs.lemmas.List.{get_or_append_left, get_or_past, get_or-append_right}
 use Rattle.std.proofs.lemmas.Option.{none-some, same_Some}
-use Rattle.palm_book.specs.Book.{Contents}
 use Rattle.palm_book.specs.declared.book.BookCon.{BookCon}
 use Rattle.palm_kind.specs.declared.kind.Kind.{Kind}
 use Rattle.palm_model.specs.declared.constraint.Con.{Con}

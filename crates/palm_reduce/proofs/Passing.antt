@@ -6,9 +6,10 @@ use Rattle.std.proofs.lemmas.Bool.{false≢true}
 use Rattle.palm_base.specs.Tells.{Tells}
 use Rattle.palm_base.specs.declared.terms.Cid.{Cid}
 use Rattle.palm_base.specs.declared.terms.Cid.TheVariants.{User}
-use Rattle.palm_base.proofs.cited.Members.{member_here, member_there, member_cases, member_same, member_unmap, filter_member}
+use Rattle.palm_base.proofs.cited.Members.{member_here, member_there, member_cases, member_map, member_same, member_unmap, filter_member}
 use Rattle.palm_book.specs.Book.{Contents, IsBook, active_of, initial_of, user_at}
 use Rattle.palm_book.specs.declared.book.BookCon.{BookCon}
+use Rattle.palm_book.proofs.cited.Actives.{actives_rise}
 use Rattle.palm_model.specs.Event.{Posts, Withdraws, gone_with, with_posted, without_cids}
 use Rattle.palm_model.specs.Log.{Active, IsActive, cids_of, is_named}
 use Rattle.palm_model.specs.Minimal.{IsMinimal, WalkLeaves}
@@ -16,13 +17,14 @@ use Rattle.palm_model.specs.Minimal.WalkLeaves.{walked_none, walked_out, walked_
 use Rattle.palm_model.specs.State.{EngineState}
 use Rattle.palm_laws.proofs.cited.Reducing.{left_within}
 use Rattle.palm_events.proofs.cited.States.{member_with_posted, member_without_cids, with_posted_cases, with_posted_here, without_cids_member}
+use Rattle.palm_reduce.specs.Marked.{marked}
 use Rattle.palm_reduce.specs.Properties.{HasProperty, IsCore, MayBeAsked}
-use Rattle.palm_reduce.specs.Walked.{AreSame, HasWalked, actives}
+use Rattle.palm_reduce.specs.Walked.{AreSame, HasOnly, HasWalked, actives}
 use Rattle.palm_reduce.specs.declared.property.Property.{Property}
 use Rattle.palm_reduce.specs.declared.reduce.Found.{Found}
 use Rattle.palm_reduce.proofs.Asking.{allowed_at, property_same, tells_at}
 use Rattle.palm_reduce.proofs.Cores.{core_holds, core_more}
-use Rattle.palm_reduce.proofs.Splitting.{apart, earlier_active, earlier_relaxed, later_active, later_relaxed, split_active, unjustified}
+use Rattle.palm_reduce.proofs.Splitting.{apart, earlier_active, earlier_relaxed, later_active, later_relaxed, one_under, split_active, unjustified}
 
 -- ---- the lists
 
@@ -58,6 +60,29 @@ walk_ends property book place core found s done is walked = record {
   walk = subst (λ (n : ℕ). WalkLeaves (HasProperty property (initial_of book)) (actives (take n book.constraints)) (actives (drop n book.constraints)) walked.left) done walked.walk;
   named = walked.named;
 }
+
+-- what the walk found is what the engine has
+pub walk_only : (property : Property) (book : Contents) (marks : List Bool) → IsBook (marked book marks) → (place : ℕ) (found : Found) (s : EngineState) → place ≡ 0 → HasWalked property (marked book marks) place found s
+    → HasOnly book marks (reverse found.cids.items) s
+walk_only property book marks is place found s done walked = record {
+  initial = walked.initial;
+  active = λ a. (
+    λ m. let k = (now a).0 m in (within a k, subst (λ (ns : List Cid). Contains ns a.cid) (sym walked.named) (member_map (λ (b : Active). b.cid) walked.left a k)),
+    λ both.
+        let r = member_unmap (λ (b : Active). b.cid) walked.left a.cid (subst (λ (ns : List Cid). Contains ns a.cid) walked.named both.1) in
+        (now a).1 (member_same walked.left r.0 a (one_under (active_of (marked book marks)) (actives_rise (marked book marks) is) r.0 a (within r.0 r.1) both.0 r.2) r.1),
+  );
+}
+  where
+    now : AreSame s.active walked.left
+    now = subst (λ (n : ℕ). AreSame s.active (actives (take n (marked book marks).constraints) ++ walked.left)) done walked.active
+
+    P : List Active → Type 0
+    P = HasProperty property (initial_of book)
+
+    within : (a : Active) → Contains walked.left a → Contains (active_of (marked book marks)) a
+    within = left_within P [] (active_of (marked book marks)) walked.left
+        (subst (λ (n : ℕ). WalkLeaves P (actives (take n (marked book marks).constraints)) (actives (drop n (marked book marks).constraints)) walked.left) done walked.walk)
 
 -- ---- one step
 

@@ -69,6 +69,20 @@ rises_apart_after : (xs : List Active) (a : Active) (ys : List Active) → Rises
 rises_apart_after [] a ys rises b m = All-contains (λ c. cid_before a.cid c ≡ true) (cids_of ys) b.cid rises.0 (member_map (λ (z : Active). z.cid) ys b m)
 rises_apart_after (x ∷ xs) a ys rises b m = rises_apart_after xs a ys rises.1 b m
 
+-- under an id there is one
+pub one_under : (xs : List Active) → Rises (cids_of xs) → (a b : Active) → Contains xs a → Contains xs b → a.cid ≡ b.cid → a ≡ b
+one_under [] rises a b m n e = absurd (member_nil a m)
+one_under (x ∷ xs) rises a b m n e = elim (member_cases x xs a m) [
+  | inl p ↦ elim (member_cases x xs b n) [
+    | inl q ↦ sym p ∙ q
+    | inr k ↦ absurd (not_before_itself x.cid (subst (λ (d : Cid). cid_before x.cid d ≡ true) (sym (ap (λ (z : Active). z.cid) p ∙ e)) (rises_apart_after [] x xs rises b k)))
+  ]
+  | inr k ↦ elim (member_cases x xs b n) [
+    | inl q ↦ absurd (not_before_itself x.cid (subst (λ (d : Cid). cid_before x.cid d ≡ true) (e ∙ sym (ap (λ (z : Active). z.cid) q)) (rises_apart_after [] x xs rises a k)))
+    | inr l ↦ one_under xs rises.1 a b k l e
+  ]
+]
+
 -- the constraint at a place has another id than those before it and those after it
 pub apart : (book : Contents) → IsBook book → (i : ℕ) (c : BookCon) → slice_get book.constraints i ≡ Some c → c.active ≡ true
     → (b : Active) → Contains (actives (take i book.constraints)) b ⊎ Contains (actives (drop (i + 1) book.constraints)) b → b.cid ≡ (user_at c).cid → ⊥

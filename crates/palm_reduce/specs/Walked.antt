@@ -1,5 +1,6 @@
 -- How far a walk has come, and what an engine has then.
 use Rattle.std.specs.Prelude.{◌≡◌, ◌↔◌, ℕ, Bool, List, ◌++◌, Contains, drop, filter, map, reverse, take}
+use Rattle.palm_base.specs.declared.terms.Cid.{Cid}
 use Rattle.palm_book.specs.Book.{Contents, active_of, initial_of, user_at}
 use Rattle.palm_book.specs.declared.book.BookCon.{BookCon}
 use Rattle.palm_model.specs.Log.{Active, cids_of}
@@ -22,6 +23,11 @@ actives constraints = map user_at (filter (λ c. c.active) constraints)
 pub record HasMarked (book : Contents) (marks : List Bool) (s : EngineState) : Type 0 where
   pub initial : s.initial ≡ initial_of book
   pub active : AreSame s.active (active_of (marked book marks))
+
+-- an engine has the variables of the book, and exactly those of its marked constraints whose ids are among these
+pub record HasOnly (book : Contents) (marks : List Bool) (cids : List Cid) (s : EngineState) : Type 0 where
+  pub initial : s.initial ≡ initial_of book
+  pub active : (a : Active) → Contains s.active a ↔ (Contains (active_of (marked book marks)) a × Contains cids a.cid)
 
 -- the walk has come down to this place of the book: it found the ids of what it left there, the highest first, and a
 -- core among all that the engine has, which are these constraints and the active ones of all earlier places

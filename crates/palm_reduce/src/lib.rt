@@ -8,8 +8,7 @@ mod property;
 mod reduce;
 
 pub use kinds::{Kinds, Lent};
-pub use posting::{engine_of, post};
-pub use property::are_conflict;
+pub use posting::{engine_of, post, post_others};
 pub use reduce::{
     active_marks, minimal_conflict, minimal_conflict_among, minimal_conflict_in, minimal_why,
 };

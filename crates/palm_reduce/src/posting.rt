@@ -1,16 +1,17 @@
 //! An engine over the variables and the marked constraints of a book.
-ghost use Rattle.std.specs.Prelude.{◌≡◌, ◌<◌, [], length, slice_get, Some, IfOk, OnOk};
-ghost use Rattle.palm_book.specs.Book.{active_of, initial_of, user_at};
+ghost use Rattle.std.specs.Prelude.{◌≡◌, ◌<◌, [], Contains, length, slice_get, Some, IfOk, OnOk};
+ghost use Rattle.palm_base.specs.Order.{Rises};
+ghost use Rattle.palm_base.specs.Tells.{Tells};
+ghost use Rattle.palm_book.specs.Book.{initial_of, user_at};
 ghost use Rattle.palm_book.specs.declared.book.BookCon.{BookCon as BookConTerm};
 ghost use Rattle.palm_model.specs.Event.{Posts};
 ghost use Rattle.palm_model.specs.Log.{IsActive};
 ghost use Rattle.palm_model.specs.State.{blank};
 ghost use Rattle.palm_reduce.specs.Kept.{AreKept, IsKeptAt};
-ghost use Rattle.palm_reduce.specs.Marked.{marked};
-ghost use Rattle.palm_reduce.specs.Walked.{AreSame};
+ghost use Rattle.palm_reduce.specs.Walked.{HasMarked, HasOnly};
 
 use crate::kinds::{Kinds, Lent};
-use palm_base::{NoMemory, Var};
+use palm_base::{Cid, NoMemory, Var, place_for};
 use palm_book::{Book, BookCon};
 use palm_engine::Engine;
 use std::alloc::Global;
@@ -44,21 +45,31 @@ pub fn post<'a>(
     Ok(())
 }
 
-/// Makes the marked constraints of the book active and pending.
-fn post_all<'a>(
+/// Whether the id is among the ids, which rise.
+pub(crate) fn is_among(cid: &Cid, cids: &[Cid]) -> bool
+    requires { Rises cids.now }
+    ensures { Tells result (Contains cids.now cid.now) }
+{
+    place_for(cids, 0, cid).is_ok()
+}
+
+/// Makes the marked constraints active and pending whose ids are not among these, where an engine has only those of them
+/// under these ids, which rise.
+pub fn post_others<'a>(
     engine: &mut Engine<Lent<'a>>,
     book: &Book,
     kinds: &'a Kinds,
     marks: &[bool],
+    cids: &[Cid],
 ) -> Result<(), NoMemory>
-    requires blank { engine.old.state ≡ blank (initial_of book.now) }
     requires whole { length marks.now ≡ length book.now.constraints }
     requires kept { AreKept book.now marks.now kinds.now }
-    ensures initial { OnOk result (engine.new.state.initial ≡ initial_of book.now) }
-    ensures active { OnOk result (AreSame engine.new.state.active (active_of (marked book.now marks.now))) }
+    requires rising { Rises cids.now }
+    requires only { HasOnly book.now marks.now cids.now engine.old.state }
+    ensures { OnOk result (HasMarked book.now marks.now engine.new.state) }
 {
     for place in 0..book.constraints() {
-        if marks[place] {
+        if marks[place] && !is_among(&Cid::User(book.constraint(place).number), cids) {
             post(engine, book, kinds, place)?;
         }
     }
@@ -74,11 +85,10 @@ pub fn engine_of<'a>(
 ) -> Result<Engine<Lent<'a>>, NoMemory>
     requires whole { length marks.now ≡ length book.now.constraints }
     requires kept { AreKept book.now marks.now kinds.now }
-    ensures initial { IfOk result (λ engine. engine.state.initial ≡ initial_of book.now) }
-    ensures active { IfOk result (λ engine. AreSame engine.state.active (active_of (marked book.now marks.now))) }
+    ensures { IfOk result (λ engine. HasMarked book.now marks.now engine.state) }
 {
     let mut engine = Engine::new(alloc);
     declare_all(&mut engine, book)?;
-    post_all(&mut engine, book, kinds, marks)?;
+    post_others(&mut engine, book, kinds, marks, &[])?;
     Ok(engine)
 }

@@ -3,7 +3,6 @@ ghost use Rattle.std.specs.Prelude.{◌≡◌, ◌<◌, false, true, length, IfO
 ghost use Rattle.palm_base.specs.Tells.{Tells};
 ghost use Rattle.palm_events.specs.Along.{IsStill};
 ghost use Rattle.palm_model.specs.Domains.{Has};
-ghost use Rattle.palm_model.specs.Minimal.{AreConflict};
 ghost use Rattle.palm_model.specs.State.{IsValid, present};
 ghost use Rattle.palm_reduce.specs.Properties.{HasProperty, IsCore, MayBeAsked};
 
@@ -85,18 +84,4 @@ pub fn has_property<L: Ledger>(
     }
     tell_core(property, engine, core)?;
     Ok(true)
-}
-
-/// Settles an engine, and answers whether its constraints are a conflict.
-pub fn are_conflict<L: Ledger>(
-    engine: &mut Engine<Lent<'_>>,
-    steps: &mut Steps<L>,
-) -> Result<bool, NoMemory>
-    ensures tells { IfOk result (λ are. Tells are (AreConflict engine.old.state.initial engine.old.state.active)) }
-    ensures initial { OnOk result (engine.new.state.initial ≡ engine.old.state.initial) }
-    ensures active { OnOk result (engine.new.state.active ≡ engine.old.state.active) }
-{
-    let mut order: Option<LastOrder> = None;
-    engine.settle(&mut order, None, steps)?;
-    Ok(is_met(&Property::Conflict, engine))
 }

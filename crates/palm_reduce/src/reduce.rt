@@ -1,17 +1,16 @@
 //! The walk over the marked constraints of a book, from the highest number down.
-ghost use Rattle.std.specs.Prelude.{◌≡◌, ◌+◌, ◌<◌, Contains, length, map, MatchOption, IfNone, IfOk, OnOk};
-ghost use Rattle.palm_base.specs.Tells.{Tells};
+ghost use Rattle.std.specs.Prelude.{◌≡◌, ◌+◌, ◌<◌, length, map, IfNone, IfSome, IfOk, OnOk};
 ghost use Rattle.palm_book.specs.Book.{IsBook, active_of, initial_of};
 ghost use Rattle.palm_model.specs.Domains.{Has};
-ghost use Rattle.palm_base.specs.Order.{Rises};
-ghost use Rattle.palm_model.specs.Minimal.{AreConflict, DoExplain, IsMinimal, IsMinimalConflict, IsMinimalExplanation};
+ghost use Rattle.palm_model.specs.Minimal.{AreConflict, DoExplain, IsMinimal};
+ghost use Rattle.palm_reduce.specs.Answers.{TellsMinimal};
 ghost use Rattle.palm_reduce.specs.Kept.{AreKept};
 ghost use Rattle.palm_reduce.specs.Marked.{marked};
 ghost use Rattle.palm_reduce.specs.Properties.{HasProperty, IsCore, MayBeAsked};
-ghost use Rattle.palm_reduce.specs.Walked.{AreSame, HasMarked, HasWalked};
+ghost use Rattle.palm_reduce.specs.Walked.{AreSame, HasMarked, HasOnly, HasWalked};
 
 use crate::kinds::{Kinds, Lent};
-use crate::posting::{engine_of, post};
+use crate::posting::{engine_of, is_among, post};
 use crate::property::{Property, has_property};
 use palm_base::{Cid, CidList, NoMemory, Pair, Steps};
 use palm_book::Book;
@@ -27,14 +26,6 @@ pub(crate) struct Found {
     cids: Vec<Cid>,
     /// The ids, by rising id, of some among all that are still there that have the property by themselves.
     core: CidList,
-}
-
-/// Whether the id is among the ids, which rise.
-fn is_among(cid: &Cid, cids: &CidList) -> bool
-    requires { Rises cids.now }
-    ensures { Tells result (Contains cids.now cid.now) }
-{
-    cids.as_slice().contains(cid)
 }
 
 /// Takes the walk past the constraint at a place: it is left out where the rest has the property without it. Nothing is
@@ -63,7 +54,7 @@ fn pass<'a, L: Ledger>(
     }
     let cid = Cid::User(entry.number);
     engine.withdraw(Cid::User(entry.number));
-    if !is_among(&cid, &found.core) {
+    if !is_among(&cid, found.core.as_slice()) {
         return Ok(());
     }
     if has_property(property, engine, &mut found.core, steps)? {
@@ -92,7 +83,8 @@ fn walk<'a, L: Ledger>(
     requires initial { engine.old.state.initial ≡ initial_of book.now }
     requires active { AreSame engine.old.state.active (active_of (marked book.now marks.now)) }
     requires core { IsCore property.now (initial_of book.now) (active_of (marked book.now marks.now)) core }
-    ensures { IfOk result (λ cids. IsMinimal (HasProperty property.now (initial_of book.now)) (active_of (marked book.now marks.now)) cids) }
+    ensures minimal { IfOk result (λ cids. IsMinimal (HasProperty property.now (initial_of book.now)) (active_of (marked book.now marks.now)) cids) }
+    ensures only { IfOk result (λ cids. HasOnly book.now marks.now cids engine.new.state) }
 {
     let mut found = Found {
         cids: Vec::new(alloc),
@@ -125,10 +117,9 @@ fn reduce_in<'a, L: Ledger>(
     requires kept { AreKept book.now marks.now kinds.now }
     requires allowed { MayBeAsked property.now (initial_of book.now) (active_of (marked book.now marks.now)) }
     requires filled { HasMarked book.now marks.now engine.old.state }
-    ensures answer { IfOk result (λ answer. MatchOption answer
-        (HasProperty property.now (initial_of book.now) (active_of (marked book.now marks.now)) → ⊥)
-        (IsMinimal (HasProperty property.now (initial_of book.now)) (active_of (marked book.now marks.now)))) }
+    ensures answer { IfOk result (TellsMinimal (HasProperty property.now (initial_of book.now)) (active_of (marked book.now marks.now))) }
     ensures stay { IfOk result (λ answer. IfNone answer (HasMarked book.now marks.now engine.new.state)) }
+    ensures only { IfOk result (λ answer. IfSome answer (λ cids. HasOnly book.now marks.now cids engine.new.state)) }
 {
     let mut core = CidList::new(alloc);
     if !has_property(property, engine, &mut core, steps)? {
@@ -151,9 +142,7 @@ fn reduce<L: Ledger>(
     requires shared { 0 < L.parts }
     requires whole { length marks.now ≡ length book.now.constraints }
     requires allowed { MayBeAsked property.now (initial_of book.now) (active_of (marked book.now marks.now)) }
-    ensures { IfOk result (λ answer. MatchOption answer
-        (HasProperty property.now (initial_of book.now) (active_of (marked book.now marks.now)) → ⊥)
-        (IsMinimal (HasProperty property.now (initial_of book.now)) (active_of (marked book.now marks.now)))) }
+    ensures { IfOk result (TellsMinimal (HasProperty property.now (initial_of book.now)) (active_of (marked book.now marks.now))) }
 {
     let mut steps = Steps::<L>::start(blank);
     let kinds = Kinds::new(alloc, book, marks)?;
@@ -182,10 +171,9 @@ pub fn minimal_conflict_in<'a, L: Ledger>(
     requires whole { length marks.now ≡ length book.now.constraints }
     requires kept { AreKept book.now marks.now kinds.now }
     requires filled { HasMarked book.now marks.now engine.old.state }
-    ensures answer { IfOk result (λ answer. MatchOption answer
-        (AreConflict (initial_of book.now) (active_of (marked book.now marks.now)) → ⊥)
-        (IsMinimalConflict (initial_of book.now) (active_of (marked book.now marks.now)))) }
+    ensures answer { IfOk result (TellsMinimal (AreConflict (initial_of book.now)) (active_of (marked book.now marks.now))) }
     ensures stay { IfOk result (λ answer. IfNone answer (HasMarked book.now marks.now engine.new.state)) }
+    ensures only { IfOk result (λ answer. IfSome answer (λ cids. HasOnly book.now marks.now cids engine.new.state)) }
 {
     reduce_in(
         alloc,
@@ -220,9 +208,7 @@ pub fn minimal_conflict_among(
     marks: &[bool],
 ) -> Result<Option<CidList>, NoMemory>
     requires { length marks.now ≡ length book.now.constraints }
-    ensures { IfOk result (λ answer. MatchOption answer
-        (AreConflict (initial_of book.now) (active_of (marked book.now marks.now)) → ⊥)
-        (IsMinimalConflict (initial_of book.now) (active_of (marked book.now marks.now)))) }
+    ensures { IfOk result (TellsMinimal (AreConflict (initial_of book.now)) (active_of (marked book.now marks.now))) }
 {
     reduce::<Brand>(alloc, book, marks, &Property::Conflict, Blank::new(1))
 }
@@ -231,9 +217,7 @@ pub fn minimal_conflict_among(
 /// each constraint out without which the rest is still a conflict. There is none exactly where they are no conflict. It
 /// filters with an engine of its own and without an order.
 pub fn minimal_conflict(alloc: Global, book: &Book) -> Result<Option<CidList>, NoMemory>
-    ensures { IfOk result (λ answer. MatchOption answer
-        (AreConflict (initial_of book.now) (active_of book.now) → ⊥)
-        (IsMinimalConflict (initial_of book.now) (active_of book.now))) }
+    ensures { IfOk result (TellsMinimal (AreConflict (initial_of book.now)) (active_of book.now)) }
 {
     let marks = active_marks(alloc, book)?;
     minimal_conflict_among(alloc, book, marks.as_slice())
@@ -246,9 +230,7 @@ pub fn minimal_conflict(alloc: Global, book: &Book) -> Result<Option<CidList>, N
 pub fn minimal_why(alloc: Global, book: &Book, pair: Pair) -> Result<Option<CidList>, NoMemory>
     requires declared { Has (initial_of book.now) pair.var pair.value }
     requires filled { AreConflict (initial_of book.now) (active_of book.now) → ⊥ }
-    ensures { IfOk result (λ answer. MatchOption answer
-        (DoExplain (initial_of book.now) pair (active_of book.now) → ⊥)
-        (IsMinimalExplanation (initial_of book.now) (active_of book.now) pair)) }
+    ensures { IfOk result (TellsMinimal (DoExplain (initial_of book.now) pair) (active_of book.now)) }
 {
     let marks = active_marks(alloc, book)?;
     reduce::<Brand>(

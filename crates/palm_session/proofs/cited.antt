@@ -7,3 +7,4 @@ pub mod LawsOfChanges
 pub mod LawsOfStates
 pub mod LawsOfTexts
 pub mod LedLemmas
+pub mod Pieces

@@ -90,6 +90,13 @@ pub record AnswersFront (stop : Stop) (before : SessionState) (line : List ℕ) 
   pub answers : Answers before line reply after
   pub written : AppendedUntil stop was now reply
 
+-- the line was answered, whatever of it was fed at once
+pub record AnswersWhole (before : SessionState) (line : List ℕ) (was now : Option (List ℕ)) (going : Going) (after : SessionState) : Type 0 where
+  pub reply : List ℕ
+  pub answers : Answers before (without_return line) reply after
+  pub decides : Decides going (without_return line)
+  pub written : Appended was now reply
+
 abbrev pub AnswersTo : SessionState → List ℕ → Option (List ℕ) → Option (List ℕ) → SessionState → ℕ → Result Going Stop → Type 0
 AnswersTo before line was now after asked (Ok going) = AnswersLine before line was now going after asked
 AnswersTo before line was now after asked (Err stop) = AnswersFront stop before line was now

@@ -8,6 +8,7 @@ ghost use Rattle.palm_session.specs.Modes.{in_mode};
 ghost use Rattle.palm_session.specs.Replies.{BeginsVersion2, ChoosesNone, Ends, KeepsNoneChosen, Replies, RepliesFrom, Run};
 ghost use Rattle.palm_events.specs.Scoped.{HasScopedReasons};
 
+pub mod pieces;
 pub mod printed;
 
 use crate::limits::MOST_KEPT_BYTES;

@@ -24,6 +24,7 @@ mod weights;
 mod withhold;
 
 pub use going::Going;
+pub use laws::pieces::{a_line_in_pieces_is_a_line, pieces_are_kept};
 pub use laws::printed::{
     adding_and_retracting_gives_back_the_domains, contradictions_are_empty_domains,
     kept_conflicts_conflict, kept_explanations_explain, minimal_conflicts_conflict,

@@ -4,7 +4,7 @@ ghost use Rattle.palm_base.specs.Streams.{IsSameSink};
 ghost use Rattle.palm_engine.specs.Following.{OrderFollows};
 ghost use Rattle.palm_lang.specs.Writing.{IsCounted};
 ghost use Rattle.palm_search.specs.Following.{GuideFollows};
-ghost use Rattle.palm_session.specs.Feeding.{AnswersLines, Feeds, FeedsText, Finishes, FinishesTo, IsUnfinished, RaisesChecks};
+ghost use Rattle.palm_session.specs.Feeding.{AnswersLines, Feeds, FeedsText, Finishes, FinishesTo, IsSession, IsUnfinished, RaisesChecks};
 ghost use Rattle.palm_session.specs.Led.{FeedsLead, LastLeads};
 ghost use Rattle.palm_read.specs.Lines.{HasNoFeed};
 ghost use Rattle.palm_session.specs.Serving.{Spends};
@@ -100,7 +100,7 @@ impl<G: Guide, O: Order> Session<G, O> {
 
     /// Takes the next bytes, answers each line that they complete, and writes each reply before the next line is
     /// looked at. The bytes behind a `quit` line are not looked at. Of a line that is not complete yet the first
-    /// [`MOST_KEPT_BYTES`] bytes are kept.
+    /// [`MOST_KEPT_BYTES`] bytes are kept. What is `held` holds of every session.
     pub fn feed<K: Sink, L: Ledger>(
         &mut self,
         piece: &[u8],
@@ -113,6 +113,7 @@ impl<G: Guide, O: Order> Session<G, O> {
         ensures feeds { Feeds self.old piece.now (K.state out.old).written (K.state out.new).written self.new (steps.new - steps.old) result }
         ensures led { IfOk result (FeedsLead (GuideFollows G.answers G.hears G.state) (OrderFollows O.answers O.hears O.state) self.old.state (self.old.unfinished ++ piece.now) (K.state out.old).written (K.state out.new).written self.old.objects self.new.state self.new.objects) }
         ensures checks { OnOk result (RaisesChecks self.old self.new (steps.new - steps.old)) }
+        ensures held { IsSession self.old }
         ensures later { steps.old ≤ steps.new }
     {
         self.over = true;

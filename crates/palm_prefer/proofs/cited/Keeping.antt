@@ -39,7 +39,7 @@ kept_free book weights keep left is = no_conflict (initial_of book) (hard book w
 
 -- ---- the one that is left out
 
-own : (initial : Domains) (kept : List Active) (c : BookCon) (conflict : List Cid) → (AreConflict initial kept → ⊥) → IsMinimalConflict initial (with_posted (user_at c) kept) conflict → Contains conflict (User c.number)
+pub own : (initial : Domains) (kept : List Active) (c : BookCon) (conflict : List Cid) → (AreConflict initial kept → ⊥) → IsMinimalConflict initial (with_posted (user_at c) kept) conflict → Contains conflict (User c.number)
 own initial kept c conflict free minimal = elim (member_known cid_known conflict (User c.number)) [
   | inl m ↦ m
   | inr out ↦ absurd (free (conflicts_grow initial minimal.left kept

@@ -1,6 +1,7 @@
 use Rattle.std.proofs.Common.{◌<◌, ◌≡◌, List, All, false, get_or, length, sym, ap, ◌∙◌, subst}
 use Rattle.palm_book.specs.Book.{active_of, initial_of}
 use Rattle.palm_model.specs.Log.{Active, cids_of}
+use Rattle.palm_model.specs.Minimal.{AreConflict}
 use Rattle.palm_reduce.specs.Kept.{IsKeptAt}
 use Rattle.palm_reduce.specs.Marked.{marked}
 use Rattle.palm_prefer.specs.Preferred.{Walks}
@@ -18,6 +19,11 @@ pub walk_over-requires-clause-unmarked : goal.walk_over-requires-clause-unmarked
 walk_over-requires-clause-unmarked g c =
     subst (λ (z : List Soft). All (λ s. get_or c.args.marks.items s.place false ≡ false) z) (sym c.as_slice.ensures.value)
     (softs_unmarked c.args.book.now.constraints c.args.weights.now c.in_ok-order.order.items c.args.marks.items c.in_ok-order.ensures.are c.requires.marks)
+
+pub walk_over-requires-clause-free : goal.walk_over-requires-clause-free
+walk_over-requires-clause-free g c =
+    let book = c.args.book.now in
+    subst (λ (z : List Active). AreConflict (initial_of book) z → ⊥) (sym (hard_book book c.args.weights.now c.args.marks.items c.requires.marks)) c.requires.free
 
 pub walk_over-requires-clause-kept : goal.walk_over-requires-clause-kept
 walk_over-requires-clause-kept g c = hard_kept c.args.book.now c.args.weights.now c.args.kinds.now c.args.marks.items c.requires.marks c.requires.kept

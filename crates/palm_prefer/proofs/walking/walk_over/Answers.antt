@@ -18,8 +18,8 @@ loop-rank-init g c =
       record {
         whole = c.requires.whole;
         kept = c.requires.kept;
-        initial = c.requires.filled.initial;
-        active = c.requires.filled.active;
+        filled = c.requires.filled;
+        free = c.requires.free;
       },
       subst (λ (z : List LeftOut). Walks (initial_of book) start [] start z) (sym c.new.ensures) starts,
       λ k d from within. c.requires.unmarked k d within,

@@ -1,15 +1,16 @@
-use Rattle.std.proofs.Common.{IfOk, MatchOption, length, ap, ◌∙◌, subst}
+use Rattle.std.proofs.Common.{IfOk, length, ap, ◌∙◌, subst}
 use Rattle.std.proofs.lemmas.List.{length-map}
 use Rattle.palm_book.specs.declared.book.BookCon.{BookCon}
 use Rattle.palm_book.specs.Book.{Contents, active_of, initial_of}
-use Rattle.palm_model.specs.Minimal.{AreConflict, IsMinimalConflict}
+use Rattle.palm_model.specs.Minimal.{AreConflict}
+use Rattle.palm_reduce.specs.Answers.{TellsMinimal}
 use Rattle.palm_reduce.proofs.cited.Marking.{same_marked}
 use Rattle.palm_reduce.proofs.reduce.minimal_conflict.Goals as goal
 
 pub returns : goal.returns
 returns c =
     let book = c.args.book.now in
-    subst (λ (z : Contents). IfOk c.minimal_conflict_among.result (λ answer. MatchOption answer (AreConflict (initial_of book) (active_of z) → ⊥) (IsMinimalConflict (initial_of book) (active_of z))))
+    subst (λ (z : Contents). IfOk c.minimal_conflict_among.result (TellsMinimal (AreConflict (initial_of book)) (active_of z)))
     (same_marked book c.as_slice.result.now (c.as_slice.ensures.value ∙ c.in_ok-marks.ensures.marks)) c.minimal_conflict_among.ensures
 
 pub minimal_conflict_among-requires : goal.minimal_conflict_among-requires

@@ -1,8 +1,9 @@
-use Rattle.std.proofs.Common.{IfOk, MatchOption, length, ap, sym, ◌∙◌, subst}
+use Rattle.std.proofs.Common.{IfOk, length, ap, sym, ◌∙◌, subst}
 use Rattle.std.proofs.lemmas.List.{length-map}
 use Rattle.palm_book.specs.declared.book.BookCon.{BookCon}
 use Rattle.palm_book.specs.Book.{Contents, active_of, initial_of}
-use Rattle.palm_model.specs.Minimal.{AreConflict, DoExplain, IsMinimalExplanation}
+use Rattle.palm_model.specs.Minimal.{AreConflict, DoExplain}
+use Rattle.palm_reduce.specs.Answers.{TellsMinimal}
 use Rattle.palm_reduce.proofs.cited.Marking.{same_marked}
 use Rattle.palm_reduce.proofs.reduce.minimal_why.Goals as goal
 
@@ -16,7 +17,7 @@ reduce-requires-clause-allowed c =
 pub returns : goal.returns
 returns c =
     let book = c.args.book.now in
-    subst (λ (z : Contents). IfOk c.reduce.result (λ answer. MatchOption answer (DoExplain (initial_of book) c.args.pair (active_of z) → ⊥) (IsMinimalExplanation (initial_of book) (active_of z) c.args.pair)))
+    subst (λ (z : Contents). IfOk c.reduce.result (TellsMinimal (DoExplain (initial_of book) c.args.pair) (active_of z)))
     (same_marked book c.as_slice.result.now (c.as_slice.ensures.value ∙ c.in_ok-marks.ensures.marks)) c.reduce.ensures
 
 pub reduce-requires-clause-whole : goal.reduce-requires-clause-whole

@@ -1,5 +1,8 @@
-use Rattle.std.proofs.Common.{List, true, false, refl, subst, sym}
+use Rattle.std.proofs.Common.{List, Contains, true, false, refl, subst, sym}
 use Rattle.palm_base.proofs.cited.Telling.{tells_false}
+use Rattle.palm_base.specs.Order.{Rises}
+use Rattle.palm_base.specs.declared.terms.Cid.{Cid}
+use Rattle.palm_base.specs.declared.terms.Cid.TheVariants.{User}
 use Rattle.palm_book.specs.Book.{user_at}
 use Rattle.palm_book.specs.declared.book.BookCon.{BookCon}
 use Rattle.palm_model.specs.Domains.{Domains}
@@ -37,7 +40,7 @@ returns-then-not-marks-place g c =
     passes_relaxed c.args.property.now book is c.args.place c.args.found.now c.args.engine.now.state c.requires.walked entry at refl
 
 pub is_among-requires : goal.is_among-requires
-is_among-requires g c = c.requires.walked.core.rising
+is_among-requires g c = subst Rises (sym c.as_slice.ensures) c.requires.walked.core.rising
 
 pub returns-then-not-is_among : goal.returns-then-not-is_among
 returns-then-not-is_among g c =
@@ -48,7 +51,8 @@ returns-then-not-is_among g c =
     passes_out c.args.property.now book is c.args.place c.args.found.now c.args.engine.now.state c.requires.walked entry at refl
     c.withdraw.new.self.state c.withdraw.ensures.withdraws c.withdraw.new.self.state refl refl c.args.found.now.core
     (rest_core c.args.property.now book is c.args.place c.args.found.now c.args.engine.now.state c.requires.walked entry at refl
-    c.withdraw.new.self.state c.withdraw.ensures.withdraws (tells_false _ c.is_among.result c.is_among.ensures c.if-not-is_among.true))
+    c.withdraw.new.self.state c.withdraw.ensures.withdraws (subst (λ (cids : List Cid). Contains cids (User entry.number) → ⊥) c.as_slice.ensures
+    (tells_false _ c.is_among.result c.is_among.ensures c.if-not-is_among.true)))
 
 pub returns-then-branch : goal.returns-then-branch
 returns-then-branch g c =

@@ -1,7 +1,4 @@
-use Rattle.std.proofs.Common.{List, refl, sym, subst}
-use Rattle.palm_book.specs.Book.{Contents}
-use Rattle.palm_prefer.specs.Preferred.{AreWeights, IsPreferred}
-use Rattle.palm_prefer.specs.declared.weights.Weight.{Weight}
+use Rattle.std.proofs.Common.{refl}
 use Rattle.palm_session.proofs.Preferring.{names_users}
 use Rattle.palm_session.proofs.desk.Desk.preferred.Goals as goal
 

@@ -1,7 +1,7 @@
 use Rattle.std.proofs.Common.{◌++◌, IfOk, subst, sym}
 use Rattle.palm_engine.specs.Following.{OrderFollows}
 use Rattle.palm_search.specs.Following.{GuideFollows}
-use Rattle.palm_session.specs.Feeding.{View}
+use Rattle.palm_session.specs.Feeding.{IsSession, View}
 use Rattle.palm_session.specs.Led.{FeedsLead}
 use Rattle.palm_session.proofs.session.Session.feed.Goals as goal
 
@@ -18,3 +18,6 @@ returns-clause-led g c =
     (sym c.self-2.view_is) c.feed_lines-result.ensures.led in
     subst (λ (v : View g.row.G.Denot g.row.O.Denot). IfOk result (FeedsLead guiding ordering v.state (v.unfinished ++ c.args.piece.now) was now v.objects last.state last.objects))
     c.self.view_is led
+
+pub returns-clause-held : goal.returns-clause-held
+returns-clause-held g c = subst (λ (v : View g.row.G.Denot g.row.O.Denot). IsSession v) c.self.view_is c.self.invariant

@@ -1,6 +1,0 @@
-use Rattle.std.specs.Io.KnownBytes.{Keeps}
-use Rattle.palm.proofs.retrying.RetryingWrite.write.Given as goal
-
--- an interrupted write appends nothing
-abbrev pub invariant-loop : goal.invariant-loop
-invariant-loop g l = Keeps (g.W.Write.contents l.initial.self.inner) (g.W.Write.contents l.self.inner)

@@ -1,0 +1,13 @@
+pub mod Addressing
+pub mod Admitting
+pub mod Apart
+pub mod Beginning
+pub mod Ending
+pub mod Feeding
+pub mod MarkedTexts
+pub mod Marks
+pub mod PassedLines
+pub mod Prefixing
+pub mod Running
+pub mod Served
+pub mod Taking

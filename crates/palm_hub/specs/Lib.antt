@@ -1,0 +1,9 @@
+pub mod Addressing
+pub mod Hub
+pub mod Marked
+pub mod Numbers
+pub mod Passing
+pub mod Prefixed
+pub mod Serving
+pub mod Standing
+pub mod Stepping

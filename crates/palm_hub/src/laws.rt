@@ -1,0 +1,25 @@
+//! Laws of hubs: the limits, and that sessions are apart.
+ghost use Rattle.std.specs.Prelude.{◌≡◌, ℕ, List, [], All};
+ghost use Rattle.palm_read.specs.Lines.{HasNoFeed};
+ghost use Rattle.palm_session.specs.Replies.{Replies};
+ghost use Rattle.palm_hub.specs.Hub.{HubReplies, HubRun, Opened, Outcome, replies_of, text_of};
+
+use crate::limits::{MOST_INPUT_BYTES, MOST_SESSIONS};
+
+/// The numbers of the limits.
+pub fn limits_are_these_numbers()
+    ensures input { MOST_INPUT_BYTES ≡ 16777216 }
+    ensures sessions { MOST_SESSIONS ≡ 16 }
+{}
+
+/// The replies of each session are those to its own lines alone, whatever lines of other names come between.
+pub fn sessions_are_apart()
+    ensures { (lines : List (List ℕ)) (outcomes : List Outcome) (hub : List Opened) → All HasNoFeed lines → HubRun [] lines outcomes hub
+        → (name : List ℕ) → Replies [] [] (text_of name outcomes) (replies_of name outcomes) }
+{}
+
+/// Two inputs with the same lines for a name that were not refused give it the same replies.
+pub fn names_have_the_same_replies()
+    ensures { (name input output other told : List ℕ) (one : HubReplies input output) (two : HubReplies other told)
+        → text_of name one.outcomes ≡ text_of name two.outcomes → replies_of name one.outcomes ≡ replies_of name two.outcomes }
+{}

@@ -1,0 +1,21 @@
+//! A hub: hub lines in, each passed to the session that its name tells, and each line of a reply written behind that name.
+#![tactic(auto)]
+
+mod addressee;
+mod deciding;
+mod laws;
+mod limits;
+mod part;
+mod passing;
+mod prefix;
+mod refusal;
+mod serving;
+mod sessions;
+mod standing;
+mod status;
+
+pub use laws::{limits_are_these_numbers, names_have_the_same_replies, sessions_are_apart};
+pub use limits::{MOST_INPUT_BYTES, MOST_SESSIONS};
+pub use prefix::{PrefixSink, Start};
+pub use serving::hub;
+pub use status::HubStatus;
