@@ -143,16 +143,16 @@ module _ (c : VarComparison) (x : ℕ) (v : ℤ) where
   abbrev con : Con
   con = comparison_of (Variables c)
 
-  abbrev of_right : Demand
+  abbrev pub of_right : Demand
   of_right = record { var = right; op = flipped_of op; bound = v -ℤ offset }
 
-  abbrev of_left : Demand
+  abbrev pub of_left : Demand
   of_left = record { var = left; op = op; bound = v +ℤ offset }
 
-  demand_at_left : x ≡ left → demand_of c x v ≡ of_right
+  pub demand_at_left : x ≡ left → demand_of c x v ≡ of_right
   demand_at_left e = ap (λ b. cond b of_right of_left) (eq-eqb x left e)
 
-  demand_at_right : (x ≡ left → ⊥) → demand_of c x v ≡ of_left
+  pub demand_at_right : (x ≡ left → ⊥) → demand_of c x v ≡ of_left
   demand_at_right n = ap (λ b. cond b of_right of_left) (ne_eqb x left n)
 
   reason_by : (initial : Domains) (b : Bool) → cond b (pairs_of right (filter (λ w. is_standing op v (w +ℤ offset)) (values_of initial right))) (pairs_of left (filter (λ w. is_standing op w (v +ℤ offset)) (values_of initial left))) ≡ pairs_of (cond b of_right of_left).var (meeting_values (values_of initial (cond b of_right of_left).var) (cond b of_right of_left))
@@ -179,7 +179,7 @@ module _ (c : VarComparison) (x : ℕ) (v : ℤ) where
 
   -- ---- support
 
-  abbrev part : Part
+  abbrev pub part : Part
   part = CompareVarPart left op right offset
 
   over_two : (a b : ℕ) → Contains (a ∷ b ∷ []) x → (z : ℕ) → Contains (a ∷ b ∷ []) z → (a ≡ z) ⊎ (b ≡ z)
@@ -241,7 +241,7 @@ module _ (d : Demand) (x : ℕ) (v : ℤ) where
   abbrev const_con : Con
   const_con = comparison_of (Constant d)
 
-  abbrev const_part : Part
+  abbrev pub const_part : Part
   const_part = CompareConstPart d.var d.op d.bound
 
   pub const_supported : (e : Domains) → Has e x v → Contains (d.var ∷ []) x → Stands d.op v d.bound → IsSupported e const_con x v
@@ -250,7 +250,7 @@ module _ (d : Demand) (x : ℕ) (v : ℤ) where
       (support_by_one e const_part x v (λ z m. sym (member_single d.var x over) ∙ member_single d.var z m) has
       (subst (λ y. Stands d.op (put (λ z. pos 0) x v y) d.bound) (sym (member_single d.var x over)) (subst (λ u. Stands d.op u d.bound) (sym (put_same (λ z. pos 0) x v)) h)))
 
-  stands_from_support : (e : Domains) → Contains (d.var ∷ []) x → HasSupport e const_part x v → Stands d.op v d.bound
+  pub stands_from_support : (e : Domains) → Contains (d.var ∷ []) x → HasSupport e const_part x v → Stands d.op v d.bound
   stands_from_support e over s = subst (λ u. Stands d.op u d.bound) (ap s.assignment (member_single d.var x over) ∙ s.gives) s.holds
 
   pub const_lacking : (e : Domains) → Contains (d.var ∷ []) x → (Stands d.op v d.bound → ⊥) → LacksSupport e const_con x v

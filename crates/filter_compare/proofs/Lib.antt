@@ -1,3 +1,4 @@
 pub mod Comparisons
 pub mod Ends
 pub mod Memberships
+pub mod Shapes

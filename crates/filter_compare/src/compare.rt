@@ -1,13 +1,14 @@
 //! The filter of a comparison.
 ghost use Rattle.std.specs.Prelude.{◌≡◌, ℕ, IfOk};
 ghost use Rattle.palm_model.specs.Comparison.{IsComparison};
-ghost use Rattle.filter_compare.specs.Comparison.{demand_of};
+ghost use Rattle.filter_compare.specs.Comparison.{comparison_of, demand_of};
+ghost use Rattle.palm_filter.specs.Shapes.{FitsShape};
 ghost use Rattle.palm_model.specs.Constraint.{IsWellFormed};
 
 use crate::demand::{Demand, flipped};
 use palm_base::{NoMemory, Pair, Var, VarList};
 use palm_domain::DomainStore;
-use palm_filter::{Filter, Reasons, whole_or_none};
+use palm_filter::{Filter, Reasons, Shape, whole_or_none};
 use palm_model::{Con, Op, number_of};
 use std::alloc::Global;
 use std::marker::Model;
@@ -73,6 +74,22 @@ impl VarComparison {
     }
 }
 
+impl VarComparison {
+    /// What is known of the support of the variable at a place: those of an order lie together, and of two variables that
+    /// differ one rules out a value of the other where it has no other.
+    pub(crate) fn shape(&self, place: usize) -> Shape
+        requires formed { (variables : ℕ) × IsWellFormed variables (comparison_of (Comparison.Variables self.now)) }
+        ensures { FitsShape (comparison_of (Comparison.Variables self.now)) place result }
+    {
+        match self.op {
+            Op::Eq => Shape::Any,
+            Op::Ne if place == 0 => Shape::Apart(self.offset),
+            Op::Ne => Shape::Apart(-self.offset),
+            Op::Lt | Op::Le | Op::Gt | Op::Ge => Shape::Convex,
+        }
+    }
+}
+
 impl CompareFilter {
     /// The filter of a comparison.
     pub fn new(alloc: Global, con: &Con) -> Result<CompareFilter, NoMemory>
@@ -113,6 +130,13 @@ impl Filter for CompareFilter {
 
     fn scope(&self) -> &VarList {
         &self.vars
+    }
+
+    fn shape(&self, place: usize) -> Shape {
+        match &self.comparison {
+            Comparison::Variables(comparison) => comparison.shape(place),
+            Comparison::Constant(demand) => demand.shape(),
+        }
     }
 
     fn supported(&self, store: &DomainStore, pair: Pair) -> bool {

@@ -1,16 +1,18 @@
 //! What is asked of the value of one variable.
 ghost use Rattle.std.specs.Prelude.{◌≡◌, ◌++◌, ◌<◌, ◌≤ℤ◌, ◌⊎◌, length, true, Contains, FitsSigned, OnOk};
 ghost use Rattle.std.specs.Int.{w32};
-ghost use Rattle.filter_compare.specs.Comparison.{IsMet, flipped_of, meeting_values};
+ghost use Rattle.filter_compare.specs.Comparison.{IsMet, comparison_of, flipped_of, meeting_values};
+ghost use Rattle.filter_compare.specs.declared.compare.Comparison.{Comparison};
 ghost use Rattle.palm_base.specs.Tells.{Tells};
 ghost use Rattle.palm_domain.specs.Rows.{Ascends, initial_of, present_of};
+ghost use Rattle.palm_filter.specs.Shapes.{IsShaped};
 ghost use Rattle.palm_model.specs.Relation.{Stands, is_standing};
 ghost use Rattle.palm_model.specs.Domains.{values_of};
 ghost use Rattle.palm_model.specs.Removed.{pairs_of};
 
 use palm_base::{NoMemory, Pair, Value, Var};
 use palm_domain::DomainStore;
-use palm_filter::{Reasons, push_passing};
+use palm_filter::{Reasons, Shape, push_passing};
 use palm_model::{Op, number_of, stands};
 
 /// The variable is to have a value that stands in the relation to the bound.
@@ -95,6 +97,28 @@ impl Demand {
         ensures fits { result ≡ true → FitsSigned w32 self.now.bound }
     {
         number_of(least) <= self.bound && self.bound <= number_of(greatest)
+    }
+
+    /// What is known of the support of the variable that is compared with the bound: those of an order lie together, and all
+    /// but the bound are alike.
+    pub(crate) fn shape(&self) -> Shape
+        ensures { IsShaped (comparison_of (Comparison.Constant self.now)) self.now.var result }
+    {
+        match self.op {
+            Op::Eq | Op::Ne => self.alike(),
+            Op::Lt | Op::Le | Op::Gt | Op::Ge => Shape::Convex,
+        }
+    }
+
+    /// All values but the bound are alike.
+    fn alike(&self) -> Shape
+        requires equal { (self.now.op ≡ Op.Eq) ⊎ (self.now.op ≡ Op.Ne) }
+        ensures { IsShaped (comparison_of (Comparison.Constant self.now)) self.now.var result }
+    {
+        match i32::try_from(self.bound) {
+            Ok(bound) => Shape::AlikeBut(Value(bound)),
+            Err(_) => Shape::Any,
+        }
     }
 
     /// Whether the bound itself is a present value of the variable.

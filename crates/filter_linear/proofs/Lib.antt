@@ -1,3 +1,5 @@
+pub mod Beyond
 pub mod LinearReasons
 pub mod LinearSupport
+pub mod Shapes
 pub mod Walks

@@ -1,30 +1,28 @@
 -- What a pass over the terms keeps: the least and the greatest sum so far, and the pairs so far.
-use Rattle.std.proofs.Common.{◌≡◌, ℕ, zero, suc, ◌+◌, ◌*◌, ◌<◌, ◌≤◌, List, [], ◌∷◌, length, take, get_or, filter, add-one, Contains, ℤ, pos, ◌+ℤ◌, ◌*ℤ◌, ◌≤ℤ◌, ◌<ℤ◌, FitsSigned, to_z, of_z, w32, w64, Bool, true, false, not, cond, eqb, refl, sym, ap, ◌∙◌, subst, int_lt, arith}
+use Rattle.std.proofs.Common.{◌≡◌, ℕ, zero, suc, ◌+◌, ◌*◌, ◌<◌, ◌≤◌, List, [], ◌∷◌, length, take, get_or, add-one, Contains, ℤ, pos, ◌+ℤ◌, ◌*ℤ◌, ◌≤ℤ◌, ◌<ℤ◌, FitsSigned, to_z, of_z, w32, w64, true, false, cond, eqb, refl, sym, ap, ◌∙◌, subst, int_lt, arith}
 use Rattle.std.specs.List.{AllWithin}
 use Rattle.std.proofs.lemmas.Bool.{both_ways}
 use Rattle.std.proofs.lemmas.Int.{ints, by_lt_z}
 use Rattle.std.proofs.lemmas.List.{take_all}
 use Rattle.std.proofs.lemmas.List.Elements.{All-contains, AllWithin-more, AllWithin-none, All-from_all_within, Contains-get_or}
-use Rattle.palm_base.proofs.cited.Members.{member_same, member_map, member_unmap, member_there, member_here}
+use Rattle.palm_base.proofs.cited.Members.{member_same, member_map, member_unmap}
 use Rattle.palm_domain.specs.Rows.{IsLeastOf, IsGreatestOf}
 use Rattle.palm_model.specs.declared.limits.TheConstants.{GREATEST_FACTOR, GREATEST_PRODUCT, MOST_SCOPE}
 use Rattle.palm_model.specs.Domains.{Domains, Has, values_of}
 use Rattle.palm_model.specs.Linear.{IsFactor, term_vars, least_of, greatest_of, products, least_total, greatest_total}
 use Rattle.palm_model.specs.Limits.{IsUpTo}
 use Rattle.palm_model.specs.Reason.{AreFilled}
-use Rattle.palm_model.specs.Removed.{is_listed}
 use Rattle.palm_model.specs.declared.constraint.Term.{Term}
-use Rattle.palm_model.proofs.cited.Reasons.{member_not_listed}
 use Rattle.palm_model.proofs.cited.Standing.{stands_from_test, test_from_stands}
 use Rattle.palm_model.specs.declared.constraint.Op.TheVariants.{Lt}
 use Rattle.palm_model.proofs.cited.Sums.{round_up_to, up_to_more, round_factor, sum_up_to, sum_read}
-use Rattle.filter_linear.specs.Linear.{IsProduct, IsTermSpan, IsFilledBeside, IsShare, IsSpan, IsEnd, IsShareEnd, IsTermEnd, end_share, end_total, least_share, greatest_share, is_beyond, values_beyond, beyond_reason}
+use Rattle.filter_linear.specs.Linear.{IsProduct, IsTermSpan, IsFilledBeside, IsShare, IsSpan, IsEnd, IsShareEnd, IsTermEnd, end_share, end_total, least_share, greatest_share, values_beyond, beyond_reason}
 use Rattle.filter_linear.specs.declared.end.End.{End}
 use Rattle.filter_linear.specs.declared.end.End.TheVariants.{Least, Greatest}
 use Rattle.filter_linear.specs.declared.reasons.Side.{Side}
 use Rattle.filter_linear.specs.declared.reasons.Side.TheVariants.{Below, Above}
 use Rattle.filter_linear.specs.declared.span.Span.{Span}
-use Rattle.palm_reason.proofs.cited.LinearTotals.{product_rises, product_falls, least_is, greatest_is, total_by, least_by, greatest_by, least_product_below, greatest_product_above}
+use Rattle.palm_reason.proofs.cited.LinearTotals.{product_rises, product_falls, least_is, greatest_is, total_by, least_by, greatest_by}
 use Rattle.palm_reason.proofs.cited.LinearReason.{pairs_by}
 
 -- ---- numbers through their 64 bits
@@ -62,21 +60,32 @@ in_products d t w h = member_map (λ u. t.factor *ℤ u) (values_of d t.var) w h
 each_product : (d : Domains) (t : Term) (P : ℤ → Type 0) → ((w : ℤ) → Has d t.var w → P (t.factor *ℤ w)) → (k : ℤ) → Contains (products d t) k → P k
 each_product d t P each k h = let r = member_unmap (λ u. t.factor *ℤ u) (values_of d t.var) k h in subst P r.2 (each r.0 r.1)
 
+-- the least and the greatest product are those of the least and the greatest value, by the sign of the coefficient
+module _ (d : Domains) (t : Term) (low : ℤ) (least : IsLeastOf (values_of d t.var) low) where
+  pub least_risen : pos 0 <ℤ t.factor → t.factor *ℤ low ≡ least_of (products d t)
+  least_risen p = least_is (products d t) (t.factor *ℤ low) (in_products d t low least.member) (each_product d t (λ k. (t.factor *ℤ low) ≤ℤ k) (λ w h. product_rises t.factor low w p (least.least w h)))
+
+  pub greatest_fallen : t.factor ≤ℤ pos 0 → t.factor *ℤ low ≡ greatest_of (products d t)
+  greatest_fallen p = greatest_is (products d t) (t.factor *ℤ low) (in_products d t low least.member) (each_product d t (λ k. k ≤ℤ (t.factor *ℤ low)) (λ w h. product_falls t.factor low w p (least.least w h)))
+
+module _ (d : Domains) (t : Term) (high : ℤ) (greatest : IsGreatestOf (values_of d t.var) high) where
+  pub greatest_risen : pos 0 <ℤ t.factor → t.factor *ℤ high ≡ greatest_of (products d t)
+  greatest_risen p = greatest_is (products d t) (t.factor *ℤ high) (in_products d t high greatest.member) (each_product d t (λ k. k ≤ℤ (t.factor *ℤ high)) (λ w h. product_rises t.factor w high p (greatest.greatest w h)))
+
+  pub least_fallen : t.factor ≤ℤ pos 0 → t.factor *ℤ high ≡ least_of (products d t)
+  least_fallen p = least_is (products d t) (t.factor *ℤ high) (in_products d t high greatest.member) (each_product d t (λ k. (t.factor *ℤ high) ≤ℤ k) (λ w h. product_falls t.factor w high p (greatest.greatest w h)))
+
 module _ (d : Domains) (t : Term) (low m : ℤ) (least : IsLeastOf (values_of d t.var) low) (at_low : m ≡ t.factor *ℤ low) (small : IsProduct m) (factor : IsFactor t) where
   pub rising_least : int_lt (pos 0) (to_z w32 (of_z w32 t.factor)) ≡ true → IsTermEnd Least d t m
   rising_least test = record {
-    is =
-        at_low
-        ∙ least_is (products d t) (t.factor *ℤ low) (in_products d t low least.member) (each_product d t (λ k. (t.factor *ℤ low) ≤ℤ k) (λ w h. product_rises t.factor low w (rises t.factor factor.1 test) (least.least w h)));
+    is = at_low ∙ least_risen d t low least (rises t.factor factor.1 test);
     filled = omega (arith, least.member.1);
     small = small;
   }
 
   pub falling_greatest : int_lt (pos 0) (to_z w32 (of_z w32 t.factor)) ≡ false → IsTermEnd Greatest d t m
   falling_greatest test = record {
-    is =
-        at_low
-        ∙ greatest_is (products d t) (t.factor *ℤ low) (in_products d t low least.member) (each_product d t (λ k. k ≤ℤ (t.factor *ℤ low)) (λ w h. product_falls t.factor low w (falls t.factor factor.1 test) (least.least w h)));
+    is = at_low ∙ greatest_fallen d t low least (falls t.factor factor.1 test);
     filled = omega (arith, least.member.1);
     small = small;
   }
@@ -84,18 +93,14 @@ module _ (d : Domains) (t : Term) (low m : ℤ) (least : IsLeastOf (values_of d 
 module _ (d : Domains) (t : Term) (high n : ℤ) (greatest : IsGreatestOf (values_of d t.var) high) (at_high : n ≡ t.factor *ℤ high) (small : IsProduct n) (factor : IsFactor t) where
   pub rising_greatest : int_lt (pos 0) (to_z w32 (of_z w32 t.factor)) ≡ true → IsTermEnd Greatest d t n
   rising_greatest test = record {
-    is =
-        at_high
-        ∙ greatest_is (products d t) (t.factor *ℤ high) (in_products d t high greatest.member) (each_product d t (λ k. k ≤ℤ (t.factor *ℤ high)) (λ w h. product_rises t.factor w high (rises t.factor factor.1 test) (greatest.greatest w h)));
+    is = at_high ∙ greatest_risen d t high greatest (rises t.factor factor.1 test);
     filled = omega (arith, greatest.member.1);
     small = small;
   }
 
   pub falling_least : int_lt (pos 0) (to_z w32 (of_z w32 t.factor)) ≡ false → IsTermEnd Least d t n
   falling_least test = record {
-    is =
-        at_high
-        ∙ least_is (products d t) (t.factor *ℤ high) (in_products d t high greatest.member) (each_product d t (λ k. (t.factor *ℤ high) ≤ℤ k) (λ w h. product_falls t.factor w high (falls t.factor factor.1 test) (greatest.greatest w h)));
+    is = at_high ∙ least_fallen d t high greatest (falls t.factor factor.1 test);
     filled = omega (arith, greatest.member.1);
     small = small;
   }
@@ -223,28 +228,6 @@ module _ (end : End) (d : Domains) (terms : List Term) (x : ℕ) (v : ℤ) where
   }
 
 -- ---- the pairs so far
-
-filter_both : (p q : ℤ → Bool) (vs : List ℤ) → ((w : ℤ) → Contains vs w → p w ≡ true → q w ≡ true) → filter p (filter q vs) ≡ filter p vs
-filter_both p q [] both = refl
-filter_both p q (v ∷ vs) both = by_case (p v) (q v) refl refl (λ e. both v (member_here v vs) e) (filter_both p q vs (λ w m e. both w (member_there v vs w m) e))
-  where
-    by_case : (b c : Bool) → p v ≡ b → q v ≡ c → (p v ≡ true → q v ≡ true) → filter p (filter q vs) ≡ filter p vs → filter p (cond c (v ∷ filter q vs) (filter q vs)) ≡ cond b (v ∷ filter p vs) (filter p vs)
-    by_case b true e f h rest = ap (λ z. cond z (v ∷ filter p (filter q vs)) (filter p (filter q vs))) e ∙ ap (λ ws. cond b (v ∷ ws) ws) rest
-    by_case true false e f h rest = absurd (both_ways (q v) f (h e))
-    by_case false false e f h rest = rest
-
--- a declared value beyond the present ones is a removed one
-pub beyond_values : (side : Side) (initial present : Domains) (t : Term) (s : Span) → IsTermSpan present t s → filter (λ w. is_beyond side s (t.factor *ℤ w)) (values_of initial t.var) ≡ values_beyond side initial present t
-beyond_values Below initial present t s is =
-    ap (λ z. filter (λ w. int_lt (t.factor *ℤ w) z) (values_of initial t.var)) is.least
-    ∙ sym (filter_both (λ w. int_lt (t.factor *ℤ w) (least_of (products present t))) (λ w. not (is_listed (values_of present t.var) w)) (values_of initial t.var)
-    (λ w m e. member_not_listed (values_of present t.var) w (λ k.
-    absurd (omega (arith, ints, stands_from_test Lt (t.factor *ℤ w) (least_of (products present t)) e, least_product_below present t w k)))))
-beyond_values Above initial present t s is =
-    ap (λ z. filter (λ w. int_lt z (t.factor *ℤ w)) (values_of initial t.var)) is.greatest
-    ∙ sym (filter_both (λ w. int_lt (greatest_of (products present t)) (t.factor *ℤ w)) (λ w. not (is_listed (values_of present t.var) w)) (values_of initial t.var)
-    (λ w m e. member_not_listed (values_of present t.var) w (λ k.
-    absurd (omega (arith, ints, stands_from_test Lt (greatest_of (products present t)) (t.factor *ℤ w) e, greatest_product_above present t w k)))))
 
 pub beyond_by : (side : Side) (initial present : Domains) (terms : List Term) (x : ℕ) → pairs_by (λ t. values_beyond side initial present t) terms x ≡ beyond_reason side initial present terms x
 beyond_by Below initial present terms x = refl

@@ -1,6 +1,6 @@
 -- The constraint of a sum: what it can be at least and at most where one variable has its value, and the removed values
 -- beyond the present ones.
-use Rattle.std.specs.Prelude.{◌≡◌, ℕ, ℤ, ◌*ℤ◌, ◌<◌, ◌<ℤ◌, ◌≤ℤ◌, ◌⊎◌, Bool, List, All, length, nat_eq, int_lt, if◌then◌else◌}
+use Rattle.std.specs.Prelude.{◌≡◌, ℕ, ℤ, pos, ◌*ℤ◌, ◌<◌, ◌<ℤ◌, ◌≤ℤ◌, ◌⊎◌, List, All, length, nat_eq, if◌then◌else◌}
 use Rattle.palm_base.specs.declared.terms.Pair.{Pair}
 use Rattle.palm_model.specs.Limits.{IsUpTo}
 use Rattle.palm_model.specs.Domains.{Domains, values_of}
@@ -120,10 +120,11 @@ pub record CanBeMet (d : Domains) (rule : LinearRule) (x : ℕ) (v : ℤ) : Type
 
 -- ---- removed values beyond the present ones
 
--- whether the number is on this side of the span
-abbrev pub is_beyond : Side → Span → ℤ → Bool
-is_beyond Below s n = int_lt n s.least
-is_beyond Above s n = int_lt s.greatest n
+-- the products on this side are those of the low values: they rise with the values where the factor is positive, and fall
+-- where it is negative
+abbrev pub IsOfLow : Side → ℤ → Type 0
+IsOfLow Below factor = pos 0 <ℤ factor
+IsOfLow Above factor = factor <ℤ pos 0
 
 -- the removed values of a term's variable whose products are on this side of those of all present values
 abbrev pub values_beyond : Side → Domains → Domains → Term → List ℤ

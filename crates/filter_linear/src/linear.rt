@@ -7,8 +7,8 @@ use crate::reasons::push_reason;
 use crate::rule::LinearRule;
 use palm_base::{NoMemory, Pair, VarList};
 use palm_domain::DomainStore;
-use palm_filter::{Filter, Reasons, whole_or_none};
-use palm_model::{Con, TermList};
+use palm_filter::{Filter, Reasons, Shape, whole_or_none};
+use palm_model::{Con, Op, TermList};
 use std::alloc::Global;
 use std::marker::Model;
 
@@ -71,6 +71,14 @@ impl Filter for LinearFilter {
 
     fn scope(&self) -> &VarList {
         &self.vars
+    }
+
+    fn shape(&self, _place: usize) -> Shape {
+        match self.rule.op {
+            Op::Ne if self.vars.len() > 1 => Shape::Guarded,
+            Op::Ne => Shape::Any,
+            Op::Eq | Op::Lt | Op::Le | Op::Gt | Op::Ge => Shape::Convex,
+        }
     }
 
     fn supported(&self, store: &DomainStore, pair: Pair) -> bool {

@@ -1,7 +1,8 @@
 //! Reasons of linear constraints: removed values beyond the present ones, or all removed values.
-ghost use Rattle.std.specs.Prelude.{◌≡◌, ◌*ℤ◌, ◌++◌, ◌<◌, length, OnOk};
-ghost use Rattle.filter_linear.specs.Linear.{beyond_reason, is_beyond, linear_of, values_beyond};
-ghost use Rattle.palm_domain.specs.Rows.{initial_of, present_of};
+ghost use Rattle.std.specs.Prelude.{◌≡◌, ◌++◌, ◌<◌, filter, int_lt, length, OnOk};
+ghost use Rattle.filter_linear.specs.Linear.{IsOfLow, beyond_reason, linear_of, values_beyond};
+ghost use Rattle.palm_base.specs.Tells.{Tells};
+ghost use Rattle.palm_domain.specs.Rows.{Ascends, initial_of, present_of};
 ghost use Rattle.palm_model.specs.Linear.{IsFactor, term_vars, linear_reason};
 ghost use Rattle.palm_model.specs.Constraint.{IsWellFormed};
 ghost use Rattle.palm_model.specs.Domains.{values_of};
@@ -9,7 +10,6 @@ ghost use Rattle.palm_model.specs.Reason.{AreFilled};
 ghost use Rattle.palm_model.specs.Removed.{others, pairs_of, removed_pairs};
 
 use crate::rule::LinearRule;
-use crate::span::{Span, product_of};
 use palm_base::{NoMemory, Pair, Value};
 use palm_domain::DomainStore;
 use palm_filter::{Reasons, push_passing, push_removed};
@@ -24,16 +24,48 @@ pub enum Side {
     Above,
 }
 
+/// The values below the bound: the first ones of an ascending list.
+fn lower<'a>(values: &'a [Value], bound: &Value) -> &'a [Value]
+    requires { Ascends values.now }
+    ensures { result.now ≡ filter (λ v. int_lt v bound.now) values.now }
+{
+    let end = values.partition_point(|value| *value < *bound);
+    &values[..end]
+}
+
+/// The values above the bound: the last ones of an ascending list.
+fn higher<'a>(values: &'a [Value], bound: &Value) -> &'a [Value]
+    requires { Ascends values.now }
+    ensures { result.now ≡ filter (λ v. int_lt bound.now v) values.now }
+{
+    let start = values.partition_point(|value| *value <= *bound);
+    &values[start..]
+}
+
 impl Side {
-    /// Whether the product of the value is on this side of the span.
-    fn is_beyond(self, span: &Span, term: &Term, value: &Value) -> bool
+    /// Whether the products of the term on this side are those of its low values.
+    fn is_of_low_values(self, term: &Term) -> bool
         requires { IsFactor term.now }
-        ensures { result ≡ is_beyond self span.now (term.now.factor *ℤ value.now) }
+        ensures { Tells result (IsOfLow self term.now.factor) }
     {
-        let product = product_of(term, value);
         match self {
-            Side::Below => product < span.least,
-            Side::Above => span.greatest < product,
+            Side::Below => term.factor > 0,
+            Side::Above => term.factor < 0,
+        }
+    }
+
+    /// The removed values of the term's variable whose products are on this side of those of all present values.
+    fn values_beyond<'a>(self, term: &Term, store: &'a DomainStore) -> &'a [Value]
+        requires factor { IsFactor term.now }
+        requires declared { term.now.var < length store.now }
+        requires filled { 0 < length (values_of (present_of store.now) term.now.var) }
+        ensures { result.now ≡ values_beyond self (initial_of store.now) (present_of store.now) term.now }
+    {
+        let values = store.initial_values(term.var);
+        if self.is_of_low_values(term) {
+            lower(values, &store.least(term.var))
+        } else {
+            higher(values, &store.greatest(term.var))
         }
     }
 
@@ -49,16 +81,7 @@ impl Side {
         requires filled { 0 < length (values_of (present_of store.now) term.now.var) }
         ensures { OnOk result (out.new.items ≡ out.old.items ++ pairs_of term.now.var (values_beyond self (initial_of store.now) (present_of store.now) term.now)) }
     {
-        let span = match Span::of_term(term, store) {
-            Some(span) => span,
-            None => unreachable!(),
-        };
-        push_passing(
-            store.initial_values(term.var),
-            term.var,
-            |value| self.is_beyond(&span, term, value),
-            out,
-        )
+        push_passing(self.values_beyond(term, store), term.var, |_| true, out)
     }
 
     /// Appends these pairs of every variable of the sum but that of the pair.

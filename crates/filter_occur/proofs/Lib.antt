@@ -2,4 +2,5 @@ pub mod Counting
 pub mod CountSupport
 pub mod Enough
 pub mod Reached
+pub mod Shapes
 pub mod Written

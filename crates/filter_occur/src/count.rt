@@ -6,7 +6,7 @@ ghost use Rattle.palm_model.specs.Constraint.{IsWellFormed};
 use crate::rule::CountRule;
 use palm_base::{NoMemory, Pair, VarList};
 use palm_domain::DomainStore;
-use palm_filter::{Filter, Reasons, whole_or_none};
+use palm_filter::{Filter, Reasons, Shape, whole_or_none};
 use palm_model::{Con, Target, copy_of};
 use std::alloc::Global;
 use std::marker::Model;
@@ -75,6 +75,14 @@ impl Filter for OccurFilter {
 
     fn scope(&self) -> &VarList {
         &self.vars
+    }
+
+    fn shape(&self, place: usize) -> Shape {
+        if place < self.rule.vars.len() {
+            Shape::AlikeBut(self.rule.value)
+        } else {
+            self.rule.target_shape()
+        }
     }
 
     fn supported(&self, store: &DomainStore, pair: Pair) -> bool {

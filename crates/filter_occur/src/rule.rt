@@ -1,8 +1,9 @@
 //! The number of some variables that have a value, and the target that it is compared with.
-ghost use Rattle.std.specs.Prelude.{◌≡◌, ◌++◌, ◌<◌, ◌≤◌, [], ◌∷◌, length, flat_map, if◌then◌else◌, All, Contains, IfNone, IfSome, MatchOption, OnOk};
-ghost use Rattle.filter_occur.specs.Count.{AreCounts, AreCountsTo, CanReach, IsChance, IsCountReached, IsEnough, target_values, values_where};
+ghost use Rattle.std.specs.Prelude.{◌≡◌, ◌++◌, ◌<◌, ◌≤◌, ℕ, [], ◌∷◌, length, flat_map, if◌then◌else◌, All, Contains, IfNone, IfSome, MatchOption, OnOk};
+ghost use Rattle.filter_occur.specs.Count.{AreCounts, AreCountsTo, CanReach, IsChance, IsCountReached, IsEnough, count_of, target_values, values_where};
 ghost use Rattle.palm_base.specs.Tells.{Tells};
 ghost use Rattle.palm_domain.specs.Rows.{initial_of, present_of};
+ghost use Rattle.palm_filter.specs.Shapes.{IsShaped};
 ghost use Rattle.palm_model.specs.Constraint.{Distinct};
 ghost use Rattle.palm_model.specs.Count.{target_scope, count_reason, counted_pairs, high_pairs, low_pairs, needs_high, needs_low, target_pairs};
 ghost use Rattle.palm_model.specs.Domains.{values_of};
@@ -12,7 +13,7 @@ ghost use Rattle.palm_model.specs.Removed.{others};
 use crate::counts::{Counts, enough_between, enough_for};
 use palm_base::{NoMemory, Pair, Value, Var, VarList};
 use palm_domain::DomainStore;
-use palm_filter::{Reasons, is_alone, is_missing, push_removed};
+use palm_filter::{Reasons, Shape, is_alone, is_missing, push_removed};
 use palm_model::{MOST_SCOPE, Op, Target};
 
 /// The number of the variables that have the value stands in the relation to the target.
@@ -166,6 +167,17 @@ impl CountRule {
             Some(Chance::of_one(&store.least(var), &self.value))
         } else {
             None
+        }
+    }
+
+    /// What is known of the support of the target: those of a one-sided count lie together.
+    pub(crate) fn target_shape(&self) -> Shape
+        requires { Distinct (self.now.vars ++ target_scope self.now.target) }
+        ensures { (x : ℕ) → Contains (target_scope self.now.target) x → IsShaped (count_of self.now) x result }
+    {
+        match self.op {
+            Op::Eq | Op::Ne => Shape::Any,
+            Op::Lt | Op::Le | Op::Gt | Op::Ge => Shape::Convex,
         }
     }
 

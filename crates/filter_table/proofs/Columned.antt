@@ -1,19 +1,22 @@
 -- Rows, the columns of a table, and the rows that have a value in a column.
-use Rattle.std.proofs.Common.{◌≡◌, ℕ, ◌+◌, ◌<◌, ◌≤◌, ℤ, pos, Bool, true, false, ◌&&◌, cond, List, [], ◌∷◌, length, map, get_or, slice_get, Some, All, Contains, eqb, eq-eqb, ne_eqb, inl, inr, refl, sym, ap, ◌∙◌, subst, arith}
+use Rattle.std.proofs.Common.{◌≡◌, ℕ, zero, suc, ◌+◌, ◌-◌, ◌<◌, ◌≤◌, ℤ, pos, Bool, true, false, not, ◌&&◌, cond, List, [], ◌∷◌, length, map, get_or, slice_get, Some, All, Contains, eqb, eq-eqb, ne_eqb, int_eq, inl, inr, refl, sym, ap, ◌∙◌, subst, arith}
 use Rattle.std.specs.List.{list_any}
-use Rattle.std.proofs.lemmas.Bool.{cases_Bool, cases_lt, both_ways, and_parts}
+use Rattle.std.proofs.lemmas.Bool.{cases_Bool, cases_lt, both_ways, and_parts, and_from, false≢true}
+use Rattle.std.proofs.lemmas.Bool.Decides.{Decides-int_eq}
 use Rattle.std.proofs.lemmas.List.{get_or-map, length-map, get_or_default}
 use Rattle.std.proofs.lemmas.List.Elements.{Contains-get_or}
 use Rattle.std.proofs.lemmas.Option.{slice_get_within, get_or_from_slice_get, slice_get-get_or}
 use Rattle.palm_base.proofs.cited.Members.{member_nil, member_single, member_same, member_get, all_members, map_agree}
+use Rattle.palm_base.specs.Tells.{Tells}
 use Rattle.palm_base.specs.declared.terms.Pair.{Pair}
 use Rattle.palm_model.specs.Constraint.{Distinct}
 use Rattle.palm_model.specs.Domains.{Domains, Has, is_among}
 use Rattle.palm_model.specs.Table.{are_there, first_missing, is_blocked_at, row_pairs}
 use Rattle.palm_model.proofs.cited.Supports.{any_member, member_any, among_member, member_among}
 use Rattle.palm_reason.proofs.cited.TableRows.{missing_cases, among_gives, gives_among}
-use Rattle.filter_table.specs.Table.{IsIndexed, column_values, is_support_row, row_at}
+use Rattle.filter_table.specs.Table.{HasEntry, IsIndexed, column_values, entry_at, is_support_row, row_at}
 use Rattle.filter_table.specs.declared.indexed.IndexedTable.{IndexedTable}
+use Rattle.filter_table.proofs.Entries.{entry_has, entry_lacks, two_there, two_not}
 
 -- ---- an assignment with the entries of a row
 
@@ -74,10 +77,50 @@ module _ (vars : List ℕ) (rows : List (List ℤ)) (distinct : Distinct vars) (
       let g = among_gives vars a x v (subst (λ r. is_among (row_pairs vars r) x v ≡ true) (row_is vars row distinct (long k [] lt)) h) in
       column_at c k lt ∙ ap Some (column_entry c x k at lt ∙ g.1)
 
-  pub column_none : (x k : ℕ) (v : ℤ) → (Contains vars x → ⊥) → k < length rows → is_among (row_pairs vars (row_at rows k)) x v ≡ true → ⊥
-  column_none x k v n lt h =
+  -- the entry in the column is the value
+  pub own_entry : (c x k : ℕ) (v : ℤ) → slice_get vars c ≡ Some x → k < length rows → is_among (row_pairs vars (row_at rows k)) x v ≡ true → get_or (row_at rows k) c (pos 0) ≡ v
+  own_entry c x k v at lt h =
       let row = row_at rows k in
-      n (among_gives vars (entry_of vars row) x v (subst (λ r. is_among (row_pairs vars r) x v ≡ true) (row_is vars row distinct (long k [] lt)) h)).0
+      column_entry c x k at lt ∙ (among_gives vars (entry_of vars row) x v (subst (λ r. is_among (row_pairs vars r) x v ≡ true) (row_is vars row distinct (long k [] lt)) h)).1
+
+  pub entry_own : (c x k : ℕ) (v : ℤ) → slice_get vars c ≡ Some x → k < length rows → get_or (row_at rows k) c (pos 0) ≡ v → is_among (row_pairs vars (row_at rows k)) x v ≡ true
+  entry_own c x k v at lt e = column_stands c x k v at (column_at c k lt ∙ ap Some e)
+
+  -- domains that have the value have the entry in its column
+  pub own_has : (d : Domains) (c x k : ℕ) (v : ℤ) → slice_get vars c ≡ Some x → k < length rows → get_or (row_at rows k) c (pos 0) ≡ v → Has d x v → HasEntry d vars (row_at rows k) c
+  own_has d c x k v at lt e h =
+      subst (λ y. Has d y (get_or (row_at rows k) c (pos 0))) (sym (get_or_from_slice_get vars c x 0 at)) (subst (λ w. Has d x w) (sym e) h)
+
+  pub has_own : (d : Domains) (c x k : ℕ) (v : ℤ) → slice_get vars c ≡ Some x → k < length rows → get_or (row_at rows k) c (pos 0) ≡ v → HasEntry d vars (row_at rows k) c → Has d x v
+  has_own d c x k v at lt e h =
+      subst (λ y. Has d y v) (get_or_from_slice_get vars c x 0 at) (subst (λ w. Has d (get_or vars c 0) w) e h)
+
+  -- so where the row has the value
+  pub own_given : (d : Domains) (c x k : ℕ) (v : ℤ) → slice_get vars c ≡ Some x → k < length rows → is_among (row_pairs vars (row_at rows k)) x v ≡ true → Has d x v → HasEntry d vars (row_at rows k) c
+  own_given d c x k v at lt among h = own_has d c x k v at lt (own_entry c x k v at lt among) h
+
+  -- ---- a row that is blocked
+
+  among_not : (c x k : ℕ) (v : ℤ) → slice_get vars c ≡ Some x → k < length rows → (get_or (row_at rows k) c (pos 0) ≡ v → ⊥) → is_among (row_pairs vars (row_at rows k)) x v ≡ false
+  among_not c x k v at lt n = elim (cases_Bool (is_among (row_pairs vars (row_at rows k)) x v)) [
+    | inl t ↦ absurd (n (own_entry c x k v at lt t))
+    | inr f ↦ f
+  ]
+
+  -- a row with another entry in the column of x is not
+  pub unblocked : (initial present : Domains) (c x k : ℕ) (v : ℤ) (y : ℕ) (w : ℤ) → slice_get vars c ≡ Some x → k < length rows → (get_or (row_at rows k) c (pos 0) ≡ v → ⊥) → false ≡ is_blocked_at initial present vars x v y w (row_at rows k)
+  unblocked initial present c x k v y w at lt n =
+      let ps = row_pairs vars (row_at rows k) in
+      sym (ap (λ b. b && are_there initial ps && is_among (first_missing present ps) y w) (among_not c x k v at lt n))
+
+  -- one with that entry is, where its entries are declared and that of y is the first that is not present
+  pub blocked_first : (initial present : Domains) (c x k : ℕ) (v : ℤ) (e y : ℕ) (w : ℤ) (b : Bool) → slice_get vars c ≡ Some x → k < length rows → get_or (row_at rows k) c (pos 0) ≡ v → true ≡ are_there initial (row_pairs vars (row_at rows k)) → slice_get vars e ≡ Some y → is_among (row_pairs vars (row_at rows k)) y w ≡ true → b ≡ is_among (first_missing present (row_pairs vars (row_at rows k))) (get_or vars e 0) (get_or (row_at rows k) e (pos 0)) → b ≡ is_blocked_at initial present vars x v y w (row_at rows k)
+  blocked_first initial present c x k v e y w b at lt own declared at_end stands first =
+      let ps = row_pairs vars (row_at rows k) in
+      let missing = is_among (first_missing present ps) y w in
+      first ∙ ap (λ z. is_among (first_missing present ps) z (get_or (row_at rows k) e (pos 0))) (get_or_from_slice_get vars e y 0 at_end)
+      ∙ ap (λ u. is_among (first_missing present ps) y u) (own_entry e y k w at_end lt stands)
+      ∙ ap (λ t. t && missing) declared ∙ ap (λ t. t && are_there initial ps && missing) (sym (entry_own c x k v at lt own))
 
 -- ---- the places that the index of a column lends
 
@@ -173,3 +216,51 @@ no_row_more p rows places i row e lt at fails before k d low below = elim (cases
       let same : get_or places k d ≡ get_or places i e = ap (λ z. get_or places z d) here ∙ get_or_default places i d e lt in
       ap (λ j. p (row_at rows j)) same ∙ ap p (sym at) ∙ fails
 ]
+
+-- different columns are of different variables
+pub columns_apart : (vars : List ℕ) → Distinct vars → (b c : ℕ) → b < c → c < length vars → get_or vars b 0 ≡ get_or vars c 0 → ⊥
+columns_apart [] distinct b c below lt e = absurd (omega arith)
+columns_apart (x ∷ xs) distinct b zero below lt e = absurd (omega arith)
+columns_apart (x ∷ xs) distinct zero (suc c) below lt e = distinct.0 (member_same xs (get_or xs c 0) x (sym e) (Contains-get_or xs c 0 (omega arith)))
+columns_apart (x ∷ xs) distinct (suc b) (suc c) below lt e = columns_apart xs distinct.1 b c (omega arith) (omega arith) e
+
+-- ---- the entry beside a value, in a table of two columns
+
+pub beside : (t : IndexedTable) → IsIndexed t → (c k : ℕ) (vars : List ℕ) (y : ℕ) (list values : List ℤ) (w : ℤ) → vars ≡ t.vars → c < length t.vars → k < length t.rows → y ≡ get_or vars c y → list ≡ get_or t.columns.items c list → values ≡ list → w ≡ get_or values k w → record { var = y; value = w } ≡ entry_at t.vars (row_at t.rows k) c
+beside t indexed c k vars y list values w same lt klt at_var of_columns of_list at_value =
+    let entry : List ℤ → ℤ = λ r. get_or r c (pos 0) in
+    let is_var : y ≡ get_or t.vars c 0 = at_var ∙ ap (λ ys. get_or ys c y) same ∙ get_or_default t.vars c y 0 lt in
+    let is_value : w ≡ entry (row_at t.rows k) =
+    at_value ∙ ap (λ vs. get_or vs k w) (of_list ∙ of_columns ∙ indexed.columns.each c list lt) ∙ get_or-map entry t.rows k [] w klt in
+    ap (λ z. pair z w) is_var ∙ ap (pair (get_or t.vars c 0)) is_value
+  where
+    pair : ℕ → ℤ → Pair
+    pair z u = record { var = z; value = u }
+
+module _ (t : IndexedTable) (indexed : IsIndexed t) (two : length t.vars ≡ 2) (d : Domains) (own x : ℕ) (v : ℤ) (at : slice_get t.vars own ≡ Some x) (present : Has d x v) (k : ℕ) (lt : k < length t.rows) (among : is_among (row_pairs t.vars (row_at t.rows k)) x v ≡ true) (p : Pair) (is : p ≡ entry_at t.vars (row_at t.rows k) (1 - own)) (b : Bool) (tells : Tells b (Has d p.var p.value)) where
+  own_in : HasEntry d t.vars (row_at t.rows k) own
+  own_in = own_given t.vars t.rows indexed.distinct indexed.long d own x k v at lt among present
+
+  pub two_gives : b ≡ true → true ≡ list_any (is_support_row d t.vars x v) t.rows
+  two_gives h =
+      let row = row_at t.rows k in
+      some_row (is_support_row d t.vars x v) t.rows k lt
+      (and_from (is_among (row_pairs t.vars row) x v) (are_there d (row_pairs t.vars row)) among
+      (two_there d t.vars row (indexed.long k [] lt) two own (slice_get_within t.vars own x at) own_in (entry_has d t.vars row (1 - own) p b is tells h)))
+
+  pub two_fails : b ≡ false → are_there d (row_pairs t.vars (row_at t.rows k)) ≡ false
+  two_fails h =
+      let row = row_at t.rows k in
+      two_not d t.vars row (indexed.long k [] lt) two own (slice_get_within t.vars own x at) own_in (entry_lacks d t.vars row (1 - own) p b is tells h)
+
+-- ---- a test of an entry
+
+pub unlike : (b : Bool) (w v : ℤ) → b ≡ not (int_eq w v) → b ≡ true → w ≡ v → ⊥
+unlike b w v e t same = false≢true (sym (e ∙ ap not ((Decides-int_eq w v).1 same)) ∙ t)
+
+pub alike : (b : Bool) (w v : ℤ) → b ≡ not (int_eq w v) → b ≡ false → w ≡ v
+alike b w v e f = (Decides-int_eq w v).0 (not_false (int_eq w v) (sym e ∙ f))
+  where
+    not_false : (c : Bool) → not c ≡ false → c ≡ true
+    not_false true h = refl
+    not_false false h = absurd (false≢true (sym h))

@@ -3,10 +3,11 @@ use Rattle.std.proofs.Common.{◌≡◌, ℕ, ℤ, ◌<◌, Bool, true, false, L
 use Rattle.std.specs.List.{list_any}
 use Rattle.std.proofs.lemmas.Bool.{and_parts, and_from, both_ways}
 use Rattle.std.proofs.lemmas.List.Elements.{All-contains}
-use Rattle.palm_base.proofs.cited.Members.{member_same}
+use Rattle.palm_base.proofs.cited.Members.{member_same, member_single}
 use Rattle.palm_base.specs.declared.terms.Pair.{Pair}
 use Rattle.palm_model.specs.Constraint.{scope, Distinct, IsWellFormed}
 use Rattle.palm_model.specs.Domains.{Domains, is_among}
+use Rattle.palm_model.specs.Part.{scope_of}
 use Rattle.palm_model.specs.Support.{HasSupport, IsSupported, LacksSupport}
 use Rattle.palm_model.specs.Table.{are_there, row_pairs, table_reason}
 use Rattle.palm_model.specs.Reason.{reason}
@@ -47,6 +48,10 @@ module _ (t : IndexedTable) (indexed : IsIndexed t) (m : Con) (is : table_of t �
   pub asks_declared : (n : ℕ) → IsWellFormed n m → All (λ y. y < n) t.vars
   asks_declared n formed = (subst (IsWellFormed n) (sym is) formed).declared
 
+  -- the variable has a column
+  pub asks_over : Contains (scope m) x → Contains t.vars x
+  asks_over over = subst (λ k. Contains (scope k) x) (sym is) over
+
   pub answers_supported : (d : Domains) (b : Bool) → b ≡ list_any (is_support_row d t.vars x v) t.rows → b ≡ true → IsSupported d m x v
   answers_supported d b e h =
       subst (λ k. IsSupported d k x v) is
@@ -54,9 +59,16 @@ module _ (t : IndexedTable) (indexed : IsIndexed t) (m : Con) (is : table_of t �
 
   pub answers_lacking : (d : Domains) (b : Bool) → b ≡ list_any (is_support_row d t.vars x v) t.rows → Contains (scope m) x → b ≡ false → LacksSupport d m x v
   answers_lacking d b e over h =
-      let over_t : Contains t.vars x = subst (λ k. Contains (scope k) x) (sym is) over in
+      let over_t = asks_over over in
       subst (λ k. LacksSupport d k x v) is
       (lacking_by_part d (Table t.vars t.rows) (TablePart t.vars t.rows) x v refl over_t (λ s. both_ways b h (e ∙ support_given t.vars t.rows x v d over_t s)))
+
+  -- so has one whose value lacks support
+  pub lacking_over : (d : Domains) → LacksSupport d m x v → Contains t.vars x
+  lacking_over d lacking =
+      let l = subst (λ k. LacksSupport d k x v) (sym is) lacking in
+      let e : TablePart t.vars t.rows ≡ l.part = member_single (TablePart t.vars t.rows) l.part l.is_part in
+      subst (λ p. Contains (scope_of p) x) (sym e) l.over
 
   pub gives_reason : (initial present : Domains) (out : List Pair) → out ≡ table_reason initial present t.vars t.rows x v → out ≡ reason initial present m x v
   gives_reason initial present out e = e ∙ ap (λ k. reason initial present k x v) is

@@ -1,8 +1,9 @@
 -- A table, its columns, and the rows that give a value.
 use Rattle.std.specs.Prelude.{◌≡◌, ℕ, ℤ, pos, ◌<◌, List, [], length, map, All, Bool, not, ◌&&◌, slice_index_or}
 use Rattle.std.specs.List.{list_any}
+use Rattle.palm_base.specs.declared.terms.Pair.{Pair}
 use Rattle.palm_model.specs.Constraint.{Distinct}
-use Rattle.palm_model.specs.Domains.{Domains, is_among, values_of}
+use Rattle.palm_model.specs.Domains.{Domains, Has, is_among, values_of}
 use Rattle.palm_model.specs.Table.{are_there, is_blocked_at, row_pairs}
 use Rattle.palm_model.specs.Removed.{is_listed}
 use Rattle.palm_model.specs.declared.constraint.Con.{Con}
@@ -19,6 +20,14 @@ row_at rows k = slice_index_or rows k []
 -- the entries of a column, counted from 0
 abbrev pub column_values : List (List ℤ) → ℕ → List ℤ
 column_values rows c = map (λ row. slice_index_or row c (pos 0)) rows
+
+-- the entry of a row in a column, with the variable of the column
+abbrev pub entry_at : List ℕ → List ℤ → ℕ → Pair
+entry_at vars row c = record { var = slice_index_or vars c 0; value = slice_index_or row c (pos 0) }
+
+-- the domains have the entry of a row in a column
+abbrev pub HasEntry : Domains → List ℕ → List ℤ → ℕ → Type 0
+HasEntry d vars row c = Has d (slice_index_or vars c 0) (slice_index_or row c (pos 0))
 
 -- the first so many columns of the rows, one after another
 pub record AreColumns (rows : List (List ℤ)) (count : ℕ) (columns : List (List ℤ)) : Type 0 where

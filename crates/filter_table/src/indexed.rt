@@ -5,11 +5,10 @@ ghost use Rattle.filter_table.specs.Table.{AreColumns, IsIndexed, column_values,
 ghost use Rattle.palm_domain.specs.Rows.{initial_of, present_of};
 ghost use Rattle.palm_model.specs.Constraint.{Distinct};
 ghost use Rattle.palm_model.specs.declared.constraint.Con.{Con};
-ghost use Rattle.palm_model.specs.Domains.{is_among};
+ghost use Rattle.palm_model.specs.Domains.{Has, is_among};
 ghost use Rattle.palm_model.specs.Table.{blocking_values, is_blocked_at, row_pairs, table_reason};
 ghost use Rattle.palm_model.specs.Removed.{pairs_of};
 
-use crate::row::{are_present, is_blocked_at};
 use palm_base::{NoMemory, Pair, Value, ValueList, Var, VarList};
 use palm_domain::DomainStore;
 use palm_filter::{Reasons, ValueIndex, is_missing, push_passing};
@@ -21,7 +20,7 @@ use std::alloc::Global;
 pub(crate) struct IndexedTable {
     pub(crate) vars: VarList,
     rows: RowList,
-    columns: Vec<ValueIndex>,
+    pub(crate) columns: Vec<ValueIndex>,
 }
 
 /// The index of a column.
@@ -59,6 +58,16 @@ fn column_of(vars: &[Var], var: &Var) -> Option<usize>
     vars.iter().position(|other| other == var)
 }
 
+/// The place of the variable, which is one of the two.
+#[inline(always)]
+fn column_of_two(vars: &[Var], var: &Var) -> usize
+    requires two { length vars.now ≡ 2 }
+    requires over { Contains vars.now var.now }
+    ensures { slice_get vars.now result ≡ Some var.now }
+{
+    if vars[0] == *var { 0 } else { 1 }
+}
+
 impl IndexedTable {
     /// The table, with an index of each of its columns.
     pub(crate) fn new(alloc: Global, vars: VarList, rows: RowList) -> Result<IndexedTable, NoMemory>
@@ -75,88 +84,143 @@ impl IndexedTable {
         })
     }
 
-    /// The places of the rows that have the value of the pair in the column of its variable.
-    pub(crate) fn places(&self, pair: &Pair) -> &[usize]
-        requires { IsIndexed self.now }
+    /// The places of the rows that have the value of the pair in its column.
+    fn places(&self, column: usize, pair: &Pair) -> &[usize]
+        requires indexed { IsIndexed self.now }
+        requires column { slice_get self.now.vars column ≡ Some pair.now.var }
         ensures within { All (λ k. k < length self.now.rows) result.now }
         ensures stands { All (λ k. is_among (row_pairs self.now.vars (row_at self.now.rows k)) pair.now.var pair.now.value ≡ true) result.now }
         ensures every { (k : ℕ) → k < length self.now.rows → is_among (row_pairs self.now.vars (row_at self.now.rows k)) pair.now.var pair.now.value ≡ true → Contains result.now k }
     {
-        match column_of(self.vars.as_slice(), &pair.var) {
-            Some(column) => self.columns[column].places(&pair.value),
-            None => &[],
-        }
+        self.columns[column].places(&pair.value)
     }
 
     /// Whether some row has the value of the pair in its column, and only present entries.
     pub(crate) fn is_given(&self, store: &DomainStore, pair: &Pair) -> bool
         requires indexed { IsIndexed self.now }
         requires declared { All (λ x. x < length store.now) self.now.vars }
+        requires over { Contains self.now.vars pair.now.var }
+        requires present { Has (present_of store.now) pair.now.var pair.now.value }
         ensures { result ≡ list_any (is_support_row (present_of store.now) self.now.vars pair.now.var pair.now.value) self.now.rows }
     {
-        for place in self.places(pair) {
-            if are_present(store, self.vars.as_slice(), self.row(*place)) {
+        if self.vars.len() == 2 {
+            let own = column_of_two(self.vars.as_slice(), &pair.var);
+            return self.is_given_by_two(store, own, pair);
+        }
+        match column_of(self.vars.as_slice(), &pair.var) {
+            Some(own) => self.is_given_by_many(store, own, pair),
+            None => unreachable!(),
+        }
+    }
+
+    /// The same of a table of two columns: whether some row has the value, and a present entry beside it.
+    fn is_given_by_two(&self, store: &DomainStore, own: usize, pair: &Pair) -> bool
+        requires indexed { IsIndexed self.now }
+        requires declared { All (λ x. x < length store.now) self.now.vars }
+        requires present { Has (present_of store.now) pair.now.var pair.now.value }
+        requires own { slice_get self.now.vars own ≡ Some pair.now.var }
+        requires two { length self.now.vars ≡ 2 }
+        ensures { result ≡ list_any (is_support_row (present_of store.now) self.now.vars pair.now.var pair.now.value) self.now.rows }
+    {
+        let var = self.vars.as_slice()[1 - own];
+        let entries = self.columns[1 - own].values();
+        for place in self.places(own, pair) {
+            if store.contains(Pair {
+                var,
+                value: entries[*place],
+            }) {
                 return true;
             }
         }
         false
     }
 
-    /// The row at the place.
-    fn row(&self, place: usize) -> &[Value]
-        requires { place < length self.now.rows }
-        ensures { result.now ≡ row_at self.now.rows place }
-    {
-        self.rows.as_slice()[place].as_slice()
-    }
-
-    /// Whether the entry of `at` is the first removed one of some row that could have given the value of `pair`. It
-    /// looks at the rows that have the entry.
-    fn is_blocking(&self, store: &DomainStore, pair: &Pair, at: &Pair) -> bool
+    /// The same of a table of any number of columns.
+    fn is_given_by_many(&self, store: &DomainStore, own: usize, pair: &Pair) -> bool
         requires indexed { IsIndexed self.now }
         requires declared { All (λ x. x < length store.now) self.now.vars }
+        requires present { Has (present_of store.now) pair.now.var pair.now.value }
+        requires own { slice_get self.now.vars own ≡ Some pair.now.var }
+        ensures { result ≡ list_any (is_support_row (present_of store.now) self.now.vars pair.now.var pair.now.value) self.now.rows }
+    {
+        for place in self.places(own, pair) {
+            if self.are_present(store, own, *place) {
+                return true;
+            }
+        }
+        false
+    }
+
+    /// Whether the entry of `at`, in the column `end`, is the first removed one of some row that could have given the
+    /// value of `pair`. It looks at the rows that have the entry.
+    fn is_blocking(
+        &self,
+        store: &DomainStore,
+        own: usize,
+        pair: &Pair,
+        end: usize,
+        at: &Pair,
+    ) -> bool
+        requires indexed { IsIndexed self.now }
+        requires declared { All (λ x. x < length store.now) self.now.vars }
+        requires own { slice_get self.now.vars own ≡ Some pair.now.var }
+        requires given { Has (initial_of store.now) pair.now.var pair.now.value }
+        requires present { Has (present_of store.now) pair.now.var pair.now.value }
+        requires end { slice_get self.now.vars end ≡ Some at.now.var }
+        requires missing { Has (present_of store.now) at.now.var at.now.value → ⊥ }
         ensures { result ≡ list_any (is_blocked_at (initial_of store.now) (present_of store.now) self.now.vars pair.now.var pair.now.value at.now.var at.now.value) self.now.rows }
     {
-        for place in self.places(at) {
-            if is_blocked_at(store, self.vars.as_slice(), self.row(*place), pair, at) {
+        for place in self.places(end, at) {
+            if self.is_blocked_at(store, own, pair, end, at, *place) {
                 return true;
             }
         }
         false
     }
 
-    /// Whether the value of the variable is removed, and the first such entry of some row that could have given the value
-    /// of `pair`.
-    fn blocks(&self, store: &DomainStore, pair: &Pair, var: &Var, value: &Value) -> bool
+    /// Whether the value is removed from the variable of the column `end`, and the first such entry of some row that
+    /// could have given the value of `pair`.
+    fn blocks(&self, store: &DomainStore, own: usize, pair: &Pair, end: usize, at: &Pair) -> bool
         requires indexed { IsIndexed self.now }
         requires declared { All (λ x. x < length store.now) self.now.vars }
-        requires known { var.now < length store.now }
-        ensures { result ≡ is_blocker (initial_of store.now) (present_of store.now) self.now.vars self.now.rows pair.now.var pair.now.value var.now value.now }
+        requires own { slice_get self.now.vars own ≡ Some pair.now.var }
+        requires given { Has (initial_of store.now) pair.now.var pair.now.value }
+        requires present { Has (present_of store.now) pair.now.var pair.now.value }
+        requires end { slice_get self.now.vars end ≡ Some at.now.var }
+        ensures { result ≡ is_blocker (initial_of store.now) (present_of store.now) self.now.vars self.now.rows pair.now.var pair.now.value at.now.var at.now.value }
     {
-        let at = Pair {
-            var: *var,
-            value: *value,
-        };
-        is_missing(store, *var, value) && self.is_blocking(store, pair, &at)
+        is_missing(store, at.var, &at.value) && self.is_blocking(store, own, pair, end, at)
     }
 
-    /// Appends every removed pair of the variable that blocks a row with the value of `pair`.
+    /// Appends every removed pair of the variable, in the column `end`, that blocks a row with the value of `pair`.
     fn push_blocking(
         &self,
         store: &DomainStore,
+        own: usize,
         pair: &Pair,
+        end: usize,
         var: &Var,
         out: &mut Reasons,
     ) -> Result<(), NoMemory>
         requires indexed { IsIndexed self.now }
         requires declared { All (λ x. x < length store.now) self.now.vars }
+        requires own { slice_get self.now.vars own ≡ Some pair.now.var }
+        requires given { Has (initial_of store.now) pair.now.var pair.now.value }
+        requires present { Has (present_of store.now) pair.now.var pair.now.value }
+        requires end { slice_get self.now.vars end ≡ Some var.now }
         requires known { var.now < length store.now }
         ensures { OnOk result (out.new.items ≡ out.old.items ++ pairs_of var.now (blocking_values (initial_of store.now) (present_of store.now) self.now.vars self.now.rows pair.now.var pair.now.value var.now)) }
     {
         push_passing(
             store.initial_values(*var),
             *var,
-            |value| self.blocks(store, pair, var, value),
+            |value| {
+                let at = Pair {
+                    var: *var,
+                    value: *value,
+                };
+                self.blocks(store, own, pair, end, &at)
+            },
             out,
         )
     }
@@ -170,11 +234,17 @@ impl IndexedTable {
     ) -> Result<(), NoMemory>
         requires indexed { IsIndexed self.now }
         requires declared { All (λ x. x < length store.now) self.now.vars }
+        requires given { Has (initial_of store.now) pair.now.var pair.now.value }
+        requires present { Has (present_of store.now) pair.now.var pair.now.value }
+        requires over { Contains self.now.vars pair.now.var }
         ensures { OnOk result (out.new.items ≡ out.old.items ++ table_reason (initial_of store.now) (present_of store.now) self.now.vars self.now.rows pair.now.var pair.now.value) }
     {
-        for var in self.vars.as_slice() {
+        let Some(own) = column_of(self.vars.as_slice(), &pair.var) else {
+            unreachable!();
+        };
+        for (end, var) in self.vars.as_slice().iter().enumerate() {
             if *var != pair.var {
-                self.push_blocking(store, pair, var, out)?;
+                self.push_blocking(store, own, pair, end, var, out)?;
             }
         }
         Ok(())

@@ -1,109 +1,120 @@
 //! One row of a table, against the values of a store.
-ghost use Rattle.std.specs.Prelude.{◌≡◌, ◌<◌, ◌&&◌, [], ◌∷◌, length, nat_eq, All, MatchOption};
-ghost use Rattle.std.specs.Ordering.{int_eq};
+ghost use Rattle.std.specs.Prelude.{◌≡◌, ◌<◌, pos, length, true, All, slice_get, slice_index_or, Some};
+ghost use Rattle.filter_table.specs.Table.{HasEntry, IsIndexed, entry_at, row_at};
 ghost use Rattle.palm_domain.specs.Rows.{initial_of, present_of};
-ghost use Rattle.palm_model.specs.Domains.{is_among};
+ghost use Rattle.palm_model.specs.Domains.{Has, is_among};
 ghost use Rattle.palm_model.specs.Table.{are_there, first_missing, is_blocked_at, row_pairs};
 
-use palm_base::{Pair, Value, Var};
+use crate::indexed::IndexedTable;
+use palm_base::{Pair, Value};
 use palm_domain::DomainStore;
 
-/// Whether the row has the value of the pair in the column of its variable.
-pub(crate) fn has_pair(vars: &[Var], row: &[Value], pair: &Pair) -> bool
-    requires { length row.now ≡ length vars.now }
-    ensures { result ≡ is_among (row_pairs vars.now row.now) pair.now.var pair.now.value }
-{
-    for (column, var) in vars.iter().enumerate() {
-        if is_pair(var, &row[column], pair) {
-            return true;
+impl IndexedTable {
+    /// The entry of the row at the place in a column.
+    #[inline(always)]
+    fn entry(&self, column: usize, place: usize) -> Value
+        requires indexed { IsIndexed self.now }
+        requires column { column < length self.now.vars }
+        requires place { place < length self.now.rows }
+        ensures { result ≡ slice_index_or (row_at self.now.rows place) column (pos 0) }
+    {
+        self.columns[column].values()[place]
+    }
+
+    /// The entry with the variable of its column.
+    #[inline(always)]
+    fn pair_at(&self, column: usize, place: usize) -> Pair
+        requires indexed { IsIndexed self.now }
+        requires column { column < length self.now.vars }
+        requires place { place < length self.now.rows }
+        ensures { result ≡ entry_at self.now.vars (row_at self.now.rows place) column }
+    {
+        Pair {
+            var: self.vars.as_slice()[column],
+            value: self.entry(column, place),
         }
     }
-    false
-}
 
-fn is_pair(var: &Var, value: &Value, pair: &Pair) -> bool
-    ensures { result ≡ (nat_eq var.now pair.now.var && int_eq value.now pair.now.value) }
-{
-    *var == pair.var && *value == pair.value
-}
+    /// Whether every entry of the row is present, where that in the column `own` is.
+    pub(crate) fn are_present(&self, store: &DomainStore, own: usize, place: usize) -> bool
+        requires indexed { IsIndexed self.now }
+        requires declared { All (λ x. x < length store.now) self.now.vars }
+        requires place { place < length self.now.rows }
+        requires own { HasEntry (present_of store.now) self.now.vars (row_at self.now.rows place) own }
+        ensures { result ≡ are_there (present_of store.now) (row_pairs self.now.vars (row_at self.now.rows place)) }
+    {
+        for column in 0..self.vars.len() {
+            if column != own && !store.contains(self.pair_at(column, place)) {
+                return false;
+            }
+        }
+        true
+    }
 
-/// Whether every entry of the row is declared.
-pub(crate) fn are_declared(store: &DomainStore, vars: &[Var], row: &[Value]) -> bool
-    requires declared { All (λ x. x < length store.now) vars.now }
-    requires long { length row.now ≡ length vars.now }
-    ensures { result ≡ are_there (initial_of store.now) (row_pairs vars.now row.now) }
-{
-    for (column, var) in vars.iter().enumerate() {
-        if !store.declared(Pair {
-            var: *var,
-            value: row[column],
-        }) {
+    /// Whether every entry of the row is declared, where that in the column `own` is.
+    #[inline(never)]
+    fn are_declared(&self, store: &DomainStore, own: usize, place: usize) -> bool
+        requires indexed { IsIndexed self.now }
+        requires declared { All (λ x. x < length store.now) self.now.vars }
+        requires place { place < length self.now.rows }
+        requires own { HasEntry (initial_of store.now) self.now.vars (row_at self.now.rows place) own }
+        ensures { result ≡ are_there (initial_of store.now) (row_pairs self.now.vars (row_at self.now.rows place)) }
+    {
+        for column in 0..self.vars.len() {
+            if column != own && !store.declared(self.pair_at(column, place)) {
+                return false;
+            }
+        }
+        true
+    }
+
+    /// Whether the entry in the column `end` is the first of the row that is not present, where it is not present and
+    /// that in the column `own` is.
+    #[inline(never)]
+    fn are_present_before(&self, store: &DomainStore, own: usize, end: usize, place: usize) -> bool
+        requires indexed { IsIndexed self.now }
+        requires declared { All (λ x. x < length store.now) self.now.vars }
+        requires place { place < length self.now.rows }
+        requires own { HasEntry (present_of store.now) self.now.vars (row_at self.now.rows place) own }
+        requires end { end < length self.now.vars }
+        requires missing { HasEntry (present_of store.now) self.now.vars (row_at self.now.rows place) end → ⊥ }
+        ensures { result ≡ is_among (first_missing (present_of store.now) (row_pairs self.now.vars (row_at self.now.rows place)))
+            (slice_index_or self.now.vars end 0) (slice_index_or (row_at self.now.rows place) end (pos 0)) }
+    {
+        for column in 0..end {
+            if column != own && !store.contains(self.pair_at(column, place)) {
+                return false;
+            }
+        }
+        true
+    }
+
+    /// Whether the row, which has the value of `at` in the column `end`, could have given the value of `pair` in the
+    /// column `own`, and the first of its entries that is removed is that of `at`.
+    #[inline(always)]
+    pub(crate) fn is_blocked_at(
+        &self,
+        store: &DomainStore,
+        own: usize,
+        pair: &Pair,
+        end: usize,
+        at: &Pair,
+        place: usize,
+    ) -> bool
+        requires indexed { IsIndexed self.now }
+        requires declared { All (λ x. x < length store.now) self.now.vars }
+        requires place { place < length self.now.rows }
+        requires own { slice_get self.now.vars own ≡ Some pair.now.var }
+        requires given { Has (initial_of store.now) pair.now.var pair.now.value }
+        requires present { Has (present_of store.now) pair.now.var pair.now.value }
+        requires end { slice_get self.now.vars end ≡ Some at.now.var }
+        requires missing { Has (present_of store.now) at.now.var at.now.value → ⊥ }
+        requires stands { is_among (row_pairs self.now.vars (row_at self.now.rows place)) at.now.var at.now.value ≡ true }
+        ensures { result ≡ is_blocked_at (initial_of store.now) (present_of store.now) self.now.vars pair.now.var pair.now.value at.now.var at.now.value (row_at self.now.rows place) }
+    {
+        if self.entry(own, place) != pair.value {
             return false;
         }
+        self.are_declared(store, own, place) && self.are_present_before(store, own, end, place)
     }
-    true
-}
-
-/// The first entry of the row that is not present.
-pub(crate) fn first_missing(store: &DomainStore, vars: &[Var], row: &[Value]) -> Option<Pair>
-    requires declared { All (λ x. x < length store.now) vars.now }
-    requires long { length row.now ≡ length vars.now }
-    ensures { MatchOption result
-        (first_missing (present_of store.now) (row_pairs vars.now row.now) ≡ [])
-        (λ pair. first_missing (present_of store.now) (row_pairs vars.now row.now) ≡ pair ∷ []) }
-{
-    for (column, var) in vars.iter().enumerate() {
-        let value = &row[column];
-        if !store.contains(Pair {
-            var: *var,
-            value: *value,
-        }) {
-            return Some(Pair {
-                var: *var,
-                value: *value,
-            });
-        }
-    }
-    None
-}
-
-/// Whether every entry of the row is present.
-pub(crate) fn are_present(store: &DomainStore, vars: &[Var], row: &[Value]) -> bool
-    requires declared { All (λ x. x < length store.now) vars.now }
-    requires long { length row.now ≡ length vars.now }
-    ensures { result ≡ are_there (present_of store.now) (row_pairs vars.now row.now) }
-{
-    match first_missing(store, vars, row) {
-        Some(_) => false,
-        None => true,
-    }
-}
-
-/// Whether the first entry of the row that is not present is that of the pair.
-fn is_first_missing(store: &DomainStore, vars: &[Var], row: &[Value], pair: &Pair) -> bool
-    requires declared { All (λ x. x < length store.now) vars.now }
-    requires long { length row.now ≡ length vars.now }
-    ensures { result ≡ is_among (first_missing (present_of store.now) (row_pairs vars.now row.now)) pair.now.var pair.now.value }
-{
-    match first_missing(store, vars, row) {
-        Some(missing) => is_pair(&missing.var, &missing.value, pair),
-        None => false,
-    }
-}
-
-/// Whether the row could have given the value of `pair`, and the first of its entries that is removed is that of `at`.
-pub(crate) fn is_blocked_at(
-    store: &DomainStore,
-    vars: &[Var],
-    row: &[Value],
-    pair: &Pair,
-    at: &Pair,
-) -> bool
-    requires declared { All (λ x. x < length store.now) vars.now }
-    requires long { length row.now ≡ length vars.now }
-    ensures { result ≡ is_blocked_at (initial_of store.now) (present_of store.now) vars.now pair.now.var pair.now.value at.now.var at.now.value row.now }
-{
-    has_pair(vars, row, pair)
-        && are_declared(store, vars, row)
-        && is_first_missing(store, vars, row, at)
 }

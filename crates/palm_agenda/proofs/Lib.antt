@@ -2,3 +2,4 @@ pub mod CidLists
 pub mod cited
 pub mod Flagged
 pub mod Rows
+pub mod Woken

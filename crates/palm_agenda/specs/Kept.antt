@@ -1,7 +1,7 @@
 -- What an agenda keeps beside what it shows.
-use Rattle.std.specs.Prelude.{◌≡◌, ℕ, ◌≤◌, ◌↔◌, ⊤, Bool, true, false, List, length, Contains}
+use Rattle.std.specs.Prelude.{◌≡◌, ℕ, ◌≤◌, ◌↔◌, ⊤, Bool, true, false, Option, None, Some, List, map, length, Contains}
 use Rattle.palm_base.specs.declared.terms.Cid.{Cid}
-use Rattle.palm_agenda.specs.Agenda.{Connected, IsFormed, IsOver, connected_cids}
+use Rattle.palm_agenda.specs.Agenda.{Connected, IsFormed, IsOver, connected_cids, mark_others}
 use Rattle.palm_agenda.specs.Flags.{flagged}
 use Rattle.palm_agenda.specs.Cids.{Roomy, cids_at}
 
@@ -17,3 +17,8 @@ pub record IsAgenda (connected : List Connected) (over : List Roomy) (flags : Li
 abbrev pub IsShown : Bool → List Cid → List Cid → Type 0
 IsShown false shown pending = ⊤
 IsShown true shown pending = shown ≡ pending
+
+-- waking the variable changes nothing, where one is noted: the other places of each constraint over it are marked, and it is pending
+abbrev pub IsWoken : Option ℕ → List Connected → List Cid → Type 0
+IsWoken None connected pending = ⊤
+IsWoken (Some x) connected pending = (map (mark_others x) connected ≡ connected) × ((c : Cid) → IsOver connected x c → Contains pending c)

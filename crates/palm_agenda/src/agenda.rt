@@ -1,5 +1,5 @@
 //! The connected constraints, and those of them that wait to be revised.
-ghost use Rattle.std.specs.Prelude.{◌≡◌, ℕ, ◌<◌, ◌≤◌, ◌↔◌, ◌⊎◌, [], ◌∷◌, ◌++◌, length, map, false, Contains, MatchOption, IfSome, IfNone, IsSomeAnd, Some, OnOk, OnErr, is_some, slice_get, vec_capacity};
+ghost use Rattle.std.specs.Prelude.{◌≡◌, ℕ, ◌<◌, ◌≤◌, ◌↔◌, ◌⊎◌, [], ◌∷◌, ◌++◌, length, map, true, false, Contains, MatchOption, IfSome, IfNone, IsSomeAnd, Some, OnOk, OnErr, is_some, slice_get, vec_capacity};
 ghost use Rattle.std.specs.List.{AllWithin};
 ghost use Rattle.palm_base.specs.Tells.{Tells};
 ghost use Rattle.palm_base.specs.declared.terms.Cid.{Cid as CidTerm};
@@ -22,7 +22,8 @@ use std::marker::Model;
 
 /// The connected constraints by rising id, a flag for each of them that is raised where it is pending, and the ids of
 /// the constraints over each variable. There is room for every id among those that an order is shown; where it is noted so
-/// they are those that are pending. The place of the constraint that was taken last is where one is looked for first.
+/// they are those that are pending. The place of the constraint that was taken last is where one is looked for first. The variable of
+/// which a value was taken out last is known while nothing was taken or unmarked since: waking it again changes nothing.
 #[derive(Debug, Drop)]
 pub struct Agenda {
     connections: Vec<Connection>,
@@ -30,6 +31,7 @@ pub struct Agenda {
     over: Vec<Cids>,
     shown: Vec<Cid>,
     is_shown: bool,
+    woken: Option<Var>,
     near: usize,
 }
 
@@ -37,14 +39,15 @@ impl Model for Agenda {
     ghost use Rattle.std.specs.Prelude.{vec_capacity};
     ghost use Rattle.palm_agenda.specs.Agenda.{Waiting, connected_cids};
     ghost use Rattle.palm_agenda.specs.Flags.{flagged};
-    ghost use Rattle.palm_agenda.specs.Kept.{IsAgenda, IsShown};
+    ghost use Rattle.palm_agenda.specs.Kept.{IsAgenda, IsShown, IsWoken};
 
     ghost Value = { Waiting };
 
     ghost view = { λ a. record { connected = a.connections.items; pending = flagged (connected_cids a.connections.items) a.pending.flags } };
 
     ghost invariant = { λ a. IsAgenda a.connections.items a.over.items a.pending.flags (vec_capacity a.shown)
-        × IsShown a.is_shown a.shown.items (flagged (connected_cids a.connections.items) a.pending.flags) };
+        × IsShown a.is_shown a.shown.items (flagged (connected_cids a.connections.items) a.pending.flags)
+        × IsWoken a.woken a.connections.items (flagged (connected_cids a.connections.items) a.pending.flags) };
 }
 
 /// How many of the connected constraints have ids that come before this one, which is looked for at `near` first.
@@ -83,6 +86,16 @@ fn wake_named(
     connection.mark(places, var);
     pending.raise(place);
     *near = place;
+}
+
+/// Whether the variable is the one that is noted.
+fn is_noted(woken: &Option<Var>, var: &Var) -> bool
+    ensures { result ≡ true → woken.now ≡ Some var.now }
+{
+    match woken {
+        Some(noted) => noted == var,
+        None => false,
+    }
 }
 
 /// Makes each of the constraints pending, and marks these places of it, as seen from the variable.
@@ -219,6 +232,7 @@ impl Agenda {
             over: Vec::new(alloc),
             shown: Vec::new(alloc),
             is_shown: false,
+            woken: None,
             near: 0,
         }
     }
@@ -232,6 +246,7 @@ impl Agenda {
         ensures err { OnErr result (self.new ≡ self.old) }
     {
         self.is_shown = false;
+        self.woken = None;
         let count = self.connections.len() + 1;
         make_room_for(
             &mut self.over,
@@ -256,6 +271,7 @@ impl Agenda {
         ensures pending { self.new.pending ≡ without_cid cid self.old.pending }
     {
         self.is_shown = false;
+        self.woken = None;
         let place = place_of(&self.connections, &cid);
         let connection = self.connections.remove(place);
         self.pending.remove(place);
@@ -269,7 +285,11 @@ impl Agenda {
         ensures pending { (c : CidTerm) → Contains self.new.pending c ↔ (Contains self.old.pending c ⊎ IsOver self.old.connected var c) }
         ensures formed { IsFormed self.new }
     {
+        if is_noted(&self.woken, &var) {
+            return;
+        }
         self.is_shown = false;
+        self.woken = Some(var);
         let cids = cids_over(&self.over, &var);
         wake_each(
             &mut self.connections,
@@ -288,6 +308,7 @@ impl Agenda {
         ensures formed { IsFormed self.new }
     {
         self.is_shown = false;
+        self.woken = None;
         let cids = cids_over(&self.over, &var);
         wake_each(
             &mut self.connections,
@@ -306,6 +327,7 @@ impl Agenda {
         ensures formed { IsFormed self.new }
     {
         self.is_shown = false;
+        self.woken = None;
         let place = place_near(&self.connections, self.near, &cid);
         self.pending.raise(place);
     }
@@ -334,6 +356,7 @@ impl Agenda {
         ensures connected { self.new.connected ≡ map (changed_at cid (unmarked place)) self.old.connected }
         ensures pending { self.new.pending ≡ self.old.pending }
     {
+        self.woken = None;
         unmark_named(&mut self.connections, self.near, &cid, place);
     }
 
@@ -371,6 +394,7 @@ impl Agenda {
     {
         let place = self.pending.lower_first()?;
         self.is_shown = false;
+        self.woken = None;
         self.near = place;
         Some(cid_at(&self.connections, place))
     }
@@ -400,6 +424,7 @@ impl Agenda {
         let place = place_of(&self.connections, &cid);
         self.pending.lower(place);
         self.is_shown = true;
+        self.woken = None;
         self.near = place;
         Some(cid)
     }

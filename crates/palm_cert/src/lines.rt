@@ -1,6 +1,5 @@
 //! The lines of a certificate at the end of what was written. Want of memory may leave a part of one there.
 ghost use Rattle.std.specs.Prelude.{◌≡◌, ◌<◌, ◌++◌, All, codes, decimal, length, map, OnOk};
-ghost use Rattle.std.specs.Fmt.{signed_decimal};
 ghost use Rattle.palm_book.specs.Book.{HasNumber, number_name};
 ghost use Rattle.palm_cert.specs.Certificate.{added_line, claim_line, claim_var, from_words, header_line, step_words};
 ghost use Rattle.palm_lang.specs.Reply.{ended};

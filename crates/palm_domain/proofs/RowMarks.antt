@@ -5,7 +5,7 @@ use Rattle.std.proofs.lemmas.Bool.{cases_lt, cases_eq, both_ways, not-true, not-
 use Rattle.std.proofs.lemmas.List.{get_or_default}
 use Rattle.std.proofs.lemmas.Option.{slice_get_within, get_or_from_slice_get, slice_get-get_or}
 use Rattle.palm_base.proofs.cited.Members.{member_same}
-use Rattle.palm_domain.specs.Rows.{Row, Ascends, IsFormed, IsLeastOf, IsGreatestOf, IsNextFrom, IsNextRemovedFrom}
+use Rattle.palm_domain.specs.Rows.{Row, Ascends, IsFormed, IsLeastOf, IsGreatestOf, IsLastBefore, IsNextFrom, IsNextRemovedFrom}
 use Rattle.palm_domain.specs.Places.{IsPlaceFrom}
 use Rattle.palm_domain.specs.Marks.{AreMarks, kept}
 use Rattle.palm_domain.proofs.cited.Ascending.{get_or-ascends, get_or-rises, same_place, place_below}
@@ -161,6 +161,25 @@ module _ (m : ℕ → Bool) (xs : List ℤ) (count first end : ℕ) (marks : Are
   next_none low place from none w h =
       let r = kept_member m xs w h in
       ⊎_elim (λ below. omega (arith, ints, from.below r.0 w below, r.2)) (λ ge. absurd (both_ways (m r.0) (none r.0 ge (end_gt r.0 r.3)) r.3)) (cases_lt r.0 place)
+
+  -- the last marked place below that of a value
+  pub last_is : (high read : ℤ) (place found : ℕ) → IsPlaceFrom xs high place → found ≤ place → 0 < found → m (found - 1) ≡ true → ((k : ℕ) → found ≤ k → k < place → m k ≡ false) → read ≡ get_or xs (found - 1) read → IsLastBefore (kept m 0 xs) high read
+  last_is high read place found from within some mark between is =
+      let l : found - 1 < length xs = omega (arith, some, within, from.within) in
+      record {
+        member = member_same (kept m 0 xs) (get_or xs (found - 1) read) read (sym is) (member_kept m xs (found - 1) read l mark);
+        below = omega (arith, ints, from.below (found - 1) read (omega (arith, some, within)), is);
+        greatest = λ w h lt.
+            let r = kept_member m xs w h in
+            let early : r.0 < place = ⊎_elim (λ b. b) (λ ge. absurd (omega (arith, ints, from.above r.0 w ge r.1, r.2, lt))) (cases_lt r.0 place) in
+            let before : r.0 < found = ⊎_elim (λ b. b) (λ ge. absurd (both_ways (m r.0) (between r.0 ge early) r.3)) (cases_lt r.0 found) in
+            omega (arith, ints, get_or-rises xs marks.ascends r.0 (found - 1) w read (omega (arith, before)) l, is, r.2);
+      }
+
+  pub last_none : (high : ℤ) (place : ℕ) → IsPlaceFrom xs high place → ((k : ℕ) → 0 ≤ k → k < place → m k ≡ false) → (w : ℤ) → Contains (kept m 0 xs) w → high ≤ℤ w
+  last_none high place from none w h =
+      let r = kept_member m xs w h in
+      ⊎_elim (λ below. absurd (both_ways (m r.0) (none r.0 (omega arith) below) r.3)) (λ ge. omega (arith, ints, from.above r.0 w ge r.1, r.2)) (cases_lt r.0 place)
 
   pub next_removed_is : (n : ℕ → Bool) → ((k : ℕ) → k < 256 → n k ≡ not (m k)) → (low read : ℤ) (place found : ℕ) → IsPlaceFrom xs low place → place ≤ found → found < length xs → n found ≡ true → ((k : ℕ) → place ≤ k → k < found → n k ≡ false) → read ≡ get_or xs found read → IsNextRemovedFrom xs (kept m 0 xs) low read
   next_removed_is n flips low read place found from above l mark between is =

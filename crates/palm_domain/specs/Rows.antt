@@ -56,6 +56,12 @@ pub record IsNextFrom (vs : List ℤ) (low v : ℤ) : Type 0 where
   pub from : low ≤ℤ v
   pub least : (w : ℤ) → Contains vs w → low ≤ℤ w → v ≤ℤ w
 
+-- the highest of the values below `high`
+pub record IsLastBefore (vs : List ℤ) (high v : ℤ) : Type 0 where
+  pub member : Contains vs v
+  pub below : v <ℤ high
+  pub greatest : (w : ℤ) → Contains vs w → w <ℤ high → w ≤ℤ v
+
 -- the lowest of the declared values from `low` on that is not present
 pub record IsNextRemovedFrom (initial present : List ℤ) (low v : ℤ) : Type 0 where
   pub declared : Contains initial v

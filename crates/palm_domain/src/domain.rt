@@ -1,7 +1,7 @@
 //! The values of one variable.
 ghost use Rattle.std.specs.Prelude.{◌≡◌, ℤ, pos, ◌+ℤ◌, ◌<◌, ◌≤◌, ◌<ℤ◌, ◌≤ℤ◌, length, Contains, IfOk, MatchOption};
 ghost use Rattle.palm_base.specs.Tells.{Tells};
-ghost use Rattle.palm_domain.specs.Rows.{Ascends, IsFormed, IsGreatestOf, IsLeastOf, IsNextFrom, IsNextRemovedFrom, values_with, values_without};
+ghost use Rattle.palm_domain.specs.Rows.{Ascends, IsFormed, IsGreatestOf, IsLastBefore, IsLeastOf, IsNextFrom, IsNextRemovedFrom, values_with, values_without};
 
 use crate::limits::MOST_VALUES;
 use crate::marks::Marks;
@@ -129,6 +129,21 @@ impl Domain {
         let from = place_after(&self.initial, value);
         let place = self.marks.next_set(from, usize::from(self.end))?;
         Some(self.initial[place])
+    }
+
+    /// The greatest present value below `value`.
+    pub(crate) fn last_before(&self, value: Value) -> Option<Value>
+        ensures { MatchOption result
+            ((w : ℤ) → Contains self.now.present w → value ≤ℤ w)
+            (IsLastBefore self.now.present value) }
+    {
+        let before = place_from(&self.initial, value);
+        let end = self.marks.end_below(before);
+        if end == 0 {
+            None
+        } else {
+            Some(self.initial[end - 1])
+        }
     }
 
     /// The least declared value that is not present and is at least `value`.

@@ -1,7 +1,7 @@
 //! The domains of all variables.
 ghost use Rattle.std.specs.Prelude.{◌≡◌, ℕ, ℤ, pos, ◌+ℤ◌, ◌+◌, ◌-◌, ◌^◌, ◌<◌, ◌≤◌, ◌<ℤ◌, ◌≤ℤ◌, [], ◌∷◌, ◌++◌, length, All, Contains, IfOk, OnOk, OnErr, MatchOption, slice_set};
 ghost use Rattle.palm_base.specs.Tells.{Tells};
-ghost use Rattle.palm_domain.specs.Rows.{Ascends, GainsPair, IsDeclared, IsGreatestOf, IsLeastOf, IsNextFrom, IsNextRemovedFrom, IsPresent, LosesPair, declared_values, initial_of, present_of, present_values, values_with, values_without};
+ghost use Rattle.palm_domain.specs.Rows.{Ascends, GainsPair, IsDeclared, IsGreatestOf, IsLastBefore, IsLeastOf, IsNextFrom, IsNextRemovedFrom, IsPresent, LosesPair, declared_values, initial_of, present_of, present_values, values_with, values_without};
 
 use crate::domain::Domain;
 use crate::limits::MOST_VALUES;
@@ -146,6 +146,16 @@ impl DomainStore {
             (IsNextFrom (present_values self.now var) (value +ℤ pos 1)) }
     {
         self.domain(var).next_after(value)
+    }
+
+    /// The greatest present value below `value`: the next one of a walk downwards.
+    pub fn last_before(&self, var: Var, value: Value) -> Option<Value>
+        requires { var < length self.now }
+        ensures { MatchOption result
+            ((w : ℤ) → IsPresent self.now var w → value ≤ℤ w)
+            (IsLastBefore (present_values self.now var) value) }
+    {
+        self.domain(var).last_before(value)
     }
 
     /// The least declared value that is not present and is at least `value`.

@@ -1,5 +1,5 @@
 -- The values of a variable below a bound, and those from it on: how a walk over the present values covers the declared ones.
-use Rattle.std.proofs.Common.{◌≡◌, ℕ, ◌+◌, ℤ, pos, ◌+ℤ◌, ◌<◌, ◌<ℤ◌, ◌≤ℤ◌, not, Option, Some, None, MatchOption, List, [], ◌∷◌, ◌++◌, length, filter, Contains, inl, inr, sym, ap, ◌∙◌, subst, arith, int_lt}
+use Rattle.std.proofs.Common.{◌≡◌, ℕ, ◌+◌, ℤ, pos, ◌+ℤ◌, ◌<◌, ◌<ℤ◌, ◌≤ℤ◌, not, Option, Some, None, IfSome, MatchOption, List, [], ◌∷◌, ◌++◌, length, Contains, inl, inr, sym, ap, ◌∙◌, subst, arith, int_lt}
 use Rattle.std.proofs.lemmas.Int.{ints}
 use Rattle.std.proofs.lemmas.Bool.{cases_Bool, not-true}
 use Rattle.std.proofs.lemmas.List.{map-append}
@@ -15,22 +15,11 @@ use Rattle.palm_model.proofs.cited.Without.{pair_of}
 use Rattle.palm_domain.specs.Rows.{IsLeastOf, IsNextFrom}
 use Rattle.palm_domain.proofs.cited.Ascending.{Ascends-cons, first_below, same_ascending}
 use Rattle.palm_domain.proofs.cited.Comparisons.{lt_from_int_lt, ge_from_int_lt, int_lt_from_lt, int_lt_from_ge}
+use Rattle.palm_model.specs.Support.{IsSupported}
+pub use Rattle.palm_engine.specs.Advancing.{IsBefore, values_below, values_from, values_before}
 use Rattle.palm_engine.specs.Settling.{Walks}
 use Rattle.palm_engine.proofs.Counting.{length_filter_lt}
 use Rattle.palm_engine.proofs.Joined.{walk_then, walk_then_none, walk_past}
-
--- the values below the bound
-abbrev pub values_below : ℤ → List ℤ → List ℤ
-values_below low vs = filter (λ v. int_lt v low) vs
-
--- the values from the bound on
-abbrev pub values_from : ℤ → List ℤ → List ℤ
-values_from low vs = filter (λ v. not (int_lt v low)) vs
-
--- the values before the next one, or all
-abbrev pub values_before : Option ℤ → List ℤ → List ℤ
-values_before (Some v) vs = values_below v vs
-values_before None vs = vs
 
 -- how many values are left from the next one on
 abbrev pub left_from : Option ℤ → List ℤ → ℕ
@@ -135,6 +124,12 @@ absent_past a x vs s absent = walk_past a (pairs_of x vs) s (λ p m has.
     let r = member_unmap (λ v. pair_of x v) vs p m in
     absurd (absent r.0 r.1 (subst (λ (q : Pair). Has (present s) q.var q.value) (sym r.2) has)))
 
+-- and those that have support
+pub supported_past : (a : Active) (x : ℕ) (vs : List ℤ) (s : EngineState) → ((v : ℤ) → Contains vs v → Has (present s) x v → IsSupported (present s) a.con x v) → Walks a (pairs_of x vs) s 0 s
+supported_past a x vs s supported = walk_past a (pairs_of x vs) s (λ p m has.
+    let r = member_unmap (λ v. pair_of x v) vs p m in
+    subst (λ (q : Pair). IsSupported (present s) a.con q.var q.value) r.2 (supported r.0 r.1 (subst (λ (q : Pair). Has (present s) q.var q.value) (sym r.2) has)))
+
 -- what is known of the next present value from the bound on
 abbrev pub IsNextAt : Option ℤ → List ℤ → ℤ → Type 0
 IsNextAt next vs low = MatchOption next ((w : ℤ) → Contains vs w → w <ℤ low) (IsNextFrom vs low)
@@ -155,6 +150,21 @@ walk_next a x s n t vs low None ascends walk none =
     let lt = none w has in
     let ge = (from_of low vs w m).1 in
     absurd (omega (arith, ints, lt, ge))) in
+    let both = walk_then_none a (pairs_of x (values_below low vs)) s n t (pairs_of x (values_from low vs)) walk rest in
+    subst (λ ps. Walks a ps s n t) (sym (pairs_both x (values_below low vs) (values_from low vs)) ∙ ap (pairs_of x) (below_from low vs ascends)) both
+
+-- and to any later one where those between have support
+pub walk_on : (a : Active) (x : ℕ) (s : EngineState) (n : ℕ) (t : EngineState) (vs : List ℤ) (low : ℤ) (next : Option ℤ) → Ascends vs → IfSome next (λ v. low ≤ℤ v)
+    → Walks a (pairs_of x (values_below low vs)) s n t → ((v : ℤ) → low ≤ℤ v → IsBefore next v → Has (present t) x v → IsSupported (present t) a.con x v)
+    → Walks a (pairs_of x (values_before next vs)) s n t
+walk_on a x s n t vs low (Some v) ascends le walk supported =
+    let rest = supported_past a x (values_between low v vs) t (λ w m has.
+    let r = below_of v (values_from low vs) w m in
+    supported w (from_of low vs w r.0).1 r.1 has) in
+    let both = walk_then_none a (pairs_of x (values_below low vs)) s n t (pairs_of x (values_between low v vs)) walk rest in
+    subst (λ ps. Walks a ps s n t) (sym (pairs_both x (values_below low vs) (values_between low v vs)) ∙ ap (pairs_of x) (below_between low v vs ascends le)) both
+walk_on a x s n t vs low None ascends le walk supported =
+    let rest = supported_past a x (values_from low vs) t (λ w m has. supported w (from_of low vs w m).1 tt has) in
     let both = walk_then_none a (pairs_of x (values_below low vs)) s n t (pairs_of x (values_from low vs)) walk rest in
     subst (λ ps. Walks a ps s n t) (sym (pairs_both x (values_below low vs) (values_from low vs)) ∙ ap (pairs_of x) (below_from low vs ascends)) both
 

@@ -9,7 +9,7 @@ use Rattle.palm_model.proofs.cited.Supports.{not_true}
 use Rattle.palm_model.proofs.cited.Without.{pair_of, among_member, member_among}
 
 -- what passes fewer tests is shorter
-length_filter_le : (p q : ℤ → Bool) (xs : List ℤ) → ((x : ℤ) → p x ≡ true → q x ≡ true) → length (filter p xs) ≤ length (filter q xs)
+pub length_filter_le : (p q : ℤ → Bool) (xs : List ℤ) → ((x : ℤ) → p x ≡ true → q x ≡ true) → length (filter p xs) ≤ length (filter q xs)
 length_filter_le p q [] sub = omega arith
 length_filter_le p q (x ∷ xs) sub = elim (cases_Bool (p x)) [
   | inl t ↦ let u = sub x t in rw (t, u) (let k = length_filter_le p q xs sub in omega (arith, k))

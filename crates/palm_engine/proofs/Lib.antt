@@ -1,14 +1,18 @@
 pub mod Bounds
 pub mod cited
 pub mod Comparing
+pub mod Convex
 pub mod Counting
 pub mod Cuts
 pub mod Ending
 pub mod Fitting
 pub mod Gathering
+pub mod Hits
+pub mod HitWalk
 pub mod Joined
 pub mod Keeping
 pub mod Marking
+pub mod Others
 pub mod Places
 pub mod Placing
 pub mod Progress
@@ -18,6 +22,7 @@ pub mod Running
 pub mod Same
 pub mod Scopes
 pub mod Settles
+pub mod Skipping
 pub mod Spending
 pub mod Staying
 pub mod Taking

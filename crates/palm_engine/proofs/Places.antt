@@ -17,15 +17,14 @@ use Rattle.palm_model.specs.Removed.{pairs_of}
 use Rattle.palm_base.specs.Order.{Rises, same_cid}
 use Rattle.palm_model.specs.Log.{Active, log_pairs}
 use Rattle.palm_explain.specs.Explanations.{Explanations, LacksExactly}
-use Rattle.palm_model.specs.State.{HasEmpty, IsValid, present, woken}
-use Rattle.palm_model.proofs.cited.Without.{pair_of}
+use Rattle.palm_model.specs.State.{HasEmpty, IsValid, woken}
 use Rattle.palm_agenda.specs.Agenda.{Connected, Waiting, HasMarks, HasPlace, IsFormed, IsMarked, connected_cids}
 use Rattle.palm_engine.specs.declared.filtering.Filtering.{Filtering}
 use Rattle.palm_engine.specs.Settling.{Walks, walk_order}
 use Rattle.palm_engine.specs.Settling.Walks.{walked_empty}
 use Rattle.palm_engine.specs.Kept.{IsEmptyKept, AreConnected, AreMarked, state_in_revision}
 use Rattle.palm_engine.specs.Revising.{IsRevising, IsAgain, Walked, WalkedPart, AreSupportedAt, HasCounted}
-use Rattle.palm_engine.proofs.Joined.{walk_past}
+use Rattle.palm_engine.proofs.Bounds.{supported_past}
 use Rattle.palm_engine.proofs.Unmarking.{active_connected, connected_walked, marked_walked, unmark, unmark_cid}
 use Rattle.palm_engine.proofs.Progress.{walked_none, walked_then, walked_initial, counted_none, counted_then, counted_more}
 use Rattle.palm_engine.proofs.Revised.{present_is}
@@ -99,14 +98,11 @@ unmarked_supported f active owner place x r at not_marked v has =
 
 pub place_past : (f : Filtering) (active : List Active) (owner : Active) (x : ℕ) → IsRevising f active owner → AreSupportedAt f owner x → Walked active owner (pairs_of x (values_of (initial_of f.store) x)) f f
 place_past f active owner x r supported =
-    let e = sym (present_is f active owner.cid r.kept) in
-    let vs = values_of (initial_of f.store) x in
+    let e = present_is f active owner.cid r.kept in
     record {
       removed = 0;
-      walk = walk_past owner (pairs_of x vs) (state_in_revision f active owner.cid) (λ p m has.
-          let q = member_unmap (λ v. pair_of x v) vs p m in
-          let here : Has (present_of f.store) x q.0 = subst (λ d. Has d x q.0) (sym e) (subst (λ (s : Pair). Has (present (state_in_revision f active owner.cid)) s.var s.value) (sym q.2) has) in
-          subst (λ (s : Pair). IsSupported (present (state_in_revision f active owner.cid)) owner.con s.var s.value) q.2 (subst (λ d. IsSupported d owner.con x q.0) e (supported q.0 here)));
+      walk = supported_past owner x (values_of (initial_of f.store) x) (state_in_revision f active owner.cid) (λ v m has.
+          subst (λ d. IsSupported d owner.con x v) (sym e) (supported v (subst (λ d. Has d x v) e has)));
       again = refl;
     }
 

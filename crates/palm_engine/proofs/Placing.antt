@@ -1,19 +1,19 @@
 -- Where constraints stand among those that rise, and which are left without one of them.
-use Rattle.std.proofs.Common.{◌≡◌, ℕ, zero, suc, ◌<◌, ◌≤◌, Bool, true, false, not, List, [], ◌∷◌, ◌++◌, map, filter, length, get_or, slice_get, insert, remove, take, drop, ◌+◌, Contains, Option, Some, inl, inr, refl, sym, ap, ◌∙◌, subst, arith, add-zero}
+use Rattle.std.proofs.Common.{◌≡◌, ℕ, zero, suc, ◌<◌, ◌≤◌, Bool, true, false, not, List, [], ◌∷◌, ◌++◌, map, filter, length, get_or, slice_get, insert, remove, take, drop, ◌+◌, Contains, Option, None, Some, inl, inr, refl, sym, ap, ◌∙◌, subst, arith, add-zero}
 use Rattle.std.specs.Option.{IfSome, MatchOption, option_map}
 use Rattle.std.specs.List.Sorted.{IsPartitionedBy}
 use Rattle.std.proofs.lemmas.Bool.{cases_lt, false≢true}
 use Rattle.std.proofs.lemmas.List.{get_or_default, get_or-drop, get_or-take, length-drop, length-map, length-take, map-append}
-use Rattle.std.proofs.lemmas.List.Elements.{All-contains, Contains-get_or}
 use Rattle.std.proofs.lemmas.Simd.{map-map}
 use Rattle.std.proofs.lemmas.Option.{slice_get-map, slice_get-get_or, slice_get_within, get_or_from_slice_get}
 use Rattle.palm_base.specs.declared.terms.Pair.{Pair}
 use Rattle.palm_base.specs.declared.terms.Cid.{Cid}
-use Rattle.palm_base.specs.declared.terms.Cid.TheVariants.{Decide, Not}
+use Rattle.palm_base.specs.declared.terms.Cid.TheVariants.{Decide, Not, User}
 use Rattle.palm_base.proofs.cited.Members.{member_here, member_map, member_unmap, member_single}
 use Rattle.palm_base.specs.Order.{Rises, cid_before, pair_before, same_cid, IsPartedAt}
 use Rattle.palm_model.specs.Log.{Active, IsActive, cids_of, is_named}
 use Rattle.palm_model.specs.Event.{with_posted, without_cids}
+use Rattle.palm_model.specs.State.{user_of}
 use Rattle.palm_model.specs.declared.constraint.Con.{Con}
 use Rattle.palm_base.specs.Tells.{Tells}
 use Rattle.palm_base.proofs.cited.Telling.{tells_both}
@@ -21,7 +21,7 @@ use Rattle.palm_base.proofs.cited.CidOrder.{before_then, cid_same, not_before_it
 use Rattle.palm_events.proofs.cited.Names.{member_named, member_not_named}
 use Rattle.palm_events.proofs.cited.States.{without_cids_rises}
 use Rattle.palm_base.proofs.cited.RisingLists.{rising, sorted_keys}
-use Rattle.palm_base.proofs.cited.Sorted.{IsSortedKeys, parted, listed_at, apart, filter_removes, inserted, parted_where}
+use Rattle.palm_base.proofs.cited.Sorted.{IsSortedKeys, listed_at, apart, filter_removes, inserted}
 use Rattle.palm_engine.specs.declared.posted.Posted.{Posted}
 use Rattle.palm_engine.specs.declared.posted.Posted.TheVariants.{Decision, Negation, User as UserPosted}
 use Rattle.palm_engine.specs.Posted.{active_of, actives_of, is_decision, is_negation, negated}
@@ -304,3 +304,22 @@ active_tells active xs place x cid r e owner told =
 pub none_active : {X : Type 0} (active : X → Active) (xs : List X) (place : ℕ) (cid : Cid) → length xs ≤ place
     → ((a : Active) → Contains (map active xs) a → a.cid ≡ cid → slice_get (map active xs) place ≡ Some a) → IsActive (map active xs) cid → ⊥
 none_active active xs place cid le owner is = absurd (omega (arith, le, placed_within active xs place is.owner (owner is.owner is.posted is.named)))
+
+-- ---- the filter of an active constraint
+
+-- the constraint at the place of an id, and its filter where it is the one of the user with this number
+module _ {X F : Type 0} (active : X → Active) (con : F → Con) (xs : List X) (place number : ℕ) (x : X) (at : slice_get xs place ≡ Some x)
+    (owner : (a : Active) → Contains (map active xs) a → a.cid ≡ User number → slice_get (map active xs) place ≡ Some a) where
+  placed_is : (a : Active) → Contains (map active xs) a → a.cid ≡ User number → a ≡ active x
+  placed_is a m named = some_active a (active x) (sym (owner a m named) ∙ slice_get-map active xs place ∙ ap (option_map active) at)
+
+  pub filter_active : (r : Option F) → MatchOption r ((active x).cid ≡ User number → ⊥) (λ f. active x ≡ user_of number (con f))
+      → MatchOption r (IsActive (map active xs) (User number) → ⊥) (λ f. Contains (map active xs) (user_of number (con f)))
+  filter_active None other = λ is. other (ap (λ (a : Active). a.cid) (sym (placed_is is.owner is.posted is.named)) ∙ is.named)
+  filter_active (Some f) same =
+      subst (Contains (map active xs)) same (member_map active xs x (place, slice_get_within xs place x at, get_or_from_slice_get xs place x x at))
+
+  pub filter_only : (r : Option F) → MatchOption r ((active x).cid ≡ User number → ⊥) (λ f. active x ≡ user_of number (con f))
+      → IfSome r (λ f. (a : Active) → Contains (map active xs) a → a.cid ≡ User number → a ≡ user_of number (con f))
+  filter_only None other = tt
+  filter_only (Some f) same = λ a m named. placed_is a m named ∙ same

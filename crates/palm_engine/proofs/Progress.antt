@@ -19,17 +19,18 @@ use Rattle.palm_engine.specs.Changed.{TakesOut}
 use Rattle.palm_engine.specs.Settling.{IsDue}
 use Rattle.palm_engine.specs.Settling.Walks.{walked_all}
 use Rattle.palm_engine.specs.Kept.{IsInStep, state_in_revision}
+use Rattle.palm_engine.specs.Advancing.{Advanced}
 use Rattle.palm_engine.specs.Revising.{IsRevising, IsAgain, Walked, WalkedPart, AreSupportedAt, HasCounted}
 use Rattle.palm_engine.proofs.cited.Walking.{walk_filters}
 use Rattle.palm_engine.proofs.Joined.{walk_has, walk_then, walk_one_past, walk_one_out}
-use Rattle.palm_engine.proofs.Bounds.{left_from, fewer_left, values_below, values_from, values_between, values_before, IsNextAt, below_between, below_from, between_one, below_of, member_below, member_from, walk_next, walk_least, walk_value, pairs_both}
+use Rattle.palm_engine.proofs.Bounds.{left_from, fewer_left, values_below, values_from, values_between, values_before, IsBefore, IsNextAt, below_between, below_from, between_one, below_of, member_below, member_from, walk_next, walk_on, walk_least, walk_value, pairs_both}
 use Rattle.palm_engine.proofs.Revised.{over_connected, present_is, present_length, stated, out_removes, out_kept, one_keeps, one_supports, only_emptied, some_length}
 use Rattle.palm_events.proofs.cited.Reasons.{reasons_right}
 use Rattle.palm_events.proofs.cited.Valid.{removes_valid}
 
 -- ---- parts of a walk
 
-again_then : (n k : ℕ) (cid : Cid) (f g h : Filtering) → IsAgain n cid f g → IsAgain k cid g h → IsAgain (n + k) cid f h
+pub again_then : (n k : ℕ) (cid : Cid) (f g h : Filtering) → IsAgain n cid f g → IsAgain k cid g h → IsAgain (n + k) cid f h
 again_then zero zero cid f g h first second = second ∙ first
 again_then zero (suc k) cid f g h first second = subst (λ i. IsAgain i cid f h) (sym (zero-add (suc k))) second
 again_then (suc n) zero cid f g h first second =
@@ -134,25 +135,16 @@ out_revising active owner p f g r filled has lacks over takes = record {
 
 -- ---- the values of a variable
 
--- the values before the next one were walked over; those of them that are left have support, and only this variable may be empty
-pub record WalkedValues (active : List Active) (owner : Active) (x : ℕ) (next : Option ℤ) (before now : Filtering) (old new : ℕ) : Type 0 where
-  pub revising : IsRevising now active owner
-  pub walked : Walked active owner (pairs_of x (values_before next (values_of (initial_of before.store) x))) before now
-  pub present : IfSome next (λ v. Has (present_of now.store) x v)
-  pub supported : (w : ℤ) → Contains (values_before next (values_of (initial_of before.store) x)) w → Has (present_of now.store) x w → IsSupported (present_of now.store) owner.con x w
-  pub alone : (y : ℕ) → IsEmptyAt (present_of now.store) y → y ≡ x
-  pub counted : HasCounted (length (values_before next (values_of (initial_of before.store) x))) before now old new
-
-declared_ascend : (f : Filtering) (active : List Active) (owner : Active) → IsRevising f active owner → (x : ℕ) → Ascends (values_of (initial_of f.store) x)
+pub declared_ascend : (f : Filtering) (active : List Active) (owner : Active) → IsRevising f active owner → (x : ℕ) → Ascends (values_of (initial_of f.store) x)
 declared_ascend f active owner r x = Ascends-at (initial_of f.store) x r.valid.ascend
 
 -- a present value is declared
 pub has_declared_value : (f : Filtering) (active : List Active) → IsInStep f active → (x : ℕ) (v : ℤ) → Has (present_of f.store) x v → Has (initial_of f.store) x v
 has_declared_value f active kept x v has = (without_has (initial_of f.store) (log_pairs f.log.log) x v (subst (λ d. Has d x v) kept.removed.present has)).0
 
-pub values_start : (active : List Active) (owner : Active) (x : ℕ) (v : ℤ) (f : Filtering) (s : ℕ) → IsRevising f active owner → AllFilled (present_of f.store) → IsLeastOf (present_values f.store x) v
-    → WalkedValues active owner x (Some v) f f s s
-values_start active owner x v f s r filled least =
+pub values_start : (active : List Active) (owner : Active) (x : ℕ) (v : ℤ) (f : Filtering) → IsRevising f active owner → AllFilled (present_of f.store) → IsLeastOf (present_values f.store x) v
+    → Advanced active owner x (Some v) f f
+values_start active owner x v f r filled least =
     let vs = values_of (initial_of f.store) x in
     let e = present_is f active owner.cid r.kept in
     let walk = walk_least owner x (state_in_revision f active owner.cid) vs v (subst (λ (d : Domains). IsLeastOf (values_of d x) v) (sym e) least) in
@@ -162,8 +154,16 @@ values_start active owner x v f s r filled least =
       present = least.member;
       supported = λ w m has. let lt = (below_of v vs w m).1 in let ge = least.least w has in absurd (omega (arith, ints, lt, ge));
       alone = λ y empty. let some = filled y empty.exists in absurd (omega (arith, some, ap length empty.empty));
-      counted = counted_more 0 (length (values_below v vs)) f f s s (omega arith) (counted_none f s);
     }
+
+-- the values before the next one were walked over, and so many were asked for at most
+pub record WalkedValues (active : List Active) (owner : Active) (x : ℕ) (next : Option ℤ) (before now : Filtering) (old new : ℕ) : Type 0 where
+  pub advanced : Advanced active owner x next before now
+  pub counted : HasCounted (length (values_before next (values_of (initial_of before.store) x))) before now old new
+
+-- no value below the least one was asked for
+pub start_counted : (x : ℕ) (v : ℤ) (f : Filtering) (s : ℕ) → HasCounted (length (values_below v (values_of (initial_of f.store) x))) f f s s
+start_counted x v f s = counted_more 0 (length (values_below v (values_of (initial_of f.store) x))) f f s s (omega arith) (counted_none f s)
 
 -- where only the variable of a present value may be empty, no domain is
 pub alone_filled : (d : Domains) (x : ℕ) (v : ℤ) → Has d x v → ((y : ℕ) → IsEmptyAt d y → y ≡ x) → AllFilled d
@@ -173,13 +173,13 @@ alone_filled d x v has alone y lt = some_or_none (values_of d y) (λ e. let is =
     some_or_none [] n = absurd (n refl)
     some_or_none (w ∷ vs) n = omega arith
 
-pub values_filled : (active : List Active) (owner : Active) (x : ℕ) (v : ℤ) (before now : Filtering) (old new : ℕ) → WalkedValues active owner x (Some v) before now old new → AllFilled (present_of now.store)
-values_filled active owner x v before now old new w = alone_filled (present_of now.store) x v w.present w.alone
+pub values_filled : (active : List Active) (owner : Active) (x : ℕ) (v : ℤ) (before now : Filtering) → Advanced active owner x (Some v) before now → AllFilled (present_of now.store)
+values_filled active owner x v before now w = alone_filled (present_of now.store) x v w.present w.alone
 
-below_or_not : (w v : ℤ) → (w <ℤ v) ⊎ (v ≤ℤ w)
+pub below_or_not : (w v : ℤ) → (w <ℤ v) ⊎ (v ≤ℤ w)
 below_or_not w v = by_lt_z w v (λ l. inl l) (λ g. inr g)
 
-over : (v w : ℤ) → v ≤ℤ w → (v ≡ w → ⊥) → (v +ℤ pos 1) ≤ℤ w
+pub over : (v w : ℤ) → v ≤ℤ w → (v ≡ w → ⊥) → (v +ℤ pos 1) ≤ℤ w
 over v w ge other = elim (below_or_not v w) [
   | inl l ↦ omega (arith, ints, l)
   | inr le ↦ absurd (other (omega (arith, ints, ge, le)))
@@ -190,11 +190,11 @@ next_present (Some v) now low next = next.member
 next_present None now low none = tt
 
 -- what is present after a walk was so before
-stays_there : (active : List Active) (owner : Active) (x : ℕ) (v : ℤ) (now after : Filtering) (one : Walked active owner (pair_of x v ∷ []) now after) (z : ℤ) → Has (present (state_in_revision after active owner.cid)) x z
+pub stays_there : (active : List Active) (owner : Active) (x : ℕ) (v : ℤ) (now after : Filtering) (one : Walked active owner (pair_of x v ∷ []) now after) (z : ℤ) → Has (present (state_in_revision after active owner.cid)) x z
     → Has (present (state_in_revision now active owner.cid)) x z
 stays_there active owner x v now after one z has = walk_has owner (pair_of x v ∷ []) (state_in_revision now active owner.cid) one.removed (state_in_revision after active owner.cid) one.walk x z has
 
-alone_after : (active : List Active) (owner : Active) (x : ℕ) (v : ℤ) (now after : Filtering) → IsRevising now active owner → IsRevising after active owner → Walked active owner (pair_of x v ∷ []) now after → Has (present_of now.store) x v
+pub alone_after : (active : List Active) (owner : Active) (x : ℕ) (v : ℤ) (now after : Filtering) → IsRevising now active owner → IsRevising after active owner → Walked active owner (pair_of x v ∷ []) now after → Has (present_of now.store) x v
     → ((y : ℕ) → IsEmptyAt (present_of now.store) y → y ≡ x) → (y : ℕ) → IsEmptyAt (present_of after.store) y → y ≡ x
 alone_after active owner x v now after r q one has alone =
     let same : length (present_of after.store) ≡ length (present_of now.store) = present_length after active q.kept ∙ ap length (walked_initial active owner (pair_of x v ∷ []) now after one) ∙ sym (present_length now active r.kept) in
@@ -215,7 +215,7 @@ before_length vs low None now a none =
 above_le : (v : ℤ) → v ≤ℤ (v +ℤ pos 1)
 above_le v = omega (arith, ints)
 
-one_more_below : (vs : List ℤ) (v : ℤ) → Ascends vs → Contains vs v → length (values_below (v +ℤ pos 1) vs) ≡ length (values_below v vs) + 1
+pub one_more_below : (vs : List ℤ) (v : ℤ) → Ascends vs → Contains vs v → length (values_below (v +ℤ pos 1) vs) ≡ length (values_below v vs) + 1
 one_more_below vs v a has =
     ap length (sym (below_between v (v +ℤ pos 1) vs a (above_le v)))
     ∙ length-append (values_below v vs) (values_between v (v +ℤ pos 1) vs) ∙ ap (λ n. length (values_below v vs) + n) (ap length (between_one v vs a has))
@@ -234,10 +234,10 @@ before_cases vs v None now w none m has other = elim (below_or_not w v) [
   | inr ge ↦ let lt = none w has in let le = over v w ge other in absurd (omega (arith, ints, lt, le))
 ]
 
-pub values_more : (active : List Active) (owner : Active) (x : ℕ) (v : ℤ) (next : Option ℤ) (before now after : Filtering) (s t u : ℕ) → WalkedValues active owner x (Some v) before now s t
+pub values_more : (active : List Active) (owner : Active) (x : ℕ) (v : ℤ) (next : Option ℤ) (before now after : Filtering) → Advanced active owner x (Some v) before now
     → Walked active owner (pair_of x v ∷ []) now after → IsRevising after active owner → (Has (present_of after.store) x v → IsSupported (present_of after.store) owner.con x v)
-    → HasCounted 1 now after t u → IsNextAt next (present_values after.store x) (v +ℤ pos 1) → WalkedValues active owner x next before after s u
-values_more active owner x v next before now after s t u w one r supported counted is_next =
+    → IsNextAt next (present_values after.store x) (v +ℤ pos 1) → Advanced active owner x next before after
+values_more active owner x v next before now after w one r supported is_next =
     let vs = values_of (initial_of before.store) x in
     let i = walked_initial active owner (pairs_of x (values_below v vs)) before now w.walked in
     let a : Ascends vs = subst (λ (d : Domains). Ascends (values_of d x)) i (declared_ascend now active owner w.revising x) in
@@ -250,8 +250,6 @@ values_more active owner x v next before now after s t u w one r supported count
     let both = walk_value owner x start w.walked.removed middle one.removed end vs v a has w.walked.walk one.walk in
     let walk = walk_next owner x start (w.walked.removed + one.removed) end vs (v +ℤ pos 1) next a both (subst (λ (d : Domains). IsNextAt next (values_of d x) (v +ℤ pos 1)) (sym ea) is_next) in
     let keeps = one_keeps owner x v middle one.removed end one.walk in
-    let more = before_length vs (v +ℤ pos 1) next (present_values after.store x) a is_next in
-    let count = one_more_below vs v a has in
     record {
       revising = r;
       walked = record { removed = w.walked.removed + one.removed; walk = walk; again = again_then w.walked.removed one.removed owner.cid before now after w.walked.again one.again };
@@ -265,16 +263,55 @@ values_more active owner x v next before now after s t u w one r supported count
             subst (λ d. IsSupported d owner.con x z) ea (one_supports owner x v middle one.removed end one.walk z n (subst (λ d. IsSupported d owner.con x z) (sym en) s_now))
       ];
       alone = λ y empty. alone_after active owner x v now after w.revising r one w.present w.alone y empty;
-      counted = counted_more (length (values_below v vs) + 1) (length (values_before next vs)) before after s u (omega (arith, more, count))
-          (counted_then (length (values_below v vs)) 1 before now after s t u w.counted counted);
     }
 
--- after the last value the whole variable was walked over
-pub values_done : (active : List Active) (owner : Active) (x : ℕ) (before now : Filtering) (s t : ℕ) → WalkedValues active owner x None before now s t → Walked active owner (pairs_of x (values_of (initial_of before.store) x)) before now
-values_done active owner x before now s t w = w.walked
+-- those that have support are passed, up to a later one
+pub values_passed : (active : List Active) (owner : Active) (x : ℕ) (v : ℤ) (next : Option ℤ) (before now : Filtering) → Advanced active owner x (Some v) before now
+    → IfSome next (λ w. v ≤ℤ w) → IfSome next (λ w. Has (present_of now.store) x w) → ((u : ℤ) → v ≤ℤ u → IsBefore next u → Has (present_of now.store) x u → IsSupported (present_of now.store) owner.con x u)
+    → Advanced active owner x next before now
+values_passed active owner x v next before now w le here supported =
+    let vs = values_of (initial_of before.store) x in
+    let i = walked_initial active owner (pairs_of x (values_below v vs)) before now w.walked in
+    let a : Ascends vs = subst (λ (d : Domains). Ascends (values_of d x)) i (declared_ascend now active owner w.revising x) in
+    let e = present_is now active owner.cid w.revising.kept in
+    let end = state_in_revision now active owner.cid in
+    let walk = walk_on owner x (state_in_revision before active owner.cid) w.walked.removed end vs v next a le w.walked.walk (λ u ge is has.
+    subst (λ d. IsSupported d owner.con x u) (sym e) (supported u ge is (subst (λ d. Has d x u) e has))) in
+    record {
+      revising = w.revising;
+      walked = record { removed = w.walked.removed; walk = walk; again = w.walked.again };
+      present = here;
+      supported = λ z m has. let r = before_of vs next z m in elim (below_or_not z v) [
+        | inl lt ↦ w.supported z (member_below v vs z r.0 lt) has
+        | inr ge ↦ supported z ge r.1 has
+      ];
+      alone = w.alone;
+    }
+  where
+    before_of : (vs : List ℤ) (next : Option ℤ) (z : ℤ) → Contains (values_before next vs) z → Contains vs z × IsBefore next z
+    before_of vs (Some w) z m = below_of w vs z m
+    before_of vs None z m = (m, tt)
 
-pub values_supported : (active : List Active) (owner : Active) (x : ℕ) (before now : Filtering) (s t : ℕ) → WalkedValues active owner x None before now s t → AreSupportedAt now owner x
-values_supported active owner x before now s t w v has =
+-- and so many were asked for
+pub more_counted : (active : List Active) (owner : Active) (x : ℕ) (v : ℤ) (next : Option ℤ) (before now after : Filtering) (s t u : ℕ) → Advanced active owner x (Some v) before now
+    → HasCounted (length (values_below v (values_of (initial_of before.store) x))) before now s t → HasCounted 1 now after t u → IsNextAt next (present_values after.store x) (v +ℤ pos 1)
+    → HasCounted (length (values_before next (values_of (initial_of before.store) x))) before after s u
+more_counted active owner x v next before now after s t u w first counted is_next =
+    let vs = values_of (initial_of before.store) x in
+    let i = walked_initial active owner (pairs_of x (values_below v vs)) before now w.walked in
+    let a : Ascends vs = subst (λ (d : Domains). Ascends (values_of d x)) i (declared_ascend now active owner w.revising x) in
+    let has : Contains vs v = subst (λ (d : Domains). Has d x v) i (has_declared_value now active w.revising.kept x v w.present) in
+    let more = before_length vs (v +ℤ pos 1) next (present_values after.store x) a is_next in
+    let count = one_more_below vs v a has in
+    counted_more (length (values_below v vs) + 1) (length (values_before next vs)) before after s u (omega (arith, more, count))
+    (counted_then (length (values_below v vs)) 1 before now after s t u first counted)
+
+-- after the last value the whole variable was walked over
+pub values_done : (active : List Active) (owner : Active) (x : ℕ) (before now : Filtering) → Advanced active owner x None before now → Walked active owner (pairs_of x (values_of (initial_of before.store) x)) before now
+values_done active owner x before now w = w.walked
+
+pub values_supported : (active : List Active) (owner : Active) (x : ℕ) (before now : Filtering) → Advanced active owner x None before now → AreSupportedAt now owner x
+values_supported active owner x before now w v has =
     let i = walked_initial active owner (pairs_of x (values_of (initial_of before.store) x)) before now w.walked in
     w.supported v (subst (λ (d : Domains). Has d x v) i (has_declared_value now active w.revising.kept x v has)) has
 
@@ -287,9 +324,9 @@ at_value vs v a has =
     sym (below_from (v +ℤ pos 1) vs a) ∙ ap (λ ws. ws ++ above) upto ∙ append_assoc below (v ∷ []) above
 
 -- where memory runs out at a value, those below it were walked over
-pub values_stopped : (active : List Active) (owner : Active) (x : ℕ) (v : ℤ) (before now : Filtering) (k : ℕ) (s t : ℕ) → WalkedValues active owner x (Some v) before now s t → IsDue (present_of now.store) owner.con (pair_of x v)
+pub values_stopped : (active : List Active) (owner : Active) (x : ℕ) (v : ℤ) (before now : Filtering) (k : ℕ) → Advanced active owner x (Some v) before now → IsDue (present_of now.store) owner.con (pair_of x v)
     → WalkedPart active owner (pairs_of x (values_of (initial_of before.store) x)) before (record now { checks = k })
-values_stopped active owner x v before now k s t w due =
+values_stopped active owner x v before now k w due =
     let vs = values_of (initial_of before.store) x in
     let below = values_below v vs in
     let above = values_from (v +ℤ pos 1) vs in
@@ -305,30 +342,35 @@ values_stopped active owner x v before now k s t w due =
       due = due;
     }
 
-pub values_counted : (active : List Active) (owner : Active) (x : ℕ) (v : ℤ) (before now after : Filtering) (s t u : ℕ) → WalkedValues active owner x (Some v) before now s t → HasCounted 1 now after t u
+pub values_counted : (active : List Active) (owner : Active) (x : ℕ) (v : ℤ) (before now after : Filtering) (s t u : ℕ) → Advanced active owner x (Some v) before now
+    → HasCounted (length (values_below v (values_of (initial_of before.store) x))) before now s t → HasCounted 1 now after t u
     → HasCounted (length (values_of (initial_of before.store) x)) before after s u
-values_counted active owner x v before now after s t u w counted =
+values_counted active owner x v before now after s t u w first counted =
     let vs = values_of (initial_of before.store) x in
     let i = walked_initial active owner (pairs_of x (values_below v vs)) before now w.walked in
     let a : Ascends vs = subst (λ (d : Domains). Ascends (values_of d x)) i (declared_ascend now active owner w.revising x) in
     let has : Contains vs v = subst (λ (d : Domains). Has d x v) i (has_declared_value now active w.revising.kept x v w.present) in
     let e = ap length (sym (below_from v vs a)) ∙ length-append (values_below v vs) (values_from v vs) in
     let some = some_length (values_from v vs) v (member_from v vs v has (omega (arith, ints))) in
-    counted_more (length (values_below v vs) + 1) (length vs) before after s u (omega (arith, e, some)) (counted_then (length (values_below v vs)) 1 before now after s t u w.counted counted)
+    counted_more (length (values_below v vs) + 1) (length vs) before after s u (omega (arith, e, some)) (counted_then (length (values_below v vs)) 1 before now after s t u first counted)
 
-pub values_fewer : (active : List Active) (owner : Active) (x : ℕ) (v : ℤ) (next : Option ℤ) (before now : Filtering) (s t : ℕ) (present : List ℤ) → WalkedValues active owner x (Some v) before now s t → IsNextAt next present (v +ℤ pos 1)
+pub values_fewer : (active : List Active) (owner : Active) (x : ℕ) (v : ℤ) (next : Option ℤ) (before now : Filtering) (present : List ℤ) → Advanced active owner x (Some v) before now → IsNextAt next present (v +ℤ pos 1)
     → left_from next (values_of (initial_of before.store) x) < left_from (Some v) (values_of (initial_of before.store) x)
-values_fewer active owner x v next before now s t here w is_next =
+values_fewer active owner x v next before now here w is_next =
     let vs = values_of (initial_of before.store) x in
     let i = walked_initial active owner (pairs_of x (values_below v vs)) before now w.walked in
     let has : Contains vs v = subst (λ (d : Domains). Has d x v) i (has_declared_value now active w.revising.kept x v w.present) in
     fewer_left vs v next here has is_next
 
--- ---- what a call of `examine` says
+-- ---- what a call of `take_out` says
 
 pub on_ok : {T E P Q : Type 0} (r : Result T E) → (P → Q) → OnOk r P → OnOk r Q
 on_ok (Ok x) f p = f p
 on_ok (Err e) f p = tt
+
+pub on_err : {T E P Q : Type 0} (r : Result T E) → (P → Q) → OnErr r P → OnErr r Q
+on_err (Ok x) f p = tt
+on_err (Err e) f p = f p
 
 pub on_either : {T E P Q R : Type 0} (r : Result T E) → (P → R) → (Q → R) → OnOk r P → OnErr r Q → R
 on_either (Ok x) f g p q = f p
@@ -341,13 +383,10 @@ on_err_of (Err e) p = p
 takes_stated : (owner : Active) (p : Pair) (f g : Filtering) (by : Cid) (reasons : List Pair) → by ≡ owner.cid → reasons ≡ stated f owner p → TakesOut f p by reasons g → TakesOut f p owner.cid (stated f owner p) g
 takes_stated owner p f g by reasons named are takes = subst (λ c. TakesOut f p c (stated f owner p) g) named (subst (λ ps. TakesOut f p by ps g) are takes)
 
-pub taken_walked : (active : List Active) (owner : Active) (p : Pair) (f g : Filtering) (k : ℕ) (by : Cid) (reasons : List Pair) → IsRevising f active owner → AllFilled (present_of f.store) → Has (present_of f.store) p.var p.value
-    → LacksSupport (present_of f.store) owner.con p.var p.value → Contains (scope owner.con) p.var → by ≡ owner.cid → reasons ≡ stated f owner p → TakesOut (record f { checks = k }) p by reasons g → Walked active owner (p ∷ []) f g
-taken_walked active owner p f g k by reasons r filled has lacks over named are takes =
-    checks_walked active owner (p ∷ []) f g k
-    (out_walked active owner p (record f { checks = k }) g (revising_checks active owner f k r) filled has lacks over (takes_stated owner p (record f { checks = k }) g by reasons named are takes))
+pub taken_walked : (active : List Active) (owner : Active) (p : Pair) (f g : Filtering) (by : Cid) (reasons : List Pair) → IsRevising f active owner → AllFilled (present_of f.store) → Has (present_of f.store) p.var p.value
+    → LacksSupport (present_of f.store) owner.con p.var p.value → Contains (scope owner.con) p.var → by ≡ owner.cid → reasons ≡ stated f owner p → TakesOut f p by reasons g → Walked active owner (p ∷ []) f g
+taken_walked active owner p f g by reasons r filled has lacks over named are takes = out_walked active owner p f g r filled has lacks over (takes_stated owner p f g by reasons named are takes)
 
-pub taken_revising : (active : List Active) (owner : Active) (p : Pair) (f g : Filtering) (k : ℕ) (by : Cid) (reasons : List Pair) → IsRevising f active owner → AllFilled (present_of f.store) → Has (present_of f.store) p.var p.value
-    → LacksSupport (present_of f.store) owner.con p.var p.value → Contains (scope owner.con) p.var → by ≡ owner.cid → reasons ≡ stated f owner p → TakesOut (record f { checks = k }) p by reasons g → IsRevising g active owner
-taken_revising active owner p f g k by reasons r filled has lacks over named are takes =
-    out_revising active owner p (record f { checks = k }) g (revising_checks active owner f k r) filled has lacks over (takes_stated owner p (record f { checks = k }) g by reasons named are takes)
+pub taken_revising : (active : List Active) (owner : Active) (p : Pair) (f g : Filtering) (by : Cid) (reasons : List Pair) → IsRevising f active owner → AllFilled (present_of f.store) → Has (present_of f.store) p.var p.value
+    → LacksSupport (present_of f.store) owner.con p.var p.value → Contains (scope owner.con) p.var → by ≡ owner.cid → reasons ≡ stated f owner p → TakesOut f p by reasons g → IsRevising g active owner
+taken_revising active owner p f g by reasons r filled has lacks over named are takes = out_revising active owner p f g r filled has lacks over (takes_stated owner p f g by reasons named are takes)

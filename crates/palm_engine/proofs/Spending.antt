@@ -7,7 +7,7 @@ use Rattle.palm_base.specs.Order.{Rises}
 use Rattle.palm_model.specs.Log.{Active, cids_of, is_named}
 use Rattle.palm_model.specs.State.{EngineState, AllFilled, present}
 use Rattle.palm_events.proofs.cited.Names.{member_named}
-use Rattle.palm_engine.specs.Settling.{Walks, Revision, Revises, Revisions}
+use Rattle.palm_engine.specs.Settling.{Walks, Revision, Revisions}
 use Rattle.palm_engine.specs.Work.{size_of, named_sizes, most_asked_in}
 use Rattle.palm_engine.specs.Engine.{HasAsked}
 use Rattle.palm_engine.proofs.cited.Walking.{took_none}

@@ -1,3 +1,4 @@
+pub mod Advancing
 pub mod Changed
 pub mod Engine
 pub mod Following

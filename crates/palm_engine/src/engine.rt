@@ -11,7 +11,7 @@ ghost use Rattle.palm_model.specs.Constraint.{scope};
 ghost use Rattle.palm_model.specs.Domains.{Has};
 ghost use Rattle.palm_model.specs.Event.{Declares, Posts, Withdraws};
 ghost use Rattle.palm_base.specs.Order.{pair_before};
-ghost use Rattle.palm_model.specs.Log.{IsActive, IsListOf};
+ghost use Rattle.palm_model.specs.Log.{Active, IsActive, IsListOf};
 ghost use Rattle.palm_model.specs.State.{AreJustifiers, HasEmpty, IsEmptyAt, IsValid, blank, present, decision_of, negation_of, user_of};
 ghost use Rattle.palm_events.specs.Scoped.{HasScopedReasons};
 ghost use Rattle.palm_engine.specs.Engine.{HasAsked, KeepsCounts};
@@ -243,6 +243,18 @@ impl<F: Filter> Engine<F> {
             Some(constraint) => constraint.cid().is_same(&cid),
             None => false,
         }
+    }
+
+    /// The filter of the active constraint of a user with this number, where there is one.
+    pub fn filter(&self, number: u32) -> Option<&F>
+        ensures filter { MatchOption result
+            (IsActive self.now.state.active (Cid.User number) → ⊥)
+            (λ filter. Contains self.now.state.active (user_of number (F.meaning filter.now))) }
+        ensures only { IfSome result (λ filter. (a : Active) → Contains self.now.state.active a → a.cid ≡ Cid.User number
+            → a ≡ user_of number (F.meaning filter.now)) }
+    {
+        let constraint = self.posted.get(place_of(&self.posted, &Cid::User(number)))?;
+        constraint.filter(number)
     }
 
     /// The least pair whose negation is active.

@@ -1,6 +1,9 @@
 //! The engine: revisions and settlings, the laws on them, and what a settling may ask at most.
 #![tactic(auto)]
 
+mod alike;
+mod apart;
+mod between;
 mod conflicts;
 mod engine;
 mod filtering;
@@ -9,6 +12,7 @@ mod posted;
 mod posting;
 mod revise;
 mod settle;
+mod values;
 
 pub use engine::Engine;
 pub use laws::settling::{

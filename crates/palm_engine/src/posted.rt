@@ -1,5 +1,5 @@
 //! The active constraints of an engine.
-ghost use Rattle.std.specs.Prelude.{◌≡◌, ℕ, ◌+◌, ◌-◌, ◌≤◌, [], true, false, min, length, Contains, Some, OnErr, OnOk, slice_get};
+ghost use Rattle.std.specs.Prelude.{◌≡◌, ℕ, ◌+◌, ◌-◌, ◌≤◌, [], true, false, min, length, Contains, Some, MatchOption, OnErr, OnOk, ◌<◌, slice_get};
 ghost use Rattle.palm_base.specs.declared.limits.TheConstants.{LAST_COUNT};
 ghost use Rattle.palm_domain.specs.Rows.{initial_of, present_of};
 ghost use Rattle.palm_model.specs.Constraint.{scope, IsWellFormed};
@@ -7,12 +7,14 @@ ghost use Rattle.palm_model.specs.Domains.{Has};
 ghost use Rattle.palm_base.specs.Order.{Rises, cid_before, IsPartedAt};
 ghost use Rattle.palm_model.specs.Log.{Active, cids_of, is_named};
 ghost use Rattle.palm_model.specs.Reason.{AreFilled, reason};
+ghost use Rattle.palm_model.specs.State.{user_of};
 ghost use Rattle.palm_model.specs.Support.{IsSupported, LacksSupport};
+ghost use Rattle.palm_filter.specs.Shapes.{FitsShape};
 ghost use Rattle.palm_engine.specs.Posted.{IsInForm, active_of, actives_of, is_decision, is_negation, negated};
 
 use palm_base::{Cid, CidList, HasCid, NoMemory, Pair, Steps, Var};
 use palm_domain::DomainStore;
-use palm_filter::{Filter, Reasons, ask};
+use palm_filter::{Filter, Reasons, Shape, ask};
 use std::array;
 use std::sync::ledger::Ledger;
 
@@ -57,6 +59,17 @@ impl<F: Filter> Posted<F> {
         }
     }
 
+    /// What is known of the support of the values of the variable at a place of the scope, whatever the domains are.
+    pub(crate) fn shape(&self, place: usize) -> Shape
+        requires { place < length (scope (active_of F.meaning self.now).con) }
+        ensures { FitsShape (active_of F.meaning self.now).con place result }
+    {
+        match self {
+            Posted::Decision(_) | Posted::Negation { .. } => Shape::Any,
+            Posted::User { filter, .. } => filter.shape(place),
+        }
+    }
+
     /// The ids for which a negation holds, and none of other constraints.
     pub(crate) fn justification(&self) -> &[Cid]
         ensures { result.now ≡ (active_of F.meaning self.now).justification }
@@ -88,6 +101,21 @@ impl<F: Filter> Posted<F> {
         match self {
             Posted::Negation { pair, .. } => Some(*pair),
             Posted::Decision(_) | Posted::User { .. } => None,
+        }
+    }
+
+    /// The filter of the constraint of the user with this number.
+    pub(crate) fn filter(&self, number: u32) -> Option<&F>
+        ensures { MatchOption result
+            ((active_of F.meaning self.now).cid ≡ Cid.User number → ⊥)
+            (λ filter. active_of F.meaning self.now ≡ user_of number (F.meaning filter.now)) }
+    {
+        match self {
+            Posted::User {
+                number: own,
+                filter,
+            } if *own == number => Some(filter),
+            Posted::Decision(_) | Posted::Negation { .. } | Posted::User { .. } => None,
         }
     }
 

@@ -148,11 +148,6 @@ module _ (listed : Link → List ℕ) (g : Graph) (key : ℕ) (l : Link) (at : g
   listed_next old middle new i x lt is marked set others =
       marked_then old middle new (IsAmongFirst i listed g key) (λ k. x ≡ k) (IsAmongFirst (i + 1) listed g key) (first_left i x lt is) (first_last i x lt is) (first_cases i x lt is) marked (marked_one middle new x set others)
 
-  -- where one more mark came, or none that was not there
-  pub listed_more : (old middle new : ℕ → Bool) (i x : ℕ) → i < length (listed l) → x ≡ get_or (listed l) i x → HasMarked old middle (IsAmongFirst i listed g key) → HasMarked middle new (λ k. x ≡ k) → HasMarked old new (IsAmongFirst (i + 1) listed g key)
-  listed_more old middle new i x lt is marked one =
-      marked_then old middle new (IsAmongFirst i listed g key) (λ k. x ≡ k) (IsAmongFirst (i + 1) listed g key) (first_left i x lt is) (first_last i x lt is) (first_cases i x lt is) marked one
-
   pub listed_all : (old new : ℕ → Bool) (i : ℕ) → length (listed l) ≤ i → HasMarked old new (IsAmongFirst i listed g key) → HasMarked old new (λ d. (m : Link) × (g key ≡ Some m) × Contains (listed m) d)
   listed_all old new i le marked = marked_like old new (IsAmongFirst i listed g key) (λ d. (m : Link) × (g key ≡ Some m) × Contains (listed m) d) (first_all i le) (all_first i le) marked
 

@@ -11,9 +11,8 @@ use Rattle.palm_model.specs.Constraint.{Distinct}
 use Rattle.palm_explain.specs.declared.node.Node.{Node}
 use Rattle.palm_explain.specs.Chain.{IsLine}
 use Rattle.palm_explain.specs.Counts.{AreCounted, AreNoted, HasCounted, HoldsKeys, IsCountedAt, count_or, counts_of, slot_or, slots_of}
-use Rattle.palm_explain.specs.Graph.{Graph, IsAmongFirst, IsAntecedent, IsGraph, IsKey, Link, graph_of, link_of, marks_of, said}
+use Rattle.palm_explain.specs.Graph.{Graph, IsAntecedent, IsGraph, IsKey, graph_of, link_of, marks_of, said}
 use Rattle.palm_explain.proofs.Chains.{once_short}
-use Rattle.palm_explain.proofs.Changes.{first_cases}
 use Rattle.palm_explain.proofs.Entered.{place_cases}
 use Rattle.palm_explain.proofs.Graphs.{key_member}
 use Rattle.palm_explain.proofs.Once.{distinct_remove, removed_apart}
@@ -57,12 +56,12 @@ counted_then old middle new before between after First Second More split one two
       ];
 }
 
-pub counted_more : (g : Graph) (key : ℕ) (l : Link) (at : g key ≡ Some l) (marks now : ℕ → Bool) (old middle new : ℕ → ℕ) (before between after : List ℕ) (i x : ℕ) → now ≡ marks → i < length l.antecedents → x ≡ get_or l.antecedents i x
-    → HasCounted old middle before between (λ k. (marks k ≡ false) × IsAmongFirst i (λ m. m.antecedents) g key k) → HasCounted middle new between after (λ k. (now k ≡ false) × (x ≡ k))
-    → HasCounted old new before after (λ k. (marks k ≡ false) × IsAmongFirst (i + 1) (λ m. m.antecedents) g key k)
-counted_more g key l at marks now old middle new before between after i x same lt is one two =
-    counted_then old middle new before between after (λ k. (marks k ≡ false) × IsAmongFirst i (λ m. m.antecedents) g key k) (λ k. (now k ≡ false) × (x ≡ k)) (λ k. (marks k ≡ false) × IsAmongFirst (i + 1) (λ m. m.antecedents) g key k)
-    (λ k m. elim (first_cases (λ m. m.antecedents) g key l at i x lt is k m.1) [
+pub counted_more : (marks now : ℕ → Bool) (old middle new : ℕ → ℕ) (before between after keys : List ℕ) (i x : ℕ) → now ≡ marks → i < length keys → x ≡ get_or keys i x
+    → HasCounted old middle before between (λ k. (marks k ≡ false) × Contains (take i keys) k) → HasCounted middle new between after (λ k. (now k ≡ false) × (x ≡ k))
+    → HasCounted old new before after (λ k. (marks k ≡ false) × Contains (take (i + 1) keys) k)
+counted_more marks now old middle new before between after keys i x same lt is one two =
+    counted_then old middle new before between after (λ k. (marks k ≡ false) × Contains (take i keys) k) (λ k. (now k ≡ false) × (x ≡ k)) (λ k. (marks k ≡ false) × Contains (take (i + 1) keys) k)
+    (λ k m. elim (member_take_more keys i x k lt is m.1) [
       | inl old ↦ inl (m.0, old)
       | inr e ↦ inr (ap (λ q. q k) same ∙ m.0, e)
     ])

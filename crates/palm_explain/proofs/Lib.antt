@@ -10,6 +10,7 @@ mod Flags
 mod Going
 mod Graphs
 mod Keeping
+mod Lending
 mod Linked
 mod Marks
 mod Naming

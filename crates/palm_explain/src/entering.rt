@@ -27,7 +27,7 @@ pub(crate) fn antecedents_of(
     let mut antecedents = Vec::with_capacity(alloc, reasons.len())?;
     let mut near = 0;
     for reason in reasons {
-        antecedents.push(key_near(rows, reason, &mut near).unwrap())?;
+        antecedents.push_reserved(key_near(rows, reason, &mut near).unwrap());
     }
     Ok(antecedents)
 }

@@ -65,7 +65,27 @@ pub(crate) fn forget_threads(
     }
 }
 
-/// Counts a lost removal at each of its antecedents that stays, and lists these.
+/// Counts one more lost dependent of each of the removals that stays, and lists these.
+#[inline(always)]
+fn count_each(nodes: &mut Nodes, losing: &mut Vec<u32>, keys: &[u32])
+    requires keys { (k : ℕ) → Contains keys.now k → IsKey (graph_of nodes.old) k }
+    requires noted { AreNoted nodes.old losing.old.items }
+    requires room { HoldsKeys (graph_of nodes.old) (vec_capacity losing.old) }
+    ensures graph { graph_of nodes.new ≡ graph_of nodes.old }
+    ensures marks { marks_of nodes.new ≡ marks_of nodes.old }
+    ensures nexts { nexts_of nodes.new ≡ nexts_of nodes.old }
+    ensures counted { HasCounted (counts_of nodes.old) (counts_of nodes.new) losing.old.items losing.new.items
+        (λ k. (marks_of nodes.old k ≡ false) × Contains keys.now k) }
+    ensures noted { AreNoted nodes.new losing.new.items }
+    ensures room { vec_capacity losing.new ≡ vec_capacity losing.old }
+{
+    for key in keys {
+        count_dependent(nodes, losing, *key);
+    }
+}
+
+/// Counts a lost removal at each of its antecedents that stays, and lists these. (Their list is taken out meanwhile, so that it is
+/// looked up once.)
 fn count_at(nodes: &mut Nodes, losing: &mut Vec<u32>, key: u32)
     requires key { IsKey (graph_of nodes.old) key }
     requires keys { (c : ℕ) → IsAntecedent (graph_of nodes.old) c key → IsKey (graph_of nodes.old) c }
@@ -79,10 +99,11 @@ fn count_at(nodes: &mut Nodes, losing: &mut Vec<u32>, key: u32)
     ensures noted { AreNoted nodes.new losing.new.items }
     ensures room { vec_capacity losing.new ≡ vec_capacity losing.old }
 {
-    for index in 0..nodes[key as usize].antecedents.len() {
-        let antecedent = nodes[key as usize].antecedents[index];
-        count_dependent(nodes, losing, antecedent);
-    }
+    let node = &mut nodes[key as usize];
+    let none = Vec::new(*node.antecedents.allocator());
+    let antecedents = mem::replace(&mut node.antecedents, none);
+    count_each(nodes, losing, &antecedents);
+    nodes[key as usize].antecedents = antecedents;
 }
 
 /// Counts the removals of the chain at those of their antecedents that stay, and lists these.

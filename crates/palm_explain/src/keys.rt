@@ -18,6 +18,7 @@ fn last_place(keys: &[u32], key: u32) -> Option<usize>
 }
 
 /// Whether the key stands at the place.
+#[inline(always)]
 pub(crate) fn has_at(keys: &[u32], place: usize, key: u32) -> bool
     ensures there { result ≡ true → slice_get keys.now place ≡ Some key }
     ensures other { result ≡ false → slice_get keys.now place ≡ Some key → ⊥ }

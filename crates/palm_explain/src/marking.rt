@@ -7,8 +7,10 @@ ghost use Rattle.palm_explain.specs.Graph.{HasMarked, HasNoMark, IsBy, IsDepende
 ghost use Rattle.palm_explain.specs.Lost.{AreTold};
 
 use crate::node::{Nodes, set_mark, set_next};
+use std::mem;
 
 /// Marks a removal and puts it behind the last one of the chain, unless it is marked.
+#[inline(always)]
 fn mark_one(nodes: &mut Nodes, last: &mut u32, key: u32)
     requires key { IsKey (graph_of nodes.old) key }
     requires last { IsKey (graph_of nodes.old) last.old }
@@ -25,6 +27,7 @@ fn mark_one(nodes: &mut Nodes, last: &mut u32, key: u32)
 }
 
 /// Marks each of the removals.
+#[inline(always)]
 fn mark_all(nodes: &mut Nodes, last: &mut u32, keys: &[u32])
     requires keys { (k : ℕ) → Contains keys.now k → IsKey (graph_of nodes.old) k }
     requires last { IsKey (graph_of nodes.old) last.old }
@@ -38,7 +41,7 @@ fn mark_all(nodes: &mut Nodes, last: &mut u32, keys: &[u32])
     }
 }
 
-/// Marks the dependents of a removal.
+/// Marks the dependents of a removal. (Their list is taken out meanwhile, so that it is looked up once.)
 fn mark_dependents(nodes: &mut Nodes, last: &mut u32, key: u32)
     requires key { IsKey (graph_of nodes.old) key }
     requires keys { (d : ℕ) → IsDependent (graph_of nodes.old) d key → IsKey (graph_of nodes.old) d }
@@ -48,10 +51,11 @@ fn mark_dependents(nodes: &mut Nodes, last: &mut u32, key: u32)
     ensures marked { HasMarked (marks_of nodes.old) (marks_of nodes.new) (λ d. IsDependent (graph_of nodes.old) d key) }
     ensures grown { HasGrown nodes.old nodes.new last.old last.new }
 {
-    for index in 0..nodes[key as usize].dependents.len() {
-        let dependent = nodes[key as usize].dependents[index];
-        mark_one(nodes, last, dependent);
-    }
+    let node = &mut nodes[key as usize];
+    let none = Vec::new(*node.dependents.allocator());
+    let dependents = mem::replace(&mut node.dependents, none);
+    mark_all(nodes, last, &dependents);
+    nodes[key as usize].dependents = dependents;
 }
 
 /// Marks what rests on the removals of the chain, which grows meanwhile. Answers how many it has in the end.

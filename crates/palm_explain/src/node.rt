@@ -38,6 +38,7 @@ pub(crate) struct Node {
 pub(crate) type Nodes = Slab<Node>;
 
 /// Whether the constraint made the removal.
+#[inline(always)]
 pub(crate) fn is_by(node: &Node, cid: &Cid) -> bool
     ensures { result ≡ same_cid node.now.by cid.now }
 {
@@ -45,6 +46,7 @@ pub(crate) fn is_by(node: &Node, cid: &Cid) -> bool
 }
 
 /// Sets the mark of a removal, or clears it.
+#[inline(always)]
 pub(crate) fn set_mark(nodes: &mut Nodes, key: u32, mark: bool)
     requires { IsKey (graph_of nodes.old) key }
     ensures graph { graph_of nodes.new ≡ graph_of nodes.old }
@@ -56,6 +58,7 @@ pub(crate) fn set_mark(nodes: &mut Nodes, key: u32, mark: bool)
 }
 
 /// Links a removal to the one behind it in the chain.
+#[inline(always)]
 pub(crate) fn set_next(nodes: &mut Nodes, key: u32, next: u32)
     requires { IsKey (graph_of nodes.old) key }
     ensures graph { graph_of nodes.new ≡ graph_of nodes.old }
@@ -76,6 +79,7 @@ pub(crate) fn set_place(nodes: &mut Nodes, key: u32, place: usize)
 }
 
 /// Makes room for one more dependent of a removal.
+#[inline(always)]
 pub(crate) fn reserve_dependent(
     nodes: &mut Nodes,
     antecedent: u32,
@@ -93,6 +97,7 @@ pub(crate) fn reserve_dependent(
 }
 
 /// Adds a dependent of a removal behind the others, unless it is the last.
+#[inline(always)]
 pub(crate) fn add_dependent(nodes: &mut Nodes, antecedent: u32, key: u32)
     requires key { IsKey (graph_of nodes.old) antecedent }
     requires ready { IsReadyAt nodes.old key antecedent }
@@ -109,6 +114,7 @@ pub(crate) fn add_dependent(nodes: &mut Nodes, antecedent: u32, key: u32)
 }
 
 /// One more, as far as can be counted.
+#[inline(always)]
 fn one_more(count: usize) -> usize
     ensures { IsCountedAt count result }
 {
@@ -119,6 +125,7 @@ fn one_more(count: usize) -> usize
 }
 
 /// Counts one more lost dependent of a removal, unless it is lost itself, and lists it where it is not listed.
+#[inline(always)]
 pub(crate) fn count_dependent(nodes: &mut Nodes, losing: &mut Vec<u32>, key: u32)
     requires key { IsKey (graph_of nodes.old) key }
     requires noted { AreNoted nodes.old losing.old.items }
@@ -155,6 +162,7 @@ pub(crate) fn set_at(nodes: &mut Nodes, key: u32, at: usize)
 }
 
 /// Whether the removal under a key is marked.
+#[inline(always)]
 pub(crate) fn is_marked(nodes: &Nodes, key: u32) -> bool
     ensures { result ≡ marks_of nodes.now key }
 {

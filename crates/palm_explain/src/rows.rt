@@ -1,5 +1,5 @@
 //! The keys of removed pairs, in a row for each variable, so that none is looked up by hashing.
-ghost use Rattle.std.specs.Prelude.{◌≡◌, ◌≢◌, ℕ, ℤ, ◌<◌, ◌≤◌, true, false, None, Some, length, slice_index_or, OnOk};
+ghost use Rattle.std.specs.Prelude.{◌≡◌, ◌≢◌, ℕ, ℤ, ◌<◌, ◌≤◌, true, false, None, Some, length, slice_index_or, MatchOption, OnOk};
 ghost use Rattle.palm_base.specs.declared.terms.Pair.{Pair as PairTerm};
 ghost use Rattle.palm_explain.specs.Restored.{KeepsKeys, flag_at};
 ghost use Rattle.palm_explain.specs.Rows.{AreFormedRows, IsFormedRow, key_at, key_in};
@@ -30,6 +30,7 @@ impl Row {
     }
 
     /// Whether the value stands at the place.
+    #[inline(always)]
     fn has_at(&self, place: usize, value: Value) -> bool
         ensures { result ≡ true → (place < length self.now.values.items)
             × (slice_index_or self.now.values.items place value ≡ value) }
@@ -37,7 +38,22 @@ impl Row {
         place < self.values.len() && self.values[place] == value
     }
 
+    /// The place of a value. (Out of line, so that its caller is small where it goes without.)
+    #[inline(never)]
+    fn place_of(&self, value: Value) -> Option<usize>
+        requires { IsFormedRow self.now }
+        ensures { MatchOption result
+            (key_in self.now.values.items self.now.keys.items value ≡ None)
+            (λ place. (place < length self.now.values.items) × (slice_index_or self.now.values.items place value ≡ value)) }
+    {
+        match self.values.binary_search(&value) {
+            Ok(place) => Some(place),
+            Err(_) => None,
+        }
+    }
+
     /// The key of a value, which is looked for first near a place.
+    #[inline(always)]
     fn key_near(&self, value: Value, near: &mut usize) -> Option<u32>
         requires { IsFormedRow self.now }
         ensures { result ≡ key_in self.now.values.items self.now.keys.items value }
@@ -47,12 +63,12 @@ impl Row {
             *near = place.wrapping_add(1);
             return Some(self.keys[place]);
         }
-        match self.values.binary_search(&value) {
-            Ok(place) => {
+        match self.place_of(value) {
+            Some(place) => {
                 *near = place.wrapping_add(1);
                 Some(self.keys[place])
             }
-            Err(_) => None,
+            None => None,
         }
     }
 
@@ -79,6 +95,7 @@ impl Row {
 
 /// The key under which the pair was entered last. Its value is looked for first near a place of the row, and `near` is
 /// then the place behind it: pairs of one variable mostly come with rising values.
+#[inline(always)]
 pub(crate) fn key_near(rows: &[Row], pair: &Pair, near: &mut usize) -> Option<u32>
     requires { AreFormedRows rows.now }
     ensures { result ≡ key_at rows.now pair.now }

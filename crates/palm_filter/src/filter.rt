@@ -1,11 +1,13 @@
 //! The trait of filters, and the one call by which support is asked for.
-ghost use Rattle.std.specs.Prelude.{◌≡◌, ◌+◌, ℕ, [], length, true, false, Contains, OnErr, OnOk};
+ghost use Rattle.std.specs.Prelude.{◌≡◌, ◌+◌, ◌<◌, ℕ, [], length, true, false, Contains, OnErr, OnOk};
 ghost use Rattle.palm_domain.specs.Rows.{initial_of, present_of};
 ghost use Rattle.palm_model.specs.Constraint.{scope, IsWellFormed};
 ghost use Rattle.palm_model.specs.Domains.{Has};
 ghost use Rattle.palm_model.specs.Reason.{AreFilled, IsReason, reason};
 ghost use Rattle.palm_model.specs.Support.{IsSupported, LacksSupport};
+ghost use Rattle.palm_filter.specs.Shapes.{FitsShape};
 
+use crate::shape::Shape;
 use palm_base::{NoMemory, Pair, Steps, VarList};
 use palm_domain::DomainStore;
 use smallvec::SmallVec;
@@ -25,6 +27,15 @@ pub trait Filter: Drop {
     fn scope(&self) -> &VarList
         ensures scope { result.now ≡ scope (meaning self.now) }
         ensures formed { (variables : ℕ) × IsWellFormed variables (meaning self.now) };
+
+    /// What is known of the support of the values of the variable at a place of the scope, whatever the domains are. A filter
+    /// that says nothing of it is asked for each value.
+    fn shape(&self, place: usize) -> Shape
+        requires { place < length (scope (meaning self.now)) }
+        ensures { FitsShape (meaning self.now) place result }
+    {
+        Shape::Any
+    }
 
     /// Whether the value has support within the present domains, in every part of the constraint over its variable.
     fn supported(&self, store: &DomainStore, pair: Pair) -> bool

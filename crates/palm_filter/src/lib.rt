@@ -6,6 +6,7 @@ mod filter;
 mod index;
 mod laws;
 mod reasons;
+mod shape;
 mod starts;
 
 pub use alone::is_alone;
@@ -13,3 +14,4 @@ pub use filter::{Filter, Reasons, ask};
 pub use index::ValueIndex;
 pub use laws::single_values_are_supported_where_they_satisfy;
 pub use reasons::{is_missing, push_passing, push_removed, whole_or_none};
+pub use shape::Shape;

@@ -2,9 +2,9 @@
 -- carriage return does at the end of a line.
 use Rattle.std.proofs.Common.{◌≡◌, ◌≢◌, ℕ, ◌+◌, ◌-◌, ◌<◌, ◌≤◌, nat_eq, get_or, Bool, true, false, cond, Some, None, List, [], ◌∷◌, ◌++◌, length, take, drop, All, refl, sym, ap, ◌∙◌, subst, arith, append_assoc, length-append}
 use Rattle.std.specs.List.{slice_get}
-use Rattle.std.proofs.lemmas.Bool.{both_ways, ne_eqb}
+use Rattle.std.proofs.lemmas.Bool.{both_ways}
 use Rattle.std.proofs.lemmas.Bool.Decides.{nat_tests}
-use Rattle.std.proofs.lemmas.List.{append_cancel_left, drop-drop, drop_at, get_or-append-add, get_or_push, length_push, take_at}
+use Rattle.std.proofs.lemmas.List.{append_cancel_left, drop-drop, drop_at, get_or-append-add, take_at}
 use Rattle.std.proofs.lemmas.List.Elements.{All-head, All-take}
 use Rattle.std.proofs.lemmas.Option.{same_Some}
 use Rattle.std.proofs.Math.Seq.{take-append-add}
@@ -220,24 +220,6 @@ other_behind head name rest left gap read front first apart other line a =
 
 -- ---- carriage returns
 
--- without its last byte, where that is a carriage return
-last_byte : (content : List ℕ) (b : ℕ) → without_return (content ++ b ∷ []) ≡ cond (nat_eq b 13) content (content ++ b ∷ [])
-last_byte content b =
-    let long : length (content ++ b ∷ []) - 1 ≡ length content = omega (arith, length_push content b) in
-    rw (long, get_or_push content b 0 (length content) refl, take_at content (b ∷ []) (length content) refl) refl
-
--- one carriage return at the end is taken off
-pub returned : (content : List ℕ) → without_return (content ++ 13 ∷ []) ≡ content
-returned content = last_byte content 13
-
--- and no other byte
-pub unreturned : (content : List ℕ) (b : ℕ) → (b ≡ 13 → ⊥) → without_return (content ++ b ∷ []) ≡ content ++ b ∷ []
-unreturned content b other = last_byte content b ∙ ap (λ t. cond t content (content ++ b ∷ [])) (ne_eqb b 13 other)
-
--- nor a byte where there is none
-pub no_return_of_nothing : without_return [] ≡ []
-no_return_of_nothing = refl
-
 -- no line feed is added
 pub unbroken_without_return : (line : List ℕ) → HasNoFeed line → HasNoFeed (without_return line)
 unbroken_without_return line unbroken = go (nat_eq (get_or line (length line - 1) 0) 13)
@@ -260,14 +242,6 @@ without_return-append front b bs =
 -- before the first byte none waits
 pub holds_nothing : Holds [] [] false
 holds_nothing = record { shown = refl; whole = refl }
-
--- a carriage return waits behind all bytes before it
-pub holds_return : (seen : List ℕ) → Holds (seen ++ 13 ∷ []) seen true
-holds_return seen = record { shown = returned seen; whole = refl }
-
--- and none behind another byte
-pub holds_byte : (seen : List ℕ) (b : ℕ) → (b ≡ 13 → ⊥) → Holds (seen ++ b ∷ []) (seen ++ b ∷ []) false
-holds_byte seen b other = record { shown = unreturned seen b other; whole = refl }
 
 -- what stands before a byte stands before what is held of it
 pub holds_on : (front : List ℕ) {piece content : List ℕ} {held : Bool} → 0 < length piece → Holds piece content held

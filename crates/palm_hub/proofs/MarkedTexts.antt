@@ -3,13 +3,13 @@ use Rattle.std.proofs.Common.{◌≡◌, ℕ, ◌<◌, Bool, true, false, Option
 use Rattle.std.proofs.lemmas.List.{length-append, take-append-drop}
 use Rattle.std.proofs.lemmas.Option.{none-some}
 use Rattle.palm_base.specs.Streams.{Appended}
-use Rattle.palm_lang.specs.Writing.{AppendedUntil, IsLeft}
+use Rattle.palm_lang.specs.Writing.{AppendedUntil}
 use Rattle.palm_lang.specs.declared.stop.WriteStop.{WriteStop}
 use Rattle.palm_lang.specs.declared.stop.WriteStop.TheVariants.{WriteFault, NoMemory}
 use Rattle.palm_hub.specs.Marked.{begins_line, marked_from, marked}
 use Rattle.palm_hub.specs.Prefixed.{begun, due_at, rebuilt_from, sent_of, told}
 use Rattle.palm_hub.proofs.Marks.{marked_append}
-use Rattle.palm_hub.proofs.Prefixing.{IsBuilt, IsRight, built_of, none_sent}
+use Rattle.palm_hub.proofs.Prefixing.{IsRight, built_of, none_sent}
 
 -- ---- what stands there behind a text
 

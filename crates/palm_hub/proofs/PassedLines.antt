@@ -11,7 +11,6 @@ use Rattle.palm_lang.specs.declared.stop.WriteStop.TheVariants.{NoMemory}
 use Rattle.palm_read.specs.Lines.{HasNoFeed, without_return}
 use Rattle.palm_session.proofs.cited.Pieces.{ends_decided, front_answered, line_more, line_quit, piece_kept, piece_stopped, piece_unended}
 use Rattle.palm_session.specs.Feeding.{AnswersFront, FeedsEnd, Feeds, FeedsPart, IsSession, KeepsRest, View}
-use Rattle.palm_session.specs.Replies.{Ends, GoesOn}
 use Rattle.palm_session.specs.State.{SessionState}
 use Rattle.palm_session.specs.declared.going.Going.{Going}
 use Rattle.palm_session.specs.declared.going.Going.TheVariants.{More, Quit}

@@ -1,7 +1,7 @@
 //! Passing bytes of a hub line to the session of its name.
 ghost use Rattle.std.specs.Prelude.{◌≡◌, ◌-◌, false, List, ℕ, [], OnOk, IfErr, take};
 ghost use Rattle.palm_base.specs.Streams.{Appended, Rose};
-ghost use Rattle.palm_lang.specs.Writing.{AppendedUntil, IsCounted};
+ghost use Rattle.palm_lang.specs.Writing.{IsCounted};
 ghost use Rattle.palm_lang.specs.declared.stop.WriteStop.TheVariants as stops;
 ghost use Rattle.palm_read.specs.Lines.{HasNoFeed};
 ghost use Rattle.palm_session.specs.Feeding.{IsSession};

@@ -1,5 +1,5 @@
 //! The sessions of a hub.
-ghost use Rattle.std.specs.Prelude.{◌≡◌, ◌↔◌, IsTrue, ℕ, [], false, List, OnOk, IfOk, IfErr, take};
+ghost use Rattle.std.specs.Prelude.{◌≡◌, ◌↔◌, IsTrue, ℕ, false, List, OnOk, IfOk, IfErr, take};
 ghost use Rattle.palm_base.specs.Streams.{Rose};
 ghost use Rattle.palm_lang.specs.Writing.{IsCounted};
 ghost use Rattle.palm_lang.specs.declared.stop.WriteStop.TheVariants as stops;

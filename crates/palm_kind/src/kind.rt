@@ -14,7 +14,7 @@ use filter_occur::OccurFilter;
 use filter_table::TableFilter;
 use palm_base::{NoMemory, Pair, VarList};
 use palm_domain::DomainStore;
-use palm_filter::{Filter, Reasons};
+use palm_filter::{Filter, Reasons, Shape};
 use palm_model::Con;
 use std::alloc::Global;
 
@@ -69,6 +69,18 @@ impl Filter for Kind {
             Kind::Count(filter) => filter.scope(),
             Kind::Differ(filter) => filter.scope(),
             Kind::Within(filter) => filter.scope(),
+        }
+    }
+
+    fn shape(&self, place: usize) -> Shape {
+        match self {
+            Kind::Compare(filter) => filter.shape(place),
+            Kind::Linear(filter) => filter.shape(place),
+            Kind::Table(filter) => filter.shape(place),
+            Kind::Element(filter) => filter.shape(place),
+            Kind::Count(filter) => filter.shape(place),
+            Kind::Differ(filter) => filter.shape(place),
+            Kind::Within(filter) => filter.shape(place),
         }
     }
 

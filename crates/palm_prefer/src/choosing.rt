@@ -2,7 +2,7 @@
 ghost use Rattle.std.specs.Prelude.{◌≡◌, ◌<◌, map, IfOk};
 ghost use Rattle.palm_book.specs.Book.{IsBook, initial_of};
 ghost use Rattle.palm_model.specs.Minimal.{AreConflict};
-ghost use Rattle.palm_reduce.specs.Kept.{AreKept};
+ghost use Rattle.palm_reduce.specs.Kept.{AreKept, CanLend};
 ghost use Rattle.palm_reduce.specs.Walked.{HasMarked};
 ghost use Rattle.palm_prefer.specs.Preferred.{AreWeights, IsPreferred, hard, is_hard};
 
@@ -13,6 +13,7 @@ use crate::weights::{WeightList, hard_marks};
 use palm_base::{NoMemory, Steps};
 use palm_book::Book;
 use palm_engine::Engine;
+use palm_kind::Kind;
 use palm_reduce::{Kinds, Lent, active_marks, engine_of, minimal_conflict_in};
 use std::alloc::Global;
 use std::marker::Brand;
@@ -22,7 +23,7 @@ use std::sync::ledger::{Blank, Ledger};
 fn keep_most<'a, L: Ledger>(
     alloc: Global,
     book: &Book,
-    kinds: &'a Kinds,
+    kinds: &Kinds<'a>,
     weights: &WeightList,
     engine: Engine<Lent<'a>>,
     marks: Vec<bool>,
@@ -45,11 +46,11 @@ fn keep_most<'a, L: Ledger>(
     })
 }
 
-/// What is preferred, with the filters of the active constraints and a counter of its own.
+/// What is preferred, by the filters of the active constraints, with an engine and a counter of its own.
 fn choose<L: Ledger>(
     alloc: Global,
     book: &Book,
-    kinds: &Kinds,
+    kinds: &Kinds<'_>,
     weights: &WeightList,
     blank: Blank,
 ) -> Result<Preferred, NoMemory>
@@ -80,13 +81,19 @@ fn choose<L: Ledger>(
 /// book; those of relaxed ones do not matter. Where the active constraints without a weight are a conflict, it is their
 /// minimal conflict. Else those are kept, and the active constraints with a weight are walked by falling weight, and by
 /// rising number where weights are equal: each is kept where it makes no conflict with those kept before it, and else left
-/// out, with the minimal conflict of these and itself. It filters with engines of its own and without an order. The one
-/// error is want of memory.
-pub fn preferred(alloc: Global, book: &Book, weights: &WeightList) -> Result<Preferred, NoMemory>
-    requires { AreWeights book.now weights.now }
+/// out, with the minimal conflict of these and itself. It filters with one engine of its own and without an order, by the
+/// filters of the lender, where the active constraints are active too. The one error is want of memory.
+pub fn preferred(
+    alloc: Global,
+    book: &Book,
+    weights: &WeightList,
+    lender: &Engine<Kind>,
+) -> Result<Preferred, NoMemory>
+    requires weights { AreWeights book.now weights.now }
+    requires lends { CanLend book.now lender.now.state }
     ensures { IfOk result (IsPreferred book.now weights.now) }
 {
     let marks = active_marks(alloc, book)?;
-    let kinds = Kinds::new(alloc, book, marks.as_slice())?;
+    let kinds = Kinds::new(alloc, book, marks.as_slice(), lender)?;
     choose::<Brand>(alloc, book, &kinds, weights, Blank::new(1))
 }

@@ -34,7 +34,7 @@ pub(crate) struct Walk<'a> {
 fn pass<'a, L: Ledger>(
     alloc: Global,
     book: &Book,
-    kinds: &'a Kinds,
+    kinds: &Kinds<'a>,
     place: usize,
     walk: &mut Walk<'a>,
     steps: &mut Steps<L>,
@@ -81,7 +81,7 @@ fn pass<'a, L: Ledger>(
 pub(crate) fn walk_over<'a, L: Ledger>(
     alloc: Global,
     book: &Book,
-    kinds: &'a Kinds,
+    kinds: &Kinds<'a>,
     order: &[Soft],
     engine: Engine<Lent<'a>>,
     marks: Vec<bool>,

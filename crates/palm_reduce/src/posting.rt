@@ -31,7 +31,7 @@ fn declare_all(engine: &mut Engine<Lent<'_>>, book: &Book) -> Result<(), NoMemor
 pub fn post<'a>(
     engine: &mut Engine<Lent<'a>>,
     book: &Book,
-    kinds: &'a Kinds,
+    kinds: &Kinds<'a>,
     place: usize,
 ) -> Result<(), NoMemory>
     requires within { place < length book.now.constraints }
@@ -58,7 +58,7 @@ pub(crate) fn is_among(cid: &Cid, cids: &[Cid]) -> bool
 pub fn post_others<'a>(
     engine: &mut Engine<Lent<'a>>,
     book: &Book,
-    kinds: &'a Kinds,
+    kinds: &Kinds<'a>,
     marks: &[bool],
     cids: &[Cid],
 ) -> Result<(), NoMemory>
@@ -80,7 +80,7 @@ pub fn post_others<'a>(
 pub fn engine_of<'a>(
     alloc: Global,
     book: &Book,
-    kinds: &'a Kinds,
+    kinds: &Kinds<'a>,
     marks: &[bool],
 ) -> Result<Engine<Lent<'a>>, NoMemory>
     requires whole { length marks.now ≡ length book.now.constraints }

@@ -4,7 +4,7 @@ ghost use Rattle.palm_book.specs.Book.{IsBook, active_of, initial_of};
 ghost use Rattle.palm_model.specs.Domains.{Has};
 ghost use Rattle.palm_model.specs.Minimal.{AreConflict, DoExplain, IsMinimal};
 ghost use Rattle.palm_reduce.specs.Answers.{TellsMinimal};
-ghost use Rattle.palm_reduce.specs.Kept.{AreKept};
+ghost use Rattle.palm_reduce.specs.Kept.{AreKept, CanLend};
 ghost use Rattle.palm_reduce.specs.Marked.{marked};
 ghost use Rattle.palm_reduce.specs.Properties.{HasProperty, IsCore, MayBeAsked};
 ghost use Rattle.palm_reduce.specs.Walked.{AreSame, HasMarked, HasOnly, HasWalked};
@@ -15,6 +15,7 @@ use crate::property::{Property, has_property};
 use palm_base::{Cid, CidList, NoMemory, Pair, Steps};
 use palm_book::Book;
 use palm_engine::Engine;
+use palm_kind::Kind;
 use std::alloc::Global;
 use std::marker::Brand;
 use std::sync::ledger::{Blank, Ledger};
@@ -32,7 +33,7 @@ pub(crate) struct Found {
 /// filtered for a constraint without which the known core stands.
 fn pass<'a, L: Ledger>(
     book: &Book,
-    kinds: &'a Kinds,
+    kinds: &Kinds<'a>,
     marks: &[bool],
     property: &Property,
     place: usize,
@@ -70,7 +71,7 @@ fn pass<'a, L: Ledger>(
 fn walk<'a, L: Ledger>(
     alloc: Global,
     book: &Book,
-    kinds: &'a Kinds,
+    kinds: &Kinds<'a>,
     marks: &[bool],
     property: &Property,
     engine: &mut Engine<Lent<'a>>,
@@ -107,7 +108,7 @@ fn walk<'a, L: Ledger>(
 fn reduce_in<'a, L: Ledger>(
     alloc: Global,
     book: &Book,
-    kinds: &'a Kinds,
+    kinds: &Kinds<'a>,
     marks: &[bool],
     property: &Property,
     engine: &mut Engine<Lent<'a>>,
@@ -129,11 +130,13 @@ fn reduce_in<'a, L: Ledger>(
     Ok(Some(cids))
 }
 
-/// The minimal set of the marked constraints for a property, with filters, an engine and a counter of its own.
+/// The minimal set of the marked constraints for a property, with an engine and a counter of its own, and the filters of the
+/// lender.
 fn reduce<L: Ledger>(
     alloc: Global,
     book: &Book,
     marks: &[bool],
+    lender: &Engine<Kind>,
     property: &Property,
     blank: Blank,
 ) -> Result<Option<CidList>, NoMemory>
@@ -141,11 +144,12 @@ fn reduce<L: Ledger>(
     requires parts { blank.parts ≡ L.parts }
     requires shared { 0 < L.parts }
     requires whole { length marks.now ≡ length book.now.constraints }
+    requires lends { CanLend (marked book.now marks.now) lender.now.state }
     requires allowed { MayBeAsked property.now (initial_of book.now) (active_of (marked book.now marks.now)) }
     ensures { IfOk result (TellsMinimal (HasProperty property.now (initial_of book.now)) (active_of (marked book.now marks.now))) }
 {
     let mut steps = Steps::<L>::start(blank);
-    let kinds = Kinds::new(alloc, book, marks)?;
+    let kinds = Kinds::new(alloc, book, marks, lender)?;
     let mut engine = engine_of(alloc, book, &kinds, marks)?;
     reduce_in(
         alloc,
@@ -163,7 +167,7 @@ fn reduce<L: Ledger>(
 pub fn minimal_conflict_in<'a, L: Ledger>(
     alloc: Global,
     book: &Book,
-    kinds: &'a Kinds,
+    kinds: &Kinds<'a>,
     marks: &[bool],
     engine: &mut Engine<Lent<'a>>,
     steps: &mut Steps<L>,
@@ -201,35 +205,55 @@ pub fn active_marks(alloc: Global, book: &Book) -> Result<Vec<bool>, NoMemory>
 /// The minimal conflict of the constraints at the marked places of a book, by rising id, whether they are active in the
 /// book or relaxed: a walk from the highest number down leaves each of them out without which the rest is still a
 /// conflict. There is none exactly where they are no conflict. It filters with an engine of its own and without an
-/// order.
+/// order, by the filters of the lender, where they are all active.
 pub fn minimal_conflict_among(
     alloc: Global,
     book: &Book,
     marks: &[bool],
+    lender: &Engine<Kind>,
 ) -> Result<Option<CidList>, NoMemory>
-    requires { length marks.now ≡ length book.now.constraints }
+    requires whole { length marks.now ≡ length book.now.constraints }
+    requires lends { CanLend (marked book.now marks.now) lender.now.state }
     ensures { IfOk result (TellsMinimal (AreConflict (initial_of book.now)) (active_of (marked book.now marks.now))) }
 {
-    reduce::<Brand>(alloc, book, marks, &Property::Conflict, Blank::new(1))
+    reduce::<Brand>(
+        alloc,
+        book,
+        marks,
+        lender,
+        &Property::Conflict,
+        Blank::new(1),
+    )
 }
 
 /// The minimal conflict of the active constraints of a book, by rising id: a walk from the highest number down leaves
 /// each constraint out without which the rest is still a conflict. There is none exactly where they are no conflict. It
-/// filters with an engine of its own and without an order.
-pub fn minimal_conflict(alloc: Global, book: &Book) -> Result<Option<CidList>, NoMemory>
+/// filters with an engine of its own and without an order, by the filters of the lender, where they are all active.
+pub fn minimal_conflict(
+    alloc: Global,
+    book: &Book,
+    lender: &Engine<Kind>,
+) -> Result<Option<CidList>, NoMemory>
+    requires { CanLend book.now lender.now.state }
     ensures { IfOk result (TellsMinimal (AreConflict (initial_of book.now)) (active_of book.now)) }
 {
     let marks = active_marks(alloc, book)?;
-    minimal_conflict_among(alloc, book, marks.as_slice())
+    minimal_conflict_among(alloc, book, marks.as_slice(), lender)
 }
 
 /// The minimal explanation of the absence of a pair by the active constraints of a book, by rising id: a walk from the
 /// highest number down leaves each constraint out without which the rest still explains it. There is none exactly where
 /// they do not explain it: the pair is in their greatest closed domains. It filters with an engine of its own and
-/// without an order.
-pub fn minimal_why(alloc: Global, book: &Book, pair: Pair) -> Result<Option<CidList>, NoMemory>
+/// without an order, by the filters of the lender, where they are all active.
+pub fn minimal_why(
+    alloc: Global,
+    book: &Book,
+    pair: Pair,
+    lender: &Engine<Kind>,
+) -> Result<Option<CidList>, NoMemory>
     requires declared { Has (initial_of book.now) pair.var pair.value }
     requires filled { AreConflict (initial_of book.now) (active_of book.now) → ⊥ }
+    requires lends { CanLend book.now lender.now.state }
     ensures { IfOk result (TellsMinimal (DoExplain (initial_of book.now) pair) (active_of book.now)) }
 {
     let marks = active_marks(alloc, book)?;
@@ -237,6 +261,7 @@ pub fn minimal_why(alloc: Global, book: &Book, pair: Pair) -> Result<Option<CidL
         alloc,
         book,
         marks.as_slice(),
+        lender,
         &Property::Absence(pair),
         Blank::new(1),
     )

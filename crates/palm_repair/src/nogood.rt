@@ -5,7 +5,6 @@ ghost use Rattle.palm_base.specs.declared.terms.Pair.{Pair as PairTerm};
 ghost use Rattle.palm_engine.specs.Engine.{KeepsCounts};
 ghost use Rattle.palm_model.specs.Constraint.{Distinct};
 ghost use Rattle.palm_model.specs.Event.{vars_of};
-ghost use Rattle.palm_base.specs.Order.{same_pair};
 ghost use Rattle.palm_repair.specs.Posting.{justification, nogood_of, pairs_under};
 ghost use Rattle.palm_repair.specs.Learned.{Forces, IsForced, ShowsDecisions, is_shown, left_open};
 

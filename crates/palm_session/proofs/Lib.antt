@@ -18,6 +18,7 @@ pub mod LawsOfLines
 pub mod Least
 pub mod Led
 pub mod LedTexts
+mod Lending
 pub mod Logging
 pub mod Made
 pub mod Minimizing

@@ -1,6 +1,6 @@
 //! Whether a line that was read is admitted: its refusals, in the order in which they are looked for, and what it asks
 //! for, each name looked up once.
-ghost use Rattle.std.specs.Prelude.{◌≡◌, ◌≤◌, ◌⊎◌, IfOk, length};
+ghost use Rattle.std.specs.Prelude.{◌≡◌, IfOk};
 ghost use Rattle.palm_base.specs.Tells.{Tells};
 ghost use Rattle.palm_read.specs.Limits.{IsBeyond};
 ghost use Rattle.palm_session.specs.Refusals.{IsFullOfConstraints, IsFullOfVariables, refusal_of};

@@ -1,5 +1,5 @@
 //! What a session keeps between two lines. What keeps the book and the engine in step is here, and nowhere else.
-ghost use Rattle.std.specs.Prelude.{◌≡◌, ◌-◌, ◌<◌, ◌≤◌, None, true, false, Contains, IfErr, IfOk, IfSome, OnOk, Some, length, slice_get};
+ghost use Rattle.std.specs.Prelude.{◌≡◌, ◌-◌, ◌<◌, None, true, false, Contains, IfErr, IfOk, IfSome, OnOk, Some, length, slice_get};
 ghost use Rattle.palm_base.specs.Streams.{IsSameSink};
 ghost use Rattle.palm_base.specs.Tells.{Tells};
 ghost use Rattle.palm_book.specs.Book.{AreValues, user_at};

@@ -74,7 +74,7 @@ impl<G: Guide, O: Order> Desk<G, O> {
         ensures tells { IfOk result (λ reply. SaysMinimal self.now.state.book pair (reply_text self.now.state reply)) }
         ensures fits { IfOk result (ReplyFits self.now.state) }
     {
-        match minimal_why(self.alloc(), self.book(), pair)? {
+        match minimal_why(self.alloc(), self.book(), pair, self.engine())? {
             Some(users) => Ok(Reply::Users {
                 lead: Lead::Because,
                 users,
@@ -85,10 +85,11 @@ impl<G: Guide, O: Order> Desk<G, O> {
 
     /// `consistent`, or the minimal conflict.
     fn minimal_conflict(&self) -> Result<Reply, NoMemory>
+        requires { IsHeld self.now.state }
         ensures tells { IfOk result (λ reply. SaysMinimalConflict self.now.state.book (reply_text self.now.state reply)) }
         ensures fits { IfOk result (ReplyFits self.now.state) }
     {
-        match minimal_conflict(self.alloc(), self.book())? {
+        match minimal_conflict(self.alloc(), self.book(), self.engine())? {
             Some(users) => Ok(Reply::Users {
                 lead: Lead::Conflict,
                 users,
@@ -104,7 +105,7 @@ impl<G: Guide, O: Order> Desk<G, O> {
         ensures fits { IfOk result (ReplyFits self.now.state) }
     {
         let weights = self.weights().to_list(self.alloc())?;
-        let preferred = preferred(self.alloc(), self.book(), &weights)?;
+        let preferred = preferred(self.alloc(), self.book(), &weights, self.engine())?;
         Ok(Reply::Weighed(preferred))
     }
 

@@ -100,7 +100,7 @@ fn are_active<F: Filter>(engine: &Engine<F>, names: &[Cid]) -> bool
 }
 
 /// Appends a variable with these values, where there is room for one.
-fn add_variable<F: Filter>(engine: &mut Engine<F>, values: &[Value]) -> Result<(), NoMemory>
+pub fn add_variable<F: Filter>(engine: &mut Engine<F>, values: &[Value]) -> Result<(), NoMemory>
     requires ascend { Ascends values.now }
     requires filled { 0 < length values.now }
     requires small { length values.now ≤ MOST_VALUES }

@@ -4,11 +4,15 @@
 #[cfg(test)]
 mod agendas;
 #[cfg(test)]
+mod alike;
+#[cfg(test)]
 mod calls;
 #[cfg(test)]
 mod cases;
 #[cfg(test)]
 mod choice;
+#[cfg(test)]
+mod counted;
 #[cfg(test)]
 mod decisions;
 #[cfg(test)]
@@ -24,6 +28,12 @@ mod removals;
 #[cfg(test)]
 mod samples;
 #[cfg(test)]
+mod shapes;
+#[cfg(test)]
 mod slow;
+#[cfg(test)]
+mod texts;
+#[cfg(test)]
+mod twins;
 #[cfg(test)]
 mod withdrawals;

@@ -4,12 +4,11 @@ ghost use Rattle.palm_model.specs.Constraint.{IsWellFormed};
 use crate::calls::{Span, declare, pair, post, withdraw};
 use crate::cases::{Step, is_case};
 use crate::choice::{Choice, run_settling};
+use crate::counted::Counted;
 use crate::removals::{Because, Removal, has_removals, removed};
 use crate::samples::{Sample, con_of};
-use palm_base::{Cid, NoMemory, Pair, VarList};
-use palm_domain::DomainStore;
+use palm_base::{Cid, NoMemory};
 use palm_engine::{Engine, Settle};
-use palm_filter::{Filter, Reasons};
 use palm_kind::Kind;
 use palm_model::Con;
 use std::alloc::Global;
@@ -31,32 +30,6 @@ fn removals_of_second() -> [Removal; 2] {
         removed(pair(U, 3), 2, Because::Nothing),
         removed(pair(V, 1), 2, Because::Nothing),
     ]
-}
-
-/// A filter that counts how often it is asked for support.
-#[derive(Drop)]
-struct Counted<'a> {
-    kind: Kind,
-    asked: &'a Cell<u64>,
-}
-
-impl Filter for Counted<'_> {
-    ghost use Rattle.palm_kind.specs.Kind.{con_of};
-
-    ghost meaning = { λ counted. con_of counted.kind };
-
-    fn scope(&self) -> &VarList {
-        self.kind.scope()
-    }
-
-    fn supported(&self, store: &DomainStore, pair: Pair) -> bool {
-        self.asked.set(self.asked.get().saturating_add(1));
-        self.kind.supported(store, pair)
-    }
-
-    fn reason(&self, store: &DomainStore, pair: Pair, out: &mut Reasons) -> Result<(), NoMemory> {
-        self.kind.reason(store, pair, out)
-    }
 }
 
 /// Posts the constraint by a filter that counts, unless a constraint has the number.
@@ -129,7 +102,12 @@ fn is_settled_at_once(alloc: Global, engine: &mut Engine<Counted<'_>>) -> Result
     )
 }
 
-/// Whether the filters are asked as often as the engine counts, at most 36 times, and not once more after the withdrawal.
+/// How often `x < y` and `u < v` ask together. The first revision of `x < y` asks for 1 of x, which has support, and from above
+/// for 3, which lacks it, and 2; then for 1 of y, which lacks it, 2, and from above for 3. The second one, for the loss of 1 of y,
+/// asks for the ends of x, 1 and 2. That is eight times, and as often for `u < v`.
+const ASKED: u64 = 16;
+
+/// Whether the filters are asked as often as the engine counts and as is said above, and not once more after the withdrawal.
 fn is_asked_as_counted<'a>(
     alloc: Global,
     engine: &mut Engine<Counted<'a>>,
@@ -139,7 +117,7 @@ fn is_asked_as_counted<'a>(
         return Ok(false);
     }
     let first = asked.get();
-    Ok(0 < first && first <= 36 && is_settled_at_once(alloc, engine)? && asked.get() == first)
+    Ok(first == ASKED && is_settled_at_once(alloc, engine)? && asked.get() == first)
 }
 
 /// The same of a new engine.

@@ -10,6 +10,8 @@ mod kind;
 #[cfg(test)]
 mod model;
 #[cfg(test)]
+mod shapes;
+#[cfg(test)]
 mod store;
 #[cfg(test)]
 mod testing;

@@ -139,7 +139,7 @@ impl Order for SecondOnce {
 struct Beyond;
 
 impl Order for Beyond {
-    ghost use Rattle.std.specs.Prelude.{◌≡◌, [], ⊤};
+    ghost use Rattle.std.specs.Prelude.{◌≡◌, []};
 
     ghost state = { λ order. [] };
 

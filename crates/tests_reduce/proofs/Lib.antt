@@ -1,2 +1,3 @@
+mod Lending
 mod Listed
 mod Numbered

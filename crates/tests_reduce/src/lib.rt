@@ -2,6 +2,8 @@
 #![tactic(auto)]
 
 #[cfg(test)]
+mod lender;
+#[cfg(test)]
 mod minimal;
 #[cfg(test)]
 mod samples;

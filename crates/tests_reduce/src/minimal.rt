@@ -3,6 +3,7 @@ ghost use Rattle.std.specs.Prelude.{◌≡◌, true};
 ghost use Rattle.palm_book.specs.Book.{initial_of};
 ghost use Rattle.palm_model.specs.Domains.{Has};
 
+use crate::lender::lender_of;
 use crate::samples::{Question, X, Y, add_four, add_three, ask};
 use palm_base::{Cid, CidList, NoMemory, Pair, Value, Var};
 use palm_book::Book;
@@ -46,7 +47,8 @@ fn why(alloc: Global, book: &Book, var: u32, value: i32) -> Result<Option<CidLis
     if !is_declared(book, &pair) {
         return Ok(None);
     }
-    match minimal_conflict(alloc, book)? {
+    let lender = lender_of(alloc, book)?;
+    match minimal_conflict(alloc, book, &lender)? {
         Some(_) => Ok(None),
         None => minimal_why(
             alloc,
@@ -55,6 +57,7 @@ fn why(alloc: Global, book: &Book, var: u32, value: i32) -> Result<Option<CidLis
                 var: Var(var),
                 value: Value(value),
             },
+            &lender,
         ),
     }
 }
@@ -72,7 +75,8 @@ fn is_why(
 
 /// Whether the minimal conflict is of these users' constraints.
 fn is_conflict(alloc: Global, book: &Book, numbers: Option<&[u32]>) -> Result<bool, NoMemory> {
-    Ok(are_users(&minimal_conflict(alloc, book)?, numbers))
+    let lender = lender_of(alloc, book)?;
+    Ok(are_users(&minimal_conflict(alloc, book, &lender)?, numbers))
 }
 
 /// Of three constraints, which are no conflict, the first alone takes a value of y out.

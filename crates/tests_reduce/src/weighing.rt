@@ -2,6 +2,7 @@
 ghost use Rattle.std.specs.Prelude.{◌≡◌, ◌≢◌, ◌∷◌, [], true, All, AllPairs, IfOk};
 ghost use Rattle.palm_book.specs.Book.{HasNumber};
 
+use crate::lender::lender_of;
 use crate::samples::{Question, add_conflict, ask};
 use palm_base::{Cid, CidList, NoMemory};
 use palm_book::Book;
@@ -91,7 +92,8 @@ fn is_kept(
     if !are_present(book, weights) {
         return Ok(false);
     }
-    match preferred(alloc, book, weights)? {
+    let lender = lender_of(alloc, book)?;
+    match preferred(alloc, book, weights, &lender)? {
         Preferred::Hard(_) => Ok(false),
         Preferred::Kept { keep: kept, left } => Ok(
             are_users(&kept, keep)
@@ -115,7 +117,8 @@ fn is_hard(
     if !are_present(book, weights) {
         return Ok(false);
     }
-    match preferred(alloc, book, weights)? {
+    let lender = lender_of(alloc, book)?;
+    match preferred(alloc, book, weights, &lender)? {
         Preferred::Hard(cids) => Ok(are_users(&cids, conflict)),
         Preferred::Kept { .. } => Ok(false),
     }

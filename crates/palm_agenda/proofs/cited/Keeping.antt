@@ -31,10 +31,10 @@ use Rattle.palm_agenda.proofs.CidLists.{filter_short, member_reverse, reverse_me
 use Rattle.palm_agenda.proofs.Rows.{front_last, front_more, row_within}
 use Rattle.palm_base.proofs.cited.Sorted.{map_sets, apart}
 
-if_true : {X : Type 0} (b : Bool) (x y : X) → b ≡ true → (if b then x else y) ≡ x
+pub if_true : {X : Type 0} (b : Bool) (x y : X) → b ≡ true → (if b then x else y) ≡ x
 if_true b x y e = ap (λ v. if v then x else y) e
 
-if_false : {X : Type 0} (b : Bool) (x y : X) → b ≡ false → (if b then x else y) ≡ y
+pub if_false : {X : Type 0} (b : Bool) (x y : X) → b ≡ false → (if b then x else y) ≡ y
 if_false b x y e = ap (λ v. if v then x else y) e
 
 -- the ids at raised flags are of connected constraints, and rise

@@ -7,7 +7,7 @@ use Rattle.palm_model.specs.Removed.{pairs_of}
 use Rattle.palm_agenda.specs.Agenda.{HasPlace, IsMarked}
 use Rattle.palm_engine.specs.Posted.{active_of}
 use Rattle.palm_engine.proofs.Progress.{on_err_of}
-use Rattle.palm_engine.proofs.Places.{owner_place, place_over, place_past, unmarked_supported, unmarked_clears, cleared_revising, cleared_walked}
+use Rattle.palm_engine.proofs.Places.{owner_place, place_past, unmarked_supported, unmarked_clears, cleared_revising, cleared_walked}
 use Rattle.palm_engine.proofs.revise.revise_place.Goals as goal
 
 pub is_marked-requires : goal.is_marked-requires
@@ -15,9 +15,6 @@ is_marked-requires g c =
     let r = c.requires.revising in
     subst (λ (n : Cid). HasPlace c.args.filtering.now.agenda.connected n c.args.place) (sym c.cid-cid.ensures)
     (owner_place c.args.filtering.now r.0 (active_of g.F.Filter.meaning c.args.constraint.now) c.args.place c.args.var r.1 c.requires.at)
-
-pub revise_values-requires-clause-over : goal.revise_values-requires-clause-over
-revise_values-requires-clause-over g c = place_over (active_of g.F.Filter.meaning c.args.constraint.now) c.args.place c.args.var c.requires.at
 
 pub returns-in_err-revise_values-clause-part : goal.returns-in_err-revise_values-clause-part
 returns-in_err-revise_values-clause-part g c = λ active r. on_err_of c.from_residual.result (c.in_err-revise_values.ensures.part active r)

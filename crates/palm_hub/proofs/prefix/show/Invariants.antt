@@ -1,5 +1,4 @@
 use Rattle.std.proofs.Common.{◌≡◌, ◌-◌, length}
-use Rattle.palm_base.specs.Streams.{IsSameSink}
 use Rattle.palm_hub.specs.Prefixed.{Extends}
 use Rattle.palm_hub.proofs.prefix.show.Given as goal
 

@@ -4,6 +4,7 @@ use Rattle.palm_book.specs.declared.book.BookCon.{BookCon}
 use Rattle.palm_book.specs.Book.{Contents, active_of, initial_of}
 use Rattle.palm_model.specs.Minimal.{AreConflict, DoExplain}
 use Rattle.palm_reduce.specs.Answers.{TellsMinimal}
+use Rattle.palm_reduce.specs.Kept.{CanLend}
 use Rattle.palm_reduce.proofs.cited.Marking.{same_marked}
 use Rattle.palm_reduce.proofs.reduce.minimal_why.Goals as goal
 
@@ -13,6 +14,10 @@ reduce-requires-clause-allowed c =
       c.requires.declared,
       subst (λ (z : Contents). AreConflict (initial_of book) (active_of z) → ⊥) (sym (same_marked book c.as_slice.result.now (c.as_slice.ensures.value ∙ c.in_ok-marks.ensures.marks))) c.requires.filled,
     )
+
+pub reduce-requires-clause-lends : goal.reduce-requires-clause-lends
+reduce-requires-clause-lends c =
+    subst (λ (z : Contents). CanLend z c.args.lender.now.state) (sym (same_marked c.args.book.now c.as_slice.result.now (c.as_slice.ensures.value ∙ c.in_ok-marks.ensures.marks))) c.requires.lends
 
 pub returns : goal.returns
 returns c =

@@ -9,11 +9,13 @@ pub invariant_of-self : goal.invariant_of-self
 invariant_of-self c = (
   grown_after c.self.inside.connections.items c.self.inside.over.items c.make_room_for.new.over.items c.self.inside.pending.flags c.make_room_for.new.pending.flags _ _ c.self.invariant.0 c.make_room_for.ensures.cids c.make_room_for.ensures.flags c.make_room_for.ensures.grows,
   tt,
+  tt,
 )
 
 pub invariant_of-self-in_err-connection : goal.invariant_of-self-in_err-connection
 invariant_of-self-in_err-connection c = (
   grown_after c.self.inside.connections.items c.self.inside.over.items c.make_room_for.new.over.items c.self.inside.pending.flags c.make_room_for.new.pending.flags _ _ c.self.invariant.0 c.make_room_for.ensures.cids c.make_room_for.ensures.flags c.make_room_for.ensures.grows,
+  tt,
   tt,
 )
 
@@ -21,6 +23,7 @@ pub invariant_of-self-in_err-insert : goal.invariant_of-self-in_err-insert
 invariant_of-self-in_err-insert c = (
   rw c.in_err-insert.ensures.items
       (grown_after c.self.inside.connections.items c.self.inside.over.items c.make_room_for.new.over.items c.self.inside.pending.flags c.make_room_for.new.pending.flags _ _ c.self.invariant.0 c.make_room_for.ensures.cids c.make_room_for.ensures.flags c.make_room_for.ensures.grows),
+  tt,
   tt,
 )
 
@@ -38,6 +41,7 @@ invariant_of-self-2 c = (
       (grown_after c.self.inside.connections.items c.self.inside.over.items c.make_room_for.new.over.items c.self.inside.pending.flags c.make_room_for.new.pending.flags _ (vec_capacity c.make_room_for.new.shown) c.self.invariant.0 c.make_room_for.ensures.cids c.make_room_for.ensures.flags c.make_room_for.ensures.grows)
       (parted_in c.deref.result.now c.self.inside.connections.items c.args.cid c.place_of-place.result c.deref.ensures.value c.place_of-place.ensures) (is_absent c)
       c.insert.new.self.items (is_inserted c) c.insert_over.ensures c.insert-2.ensures (omega (arith, c.in_ok-make_room_for.ensures.shown, c.len-count.ensures, c.self.inside.connections.ok.0)),
+  tt,
   tt,
 )
 

@@ -25,6 +25,7 @@ invariant_of-self c = (
       (subst (λ (w : Waiting). IsConnected w.connected c.args.cid) (sym c.self.view_is) c.requires) c.remove-connection.ensures.value
       c.remove-connection.new.self.items c.remove_over.new.over.items c.remove.new.self.flags c.scope.result.now c.remove-connection.ensures.items c.scope.ensures c.remove_over.ensures c.remove.ensures,
   tt,
+  tt,
 )
 
 pub returns-clause-connected : goal.returns-clause-connected

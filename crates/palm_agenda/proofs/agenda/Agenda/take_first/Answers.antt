@@ -22,6 +22,7 @@ pub invariant_of-self-2 : goal.invariant_of-self-2
 invariant_of-self-2 c = (
   set_after c.self.inside.connections.items c.self.inside.over.items c.self.inside.pending.flags c.lower_first.new.self.flags _ _ c.in_ok-place.place false c.self.invariant.0 c.in_ok-place.ensures.1 (omega arith),
   tt,
+  tt,
 )
 
 pub returns-clause-some : goal.returns-clause-some

@@ -13,6 +13,7 @@ invariant_of-self c = (
       (sym (ap (λ ds. flagged (connected_cids ds) c.self.inside.pending.flags) c.unmark_named.ensures
       ∙ ap (λ cids. flagged cids c.self.inside.pending.flags) (cids_kept (changed_at c.args.cid (unmarked c.args.place)) (keeps_at c.args.cid (unmarked c.args.place) (keeps_unmarked c.args.place)) c.self.inside.connections.items)))
       c.self.invariant.1,
+  tt,
 )
 
 pub returns-clause-pending : goal.returns-clause-pending

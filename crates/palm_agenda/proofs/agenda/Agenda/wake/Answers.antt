@@ -1,9 +1,12 @@
-use Rattle.std.proofs.Common.{◌∙◌, ap, reverse}
-use Rattle.palm_agenda.specs.Agenda.{connected_cids}
+use Rattle.std.proofs.Common.{◌≡◌, ◌↔◌, ◌⊎◌, ◌∙◌, ap, subst, map, reverse, Contains}
+use Rattle.palm_base.specs.declared.terms.Cid.{Cid}
+use Rattle.palm_agenda.specs.Agenda.{IsOver, connected_cids, mark_others}
+use Rattle.palm_agenda.specs.Kept.{IsWoken}
 use Rattle.palm_agenda.specs.Flags.{flagged}
 use Rattle.palm_agenda.specs.Cids.{cids_at}
 use Rattle.palm_agenda.specs.declared.connection.Places.TheVariants.{Others}
 use Rattle.palm_agenda.proofs.cited.Keeping.{cids_are_over, woken_after, woken_connected, woken_pending}
+use Rattle.palm_agenda.proofs.Woken.{woken_already, woken_noted}
 use Rattle.palm_agenda.proofs.agenda.Agenda.wake.Goals as goal
 
 pub wake_each-requires-clause-over : goal.wake_each-requires-clause-over
@@ -16,6 +19,13 @@ invariant_of-self c = (
   woken_after Others c.args.var c.cids_over-cids.result.now c.self.inside.connections.items c.self.inside.over.items c.self.inside.pending.flags c.wake_each.new.pending.flags _ c.self.invariant.0
       c.wake_each.ensures.flags c.wake_each.new.connections.items c.wake_each.ensures.marks,
   tt,
+  woken_noted c.args.var c.self.inside.connections.items c.wake_each.new.connections.items (flagged (connected_cids c.self.inside.connections.items) c.self.inside.pending.flags)
+      (flagged (connected_cids c.wake_each.new.connections.items) c.wake_each.new.pending.flags)
+      (woken_connected Others c.args.var c.cids_over-cids.result.now c.self.inside.connections.items c.self.inside.over.items c.self.inside.pending.flags _ c.self.invariant.0
+      (c.cids_over-cids.ensures ∙ ap (λ rows. reverse (cids_at rows c.args.var)) c.deref.ensures.value) c.wake_each.new.connections.items c.wake_each.ensures.marks)
+      (woken_pending c.args.var c.cids_over-cids.result.now c.self.inside.connections.items c.self.inside.over.items c.self.inside.pending.flags _ c.self.invariant.0
+      (c.cids_over-cids.ensures ∙ ap (λ rows. reverse (cids_at rows c.args.var)) c.deref.ensures.value)
+      (flagged (connected_cids c.self.inside.connections.items) c.self.inside.pending.flags) (flagged (connected_cids c.wake_each.new.connections.items) c.wake_each.new.pending.flags) c.wake_each.ensures.pending),
 )
 
 pub returns-clause-connected : goal.returns-clause-connected
@@ -33,3 +43,19 @@ returns-clause-pending c =
 
 pub returns-clause-formed : goal.returns-clause-formed
 returns-clause-formed c = (invariant_of-self c).0.formed
+
+already : (c : goal.Then-is_noted) → (c.self.inside.connections.items ≡ map (mark_others c.args.var) c.self.inside.connections.items)
+    × ((d : Cid) → Contains (flagged (connected_cids c.self.inside.connections.items) c.self.inside.pending.flags) d
+    ↔ (Contains (flagged (connected_cids c.self.inside.connections.items) c.self.inside.pending.flags) d ⊎ IsOver c.self.inside.connections.items c.args.var d))
+already c =
+    woken_already c.args.var c.self.inside.connections.items (flagged (connected_cids c.self.inside.connections.items) c.self.inside.pending.flags)
+    (subst (λ w. IsWoken w c.self.inside.connections.items (flagged (connected_cids c.self.inside.connections.items) c.self.inside.pending.flags)) (c.is_noted.ensures c.if-is_noted.true) c.self.invariant.2)
+
+pub returns-then-is_noted-clause-connected : goal.returns-then-is_noted-clause-connected
+returns-then-is_noted-clause-connected c = rw (← c.self.view_is) ((already c).0)
+
+pub returns-then-is_noted-clause-pending : goal.returns-then-is_noted-clause-pending
+returns-then-is_noted-clause-pending c = rw (← c.self.view_is) ((already c).1)
+
+pub returns-then-is_noted-clause-formed : goal.returns-then-is_noted-clause-formed
+returns-then-is_noted-clause-formed c = rw (← c.self.view_is) c.self.invariant.0.formed

@@ -16,6 +16,7 @@ pub invariant_of-self : goal.invariant_of-self
 invariant_of-self c = (
   set_after c.self.inside.connections.items c.self.inside.over.items c.self.inside.pending.flags c.raise.new.self.flags _ _ c.place_near-place.result true c.self.invariant.0 c.raise.ensures (omega arith),
   tt,
+  tt,
 )
 
 pub returns-clause-pending : goal.returns-clause-pending

@@ -16,6 +16,7 @@ invariant_of-self c = (
   woken_after Own c.args.var c.cids_over-cids.result.now c.self.inside.connections.items c.self.inside.over.items c.self.inside.pending.flags c.wake_each.new.pending.flags _ c.self.invariant.0
       c.wake_each.ensures.flags c.wake_each.new.connections.items c.wake_each.ensures.marks,
   tt,
+  tt,
 )
 
 pub returns-clause-connected : goal.returns-clause-connected

@@ -6,6 +6,7 @@ use Rattle.palm_lang.specs.declared.reply.Lead.TheVariants.{Because}
 use Rattle.palm_model.specs.Domains.{Domains, Has}
 use Rattle.palm_model.specs.Minimal.{AreConflict, DoExplain}
 use Rattle.palm_session.specs.Answers.{SaysMinimal, users_text}
+use Rattle.palm_session.proofs.Lending.{held_lends}
 use Rattle.palm_session.proofs.Users.{minimal_users}
 use Rattle.palm_session.proofs.desk.Desk.minimal.Goals as goal
 
@@ -17,6 +18,10 @@ minimal_why-requires-clause-declared g c =
 pub minimal_why-requires-clause-filled : goal.minimal_why-requires-clause-filled
 minimal_why-requires-clause-filled g c =
     subst (λ (b : Contents). AreConflict (initial_of b) (active_of b) → ⊥) (sym c.book.ensures) c.requires.filled
+
+pub minimal_why-requires-clause-lends : goal.minimal_why-requires-clause-lends
+minimal_why-requires-clause-lends g c =
+    held_lends c.args.self.now.state c.requires.held c.book.result.now c.engine.result.now.state c.book.ensures c.engine.ensures.state
 
 pub returns-in-Some-clause-tells : goal.returns-in-Some-clause-tells
 returns-in-Some-clause-tells g c =

@@ -5,8 +5,12 @@ use Rattle.palm_lang.specs.declared.reply.Fixed.TheVariants.{Consistent}
 use Rattle.palm_lang.specs.declared.reply.Lead.TheVariants.{Conflict as ConflictLead}
 use Rattle.palm_model.specs.Minimal.{AreConflict}
 use Rattle.palm_session.specs.Answers.{SaysMinimalConflict, users_text}
+use Rattle.palm_session.proofs.Lending.{held_lends}
 use Rattle.palm_session.proofs.Users.{minimal_users}
 use Rattle.palm_session.proofs.desk.Desk.minimal_conflict.Goals as goal
+
+pub minimal_conflict-requires : goal.minimal_conflict-requires
+minimal_conflict-requires g c = held_lends c.args.self.now.state c.requires c.book.result.now c.engine.result.now.state c.book.ensures c.engine.ensures.state
 
 pub returns-in-Some-clause-tells : goal.returns-in-Some-clause-tells
 returns-in-Some-clause-tells g c =

@@ -1,0 +1,11 @@
+use Rattle.std.proofs.Common.{int_cmp, is_lt, rules, of_calls}
+use Rattle.std.proofs.lemmas.Fn.{always_returns_same}
+use Rattle.filter_linear.proofs.Beyond.{lower_parted, lower_first}
+use Rattle.filter_linear.proofs.reasons.lower.Goals as goal
+
+pub returns : goal.returns
+returns c =
+    let vs = c.args.values.now in
+    let bound = c.args.bound.now in
+    lower_first vs c.requires bound c.partition_point-end.result
+    (c.partition_point-end.ensures.partitioned (λ v. is_lt (int_cmp v bound)) (always_returns_same _ _ _ (λ a r f k. search (rules, of_calls))) (lower_parted vs c.requires bound))

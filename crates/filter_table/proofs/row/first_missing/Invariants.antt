@@ -1,9 +1,0 @@
-use Rattle.std.proofs.Common.{◌≡◌, drop}
-use Rattle.palm_domain.specs.Rows.{present_of}
-use Rattle.palm_model.specs.Table.{first_missing, row_pairs}
-use Rattle.filter_table.proofs.row.first_missing.Given as goal
-
--- the first entry that is not present is among those left
-abbrev pub invariant-loop-column : goal.invariant-loop-column
-invariant-loop-column l =
-    first_missing (present_of l.store) (row_pairs l.vars l.row) ≡ first_missing (present_of l.store) (row_pairs (drop l.column l.vars) (drop l.column l.row))

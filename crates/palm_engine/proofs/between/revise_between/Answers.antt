@@ -1,0 +1,108 @@
+use Rattle.std.proofs.Common.{◌+ℤ◌, IfSome, length, pos, sym, subst}
+use Rattle.palm_domain.specs.Rows.{initial_of, present_of}
+use Rattle.palm_model.specs.Domains.{values_of}
+use Rattle.palm_model.specs.Support.{IsSupported}
+use Rattle.palm_engine.specs.declared.filtering.Filtering.{Filtering}
+use Rattle.palm_engine.specs.Advancing.{Advanced, values_below}
+use Rattle.palm_engine.specs.Posted.{active_of}
+use Rattle.palm_engine.specs.Revising.{HasCounted, IsRevising}
+use Rattle.palm_engine.proofs.Revised.{var_stored}
+use Rattle.palm_engine.proofs.Progress.{values_done, values_supported, revising_checks, on_ok, on_err_of}
+use Rattle.palm_engine.proofs.Convex.{ends_advanced, ends_lacking, ends_counted}
+use Rattle.palm_engine.proofs.between.revise_between.Goals as goal
+
+pub returns-in_err-first-clause-part : goal.returns-in_err-first-clause-part
+returns-in_err-first-clause-part g c = λ active r. on_err_of c.from_residual.result (c.in_err-first.ensures.part active r)
+
+pub returns-in_default-clause-walked : goal.returns-in_default-clause-walked
+returns-in_default-clause-walked g c = λ active r.
+    let owner = active_of g.F.Filter.meaning c.args.constraint.now in
+    let f = c.args.filtering.now in
+    values_done active owner c.args.var f c.rise.new.filtering (subst (λ n. Advanced active owner c.args.var n f c.rise.new.filtering) c.in_default.is (c.in_ok-first.ensures.advanced active r))
+
+pub returns-in_default-clause-supported : goal.returns-in_default-clause-supported
+returns-in_default-clause-supported g c =
+    let r = c.requires.revising in
+    let owner = active_of g.F.Filter.meaning c.args.constraint.now in
+    let f = c.args.filtering.now in
+    values_supported r.0 owner c.args.var f c.rise.new.filtering (subst (λ n. Advanced r.0 owner c.args.var n f c.rise.new.filtering) c.in_default.is (c.in_ok-first.ensures.advanced r.0 r.1))
+
+pub next_after-above-requires : goal.next_after-above-requires
+next_after-above-requires g c =
+    let r = c.requires.revising in
+    let owner = active_of g.F.Filter.meaning c.args.constraint.now in
+    let now = c.rise.new.filtering in
+    let revising = revising_checks r.0 owner now c.last_supported-last.new.filtering.checks (c.rise.ensures.revising r.0 r.1) in
+    var_stored c.last_supported-last.new.filtering r.0 owner (subst (λ (z : Filtering). IsRevising z r.0 owner) (sym c.last_supported-last.ensures.same) revising) c.args.var c.requires.over
+
+pub take_out_from-requires-clause-advanced : goal.take_out_from-requires-clause-advanced
+take_out_from-requires-clause-advanced g c =
+    let r = c.requires.revising in
+    let owner = active_of g.F.Filter.meaning c.args.constraint.now in
+    let f = c.args.filtering.now in
+    let now = c.rise.new.filtering in
+    let w = subst (λ n. Advanced r.0 owner c.args.var n f now) c.in-Some.is (c.in_ok-first.ensures.advanced r.0 r.1) in
+    let low = subst (λ n. IfSome n (IsSupported (present_of now.store) owner.con c.args.var)) c.in-Some.is c.in_ok-first.ensures.supported in
+    let last = c.last_supported-last.ensures in
+    let on = ends_advanced r.0 owner c.args.var c.in-Some.first c.last_supported-last.result c.next_after-above.result f now c.last_supported-last.new.filtering w last.same last.above low last.supported
+    c.requires.convex c.next_after-above.ensures in
+    (r.0, f, on)
+
+pub take_out_from-requires-clause-lacking : goal.take_out_from-requires-clause-lacking
+take_out_from-requires-clause-lacking g c =
+    let last = c.last_supported-last.ensures in
+    ends_lacking (active_of g.F.Filter.meaning c.args.constraint.now) c.args.var c.last_supported-last.result c.next_after-above.result c.rise.new.filtering c.last_supported-last.new.filtering last.same last.lacking c.next_after-above.ensures
+
+pub returns-clause-walked : goal.returns-clause-walked
+returns-clause-walked g c = λ active r.
+    let owner = active_of g.F.Filter.meaning c.args.constraint.now in
+    let f = c.args.filtering.now in
+    let now = c.rise.new.filtering in
+    let w = subst (λ n. Advanced active owner c.args.var n f now) c.in-Some.is (c.in_ok-first.ensures.advanced active r) in
+    let low = subst (λ n. IfSome n (IsSupported (present_of now.store) owner.con c.args.var)) c.in-Some.is c.in_ok-first.ensures.supported in
+    let last = c.last_supported-last.ensures in
+    let on = ends_advanced active owner c.args.var c.in-Some.first c.last_supported-last.result c.next_after-above.result f now c.last_supported-last.new.filtering w last.same last.above low last.supported
+    c.requires.convex c.next_after-above.ensures in
+    on_ok c.take_out_from.result (λ end. values_done active owner c.args.var f c.take_out_from.new.filtering end) (c.take_out_from.ensures.advanced active f on)
+
+pub returns-clause-part : goal.returns-clause-part
+returns-clause-part g c = λ active r.
+    let owner = active_of g.F.Filter.meaning c.args.constraint.now in
+    let f = c.args.filtering.now in
+    let now = c.rise.new.filtering in
+    let w = subst (λ n. Advanced active owner c.args.var n f now) c.in-Some.is (c.in_ok-first.ensures.advanced active r) in
+    let low = subst (λ n. IfSome n (IsSupported (present_of now.store) owner.con c.args.var)) c.in-Some.is c.in_ok-first.ensures.supported in
+    let last = c.last_supported-last.ensures in
+    let on = ends_advanced active owner c.args.var c.in-Some.first c.last_supported-last.result c.next_after-above.result f now c.last_supported-last.new.filtering w last.same last.above low last.supported
+    c.requires.convex c.next_after-above.ensures in
+    c.take_out_from.ensures.part active f on
+
+pub returns-clause-revising : goal.returns-clause-revising
+returns-clause-revising g c = λ active r.
+    let owner = active_of g.F.Filter.meaning c.args.constraint.now in
+    let revising = revising_checks active owner c.rise.new.filtering c.last_supported-last.new.filtering.checks (c.rise.ensures.revising active r) in
+    c.take_out_from.ensures.revising active (subst (λ (z : Filtering). IsRevising z active owner) (sym c.last_supported-last.ensures.same) revising)
+
+pub returns-clause-supported : goal.returns-clause-supported
+returns-clause-supported g c =
+    let r = c.requires.revising in
+    let owner = active_of g.F.Filter.meaning c.args.constraint.now in
+    let f = c.args.filtering.now in
+    let now = c.rise.new.filtering in
+    let w = subst (λ n. Advanced r.0 owner c.args.var n f now) c.in-Some.is (c.in_ok-first.ensures.advanced r.0 r.1) in
+    let low = subst (λ n. IfSome n (IsSupported (present_of now.store) owner.con c.args.var)) c.in-Some.is c.in_ok-first.ensures.supported in
+    let last = c.last_supported-last.ensures in
+    let on = ends_advanced r.0 owner c.args.var c.in-Some.first c.last_supported-last.result c.next_after-above.result f now c.last_supported-last.new.filtering w last.same last.above low last.supported
+    c.requires.convex c.next_after-above.ensures in
+    on_ok c.take_out_from.result (λ end. values_supported r.0 owner c.args.var f c.take_out_from.new.filtering end) (c.take_out_from.ensures.advanced r.0 f on)
+
+pub returns-clause-counted : goal.returns-clause-counted
+returns-clause-counted g c =
+    let r = c.requires.revising in
+    let owner = active_of g.F.Filter.meaning c.args.constraint.now in
+    let f = c.args.filtering.now in
+    let now = c.rise.new.filtering in
+    let w = subst (λ n. Advanced r.0 owner c.args.var n f now) c.in-Some.is (c.in_ok-first.ensures.advanced r.0 r.1) in
+    let low = subst (λ n. IfSome n (λ v. HasCounted (length (values_below (v +ℤ pos 1) (values_of (initial_of f.store) c.args.var))) f now c.args.steps.now c.rise.new.steps)) c.in-Some.is c.in_ok-first.ensures.first in
+    ends_counted r.0 owner c.args.var c.in-Some.first f now c.last_supported-last.new.filtering c.take_out_from.new.filtering c.args.steps.now c.rise.new.steps c.last_supported-last.new.steps w
+    low c.last_supported-last.ensures.counted c.take_out_from.ensures.checks

@@ -1,0 +1,46 @@
+use Rattle.std.proofs.Common.{List, Contains, ◌∙◌, sym, ap, subst}
+use Rattle.palm_base.specs.declared.terms.Pair.{Pair}
+use Rattle.palm_engine.specs.declared.filtering.Filtering.{Filtering}
+use Rattle.palm_engine.specs.Posted.{active_of}
+use Rattle.palm_engine.specs.Revising.{IsRevising}
+use Rattle.palm_engine.proofs.Revised.{owner_in_form, owner_filled, reasons_logged}
+use Rattle.palm_engine.proofs.Progress.{taken_walked, taken_revising, on_ok, on_either}
+use Rattle.palm_engine.proofs.values.take_out.Goals as goal
+
+pub reason-requires-clause-formed : goal.reason-requires-clause-formed
+reason-requires-clause-formed g c = let r = c.requires.revising in owner_in_form c.args.filtering.now r.0 (active_of g.F.Filter.meaning c.args.constraint.now) r.1
+
+pub reason-requires-clause-filled : goal.reason-requires-clause-filled
+reason-requires-clause-filled g c = let r = c.requires.revising in owner_filled c.args.filtering.now r.0 (active_of g.F.Filter.meaning c.args.constraint.now) r.1 c.requires.filled
+
+pub remove-requires-clause-removed : goal.remove-requires-clause-removed
+remove-requires-clause-removed g c = let r = c.requires.revising in let kept = r.1.kept in kept.removed
+
+pub remove-requires-clause-earlier : goal.remove-requires-clause-earlier
+remove-requires-clause-earlier g c =
+    let r = c.requires.revising in
+    let e = c.as_slice.ensures ∙ c.in_ok-reason.ensures.ok in
+    λ p m. reasons_logged c.args.filtering.now r.0 (active_of g.F.Filter.meaning c.args.constraint.now) c.args.pair r.1 c.requires.filled c.requires.present
+    c.requires.lacking p (subst (λ (l : List Pair). Contains l p) e m)
+
+pub returns-clause-walked : goal.returns-clause-walked
+returns-clause-walked g c = λ active r.
+    let e = c.as_slice.ensures ∙ c.in_ok-reason.ensures.ok in
+    on_ok c.remove.result (λ takes. taken_walked active (active_of g.F.Filter.meaning c.args.constraint.now) c.args.pair c.args.filtering.now c.remove.new.self c.cid.result c.as_slice.result.now r
+    c.requires.filled c.requires.present c.requires.lacking c.requires.over c.cid.ensures e takes) c.remove.ensures.ok
+
+pub returns-clause-revising : goal.returns-clause-revising
+returns-clause-revising g c = λ active r.
+    let e = c.as_slice.ensures ∙ c.in_ok-reason.ensures.ok in
+    let owner = active_of g.F.Filter.meaning c.args.constraint.now in
+    on_either c.remove.result
+    (λ takes. taken_revising active owner c.args.pair c.args.filtering.now c.remove.new.self c.cid.result c.as_slice.result.now r
+    c.requires.filled c.requires.present c.requires.lacking c.requires.over c.cid.ensures e takes)
+    (λ same. subst (λ (f : Filtering). IsRevising f active owner) (sym same) r)
+    c.remove.ensures.ok c.remove.ensures.err
+
+pub returns-clause-gone : goal.returns-clause-gone
+returns-clause-gone g c = on_ok c.remove.result (λ takes. takes.loses) c.remove.ensures.ok
+
+pub returns-clause-checks : goal.returns-clause-checks
+returns-clause-checks g c = on_either c.remove.result (λ takes. takes.checks) (λ same. ap (λ (f : Filtering). f.checks) same) c.remove.ensures.ok c.remove.ensures.err

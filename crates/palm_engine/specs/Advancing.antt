@@ -1,0 +1,76 @@
+-- How far a revision has come over the values of a variable.
+use Rattle.std.specs.Prelude.{◌≡◌, ◌≢◌, ◌<ℤ◌, ◌≤ℤ◌, ⊤, ℕ, ℤ, not, Option, Some, None, IfSome, List, filter, length, Contains, int_lt}
+use Rattle.std.specs.Int.{int_min}
+use Rattle.std.specs.Ordering.{int_eq}
+use Rattle.palm_domain.specs.Rows.{initial_of, present_of}
+use Rattle.palm_model.specs.Domains.{Domains, Has, values_of}
+use Rattle.palm_filter.specs.Shapes.{LeavesFree}
+use Rattle.palm_model.specs.Log.{Active}
+use Rattle.palm_model.specs.Removed.{pairs_of}
+use Rattle.palm_model.specs.State.{IsEmptyAt}
+use Rattle.palm_model.specs.Support.{IsSupported, LacksSupport}
+use Rattle.palm_engine.specs.Revising.{IsRevising, Walked}
+use Rattle.palm_engine.specs.declared.filtering.Filtering.{Filtering}
+
+-- the values below the bound
+abbrev pub values_below : ℤ → List ℤ → List ℤ
+values_below low vs = filter (λ v. int_lt v low) vs
+
+-- the values from the bound on
+abbrev pub values_from : ℤ → List ℤ → List ℤ
+values_from low vs = filter (λ v. not (int_lt v low)) vs
+
+-- the values before the next one, or all
+abbrev pub values_before : Option ℤ → List ℤ → List ℤ
+values_before (Some v) vs = values_below v vs
+values_before None vs = vs
+
+-- the value is before the next one
+abbrev pub IsBefore : Option ℤ → ℤ → Type 0
+IsBefore (Some v) w = w <ℤ v
+IsBefore None w = ⊤
+
+-- the values before the next one were walked over; those of them that are left have support, and only this variable may be empty
+pub record Advanced (active : List Active) (owner : Active) (x : ℕ) (next : Option ℤ) (before now : Filtering) : Type 0 where
+  pub revising : IsRevising now active owner
+  pub walked : Walked active owner (pairs_of x (values_before next (values_of (initial_of before.store) x))) before now
+  pub present : IfSome next (λ v. Has (present_of now.store) x v)
+  pub supported : (w : ℤ) → Contains (values_before next (values_of (initial_of before.store) x)) w → Has (present_of now.store) x w → IsSupported (present_of now.store) owner.con x w
+  pub alone : (y : ℕ) → IsEmptyAt (present_of now.store) y → y ≡ x
+
+-- every present value of the variable above the bound lacks support
+abbrev pub LacksAbove : Filtering → Active → ℕ → ℤ → Type 0
+LacksAbove f owner x last = (v : ℤ) → Has (present_of f.store) x v → last <ℤ v → LacksSupport (present_of f.store) owner.con x v
+
+-- every present value of the variable from the next one on lacks support
+abbrev pub LacksFrom : Filtering → Active → ℕ → Option ℤ → Type 0
+LacksFrom f owner x None = ⊤
+LacksFrom f owner x (Some low) = (v : ℤ) → Has (present_of f.store) x v → low ≤ℤ v → LacksSupport (present_of f.store) owner.con x v
+
+-- every present value of the variable but this one has support
+abbrev pub AreSupportedBut : Filtering → Active → ℕ → ℤ → Type 0
+AreSupportedBut f owner x k = (v : ℤ) → Has (present_of f.store) x v → v ≢ k → IsSupported (present_of f.store) owner.con x v
+
+-- and lacks it
+abbrev pub LackBut : Filtering → Active → ℕ → ℤ → Type 0
+LackBut f owner x k = (v : ℤ) → Has (present_of f.store) x v → v ≢ k → LacksSupport (present_of f.store) owner.con x v
+
+-- how often a value is asked for that is asked for where it stands in a list
+abbrev pub asked_of : ℤ → List ℤ → ℕ
+asked_of k vs = length (filter (λ v. int_eq v k) vs)
+
+-- and for one of the others, where there is one
+abbrev pub asked_but : ℤ → List ℤ → ℕ
+asked_but k vs = length (filter (λ v. not (int_eq v k)) vs)
+
+-- the least value from `low` on that one of the other variables does not leave free
+pub record IsNextHit (d : Domains) (vars : List ℕ) (x : ℕ) (by low v : ℤ) : Type 0 where
+  pub present : Has d x v
+  pub from : low ≤ℤ v
+  pub free : (w : ℤ) → Has d x w → low ≤ℤ w → w <ℤ v → LeavesFree d vars x by w
+
+-- the lesser of two values that may be there
+abbrev pub lesser_of : Option ℤ → Option ℤ → Option ℤ
+lesser_of (Some v) (Some w) = Some (int_min v w)
+lesser_of (Some v) None = Some v
+lesser_of None second = second

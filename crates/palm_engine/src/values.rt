@@ -1,0 +1,140 @@
+//! Walks over the values of a variable of a constraint: the values that lack support are taken out.
+ghost use Rattle.std.specs.Prelude.{◌≡◌, [], ◌∷◌, List, length, Contains, Some, slice_get, OnErr, OnOk};
+ghost use Rattle.palm_domain.specs.Rows.{LosesPair, initial_of, present_of};
+ghost use Rattle.palm_model.specs.Constraint.{scope};
+ghost use Rattle.palm_model.specs.Domains.{Has, values_of};
+ghost use Rattle.palm_model.specs.Log.{Active};
+ghost use Rattle.palm_model.specs.Removed.{pairs_of};
+ghost use Rattle.palm_model.specs.State.{AllFilled};
+ghost use Rattle.palm_model.specs.Support.{IsSupported, LacksSupport};
+ghost use Rattle.palm_engine.specs.Posted.{active_of};
+ghost use Rattle.palm_engine.specs.Revising.{AreSupportedAt, HasCounted, IsRevising, Walked, WalkedPart};
+ghost use Rattle.palm_engine.specs.Settling.{IsDue};
+
+use crate::alike::revise_alike;
+use crate::apart::{have_two, revise_apart};
+use crate::between::revise_between;
+use crate::filtering::Filtering;
+use crate::posted::Posted;
+use palm_base::{HasCid, NoMemory, Pair, Steps, Var};
+use palm_filter::{Filter, Reasons, Shape};
+use std::sync::ledger::Ledger;
+
+/// Takes a present value out that lacks support. Without memory it stays.
+pub(crate) fn take_out<F: Filter>(
+    filtering: &mut Filtering,
+    constraint: &Posted<F>,
+    pair: Pair,
+    reasons: &mut Reasons,
+) -> Result<(), NoMemory>
+    requires revising { (active : List Active) × IsRevising filtering.old active (active_of F.meaning constraint.now) }
+    requires filled { AllFilled (present_of filtering.old.store) }
+    requires over { Contains (scope (active_of F.meaning constraint.now).con) pair.var }
+    requires present { Has (present_of filtering.old.store) pair.var pair.value }
+    requires lacking { LacksSupport (present_of filtering.old.store) (active_of F.meaning constraint.now).con pair.var pair.value }
+    ensures walked { (active : List Active) → IsRevising filtering.old active (active_of F.meaning constraint.now)
+        → OnOk result (Walked active (active_of F.meaning constraint.now) (pair ∷ []) filtering.old filtering.new) }
+    ensures revising { (active : List Active) → IsRevising filtering.old active (active_of F.meaning constraint.now)
+        → IsRevising filtering.new active (active_of F.meaning constraint.now) }
+    ensures gone { OnOk result (LosesPair filtering.old.store filtering.new.store pair.var pair.value) }
+    ensures err { OnErr result (filtering.new ≡ filtering.old) }
+    ensures checks { filtering.new.checks ≡ filtering.old.checks }
+{
+    let Pair { var, value } = pair;
+    constraint.reason(&filtering.store, Pair { var, value }, reasons)?;
+    filtering.remove(Pair { var, value }, constraint.cid(), reasons.as_slice())
+}
+
+/// Asks for a present value of the constraint's variable, and takes it out where it lacks support. Without memory
+/// the value stays.
+pub(crate) fn examine<F: Filter, L: Ledger>(
+    filtering: &mut Filtering,
+    constraint: &Posted<F>,
+    pair: Pair,
+    reasons: &mut Reasons,
+    steps: &mut Steps<L>,
+) -> Result<(), NoMemory>
+    requires revising { (active : List Active) × IsRevising filtering.old active (active_of F.meaning constraint.now) }
+    requires filled { AllFilled (present_of filtering.old.store) }
+    requires over { Contains (scope (active_of F.meaning constraint.now).con) pair.var }
+    requires present { Has (present_of filtering.old.store) pair.var pair.value }
+    ensures walked { (active : List Active) → IsRevising filtering.old active (active_of F.meaning constraint.now)
+        → OnOk result (Walked active (active_of F.meaning constraint.now) (pair ∷ []) filtering.old filtering.new) }
+    ensures revising { (active : List Active) → IsRevising filtering.old active (active_of F.meaning constraint.now)
+        → IsRevising filtering.new active (active_of F.meaning constraint.now) }
+    ensures supported { OnOk result (Has (present_of filtering.new.store) pair.var pair.value
+        → IsSupported (present_of filtering.new.store) (active_of F.meaning constraint.now).con pair.var pair.value) }
+    ensures err { OnErr result (filtering.new ≡ record filtering.old { checks = filtering.new.checks }) }
+    ensures due { OnErr result (IsDue (present_of filtering.old.store) (active_of F.meaning constraint.now).con pair) }
+    ensures counted { HasCounted 1 filtering.old filtering.new steps.old steps.new }
+{
+    let Pair { var, value } = pair;
+    if constraint.is_supported(
+        &filtering.store,
+        Pair { var, value },
+        &mut filtering.checks,
+        steps,
+    ) {
+        return Ok(());
+    }
+    take_out(filtering, constraint, Pair { var, value }, reasons)
+}
+
+/// Asks for each present value of the variable, from the least on.
+pub(crate) fn revise_each<F: Filter, L: Ledger>(
+    filtering: &mut Filtering,
+    constraint: &Posted<F>,
+    var: Var,
+    reasons: &mut Reasons,
+    steps: &mut Steps<L>,
+) -> Result<(), NoMemory>
+    requires revising { (active : List Active) × IsRevising filtering.old active (active_of F.meaning constraint.now) }
+    requires filled { AllFilled (present_of filtering.old.store) }
+    requires over { Contains (scope (active_of F.meaning constraint.now).con) var }
+    ensures walked { (active : List Active) → IsRevising filtering.old active (active_of F.meaning constraint.now)
+        → OnOk result (Walked active (active_of F.meaning constraint.now) (pairs_of var (values_of (initial_of filtering.old.store) var)) filtering.old filtering.new) }
+    ensures part { (active : List Active) → IsRevising filtering.old active (active_of F.meaning constraint.now)
+        → OnErr result (WalkedPart active (active_of F.meaning constraint.now) (pairs_of var (values_of (initial_of filtering.old.store) var)) filtering.old filtering.new) }
+    ensures revising { (active : List Active) → IsRevising filtering.old active (active_of F.meaning constraint.now)
+        → IsRevising filtering.new active (active_of F.meaning constraint.now) }
+    ensures supported { OnOk result (AreSupportedAt filtering.new (active_of F.meaning constraint.now) var) }
+    ensures counted { HasCounted (length (values_of (initial_of filtering.old.store) var)) filtering.old filtering.new steps.old steps.new }
+{
+    let mut next = Some(filtering.store.least(var));
+    while let Some(value) = next {
+        examine(filtering, constraint, Pair { var, value }, reasons, steps)?;
+        next = filtering.store.next_after(var, value);
+    }
+    Ok(())
+}
+
+/// Takes the values of the variable at a place of the scope out that lack support. Where a law of the constraint tells of a
+/// value that it has support, or lacks it, that is not asked for.
+pub(crate) fn revise_values<F: Filter, L: Ledger>(
+    filtering: &mut Filtering,
+    constraint: &Posted<F>,
+    place: usize,
+    var: Var,
+    reasons: &mut Reasons,
+    steps: &mut Steps<L>,
+) -> Result<(), NoMemory>
+    requires revising { (active : List Active) × IsRevising filtering.old active (active_of F.meaning constraint.now) }
+    requires filled { AllFilled (present_of filtering.old.store) }
+    requires at { slice_get (scope (active_of F.meaning constraint.now).con) place ≡ Some var }
+    ensures walked { (active : List Active) → IsRevising filtering.old active (active_of F.meaning constraint.now)
+        → OnOk result (Walked active (active_of F.meaning constraint.now) (pairs_of var (values_of (initial_of filtering.old.store) var)) filtering.old filtering.new) }
+    ensures part { (active : List Active) → IsRevising filtering.old active (active_of F.meaning constraint.now)
+        → OnErr result (WalkedPart active (active_of F.meaning constraint.now) (pairs_of var (values_of (initial_of filtering.old.store) var)) filtering.old filtering.new) }
+    ensures revising { (active : List Active) → IsRevising filtering.old active (active_of F.meaning constraint.now)
+        → IsRevising filtering.new active (active_of F.meaning constraint.now) }
+    ensures supported { OnOk result (AreSupportedAt filtering.new (active_of F.meaning constraint.now) var) }
+    ensures counted { HasCounted (length (values_of (initial_of filtering.old.store) var)) filtering.old filtering.new steps.old steps.new }
+{
+    match constraint.shape(place) {
+        Shape::Convex => revise_between(filtering, constraint, var, reasons, steps),
+        Shape::AlikeBut(value) => revise_alike(filtering, constraint, var, value, reasons, steps),
+        Shape::Guarded if have_two(&filtering.store, constraint.scope(), var) => Ok(()),
+        Shape::Apart(by) => revise_apart(filtering, constraint, var, by, reasons, steps),
+        Shape::Guarded | Shape::Any => revise_each(filtering, constraint, var, reasons, steps),
+    }
+}

@@ -1,0 +1,551 @@
+//! What a kind says of the support of its values spares questions, and changes nothing else: each problem is settled by two
+//! engines, of which one hears of it and one does not.
+use crate::choice::Choice;
+use crate::twins::{Asked, Twins};
+use palm_base::NoMemory;
+use std::alloc::Global;
+use std::test::Fail;
+
+/// How often the engine asks that hears of the shapes.
+#[derive(Clone, Copy)]
+enum Asks {
+    /// Less often than the other one.
+    Less,
+    /// As often: the kinds say nothing, or so few values stay that asking from both ends asks for each.
+    AsOften,
+}
+
+/// Problems: the lines of the variables, lines of which each is the first constraint of a problem, and the lines of the others.
+#[derive(Clone, Copy)]
+struct Row {
+    variables: &'static [&'static str],
+    firsts: &'static [&'static str],
+    others: &'static [&'static str],
+    asks: Asks,
+}
+
+/// How the engines settle: what chooses the next revision, and how many there are at a time.
+#[derive(Clone, Copy)]
+struct Pace {
+    choice: Choice,
+    limit: Option<u64>,
+}
+
+/// Two variables, one with gaps.
+const TWO: &[&str] = &["var x -2..3", "var y {-3,-1,0,2,4}"];
+
+/// Four variables.
+const FOUR: &[&str] = &["var x 1..4", "var y 1..4", "var z 1..4", "var n 0..4"];
+
+/// Comparisons, and lists of values. Equality of variables and lists say nothing; `x > 1` keeps two values, and `x > 9` none.
+const COMPARISONS: &[Row] = &[
+    Row {
+        variables: TWO,
+        firsts: &[
+            "add a : x = y",
+            "add a : x = y + 1",
+            "add a : x = y - 2",
+            "add a : x != y",
+            "add a : x != y + 1",
+            "add a : x != y - 2",
+            "add a : x < y",
+            "add a : x < y + 1",
+            "add a : x < y - 2",
+            "add a : x <= y",
+            "add a : x <= y + 1",
+            "add a : x <= y - 2",
+            "add a : x > y",
+            "add a : x > y + 1",
+            "add a : x > y - 2",
+            "add a : x >= y",
+            "add a : x >= y + 1",
+            "add a : x >= y - 2",
+        ],
+        others: &["add b : x != 1", "add c : y >= 0", "add d : y = 2"],
+        asks: Asks::Less,
+    },
+    Row {
+        variables: TWO,
+        firsts: &["add a : x = y", "add a : x = y - 2"],
+        others: &[],
+        asks: Asks::AsOften,
+    },
+    Row {
+        variables: TWO,
+        firsts: &["add a : x < y", "add a : x <= y - 1", "add a : x != y"],
+        others: &["add b : y < x", "add c : x = 2"],
+        asks: Asks::Less,
+    },
+    Row {
+        variables: TWO,
+        firsts: &[
+            "add a : x = 1",
+            "add a : x != 1",
+            "add a : x < 1",
+            "add a : x <= 1",
+            "add a : x >= 1",
+            "add a : x = 9",
+            "add a : x != 9",
+            "add a : x < 9",
+        ],
+        others: &[],
+        asks: Asks::Less,
+    },
+    Row {
+        variables: TWO,
+        firsts: &["add a : x > 1", "add a : x > 9"],
+        others: &[],
+        asks: Asks::AsOften,
+    },
+    Row {
+        variables: TWO,
+        firsts: &[
+            "add a : y = 1",
+            "add a : y != 1",
+            "add a : y < 1",
+            "add a : y <= 1",
+            "add a : y > 1",
+            "add a : y >= 1",
+        ],
+        others: &["add b : x <= y + 1", "add c : x > -1", "add d : x = 9"],
+        asks: Asks::Less,
+    },
+    Row {
+        variables: TWO,
+        firsts: &["add a : x in {-1,1,3,9}", "add a : x in -1..9"],
+        others: &[],
+        asks: Asks::AsOften,
+    },
+    Row {
+        variables: TWO,
+        firsts: &["add a : x in {-1,1,3,9}", "add a : x in -1..9"],
+        others: &["add b : x <= y", "add c : y in {0,4}", "add d : y != 4"],
+        asks: Asks::Less,
+    },
+];
+
+/// Sums. One term that differs from a number says nothing, and `3*x = 3` keeps one value.
+const SUMS: &[Row] = &[
+    Row {
+        variables: TWO,
+        firsts: &[
+            "add a : sum x + y <= 1",
+            "add a : sum x + y >= 1",
+            "add a : sum x + y = 1",
+            "add a : sum x + y != 1",
+        ],
+        others: &["add b : y != 0", "add c : y = 2"],
+        asks: Asks::Less,
+    },
+    Row {
+        variables: TWO,
+        firsts: &[
+            "add a : sum 2*x - 3*y <= 1",
+            "add a : sum 2*x - 3*y >= 1",
+            "add a : sum 2*x - 3*y = 1",
+            "add a : sum 2*x - 3*y != 1",
+        ],
+        others: &["add b : x > -2", "add c : y <= 0", "add d : y >= -1"],
+        asks: Asks::Less,
+    },
+    Row {
+        variables: TWO,
+        firsts: &[
+            "add a : sum -2*x <= 2",
+            "add a : sum -2*x >= 2",
+            "add a : sum -2*x = 2",
+            "add a : sum -2*x != 2",
+        ],
+        others: &["add b : x <= y"],
+        asks: Asks::Less,
+    },
+    Row {
+        variables: TWO,
+        firsts: &[
+            "add a : sum -1*x - 2*y <= 0",
+            "add a : sum -1*x - 2*y >= 0",
+            "add a : sum -1*x - 2*y = 0",
+            "add a : sum -1*x - 2*y != 0",
+        ],
+        others: &["add b : x = 0", "add c : y != 0"],
+        asks: Asks::Less,
+    },
+    Row {
+        variables: TWO,
+        firsts: &["add a : sum 3*x <= 3", "add a : sum 3*x >= 3"],
+        others: &[],
+        asks: Asks::Less,
+    },
+    Row {
+        variables: TWO,
+        firsts: &["add a : sum 3*x = 3", "add a : sum 3*x != 3"],
+        others: &[],
+        asks: Asks::AsOften,
+    },
+    Row {
+        variables: FOUR,
+        firsts: &[
+            "add a : sum x + y + z <= 5",
+            "add a : sum x + y + z >= 5",
+            "add a : sum x + y + z = 5",
+            "add a : sum x + y + z != 5",
+        ],
+        others: &["add b : x = 1", "add c : y != 2", "add d : z <= 2"],
+        asks: Asks::Less,
+    },
+    Row {
+        variables: FOUR,
+        firsts: &[
+            "add a : sum x - 2*y + 3*z - n <= 4",
+            "add a : sum x - 2*y + 3*z - n >= 4",
+            "add a : sum x - 2*y + 3*z - n = 4",
+            "add a : sum x - 2*y + 3*z - n != 4",
+        ],
+        others: &[
+            "add b : x < y",
+            "add c : z = 2",
+            "add d : n = 1",
+            "add e : x != 2",
+        ],
+        asks: Asks::Less,
+    },
+];
+
+/// The other kinds. Tables and elements say nothing.
+const OTHERS: &[Row] = &[
+    Row {
+        variables: FOUR,
+        firsts: &[
+            "add a : count 1 x y z = 2",
+            "add a : count 1 x y z != 2",
+            "add a : count 1 x y z < 2",
+            "add a : count 1 x y z <= 2",
+            "add a : count 1 x y z > 2",
+            "add a : count 1 x y z >= 2",
+        ],
+        others: &["add b : x = 1", "add c : y != 1", "add d : z <= 2"],
+        asks: Asks::Less,
+    },
+    Row {
+        variables: FOUR,
+        firsts: &[
+            "add a : count 2 x y z = n",
+            "add a : count 2 x y z != n",
+            "add a : count 2 x y z < n",
+            "add a : count 2 x y z <= n",
+            "add a : count 2 x y z > n",
+            "add a : count 2 x y z >= n",
+        ],
+        others: &[
+            "add b : x = 2",
+            "add c : n != 2",
+            "add d : n >= 1",
+            "add e : y > 2",
+        ],
+        asks: Asks::Less,
+    },
+    Row {
+        variables: FOUR,
+        firsts: &[
+            "add a : differ x y z",
+            "add a : differ x y",
+            "add a : differ z y x n",
+        ],
+        others: &[
+            "add b : x <= 2",
+            "add c : y <= 2",
+            "add d : z <= 2",
+            "add e : x = 1",
+        ],
+        asks: Asks::Less,
+    },
+    Row {
+        variables: FOUR,
+        firsts: &[
+            "add a : table x y : (1,2) (2,3) (3,9) (4,4)",
+            "add a : element z x (3,1,2,9)",
+        ],
+        others: &[],
+        asks: Asks::AsOften,
+    },
+    Row {
+        variables: FOUR,
+        firsts: &[
+            "add a : table x y z : (1,2,3) (2,3,1) (4,4,4) (3,1,1)",
+            "add a : element z x (3,1,2,9)",
+        ],
+        others: &["add b : x != 2", "add c : n >= x", "add d : z < 4"],
+        asks: Asks::Less,
+    },
+    Row {
+        variables: FOUR,
+        firsts: &["add a : x < y"],
+        others: &["add b : y < z", "add c : z < x"],
+        asks: Asks::Less,
+    },
+    Row {
+        variables: FOUR,
+        firsts: &["add a : x < y"],
+        others: &[
+            "add b : y < z",
+            "add c : count 3 x y z = n",
+            "add d : sum x + y + z != 8",
+            "add e : element n x (1,0,3)",
+        ],
+        asks: Asks::Less,
+    },
+    Row {
+        variables: FOUR,
+        firsts: &["add a : differ x y z"],
+        others: &[
+            "add b : sum x + y - z = 2",
+            "add c : table x n : (1,1) (2,0) (3,4)",
+            "add d : y in {2,4}",
+            "add e : n != 4",
+        ],
+        asks: Asks::Less,
+    },
+];
+
+/// Whether all the lines of variables are taken.
+fn declares(alloc: Global, twins: &mut Twins<'_>, lines: &[&str]) -> Result<bool, NoMemory> {
+    for line in lines {
+        if !twins.say(alloc, 0, line)? {
+            return Ok(false);
+        }
+    }
+    Ok(true)
+}
+
+/// Whether the engines stay alike where a constraint comes under the number, and they settle.
+fn comes(
+    alloc: Global,
+    twins: &mut Twins<'_>,
+    pace: &Pace,
+    number: u32,
+    line: &str,
+) -> Result<bool, NoMemory> {
+    Ok(twins.say(alloc, number, line)? && twins.settle(alloc, &pace.choice, pace.limit)?)
+}
+
+/// Whether the engines stay alike where the constraints come one after another, under the numbers from this one on.
+fn all_come(
+    alloc: Global,
+    twins: &mut Twins<'_>,
+    pace: &Pace,
+    from: u32,
+    lines: &[&str],
+) -> Result<bool, NoMemory> {
+    let mut number = from;
+    for line in lines {
+        if !comes(alloc, twins, pace, number, line)? {
+            return Ok(false);
+        }
+        number = number.saturating_add(1);
+    }
+    Ok(true)
+}
+
+/// Whether the engines stay alike where a constraint goes, they settle, it comes again, and they settle.
+fn goes_and_comes(
+    alloc: Global,
+    twins: &mut Twins<'_>,
+    pace: &Pace,
+    number: u32,
+    line: &str,
+) -> Result<bool, NoMemory> {
+    Ok(
+        twins.withdraw(number)
+            && twins.settle(alloc, &pace.choice, pace.limit)?
+            && comes(alloc, twins, pace, number, line)?,
+    )
+}
+
+/// Whether the engines stay alike where each of the constraints goes and comes again.
+fn each_goes(
+    alloc: Global,
+    twins: &mut Twins<'_>,
+    pace: &Pace,
+    from: u32,
+    lines: &[&str],
+) -> Result<bool, NoMemory> {
+    let mut number = from;
+    for line in lines {
+        if !goes_and_comes(alloc, twins, pace, number, line)? {
+            return Ok(false);
+        }
+        number = number.saturating_add(1);
+    }
+    Ok(true)
+}
+
+/// Whether the engines stay alike where the constraints of the lines go at once, and they settle.
+fn all_go(
+    alloc: Global,
+    twins: &mut Twins<'_>,
+    pace: &Pace,
+    from: u32,
+    lines: &[&str],
+) -> Result<bool, NoMemory> {
+    let mut number = from;
+    for _ in lines {
+        if !twins.withdraw(number) {
+            return Ok(false);
+        }
+        number = number.saturating_add(1);
+    }
+    twins.settle(alloc, &pace.choice, pace.limit)
+}
+
+/// Whether the engines stay alike where the first constraint and the others come, each goes and comes again, and all but the first
+/// go at once.
+fn stay_alike(
+    alloc: Global,
+    twins: &mut Twins<'_>,
+    pace: &Pace,
+    first: &str,
+    others: &[&str],
+) -> Result<bool, NoMemory> {
+    Ok(
+        comes(alloc, twins, pace, 1, first)?
+            && all_come(alloc, twins, pace, 2, others)?
+            && goes_and_comes(alloc, twins, pace, 1, first)?
+            && each_goes(alloc, twins, pace, 2, others)?
+            && all_go(alloc, twins, pace, 2, others)?,
+    )
+}
+
+/// The same of new engines over the variables of the row. All problems give the engines up here, since each place costs its
+/// proof.
+fn are_alike_anew(
+    alloc: Global,
+    asked: &Asked,
+    row: &Row,
+    pace: &Pace,
+    first: &str,
+) -> Result<bool, NoMemory> {
+    let mut twins = Twins::new(alloc, asked);
+    Ok(
+        declares(alloc, &mut twins, row.variables)?
+            && stay_alike(alloc, &mut twins, pace, first, row.others)?,
+    )
+}
+
+/// Whether the engines stay alike, and ask as the row says.
+fn asks_so(alloc: Global, row: &Row, pace: &Pace, first: &str) -> Result<bool, NoMemory> {
+    let asked = Asked::new();
+    Ok(
+        are_alike_anew(alloc, &asked, row, pace, first)?
+            && match row.asks {
+                Asks::Less => asked.is_less(),
+                Asks::AsOften => asked.is_same(),
+            },
+    )
+}
+
+/// The same without an order, with the last one and one revision at a time, and going round.
+fn asks_so_at_each_pace(alloc: Global, row: &Row, first: &str) -> Result<bool, NoMemory> {
+    let paces = [
+        Pace {
+            choice: Choice::Least,
+            limit: None,
+        },
+        Pace {
+            choice: Choice::Last,
+            limit: Some(1),
+        },
+        Pace {
+            choice: Choice::Rotate,
+            limit: None,
+        },
+    ];
+    for pace in paces.as_slice() {
+        if !asks_so(alloc, row, pace, first)? {
+            return Ok(false);
+        }
+    }
+    Ok(true)
+}
+
+/// The same of each problem of the row.
+fn all_ask_so(alloc: Global, row: &Row) -> Result<bool, NoMemory> {
+    for first in row.firsts {
+        if !asks_so_at_each_pace(alloc, row, first)? {
+            return Ok(false);
+        }
+    }
+    Ok(true)
+}
+
+#[test]
+fn shapes_of_comparisons_change_nothing_but_the_questions(rt: HostRuntime) -> Result<(), Fail> {
+    for row in COMPARISONS {
+        assert!(rt; all_ask_so(rt.alloc(), row)?);
+    }
+    Ok(())
+}
+
+#[test]
+fn shapes_of_sums_change_nothing_but_the_questions(rt: HostRuntime) -> Result<(), Fail> {
+    for row in SUMS {
+        assert!(rt; all_ask_so(rt.alloc(), row)?);
+    }
+    Ok(())
+}
+
+#[test]
+fn shapes_of_other_kinds_change_nothing_but_the_questions(rt: HostRuntime) -> Result<(), Fail> {
+    for row in OTHERS {
+        assert!(rt; all_ask_so(rt.alloc(), row)?);
+    }
+    Ok(())
+}
+
+/// Problems of one constraint over variables from 0 to 255, and how often filters are asked that tell their shapes and that tell
+/// none, derived from what the shapes are known to spare.
+///
+/// `x <= y` keeps all, so both ends of each variable are asked. `x < y` asks for 0 of x, for 255, which goes, and 254; then for 0
+/// of y, which goes, 1 and 255; and again for both ends of x, since y lost a value, where all 255 left are asked otherwise.
+/// `x = 7` asks for one value beside 7, which stands for all, and for 7; so does `x != 7`, and where 7 were no value it would ask
+/// once. No value of `x != y`, of the differ or of the sum lacks support while the other variables have two. The count asks for 7
+/// and one value beside it, of each variable.
+const WIDE: &[(&str, u64, u64)] = &[
+    ("add a : x <= y", 4, 512),
+    ("add a : x < y", 8, 767),
+    ("add a : x = 7", 2, 256),
+    ("add a : x != 7", 2, 256),
+    ("add a : x != 300", 1, 256),
+    ("add a : x != y", 0, 512),
+    ("add a : differ x y z", 0, 768),
+    ("add a : sum x + 2*y - z != 5", 0, 768),
+    ("add a : sum x + y + z <= 510", 6, 768),
+    ("add a : count 7 x y z >= 1", 6, 768),
+    ("add a : x = y", 512, 512),
+];
+
+/// Three variables with as many values as they may have.
+const THREE: &[&str] = &["var x 0..255", "var y 0..255", "var z 0..255"];
+
+/// Whether the filters are asked so often each time when the constraint comes, which is twice.
+fn asks_exactly(alloc: Global, line: &str, told: u64, silent: u64) -> Result<bool, NoMemory> {
+    let row = Row {
+        variables: THREE,
+        firsts: &[],
+        others: &[],
+        asks: Asks::Less,
+    };
+    let pace = Pace {
+        choice: Choice::Least,
+        limit: None,
+    };
+    let asked = Asked::new();
+    Ok(are_alike_anew(alloc, &asked, &row, &pace, line)? && asked.is_twice(told, silent))
+}
+
+#[test]
+fn shapes_spare_these_questions(rt: HostRuntime) -> Result<(), Fail> {
+    for (line, told, silent) in WIDE {
+        assert!(rt; asks_exactly(rt.alloc(), line, *told, *silent)?);
+    }
+    Ok(())
+}
