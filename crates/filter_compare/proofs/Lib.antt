@@ -1,4 +1,5 @@
 pub mod Comparisons
 pub mod Ends
+pub mod Heeds
 pub mod Memberships
 pub mod Shapes

@@ -81,7 +81,7 @@ module _ (c : VarComparison) where
   demand_between false d x u v w o low high first last =
       met_between c.op (values_of d c.left) c.left (u +ℤ c.offset) (v +ℤ c.offset) (w +ℤ c.offset) o (omega (arith, ints, low)) (omega (arith, ints, high)) first last
 
-  met_from_supported : (d : Domains) (x : ℕ) (v : ℤ) → Contains (c.left ∷ c.right ∷ []) x → IsSupported d (comparison_of (Variables c)) x v → IsMet (values_of d (demand_of c x v).var) (demand_of c x v)
+  pub met_from_supported : (d : Domains) (x : ℕ) (v : ℤ) → Contains (c.left ∷ c.right ∷ []) x → IsSupported d (comparison_of (Variables c)) x v → IsMet (values_of d (demand_of c x v).var) (demand_of c x v)
   met_from_supported d x v over s = met_from_support c x v d over (s.each (part c x v) (member_here (part c x v) []) over)
 
   module _ (distinct : Distinct (c.left ∷ c.right ∷ [])) where
@@ -95,10 +95,10 @@ module _ (c : VarComparison) where
     right_is_other : c.right ≡ c.left → ⊥
     right_is_other e = distinct.0 (member_same (c.right ∷ []) c.right c.left e (member_here c.right []))
 
-    at_first : (x : ℕ) → slice_get (c.left ∷ c.right ∷ []) 0 ≡ Some x → x ≡ c.left
+    pub at_first : (x : ℕ) → slice_get (c.left ∷ c.right ∷ []) 0 ≡ Some x → x ≡ c.left
     at_first x at = cc
 
-    at_later : (place x : ℕ) → (place ≡ 0 → ⊥) → slice_get (c.left ∷ c.right ∷ []) place ≡ Some x → x ≡ c.right
+    pub at_later : (place x : ℕ) → (place ≡ 0 → ⊥) → slice_get (c.left ∷ c.right ∷ []) place ≡ Some x → x ≡ c.right
     at_later zero x n at = absurd (n refl)
     at_later (suc zero) x n at = cc
     at_later (suc (suc k)) x n at = cc

@@ -2,13 +2,14 @@
 ghost use Rattle.std.specs.Prelude.{◌≡◌, ℕ, IfOk};
 ghost use Rattle.palm_model.specs.Comparison.{IsComparison};
 ghost use Rattle.filter_compare.specs.Comparison.{comparison_of, demand_of};
+ghost use Rattle.palm_filter.specs.Heeds.{FitsHeed};
 ghost use Rattle.palm_filter.specs.Shapes.{FitsShape};
 ghost use Rattle.palm_model.specs.Constraint.{IsWellFormed};
 
 use crate::demand::{Demand, flipped};
 use palm_base::{NoMemory, Pair, Var, VarList};
 use palm_domain::DomainStore;
-use palm_filter::{Filter, Reasons, Shape, whole_or_none};
+use palm_filter::{Filter, Heed, Reasons, Shape, whole_or_none};
 use palm_model::{Con, Op, number_of};
 use std::alloc::Global;
 use std::marker::Model;
@@ -88,6 +89,24 @@ impl VarComparison {
             Op::Lt | Op::Le | Op::Gt | Op::Ge => Shape::Convex,
         }
     }
+
+    /// Which losses of the variable at a place the other one is to heed: of equal variables each, by the one value that it was
+    /// equal to, of two that differ one that leaves one value, and in an order that of the end that the other one is compared
+    /// with.
+    pub(crate) fn heed(&self, place: usize) -> Heed
+        requires formed { (variables : ℕ) × IsWellFormed variables (comparison_of (Comparison.Variables self.now)) }
+        ensures { FitsHeed (comparison_of (Comparison.Variables self.now)) place result }
+    {
+        match self.op {
+            Op::Eq if place == 0 => Heed::Shifted(-self.offset),
+            Op::Eq => Heed::Shifted(self.offset),
+            Op::Ne => Heed::Alone,
+            Op::Lt | Op::Le if place == 0 => Heed::Least,
+            Op::Lt | Op::Le => Heed::Greatest,
+            Op::Gt | Op::Ge if place == 0 => Heed::Greatest,
+            Op::Gt | Op::Ge => Heed::Least,
+        }
+    }
 }
 
 impl CompareFilter {
@@ -136,6 +155,14 @@ impl Filter for CompareFilter {
         match &self.comparison {
             Comparison::Variables(comparison) => comparison.shape(place),
             Comparison::Constant(demand) => demand.shape(),
+        }
+    }
+
+    fn heed(&self, place: usize) -> Heed {
+        match &self.comparison {
+            Comparison::Variables(comparison) => comparison.heed(place),
+            // There is no other variable.
+            Comparison::Constant(_) => Heed::Each,
         }
     }
 

@@ -7,7 +7,7 @@ ghost use Rattle.palm_model.specs.Constraint.{IsWellFormed};
 use crate::others::{first_lone, leave_room};
 use palm_base::{NoMemory, Pair, Var, VarList};
 use palm_domain::DomainStore;
-use palm_filter::{Filter, Reasons, Shape, push_removed, whole_or_none};
+use palm_filter::{Filter, Heed, Reasons, Shape, push_removed, whole_or_none};
 use palm_model::Con;
 use std::alloc::Global;
 use std::marker::Model;
@@ -74,6 +74,12 @@ impl Filter for DifferFilter {
         // What the filter means is told by its field alone.
         let _ = &self.vars;
         Shape::Apart(0)
+    }
+
+    fn heed(&self, _place: usize) -> Heed {
+        // What the filter means is told by its field alone.
+        let _ = &self.vars;
+        Heed::Alone
     }
 
     fn supported(&self, store: &DomainStore, pair: Pair) -> bool {

@@ -1,4 +1,5 @@
 pub mod Beyond
+pub mod Heeds
 pub mod LinearReasons
 pub mod LinearSupport
 pub mod Shapes

@@ -29,18 +29,18 @@ use Rattle.filter_linear.specs.declared.rule.LinearRule.{LinearRule}
 -- ---- the coefficient of a variable
 
 -- the coefficient of x, and 0 where no term is over x
-abbrev factor_of : List Term → ℕ → ℤ
+abbrev pub factor_of : List Term → ℕ → ℤ
 factor_of [] x = pos 0
 factor_of (t ∷ ts) x = cond (eqb t.var x) t.factor (factor_of ts x)
 
-factor_here : (t : Term) (ts : List Term) (x : ℕ) → t.var ≡ x → factor_of (t ∷ ts) x ≡ t.factor
+pub factor_here : (t : Term) (ts : List Term) (x : ℕ) → t.var ≡ x → factor_of (t ∷ ts) x ≡ t.factor
 factor_here t ts x e = ap (λ b. cond b t.factor (factor_of ts x)) (eq-eqb t.var x e)
 
-factor_there : (t : Term) (ts : List Term) (x : ℕ) → (t.var ≡ x → ⊥) → factor_of (t ∷ ts) x ≡ factor_of ts x
+pub factor_there : (t : Term) (ts : List Term) (x : ℕ) → (t.var ≡ x → ⊥) → factor_of (t ∷ ts) x ≡ factor_of ts x
 factor_there t ts x n = ap (λ b. cond b t.factor (factor_of ts x)) (ne_eqb t.var x n)
 
 -- two assignments that differ at x alone give sums that differ by what the term of x does
-total_moved : (a b : Assignment) (terms : List Term) (x : ℕ) → Distinct (term_vars terms) → Contains (term_vars terms) x → ((y : ℕ) → (y ≡ x → ⊥) → a y ≡ b y) → total a terms +ℤ (factor_of terms x *ℤ b x) ≡ total b terms +ℤ (factor_of terms x *ℤ a x)
+pub total_moved : (a b : Assignment) (terms : List Term) (x : ℕ) → Distinct (term_vars terms) → Contains (term_vars terms) x → ((y : ℕ) → (y ≡ x → ⊥) → a y ≡ b y) → total a terms +ℤ (factor_of terms x *ℤ b x) ≡ total b terms +ℤ (factor_of terms x *ℤ a x)
 total_moved a b [] x distinct over same = absurd (member_nil x over)
 total_moved a b (t ∷ ts) x distinct over same = elim (nat_known t.var x) [
   | inl e ↦
@@ -63,7 +63,7 @@ total_moved a b (t ∷ ts) x distinct over same = elim (nat_known t.var x) [
     sum_more p r p' r' q q' s s' e f g h = omega (arith, ints)
 
 -- it is the coefficient of a term
-factor_member : (terms : List Term) (x : ℕ) → Contains (term_vars terms) x → (t : Term) × Contains terms t × (factor_of terms x ≡ t.factor)
+pub factor_member : (terms : List Term) (x : ℕ) → Contains (term_vars terms) x → (t : Term) × Contains terms t × (factor_of terms x ≡ t.factor)
 factor_member [] x over = absurd (member_nil x over)
 factor_member (t ∷ ts) x over = elim (nat_known t.var x) [
   | inl e ↦ (t, member_here t ts, factor_here t ts x e)
@@ -156,7 +156,7 @@ below_apart (pos n) v w some h e =
 below_apart (negsuc n) v w some h e = omega (arith, ints, e, falling_apart n v w h)
 
 -- a coefficient other than 0 tells two values apart
-product_apart : (f v w : ℤ) → (f ≡ pos 0 → ⊥) → (v ≡ w → ⊥) → f *ℤ v ≡ f *ℤ w → ⊥
+pub product_apart : (f v w : ℤ) → (f ≡ pos 0 → ⊥) → (v ≡ w → ⊥) → f *ℤ v ≡ f *ℤ w → ⊥
 product_apart f v w some apart e =
     by_lt_z v w
     (λ lt. below_apart f v w some lt e)

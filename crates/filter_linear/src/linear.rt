@@ -7,7 +7,7 @@ use crate::reasons::push_reason;
 use crate::rule::LinearRule;
 use palm_base::{NoMemory, Pair, VarList};
 use palm_domain::DomainStore;
-use palm_filter::{Filter, Reasons, Shape, whole_or_none};
+use palm_filter::{Filter, Heed, Reasons, Shape, whole_or_none};
 use palm_model::{Con, Op, TermList};
 use std::alloc::Global;
 use std::marker::Model;
@@ -79,6 +79,10 @@ impl Filter for LinearFilter {
             Op::Ne => Shape::Any,
             Op::Eq | Op::Lt | Op::Le | Op::Gt | Op::Ge => Shape::Convex,
         }
+    }
+
+    fn heed(&self, place: usize) -> Heed {
+        self.rule.heed(&self.rule.terms.as_slice()[place])
     }
 
     fn supported(&self, store: &DomainStore, pair: Pair) -> bool {

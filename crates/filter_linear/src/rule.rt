@@ -1,9 +1,10 @@
 //! The sum that is filtered, and the side on which it fails.
-ghost use Rattle.std.specs.Prelude.{◌≡◌, length, int_lt, if◌then◌else◌};
+ghost use Rattle.std.specs.Prelude.{◌≡◌, ℕ, Contains, length, int_lt, if◌then◌else◌};
 ghost use Rattle.filter_linear.specs.Linear.{CanBeMet, IsMetAt, IsMetWithin, linear_of};
 ghost use Rattle.filter_linear.specs.declared.reasons.Side.TheVariants.{Below, Above};
 ghost use Rattle.palm_base.specs.Tells.{Tells};
 ghost use Rattle.palm_domain.specs.Rows.{present_of};
+ghost use Rattle.palm_filter.specs.Heeds.{IsHeeded};
 ghost use Rattle.palm_model.specs.Constraint.{IsWellFormed};
 ghost use Rattle.palm_model.specs.Linear.{term_vars, least_total};
 ghost use Rattle.palm_model.specs.Reason.{AreFilled};
@@ -13,7 +14,8 @@ use crate::reasons::Side;
 use crate::span::Span;
 use palm_base::Pair;
 use palm_domain::DomainStore;
-use palm_model::{Op, TermList, stands};
+use palm_filter::Heed;
+use palm_model::{Op, Term, TermList, stands};
 
 /// The sum of the terms stands in the relation to the bound.
 #[derive(Debug, Drop)]
@@ -94,6 +96,23 @@ impl LinearRule {
                 }
             }
             None => unreachable!(),
+        }
+    }
+
+    /// Which losses of the term's variable may take support from values of the other variables: where the sum is to be low
+    /// those at the end of its values that has the low products, where it is to be high those at the other end.
+    pub(crate) fn heed(&self, term: &Term) -> Heed
+        requires formed { (variables : ℕ) × IsWellFormed variables (linear_of self.now) }
+        requires own { Contains self.now.terms term.now }
+        ensures { IsHeeded (linear_of self.now) term.now.var result }
+    {
+        match self.op {
+            Op::Eq => Heed::Ends,
+            Op::Ne => Heed::Alone,
+            Op::Lt | Op::Le if term.factor > 0 => Heed::Least,
+            Op::Lt | Op::Le => Heed::Greatest,
+            Op::Gt | Op::Ge if term.factor > 0 => Heed::Greatest,
+            Op::Gt | Op::Ge => Heed::Least,
         }
     }
 }

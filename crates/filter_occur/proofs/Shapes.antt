@@ -11,7 +11,7 @@ use Rattle.palm_filter.specs.declared.shape.Shape.TheVariants.{AlikeBut}
 use Rattle.palm_model.specs.Constraint.{Distinct, scope, IsWellFormed}
 use Rattle.palm_model.specs.Count.{target_scope, count_among, target_of}
 use Rattle.palm_model.specs.Domains.{Domains, Assignment, Has, IsWithin}
-use Rattle.palm_model.specs.Part.{scope_of}
+use Rattle.palm_model.specs.Part.{scope_of, Holds}
 use Rattle.palm_model.specs.Relation.{Stands}
 use Rattle.palm_model.specs.Support.{HasSupport, IsSupported}
 use Rattle.palm_model.specs.declared.constraint.Con.{Con}
@@ -66,15 +66,19 @@ module _ (value : ℤ) (vars : List ℕ) (op : Op) (t : Target) (distinct : Dist
 
   -- ---- a counted variable
 
+  -- the count stands in the relation where a counted variable goes from one value to another, neither the counted one
+  pub holds_alike : Contains vars x → (a : Assignment) (w : ℤ) → (a x ≡ value → ⊥) → (w ≡ value → ⊥) → Holds part a → Holds part (put a x w)
+  holds_alike counted a w n k h =
+      subst (λ z. Stands op (pos (count_among (put a x w) value vars)) z) (target_beside a t x w (λ m. distinct_apart vars (target_scope t) x distinct counted m))
+      (subst (λ z. Stands op (pos z) (target_of a t)) (count_alike a value vars x w n k) h)
+
   module _ (counted : Contains vars x) (d : Domains) (v w : ℤ) (has : Has d x w) (n : v ≡ value → ⊥) (k : w ≡ value → ⊥) where
     part_alike : HasSupport d part x v → HasSupport d part x w
     part_alike s = record {
       assignment = put s.assignment x w;
       within = within_put s.assignment (vars ++ target_scope t) d x w has s.within;
       gives = put_same s.assignment x w;
-      holds =
-          subst (λ z. Stands op (pos (count_among (put s.assignment x w) value vars)) z) (target_beside s.assignment t x w (λ m. distinct_apart vars (target_scope t) x distinct counted m))
-          (subst (λ z. Stands op (pos z) (target_of s.assignment t)) (count_alike s.assignment value vars x w (λ e. n (sym s.gives ∙ e)) k) s.holds);
+      holds = holds_alike counted s.assignment w (λ e. n (sym s.gives ∙ e)) k s.holds;
     }
 
     over_part : Contains (scope_of part) x
@@ -97,6 +101,24 @@ module _ (value : ℤ) (vars : List ℕ) (op : Op) (t : Target) (distinct : Dist
 
   -- ---- the target
 
+  module _ (target : Contains (target_scope t) x) where
+    target_is : (a : Assignment) → target_of a t ≡ a x
+    target_is a = given t target
+      where
+        given : (o : Target) → Contains (target_scope o) x → target_of a o ≡ a x
+        given (Const z) m = absurd (member_nil x m)
+        given (Variable y) m = ap a (member_single y x m)
+
+    -- what the count stands to is the value of the target
+    pub target_stands : (a : Assignment) (u : ℤ) → a x ≡ u → Holds part a → Stands op (pos (count_among a value vars)) u
+    target_stands a u is h = subst (λ z. Stands op (pos (count_among a value vars)) z) (target_is a ∙ is) h
+
+    -- another value of the target to which the count stands
+    pub target_holds : (a : Assignment) (w : ℤ) → Stands op (pos (count_among a value vars)) w → Holds part (put a x w)
+    target_holds a w h =
+        subst (λ z. Stands op (pos (count_among (put a x w) value vars)) z) (sym (target_is (put a x w) ∙ put_same a x w))
+        (subst (λ z. Stands op (pos z) w) (count_beside a value vars x w (λ m. distinct_apart vars (target_scope t) x distinct m target)) h)
+
   module _ (target : Contains (target_scope t) x) (d : Domains) (v : ℤ) (has : Has d x v) where
     -- where the target goes from u to v, the count still stands in the relation
     moved_target : (u : ℤ) → ((m : ℤ) → Stands op m u → Stands op m v) → HasSupport d part x u → HasSupport d part x v
@@ -104,18 +126,8 @@ module _ (value : ℤ) (vars : List ℕ) (op : Op) (t : Target) (distinct : Dist
       assignment = put s.assignment x v;
       within = within_put s.assignment (vars ++ target_scope t) d x v has s.within;
       gives = put_same s.assignment x v;
-      holds =
-          subst (λ z. Stands op (pos (count_among (put s.assignment x v) value vars)) z) (sym (target_is (put s.assignment x v) ∙ put_same s.assignment x v))
-          (subst (λ z. Stands op (pos z) v) (count_beside s.assignment value vars x v (λ m. distinct_apart vars (target_scope t) x distinct m target))
-          (keeps (pos (count_among s.assignment value vars)) (subst (λ z. Stands op (pos (count_among s.assignment value vars)) z) (target_is s.assignment ∙ s.gives) s.holds)));
+      holds = target_holds target s.assignment v (keeps (pos (count_among s.assignment value vars)) (target_stands target s.assignment u s.gives s.holds));
     }
-      where
-        target_is : (a : Assignment) → target_of a t ≡ a x
-        target_is a = given t target
-          where
-            given : (o : Target) → Contains (target_scope o) x → target_of a o ≡ a x
-            given (Const z) m = absurd (member_nil x m)
-            given (Variable y) m = ap a (member_single y x m)
 
     part_between : (u w : ℤ) → (op ≡ Eq → ⊥) → (op ≡ Ne → ⊥) → u ≤ℤ v → v ≤ℤ w → HasSupport d part x u → HasSupport d part x w → HasSupport d part x v
     part_between u w not_eq not_ne above below s r = by op refl
@@ -138,12 +150,12 @@ module _ (value : ℤ) (vars : List ℕ) (op : Op) (t : Target) (distinct : Dist
 -- ---- a filter's answers, for its meaning m
 
 -- a place within the first list, and one after it
-place_left : (xs ys : List ℕ) (k x : ℕ) → k < length xs → slice_get (xs ++ ys) k ≡ Some x → Contains xs x
+pub place_left : (xs ys : List ℕ) (k x : ℕ) → k < length xs → slice_get (xs ++ ys) k ≡ Some x → Contains xs x
 place_left [] ys k x lt e = absurd (omega (arith, lt))
 place_left (y ∷ xs) ys zero x lt e = member_get (y ∷ xs) 0 x e
 place_left (y ∷ xs) ys (suc k) x lt e = member_there y xs x (place_left xs ys k x (omega (arith, lt)) e)
 
-place_right : (xs ys : List ℕ) (k x : ℕ) → length xs ≤ k → slice_get (xs ++ ys) k ≡ Some x → Contains ys x
+pub place_right : (xs ys : List ℕ) (k x : ℕ) → length xs ≤ k → slice_get (xs ++ ys) k ≡ Some x → Contains ys x
 place_right [] ys k x le e = member_get ys k x e
 place_right (y ∷ xs) ys zero x le e = absurd (omega (arith, le))
 place_right (y ∷ xs) ys (suc k) x le e = place_right xs ys k x (omega (arith, le)) e

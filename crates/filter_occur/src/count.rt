@@ -6,7 +6,7 @@ ghost use Rattle.palm_model.specs.Constraint.{IsWellFormed};
 use crate::rule::CountRule;
 use palm_base::{NoMemory, Pair, VarList};
 use palm_domain::DomainStore;
-use palm_filter::{Filter, Reasons, Shape, whole_or_none};
+use palm_filter::{Filter, Heed, Reasons, Shape, whole_or_none};
 use palm_model::{Con, Target, copy_of};
 use std::alloc::Global;
 use std::marker::Model;
@@ -82,6 +82,16 @@ impl Filter for OccurFilter {
             Shape::AlikeBut(self.rule.value)
         } else {
             self.rule.target_shape()
+        }
+    }
+
+    fn heed(&self, place: usize) -> Heed {
+        // A loss of another value than the counted one could be left alone, too. But then each removal has to look at each count
+        // over its variable again, which costs more than the questions.
+        if place < self.rule.vars.len() {
+            Heed::Each
+        } else {
+            self.rule.target_heed()
         }
     }
 

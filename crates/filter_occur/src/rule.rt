@@ -3,6 +3,7 @@ ghost use Rattle.std.specs.Prelude.{◌≡◌, ◌++◌, ◌<◌, ◌≤◌, ℕ
 ghost use Rattle.filter_occur.specs.Count.{AreCounts, AreCountsTo, CanReach, IsChance, IsCountReached, IsEnough, count_of, target_values, values_where};
 ghost use Rattle.palm_base.specs.Tells.{Tells};
 ghost use Rattle.palm_domain.specs.Rows.{initial_of, present_of};
+ghost use Rattle.palm_filter.specs.Heeds.{IsHeeded};
 ghost use Rattle.palm_filter.specs.Shapes.{IsShaped};
 ghost use Rattle.palm_model.specs.Constraint.{Distinct};
 ghost use Rattle.palm_model.specs.Count.{target_scope, count_reason, counted_pairs, high_pairs, low_pairs, needs_high, needs_low, target_pairs};
@@ -13,7 +14,7 @@ ghost use Rattle.palm_model.specs.Removed.{others};
 use crate::counts::{Counts, enough_between, enough_for};
 use palm_base::{NoMemory, Pair, Value, Var, VarList};
 use palm_domain::DomainStore;
-use palm_filter::{Reasons, Shape, is_alone, is_missing, push_removed};
+use palm_filter::{Heed, Reasons, Shape, is_alone, is_missing, push_removed};
 use palm_model::{MOST_SCOPE, Op, Target};
 
 /// The number of the variables that have the value stands in the relation to the target.
@@ -178,6 +179,20 @@ impl CountRule {
         match self.op {
             Op::Eq | Op::Ne => Shape::Any,
             Op::Lt | Op::Le | Op::Gt | Op::Ge => Shape::Convex,
+        }
+    }
+
+    /// Which losses of the target may take support from values of the counted variables: of a one-sided count those at the
+    /// end of its values that the relation looks at.
+    pub(crate) fn target_heed(&self) -> Heed
+        requires { Distinct (self.now.vars ++ target_scope self.now.target) }
+        ensures { (x : ℕ) → Contains (target_scope self.now.target) x → IsHeeded (count_of self.now) x result }
+    {
+        match self.op {
+            Op::Eq => Heed::Each,
+            Op::Ne => Heed::Alone,
+            Op::Lt | Op::Le => Heed::Greatest,
+            Op::Gt | Op::Ge => Heed::Least,
         }
     }
 

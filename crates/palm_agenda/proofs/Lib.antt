@@ -3,3 +3,4 @@ pub mod cited
 pub mod Flagged
 pub mod Rows
 pub mod Woken
+pub mod Heeding

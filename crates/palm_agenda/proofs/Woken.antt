@@ -1,62 +1,41 @@
 -- Waking a variable again changes nothing.
-use Rattle.std.proofs.Common.{◌≡◌, ℕ, Bool, not, List, [], ◌∷◌, map, Contains, Some, ◌↔◌, ◌⊎◌, inl, inr, nat_eq, refl, sym, ap, ◌∙◌, subst}
-use Rattle.std.proofs.lemmas.Bool.{cases_Bool}
+use Rattle.std.proofs.Common.{◌≡◌, ℕ, Bool, true, false, if◌then◌else◌, List, map, Contains, Option, None, Some, ◌↔◌, ◌⊎◌, inl, inr, refl, sym, ◌∙◌, subst}
 use Rattle.palm_base.specs.declared.terms.Cid.{Cid}
-use Rattle.palm_base.proofs.cited.Members.{member_unmap}
-use Rattle.palm_agenda.specs.Agenda.{Connected, IsOver, is_over, mark_others, marked_where}
+use Rattle.palm_base.proofs.cited.Members.{map_agree}
+use Rattle.palm_agenda.specs.declared.agenda.Woken.{Woken}
+use Rattle.palm_agenda.specs.declared.loss.Loss.{Loss}
+use Rattle.palm_agenda.specs.Agenda.{Connected, IsOver, mark_others}
 use Rattle.palm_agenda.specs.Kept.{IsWoken}
-use Rattle.palm_agenda.proofs.cited.Keeping.{if_true, if_false}
-use Rattle.palm_agenda.proofs.cited.Marking.{marks_twice}
+use Rattle.palm_agenda.specs.Losses.{IsAlike, heed_of, is_by_value}
+use Rattle.palm_agenda.specs.declared.connection.Places.TheVariants.{Others}
+use Rattle.palm_agenda.proofs.Heeding.{after_alike}
+use Rattle.palm_agenda.proofs.cited.Keeping.{keeps_places, map_twice, others_again, over_kept, told_over}
 
--- the other places are marked once
-others_twice : (x : ℕ) (d : Connected) → mark_others x (mark_others x d) ≡ mark_others x d
-others_twice x d = elim (cases_Bool (is_over x d)) [
-  | inl t ↦
-      let test : ℕ → Bool = λ y. not (nat_eq y x) in
-      let one : mark_others x d ≡ marked_where test d = if_true (is_over x d) (marked_where test d) d t in
-      ap (mark_others x) one ∙ if_true (is_over x d) (marked_where test (marked_where test d)) (marked_where test d) t
-      ∙ ap (λ ms. record d { marks = ms }) (marks_twice test d.scope d.marks) ∙ sym one
-  | inr f ↦ let one : mark_others x d ≡ d = if_false (is_over x d) (marked_where (λ y. not (nat_eq y x)) d) d f in ap (mark_others x) one
-]
+-- the other places of constraints that heed no loss by value are marked once
+again : (x : ℕ) (loss more : Loss) (connected : List Connected) → IsAlike loss more → ((d : Connected) → Contains connected d → Contains d.scope x → is_by_value (heed_of x d.scope d.heeds) ≡ false)
+    → map (mark_others x more) (map (mark_others x loss) connected) ≡ map (mark_others x loss) connected
+again x loss more connected alike whole =
+    map_twice (mark_others x more) (mark_others x loss) connected
+    ∙ map_agree (λ d. mark_others x more (mark_others x loss d)) (mark_others x loss) connected
+    (λ d m. others_again x loss more d (λ t. after_alike (heed_of x d.scope d.heeds) loss more alike (whole d m (told_over x d t))))
 
-all_twice : (x : ℕ) (connected : List Connected) → map (mark_others x) (map (mark_others x) connected) ≡ map (mark_others x) connected
-all_twice x [] = refl
-all_twice x (d ∷ connected) = ap (λ e. e ∷ map (mark_others x) (map (mark_others x) connected)) (others_twice x d) ∙ ap (λ ds. mark_others x d ∷ ds) (all_twice x connected)
-
-same_scope : (x : ℕ) (d : Connected) → (mark_others x d).scope ≡ d.scope
-same_scope x d = elim (cases_Bool (is_over x d)) [
-  | inl t ↦ ap (λ (e : Connected). e.scope) (if_true (is_over x d) (marked_where (λ y. not (nat_eq y x)) d) d t)
-  | inr f ↦ ap (λ (e : Connected). e.scope) (if_false (is_over x d) (marked_where (λ y. not (nat_eq y x)) d) d f)
-]
-
-same_cid : (x : ℕ) (d : Connected) → (mark_others x d).cid ≡ d.cid
-same_cid x d = elim (cases_Bool (is_over x d)) [
-  | inl t ↦ ap (λ (e : Connected). e.cid) (if_true (is_over x d) (marked_where (λ y. not (nat_eq y x)) d) d t)
-  | inr f ↦ ap (λ (e : Connected). e.cid) (if_false (is_over x d) (marked_where (λ y. not (nat_eq y x)) d) d f)
-]
-
-over_before : (x y : ℕ) (connected : List Connected) (c : Cid) → IsOver (map (mark_others x) connected) y c → IsOver connected y c
-over_before x y connected c h =
-    let r = member_unmap (mark_others x) connected h.owner h.listed in
-    record {
-      owner = r.0;
-      listed = r.1;
-      named = sym (same_cid x r.0) ∙ ap (λ (e : Connected). e.cid) r.2 ∙ h.named;
-      over = subst (λ s. Contains s y) (sym (ap (λ (e : Connected). e.scope) r.2) ∙ same_scope x r.0) h.over;
-    }
-
--- after a waking the same one changes nothing
-pub woken_noted : (x : ℕ) (connected after : List Connected) (pending now : List Cid) → after ≡ map (mark_others x) connected → ((c : Cid) → Contains now c ↔ (Contains pending c ⊎ IsOver connected x c))
-    → IsWoken (Some x) after now
-woken_noted x connected after pending now becomes each = (
-  subst (λ ds. map (mark_others x) ds ≡ ds) (sym becomes) (all_twice x connected),
-  λ c h. (each c).1 (inr (over_before x x connected c (subst (λ ds. IsOver ds x c) becomes h))),
+-- after a waking that is noted one by a loss that leaves the same changes nothing
+pub woken_noted : (told : Bool) (noted : Option Woken) (x : ℕ) (loss : Loss) → noted ≡ (if told then Some (record { var = x; loss = loss }) else None) → (cids : List Cid) (connected after : List Connected) (pending now : List Cid)
+    → after ≡ map (mark_others x loss) connected → ((c : Cid) → Contains now c ↔ (Contains pending c ⊎ IsOver connected x c)) → ((c : Cid) → Contains cids c ↔ IsOver connected x c)
+    → (told ≡ true → (d : Connected) → Contains connected d → Contains cids d.cid → is_by_value (heed_of x d.scope d.heeds) ≡ false) → IsWoken noted after now
+woken_noted true noted x loss is cids connected after pending now becomes each over whole = subst (λ n. IsWoken n after now) (sym is) (
+  λ more alike. subst (λ ds. map (mark_others x more) ds ≡ ds) (sym becomes)
+      (again x loss more connected alike (λ d m o. whole refl d m ((over d.cid).1 (record { owner = d; listed = m; named = refl; over = o })))),
+  λ c h. (each c).1 (inr ((over_kept (mark_others x loss) (keeps_places (Others loss) x) connected x c).0 (subst (λ ds. IsOver ds x c) becomes h))),
 )
+woken_noted false noted x loss is cids connected after pending now becomes each over whole = subst (λ n. IsWoken n after now) (sym is) tt
 
 -- which shows where it is noted
-pub woken_already : (x : ℕ) (connected : List Connected) (pending : List Cid) → IsWoken (Some x) connected pending
-    → (connected ≡ map (mark_others x) connected) × ((c : Cid) → Contains pending c ↔ (Contains pending c ⊎ IsOver connected x c))
-woken_already x connected pending woken = (
-  sym woken.0,
-  λ c. (λ m. inl m, λ h. elim h [ inl m ↦ m | inr over ↦ woken.1 c over ]),
-)
+pub woken_already : (noted : Option Woken) (x : ℕ) (loss : Loss) (connected : List Connected) (pending : List Cid) → IsWoken noted connected pending
+    → (w : Woken) × (noted ≡ Some w) × (w.var ≡ x) × IsAlike w.loss loss
+    → (connected ≡ map (mark_others x loss) connected) × ((c : Cid) → Contains pending c ↔ (Contains pending c ⊎ IsOver connected x c))
+woken_already noted x loss connected pending kept is =
+    let woken : IsWoken (Some is.0) connected pending = subst (λ n. IsWoken n connected pending) is.1 kept in (
+      subst (λ y. connected ≡ map (mark_others y loss) connected) is.2 (sym (woken.0 loss is.3)),
+      λ c. (λ m. inl m, λ h. elim h [ inl m ↦ m | inr over ↦ woken.1 c (subst (λ y. IsOver connected y c) (sym is.2) over) ]),
+    )

@@ -1,17 +1,24 @@
 -- What an agenda holds: the connected constraints with their marks, and the ids of those that wait to be revised.
-use Rattle.std.specs.Prelude.{◌≡◌, ℕ, ◌<◌, if◌then◌else◌, Bool, true, false, not, ◌||◌, Some, List, [], ◌∷◌, ◌++◌, length, map, filter, All, Contains, nat_eq, nat_lt, slice_get, slice_set, replicate}
+use Rattle.std.specs.Prelude.{◌≡◌, ℕ, ℤ, ◌<◌, if◌then◌else◌, Bool, not, Some, List, [], ◌∷◌, ◌++◌, length, map, filter, All, Contains, nat_eq, nat_lt, slice_get, slice_set, replicate}
 use Rattle.std.specs.List.{list_any}
 use Rattle.palm_base.specs.declared.terms.Cid.{Cid}
 use Rattle.palm_base.specs.Order.{Rises, cid_before, same_cid}
 use Rattle.palm_model.specs.Log.{is_named}
 use Rattle.palm_model.specs.State.{without_cid}
+use Rattle.palm_filter.specs.declared.heed.Heed.{Heed}
+use Rattle.palm_agenda.specs.declared.loss.Loss.{Loss}
+use Rattle.palm_agenda.specs.declared.mark.Mark.{Mark}
+use Rattle.palm_agenda.specs.declared.mark.Mark.TheVariants.{Clear, Whole}
+use Rattle.palm_agenda.specs.Losses.{heed_of, mark_after}
+use Rattle.palm_agenda.specs.Marks.{widened}
 
--- a constraint by its id, the variables of its scope, and a mark at each place of the scope where values of the
--- variable may lack support
+-- a constraint by its id, the variables of its scope, and for each place of the scope how it heeds losses of the variable,
+-- and a mark: which values of the variable may lack support
 pub record Connected : Type 0 where
   pub cid : Cid
   pub scope : List ℕ
-  pub marks : List Bool
+  pub heeds : List Heed
+  pub marks : List Mark
 
 -- the connected constraints by rising id, and the ids of those that are pending, by rising id too
 pub record Waiting : Type 0 where
@@ -42,13 +49,6 @@ pub record HasPlace (connected : List Connected) (cid : Cid) (place : ℕ) : Typ
   pub named : owner.cid ≡ cid
   pub within : place < length owner.scope
 
--- the constraint under the id is marked at the place
-pub record IsMarked (connected : List Connected) (cid : Cid) (place : ℕ) : Type 0 where
-  pub owner : Connected
-  pub listed : Contains connected owner
-  pub named : owner.cid ≡ cid
-  pub marked : slice_get owner.marks place ≡ Some true
-
 -- there is a mark for each place
 abbrev pub HasMarks : Connected → Type 0
 HasMarks d = length d.marks ≡ length d.scope
@@ -63,8 +63,8 @@ pub record IsFormed (w : Waiting) : Type 0 where
 -- ---- connected constraints
 
 -- a constraint that is marked whole
-abbrev pub marked_whole : Cid → List ℕ → Connected
-marked_whole cid scope = record { cid = cid; scope = scope; marks = replicate (length scope) true }
+abbrev pub marked_whole : Cid → List ℕ → List Heed → Connected
+marked_whole cid scope heeds = record { cid = cid; scope = scope; heeds = heeds; marks = replicate (length scope) Whole }
 
 -- the connected constraints with one more, by rising id
 abbrev pub with_connected : Connected → List Connected → List Connected
@@ -76,27 +76,27 @@ without_connected cid connected = filter (λ d. not (is_named (cid ∷ []) d.cid
 
 -- ---- marks
 
--- the marks, and one at each place whose variable passes the test
-abbrev pub marks_where : (ℕ → Bool) → List ℕ → List Bool → List Bool
-marks_where test [] marks = marks
-marks_where test (x ∷ scope) [] = []
-marks_where test (x ∷ scope) (mark ∷ marks) = (mark || test x) ∷ marks_where test scope marks
+-- the marks, with the change at each place whose variable passes the test
+abbrev pub marks_changed : (ℕ → Bool) → (Mark → Mark) → List ℕ → List Mark → List Mark
+marks_changed test change [] marks = marks
+marks_changed test change (x ∷ scope) [] = []
+marks_changed test change (x ∷ scope) (mark ∷ marks) = (if test x then change mark else mark) ∷ marks_changed test change scope marks
 
--- the constraint with a mark at each of these places
-abbrev pub marked_where : (ℕ → Bool) → Connected → Connected
-marked_where test d = record d { marks = marks_where test d.scope d.marks }
+-- the constraint with the change at each of these marks
+abbrev pub changed_where : (ℕ → Bool) → (Mark → Mark) → Connected → Connected
+changed_where test change d = record d { marks = marks_changed test change d.scope d.marks }
 
 -- whether the constraint is over the variable
 abbrev pub is_over : ℕ → Connected → Bool
 is_over x d = list_any (λ y. nat_eq y x) d.scope
 
--- where the constraint is over the variable, each place of another variable is marked
-abbrev pub mark_others : ℕ → Connected → Connected
-mark_others x d = if is_over x d then marked_where (λ y. not (nat_eq y x)) d else d
+-- where the constraint is over the variable, each place of another variable is marked as it heeds the loss
+abbrev pub mark_others : ℕ → Loss → Connected → Connected
+mark_others x loss d = if is_over x d then changed_where (λ y. not (nat_eq y x)) (mark_after (heed_of x d.scope d.heeds) loss) d else d
 
--- each place of the variable is marked
-abbrev pub mark_own : ℕ → Connected → Connected
-mark_own x d = marked_where (λ y. nat_eq y x) d
+-- each place of the variable is marked from the one value to the other besides
+abbrev pub mark_own : ℕ → ℤ → ℤ → Connected → Connected
+mark_own x low high d = changed_where (λ y. nat_eq y x) (widened low high) d
 
 -- the change, at the constraint under this id alone
 abbrev pub changed_at : Cid → (Connected → Connected) → Connected → Connected
@@ -108,7 +108,7 @@ changed_among cids change d = if is_named cids d.cid then change d else d
 
 -- the constraint without the mark at a place
 abbrev pub unmarked : ℕ → Connected → Connected
-unmarked place d = record d { marks = slice_set d.marks place false }
+unmarked place d = record d { marks = slice_set d.marks place Clear }
 
 -- ---- the next constraint
 

@@ -1,6 +1,9 @@
 -- What an agenda keeps beside what it shows.
 use Rattle.std.specs.Prelude.{◌≡◌, ℕ, ◌≤◌, ◌↔◌, ⊤, Bool, true, false, Option, None, Some, List, map, length, Contains}
 use Rattle.palm_base.specs.declared.terms.Cid.{Cid}
+use Rattle.palm_agenda.specs.declared.loss.Loss.{Loss}
+use Rattle.palm_agenda.specs.declared.agenda.Woken.{Woken}
+use Rattle.palm_agenda.specs.Losses.{IsAlike}
 use Rattle.palm_agenda.specs.Agenda.{Connected, IsFormed, IsOver, connected_cids, mark_others}
 use Rattle.palm_agenda.specs.Flags.{flagged}
 use Rattle.palm_agenda.specs.Cids.{Roomy, cids_at}
@@ -18,7 +21,9 @@ abbrev pub IsShown : Bool → List Cid → List Cid → Type 0
 IsShown false shown pending = ⊤
 IsShown true shown pending = shown ≡ pending
 
--- waking the variable changes nothing, where one is noted: the other places of each constraint over it are marked, and it is pending
-abbrev pub IsWoken : Option ℕ → List Connected → List Cid → Type 0
+-- waking the variable changes nothing where a loss leaves the same, where one is noted: the other places of each constraint over it
+-- are marked so, and it is pending
+abbrev pub IsWoken : Option Woken → List Connected → List Cid → Type 0
 IsWoken None connected pending = ⊤
-IsWoken (Some x) connected pending = (map (mark_others x) connected ≡ connected) × ((c : Cid) → IsOver connected x c → Contains pending c)
+IsWoken (Some w) connected pending =
+    ((loss : Loss) → IsAlike w.loss loss → map (mark_others w.var loss) connected ≡ connected) × ((c : Cid) → IsOver connected w.var c → Contains pending c)

@@ -4,3 +4,5 @@ pub mod Kept
 pub mod Cids
 pub mod Orders
 pub mod Places
+pub mod Marks
+pub mod Losses

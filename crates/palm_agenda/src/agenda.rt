@@ -1,11 +1,14 @@
 //! The connected constraints, and those of them that wait to be revised.
-ghost use Rattle.std.specs.Prelude.{◌≡◌, ℕ, ◌<◌, ◌≤◌, ◌↔◌, ◌⊎◌, [], ◌∷◌, ◌++◌, length, map, true, false, Contains, MatchOption, IfSome, IfNone, IsSomeAnd, Some, OnOk, OnErr, is_some, slice_get, vec_capacity};
+ghost use Rattle.std.specs.Prelude.{◌≡◌, ℕ, ◌<◌, ◌≤◌, ◌↔◌, ◌⊎◌, [], ◌∷◌, ◌++◌, length, map, true, false, All, Contains, MatchOption, IfSome, IfNone, IsSomeAnd, Some, None, if◌then◌else◌, OnOk, OnErr, is_some, slice_get, vec_capacity};
 ghost use Rattle.std.specs.List.{AllWithin};
 ghost use Rattle.palm_base.specs.Tells.{Tells};
 ghost use Rattle.palm_base.specs.declared.terms.Cid.{Cid as CidTerm};
 ghost use Rattle.palm_base.specs.Order.{Rises, cid_before, IsPartedAt};
 ghost use Rattle.palm_model.specs.State.{without_cid};
-ghost use Rattle.palm_agenda.specs.Agenda.{Connected, HasPlace, IsConnected, IsFormed, IsMarked, IsOver, Takes, changed_among, changed_at, index_within, marked_whole, mark_others, mark_own, connected_cids, unmarked, with_connected, without_connected};
+ghost use Rattle.palm_agenda.specs.Agenda.{Connected, HasPlace, IsConnected, IsFormed, IsOver, Takes, changed_among, changed_at, index_within, marked_whole, mark_others, mark_own, connected_cids, unmarked, with_connected, without_connected};
+ghost use Rattle.palm_agenda.specs.declared.mark.Mark.TheVariants.{Clear};
+ghost use Rattle.palm_agenda.specs.Losses.{IsAlike, heed_of, is_by_value};
+ghost use Rattle.palm_agenda.specs.declared.agenda.Woken.{Woken as WokenTerm};
 ghost use Rattle.palm_agenda.specs.Flags.{count_raised, flagged};
 ghost use Rattle.palm_agenda.specs.Cids.{HasSpace, cids_at};
 ghost use Rattle.palm_agenda.specs.Kept.{IsShown};
@@ -14,16 +17,26 @@ ghost use Rattle.palm_agenda.specs.Places.{mark_places};
 use crate::cids::Cids;
 use crate::connection::{Connection, Places};
 use crate::flags::{Flags, raised_from};
+use crate::loss::Loss;
+use crate::mark::Mark;
 use crate::order::Order;
 use crate::over::{cids_over, insert_over, make_room, remove_over};
-use palm_base::{Cid, HasCid, NoMemory, Var, place_from, place_of, stands_at};
+use palm_base::{Cid, HasCid, NoMemory, Value, Var, place_from, place_of, stands_at};
+use palm_filter::Heed;
 use std::alloc::Global;
 use std::marker::Model;
 
+/// A variable, and a loss of it that woke the constraints over it.
+#[derive(Clone, Copy, Debug)]
+struct Woken {
+    var: Var,
+    loss: Loss,
+}
+
 /// The connected constraints by rising id, a flag for each of them that is raised where it is pending, and the ids of
 /// the constraints over each variable. There is room for every id among those that an order is shown; where it is noted so
-/// they are those that are pending. The place of the constraint that was taken last is where one is looked for first. The variable of
-/// which a value was taken out last is known while nothing was taken or unmarked since: waking it again changes nothing.
+/// they are those that are pending. The place of the constraint that was taken last is where one is looked for first. The loss that
+/// woke constraints last is known while nothing was taken or unmarked since: one that leaves the same changes nothing.
 #[derive(Debug, Drop)]
 pub struct Agenda {
     connections: Vec<Connection>,
@@ -31,7 +44,7 @@ pub struct Agenda {
     over: Vec<Cids>,
     shown: Vec<Cid>,
     is_shown: bool,
-    woken: Option<Var>,
+    woken: Option<Woken>,
     near: usize,
 }
 
@@ -63,61 +76,92 @@ fn place_near(connections: &[Connection], near: usize, cid: &Cid) -> usize
     }
 }
 
+/// Whether what a loss marks depends on the value that is lost.
+#[inline(always)]
+fn is_by_value(heed: Heed) -> bool
+    ensures { result ≡ is_by_value heed }
+{
+    matches!(heed, Heed::Shifted(_))
+}
+
 /// Makes the constraint pending, and marks these places of it, as seen from the variable. It is counted from the one at
-/// `near`, which is it from then on.
+/// `near`, which is it from then on. Answers whether another loss that leaves the same marks nothing more.
 fn wake_named(
     connections: &mut Vec<Connection>,
     pending: &mut Flags,
     near: &mut usize,
     cid: &Cid,
-    places: Places,
+    places: &Places,
     var: &Var,
-)
+) -> bool
     requires rising { Rises (connected_cids connections.old.items) }
     requires flags { length pending.old.flags ≡ length connections.old.items }
     requires over { IsOver connections.old.items var.now cid.now }
-    ensures marks { connections.new.items ≡ map (changed_at cid.now (mark_places places var.now)) connections.old.items }
+    ensures marks { connections.new.items ≡ map (changed_at cid.now (mark_places places.now var.now)) connections.old.items }
     ensures pending { (c : CidTerm) → Contains (flagged (connected_cids connections.new.items) pending.new.flags) c
         ↔ (Contains (flagged (connected_cids connections.old.items) pending.old.flags) c ⊎ (c ≡ cid.now)) }
     ensures flags { length pending.new.flags ≡ length pending.old.flags }
+    ensures whole { result ≡ true → (d : Connected) → Contains connections.old.items d → d.cid ≡ cid.now → is_by_value (heed_of var.now d.scope d.heeds) ≡ false }
 {
     let place = place_from(connections, *near, cid);
     let connection = &mut connections[place];
-    connection.mark(places, var);
+    let heed = connection.mark(places, var);
     pending.raise(place);
     *near = place;
+    !is_by_value(heed)
 }
 
-/// Whether the variable is the one that is noted.
-fn is_noted(woken: &Option<Var>, var: &Var) -> bool
-    ensures { result ≡ true → woken.now ≡ Some var.now }
+/// Whether a waking is noted of the variable, by a loss that left the same.
+fn is_noted(woken: &Option<Woken>, var: &Var, loss: &Loss) -> bool
+    ensures { result ≡ true → (w : WokenTerm) × (woken.now ≡ Some w) × (w.var ≡ var.now) × IsAlike w.loss loss.now }
 {
     match woken {
-        Some(noted) => noted == var,
+        Some(noted) => {
+            noted.var == *var
+                && noted.loss.below == loss.below
+                && noted.loss.above == loss.above
+                && noted.loss.several == loss.several
+        }
         None => false,
     }
 }
 
-/// Makes each of the constraints pending, and marks these places of it, as seen from the variable.
+/// The waking that is noted: none where one by another loss that leaves the same may mark more.
+#[inline(always)]
+fn noted(whole: bool, var: Var, loss: Loss) -> Option<Woken>
+    ensures { result ≡ (if whole then Some (record { var = var; loss = loss }) else None) }
+{
+    if whole {
+        Some(Woken { var, loss })
+    } else {
+        None
+    }
+}
+
+/// Makes each of the constraints pending, and marks these places of it, as seen from the variable. Answers whether another loss that
+/// leaves the same marks nothing more.
 fn wake_each(
     connections: &mut Vec<Connection>,
     pending: &mut Flags,
     cids: &[Cid],
-    places: Places,
+    places: &Places,
     var: &Var,
-)
+) -> bool
     requires rising { Rises (connected_cids connections.old.items) }
     requires flags { length pending.old.flags ≡ length connections.old.items }
     requires over { (c : CidTerm) → Contains cids.now c → IsOver connections.old.items var.now c }
-    ensures marks { connections.new.items ≡ map (changed_among cids.now (mark_places places var.now)) connections.old.items }
+    ensures marks { connections.new.items ≡ map (changed_among cids.now (mark_places places.now var.now)) connections.old.items }
     ensures pending { (c : CidTerm) → Contains (flagged (connected_cids connections.new.items) pending.new.flags) c
         ↔ (Contains (flagged (connected_cids connections.old.items) pending.old.flags) c ⊎ Contains cids.now c) }
     ensures flags { length pending.new.flags ≡ length pending.old.flags }
+    ensures whole { result ≡ true → (d : Connected) → Contains connections.old.items d → Contains cids.now d.cid → is_by_value (heed_of var.now d.scope d.heeds) ≡ false }
 {
     let mut near = connections.len().wrapping_sub(1);
+    let mut whole = true;
     for cid in cids {
-        wake_named(connections, pending, &mut near, cid, places, var);
+        whole &= wake_named(connections, pending, &mut near, cid, places, var);
     }
+    whole
 }
 
 /// Takes a mark of the constraint away, which is looked for at `near` first.
@@ -202,6 +246,18 @@ fn cid_at(connections: &[Connection], place: usize) -> Cid
     connections[place].cid()
 }
 
+/// Whether each of the marks is clear.
+fn are_clear(marks: &[Mark]) -> bool
+    ensures { result ≡ true → All (λ mark. mark ≡ Clear) marks.now }
+{
+    for mark in marks {
+        if *mark != Mark::Clear {
+            return false;
+        }
+    }
+    true
+}
+
 /// The answered index, and 0 where it is out of range.
 fn index_of(shown: &[Cid], answer: usize) -> usize
     ensures { result ≡ index_within answer (length shown.now) }
@@ -237,10 +293,12 @@ impl Agenda {
         }
     }
 
-    /// Connects a constraint, pending and marked whole. Without memory nothing changes.
-    pub fn connect(&mut self, cid: Cid, scope: &[Var]) -> Result<(), NoMemory>
-        requires { IsConnected self.old.connected cid → ⊥ }
-        ensures connected { OnOk result (self.new.connected ≡ with_connected (marked_whole cid scope.now) self.old.connected) }
+    /// Connects a constraint, pending and marked whole. For each place of its scope it is told which losses of the variable are
+    /// heeded: those that may take support from values of the others. Without memory nothing changes.
+    pub fn connect(&mut self, cid: Cid, scope: &[Var], heeds: Vec<Heed>) -> Result<(), NoMemory>
+        requires new { IsConnected self.old.connected cid → ⊥ }
+        requires heeds { length heeds.items ≡ length scope.now }
+        ensures connected { OnOk result (self.new.connected ≡ with_connected (marked_whole cid scope.now heeds.items) self.old.connected) }
         ensures pending { OnOk result ((c : CidTerm) → Contains self.new.pending c ↔ (Contains self.old.pending c ⊎ (c ≡ cid))) }
         ensures formed { IsFormed self.new }
         ensures err { OnErr result (self.new ≡ self.old) }
@@ -256,7 +314,7 @@ impl Agenda {
             count,
         )?;
         let alloc = *self.connections.allocator();
-        let connection = Connection::new(alloc, cid.copy(), scope)?;
+        let connection = Connection::new(alloc, cid.copy(), scope, heeds)?;
         let place = place_of(&self.connections, &cid);
         self.connections.insert(place, connection)?;
         self.pending.insert(place);
@@ -278,32 +336,33 @@ impl Agenda {
         remove_over(&mut self.over, connection.scope(), &cid);
     }
 
-    /// A value of the variable was taken out: each constraint over it is pending, and its places of other variables
-    /// are marked.
-    pub fn wake(&mut self, var: Var)
-        ensures connected { self.new.connected ≡ map (mark_others var) self.old.connected }
+    /// A value of the variable was taken out: each constraint over it is pending, and its places of other variables are marked as
+    /// it heeds the loss.
+    pub fn wake(&mut self, var: Var, loss: Loss)
+        ensures connected { self.new.connected ≡ map (mark_others var loss) self.old.connected }
         ensures pending { (c : CidTerm) → Contains self.new.pending c ↔ (Contains self.old.pending c ⊎ IsOver self.old.connected var c) }
         ensures formed { IsFormed self.new }
     {
-        if is_noted(&self.woken, &var) {
+        if is_noted(&self.woken, &var, &loss) {
             return;
         }
         self.is_shown = false;
-        self.woken = Some(var);
+        self.woken = None;
         let cids = cids_over(&self.over, &var);
-        wake_each(
+        let whole = wake_each(
             &mut self.connections,
             &mut self.pending,
             cids,
-            Places::Others,
+            &Places::Others(loss),
             &var,
         );
+        self.woken = noted(whole, var, loss);
     }
 
-    /// A value of the variable was put back: each constraint over it is pending, and its places of the variable are
-    /// marked.
-    pub fn wake_restored(&mut self, var: Var)
-        ensures connected { self.new.connected ≡ map (mark_own var) self.old.connected }
+    /// Values of the variable were put back, none below the one and none above the other: each constraint over it is
+    /// pending, and its places of the variable are marked from the one to the other besides.
+    pub fn wake_restored(&mut self, var: Var, low: Value, high: Value)
+        ensures connected { self.new.connected ≡ map (mark_own var low high) self.old.connected }
         ensures pending { (c : CidTerm) → Contains self.new.pending c ↔ (Contains self.old.pending c ⊎ IsOver self.old.connected var c) }
         ensures formed { IsFormed self.new }
     {
@@ -314,7 +373,7 @@ impl Agenda {
             &mut self.connections,
             &mut self.pending,
             cids,
-            Places::Own,
+            &Places::Own { low, high },
             &var,
         );
     }
@@ -332,8 +391,8 @@ impl Agenda {
         self.pending.raise(place);
     }
 
-    /// A mark for each place of the constraint's scope: whether values of the place's variable may lack support.
-    pub fn marks(&self, cid: Cid) -> &[bool]
+    /// A mark for each place of the constraint's scope: which values of the place's variable may lack support.
+    pub fn marks(&self, cid: Cid) -> &[Mark]
         requires { IsConnected self.now.connected cid }
         ensures marks { (d : Connected) → Contains self.now.connected d → d.cid ≡ cid → result.now ≡ d.marks }
         ensures whole { (d : Connected) → Contains self.now.connected d → d.cid ≡ cid → length result.now ≡ length d.scope }
@@ -342,10 +401,18 @@ impl Agenda {
         self.connections[place].marks()
     }
 
-    /// Whether the place of the constraint's scope is marked.
-    pub fn is_marked(&self, cid: Cid, place: usize) -> bool
+    /// Whether no value may lack support in the constraint: each of its marks is clear.
+    pub fn is_clear(&self, cid: Cid) -> bool
+        requires { IsConnected self.now.connected cid }
+        ensures { result ≡ true → (d : Connected) → Contains self.now.connected d → d.cid ≡ cid → All (λ mark. mark ≡ Clear) d.marks }
+    {
+        are_clear(self.marks(cid))
+    }
+
+    /// The mark of a place of the constraint's scope.
+    pub fn mark(&self, cid: Cid, place: usize) -> Mark
         requires { HasPlace self.now.connected cid place }
-        ensures { Tells result (IsMarked self.now.connected cid place) }
+        ensures { (d : Connected) → Contains self.now.connected d → d.cid ≡ cid → slice_get d.marks place ≡ Some result }
     {
         self.marks(cid)[place]
     }

@@ -1,27 +1,34 @@
 //! One constraint of an agenda.
-ghost use Rattle.std.specs.Prelude.{◌≡◌, ◌<◌, length, IfOk, slice_set};
-ghost use Rattle.palm_agenda.specs.Agenda.{HasMarks, marked_where, marked_whole, unmarked};
-ghost use Rattle.palm_agenda.specs.Places.{is_place};
+ghost use Rattle.std.specs.Prelude.{◌≡◌, ◌<◌, length, true, Contains, IfOk, slice_index_or, slice_set};
+ghost use Rattle.palm_agenda.specs.declared.mark.Mark.{Mark as MarkTerm};
+ghost use Rattle.palm_agenda.specs.declared.mark.Mark.TheVariants.{Clear};
+ghost use Rattle.palm_agenda.specs.Agenda.{HasMarks, changed_where, marked_whole, unmarked};
+ghost use Rattle.palm_agenda.specs.Losses.{heed_of};
+ghost use Rattle.palm_agenda.specs.Places.{is_place, mark_at, mark_places};
 
-use palm_base::{Cid, HasCid, NoMemory, Var, VarList};
+use crate::loss::Loss;
+use crate::mark::Mark;
+use palm_base::{Cid, HasCid, NoMemory, Value, Var, VarList};
+use palm_filter::Heed;
 use std::alloc::Global;
 use std::marker::Model;
 
-/// Places of a scope, as seen from a variable.
+/// Places of a scope, as seen from a variable, and how they are marked.
 #[derive(Clone, Copy, Debug, PartialEq, Eq)]
 pub(crate) enum Places {
-    /// Those of the variable.
-    Own,
-    /// Those of other variables.
-    Others,
+    /// Those of the variable, from the one value to the other besides.
+    Own { low: Value, high: Value },
+    /// Those of other variables, as the loss is heeded.
+    Others(Loss),
 }
 
-/// A constraint with its scope, and a mark for each place of it.
+/// A constraint with its scope, and for each place of it how losses are heeded, and a mark.
 #[derive(Debug, Drop)]
 pub(crate) struct Connection {
     cid: Cid,
     scope: VarList,
-    marks: Vec<bool>,
+    heeds: Vec<Heed>,
+    marks: Vec<Mark>,
 }
 
 impl Model for Connection {
@@ -30,9 +37,9 @@ impl Model for Connection {
 
     ghost Value = { Connected };
 
-    ghost view = { λ d. record { cid = d.cid; scope = d.scope; marks = d.marks.items } };
+    ghost view = { λ d. record { cid = d.cid; scope = d.scope; heeds = d.heeds.items; marks = d.marks.items } };
 
-    ghost invariant = { λ d. length d.marks.items ≡ length d.scope };
+    ghost invariant = { λ d. (length d.marks.items ≡ length d.scope) × (length d.heeds.items ≡ length d.scope) };
 }
 
 impl HasCid for Connection {
@@ -47,33 +54,69 @@ impl HasCid for Connection {
 }
 
 /// Whether a place with the variable `at` is one of the places, as seen from the variable `var`.
-fn is_place(places: Places, var: &Var, at: &Var) -> bool
-    ensures { result ≡ is_place places var.now at.now }
+fn is_place(places: &Places, var: &Var, at: &Var) -> bool
+    ensures { result ≡ is_place places.now var.now at.now }
 {
     match places {
-        Places::Own => at == var,
-        Places::Others => at != var,
+        Places::Own { .. } => at == var,
+        Places::Others(_) => at != var,
     }
 }
 
-/// Writes a mark.
-fn set_mark(marks: &mut Vec<bool>, place: usize, mark: bool)
-    requires { place < length marks.old.items }
-    ensures { marks.new.items ≡ slice_set marks.old.items place mark }
+/// What becomes of the mark of one of the places, where losses are heeded so.
+fn mark_at(places: &Places, heed: Heed, mark: Mark) -> Mark
+    ensures { result ≡ mark_at places.now heed mark }
 {
+    match places {
+        Places::Own { low, high } => mark.widened(*low, *high),
+        Places::Others(loss) => loss.mark_after(heed, mark),
+    }
+}
+
+/// Whether the marks stay as they are, where losses are heeded so.
+fn leaves_alone(places: &Places, heed: &Heed) -> bool
+    ensures { result ≡ true → (mark : MarkTerm) → mark_at places.now heed.now mark ≡ mark }
+{
+    match places {
+        Places::Own { .. } => false,
+        Places::Others(loss) => !loss.matters(*heed),
+    }
+}
+
+/// Marks one of the places.
+fn mark_one(marks: &mut Vec<Mark>, place: usize, places: &Places, heed: &Heed)
+    requires { place < length marks.old.items }
+    ensures { marks.new.items ≡ slice_set marks.old.items place (mark_at places.now heed.now (slice_index_or marks.old.items place Clear)) }
+{
+    let mark = mark_at(places, *heed, marks[place]);
     marks[place] = mark;
+}
+
+/// Writes that a place is clear.
+fn clear_one(marks: &mut Vec<Mark>, place: usize)
+    requires { place < length marks.old.items }
+    ensures { marks.new.items ≡ slice_set marks.old.items place Clear }
+{
+    marks[place] = Mark::Clear;
 }
 
 impl Connection {
     /// A constraint that is marked whole.
-    pub(crate) fn new(alloc: Global, cid: Cid, scope: &[Var]) -> Result<Connection, NoMemory>
-        ensures { IfOk result (λ d. d ≡ marked_whole cid scope.now) }
+    pub(crate) fn new(
+        alloc: Global,
+        cid: Cid,
+        scope: &[Var],
+        heeds: Vec<Heed>,
+    ) -> Result<Connection, NoMemory>
+        requires { length heeds.items ≡ length scope.now }
+        ensures { IfOk result (λ d. d ≡ marked_whole cid scope.now heeds.items) }
     {
         let mut marks = Vec::new(alloc);
-        marks.resize(scope.len(), true)?;
+        marks.resize(scope.len(), Mark::Whole)?;
         Ok(Connection {
             cid,
             scope: VarList::from_slice(alloc, scope)?,
+            heeds,
             marks,
         })
     }
@@ -86,20 +129,46 @@ impl Connection {
     }
 
     /// A mark for each place.
-    pub(crate) fn marks(&self) -> &[bool]
+    pub(crate) fn marks(&self) -> &[Mark]
         ensures marks { result.now ≡ self.now.marks }
         ensures whole { HasMarks self.now }
     {
         self.marks.as_slice()
     }
 
-    /// Marks each of these places, as seen from the variable.
-    pub(crate) fn mark(&mut self, places: Places, var: &Var)
-        ensures { self.new ≡ marked_where (is_place places var.now) self.old }
+    /// How losses of the variable are heeded.
+    fn heed_of(&self, var: &Var) -> Heed
+        ensures { result ≡ heed_of var.now self.now.scope self.now.heeds }
+    {
+        for place in 0..self.scope.len() {
+            if self.scope.as_slice()[place] == *var {
+                return self.heeds[place];
+            }
+        }
+        Heed::Each
+    }
+
+    /// Marks each of these places, as seen from the variable, over which the constraint is. Answers how losses of the variable are
+    /// heeded.
+    pub(crate) fn mark(&mut self, places: &Places, var: &Var) -> Heed
+        requires { Contains self.old.scope var.now }
+        ensures marked { self.new ≡ mark_places places.now var.now self.old }
+        ensures heed { result ≡ heed_of var.now self.old.scope self.old.heeds }
+    {
+        let heed = self.heed_of(var);
+        if !leaves_alone(places, &heed) {
+            self.mark_each(places, var, &heed);
+        }
+        heed
+    }
+
+    /// Marks each of these places, as seen from the variable, where losses are heeded so.
+    fn mark_each(&mut self, places: &Places, var: &Var, heed: &Heed)
+        ensures { self.new ≡ changed_where (is_place places.now var.now) (mark_at places.now heed.now) self.old }
     {
         for place in 0..self.scope.len() {
             if is_place(places, var, &self.scope.as_slice()[place]) {
-                set_mark(&mut self.marks, place, true);
+                mark_one(&mut self.marks, place, places, heed);
             }
         }
     }
@@ -109,6 +178,6 @@ impl Connection {
         requires { place < length self.old.scope }
         ensures { self.new ≡ unmarked place self.old }
     {
-        set_mark(&mut self.marks, place, false);
+        clear_one(&mut self.marks, place);
     }
 }

@@ -6,8 +6,12 @@ mod agenda;
 mod cids;
 mod connection;
 mod flags;
+mod loss;
+mod mark;
 mod order;
 mod over;
 
 pub use agenda::Agenda;
+pub use loss::Loss;
+pub use mark::Mark;
 pub use order::{LastOrder, Order, RotateOrder};

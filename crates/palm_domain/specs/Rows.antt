@@ -1,9 +1,10 @@
 -- The rows of a store, one for each variable, and what its calls say of them.
-use Rattle.std.specs.Prelude.{◌≡◌, ℕ, ◌^◌, ℤ, ◌<◌, ◌≤◌, ◌<ℤ◌, ◌≤ℤ◌, List, [], ◌∷◌, All, Contains, not, filter, map, length, int_lt, if◌then◌else◌}
+use Rattle.std.specs.Prelude.{◌≡◌, ℕ, ◌^◌, ℤ, ◌<◌, ◌≤◌, ◌<ℤ◌, ◌≤ℤ◌, List, [], ◌∷◌, All, Contains, Some, not, filter, map, length, int_lt, slice_get, if◌then◌else◌}
 use Rattle.std.specs.Ordering.{int_eq}
 pub use Rattle.palm_base.specs.Ascending.{Ascends}
 pub use Rattle.palm_base.specs.Values.{values_of}
 use Rattle.palm_domain.specs.declared.limits.TheConstants.{MOST_VALUES}
+use Rattle.palm_domain.specs.declared.placed.Placed.{Placed}
 
 -- the values that a variable was declared with, and those of them that are left
 pub record Row : Type 0 where
@@ -30,6 +31,14 @@ IsDeclared rows x v = Contains (declared_values rows x) v
 
 abbrev pub IsPresent : List Row → ℕ → ℤ → Type 0
 IsPresent rows x v = Contains (present_values rows x) v
+
+-- the value stands at its place among these
+abbrev pub StandsIn : List ℤ → Placed → Type 0
+StandsIn values p = slice_get values p.place ≡ Some p.value
+
+-- and so among the declared values of the variable
+abbrev pub IsPlaced : List Row → ℕ → Placed → Type 0
+IsPlaced rows x p = StandsIn (declared_values rows x) p
 
 -- the values but this one
 abbrev pub values_without : ℤ → List ℤ → List ℤ

@@ -1,10 +1,11 @@
 //! The values of one variable.
-ghost use Rattle.std.specs.Prelude.{◌≡◌, ℤ, pos, ◌+ℤ◌, ◌<◌, ◌≤◌, ◌<ℤ◌, ◌≤ℤ◌, length, Contains, IfOk, MatchOption};
+ghost use Rattle.std.specs.Prelude.{◌≡◌, ℤ, pos, ◌+ℤ◌, ◌<◌, ◌≤◌, ◌<ℤ◌, ◌≤ℤ◌, length, Contains, IfOk, IfSome, MatchOption};
 ghost use Rattle.palm_base.specs.Tells.{Tells};
-ghost use Rattle.palm_domain.specs.Rows.{Ascends, IsFormed, IsGreatestOf, IsLastBefore, IsLeastOf, IsNextFrom, IsNextRemovedFrom, values_with, values_without};
+ghost use Rattle.palm_domain.specs.Rows.{Ascends, IsFormed, IsGreatestOf, IsLastBefore, IsLeastOf, IsNextFrom, IsNextRemovedFrom, StandsIn, values_with, values_without};
 
 use crate::limits::MOST_VALUES;
 use crate::marks::Marks;
+use crate::placed::Placed;
 use crate::places::{place_after, place_from, place_of};
 use palm_base::{NoMemory, Value};
 use std::alloc::Global;
@@ -129,6 +130,50 @@ impl Domain {
         let from = place_after(&self.initial, value);
         let place = self.marks.next_set(from, usize::from(self.end))?;
         Some(self.initial[place])
+    }
+
+    /// The least present value, with its place.
+    pub(crate) fn first_placed(&self) -> Placed
+        requires { 0 < length self.now.present }
+        ensures least { IsLeastOf self.now.present result.value }
+        ensures placed { StandsIn self.now.initial result }
+    {
+        let place = usize::from(self.first);
+        Placed {
+            place,
+            value: self.initial[place],
+        }
+    }
+
+    /// The least present value that is at least `value`, with its place.
+    pub(crate) fn placed_from(&self, value: Value) -> Option<Placed>
+        ensures next { MatchOption result
+            ((w : ℤ) → Contains self.now.present w → w <ℤ value)
+            (λ p. IsNextFrom self.now.present value p.value) }
+        ensures placed { IfSome result (λ p. StandsIn self.now.initial p) }
+    {
+        let from = place_from(&self.initial, value);
+        let place = self.marks.next_set(from, usize::from(self.end))?;
+        Some(Placed {
+            place,
+            value: self.initial[place],
+        })
+    }
+
+    /// The least present value above the value at a place. Nothing is looked up.
+    #[inline(always)]
+    pub(crate) fn next_placed(&self, last: Placed) -> Option<Placed>
+        requires { StandsIn self.now.initial last }
+        ensures next { MatchOption result
+            ((w : ℤ) → Contains self.now.present w → w <ℤ (last.value +ℤ pos 1))
+            (λ p. IsNextFrom self.now.present (last.value +ℤ pos 1) p.value) }
+        ensures placed { IfSome result (λ p. StandsIn self.now.initial p) }
+    {
+        let place = self.marks.next_set(last.place + 1, usize::from(self.end))?;
+        Some(Placed {
+            place,
+            value: self.initial[place],
+        })
     }
 
     /// The greatest present value below `value`.

@@ -6,9 +6,11 @@ mod domain;
 mod laws;
 mod limits;
 mod marks;
+mod placed;
 mod places;
 mod store;
 
 pub use laws::limits_are_these_numbers;
 pub use limits::MOST_VALUES;
+pub use placed::Placed;
 pub use store::DomainStore;

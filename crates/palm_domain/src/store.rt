@@ -1,10 +1,11 @@
 //! The domains of all variables.
-ghost use Rattle.std.specs.Prelude.{◌≡◌, ℕ, ℤ, pos, ◌+ℤ◌, ◌+◌, ◌-◌, ◌^◌, ◌<◌, ◌≤◌, ◌<ℤ◌, ◌≤ℤ◌, [], ◌∷◌, ◌++◌, length, All, Contains, IfOk, OnOk, OnErr, MatchOption, slice_set};
+ghost use Rattle.std.specs.Prelude.{◌≡◌, ℕ, ℤ, pos, ◌+ℤ◌, ◌+◌, ◌-◌, ◌^◌, ◌<◌, ◌≤◌, ◌<ℤ◌, ◌≤ℤ◌, [], ◌∷◌, ◌++◌, length, All, Contains, IfOk, IfSome, OnOk, OnErr, MatchOption, slice_set};
 ghost use Rattle.palm_base.specs.Tells.{Tells};
-ghost use Rattle.palm_domain.specs.Rows.{Ascends, GainsPair, IsDeclared, IsGreatestOf, IsLastBefore, IsLeastOf, IsNextFrom, IsNextRemovedFrom, IsPresent, LosesPair, declared_values, initial_of, present_of, present_values, values_with, values_without};
+ghost use Rattle.palm_domain.specs.Rows.{Ascends, GainsPair, IsDeclared, IsGreatestOf, IsLastBefore, IsLeastOf, IsNextFrom, IsNextRemovedFrom, IsPlaced, IsPresent, LosesPair, declared_values, initial_of, present_of, present_values, values_with, values_without};
 
 use crate::domain::Domain;
 use crate::limits::MOST_VALUES;
+use crate::placed::Placed;
 use palm_base::{NoMemory, Pair, Value, Var};
 use std::alloc::Global;
 use std::marker::Model;
@@ -146,6 +147,39 @@ impl DomainStore {
             (IsNextFrom (present_values self.now var) (value +ℤ pos 1)) }
     {
         self.domain(var).next_after(value)
+    }
+
+    /// The least present value, with its place.
+    pub fn first_placed(&self, var: Var) -> Placed
+        requires { 0 < length (present_values self.now var) }
+        ensures least { IsLeastOf (present_values self.now var) result.value }
+        ensures placed { IsPlaced self.now var result }
+    {
+        self.domain(var).first_placed()
+    }
+
+    /// The least present value that is at least `value`, with its place.
+    pub fn placed_from(&self, var: Var, value: Value) -> Option<Placed>
+        requires { var < length self.now }
+        ensures next { MatchOption result
+            ((w : ℤ) → IsPresent self.now var w → w <ℤ value)
+            (λ p. IsNextFrom (present_values self.now var) value p.value) }
+        ensures placed { IfSome result (λ p. IsPlaced self.now var p) }
+    {
+        self.domain(var).placed_from(value)
+    }
+
+    /// The least present value above the value at a place: the next one of a walk. Nothing is looked up.
+    #[inline(always)]
+    pub fn next_placed(&self, var: Var, last: Placed) -> Option<Placed>
+        requires var { var < length self.now }
+        requires placed { IsPlaced self.now var last }
+        ensures next { MatchOption result
+            ((w : ℤ) → IsPresent self.now var w → w <ℤ (last.value +ℤ pos 1))
+            (λ p. IsNextFrom (present_values self.now var) (last.value +ℤ pos 1) p.value) }
+        ensures placed { IfSome result (λ p. IsPlaced self.now var p) }
+    {
+        self.domain(var).next_placed(last)
     }
 
     /// The greatest present value below `value`: the next one of a walk downwards.

@@ -11,11 +11,12 @@ use Rattle.palm_model.specs.Event.{with_posted}
 use Rattle.palm_model.specs.Log.{Active, IsActive}
 use Rattle.palm_model.specs.State.{AreJustifiers, FitsCid}
 use Rattle.palm_model.specs.declared.constraint.Con.{Con}
+use Rattle.palm_filter.specs.declared.heed.Heed.{Heed}
 use Rattle.palm_agenda.specs.Agenda.{Waiting, IsFormed, marked_whole, with_connected}
 use Rattle.palm_engine.specs.declared.filtering.Filtering.{Filtering}
 use Rattle.palm_engine.specs.declared.posted.Posted.{Posted}
 use Rattle.palm_engine.specs.declared.posted.Posted.TheVariants.{Decision, Negation, User as UserPosted}
-use Rattle.palm_engine.specs.Kept.{IsEngine}
+use Rattle.palm_engine.specs.Kept.{IsEngine, IsHeededAs}
 use Rattle.palm_engine.specs.Posted.{active_of, actives_of}
 use Rattle.palm_engine.proofs.Keeping.{IsActivated, activated_engine, unchanged_engine}
 
@@ -39,7 +40,7 @@ fits meaning (UserPosted number f) n active declared justifiers shaped =
 pub activated : {F E : Type 0} (meaning : F → Con) (f : Filtering) (w : Waiting) (x : Posted F) (xs ys : List (Posted F)) (r : Result (Unit {0}) E)
     → All (λ y. y < length (initial_of f.store)) (scope (active_of meaning x).con) → AreJustifiers (actives_of meaning xs) (active_of meaning x).justification
     → OnOk r (actives_of meaning ys ≡ with_posted (active_of meaning x) (actives_of meaning xs))
-    → OnOk r (w.connected ≡ with_connected (marked_whole (active_of meaning x).cid (scope (active_of meaning x).con)) f.agenda.connected)
+    → OnOk r ((heeds : List Heed) × IsHeededAs (active_of meaning x) heeds × (w.connected ≡ with_connected (marked_whole (active_of meaning x).cid (scope (active_of meaning x).con) heeds) f.agenda.connected))
     → OnOk r ((c : Cid) → Contains w.pending c ↔ (Contains f.agenda.pending c ⊎ (c ≡ (active_of meaning x).cid)))
     → OnOk r (IsFormed w) → OnOk r (IsShapedUser (active_of meaning x))
     → OnOk r (IsActivated f w (active_of meaning x) (actives_of meaning xs) (actives_of meaning ys))

@@ -1,5 +1,5 @@
 -- What an engine keeps holds after a removal, a withdrawal, a posting and a declaration.
-use Rattle.std.proofs.Common.{◌≡◌, ℕ, ◌<◌, true, false, List, [], ◌∷◌, ◌++◌, length, map, Contains, Option, None, Some, ℤ, All, ◌+◌, ◌⊎◌, ◌↔◌, inl, inr, refl, sym, ap, ◌∙◌, subst, arith, length-append}
+use Rattle.std.proofs.Common.{◌≡◌, ℕ, ◌<◌, true, false, not, List, [], ◌∷◌, ◌++◌, length, map, Contains, Option, None, Some, ℤ, All, ◌+◌, ◌⊎◌, ◌↔◌, inl, inr, refl, sym, ap, ◌∙◌, subst, arith, length-append}
 use Rattle.std.specs.List.{list_any}
 use Rattle.std.proofs.lemmas.Bool.{or_cases, false≢true, cases_lt}
 use Rattle.std.specs.Prelude.{slice_set}
@@ -7,32 +7,34 @@ use Rattle.std.proofs.lemmas.List.{get_or_push, length-map, map-append}
 use Rattle.std.proofs.lemmas.List.Elements.{All-append, All-cons, All-nil, Contains-push_cases}
 use Rattle.palm_base.specs.declared.terms.Pair.{Pair}
 use Rattle.palm_base.specs.declared.terms.Cid.{Cid}
-use Rattle.palm_base.proofs.cited.Members.{member_nil, member_here, member_there, member_cases, member_same, member_single, all_members, nat_known}
+use Rattle.palm_base.proofs.cited.Members.{member_nil, member_here, member_there, member_cases, member_same, member_single, member_filter, all_members, nat_known}
 use Rattle.palm_domain.specs.Rows.{Row, IsPresent, LosesPair, initial_of, present_of, present_values, values_without}
-use Rattle.palm_model.specs.Domains.{Domains, AllAscend, Ascends, Has, IsInside, values_of, without}
+use Rattle.palm_model.specs.Domains.{Domains, AllAscend, Ascends, Has, IsInside, is_among, values_of, without}
 use Rattle.palm_model.specs.Constraint.{scope}
 use Rattle.palm_base.specs.Order.{Rises}
 use Rattle.palm_model.specs.Log.{Active, IsActive, Removal, cids_of, is_named, log_pairs}
-use Rattle.palm_model.specs.State.{EngineState, FitsCid, IsEmptyAt, AllFilled, is_awake, is_over, present, woken}
+use Rattle.palm_model.specs.State.{EngineState, FitsCid, IsEmptyAt, is_awake, is_over, present, woken}
 use Rattle.palm_model.specs.Event.{Declares, Posts, WithdrawsAll, with_posted, without_cids, posted, vars_of, lost_pairs}
 use Rattle.palm_model.proofs.cited.Narrowing.{has_declared}
-use Rattle.palm_model.proofs.cited.Supports.{any_member}
+use Rattle.palm_model.proofs.cited.Supports.{any_member, not_true}
 use Rattle.palm_model.proofs.cited.Ascending.{domains_same}
-use Rattle.palm_model.proofs.cited.Without.{ascend_without, has_without, length_without, pair_of, without_has}
+use Rattle.palm_model.proofs.cited.Without.{among_member, ascend_without, has_without, length_without, pair_of, without_has}
 use Rattle.palm_events.proofs.cited.Agreeing.{has_more, more_has, values_of_more}
 use Rattle.palm_base.proofs.cited.CidOrder.{rising_same}
 use Rattle.palm_events.proofs.cited.Names.{named_member}
 use Rattle.palm_events.proofs.cited.Scoped.{posts_scoped}
 use Rattle.palm_events.proofs.cited.States.{over_member, awake_named, awake_over, woken_active, member_woken, woken_rises, without_cid_member, member_without_cid, without_cids_member, member_without_cids, without_cids_rises, with_posted_rises, with_posted_here, member_with_posted}
-use Rattle.palm_events.proofs.cited.Valid.{active_declared, declares_valid, left_grows, left_same, posts_valid}
-use Rattle.palm_explain.specs.Explanations.{Explanations, LacksExactly}
+use Rattle.palm_events.proofs.cited.Valid.{active_declared, declares_valid, left_grows, posts_valid}
+use Rattle.palm_explain.specs.Explanations.{Explanations, IsSpanned, LacksExactly}
+use Rattle.palm_filter.specs.declared.heed.Heed.{Heed}
+use Rattle.palm_agenda.specs.declared.loss.Loss.{Loss}
 use Rattle.palm_agenda.specs.Agenda.{Waiting, IsFormed, IsOver, mark_others, marked_whole, with_connected, without_connected}
 use Rattle.palm_engine.specs.declared.filtering.Filtering.{Filtering}
-use Rattle.palm_engine.specs.Kept.{AreConnected, AreMarked, IsEmptyKept, IsInStep, IsEngine, state_of}
-use Rattle.palm_engine.specs.Changed.{NotesGain, NotesLoss, PutsBack, TakesOut, is_one_of}
-use Rattle.palm_engine.proofs.Scopes.{connected_is_active, over_active, active_over, others_connected, marked_connected, without_is_connected, with_is_connected}
+use Rattle.palm_engine.specs.Kept.{AreConnected, AreHeeded, AreMarked, IsEmptyKept, IsHeededAs, IsInStep, IsEngine, state_of}
+use Rattle.palm_engine.specs.Changed.{NotesGain, NotesLoss, PutsBack, TakesOut, TellsLoss, widened_by}
+use Rattle.palm_engine.proofs.Scopes.{active_over, bare_widened, connected_is_active, connected_stays, heeded_stays, over_active, with_heeded, with_is_connected, without_heeded, without_is_connected}
 use Rattle.palm_engine.proofs.Taking.{without_push}
-use Rattle.palm_engine.proofs.Marking.{agreeing_marked, taken_marked, restored_marked, posted_marked}
+use Rattle.palm_engine.proofs.Marking.{agreeing_marked, restored_marked, posted_marked}
 
 -- ---- empty variables
 
@@ -53,28 +55,6 @@ empty_not_filled vs e lt = absurd (omega (arith, ap (λ (ws : List ℤ). length 
 
 pub present_long : (rows : List Row) → length (present_of rows) ≡ length (initial_of rows)
 present_long rows = length-map rows (λ (r : Row). r.present) ∙ sym (length-map rows (λ (r : Row). r.initial))
-
--- a variable that has a value in d has one in e, where all values of other variables stay
-still_filled : (d e : Domains) (x y : ℕ) → ((z : ℕ) (u : ℤ) → (z ≡ x → ⊥) → Has d z u → Has e z u) → (y ≡ x → ⊥) → 0 < length (values_of d y) → 0 < length (values_of e y)
-still_filled d e x y others ne lt = let r = filled_has (values_of d y) lt in has_filled (values_of e y) r.0 (others y r.0 ne r.1)
-
-loss_empty : (before after : Option ℕ) (d e : Domains) (x : ℕ) → x < length d → length d ≡ length e → ((z : ℕ) (u : ℤ) → (z ≡ x → ⊥) → Has d z u → Has e z u)
-    → before ≡ None → IsEmptyKept d before → NotesLoss before after e x → IsEmptyKept e after
-loss_empty before after d e x lt long others none kept notes =
-    let filled : AllFilled d = subst (IsEmptyKept d) none kept in
-    elim (empty_or_filled (values_of e x)) [
-      | inl gone ↦ subst (IsEmptyKept e) (sym (notes.emptied gone)) (
-        record { exists = subst (λ n. x < n) long lt; empty = gone },
-        λ y is. elim (nat_known y x) [
-          | inl same ↦ same
-          | inr ne ↦ absurd (empty_not_filled (values_of e y) is.empty (still_filled d e x y others ne (filled y (subst (λ n. y < n) (sym long) is.exists))))
-        ],
-      )
-      | inr some ↦ subst (IsEmptyKept e) (sym (notes.filled some ∙ none)) (λ y within. elim (nat_known y x) [
-        | inl same ↦ subst (λ z. 0 < length (values_of e z)) (sym same) some
-        | inr ne ↦ still_filled d e x y others ne (filled y (subst (λ n. y < n) (sym long) within))
-      ])
-    ]
 
 -- a variable that is empty in e is empty in d, where e has more
 was_empty : (d e : Domains) (y : ℕ) → length d ≡ length e → IsInside d e → IsEmptyAt e y → IsEmptyAt d y
@@ -105,30 +85,16 @@ gain_empty (Some x) after d e long inside kept notes = elim (empty_or_filled (va
 
 -- ---- a removal
 
-pub taken_kept : (f g : Filtering) (p : Pair) (by : Cid) (reasons : List Pair) (active : List Active) → Rises (cids_of active)
-    → TakesOut f p by reasons g → p.var < length (initial_of f.store) → f.empty ≡ None → IsInStep f active → IsInStep g active
-taken_kept f g p by reasons active rises takes lt none kept =
-    let others : (z : ℕ) (u : ℤ) → (z ≡ p.var → ⊥) → Has (present_of f.store) z u → Has (present_of g.store) z u = λ z u ne has. takes.loses.others z u (λ e h. ne e) has in
-    let long : length (present_of f.store) ≡ length (present_of g.store) = present_long f.store ∙ ap (λ (d : Domains). length d) (sym takes.initial) ∙ sym (present_long g.store) in
-    record {
-      removed = takes.removed;
-      formed = takes.formed;
-      connected = subst (AreConnected active) (sym takes.connected) (others_connected active f.agenda.connected p.var kept.connected);
-      marked = subst (AreMarked (present_of g.store) active) (sym takes.connected)
-          (taken_marked active f.agenda.connected (present_of f.store) (present_of g.store) p.var rises kept.connected takes.loses.inside others kept.marked);
-      empty = loss_empty f.empty g.empty (present_of f.store) (present_of g.store) p.var (subst (λ n. p.var < n) (sym (present_long f.store)) lt) long others none kept.empty takes.empty;
-    }
-
 -- a removal that is entered, taken out of the domains and told to the agenda
-pub took_out : (f : Filtering) (store : List Row) (log : Explanations) (agenda : Waiting) (empty : Option ℕ) (p : Pair) (by : Cid) (reasons : List Pair)
+pub took_out : (f : Filtering) (store : List Row) (log : Explanations) (agenda : Waiting) (empty : Option ℕ) (p : Pair) (by : Cid) (reasons : List Pair) (loss : Loss)
     → LacksExactly f.store (log_pairs f.log.log) → IsPresent f.store p.var p.value
     → initial_of store ≡ initial_of f.store → present_of store ≡ slice_set (present_of f.store) p.var (values_without p.value (present_values f.store p.var)) → LosesPair f.store store p.var p.value
     → log ≡ record (f.log) { log = f.log.log ++ record { pair = p; by = by; reasons = reasons } ∷ [] }
-    → IsFormed agenda → agenda.connected ≡ map (mark_others p.var) f.agenda.connected
+    → IsFormed agenda → agenda.connected ≡ map (mark_others p.var loss) f.agenda.connected
     → ((c : Cid) → Contains agenda.pending c ↔ (Contains f.agenda.pending c ⊎ IsOver f.agenda.connected p.var c))
-    → NotesLoss f.empty empty (present_of store) p.var
+    → TellsLoss (present_of store) p loss → NotesLoss f.empty empty (present_of store) p.var
     → TakesOut f p by reasons (record f { store = store; log = log; agenda = agenda; empty = empty })
-took_out f store log agenda empty p by reasons lacks has initial now loses logged formed connected pending notes =
+took_out f store log agenda empty p by reasons loss lacks has initial now loses logged formed connected pending told notes =
     let pairs = log_pairs f.log.log in
     let last : Removal = record { pair = p; by = by; reasons = reasons } in
     let same : log_pairs log.log ≡ pairs ++ p ∷ [] = ap (λ (e : Explanations). log_pairs e.log) logged ∙ map-append (λ (r : Removal). r.pair) f.log.log (last ∷ []) in
@@ -149,6 +115,8 @@ took_out f store log agenda empty p by reasons lacks has initial now loses logge
       };
       log = ap (λ (e : Explanations). e.log) logged;
       formed = formed;
+      loss = loss;
+      told = told;
       connected = connected;
       pending = pending;
       empty = notes;
@@ -157,6 +125,14 @@ took_out f store log agenda empty p by reasons lacks has initial now loses logge
 
 -- ---- a withdrawal
 
+-- a value that is not lost from the log is present as it was
+unlost_same : (s : EngineState) (left : List Removal) (x : ℕ) (v : ℤ) → (Contains (lost_pairs s.log left) (pair_of x v) → ⊥) → Has (without s.initial (log_pairs left)) x v → Has (present s) x v
+unlost_same s left x v untouched has =
+    let r = without_has s.initial (log_pairs left) x v has in
+    has_without s.initial (log_pairs s.log) x v r.0 (λ m. untouched
+    (member_filter (λ p. not (is_among (log_pairs left) p.var p.value)) (log_pairs s.log) (pair_of x v) m
+    (not_true (is_among (log_pairs left) x v) (λ t. r.1 (among_member (log_pairs left) x v t)))))
+
 pub put_back_kept : (f g : Filtering) (cid : Cid) (active : List Active) → PutsBack f cid g → IsInStep f active → IsInStep g (without_cids (cid ∷ []) active)
 put_back_kept f g cid active puts kept =
     let s = state_of f active in
@@ -164,15 +140,18 @@ put_back_kept f g cid active puts kept =
     let then : present_of g.store ≡ without s.initial (log_pairs g.log.log) = puts.removed.present ∙ ap (λ d. without d (log_pairs g.log.log)) puts.initial in
     let grows : IsInside (present_of f.store) (present_of g.store) = λ x v has.
     subst (λ d. Has d x v) (sym then) (left_grows s (cid ∷ []) g.log.log puts.loses x v (subst (λ d. Has d x v) now has)) in
-    let only : (z : ℕ) (u : ℤ) → (Contains g.log.restored z → ⊥) → Has (present_of g.store) z u → Has (present_of f.store) z u = λ z u no has.
-    subst (λ d. Has d z u) (sym now) (left_same s g.log.log z u (λ m. no ((puts.restored z).1 m)) (subst (λ d. Has d z u) then has)) in
+    let only : (z : ℕ) (u : ℤ) → (IsSpanned g.log.restored (pair_of z u) → ⊥) → Has (present_of g.store) z u → Has (present_of f.store) z u = λ z u no has.
+    subst (λ d. Has d z u) (sym now) (unlost_same s g.log.log z u (λ m. no (puts.within (pair_of z u) m)) (subst (λ d. Has d z u) then has)) in
     let long : length (present_of f.store) ≡ length (present_of g.store) = present_long f.store ∙ ap (λ (d : Domains). length d) (sym puts.initial) ∙ sym (present_long g.store) in
     let without = without_is_connected active f.agenda.connected cid kept.connected in
     record {
       removed = puts.removed;
       formed = puts.formed;
       connected = subst (AreConnected (without_cids (cid ∷ []) active)) (sym puts.connected)
-          (marked_connected (without_cids (cid ∷ []) active) (without_connected cid f.agenda.connected) (is_one_of g.log.restored) without);
+          (connected_stays (without_cids (cid ∷ []) active) (without_connected cid f.agenda.connected) (widened_by g.log.restored) (bare_widened g.log.restored) without);
+      heeded = subst (AreHeeded (without_cids (cid ∷ []) active)) (sym puts.connected)
+          (heeded_stays (without_cids (cid ∷ []) active) (without_connected cid f.agenda.connected) (widened_by g.log.restored) (bare_widened g.log.restored)
+          (without_heeded active f.agenda.connected cid kept.heeded));
       marked = subst (AreMarked (present_of g.store) (without_cids (cid ∷ []) active)) (sym puts.connected)
           (restored_marked active f.agenda.connected (present_of f.store) (present_of g.store) cid g.log.restored grows only kept.marked);
       empty = gain_empty f.empty g.empty (present_of f.store) (present_of g.store) long grows kept.empty puts.empty;
@@ -220,13 +199,14 @@ put_back_withdraws f g cid active rises puts kept =
 
 -- ---- a posting
 
-pub posted_kept : (f : Filtering) (w : Waiting) (a : Active) (active : List Active) → (IsActive active a.cid → ⊥) → IsFormed w
-    → w.connected ≡ with_connected (marked_whole a.cid (scope a.con)) f.agenda.connected → IsInStep f active → IsInStep (record f { agenda = w }) (with_posted a active)
-posted_kept f w a active inactive formed connected kept = record {
+pub posted_kept : (f : Filtering) (w : Waiting) (a : Active) (heeds : List Heed) (active : List Active) → (IsActive active a.cid → ⊥) → IsFormed w → IsHeededAs a heeds
+    → w.connected ≡ with_connected (marked_whole a.cid (scope a.con) heeds) f.agenda.connected → IsInStep f active → IsInStep (record f { agenda = w }) (with_posted a active)
+posted_kept f w a heeds active inactive formed fit connected kept = record {
   removed = kept.removed;
   formed = formed;
-  connected = subst (AreConnected (with_posted a active)) (sym connected) (with_is_connected active f.agenda.connected a kept.connected);
-  marked = subst (AreMarked (present_of f.store) (with_posted a active)) (sym connected) (posted_marked active f.agenda.connected (present_of f.store) a kept.connected inactive kept.marked);
+  connected = subst (AreConnected (with_posted a active)) (sym connected) (with_is_connected active f.agenda.connected a heeds kept.connected);
+  heeded = subst (AreHeeded (with_posted a active)) (sym connected) (with_heeded active f.agenda.connected a heeds kept.connected inactive fit kept.heeded);
+  marked = subst (AreMarked (present_of f.store) (with_posted a active)) (sym connected) (posted_marked active f.agenda.connected (present_of f.store) a heeds kept.connected inactive kept.marked);
   empty = kept.empty;
 }
 
@@ -265,7 +245,7 @@ posted_state f w a active rises inactive formed pending kept =
 pub record IsActivated (f : Filtering) (w : Waiting) (a : Active) (active after : List Active) : Type 0 where
   pub fits : FitsCid (length (initial_of f.store)) active a
   pub posted : after ≡ with_posted a active
-  pub connected : w.connected ≡ with_connected (marked_whole a.cid (scope a.con)) f.agenda.connected
+  pub connected : (heeds : List Heed) × IsHeededAs a heeds × (w.connected ≡ with_connected (marked_whole a.cid (scope a.con) heeds) f.agenda.connected)
   pub pending : (c : Cid) → Contains w.pending c ↔ (Contains f.agenda.pending c ⊎ (c ≡ a.cid))
   pub formed : IsFormed w
 
@@ -280,7 +260,7 @@ activated_posts f w a active after inactive is engine = record {
 pub activated_engine : (f : Filtering) (w : Waiting) (a : Active) (active after : List Active) → (IsActive active a.cid → ⊥) → IsActivated f w a active after → IsEngine f active
     → IsEngine (record f { agenda = w }) after
 activated_engine f w a active after inactive is engine = record {
-  kept = subst (IsInStep (record f { agenda = w })) (sym is.posted) (posted_kept f w a active inactive is.formed is.connected engine.kept);
+  kept = subst (IsInStep (record f { agenda = w })) (sym is.posted) (posted_kept f w a is.connected.0 active inactive is.formed is.connected.1 is.connected.2 engine.kept);
   valid = posts_valid (state_of f active) (state_of (record f { agenda = w }) after) a (activated_posts f w a active after inactive is engine) engine.valid;
   scoped = posts_scoped (state_of f active) (state_of (record f { agenda = w }) after) a (activated_posts f w a active after inactive is engine) engine.scoped;
 }
@@ -357,6 +337,7 @@ declared_engine f store values active ascends filled e engine =
         };
         formed = kept.formed;
         connected = kept.connected;
+        heeded = kept.heeded;
         marked = agreeing_marked active f.agenda.connected (present_of f.store) (present_of store) engine.valid.rising kept.connected
             (λ a z u m over has. subst (λ d. Has d z u) (sym now) (subst (λ ws. Contains ws u) (sym (values_of_more (present_of f.store) values z (within a z m over))) has))
             (λ a z u m over has. subst (λ ws. Contains ws u) (values_of_more (present_of f.store) values z (within a z m over)) (subst (λ d. Has d z u) now has))

@@ -1,5 +1,6 @@
 pub mod Bounds
 pub mod cited
+pub mod Clear
 pub mod Comparing
 pub mod Convex
 pub mod Counting
@@ -14,7 +15,9 @@ pub mod Keeping
 pub mod Marking
 pub mod Others
 pub mod Places
+pub mod PlacedWalks
 pub mod Placing
+pub mod Plain
 pub mod Progress
 pub mod Restoring
 pub mod Revised
@@ -28,4 +31,5 @@ pub mod Staying
 pub mod Taking
 pub mod Unmarking
 pub mod Waking
+pub mod Within
 pub mod Working

@@ -1,5 +1,5 @@
 -- How far a revision has come over the places of a scope.
-use Rattle.std.proofs.Common.{◌≡◌, ℕ, zero, suc, ◌+◌, ◌<◌, ◌≤◌, Bool, true, false, List, [], ◌∷◌, ◌++◌, length, map, flat_map, sum_by, take, drop, All, Contains, Option, Some, None, slice_get, slice_set, get_or, inl, inr, refl, sym, ap, ◌∙◌, subst, arith}
+use Rattle.std.proofs.Common.{◌≡◌, ℕ, zero, suc, ◌+◌, ◌<◌, ◌≤◌, true, List, [], ◌∷◌, ◌++◌, length, map, flat_map, sum_by, take, drop, All, Contains, Option, Some, None, slice_get, slice_set, get_or, inl, inr, refl, sym, ap, ◌∙◌, subst, arith}
 use Rattle.std.specs.Option.{is_some}
 use Rattle.std.proofs.lemmas.Bool.{cases_Bool, false≢true}
 use Rattle.std.proofs.lemmas.List.{append_assoc, take_more}
@@ -18,14 +18,18 @@ use Rattle.palm_base.specs.Order.{Rises, same_cid}
 use Rattle.palm_model.specs.Log.{Active, log_pairs}
 use Rattle.palm_explain.specs.Explanations.{Explanations, LacksExactly}
 use Rattle.palm_model.specs.State.{HasEmpty, IsValid, woken}
-use Rattle.palm_agenda.specs.Agenda.{Connected, Waiting, HasMarks, HasPlace, IsFormed, IsMarked, connected_cids}
+use Rattle.palm_agenda.specs.declared.mark.Mark.{Mark}
+use Rattle.palm_agenda.specs.declared.mark.Mark.TheVariants.{Clear}
+use Rattle.palm_agenda.specs.Agenda.{Connected, Waiting, HasMarks, HasPlace, IsFormed, connected_cids}
 use Rattle.palm_engine.specs.declared.filtering.Filtering.{Filtering}
 use Rattle.palm_engine.specs.Settling.{Walks, walk_order}
 use Rattle.palm_engine.specs.Settling.Walks.{walked_empty}
-use Rattle.palm_engine.specs.Kept.{IsEmptyKept, AreConnected, AreMarked, state_in_revision}
+use Rattle.palm_engine.specs.Advancing.{AreSupportedUnless}
+use Rattle.palm_engine.specs.Kept.{IsEmptyKept, AreConnected, AreHeeded, AreMarked, state_in_revision}
 use Rattle.palm_engine.specs.Revising.{IsRevising, IsAgain, Walked, WalkedPart, AreSupportedAt, HasCounted}
 use Rattle.palm_engine.proofs.Bounds.{supported_past}
-use Rattle.palm_engine.proofs.Unmarking.{active_connected, connected_walked, marked_walked, unmark, unmark_cid}
+use Rattle.palm_engine.proofs.Scopes.{bare_unmarked, connected_stays, heeded_stays}
+use Rattle.palm_engine.proofs.Unmarking.{active_connected, marked_walked, unmark}
 use Rattle.palm_engine.proofs.Progress.{walked_none, walked_then, walked_initial, counted_none, counted_then, counted_more}
 use Rattle.palm_engine.proofs.Revised.{present_is}
 
@@ -37,7 +41,7 @@ unmark_marks cid place d h = elim (cases_Bool (same_cid cid d.cid)) [
   | inr f ↦ rw f h
 ]
   where
-    set_length : (marks : List Bool) (k : ℕ) → length (slice_set marks k false) ≡ length marks
+    set_length : (marks : List Mark) (k : ℕ) → length (slice_set marks k Clear) ≡ length marks
     set_length [] k = refl
     set_length (m ∷ marks) zero = refl
     set_length (m ∷ marks) (suc k) = ap suc (set_length marks k)
@@ -45,7 +49,7 @@ unmark_marks cid place d h = elim (cases_Bool (same_cid cid d.cid)) [
 unmark_cids : (cid : Cid) (place : ℕ) (connected : List Connected) → connected_cids (map (unmark cid place) connected) ≡ connected_cids connected
 unmark_cids cid place [] = refl
 unmark_cids cid place (d ∷ connected) =
-    ap (λ c. c ∷ connected_cids (map (unmark cid place) connected)) (unmark_cid cid place d) ∙ ap (λ cs. d.cid ∷ cs) (unmark_cids cid place connected)
+    ap (λ c. c ∷ connected_cids (map (unmark cid place) connected)) (ap (λ (e : Connected). e.cid) (bare_unmarked cid place d)) ∙ ap (λ cs. d.cid ∷ cs) (unmark_cids cid place connected)
 
 pub formed_unmarked : (before after : Waiting) (cid : Cid) (place : ℕ) → after.connected ≡ map (unmark cid place) before.connected → after.pending ≡ before.pending → IsFormed before → IsFormed after
 formed_unmarked before after cid place connected pending formed = record {
@@ -56,7 +60,7 @@ formed_unmarked before after cid place connected pending formed = record {
       record {
         owner = unmark cid place is.owner;
         listed = subst (λ cs. Contains cs (unmark cid place is.owner)) (sym connected) (member_map (unmark cid place) before.connected is.owner is.listed);
-        named = unmark_cid cid place is.owner ∙ is.named;
+        named = ap (λ (e : Connected). e.cid) (bare_unmarked cid place is.owner) ∙ is.named;
       };
   marks = subst (λ cs. All HasMarks cs) (sym connected) (all_members HasMarks (map (unmark cid place) before.connected) (λ d m.
       let r = member_unmap (unmark cid place) before.connected d m in
@@ -80,21 +84,12 @@ owner_place f active owner place x r at =
 pub place_over : (owner : Active) (place x : ℕ) → slice_get (scope owner.con) place ≡ Some x → Contains (scope owner.con) x
 place_over owner place x at = member_get (scope owner.con) place x at
 
-true_or_false : (marks : List Bool) (k : ℕ) → k < length marks → (slice_get marks k ≡ Some true → ⊥) → slice_get marks k ≡ Some false
-true_or_false [] k lt n = absurd (omega arith)
-true_or_false (true ∷ marks) zero lt n = absurd (n refl)
-true_or_false (false ∷ marks) zero lt n = refl
-true_or_false (m ∷ marks) (suc k) lt n = true_or_false marks k (omega arith) n
-
--- at a place without a mark the values have support
-pub unmarked_supported : (f : Filtering) (active : List Active) (owner : Active) (place x : ℕ) → IsRevising f active owner → slice_get (scope owner.con) place ≡ Some x → (IsMarked f.agenda.connected owner.cid place → ⊥) → AreSupportedAt f owner x
-unmarked_supported f active owner place x r at not_marked v has =
+-- the values that the mark of a place leaves out have support
+pub mark_supported : (f : Filtering) (active : List Active) (owner : Active) (place x : ℕ) (m : Mark) → IsRevising f active owner → slice_get (scope owner.con) place ≡ Some x
+    → ((d : Connected) → Contains f.agenda.connected d → d.cid ≡ owner.cid → slice_get d.marks place ≡ Some m) → AreSupportedUnless m f owner x
+mark_supported f active owner place x m r at told v has out =
     let c = active_connected active f.agenda.connected r.kept.connected owner r.posted in
-    let lt = get_within (scope owner.con) place x at in
-    let marks = All-contains HasMarks f.agenda.connected c.0 r.kept.formed.marks c.1 in
-    let within : place < length c.0.marks = omega (arith, lt, marks, ap length c.3) in
-    let un = true_or_false c.0.marks place within (λ t. not_marked (record { owner = c.0; listed = c.1; named = c.2; marked = t })) in
-    r.kept.marked owner c.0 place x v r.posted c.1 c.2 (ap (λ xs. slice_get xs place) c.3 ∙ at) un has
+    r.kept.marked owner c.0 place x m v r.posted c.1 c.2 (ap (λ xs. slice_get xs place) c.3 ∙ at) (told c.0 c.1 c.2) out has
 
 pub place_past : (f : Filtering) (active : List Active) (owner : Active) (x : ℕ) → IsRevising f active owner → AreSupportedAt f owner x → Walked active owner (pairs_of x (values_of (initial_of f.store) x)) f f
 place_past f active owner x r supported =
@@ -127,7 +122,8 @@ cleared_revising f g active owner place x r at supported clears = record {
   kept = record {
     removed = subst (λ s. LacksExactly s (log_pairs g.log.log)) (sym clears.store) (subst (λ (l : Explanations). LacksExactly f.store (log_pairs l.log)) (sym clears.log) r.kept.removed);
     formed = formed_unmarked f.agenda g.agenda owner.cid place clears.connected clears.pending r.kept.formed;
-    connected = subst (λ cs. AreConnected active cs) (sym clears.connected) (connected_walked active f.agenda.connected owner.cid place r.kept.connected);
+    connected = subst (λ cs. AreConnected active cs) (sym clears.connected) (connected_stays active f.agenda.connected (unmark owner.cid place) (bare_unmarked owner.cid place) r.kept.connected);
+    heeded = subst (λ cs. AreHeeded active cs) (sym clears.connected) (heeded_stays active f.agenda.connected (unmark owner.cid place) (bare_unmarked owner.cid place) r.kept.heeded);
     marked = subst (λ s. AreMarked (present_of s) active g.agenda.connected) (sym clears.store) (subst (λ cs. AreMarked (present_of f.store) active cs) (sym clears.connected)
         (marked_walked (present_of f.store) active f.agenda.connected owner place x r.valid.rising r.kept.connected r.posted at supported r.kept.marked));
     empty = subst (λ s. IsEmptyKept (present_of s) g.empty) (sym clears.store) (subst (λ o. IsEmptyKept (present_of f.store) o) (sym clears.empty) r.kept.empty);

@@ -72,7 +72,7 @@ checks_walked active owner ps f g k w = record { removed = w.removed; walk = w.w
 
 pub revising_checks : (active : List Active) (owner : Active) (f : Filtering) (k : ℕ) → IsRevising f active owner → IsRevising (record f { checks = k }) active owner
 revising_checks active owner f k r = record {
-  kept = record { removed = r.kept.removed; formed = r.kept.formed; connected = r.kept.connected; marked = r.kept.marked; empty = r.kept.empty };
+  kept = record { removed = r.kept.removed; formed = r.kept.formed; connected = r.kept.connected; heeded = r.kept.heeded; marked = r.kept.marked; empty = r.kept.empty };
   valid = r.valid;
   posted = r.posted;
 }
@@ -128,7 +128,7 @@ out_walked active owner p f g r filled has lacks over takes = record {
 pub out_revising : (active : List Active) (owner : Active) (p : Pair) (f g : Filtering) → IsRevising f active owner → AllFilled (present_of f.store) → Has (present_of f.store) p.var p.value
     → LacksSupport (present_of f.store) owner.con p.var p.value → Contains (scope owner.con) p.var → TakesOut f p owner.cid (stated f owner p) g → IsRevising g active owner
 out_revising active owner p f g r filled has lacks over takes = record {
-  kept = out_kept f active owner p g r filled over takes;
+  kept = out_kept f active owner p g r filled has over takes;
   valid = removes_valid reasons_right (state_in_revision f active owner.cid) (state_in_revision g active owner.cid) owner p (out_removes f active owner p g r filled has lacks takes) r.valid;
   posted = r.posted;
 }
@@ -185,7 +185,7 @@ over v w ge other = elim (below_or_not v w) [
   | inr le ↦ absurd (other (omega (arith, ints, ge, le)))
 ]
 
-next_present : (next : Option ℤ) (now : List ℤ) (low : ℤ) → IsNextAt next now low → IfSome next (λ v. Contains now v)
+pub next_present : (next : Option ℤ) (now : List ℤ) (low : ℤ) → IsNextAt next now low → IfSome next (λ v. Contains now v)
 next_present (Some v) now low next = next.member
 next_present None now low none = tt
 

@@ -16,15 +16,16 @@ use Rattle.palm_model.proofs.cited.Without.{pair_of, length_without}
 use Rattle.palm_events.proofs.cited.Names.{single}
 use Rattle.palm_events.proofs.cited.Reasons.{reasons_right, removal_right}
 use Rattle.palm_events.proofs.cited.Valid.{active_declared, has_removed}
-use Rattle.palm_agenda.specs.Agenda.{IsOver as IsOverConnected}
+use Rattle.palm_agenda.specs.Agenda.{IsOver as IsOverConnected, mark_others}
 use Rattle.palm_engine.specs.declared.filtering.Filtering.{Filtering}
 use Rattle.palm_engine.specs.Settling.{Walks}
 use Rattle.palm_engine.specs.Settling.Walks.{walked_all, walked_empty, walked_past, walked_out}
-use Rattle.palm_engine.specs.Kept.{IsInStep, IsEmptyKept, AreConnected, AreMarked, state_in_revision}
+use Rattle.palm_engine.specs.Kept.{IsInStep, IsEmptyKept, AreConnected, AreHeeded, AreMarked, state_in_revision}
 use Rattle.palm_engine.specs.Changed.{TakesOut, NotesLoss}
 use Rattle.palm_engine.specs.Posted.{IsInForm}
 use Rattle.palm_engine.specs.Revising.{IsRevising}
-use Rattle.palm_engine.proofs.Unmarking.{active_connected, connected_active, connected_removed, marked_removed}
+use Rattle.palm_engine.proofs.Scopes.{bare_others, connected_stays, heeded_stays}
+use Rattle.palm_engine.proofs.Unmarking.{active_connected, connected_active, marked_removed}
 use Rattle.palm_engine.proofs.Staying.{KeepsOthers, support_stays}
 use Rattle.palm_engine.proofs.Waking.{IsOver, woken_beside}
 
@@ -152,9 +153,9 @@ out_empty None after d e x v same lt keeps filled kept notes = noted after d e x
 loses_keeps : (before after : List Row) (x : ℕ) (v : ℤ) → LosesPair before after x v → KeepsOthers (present_of before) (present_of after) x v
 loses_keeps before after x v loses y w other has = loses.others y w (λ first second. let a = sym first in let b = sym second in other (λ i. pair_of (a i) (b i))) has
 
-pub out_kept : (f : Filtering) (active : List Active) (owner : Active) (p : Pair) (g : Filtering) → IsRevising f active owner → AllFilled (present_of f.store) → Contains (scope owner.con) p.var
+pub out_kept : (f : Filtering) (active : List Active) (owner : Active) (p : Pair) (g : Filtering) → IsRevising f active owner → AllFilled (present_of f.store) → Has (present_of f.store) p.var p.value → Contains (scope owner.con) p.var
     → TakesOut f p owner.cid (stated f owner p) g → IsInStep g active
-out_kept f active owner p g r filled over takes =
+out_kept f active owner p g r filled has over takes =
     let keeps = loses_keeps f.store g.store p.var p.value takes.loses in
     let rises = r.valid.rising in
     let after_length : length (present_of g.store) ≡ length (initial_of g.store) = ap length takes.removed.present ∙ length_without (initial_of g.store) (log_pairs g.log.log) in
@@ -163,9 +164,11 @@ out_kept f active owner p g r filled over takes =
     record {
       removed = takes.removed;
       formed = takes.formed;
-      connected = subst (λ cs. AreConnected active cs) (sym takes.connected) (connected_removed active f.agenda.connected p.var r.kept.connected);
+      connected = subst (λ cs. AreConnected active cs) (sym takes.connected) (connected_stays active f.agenda.connected (mark_others p.var takes.loss) (bare_others p.var takes.loss) r.kept.connected);
+      heeded = subst (λ cs. AreHeeded active cs) (sym takes.connected) (heeded_stays active f.agenda.connected (mark_others p.var takes.loss) (bare_others p.var takes.loss) r.kept.heeded);
       marked = subst (λ cs. AreMarked (present_of g.store) active cs) (sym takes.connected)
-          (marked_removed (present_of f.store) (present_of g.store) active f.agenda.connected p.var p.value rises r.kept.connected keeps takes.loses.inside takes.loses.gone r.kept.marked);
+          (marked_removed (present_of f.store) (present_of g.store) active f.agenda.connected p takes.loss rises r.kept.connected r.kept.heeded
+          (record { had = has; gone = takes.loses.gone; stay = takes.loses.others; inside = takes.loses.inside }) takes.told r.kept.marked);
       empty = out_empty f.empty g.empty (present_of f.store) (present_of g.store) p.var p.value same lt keeps filled r.kept.empty takes.empty;
     }
 

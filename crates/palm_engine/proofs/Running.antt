@@ -21,7 +21,7 @@ use Rattle.palm_engine.specs.Engine.{View, EndsAs, HasAsked}
 use Rattle.palm_engine.specs.Following.{Hearing, HasSettledBy, IsInterruptedBy, LeadsAlong, hearings}
 use Rattle.palm_engine.specs.Settling.{Revision, Revises, Revisions, FitsOrder, IsEnded, IsInLimit, HasReached}
 use Rattle.palm_engine.specs.Settling.IsEnded.{ended_empty, ended_quiet, ended_limit}
-use Rattle.palm_engine.specs.Kept.{IsInStep, IsEmptyKept, IsEngine, AreConnected, AreMarked, state_of, state_in_revision}
+use Rattle.palm_engine.specs.Kept.{IsInStep, IsEmptyKept, IsEngine, AreConnected, AreHeeded, AreMarked, state_of, state_in_revision}
 use Rattle.palm_engine.specs.Revising.{HasCounted, IsTaken, HasRevised, HasPartlyRevised, TakesNext, TakesNone, TellsEnd}
 use Rattle.palm_engine.specs.Revising.TakesNone.{none_filled, none_allowed, none_pending}
 use Rattle.palm_engine.specs.Work.{effort, named_sizes, most_asked_in}
@@ -99,6 +99,7 @@ taken_kept limit ordered ran active f g cid takes kept = record {
   removed = subst (λ s. LacksExactly s (log_pairs g.log.log)) (sym takes.store) (subst (λ (l : Explanations). LacksExactly f.store (log_pairs l.log)) (sym takes.log) kept.removed);
   formed = taken_formed f.agenda g.agenda cid takes.connected takes.takes.pending kept.formed;
   connected = subst (λ cs. AreConnected active cs) (sym takes.connected) kept.connected;
+  heeded = subst (λ cs. AreHeeded active cs) (sym takes.connected) kept.heeded;
   marked = subst (λ s. AreMarked (present_of s) active g.agenda.connected) (sym takes.store) (subst (λ cs. AreMarked (present_of f.store) active cs) (sym takes.connected) kept.marked);
   empty = subst (λ s. IsEmptyKept (present_of s) g.empty) (sym takes.store) (subst (λ o. IsEmptyKept (present_of f.store) o) (sym takes.empty) kept.empty);
 }

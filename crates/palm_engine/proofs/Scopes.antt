@@ -1,15 +1,24 @@
--- The agenda knows each active constraint by its id and its scope.
-use Rattle.std.proofs.Common.{◌≡◌, ℕ, Bool, true, false, not, if◌then◌else◌, nat_eq, List, [], ◌∷◌, ◌++◌, map, filter, cond, Contains, refl, sym, ap, ◌∙◌, subst}
+-- The agenda knows each active constraint by its id and its scope, and how it heeds losses.
+use Rattle.std.proofs.Common.{◌≡◌, ℕ, suc, Bool, true, false, not, if◌then◌else◌, nat_eq, List, [], ◌∷◌, ◌++◌, map, filter, cond, Contains, ◌⊎◌, inl, inr, Some, slice_get, eq-eqb, eqb-true, refl, sym, ap, ◌∙◌, subst}
+use Rattle.std.proofs.lemmas.Bool.{false≢true}
 use Rattle.std.proofs.lemmas.List.{map-append}
+use Rattle.std.proofs.lemmas.List.Elements.{Contains-append_cases}
 use Rattle.palm_base.specs.declared.terms.Cid.{Cid}
-use Rattle.palm_base.proofs.cited.Members.{member_map, member_unmap}
+use Rattle.palm_base.proofs.cited.Members.{filter_member, member_cases, member_map, member_nil, member_tail, member_unmap}
 use Rattle.palm_model.specs.Constraint.{scope}
-use Rattle.palm_base.specs.Order.{Rises, cid_before}
+use Rattle.palm_base.specs.Order.{Rises, cid_before, same_cid}
 use Rattle.palm_model.specs.Log.{Active, IsActive, cids_of, is_named}
 use Rattle.palm_model.specs.Event.{with_posted, without_cids}
 use Rattle.palm_events.proofs.cited.Names.{single}
-use Rattle.palm_agenda.specs.Agenda.{Connected, IsConnected, IsOver, is_over, marked_whole, marked_where, mark_others, with_connected, without_connected}
-use Rattle.palm_engine.specs.Kept.{Scoped, AreConnected}
+use Rattle.palm_events.proofs.cited.States.{with_posted_cases, without_cids_member}
+use Rattle.palm_explain.specs.declared.restored.Restored.{Restored}
+use Rattle.palm_filter.specs.declared.heed.Heed.{Heed}
+use Rattle.palm_filter.specs.Heeds.{FitsHeed, IsHeeded}
+use Rattle.palm_agenda.specs.declared.loss.Loss.{Loss}
+use Rattle.palm_agenda.specs.Agenda.{Connected, IsConnected, IsOver, changed_at, changed_where, is_over, marked_whole, mark_others, mark_own, unmarked, with_connected, without_connected}
+use Rattle.palm_agenda.specs.Losses.{heed_of, mark_after}
+use Rattle.palm_engine.specs.Kept.{Scoped, AreConnected, AreHeeded, IsHeededAs}
+use Rattle.palm_engine.specs.Changed.{widened_by}
 
 abbrev pub scoped : Connected → Scoped
 scoped d = record { cid = d.cid; scope = d.scope }
@@ -69,24 +78,38 @@ active_over active connected are x a m over =
     let r = active_connection active connected are a m in
     record { owner = r.owner; listed = r.listed; named = r.named; over = subst (λ s. Contains s x) (sym r.scope) over }
 
--- ---- marks change no id and no scope
+-- ---- a change of marks keeps the id, the scope and the heeds
 
-if_scoped : (b : Bool) (p q d : Connected) → scoped p ≡ scoped d → scoped q ≡ scoped d → scoped (if b then p else q) ≡ scoped d
-if_scoped true p q d e f = e
-if_scoped false p q d e f = f
+-- a connected constraint but for its marks
+abbrev pub bare : Connected → Connected
+bare d = record d { marks = [] }
 
-pub scoped_others : (x : ℕ) (d : Connected) → scoped (mark_others x d) ≡ scoped d
-scoped_others x d = if_scoped (is_over x d) (marked_where (λ y. not (nat_eq y x)) d) d d refl refl
+if_bare : (b : Bool) (p q d : Connected) → bare p ≡ bare d → bare q ≡ bare d → bare (if b then p else q) ≡ bare d
+if_bare true p q d e f = e
+if_bare false p q d e f = f
 
-map_scoped : (f : Connected → Connected) → ((d : Connected) → scoped (f d) ≡ scoped d) → (connected : List Connected) → map scoped (map f connected) ≡ map scoped connected
-map_scoped f same [] = refl
-map_scoped f same (d ∷ connected) = ap (λ s. s ∷ map scoped (map f connected)) (same d) ∙ ap (λ ss. scoped d ∷ ss) (map_scoped f same connected)
+pub bare_others : (x : ℕ) (loss : Loss) (d : Connected) → bare (mark_others x loss d) ≡ bare d
+bare_others x loss d = if_bare (is_over x d) (changed_where (λ y. not (nat_eq y x)) (mark_after (heed_of x d.scope d.heeds) loss) d) d d refl refl
 
-pub marked_connected : (active : List Active) (connected : List Connected) (test : ℕ → Bool) → AreConnected active connected → AreConnected active (map (marked_where test) connected)
-marked_connected active connected test are = map_scoped (marked_where test) (λ d. refl) connected ∙ are
+pub bare_widened : (entries : List Restored) (d : Connected) → bare (widened_by entries d) ≡ bare d
+bare_widened [] d = refl
+bare_widened (r ∷ entries) d = bare_widened entries (mark_own r.var r.low r.high d)
 
-pub others_connected : (active : List Active) (connected : List Connected) (x : ℕ) → AreConnected active connected → AreConnected active (map (mark_others x) connected)
-others_connected active connected x are = map_scoped (mark_others x) (scoped_others x) connected ∙ are
+pub bare_unmarked : (cid : Cid) (place : ℕ) (d : Connected) → bare (changed_at cid (unmarked place) d) ≡ bare d
+bare_unmarked cid place d = if_bare (same_cid cid d.cid) (unmarked place d) d d refl refl
+
+pub connected_stays : (active : List Active) (connected : List Connected) (f : Connected → Connected) → ((d : Connected) → bare (f d) ≡ bare d) → AreConnected active connected → AreConnected active (map f connected)
+connected_stays active connected f same are = map_scoped f same connected ∙ are
+  where
+    map_scoped : (f : Connected → Connected) → ((d : Connected) → bare (f d) ≡ bare d) → (connected : List Connected) → map scoped (map f connected) ≡ map scoped connected
+    map_scoped f same [] = refl
+    map_scoped f same (d ∷ connected) = ap (λ s. s ∷ map scoped (map f connected)) (ap scoped (same d)) ∙ ap (λ ss. scoped d ∷ ss) (map_scoped f same connected)
+
+pub heeded_stays : (active : List Active) (connected : List Connected) (f : Connected → Connected) → ((d : Connected) → bare (f d) ≡ bare d) → AreHeeded active connected → AreHeeded active (map f connected)
+heeded_stays active connected f same heeded a c m n named =
+    let r = member_unmap f connected c n in
+    let e : bare r.0 ≡ bare c = sym (same r.0) ∙ ap bare r.2 in
+    subst (λ (d : Connected). IsHeededAs a d.heeds) e (heeded a r.0 m r.1 (ap (λ (d : Connected). d.cid) e ∙ named))
 
 -- ---- fewer and more constraints
 
@@ -105,14 +128,59 @@ filtered_connected active connected test are = map_filter scoped test connected 
 pub without_is_connected : (active : List Active) (connected : List Connected) (cid : Cid) → AreConnected active connected → AreConnected (without_cids (cid ∷ []) active) (without_connected cid connected)
 without_is_connected active connected cid are = filtered_connected active connected (λ s. not (is_named (cid ∷ []) s.cid)) are
 
-pub with_is_connected : (active : List Active) (connected : List Connected) (a : Active) → AreConnected active connected
-    → AreConnected (with_posted a active) (with_connected (marked_whole a.cid (scope a.con)) connected)
-with_is_connected active connected a are =
+-- the new constraint, or one of those before
+pub with_connected_cases : (n : Connected) (connected : List Connected) (c : Connected) → Contains (with_connected n connected) c → (n ≡ c) ⊎ Contains connected c
+with_connected_cases n connected c m =
+    elim (Contains-append_cases (filter (λ (e : Connected). cid_before e.cid n.cid) connected) (n ∷ filter (λ (e : Connected). cid_before n.cid e.cid) connected) c m) [
+      | inl k ↦ inr (filter_member (λ (e : Connected). cid_before e.cid n.cid) connected c k).0
+      | inr k ↦ elim (member_cases n (filter (λ (e : Connected). cid_before n.cid e.cid) connected) c k) [
+        | inl e ↦ inl e
+        | inr l ↦ inr (filter_member (λ (e : Connected). cid_before n.cid e.cid) connected c l).0
+      ]
+    ]
+
+pub with_is_connected : (active : List Active) (connected : List Connected) (a : Active) (heeds : List Heed) → AreConnected active connected
+    → AreConnected (with_posted a active) (with_connected (marked_whole a.cid (scope a.con) heeds) connected)
+with_is_connected active connected a heeds are =
     let low = filter (λ (d : Connected). cid_before d.cid a.cid) connected in
     let high = filter (λ (d : Connected). cid_before a.cid d.cid) connected in
     let below = filter (λ (b : Active). cid_before b.cid a.cid) active in
     let above = filter (λ (b : Active). cid_before a.cid b.cid) active in
-    map-append scoped low (marked_whole a.cid (scope a.con) ∷ high)
+    map-append scoped low (marked_whole a.cid (scope a.con) heeds ∷ high)
     ∙ ap (λ ss. ss ++ scoped_by a ∷ map scoped high) (filtered_connected active connected (λ s. cid_before s.cid a.cid) are)
     ∙ ap (λ ss. map scoped_by below ++ scoped_by a ∷ ss) (filtered_connected active connected (λ s. cid_before a.cid s.cid) are)
     ∙ sym (map-append scoped_by below (a ∷ above))
+
+-- heeds that fit place by place fit the constraint
+pub heeds_fit : (a : Active) (heeds : List Heed) → ((k : ℕ) (h : Heed) → slice_get heeds k ≡ Some h → FitsHeed a.con k h) → IsHeededAs a heeds
+heeds_fit a heeds each x m = fit (scope a.con) heeds (λ k h y e at. each k h e y at) x m
+  where
+    fit : (vars : List ℕ) (heeds : List Heed) → ((k : ℕ) (h : Heed) (y : ℕ) → slice_get heeds k ≡ Some h → slice_get vars k ≡ Some y → IsHeeded a.con y h)
+        → (x : ℕ) → Contains vars x → IsHeeded a.con x (heed_of x vars heeds)
+    fit [] heeds each x m = absurd (member_nil x m)
+    fit (y ∷ vars) [] each x m = tt
+    fit (y ∷ vars) (h ∷ heeds) each x m = by_var (nat_eq y x) refl (λ n. fit vars heeds (λ k i z f at. each (suc k) i z f at) x n)
+      where
+        by_var : (b : Bool) → nat_eq y x ≡ b → (Contains vars x → IsHeeded a.con x (heed_of x vars heeds)) → IsHeeded a.con x (if b then h else heed_of x vars heeds)
+        by_var true e rest = each 0 h x refl (ap Some (eqb-true y x e))
+        by_var false e rest = rest (member_tail y vars x (λ same. false≢true (sym e ∙ eq-eqb y x same)) m)
+
+-- a new constraint is heeded as its heeds fit it
+pub with_heeded : (active : List Active) (connected : List Connected) (a : Active) (heeds : List Heed) → AreConnected active connected → (IsActive active a.cid → ⊥) → IsHeededAs a heeds
+    → AreHeeded active connected → AreHeeded (with_posted a active) (with_connected (marked_whole a.cid (scope a.con) heeds) connected)
+with_heeded active connected a heeds are inactive fit heeded b c m n named = elim (with_connected_cases (marked_whole a.cid (scope a.con) heeds) connected c n) [
+  | inl e ↦ elim (with_posted_cases a active b m) [
+    | inl same ↦ subst (λ (d : Connected). IsHeededAs b d.heeds) e (subst (λ (d : Active). IsHeededAs d heeds) same fit)
+    | inr k ↦ absurd (inactive (record { owner = b; posted = k; named = sym named ∙ ap (λ (d : Connected). d.cid) (sym e) }))
+  ]
+  | inr k ↦ elim (with_posted_cases a active b m) [
+    | inl same ↦
+        let o = connected_known active connected are c k in
+        absurd (inactive (record { owner = o.owner; posted = o.posted; named = o.named ∙ named ∙ ap (λ (d : Active). d.cid) (sym same) }))
+    | inr l ↦ heeded b c l k named
+  ]
+]
+
+pub without_heeded : (active : List Active) (connected : List Connected) (cid : Cid) → AreHeeded active connected → AreHeeded (without_cids (cid ∷ []) active) (without_connected cid connected)
+without_heeded active connected cid heeded a c m n named =
+    heeded a c (without_cids_member (cid ∷ []) active a m).0 (filter_member (λ (d : Connected). not (is_named (cid ∷ []) d.cid)) connected c n).0 named

@@ -18,7 +18,7 @@ use Rattle.palm_events.proofs.cited.States.{waits, woken_rises, woken_active, me
 use Rattle.palm_agenda.specs.Agenda.{IsConnected, IsFormed, Waiting}
 use Rattle.palm_engine.specs.declared.filtering.Filtering.{Filtering}
 use Rattle.palm_engine.specs.Settling.{Walks, IsDue, walk_order, rested}
-use Rattle.palm_engine.specs.Kept.{IsInStep, AreConnected, AreMarked, state_of, state_in_revision}
+use Rattle.palm_engine.specs.Kept.{IsInStep, AreConnected, AreHeeded, AreMarked, state_of, state_in_revision}
 use Rattle.palm_engine.specs.Revising.{IsRevising, IsAgain, Walked, WalkedPart, HasCounted, IsTaken, HasRevised, HasPartlyRevised}
 use Rattle.palm_engine.specs.Work.{size_of, named_sizes}
 use Rattle.palm_engine.proofs.Joined.{walk_logged}
@@ -114,6 +114,7 @@ woken_kept m a active kept connected formed = record {
   removed = kept.removed;
   formed = formed;
   connected = subst (λ cs. AreConnected active cs) (sym connected) kept.connected;
+  heeded = subst (λ cs. AreHeeded active cs) (sym connected) kept.heeded;
   marked = subst (λ cs. AreMarked (present_of m.store) active cs) (sym connected) kept.marked;
   empty = kept.empty;
 }

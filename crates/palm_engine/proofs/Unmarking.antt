@@ -1,20 +1,33 @@
 -- Marks: they stay right after a removal, and after a place was walked over.
-use Rattle.std.proofs.Common.{◌≡◌, ℕ, zero, suc, ◌||◌, ◌⊎◌, Bool, true, false, not, List, [], ◌∷◌, map, Contains, ℤ, Some, slice_get, slice_set, nat_eq, eq-eqb, eqb-true, inl, inr, refl, sym, ap, ◌∙◌, subst}
-use Rattle.std.proofs.lemmas.Bool.{cases_Bool, false≢true}
+use Rattle.std.proofs.Common.{◌≡◌, ℕ, Bool, true, false, not, if◌then◌else◌, List, map, Contains, ℤ, ◌+ℤ◌, Some, slice_get, inl, inr, refl, sym, ap, ◌∙◌, subst, arith}
+use Rattle.std.specs.Prelude.{◌-ℤ◌, ◌||◌, int_lt, pos}
+use Rattle.std.proofs.lemmas.Bool.{false≢true}
+use Rattle.std.proofs.lemmas.Int.{ints}
 use Rattle.palm_base.specs.declared.terms.Pair.{Pair}
 use Rattle.palm_base.specs.declared.terms.Cid.{Cid}
-use Rattle.palm_base.proofs.cited.Members.{member_map, member_unmap, member_same, nat_known}
-use Rattle.palm_model.specs.Domains.{Domains, Has, IsInside}
+use Rattle.palm_base.proofs.cited.Members.{member_get, member_map, member_unmap, member_same}
+use Rattle.palm_model.specs.Domains.{Domains, Has}
 use Rattle.palm_model.specs.Constraint.{scope}
 use Rattle.palm_model.specs.Support.{IsSupported}
-use Rattle.palm_base.specs.Order.{Rises, same_cid}
+use Rattle.palm_base.specs.Order.{Rises}
 use Rattle.palm_model.specs.Log.{Active, cids_of}
-use Rattle.palm_model.proofs.cited.Supports.{member_any}
-use Rattle.palm_base.proofs.cited.CidOrder.{cid_same}
+use Rattle.palm_model.specs.declared.constraint.Con.{Con}
+use Rattle.palm_model.proofs.cited.Without.{pair_of}
 use Rattle.palm_events.proofs.cited.Names.{single}
-use Rattle.palm_agenda.specs.Agenda.{Connected, marks_where, is_over, mark_others, changed_at, unmarked}
-use Rattle.palm_engine.specs.Kept.{AreConnected, AreMarked, Scoped}
-use Rattle.palm_engine.proofs.Staying.{KeepsOthers, support_stays}
+use Rattle.palm_filter.specs.declared.heed.Heed.{Heed}
+use Rattle.palm_filter.specs.declared.heed.Heed.TheVariants.{Each, Least, Greatest, Ends, Alone, Shifted}
+use Rattle.palm_filter.specs.Heeds.{IsHeeded, KeepsAt, Loses}
+use Rattle.palm_agenda.specs.declared.loss.Loss.{Loss}
+use Rattle.palm_agenda.specs.declared.mark.Mark.{Mark}
+use Rattle.palm_agenda.specs.declared.mark.Mark.TheVariants.{Whole}
+use Rattle.palm_agenda.specs.Agenda.{Connected, mark_others, changed_at, unmarked}
+use Rattle.palm_agenda.specs.Losses.{heed_of, mark_after}
+use Rattle.palm_agenda.specs.Marks.{MayLack, widened}
+use Rattle.palm_engine.specs.Changed.{TellsLoss}
+use Rattle.palm_engine.specs.Kept.{AreConnected, AreHeeded, AreMarked, Scoped}
+use Rattle.palm_engine.proofs.Plain.{IsPlain, plain_others, plain_unmarked, widened_holds}
+use Rattle.palm_engine.proofs.Scopes.{bare, bare_others, bare_unmarked}
+use Rattle.palm_engine.proofs.Staying.{support_stays}
 
 -- ---- the agenda's constraints are the active ones
 
@@ -44,74 +57,67 @@ connected_scope active connected rises same a c m n named =
     let e : r.0 ≡ a = single active rises r.0 a r.1 m (r.2 ∙ named) in
     ap (λ (b : Active). scope b.con) (sym e) ∙ r.3
 
--- ids and scopes stay where each constraint keeps them
-pub connected_stays : (active : List Active) (connected : List Connected) (f : Connected → Connected) → ((c : Connected) → (f c).cid ≡ c.cid) → ((c : Connected) → (f c).scope ≡ c.scope) → AreConnected active connected → AreConnected active (map f connected)
-connected_stays active connected f cid vars same = kept f cid vars connected ∙ same
-  where
-    kept : (f : Connected → Connected) → ((c : Connected) → (f c).cid ≡ c.cid) → ((c : Connected) → (f c).scope ≡ c.scope) → (cs : List Connected) → map scoped (map f cs) ≡ map scoped cs
-    kept f cid vars [] = refl
-    kept f cid vars (c ∷ cs) =
-        let one : scoped (f c) ≡ scoped c = λ i. record { cid = cid c i; scope = vars c i } in
-        λ i. one i ∷ kept f cid vars cs i
+-- ---- a removal marks the other places as the constraint heeds the loss
 
--- ---- a removal marks the other places
-
--- a place that has no mark afterwards had none, and its variable does not pass the test
-where_unmarked : (test : ℕ → Bool) (vars : List ℕ) (marks : List Bool) (k x : ℕ) → slice_get vars k ≡ Some x → slice_get (marks_where test vars marks) k ≡ Some false → (slice_get marks k ≡ Some false) × (test x ≡ false)
-where_unmarked test [] marks k x at un = cc
-where_unmarked test (y ∷ vars) [] k x at un = cc
-where_unmarked test (y ∷ vars) (mark ∷ marks) zero x at un =
-    let e : y ≡ x = cc in
-    let f : (mark || test y) ≡ false = cc in
-    let r = neither mark (test y) f in
-    (ap Some r.0, ap test (sym e) ∙ r.1)
-  where
-    neither : (b c : Bool) → (b || c) ≡ false → (b ≡ false) × (c ≡ false)
-    neither true c h = absurd (false≢true (sym h))
-    neither false c h = (refl, h)
-where_unmarked test (y ∷ vars) (mark ∷ marks) (suc k) x at un = where_unmarked test vars marks k x at un
-
--- what a constraint without a mark at the place was before a removal at x
-pub record WasUnmarked (x : ℕ) (d : Connected) (k y : ℕ) : Type 0 where
-  pub unmarked : slice_get d.marks k ≡ Some false
-  pub own : Contains d.scope x → y ≡ x
-
-others_cid : (x : ℕ) (d : Connected) → (mark_others x d).cid ≡ d.cid
-others_cid x d = elim (cases_Bool (is_over x d)) [ inl t ↦ rw t refl | inr f ↦ rw f refl ]
-
-others_scope : (x : ℕ) (d : Connected) → (mark_others x d).scope ≡ d.scope
-others_scope x d = elim (cases_Bool (is_over x d)) [ inl t ↦ rw t refl | inr f ↦ rw f refl ]
+-- a mark that is made whole under a test leaves a value out where the test fails
+left_out : (b : Bool) (m : Mark) (v : ℤ) → (MayLack (if b then Whole else m) v → ⊥) → b ≡ false
+left_out true m v out = absurd (out tt)
+left_out false m v out = refl
 
 not_false : (b : Bool) → not b ≡ false → b ≡ true
-not_false true h = refl
-not_false false h = absurd (false≢true (sym h))
+not_false true e = refl
+not_false false e = absurd (false≢true (sym e))
 
-others_unmarked : (x : ℕ) (d : Connected) (k y : ℕ) → slice_get d.scope k ≡ Some y → slice_get (mark_others x d).marks k ≡ Some false → WasUnmarked x d k y
-others_unmarked x d k y at = elim (cases_Bool (is_over x d)) [
-  | inl t ↦ rw t (λ un.
-      let r = where_unmarked (λ z. not (nat_eq z x)) d.scope d.marks k y at un in
-      record { unmarked = r.0; own = λ m. eqb-true y x (not_false (nat_eq y x) r.1) })
-  | inr f ↦ rw f (λ un. record {
-    unmarked = un;
-    own = λ m. absurd (false≢true (sym f ∙ member_any (λ z. nat_eq z x) d.scope x m (eq-eqb x x refl)));
-  })
-]
+either_false : (b c : Bool) → (b || c) ≡ false → (b ≡ false) × (c ≡ false)
+either_false true c e = absurd (false≢true (sym e))
+either_false false c e = (refl, e)
 
-pub marked_removed : (d e : Domains) (active : List Active) (connected : List Connected) (x : ℕ) (v : ℤ) → Rises (cids_of active) → AreConnected active connected → KeepsOthers d e x v → IsInside e d → (Has e x v → ⊥)
-    → AreMarked d active connected → AreMarked e active (map (mark_others x) connected)
-marked_removed d e active connected x v rises same keeps inside gone marked a c k y w m n named at un has =
-    let r = member_unmap (mark_others x) connected c n in
-    let name : r.0.cid ≡ a.cid = sym (others_cid x r.0) ∙ ap (λ (b : Connected). b.cid) r.2 ∙ named in
-    let at' : slice_get r.0.scope k ≡ Some y = ap (λ l. slice_get l k) (sym (others_scope x r.0)) ∙ ap (λ (b : Connected). slice_get b.scope k) r.2 ∙ at in
-    let was = others_unmarked x r.0 k y at' (ap (λ (b : Connected). slice_get b.marks k) r.2 ∙ un) in
+-- nor is it the only value that the mark is widened by
+shifted_other : (b : Bool) (w : ℤ) (m : Mark) (v : ℤ) → (MayLack (if b then Whole else widened w w m) v → ⊥) → v ≡ w → ⊥
+shifted_other true w m v out e = out tt
+shifted_other false w m v out e = out (widened_holds w w m v (omega (arith, ints, e)) (omega (arith, ints, e)))
+
+-- a value that is marked nowhere after the loss keeps its support, where the constraint heeds losses so
+pub spared_keeps : (h : Heed) (c : Con) (d e : Domains) (p : Pair) (loss : Loss) (m : Mark) (y : ℕ) (w : ℤ) → IsHeeded c p.var h → Loses d e p.var p.value → TellsLoss e p loss
+    → (MayLack (mark_after h loss m) w → ⊥) → KeepsAt c d e p.var y w
+spared_keeps Each c d e p loss m y w heeded loses told out = absurd (out tt)
+spared_keeps Least c d e p loss m y w heeded loses told out =
+    heeded d e p.value loses (told.below (not_false loss.below (left_out (not loss.below) m w out))) y w
+spared_keeps Greatest c d e p loss m y w heeded loses told out =
+    heeded d e p.value loses (told.above (not_false loss.above (left_out (not loss.above) m w out))) y w
+spared_keeps Ends c d e p loss m y w heeded loses told out =
+    let both = either_false (not loss.below) (not loss.above) (left_out (not loss.below || not loss.above) m w out) in
+    heeded d e p.value loses (told.below (not_false loss.below both.0)) (told.above (not_false loss.above both.1)) y w
+spared_keeps Alone c d e p loss m y w heeded loses told out =
+    heeded d e p.value loses (told.several (not_false loss.several (left_out (not loss.several) m w out))) y w
+spared_keeps (Shifted by) c d e p loss m y w heeded loses told out =
+    let v = loss.value +ℤ by in
+    heeded d e p.value loses y w
+    (λ same. shifted_other (int_lt v (pos 0 -ℤ pos 2147483648) || int_lt (pos 2147483647) v) v m w out (same ∙ ap (λ n. n +ℤ by) (sym told.value)))
+
+pub marked_removed : (d e : Domains) (active : List Active) (connected : List Connected) (p : Pair) (loss : Loss) → Rises (cids_of active) → AreConnected active connected → AreHeeded active connected
+    → Loses d e p.var p.value → TellsLoss e p loss → AreMarked d active connected → AreMarked e active (map (mark_others p.var loss) connected)
+marked_removed d e active connected p loss rises same heeded loses told marked a c k y mark w m n named at is_mark plain has =
+    let x = p.var in
+    let r = member_unmap (mark_others x loss) connected c n in
+    let name : r.0.cid ≡ a.cid = ap (λ (b : Connected). b.cid) (sym (bare_others x loss r.0) ∙ ap bare r.2) ∙ named in
+    let is : IsPlain (mark_others x loss r.0) k y w = subst (λ b. IsPlain b k y w) (sym r.2) (record { var = at; mark = mark; marked = is_mark; plain = plain }) in
+    let o = plain_others x loss r.0 k y w is in
     let vars = connected_scope active connected rises same a r.0 m r.1 name in
-    let supported = marked a r.0 k y w m r.1 name at' was.unmarked (inside y w has) in
-    support_stays d e a.con x v y w keeps
-    (λ z over is. is ∙ sym (was.own (member_same r.0.scope z x is (subst (λ l. Contains l z) vars over))))
-    (λ is. gone (subst (λ (p : Pair). Has e p.var p.value) (sym is) has)) supported
-
-pub connected_removed : (active : List Active) (connected : List Connected) (x : ℕ) → AreConnected active connected → AreConnected active (map (mark_others x) connected)
-connected_removed active connected x same = connected_stays active connected (mark_others x) (others_cid x) (others_scope x) same
+    let supported = marked a r.0 k y o.0.mark w m r.1 name o.0.var o.0.marked o.0.plain (loses.inside y w has) in
+    elim o.1 [
+      | inl own ↦
+          support_stays d e a.con x p.value y w
+          (λ z u other had. loses.stay z u (λ first second. other (λ i. pair_of (sym first i) (sym second i))) had)
+          (λ z over is. is ∙ sym (own (member_same r.0.scope z x is (subst (λ l. Contains l z) vars over))))
+          (λ is. loses.gone (subst (λ (q : Pair). Has e q.var q.value) (sym is) has)) supported
+      | inr spared ↦
+          let fit = heeded a r.0 m r.1 name x (subst (λ l. Contains l x) (sym vars) spared.over) in
+          let out : MayLack (mark_after (heed_of x (scope a.con) r.0.heeds) loss spared.was) w → ⊥ =
+          subst (λ l. MayLack (mark_after (heed_of x l r.0.heeds) loss spared.was) w → ⊥) (sym vars) spared.out in
+          let over = subst (λ l. Contains l y) (sym vars) (member_get r.0.scope k y o.0.var) in
+          spared_keeps (heed_of x (scope a.con) r.0.heeds) a.con d e p loss spared.was y w fit loses told out over spared.other has supported
+    ]
 
 -- ---- a place was walked over
 
@@ -119,38 +125,17 @@ connected_removed active connected x same = connected_stays active connected (ma
 abbrev pub unmark : Cid → ℕ → Connected → Connected
 unmark cid place d = changed_at cid (unmarked place) d
 
-pub unmark_cid : (cid : Cid) (place : ℕ) (d : Connected) → (unmark cid place d).cid ≡ d.cid
-unmark_cid cid place d = elim (cases_Bool (same_cid cid d.cid)) [ inl t ↦ rw t refl | inr f ↦ rw f refl ]
-
-unmark_scope : (cid : Cid) (place : ℕ) (d : Connected) → (unmark cid place d).scope ≡ d.scope
-unmark_scope cid place d = elim (cases_Bool (same_cid cid d.cid)) [ inl t ↦ rw t refl | inr f ↦ rw f refl ]
-
-set_other : (marks : List Bool) (place k : ℕ) (b c : Bool) → (k ≡ place → ⊥) → slice_get (slice_set marks place b) k ≡ Some c → slice_get marks k ≡ Some c
-set_other [] place k b c n h = h
-set_other (m ∷ marks) zero zero b c n h = absurd (n refl)
-set_other (m ∷ marks) zero (suc k) b c n h = h
-set_other (m ∷ marks) (suc place) zero b c n h = h
-set_other (m ∷ marks) (suc place) (suc k) b c n h = set_other marks place k b c (λ e. n (ap suc e)) h
-
--- a place without a mark had none, or is the one that was walked over
-unmarked_cases : (cid : Cid) (place : ℕ) (d : Connected) (k : ℕ) → slice_get (unmark cid place d).marks k ≡ Some false → (slice_get d.marks k ≡ Some false) ⊎ ((d.cid ≡ cid) × (k ≡ place))
-unmarked_cases cid place d k = elim (cases_Bool (same_cid cid d.cid)) [
-  | inl t ↦ rw t (λ un. elim (nat_known k place) [
-    | inl e ↦ inr (sym (cid_same cid d.cid t), e)
-    | inr n ↦ inl (set_other d.marks place k false false n un)
-  ])
-  | inr f ↦ rw f (λ un. inl un)
-]
-
 pub marked_walked : (d : Domains) (active : List Active) (connected : List Connected) (owner : Active) (place x : ℕ) → Rises (cids_of active) → AreConnected active connected → Contains active owner
     → slice_get (scope owner.con) place ≡ Some x → ((v : ℤ) → Has d x v → IsSupported d owner.con x v)
     → AreMarked d active connected → AreMarked d active (map (unmark owner.cid place) connected)
-marked_walked d active connected owner place x rises same posted here supported marked a c k y w m n named at un has =
+marked_walked d active connected owner place x rises same posted here supported marked a c k y mark w m n named at is_mark plain has =
     let r = member_unmap (unmark owner.cid place) connected c n in
-    let name : r.0.cid ≡ a.cid = sym (unmark_cid owner.cid place r.0) ∙ ap (λ (b : Connected). b.cid) r.2 ∙ named in
-    let at' : slice_get r.0.scope k ≡ Some y = ap (λ l. slice_get l k) (sym (unmark_scope owner.cid place r.0)) ∙ ap (λ (b : Connected). slice_get b.scope k) r.2 ∙ at in
-    elim (unmarked_cases owner.cid place r.0 k (ap (λ (b : Connected). slice_get b.marks k) r.2 ∙ un)) [
-      | inl was ↦ marked a r.0 k y w m r.1 name at' was has
+    let was : bare r.0 ≡ bare c = sym (bare_unmarked owner.cid place r.0) ∙ ap bare r.2 in
+    let name : r.0.cid ≡ a.cid = ap (λ (b : Connected). b.cid) was ∙ named in
+    let at' : slice_get r.0.scope k ≡ Some y = ap (λ (b : Connected). slice_get b.scope k) was ∙ at in
+    let is : IsPlain (unmark owner.cid place r.0) k y w = subst (λ b. IsPlain b k y w) (sym r.2) (record { var = at; mark = mark; marked = is_mark; plain = plain }) in
+    elim (plain_unmarked owner.cid place r.0 k y w is) [
+      | inl was ↦ marked a r.0 k y was.mark w m r.1 name was.var was.marked was.plain has
       | inr it ↦
           let e : owner ≡ a = single active rises owner a posted m (sym it.0 ∙ name) in
           let vars = connected_scope active connected rises same a r.0 m r.1 name in
@@ -160,6 +145,3 @@ marked_walked d active connected owner place x rises same posted here supported 
           let has_x : Has d x w = subst (λ z. Has d z w) (sym var) has in
           subst (λ z. IsSupported d a.con z w) var (subst (λ (b : Active). IsSupported d b.con x w) e (supported w has_x))
     ]
-
-pub connected_walked : (active : List Active) (connected : List Connected) (cid : Cid) (place : ℕ) → AreConnected active connected → AreConnected active (map (unmark cid place) connected)
-connected_walked active connected cid place same = connected_stays active connected (unmark cid place) (unmark_cid cid place) (unmark_scope cid place) same

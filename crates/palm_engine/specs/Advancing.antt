@@ -3,14 +3,22 @@ use Rattle.std.specs.Prelude.{◌≡◌, ◌≢◌, ◌<ℤ◌, ◌≤ℤ◌, �
 use Rattle.std.specs.Int.{int_min}
 use Rattle.std.specs.Ordering.{int_eq}
 use Rattle.palm_domain.specs.Rows.{initial_of, present_of}
+use Rattle.palm_domain.specs.declared.placed.Placed.{Placed}
 use Rattle.palm_model.specs.Domains.{Domains, Has, values_of}
 use Rattle.palm_filter.specs.Shapes.{LeavesFree}
 use Rattle.palm_model.specs.Log.{Active}
 use Rattle.palm_model.specs.Removed.{pairs_of}
 use Rattle.palm_model.specs.State.{IsEmptyAt}
 use Rattle.palm_model.specs.Support.{IsSupported, LacksSupport}
+use Rattle.palm_agenda.specs.declared.mark.Mark.{Mark}
+use Rattle.palm_agenda.specs.Marks.{MayLack}
 use Rattle.palm_engine.specs.Revising.{IsRevising, Walked}
 use Rattle.palm_engine.specs.declared.filtering.Filtering.{Filtering}
+
+-- the value of the next one of a walk from place to place
+abbrev pub placed_value : Option Placed → Option ℤ
+placed_value (Some p) = Some p.value
+placed_value None = None
 
 -- the values below the bound
 abbrev pub values_below : ℤ → List ℤ → List ℤ
@@ -46,6 +54,15 @@ LacksAbove f owner x last = (v : ℤ) → Has (present_of f.store) x v → last 
 abbrev pub LacksFrom : Filtering → Active → ℕ → Option ℤ → Type 0
 LacksFrom f owner x None = ⊤
 LacksFrom f owner x (Some low) = (v : ℤ) → Has (present_of f.store) x v → low ≤ℤ v → LacksSupport (present_of f.store) owner.con x v
+
+-- every present value of the variable that the mark leaves out has support
+abbrev pub AreSupportedUnless : Mark → Filtering → Active → ℕ → Type 0
+AreSupportedUnless m f owner x = (v : ℤ) → Has (present_of f.store) x v → (MayLack m v → ⊥) → IsSupported (present_of f.store) owner.con x v
+
+-- every present value of the variable below the one bound or above the other has support
+pub record AreSupportedBeyond (f : Filtering) (owner : Active) (x : ℕ) (low high : ℤ) : Type 0 where
+  pub below : (v : ℤ) → Has (present_of f.store) x v → v <ℤ low → IsSupported (present_of f.store) owner.con x v
+  pub above : (v : ℤ) → Has (present_of f.store) x v → high <ℤ v → IsSupported (present_of f.store) owner.con x v
 
 -- every present value of the variable but this one has support
 abbrev pub AreSupportedBut : Filtering → Active → ℕ → ℤ → Type 0

@@ -1,6 +1,5 @@
 -- What a removal and a withdrawal do to what an engine keeps.
-use Rattle.std.specs.Prelude.{◌≡◌, ℕ, ◌<◌, ◌↔◌, ◌⊎◌, Bool, List, [], ◌∷◌, ◌++◌, map, length, Contains, Option, Some, None, nat_eq}
-use Rattle.std.specs.List.{list_any}
+use Rattle.std.specs.Prelude.{◌≡◌, ℕ, ◌<◌, ◌↔◌, ◌⊎◌, true, List, [], ◌∷◌, ◌++◌, map, length, Contains, Option, Some, None}
 use Rattle.palm_base.specs.declared.terms.Pair.{Pair}
 use Rattle.palm_base.specs.declared.terms.Cid.{Cid}
 use Rattle.palm_domain.specs.Rows.{LosesPair, initial_of, present_of}
@@ -8,8 +7,12 @@ use Rattle.palm_model.specs.Domains.{Domains, values_of}
 use Rattle.palm_model.specs.Log.{Loses, log_pairs}
 use Rattle.palm_model.specs.State.{without_cid}
 use Rattle.palm_model.specs.Event.{lost_pairs, vars_of}
-use Rattle.palm_explain.specs.Explanations.{LacksExactly}
-use Rattle.palm_agenda.specs.Agenda.{IsFormed, IsOver, marked_where, mark_others, without_connected}
+use Rattle.palm_explain.specs.declared.restored.Restored.{Restored}
+use Rattle.palm_explain.specs.Explanations.{IsSpanned, LacksExactly, restored_vars}
+use Rattle.palm_filter.specs.Heeds.{HasAbove, HasBelow}
+use Rattle.palm_filter.specs.Shapes.{HasTwo}
+use Rattle.palm_agenda.specs.declared.loss.Loss.{Loss}
+use Rattle.palm_agenda.specs.Agenda.{Connected, IsFormed, IsOver, mark_others, mark_own, without_connected}
 use Rattle.palm_engine.specs.declared.filtering.Filtering.{Filtering}
 
 -- the empty variable after a value of x was taken out: x where it has no value left
@@ -22,6 +25,13 @@ abbrev pub NotesGain : Option ℕ → Option ℕ → Domains → Type 0
 NotesGain None after d = after ≡ None
 NotesGain (Some x) after d = (values_of d x ≡ [] → after ≡ Some x) × (0 < length (values_of d x) → after ≡ None)
 
+-- what the loss tells of the pair's variable holds
+pub record TellsLoss (d : Domains) (p : Pair) (loss : Loss) : Type 0 where
+  pub value : loss.value ≡ p.value
+  pub below : loss.below ≡ true → HasBelow d p.var p.value
+  pub above : loss.above ≡ true → HasAbove d p.var p.value
+  pub several : loss.several ≡ true → HasTwo d p.var
+
 -- the pair is taken out under the id and for the reasons, and the constraints over its variable wait
 pub record TakesOut (f : Filtering) (p : Pair) (by : Cid) (reasons : List Pair) (g : Filtering) : Type 0 where
   pub initial : initial_of g.store ≡ initial_of f.store
@@ -29,24 +39,28 @@ pub record TakesOut (f : Filtering) (p : Pair) (by : Cid) (reasons : List Pair) 
   pub removed : LacksExactly g.store (log_pairs g.log.log)
   pub log : g.log.log ≡ f.log.log ++ record { pair = p; by = by; reasons = reasons } ∷ []
   pub formed : IsFormed g.agenda
-  pub connected : g.agenda.connected ≡ map (mark_others p.var) f.agenda.connected
+  pub loss : Loss
+  pub told : TellsLoss (present_of g.store) p loss
+  pub connected : g.agenda.connected ≡ map (mark_others p.var loss) f.agenda.connected
   pub pending : (c : Cid) → Contains g.agenda.pending c ↔ (Contains f.agenda.pending c ⊎ IsOver f.agenda.connected p.var c)
   pub empty : NotesLoss f.empty g.empty (present_of g.store) p.var
   pub checks : g.checks ≡ f.checks
 
--- whether the variable is one of these
-abbrev pub is_one_of : List ℕ → ℕ → Bool
-is_one_of vars y = list_any (λ x. nat_eq y x) vars
+-- the marks of the constraint are widened by each of these, one after another
+abbrev pub widened_by : List Restored → Connected → Connected
+widened_by [] d = d
+widened_by (r ∷ entries) d = widened_by entries (mark_own r.var r.low r.high d)
 
 -- the constraint under the id is gone with all that rests on it, and the constraints over restored variables wait
 pub record PutsBack (f : Filtering) (cid : Cid) (g : Filtering) : Type 0 where
   pub initial : initial_of g.store ≡ initial_of f.store
   pub loses : Loses f.log.log (cid ∷ []) f.log.log g.log.log
   pub removed : LacksExactly g.store (log_pairs g.log.log)
-  pub restored : (x : ℕ) → Contains g.log.restored x ↔ Contains (vars_of (lost_pairs f.log.log g.log.log)) x
+  pub restored : (x : ℕ) → Contains (restored_vars g.log.restored) x ↔ Contains (vars_of (lost_pairs f.log.log g.log.log)) x
+  pub within : (p : Pair) → Contains (lost_pairs f.log.log g.log.log) p → IsSpanned g.log.restored p
   pub formed : IsFormed g.agenda
-  pub connected : g.agenda.connected ≡ map (marked_where (is_one_of g.log.restored)) (without_connected cid f.agenda.connected)
+  pub connected : g.agenda.connected ≡ map (widened_by g.log.restored) (without_connected cid f.agenda.connected)
   pub pending : (c : Cid) → Contains g.agenda.pending c
-      ↔ (Contains (without_cid cid f.agenda.pending) c ⊎ ((x : ℕ) × Contains g.log.restored x × IsOver (without_connected cid f.agenda.connected) x c))
+      ↔ (Contains (without_cid cid f.agenda.pending) c ⊎ ((x : ℕ) × Contains (restored_vars g.log.restored) x × IsOver (without_connected cid f.agenda.connected) x c))
   pub empty : NotesGain f.empty g.empty (present_of g.store)
   pub checks : g.checks ≡ f.checks

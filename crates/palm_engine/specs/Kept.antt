@@ -1,5 +1,5 @@
 -- What an engine keeps beside its active constraints, and what holds of it.
-use Rattle.std.specs.Prelude.{◌≡◌, ℕ, ℤ, List, [], ◌∷◌, map, Contains, Option, Some, None, false, slice_get}
+use Rattle.std.specs.Prelude.{◌≡◌, ℕ, ℤ, List, [], ◌∷◌, map, Contains, Option, Some, None, slice_get}
 use Rattle.palm_base.specs.declared.terms.Cid.{Cid}
 use Rattle.palm_domain.specs.Rows.{initial_of, present_of}
 use Rattle.palm_model.specs.Domains.{Domains, Has}
@@ -9,7 +9,12 @@ use Rattle.palm_model.specs.Log.{Active, log_pairs}
 use Rattle.palm_model.specs.State.{EngineState, IsValid, IsEmptyAt, AllFilled, woken}
 use Rattle.palm_events.specs.Scoped.{HasScopedReasons}
 use Rattle.palm_explain.specs.Explanations.{LacksExactly}
+use Rattle.palm_filter.specs.declared.heed.Heed.{Heed}
+use Rattle.palm_filter.specs.Heeds.{IsHeeded}
+use Rattle.palm_agenda.specs.declared.mark.Mark.{Mark}
 use Rattle.palm_agenda.specs.Agenda.{Connected, IsFormed}
+use Rattle.palm_agenda.specs.Losses.{heed_of}
+use Rattle.palm_agenda.specs.Marks.{MayLack}
 use Rattle.palm_engine.specs.declared.filtering.Filtering.{Filtering}
 
 -- the state that is seen
@@ -31,11 +36,19 @@ AreConnected active connected =
     map (λ (d : Connected). let s : Scoped = record { cid = d.cid; scope = d.scope } in s) connected
     ≡ map (λ (a : Active). let s : Scoped = record { cid = a.cid; scope = scope a.con } in s) active
 
--- each present value of the variable at a place without a mark has support
+-- the constraint heeds losses so, for each place of its scope
+abbrev pub IsHeededAs : Active → List Heed → Type 0
+IsHeededAs a heeds = (x : ℕ) → Contains (scope a.con) x → IsHeeded a.con x (heed_of x (scope a.con) heeds)
+
+-- and the agenda knows it of each active constraint
+abbrev pub AreHeeded : List Active → List Connected → Type 0
+AreHeeded active connected = (a : Active) (c : Connected) → Contains active a → Contains connected c → c.cid ≡ a.cid → IsHeededAs a c.heeds
+
+-- each present value of the variable at a place has support where the place's mark leaves it out
 abbrev pub AreMarked : Domains → List Active → List Connected → Type 0
-AreMarked d active connected = (a : Active) (c : Connected) (k x : ℕ) (v : ℤ)
+AreMarked d active connected = (a : Active) (c : Connected) (k x : ℕ) (m : Mark) (v : ℤ)
     → Contains active a → Contains connected c → c.cid ≡ a.cid
-    → slice_get c.scope k ≡ Some x → slice_get c.marks k ≡ Some false → Has d x v → IsSupported d a.con x v
+    → slice_get c.scope k ≡ Some x → slice_get c.marks k ≡ Some m → (MayLack m v → ⊥) → Has d x v → IsSupported d a.con x v
 
 -- the empty variable is known, and there is no other one
 abbrev pub IsEmptyKept : Domains → Option ℕ → Type 0
@@ -47,6 +60,7 @@ pub record IsInStep (f : Filtering) (active : List Active) : Type 0 where
   pub removed : LacksExactly f.store (log_pairs f.log.log)
   pub formed : IsFormed f.agenda
   pub connected : AreConnected active f.agenda.connected
+  pub heeded : AreHeeded active f.agenda.connected
   pub marked : AreMarked (present_of f.store) active f.agenda.connected
   pub empty : IsEmptyKept (present_of f.store) f.empty
 

@@ -4,14 +4,14 @@ ghost use Rattle.palm_base.specs.declared.terms.Cid.{Cid as CidTerm};
 ghost use Rattle.palm_base.specs.declared.terms.Pair.{Pair as PairTerm};
 ghost use Rattle.palm_domain.specs.Rows.{IsPresent, present_of};
 ghost use Rattle.palm_model.specs.Log.{log_pairs};
-ghost use Rattle.palm_explain.specs.Explanations.{LacksExactly};
-ghost use Rattle.palm_agenda.specs.Agenda.{IsConnected, IsFormed, IsOver, marked_where};
-ghost use Rattle.palm_engine.specs.Changed.{NotesGain, NotesLoss, PutsBack, TakesOut, is_one_of};
+ghost use Rattle.palm_explain.specs.Explanations.{LacksExactly, restored_vars};
+ghost use Rattle.palm_agenda.specs.Agenda.{IsConnected, IsFormed, IsOver};
+ghost use Rattle.palm_engine.specs.Changed.{NotesGain, NotesLoss, PutsBack, TakesOut, TellsLoss, widened_by};
 
-use palm_agenda::Agenda;
+use palm_agenda::{Agenda, Loss};
 use palm_base::{Cid, NoMemory, Pair, Var};
 use palm_domain::DomainStore;
-use palm_explain::ExplainStore;
+use palm_explain::{ExplainStore, Restored};
 use std::alloc::Global;
 
 /// The present values, why the others are gone, and which constraints wait.
@@ -38,6 +38,24 @@ fn after_loss(empty: &Option<Var>, store: &DomainStore, var: Var) -> Option<Var>
     }
 }
 
+/// What is left of the variable after a value of it was taken out.
+#[inline(always)]
+fn loss_of(store: &DomainStore, pair: Pair) -> Loss
+    requires { pair.var < length store.now }
+    ensures { TellsLoss (present_of store.now) pair result }
+{
+    // A store's values ascend, as `variables` tells, so that two of them differ.
+    prove!(store.variables() > 0);
+    let Pair { var, value } = pair;
+    let count = store.count(var);
+    Loss {
+        value,
+        below: count > 0 && store.least(var) < value,
+        above: count > 0 && value < store.greatest(var),
+        several: count > 1,
+    }
+}
+
 /// The empty variable after values were put back.
 fn after_gain(empty: &Option<Var>, store: &DomainStore) -> Option<Var>
     requires { (x : ℕ) → empty.now ≡ Some x → x < length store.now }
@@ -51,16 +69,16 @@ fn after_gain(empty: &Option<Var>, store: &DomainStore) -> Option<Var>
     }
 }
 
-/// Makes the constraints over these variables pending, and marks their places.
-fn wake_restored(agenda: &mut Agenda, vars: &[Var])
+/// Makes the constraints over the variables of these pending, and marks their places for the restored values.
+fn wake_restored(agenda: &mut Agenda, entries: &[Restored])
     requires { IsFormed agenda.old }
     ensures formed { IsFormed agenda.new }
-    ensures connected { agenda.new.connected ≡ map (marked_where (is_one_of vars.now)) agenda.old.connected }
+    ensures connected { agenda.new.connected ≡ map (widened_by entries.now) agenda.old.connected }
     ensures pending { (c : CidTerm) → Contains agenda.new.pending c
-        ↔ (Contains agenda.old.pending c ⊎ ((x : ℕ) × Contains vars.now x × IsOver agenda.old.connected x c)) }
+        ↔ (Contains agenda.old.pending c ⊎ ((x : ℕ) × Contains (restored_vars entries.now) x × IsOver agenda.old.connected x c)) }
 {
-    for var in vars {
-        agenda.wake_restored(*var);
+    for entry in entries {
+        agenda.wake_restored(entry.var, entry.low, entry.high);
     }
 }
 
@@ -93,7 +111,8 @@ impl Filtering {
         let Pair { var, value } = pair;
         self.log.enter(Pair { var, value }, by, reasons)?;
         self.store.take_out(Pair { var, value });
-        self.agenda.wake(var);
+        let loss = loss_of(&self.store, Pair { var, value });
+        self.agenda.wake(var, loss);
         self.empty = after_loss(&self.empty, &self.store, var);
         Ok(())
     }

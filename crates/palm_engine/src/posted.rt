@@ -9,12 +9,13 @@ ghost use Rattle.palm_model.specs.Log.{Active, cids_of, is_named};
 ghost use Rattle.palm_model.specs.Reason.{AreFilled, reason};
 ghost use Rattle.palm_model.specs.State.{user_of};
 ghost use Rattle.palm_model.specs.Support.{IsSupported, LacksSupport};
+ghost use Rattle.palm_filter.specs.Heeds.{FitsHeed};
 ghost use Rattle.palm_filter.specs.Shapes.{FitsShape};
 ghost use Rattle.palm_engine.specs.Posted.{IsInForm, active_of, actives_of, is_decision, is_negation, negated};
 
 use palm_base::{Cid, CidList, HasCid, NoMemory, Pair, Steps, Var};
 use palm_domain::DomainStore;
-use palm_filter::{Filter, Reasons, Shape, ask};
+use palm_filter::{Filter, Heed, Reasons, Shape, ask};
 use std::array;
 use std::sync::ledger::Ledger;
 
@@ -67,6 +68,18 @@ impl<F: Filter> Posted<F> {
         match self {
             Posted::Decision(_) | Posted::Negation { .. } => Shape::Any,
             Posted::User { filter, .. } => filter.shape(place),
+        }
+    }
+
+    /// Which losses of the variable at a place of the scope may take support from values of the other variables, whatever the
+    /// domains are.
+    pub(crate) fn heed(&self, place: usize) -> Heed
+        requires { place < length (scope (active_of F.meaning self.now).con) }
+        ensures { FitsHeed (active_of F.meaning self.now).con place result }
+    {
+        match self {
+            Posted::Decision(_) | Posted::Negation { .. } => Heed::Each,
+            Posted::User { filter, .. } => filter.heed(place),
         }
     }
 
@@ -128,6 +141,7 @@ impl<F: Filter> Posted<F> {
 
     /// Whether the value has support in every part over its variable. A user's filter is asked, which counts one
     /// check and one step; decisions and negations ask nothing.
+    #[inline(always)]
     pub(crate) fn is_supported<L: Ledger>(
         &self,
         store: &DomainStore,

@@ -1,19 +1,34 @@
 //! Putting a constraint among the active ones, and taking it out with what rests on it.
-ghost use Rattle.std.specs.Prelude.{◌≡◌, ◌↔◌, ◌⊎◌, ℕ, ◌<◌, [], ◌∷◌, length, remove, Contains, Some, true, false, IfSome, OnErr, OnOk, slice_get};
+ghost use Rattle.std.specs.Prelude.{◌≡◌, ◌↔◌, ◌⊎◌, ℕ, ◌<◌, List, [], ◌∷◌, length, remove, Contains, Some, true, false, IfOk, IfSome, OnErr, OnOk, slice_get};
 ghost use Rattle.palm_base.specs.declared.terms.Cid.{Cid as CidTerm};
 ghost use Rattle.palm_model.specs.Constraint.{scope, IsWellFormed};
 ghost use Rattle.palm_model.specs.Event.{WithdrawsAll, with_posted};
 ghost use Rattle.palm_base.specs.Order.{Rises};
 ghost use Rattle.palm_model.specs.Log.{Active, IsActive, cids_of};
 ghost use Rattle.palm_agenda.specs.Agenda.{IsFormed, marked_whole, with_connected};
-ghost use Rattle.palm_engine.specs.Kept.{AreConnected, IsInStep, state_of};
+ghost use Rattle.palm_filter.specs.declared.heed.Heed.{Heed as HeedTerm};
+ghost use Rattle.palm_filter.specs.Heeds.{FitsHeed};
+ghost use Rattle.palm_engine.specs.Kept.{AreConnected, IsHeededAs, IsInStep, state_of};
 ghost use Rattle.palm_engine.specs.Posted.{active_of, actives_of, is_negation, resting_on};
 
 use crate::filtering::Filtering;
 use crate::posted::{Posted, decisions_of, place_of};
 use palm_agenda::Agenda;
 use palm_base::{Cid, HasCid, NoMemory};
-use palm_filter::Filter;
+use palm_filter::{Filter, Heed};
+use std::alloc::Global;
+
+/// How the constraint heeds losses of the variable at each place of its scope.
+fn heeds_of<F: Filter>(alloc: Global, constraint: &Posted<F>) -> Result<Vec<Heed>, NoMemory>
+    ensures each { IfOk result (λ heeds. length heeds.items ≡ length (scope (active_of F.meaning constraint.now).con)) }
+    ensures fit { IfOk result (λ heeds. (place : ℕ) (heed : HeedTerm) → slice_get heeds.items place ≡ Some heed → FitsHeed (active_of F.meaning constraint.now).con place heed) }
+{
+    let mut heeds = Vec::new(alloc);
+    for place in 0..constraint.scope().len() {
+        heeds.push(constraint.heed(place))?;
+    }
+    Ok(heeds)
+}
 
 /// Puts a constraint at its place, pending. Without memory nothing changes.
 pub(crate) fn insert<F: Filter>(
@@ -25,7 +40,8 @@ pub(crate) fn insert<F: Filter>(
     requires connected { AreConnected (actives_of F.meaning posted.old.items) agenda.old.connected }
     requires inactive { IsActive (actives_of F.meaning posted.old.items) (active_of F.meaning constraint).cid → ⊥ }
     ensures active { OnOk result (actives_of F.meaning posted.new.items ≡ with_posted (active_of F.meaning constraint) (actives_of F.meaning posted.old.items)) }
-    ensures connected { OnOk result (agenda.new.connected ≡ with_connected (marked_whole (active_of F.meaning constraint).cid (scope (active_of F.meaning constraint).con)) agenda.old.connected) }
+    ensures connected { OnOk result ((heeds : List HeedTerm) × IsHeededAs (active_of F.meaning constraint) heeds
+        × (agenda.new.connected ≡ with_connected (marked_whole (active_of F.meaning constraint).cid (scope (active_of F.meaning constraint).con) heeds) agenda.old.connected)) }
     ensures pending { OnOk result ((c : CidTerm) → Contains agenda.new.pending c ↔ (Contains agenda.old.pending c ⊎ (c ≡ (active_of F.meaning constraint).cid))) }
     ensures formed { OnOk result (IsFormed agenda.new) }
     ensures shaped { OnOk result ((number : ℕ) → (active_of F.meaning constraint).cid ≡ Cid.User number → (variables : ℕ) × IsWellFormed variables (active_of F.meaning constraint).con) }
@@ -34,7 +50,8 @@ pub(crate) fn insert<F: Filter>(
     let cid = constraint.cid();
     let place = place_of(posted, &cid);
     posted.reserve(1)?;
-    agenda.connect(cid, constraint.scope())?;
+    let heeds = heeds_of(*posted.allocator(), &constraint)?;
+    agenda.connect(cid, constraint.scope(), heeds)?;
     let inserted = posted.insert(place, constraint);
     prove!(inserted.is_ok());
     Ok(())

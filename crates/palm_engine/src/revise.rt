@@ -14,12 +14,13 @@ ghost use Rattle.palm_engine.specs.Work.{size_of};
 use crate::filtering::Filtering;
 use crate::posted::Posted;
 use crate::values::revise_values;
+use palm_agenda::Mark;
 use palm_base::{HasCid, NoMemory, Steps, Var};
 use palm_filter::{Filter, Reasons};
 use std::sync::ledger::Ledger;
 
-/// Asks for the present values of the variable at a place of the scope where the place is marked, and takes the mark
-/// away. At a place without a mark they have support.
+/// Asks for the present values of the variable at a place of the scope that may lack support, as the place's mark tells,
+/// and takes the mark away.
 fn revise_place<F: Filter, L: Ledger>(
     filtering: &mut Filtering,
     constraint: &Posted<F>,
@@ -40,15 +41,17 @@ fn revise_place<F: Filter, L: Ledger>(
     ensures counted { HasCounted (length (values_of (initial_of filtering.old.store) var)) filtering.old filtering.new steps.old steps.new }
 {
     let cid = constraint.cid();
-    if filtering.agenda.is_marked(cid, place) {
-        revise_values(filtering, constraint, place, var, reasons, steps)?;
-        filtering.agenda.unmark(constraint.cid(), place);
+    let mark = filtering.agenda.mark(cid, place);
+    if let Mark::Clear = mark {
+        return Ok(());
     }
+    revise_values(filtering, constraint, place, var, mark, reasons, steps)?;
+    filtering.agenda.unmark(constraint.cid(), place);
     Ok(())
 }
 
-/// Walks over the places of the constraint's scope, until there is none or a domain is empty. Without memory the walk
-/// ends where it stands.
+/// Walks over the places of the constraint's scope, until there is none or a domain is empty; where no place is marked, each value
+/// has support, and there is nothing to walk over. Without memory the walk ends where it stands.
 pub(crate) fn revise<F: Filter, L: Ledger>(
     filtering: &mut Filtering,
     constraint: &Posted<F>,
@@ -64,6 +67,9 @@ pub(crate) fn revise<F: Filter, L: Ledger>(
         → IsRevising filtering.new active (active_of F.meaning constraint.now) }
     ensures counted { HasCounted (size_of (initial_of filtering.old.store) (active_of F.meaning constraint.now).con) filtering.old filtering.new steps.old steps.new }
 {
+    if filtering.agenda.is_clear(constraint.cid()) {
+        return Ok(());
+    }
     for place in 0..constraint.scope().len() {
         if filtering.empty.is_some() {
             return Ok(());

@@ -7,6 +7,7 @@ ghost use Rattle.palm_model.specs.Log.{Active};
 ghost use Rattle.palm_model.specs.Removed.{pairs_of};
 ghost use Rattle.palm_model.specs.State.{AllFilled};
 ghost use Rattle.palm_model.specs.Support.{IsSupported, LacksSupport};
+ghost use Rattle.palm_engine.specs.Advancing.{AreSupportedBeyond, AreSupportedUnless};
 ghost use Rattle.palm_engine.specs.Posted.{active_of};
 ghost use Rattle.palm_engine.specs.Revising.{AreSupportedAt, HasCounted, IsRevising, Walked, WalkedPart};
 ghost use Rattle.palm_engine.specs.Settling.{IsDue};
@@ -16,11 +17,13 @@ use crate::apart::{have_two, revise_apart};
 use crate::between::revise_between;
 use crate::filtering::Filtering;
 use crate::posted::Posted;
-use palm_base::{HasCid, NoMemory, Pair, Steps, Var};
+use palm_agenda::Mark;
+use palm_base::{HasCid, NoMemory, Pair, Steps, Value, Var};
 use palm_filter::{Filter, Reasons, Shape};
 use std::sync::ledger::Ledger;
 
 /// Takes a present value out that lacks support. Without memory it stays.
+#[inline(always)]
 pub(crate) fn take_out<F: Filter>(
     filtering: &mut Filtering,
     constraint: &Posted<F>,
@@ -47,6 +50,7 @@ pub(crate) fn take_out<F: Filter>(
 
 /// Asks for a present value of the constraint's variable, and takes it out where it lacks support. Without memory
 /// the value stays.
+#[inline(always)]
 pub(crate) fn examine<F: Filter, L: Ledger>(
     filtering: &mut Filtering,
     constraint: &Posted<F>,
@@ -81,7 +85,7 @@ pub(crate) fn examine<F: Filter, L: Ledger>(
 }
 
 /// Asks for each present value of the variable, from the least on.
-pub(crate) fn revise_each<F: Filter, L: Ledger>(
+fn revise_each<F: Filter, L: Ledger>(
     filtering: &mut Filtering,
     constraint: &Posted<F>,
     var: Var,
@@ -100,27 +104,112 @@ pub(crate) fn revise_each<F: Filter, L: Ledger>(
     ensures supported { OnOk result (AreSupportedAt filtering.new (active_of F.meaning constraint.now) var) }
     ensures counted { HasCounted (length (values_of (initial_of filtering.old.store) var)) filtering.old filtering.new steps.old steps.new }
 {
-    let mut next = Some(filtering.store.least(var));
-    while let Some(value) = next {
-        examine(filtering, constraint, Pair { var, value }, reasons, steps)?;
-        next = filtering.store.next_after(var, value);
+    let mut next = Some(filtering.store.first_placed(var));
+    while let Some(placed) = next {
+        examine(
+            filtering,
+            constraint,
+            Pair {
+                var,
+                value: placed.value,
+            },
+            reasons,
+            steps,
+        )?;
+        next = filtering.store.next_placed(var, placed);
     }
     Ok(())
 }
 
-/// Takes the values of the variable at a place of the scope out that lack support. Where a law of the constraint tells of a
-/// value that it has support, or lacks it, that is not asked for.
+/// Asks for each present value of the variable from the one bound to the other. Those beyond them have support.
+fn revise_within<F: Filter, L: Ledger>(
+    filtering: &mut Filtering,
+    constraint: &Posted<F>,
+    var: Var,
+    low: Value,
+    high: Value,
+    reasons: &mut Reasons,
+    steps: &mut Steps<L>,
+) -> Result<(), NoMemory>
+    requires revising { (active : List Active) × IsRevising filtering.old active (active_of F.meaning constraint.now) }
+    requires filled { AllFilled (present_of filtering.old.store) }
+    requires over { Contains (scope (active_of F.meaning constraint.now).con) var }
+    requires known { AreSupportedBeyond filtering.old (active_of F.meaning constraint.now) var low high }
+    ensures walked { (active : List Active) → IsRevising filtering.old active (active_of F.meaning constraint.now)
+        → OnOk result (Walked active (active_of F.meaning constraint.now) (pairs_of var (values_of (initial_of filtering.old.store) var)) filtering.old filtering.new) }
+    ensures part { (active : List Active) → IsRevising filtering.old active (active_of F.meaning constraint.now)
+        → OnErr result (WalkedPart active (active_of F.meaning constraint.now) (pairs_of var (values_of (initial_of filtering.old.store) var)) filtering.old filtering.new) }
+    ensures revising { (active : List Active) → IsRevising filtering.old active (active_of F.meaning constraint.now)
+        → IsRevising filtering.new active (active_of F.meaning constraint.now) }
+    ensures supported { OnOk result (AreSupportedAt filtering.new (active_of F.meaning constraint.now) var) }
+    ensures counted { HasCounted (length (values_of (initial_of filtering.old.store) var)) filtering.old filtering.new steps.old steps.new }
+{
+    let mut next = filtering.store.placed_from(var, low);
+    while let Some(placed) = next {
+        if high < placed.value {
+            return Ok(());
+        }
+        examine(
+            filtering,
+            constraint,
+            Pair {
+                var,
+                value: placed.value,
+            },
+            reasons,
+            steps,
+        )?;
+        next = filtering.store.next_placed(var, placed);
+    }
+    Ok(())
+}
+
+/// Asks for each present value of the variable that the mark does not leave out. Those that it leaves out have support.
+fn revise_marked<F: Filter, L: Ledger>(
+    filtering: &mut Filtering,
+    constraint: &Posted<F>,
+    var: Var,
+    mark: Mark,
+    reasons: &mut Reasons,
+    steps: &mut Steps<L>,
+) -> Result<(), NoMemory>
+    requires revising { (active : List Active) × IsRevising filtering.old active (active_of F.meaning constraint.now) }
+    requires filled { AllFilled (present_of filtering.old.store) }
+    requires over { Contains (scope (active_of F.meaning constraint.now).con) var }
+    requires known { AreSupportedUnless mark filtering.old (active_of F.meaning constraint.now) var }
+    ensures walked { (active : List Active) → IsRevising filtering.old active (active_of F.meaning constraint.now)
+        → OnOk result (Walked active (active_of F.meaning constraint.now) (pairs_of var (values_of (initial_of filtering.old.store) var)) filtering.old filtering.new) }
+    ensures part { (active : List Active) → IsRevising filtering.old active (active_of F.meaning constraint.now)
+        → OnErr result (WalkedPart active (active_of F.meaning constraint.now) (pairs_of var (values_of (initial_of filtering.old.store) var)) filtering.old filtering.new) }
+    ensures revising { (active : List Active) → IsRevising filtering.old active (active_of F.meaning constraint.now)
+        → IsRevising filtering.new active (active_of F.meaning constraint.now) }
+    ensures supported { OnOk result (AreSupportedAt filtering.new (active_of F.meaning constraint.now) var) }
+    ensures counted { HasCounted (length (values_of (initial_of filtering.old.store) var)) filtering.old filtering.new steps.old steps.new }
+{
+    match mark {
+        Mark::Clear => Ok(()),
+        Mark::Between { low, high } => {
+            revise_within(filtering, constraint, var, low, high, reasons, steps)
+        }
+        Mark::Whole => revise_each(filtering, constraint, var, reasons, steps),
+    }
+}
+
+/// Takes the values of the variable at a place of the scope out that lack support. Those that the mark leaves out have it.
+/// Where a law of the constraint tells of a value that it has support, or lacks it, that is not asked for.
 pub(crate) fn revise_values<F: Filter, L: Ledger>(
     filtering: &mut Filtering,
     constraint: &Posted<F>,
     place: usize,
     var: Var,
+    mark: Mark,
     reasons: &mut Reasons,
     steps: &mut Steps<L>,
 ) -> Result<(), NoMemory>
     requires revising { (active : List Active) × IsRevising filtering.old active (active_of F.meaning constraint.now) }
     requires filled { AllFilled (present_of filtering.old.store) }
     requires at { slice_get (scope (active_of F.meaning constraint.now).con) place ≡ Some var }
+    requires known { AreSupportedUnless mark filtering.old (active_of F.meaning constraint.now) var }
     ensures walked { (active : List Active) → IsRevising filtering.old active (active_of F.meaning constraint.now)
         → OnOk result (Walked active (active_of F.meaning constraint.now) (pairs_of var (values_of (initial_of filtering.old.store) var)) filtering.old filtering.new) }
     ensures part { (active : List Active) → IsRevising filtering.old active (active_of F.meaning constraint.now)
@@ -135,6 +224,8 @@ pub(crate) fn revise_values<F: Filter, L: Ledger>(
         Shape::AlikeBut(value) => revise_alike(filtering, constraint, var, value, reasons, steps),
         Shape::Guarded if have_two(&filtering.store, constraint.scope(), var) => Ok(()),
         Shape::Apart(by) => revise_apart(filtering, constraint, var, by, reasons, steps),
-        Shape::Guarded | Shape::Any => revise_each(filtering, constraint, var, reasons, steps),
+        Shape::Guarded | Shape::Any => {
+            revise_marked(filtering, constraint, var, mark, reasons, steps)
+        }
     }
 }

@@ -1,17 +1,17 @@
 -- Changes of the graph and of its marks, one after another.
-use Rattle.std.proofs.Common.{◌≡◌, ◌≢◌, ℕ, ◌+◌, ◌<◌, ◌≤◌, Bool, true, false, List, [], ◌∷◌, ◌++◌, length, get_or, take, Some, Contains, ◌⊎◌, inl, inr, refl, sym, ap, ◌∙◌, subst, arith}
+use Rattle.std.proofs.Common.{◌≡◌, ◌≢◌, ℕ, ◌+◌, ◌<◌, ◌≤◌, Bool, true, false, List, [], ◌∷◌, ◌++◌, length, get_or, take, Option, Some, None, Contains, ◌⊎◌, inl, inr, refl, sym, ap, ◌∙◌, subst, arith}
 use Rattle.std.proofs.lemmas.Bool.{cases_eq, false≢true}
 use Rattle.std.proofs.lemmas.List.{take_more, take_all}
 use Rattle.std.proofs.lemmas.List.Elements.{Contains-append_left, Contains-push}
 use Rattle.palm_base.proofs.cited.Members.{member_nil, member_same, member_single, member_take, member_take_more}
-use Rattle.palm_model.specs.Constraint.{Distinct}
-use Rattle.palm_explain.specs.Graph.{Graph, HasForgotten, HasLinked, HasMarked, IsAmongFirst, IsDependent, IsKey, IsSameNode, Link}
+use Rattle.palm_explain.specs.Graph.{Graph, HasEnded, HasLinked, HasMarked, IsAmongFirst, IsKey, IsLast, IsSameNode, Link}
 use Rattle.palm_explain.proofs.Graphs.{link_same}
+use Rattle.palm_explain.proofs.Once.{last_pushed}
 
 pub same_then : (l m n : Link) → IsSameNode l m → IsSameNode m n → IsSameNode l n
 same_then l m n a b = record { pair = b.pair ∙ a.pair; by = b.by ∙ a.by; antecedents = b.antecedents ∙ a.antecedents; place = b.place ∙ a.place }
 
-same_itself : (l : Link) → IsSameNode l l
+pub same_itself : (l : Link) → IsSameNode l l
 same_itself l = record { pair = refl; by = refl; antecedents = refl; place = refl }
 
 -- ---- one more of a list
@@ -48,25 +48,14 @@ linked_next g h f antecedents i c key lt at one two = record {
   once = λ k l n is has tailed. let m = one.some k l is in two.once k m.0 n m.1 has (one.once k l m.0 is m.1 tailed);
 }
 
--- a key stays one
-pub linked_key : (g h : Graph) (antecedents : List ℕ) (key k : ℕ) → HasLinked g h antecedents key → IsKey g k → IsKey h k
-linked_key g h antecedents key k linked at = let m = linked.some k at.0 at.1 in (m.0, m.1)
+-- ---- ends
 
-pub forgotten_key : (g h : Graph) (Gone : ℕ → ℕ → Type 0) (k : ℕ) → HasForgotten g h Gone → IsKey g k → IsKey h k
-forgotten_key g h Gone k forgotten at = let m = forgotten.some k at.0 at.1 in (m.0, m.1)
+pub ended_none : (g : Graph) (antecedents : List ℕ) (key : ℕ) → HasEnded g g antecedents key
+ended_none g antecedents key = record { none = λ k e. e; some = λ k l is. (l, is, same_itself l, inl refl) }
 
--- ---- forgotten dependents
-
-pub forgotten_none : (g : Graph) (Gone : ℕ → ℕ → Type 0) → ((k d : ℕ) → Gone k d → ⊥) → HasForgotten g g Gone
-forgotten_none g Gone never = record {
-  none = λ k e. e;
-  some = λ k l at. (l, at, same_itself l, λ d m. (m, never k d), λ d m free. m);
-  once = λ k l m at has once. subst (λ (z : Link). Distinct z.dependents) (link_same g k l m at has) once;
-}
-
-pub forgotten_then : (g h f : Graph) (First Second Gone : ℕ → ℕ → Type 0) → ((k d : ℕ) → First k d → Gone k d) → ((k d : ℕ) → Second k d → Gone k d) → ((k d : ℕ) → Gone k d → First k d ⊎ Second k d)
-    → HasForgotten g h First → HasForgotten h f Second → HasForgotten g f Gone
-forgotten_then g h f First Second Gone left right split one two = record {
+-- a key that stands at the end stands there once
+pub ended_next : (g h f : Graph) (antecedents : List ℕ) (i c key : ℕ) → i < length antecedents → c ≡ get_or antecedents i c → HasEnded g h (take i antecedents) key → HasEnded h f (c ∷ []) key → HasEnded g f (take (i + 1) antecedents) key
+ended_next g h f antecedents i c key lt at one two = record {
   none = λ k e. two.none k (one.none k e);
   some = λ k l is.
       let m = one.some k l is in
@@ -74,11 +63,42 @@ forgotten_then g h f First Second Gone left right split one two = record {
         n.0,
         n.1,
         same_then l m.0 n.0 m.2 n.2,
-        λ d q. let b = n.3 d q in let a = m.3 d b.0 in (a.0, λ gone. elim (split k d gone) [ inl p ↦ a.1 p | inr p ↦ b.1 p ]),
-        λ d q free. n.4 d (m.4 d q (λ p. free (left k d p))) (λ p. free (right k d p)),
+        elim n.3 [
+          | inl stays ↦ elim m.3 [
+            | inl same ↦ inl (stays ∙ same)
+            | inr more ↦ inr (more_left antecedents i c k lt at more.0, stays ∙ more.1, more.2)
+          ]
+          | inr next ↦ elim m.3 [
+            | inl same ↦ inr (more_last antecedents i c k lt at (member_single c k next.0), next.1 ∙ ap (λ ds. ds ++ key ∷ []) same, λ last. next.2 (subst (λ ds. IsLast ds key) (sym same) last))
+            | inr more ↦ absurd (next.2 (subst (λ ds. IsLast ds key) (sym more.1) (last_pushed l.dependents key)))
+          ]
+        ],
       );
-  once = λ k l n is has once. let m = one.some k l is in two.once k m.0 n m.1 has (one.once k l m.0 is m.1 once);
 }
+
+-- the same of more antecedents
+pub ended_more : (g h : Graph) (some all : List ℕ) (key : ℕ) → ((k : ℕ) → Contains some k → Contains all k) → HasEnded g h some key → HasEnded g h all key
+ended_more g h some all key more ended = record {
+  none = ended.none;
+  some = λ k l is. let m = ended.some k l is in (m.0, m.1, m.2, elim m.3 [ inl same ↦ inl same | inr ends ↦ inr (more k ends.0, ends.1, ends.2) ]);
+}
+
+same_links : (l m : Link) → IsSameNode l m → m.dependents ≡ l.dependents → m ≡ l
+same_links l m same dependents = (λ i. record { pair = same.pair i; by = same.by i; antecedents = same.antecedents i; dependents = dependents i; place = same.place i })
+
+ended_at : (g h : Graph) (key k : ℕ) → HasEnded g h [] key → (o : Option Link) → g k ≡ o → h k ≡ o
+ended_at g h key k ended None is = ended.none k is
+ended_at g h key k ended (Some l) is =
+    let m = ended.some k l is in
+    m.1 ∙ ap Some (same_links l m.0 m.2 (elim m.3 [ inl same ↦ same | inr ends ↦ absurd (member_nil k ends.0) ]))
+
+-- where none are left nothing has changed
+pub ended_back : (g h : Graph) (key : ℕ) → HasEnded g h [] key → h ≡ g
+ended_back g h key ended = λ i k. ended_at g h key k ended (g k) refl i
+
+-- a key stays one
+pub linked_key : (g h : Graph) (antecedents : List ℕ) (key k : ℕ) → HasLinked g h antecedents key → IsKey g k → IsKey h k
+linked_key g h antecedents key k linked at = let m = linked.some k at.0 at.1 in (m.0, m.1)
 
 -- ---- marks
 
@@ -181,13 +201,3 @@ handed_on g old middle new key More cleared others marked never = (
     cleared_still : (b : Bool) → new key ≡ b → b ≡ false
     cleared_still false e = refl
     cleared_still true e = elim (marked.only key e) [ inl o ↦ absurd (false≢true (sym cleared ∙ o)) | inr p ↦ absurd (never p) ]
-
--- where dependents alone are forgotten it matters of them alone what is gone
-pub forgotten_among : (g h : Graph) (Gone Same : ℕ → ℕ → Type 0) → ((k d : ℕ) → IsDependent g d k → Gone k d → Same k d) → ((k d : ℕ) → IsDependent g d k → Same k d → Gone k d) → HasForgotten g h Gone → HasForgotten g h Same
-forgotten_among g h Gone Same to back forgotten = record {
-  none = forgotten.none;
-  some = λ k l at.
-      let m = forgotten.some k l at in
-      (m.0, m.1, m.2, λ d q. let a = m.3 d q in (a.0, λ s. a.1 (back k d (l, at, a.0) s)), λ d q free. m.4 d q (λ gone. free (to k d (l, at, q) gone)));
-  once = forgotten.once;
-}

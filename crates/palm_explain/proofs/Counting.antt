@@ -1,7 +1,6 @@
 -- Counts of lost dependents, the removals that stay and lose some, and what both are enough for.
 use Rattle.std.proofs.Common.{◌≡◌, ◌≢◌, ℕ, ◌+◌, ◌<◌, ◌≤◌, Bool, true, false, List, [], ◌∷◌, ◌++◌, length, filter, get_or, take, Some, Contains, remove, slice_get, ◌⊎◌, inl, inr, refl, sym, ap, ◌∙◌, subst, arith}
 use Rattle.std.proofs.lemmas.Bool.{cases_eq}
-use Rattle.std.proofs.lemmas.List.{take_all}
 use Rattle.std.proofs.lemmas.List.Edits.{length-remove}
 use Rattle.std.proofs.lemmas.List.Elements.{Contains-push_cases}
 use Rattle.std.proofs.lemmas.Option.{slice_get_within}
@@ -9,12 +8,12 @@ use Rattle.slab.specs.Slab.{Slab, get, with_value}
 use Rattle.palm_base.proofs.cited.Members.{filter_member, member_known, member_nil, member_place, member_same, member_take_more, nat_known, remove_member}
 use Rattle.palm_model.specs.Constraint.{Distinct}
 use Rattle.palm_explain.specs.declared.node.Node.{Node}
-use Rattle.palm_explain.specs.Chain.{IsLine}
 use Rattle.palm_explain.specs.Counts.{AreCounted, AreNoted, HasCounted, HoldsKeys, IsCountedAt, count_or, counts_of, slot_or, slots_of}
-use Rattle.palm_explain.specs.Graph.{Graph, IsAntecedent, IsGraph, IsKey, graph_of, link_of, marks_of, said}
-use Rattle.palm_explain.proofs.Chains.{once_short}
+use Rattle.palm_explain.specs.Graph.{AreOnce, Graph, IsDependent, IsGraph, IsKey, IsPlaced, Link, graph_of, link_of, marks_of, said}
+use Rattle.palm_explain.proofs.Chains.{mark_key, once_short}
 use Rattle.palm_explain.proofs.Entered.{place_cases}
 use Rattle.palm_explain.proofs.Graphs.{key_member}
+use Rattle.palm_explain.proofs.Loosening.{IsFrom, from_next, none_from}
 use Rattle.palm_explain.proofs.Once.{distinct_remove, removed_apart}
 use Rattle.palm_explain.proofs.Unmarked.{distinct_filter, filter_short}
 use Rattle.palm_explain.proofs.Writes.{elsewhere, here, node_mark, same_everywhere, same_graph, same_marks}
@@ -24,15 +23,15 @@ use Rattle.palm_explain.proofs.Writes.{elsewhere, here, node_mark, same_everywhe
 pub counted_none : (old : ℕ → ℕ) (losing : List ℕ) (More : ℕ → Type 0) → ((k : ℕ) → More k → ⊥) → HasCounted old old losing losing More
 counted_none old losing More never = record { grows = λ k. omega arith; stays = λ k m. m; more = λ k m. absurd (never k m) }
 
-pub counted_one : (old new : ℕ → ℕ) (before after : List ℕ) (Stays : ℕ → Type 0) (key : ℕ) → IsCountedAt (old key) (new key) → ((k : ℕ) → k ≢ key → new k ≡ old k) → ((k : ℕ) → Contains before k → Contains after k) → Contains after key
-    → HasCounted old new before after (λ k. Stays k × (key ≡ k))
-counted_one old new before after Stays key at others stays there = record {
+pub counted_one : (old new : ℕ → ℕ) (before after : List ℕ) (More : ℕ → Type 0) (key : ℕ) → IsCountedAt (old key) (new key) → ((k : ℕ) → k ≢ key → new k ≡ old k) → ((k : ℕ) → Contains before k → Contains after k) → Contains after key
+    → ((k : ℕ) → More k → key ≡ k) → HasCounted old new before after More
+counted_one old new before after More key at others stays there only = record {
   grows = λ k. elim (cases_eq k key) [
     | inl e ↦ subst (λ j. old j ≤ new j) (sym e) at.0
     | inr n ↦ let same = others k n in omega (arith, same)
   ];
   stays = stays;
-  more = λ k m. (subst (λ j. IsCountedAt (old j) (new j)) m.1 at, member_same after key k m.1 there);
+  more = λ k m. let e = only k m in (subst (λ j. IsCountedAt (old j) (new j)) e at, member_same after key k e there);
 }
 
 pub counted_then : (old middle new : ℕ → ℕ) (before between after : List ℕ) (First Second More : ℕ → Type 0) → ((k : ℕ) → More k → First k ⊎ Second k) → HasCounted old middle before between First → HasCounted middle new between after Second
@@ -56,14 +55,14 @@ counted_then old middle new before between after First Second More split one two
       ];
 }
 
-pub counted_more : (marks now : ℕ → Bool) (old middle new : ℕ → ℕ) (before between after keys : List ℕ) (i x : ℕ) → now ≡ marks → i < length keys → x ≡ get_or keys i x
-    → HasCounted old middle before between (λ k. (marks k ≡ false) × Contains (take i keys) k) → HasCounted middle new between after (λ k. (now k ≡ false) × (x ≡ k))
-    → HasCounted old new before after (λ k. (marks k ≡ false) × Contains (take (i + 1) keys) k)
-counted_more marks now old middle new before between after keys i x same lt is one two =
-    counted_then old middle new before between after (λ k. (marks k ≡ false) × Contains (take i keys) k) (λ k. (now k ≡ false) × (x ≡ k)) (λ k. (marks k ≡ false) × Contains (take (i + 1) keys) k)
+pub counted_more : (marks now : ℕ → Bool) (First Then : ℕ → Type 0) (old middle new : ℕ → ℕ) (before between after keys : List ℕ) (i x : ℕ) → now ≡ marks → ((k : ℕ) → Then k → First k) → i < length keys → x ≡ get_or keys i x
+    → HasCounted old middle before between (λ k. (marks k ≡ false) × Contains (take i keys) k × First k) → HasCounted middle new between after (λ k. (now k ≡ false) × (x ≡ k) × Then k)
+    → HasCounted old new before after (λ k. (marks k ≡ false) × Contains (take (i + 1) keys) k × Then k)
+counted_more marks now First Then old middle new before between after keys i x same back lt is one two =
+    counted_then old middle new before between after (λ k. (marks k ≡ false) × Contains (take i keys) k × First k) (λ k. (now k ≡ false) × (x ≡ k) × Then k) (λ k. (marks k ≡ false) × Contains (take (i + 1) keys) k × Then k)
     (λ k m. elim (member_take_more keys i x k lt is m.1) [
-      | inl old ↦ inl (m.0, old)
-      | inr e ↦ inr (ap (λ q. q k) same ∙ m.0, e)
+      | inl old ↦ inl (m.0, old, back k m.2)
+      | inr e ↦ inr (ap (λ q. q k) same ∙ m.0, e, m.2)
     ])
     one two
 
@@ -107,13 +106,13 @@ module _ (s : Slab Node) (k : ℕ) (n v : Node) (at : get s k ≡ Some n) (link 
   }
 
 -- one node is counted once more
-pub counted_write : (s : Slab Node) (k : ℕ) (n v : Node) → get s k ≡ Some n → IsCountedAt n.lost v.lost → (before after : List ℕ) → ((j : ℕ) → Contains before j → Contains after j) → Contains after k
-    → HasCounted (counts_of s) (counts_of (with_value s k v)) before after (λ j. (marks_of s j ≡ false) × (k ≡ j))
-counted_write s k n v at more before after stays there =
+pub counted_write : (s : Slab Node) (k : ℕ) (n v : Node) → get s k ≡ Some n → IsCountedAt n.lost v.lost → (before after : List ℕ) (More : ℕ → Type 0) → ((j : ℕ) → Contains before j → Contains after j) → Contains after k
+    → ((j : ℕ) → More j → k ≡ j) → HasCounted (counts_of s) (counts_of (with_value s k v)) before after More
+counted_write s k n v at more before after More stays there only =
     let t = with_value s k v in
     let last : IsCountedAt n.lost (counts_of t k) = subst (IsCountedAt n.lost) (sym (ap count_or (here s k n v at))) more in
     let both : IsCountedAt (counts_of s k) (counts_of t k) = subst (λ i. IsCountedAt i (counts_of t k)) (sym (ap count_or at)) last in
-    counted_one (counts_of s) (counts_of t) before after (λ j. marks_of s j ≡ false) k both (λ j differs. ap count_or (elsewhere s k n v at j differs)) stays there
+    counted_one (counts_of s) (counts_of t) before after More k both (λ j differs. ap count_or (elsewhere s k n v at j differs)) stays there only
 
 -- all that is listed has room
 pub noted_fits : (s : Slab Node) (losing : List ℕ) (room : ℕ) → AreNoted s losing → HoldsKeys (graph_of s) room → length losing ≤ room
@@ -131,79 +130,83 @@ none_noted s losing none = subst (AreNoted s) (sym none) (record {
   stay = λ k m. absurd (member_nil k m);
 })
 
--- ---- along the chain
+-- ---- from the end of the log on
 
--- of removals of the chain below the place no more rest on one that stays than are counted there, and those on which some rest are listed
-pub record IsCountedTo (g : Graph) (marks : ℕ → Bool) (counts : ℕ → ℕ) (losing chain : List ℕ) (i : ℕ) : Type 0 where
-  pub enough : (k : ℕ) (xs : List ℕ) → marks k ≡ false → Distinct xs → ((d : ℕ) → Contains xs d → Contains (take i chain) d × IsAntecedent g k d) → (length xs ≤ counts k) ⊎ (18446744073709551615 ≤ counts k)
-  pub listed : (k d : ℕ) → marks k ≡ false → Contains (take i chain) d → IsAntecedent g k d → Contains losing k
+-- of the lost removals from the place on no more are dependents of one that stays than are counted there, and those that have some are listed
+pub record IsCountedFrom (h : Graph) (marks : ℕ → Bool) (counts : ℕ → ℕ) (losing keys : List ℕ) (place : ℕ) : Type 0 where
+  pub enough : (k : ℕ) (xs : List ℕ) → marks k ≡ false → Distinct xs → ((d : ℕ) → Contains xs d → IsFrom place keys d × (marks d ≡ true) × IsDependent h d k) → (length xs ≤ counts k) ⊎ (18446744073709551615 ≤ counts k)
+  pub listed : (k d : ℕ) → marks k ≡ false → IsFrom place keys d → marks d ≡ true → IsDependent h d k → Contains losing k
 
 no_member : (xs : List ℕ) → ((d : ℕ) → Contains xs d → ⊥) → xs ≡ []
 no_member [] none = refl
 no_member (x ∷ xs) none = absurd (none x (0, omega arith, refl))
 
-pub counted_start : (g : Graph) (marks : ℕ → Bool) (counts : ℕ → ℕ) (losing chain : List ℕ) → IsCountedTo g marks counts losing chain 0
-counted_start g marks counts losing chain = record {
+pub counted_start : (h : Graph) (marks : ℕ → Bool) (counts : ℕ → ℕ) (losing keys : List ℕ) (place : ℕ) → length keys ≤ place → IsCountedFrom h marks counts losing keys place
+counted_start h marks counts losing keys place past = record {
   enough = λ k xs free once sub.
-      let none = no_member xs (λ d m. member_nil d (sub d m).0) in
+      let none = no_member xs (λ d m. none_from keys place d past (sub d m).0) in
       let long = ap length none in inl (omega (arith, long));
-  listed = λ k d free m rests. absurd (member_nil d m);
+  listed = λ k d free from lost dependent. absurd (none_from keys place d past from);
 }
 
-module _ (g : Graph) (marks : ℕ → Bool) (old new : ℕ → ℕ) (before after chain : List ℕ) (i key : ℕ) (lt : i < length chain) (is : key ≡ get_or chain i key) (to : IsCountedTo g marks old before chain i)
-    (counted : HasCounted old new before after (λ c. (marks c ≡ false) × IsAntecedent g c key)) where
-  next_enough : (k : ℕ) (xs : List ℕ) → marks k ≡ false → Distinct xs → ((d : ℕ) → Contains xs d → Contains (take (i + 1) chain) d × IsAntecedent g k d) → (length xs ≤ new k) ⊎ (18446744073709551615 ≤ new k)
+module _ (g h : Graph) (marks : ℕ → Bool) (old new : ℕ → ℕ) (before after keys : List ℕ) (place key : ℕ) (at : slice_get keys place ≡ Some key) (from : IsCountedFrom g marks old before keys (place + 1))
+    (fewer : (d k : ℕ) → IsDependent h d k → IsDependent g d k) (counted : HasCounted old new before after (λ k. (marks key ≡ true) × (marks k ≡ false) × IsDependent h key k)) where
+  next_enough : (k : ℕ) (xs : List ℕ) → marks k ≡ false → Distinct xs → ((d : ℕ) → Contains xs d → IsFrom place keys d × (marks d ≡ true) × IsDependent h d k) → (length xs ≤ new k) ⊎ (18446744073709551615 ≤ new k)
   next_enough k xs free once sub = elim (member_known nat_known xs key) [
     | inl m ↦
-        let at = member_place xs key m in
-        let fewer = remove xs at.0 in
-        let long = length-remove xs at.0 (slice_get_within xs at.0 key at.1) in
-        let more = (counted.more k (free, (sub key m).1)).0 in
-        elim (to.enough k fewer free (distinct_remove xs at.0 once) (λ d n.
-        let r = sub d (remove_member xs at.0 d n) in (
-          elim (member_take_more chain i key d lt is r.0) [
-            | inl p ↦ p
-            | inr e ↦ absurd (removed_apart xs at.0 key once at.1 (member_same fewer d key (sym e) n))
+        let there = member_place xs key m in
+        let less = remove xs there.0 in
+        let long = length-remove xs there.0 (slice_get_within xs there.0 key there.1) in
+        let is = sub key m in
+        let more = (counted.more k (is.1, free, is.2)).0 in
+        elim (from.enough k less free (distinct_remove xs there.0 once) (λ d n.
+        let r = sub d (remove_member xs there.0 d n) in (
+          elim (from_next keys place key d at r.0) [
+            | inl e ↦ absurd (removed_apart xs there.0 key once there.1 (member_same less d key (sym e) n))
+            | inr p ↦ p
           ],
           r.1,
+          fewer d k r.2,
         ))) [
           | inl few ↦ elim more.1 [ inl up ↦ inl (omega (arith, few, up, long)) | inr full ↦ inr full ]
           | inr full ↦ let up = more.0 in inr (omega (arith, full, up))
         ]
     | inr other ↦
         let grows = counted.grows k in
-        elim (to.enough k xs free once (λ d n.
+        elim (from.enough k xs free once (λ d n.
         let r = sub d n in (
-          elim (member_take_more chain i key d lt is r.0) [ inl p ↦ p | inr e ↦ absurd (other (member_same xs d key (sym e) n)) ],
+          elim (from_next keys place key d at r.0) [ inl e ↦ absurd (other (member_same xs d key (sym e) n)) | inr p ↦ p ],
           r.1,
+          fewer d k r.2,
         ))) [ inl few ↦ inl (omega (arith, few, grows)) | inr full ↦ inr (omega (arith, full, grows)) ]
   ]
 
-  next_listed : (k d : ℕ) → marks k ≡ false → Contains (take (i + 1) chain) d → IsAntecedent g k d → Contains after k
-  next_listed k d free m rests = elim (member_take_more chain i key d lt is m) [
-    | inl p ↦ counted.stays k (to.listed k d free p rests)
-    | inr e ↦ (counted.more k (free, subst (IsAntecedent g k) (sym e) rests)).1
+  next_listed : (k d : ℕ) → marks k ≡ false → IsFrom place keys d → marks d ≡ true → IsDependent h d k → Contains after k
+  next_listed k d free there lost dependent = elim (from_next keys place key d at there) [
+    | inl e ↦ (counted.more k (ap marks e ∙ lost, free, subst (λ i. IsDependent h i k) (sym e) dependent)).1
+    | inr p ↦ counted.stays k (from.listed k d free p lost (fewer d k dependent))
   ]
 
-  pub counted_next : IsCountedTo g marks new after chain (i + 1)
+  pub counted_next : IsCountedFrom h marks new after keys place
   counted_next = record { enough = next_enough; listed = next_listed }
 
--- past the last one of the chain there are enough everywhere, and all are listed that lose one
-all_taken : (s : Slab Node) (chain : List ℕ) (first count i : ℕ) → IsLine s first count chain → count ≤ i → take i chain ≡ chain
-all_taken s chain first count i line le = let long = line.long in take_all i chain (omega (arith, le, long))
+-- every lost removal stands at the first lost one's place or behind it
+pub lost_from : (s : Slab Node) (keys : List ℕ) (start place d : ℕ) → IsPlaced (graph_of s) keys → place ≤ start → ((k : ℕ) (l : Link) → marks_of s k ≡ true → graph_of s k ≡ Some l → start ≤ l.place) → marks_of s d ≡ true → IsFrom place keys d
+lost_from s keys start place d placed le earliest lost =
+    let key = mark_key s d lost in
+    let late = earliest d key.0 lost key.1 in
+    (key.0.place, omega (arith, le, late), placed.logged d key.0 key.1)
 
-pub counted_all : (s : Slab Node) (keys losing chain : List ℕ) (first count i : ℕ) → IsGraph (graph_of s) keys → IsLine s first count chain → count ≤ i → IsCountedTo (graph_of s) (marks_of s) (counts_of s) losing chain i → AreCounted s
-counted_all s keys losing chain first count i graph line le to k n at free =
-    let xs = filter (marks_of s) n.dependents.items in
+-- there are enough everywhere
+pub counted_all : (t : Slab Node) (marks : ℕ → Bool) (losing keys : List ℕ) (place : ℕ) → AreOnce (graph_of t) → marks_of t ≡ marks → ((d : ℕ) → marks d ≡ true → IsFrom place keys d) → IsCountedFrom (graph_of t) marks (counts_of t) losing keys place → AreCounted t
+counted_all t marks losing keys place once same there from k n at free =
+    let xs = filter (marks_of t) n.dependents.items in
     let node = ap link_of at in
-    let few = filter_short (marks_of s) n.dependents.items in
-    let is : counts_of s k ≡ n.lost = ap count_or at in
-    elim (to.enough k xs free (distinct_filter (marks_of s) n.dependents.items (graph.once k (said n) node)) (λ d m.
-    let r = filter_member (marks_of s) n.dependents.items d m in (subst (λ l. Contains l d) (sym (all_taken s chain first count i line le)) (line.whole d r.1), graph.caused d k (said n, node, r.0)))) [
+    let few = filter_short (marks_of t) n.dependents.items in
+    let is : counts_of t k ≡ n.lost = ap count_or at in
+    elim (from.enough k xs (sym (ap (λ q. q k) same) ∙ free) (distinct_filter (marks_of t) n.dependents.items (once k (said n) node)) (λ d m.
+    let r = filter_member (marks_of t) n.dependents.items d m in
+    let lost = sym (ap (λ q. q d) same) ∙ r.1 in (there d lost, lost, (said n, node, r.0)))) [
       | inl short ↦ omega (arith, short, is)
       | inr full ↦ omega (arith, full, is, few, n.dependents.ok.0)
     ]
-
-pub listed_all : (s : Slab Node) (counts : ℕ → ℕ) (losing chain : List ℕ) (first count i : ℕ) → IsLine s first count chain → count ≤ i → IsCountedTo (graph_of s) (marks_of s) counts losing chain i
-    → (k d : ℕ) → marks_of s k ≡ false → marks_of s d ≡ true → IsAntecedent (graph_of s) k d → Contains losing k
-listed_all s counts losing chain first count i line le to k d free gone rests = to.listed k d free (subst (λ l. Contains l d) (sym (all_taken s chain first count i line le)) (line.whole d gone)) rests

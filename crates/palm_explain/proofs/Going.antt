@@ -8,6 +8,7 @@ use Rattle.palm_model.specs.Domains.{values_of}
 use Rattle.palm_model.specs.Log.{Removal, log_pairs}
 use Rattle.palm_model.proofs.cited.Without.{without_has}
 use Rattle.palm_explain.specs.declared.node.Node.{Node}
+use Rattle.palm_explain.specs.declared.restored.Restored.{Restored}
 use Rattle.palm_explain.specs.Chain.{IsLine}
 use Rattle.palm_explain.specs.Explanations.{LacksExactly}
 use Rattle.palm_explain.specs.Graph.{IsGraph, Link, graph_of, log_of, marks_of, removal_at}
@@ -36,8 +37,8 @@ module _ (s : Slab Node) (first count : ℕ) (chain keys : List ℕ) (line : IsL
       let e = lost_entry (graph_of s) (marks_of s) keys p m in
       member_same (lost_of (graph_of s) (marks_of s) chain) (removal_at (graph_of s) e.0).pair p e.2 (entry_lost (graph_of s) (marks_of s) chain e.0 (line.whole e.0 e.3) e.3)
 
-  pub line_all : (before now : List Row) (old vars : List ℕ) → IsAllBack (graph_of s) (marks_of s) chain before now old vars → IsAllBack (graph_of s) (marks_of s) keys before now old vars
-  line_all before now old vars is =
+  pub line_all : (before now : List Row) (restored : List Restored) → IsAllBack (graph_of s) (marks_of s) chain before now restored → IsAllBack (graph_of s) (marks_of s) keys before now restored
+  line_all before now restored is =
       let some = lost_of (graph_of s) (marks_of s) chain in
       let all = lost_of (graph_of s) (marks_of s) keys in record {
         back = record {
@@ -46,15 +47,15 @@ module _ (s : Slab Node) (first count : ℕ) (chain keys : List ℕ) (line : IsL
           others = is.back.others;
           back = λ p m. is.back.back p (pairs_line p m);
         };
-        noted = λ x m. elim (is.noted x m) [ inl o ↦ inl o | inr n ↦ inr (vars_more some all line_pairs x n) ];
-        all = λ x m. is.all x (elim m [ inl o ↦ inl o | inr n ↦ inr (vars_more all some pairs_line x n) ]);
+        noted = λ x m. vars_more some all line_pairs x (is.noted x m);
+        spanned = λ p m. is.spanned p (pairs_line p m);
       }
 
   -- the pair of the removal at a place of the chain is still out
-  pub line_out : (before now : List Row) (old noted : List ℕ) (place key : ℕ) (l : Link) → LacksExactly before (log_pairs (log_of (graph_of s) keys))
-      → IsBackBelow (graph_of s) (marks_of s) chain before now old noted place → slice_get chain place ≡ Some key → graph_of s key ≡ Some l
+  pub line_out : (before now : List Row) (restored : List Restored) (place key : ℕ) (l : Link) → LacksExactly before (log_pairs (log_of (graph_of s) keys))
+      → IsBackBelow (graph_of s) (marks_of s) chain before now restored place → slice_get chain place ≡ Some key → graph_of s key ≡ Some l
       → IsDeclared now l.pair.var l.pair.value × (IsPresent now l.pair.var l.pair.value → ⊥)
-  line_out before now old noted place key l lacks below here at =
+  line_out before now restored place key l lacks below here at =
       let g = graph_of s in
       let in_log : Contains (log_pairs (log_of g keys)) l.pair = subst (λ p. Contains (log_pairs (log_of g keys)) p) (pair_is g key l at) (key_pair g keys key graph.places (l, at)) in (
         subst (λ lists. Contains (values_of lists l.pair.var) l.pair.value) (sym below.back.initial) (lacks.declared l.pair in_log),

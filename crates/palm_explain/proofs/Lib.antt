@@ -6,12 +6,12 @@ mod Closing
 mod Counting
 mod Dropping
 mod Entered
-mod Flags
 mod Going
 mod Graphs
 mod Keeping
 mod Lending
 mod Linked
+mod Loosening
 mod Marks
 mod Naming
 mod Noted
@@ -20,6 +20,7 @@ mod PuttingBack
 mod Reading
 mod Rising
 mod RowKeys
+mod Slots
 mod Stores
 mod Taking
 mod ThreadKeys

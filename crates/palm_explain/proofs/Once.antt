@@ -1,12 +1,12 @@
 -- Lists that have each key once.
-use Rattle.std.proofs.Common.{◌≡◌, ◌≢◌, ◌⊎◌, ℕ, zero, suc, ◌+◌, ◌-◌, ◌<◌, List, [], ◌∷◌, ◌++◌, length, Some, Contains, slice_get, get_or, remove, inl, inr, refl, sym, ap, ◌∙◌, arith}
+use Rattle.std.proofs.Common.{◌≡◌, ◌≢◌, ◌⊎◌, ℕ, zero, suc, ◌+◌, ◌-◌, ◌<◌, ◌≤◌, List, [], ◌∷◌, ◌++◌, length, Some, Contains, slice_get, get_or, remove, take, inl, inr, refl, sym, ap, ◌∙◌, arith}
 use Rattle.std.proofs.lemmas.Bool.{cases_eq, cases_lt}
-use Rattle.std.proofs.lemmas.List.{length-append}
+use Rattle.std.proofs.lemmas.List.{length-append, take-append-le, take_all}
 use Rattle.std.proofs.lemmas.Option.{get_or_from_slice_get, slice_get_within, slice_get-get_or}
 use Rattle.std.proofs.lemmas.List.Elements.{Contains-push_cases}
 use Rattle.palm_base.proofs.cited.Members.{member_cases, member_get, member_here, member_nil, member_place, member_same, member_there, remove_member}
 use Rattle.palm_model.specs.Constraint.{Distinct}
-use Rattle.palm_explain.specs.Graph.{IsTailed}
+use Rattle.palm_explain.specs.Graph.{IsLast, IsTailed}
 use Rattle.palm_explain.proofs.Graphs.{some_same}
 
 -- ---- one more
@@ -22,14 +22,26 @@ pushed_end : (ks : List ℕ) (k : ℕ) → slice_get (ks ++ k ∷ []) (length ks
 pushed_end [] k = refl
 pushed_end (j ∷ ks) k = pushed_end ks k
 
+-- a pushed key is the last one
+pub last_pushed : (ks : List ℕ) (k : ℕ) → IsLast (ks ++ k ∷ []) k
+last_pushed ks k = let long = length-append ks (k ∷ []) in let e : length (ks ++ k ∷ []) - 1 ≡ length ks = omega (arith, long) in ap (λ p. slice_get (ks ++ k ∷ []) p) e ∙ pushed_end ks k
+
 -- a key that is not the last one is new, and stands at the end
 pub tailed_push : (ks : List ℕ) (k : ℕ) → (slice_get ks (length ks - 1) ≡ Some k → ⊥) → IsTailed k ks → IsTailed k (ks ++ k ∷ [])
 tailed_push ks k differs tailed = (
   distinct_push ks k tailed.0 (λ m. differs (tailed.1 m)),
-  λ m. let long = length-append ks (k ∷ []) in let e : length (ks ++ k ∷ []) - 1 ≡ length ks = omega (arith, long) in ap (λ p. slice_get (ks ++ k ∷ []) p) e ∙ pushed_end ks k,
+  λ m. last_pushed ks k,
 )
 
 -- ---- one less
+
+-- without the last one
+pub without_last : (ks : List ℕ) (k count : ℕ) → count ≡ length (ks ++ k ∷ []) → take (count - 1) (ks ++ k ∷ []) ≡ ks
+without_last ks k count e =
+    let long = length-append ks (k ∷ []) in
+    let le : count - 1 ≤ length ks = omega (arith, long, e) in
+    let all : length ks ≤ count - 1 = omega (arith, long, e) in
+    take-append-le (count - 1) ks (k ∷ []) le ∙ take_all (count - 1) ks all
 
 pub distinct_remove : (ks : List ℕ) (i : ℕ) → Distinct ks → Distinct (remove ks i)
 distinct_remove [] zero once = tt

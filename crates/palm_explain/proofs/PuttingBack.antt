@@ -8,6 +8,8 @@ use Rattle.palm_base.proofs.cited.Members.{member_nil, member_here, member_cases
 use Rattle.palm_domain.specs.Rows.{Row, GainsPair, IsPresent, initial_of}
 use Rattle.palm_model.specs.Event.{vars_of}
 use Rattle.palm_model.proofs.cited.Without.{pair_of}
+use Rattle.palm_explain.specs.declared.restored.Restored.{Restored}
+use Rattle.palm_explain.specs.Explanations.{IsSpanned, restored_vars}
 use Rattle.palm_explain.specs.Graph.{Graph, log_of, removal_at}
 use Rattle.palm_explain.specs.Lost.{HasBack, kept_of, lost_at, lost_of}
 
@@ -93,48 +95,45 @@ back_then before middle after ps qs one two = record {
 
 -- ---- below a place
 
--- the lost pairs of the places below this one are back, and their variables are noted
-pub record IsBackBelow (g : Graph) (lost : ℕ → Bool) (es : List ℕ) (before now : List Row) (old vars : List ℕ) (place : ℕ) : Type 0 where
+-- the lost pairs of the places below this one are back, their variables alone are noted, and it is told between which values they lie
+pub record IsBackBelow (g : Graph) (lost : ℕ → Bool) (es : List ℕ) (before now : List Row) (restored : List Restored) (place : ℕ) : Type 0 where
   pub back : HasBack before now (lost_of g lost (take place es))
-  pub noted : (x : ℕ) → Contains vars x → Contains old x ⊎ Contains (vars_of (lost_of g lost (take place es))) x
-  pub all : (x : ℕ) → Contains old x ⊎ Contains (vars_of (lost_of g lost (take place es))) x → Contains vars x
+  pub noted : (x : ℕ) → Contains (restored_vars restored) x → Contains (vars_of (lost_of g lost (take place es))) x
+  pub spanned : (p : Pair) → Contains (lost_of g lost (take place es)) p → IsSpanned restored p
 
-pub back_below_none : (g : Graph) (lost : ℕ → Bool) (es : List ℕ) (before : List Row) (old : List ℕ) → IsBackBelow g lost es before before old old 0
-back_below_none g lost es before old = record {
+pub back_below_none : (g : Graph) (lost : ℕ → Bool) (es : List ℕ) (before : List Row) → IsBackBelow g lost es before before [] 0
+back_below_none g lost es before = record {
   back = back_none before;
-  noted = λ x m. inl m;
-  all = λ x m. elim m [ inl o ↦ o | inr none ↦ absurd (member_nil x none) ];
+  noted = λ x m. absurd (member_nil x m);
+  spanned = λ p m. absurd (member_nil p m);
 }
 
-pub back_below_next : (g : Graph) (lost : ℕ → Bool) (es : List ℕ) (before middle now : List Row) (old vars later : List ℕ) (p : Pair) (place : ℕ)
-    → lost_at g lost es place ≡ p ∷ [] → IsBackBelow g lost es before middle old vars place → HasBack middle now (p ∷ [])
-    → ((x : ℕ) → (Contains later x → Contains vars x ⊎ (p.var ≡ x)) × (Contains vars x ⊎ (p.var ≡ x) → Contains later x)) → IsBackBelow g lost es before now old later (place + 1)
-back_below_next g lost es before middle now old vars later p place is below back noted =
+pub back_below_next : (g : Graph) (lost : ℕ → Bool) (es : List ℕ) (before middle now : List Row) (restored later : List Restored) (p : Pair) (place : ℕ)
+    → lost_at g lost es place ≡ p ∷ [] → IsBackBelow g lost es before middle restored place → HasBack middle now (p ∷ [])
+    → ((x : ℕ) → Contains (restored_vars later) x → Contains (restored_vars restored) x ⊎ (p.var ≡ x)) → ((q : Pair) → IsSpanned restored q ⊎ (p ≡ q) → IsSpanned later q) → IsBackBelow g lost es before now later (place + 1)
+back_below_next g lost es before middle now restored later p place is below back noted spanned =
     let some = lost_of g lost (take place es) in
     let next : lost_of g lost (take (place + 1) es) ≡ some ++ p ∷ [] = lost_next g lost es place ∙ ap (λ l. some ++ l) is in
     let more : vars_of (lost_of g lost (take (place + 1) es)) ≡ vars_of some ++ p.var ∷ [] = ap vars_of next ∙ map-append (λ (q : Pair). q.var) some (p ∷ []) in record {
       back = subst (λ l. HasBack before now l) (sym next) (back_then before middle now some (p ∷ []) below.back back);
-      noted = λ x m. elim ((noted x).0 m) [
-        | inl o ↦ elim (below.noted x o) [ inl q ↦ inl q | inr q ↦ inr (subst (λ l. Contains l x) (sym more) (Contains-append_left (vars_of some) (p.var ∷ []) x q)) ]
-        | inr e ↦ inr (subst (λ l. Contains l x) (sym more) (member_same (vars_of some ++ p.var ∷ []) p.var x e (Contains-push (vars_of some) p.var)))
+      noted = λ x m. elim (noted x m) [
+        | inl o ↦ subst (λ l. Contains l x) (sym more) (Contains-append_left (vars_of some) (p.var ∷ []) x (below.noted x o))
+        | inr e ↦ subst (λ l. Contains l x) (sym more) (member_same (vars_of some ++ p.var ∷ []) p.var x e (Contains-push (vars_of some) p.var))
       ];
-      all = λ x m. (noted x).1 (elim m [
-        | inl o ↦ inl (below.all x (inl o))
-        | inr q ↦ elim (Contains-push_cases (vars_of some) p.var x (subst (λ l. Contains l x) more q)) [ inl o ↦ inl (below.all x (inr o)) | inr e ↦ inr e ]
-      ]);
+      spanned = λ q m. spanned q (elim (Contains-push_cases some p q (subst (λ l. Contains l q) next m)) [ inl o ↦ inl (below.spanned q o) | inr e ↦ inr e ]);
     }
 
--- past the last place all lost pairs are back, and all their variables noted
-pub record IsAllBack (g : Graph) (lost : ℕ → Bool) (es : List ℕ) (before now : List Row) (old vars : List ℕ) : Type 0 where
+-- past the last place all lost pairs are back
+pub record IsAllBack (g : Graph) (lost : ℕ → Bool) (es : List ℕ) (before now : List Row) (restored : List Restored) : Type 0 where
   pub back : HasBack before now (lost_of g lost es)
-  pub noted : (x : ℕ) → Contains vars x → Contains old x ⊎ Contains (vars_of (lost_of g lost es)) x
-  pub all : (x : ℕ) → Contains old x ⊎ Contains (vars_of (lost_of g lost es)) x → Contains vars x
+  pub noted : (x : ℕ) → Contains (restored_vars restored) x → Contains (vars_of (lost_of g lost es)) x
+  pub spanned : (p : Pair) → Contains (lost_of g lost es) p → IsSpanned restored p
 
-pub back_below_all : (g : Graph) (lost : ℕ → Bool) (es : List ℕ) (before now : List Row) (old vars : List ℕ) (place : ℕ) → IsBackBelow g lost es before now old vars place → length es ≤ place
-    → IsAllBack g lost es before now old vars
-back_below_all g lost es before now old vars place below le =
+pub back_below_all : (g : Graph) (lost : ℕ → Bool) (es : List ℕ) (before now : List Row) (restored : List Restored) (place : ℕ) → IsBackBelow g lost es before now restored place → length es ≤ place
+    → IsAllBack g lost es before now restored
+back_below_all g lost es before now restored place below le =
     let all = take_all place es le in record {
       back = subst (λ l. HasBack before now (lost_of g lost l)) all below.back;
-      noted = subst (λ l. (x : ℕ) → Contains vars x → Contains old x ⊎ Contains (vars_of (lost_of g lost l)) x) all below.noted;
-      all = subst (λ l. (x : ℕ) → Contains old x ⊎ Contains (vars_of (lost_of g lost l)) x → Contains vars x) all below.all;
+      noted = subst (λ l. (x : ℕ) → Contains (restored_vars restored) x → Contains (vars_of (lost_of g lost l)) x) all below.noted;
+      spanned = subst (λ l. (p : Pair) → Contains (lost_of g lost l) p → IsSpanned restored p) all below.spanned;
     }

@@ -1,5 +1,6 @@
 -- What is read of the log at a place.
-use Rattle.std.proofs.Common.{◌≡◌, ℕ, ◌<◌, Bool, true, false, Result, Ok, Err, OnErr, List, [], ◌∷◌, length, map, get_or, Some, None, Contains, slice_get, Option, MatchOption, sym, ap, ◌∙◌, subst}
+use Rattle.std.proofs.Common.{◌≡◌, ℕ, ◌<◌, Bool, true, false, Result, Ok, Err, OnErr, OnOk, is_err, List, [], ◌∷◌, length, map, get_or, Some, None, Contains, slice_get, Option, MatchOption, sym, ap, ◌∙◌, subst}
+use Rattle.std.proofs.lemmas.Bool.{false≢true}
 use Rattle.std.proofs.lemmas.List.{get_or_default, length-map}
 use Rattle.std.proofs.lemmas.Option.{slice_get-get_or, get_or_from_slice_get}
 use Rattle.slab.specs.Slab.{ContainsKey, Slab, get}
@@ -8,6 +9,7 @@ use Rattle.palm_base.specs.declared.terms.Cid.{Cid}
 use Rattle.palm_base.specs.Tells.{Tells}
 use Rattle.palm_base.proofs.cited.Members.{member_here, member_single}
 use Rattle.palm_model.specs.Log.{IsListOf, NamesOfPair, Removal, log_pairs}
+use Rattle.palm_explain.specs.declared.restored.Restored.{Restored}
 use Rattle.palm_explain.specs.declared.node.Node.{Node}
 use Rattle.palm_explain.specs.declared.rows.Row.{Row}
 use Rattle.palm_explain.specs.Explanations.{Explanations, NamesOfSome, log_bys, reasons_of}
@@ -106,13 +108,22 @@ one_value log p cids list =
     (λ c one. record { value = p.value; among = member_here p.value []; names = one }) list
 
 -- the log reads the same
-pub view_same : (s t : Slab Node) (keys later vars more : List ℕ) (v : Explanations) → graph_of t ≡ graph_of s → later ≡ keys → more ≡ vars → record { log = log_of (graph_of s) keys; restored = vars } ≡ v
+pub view_same : (s t : Slab Node) (keys later : List ℕ) (restored more : List Restored) (v : Explanations) → graph_of t ≡ graph_of s → later ≡ keys → more ≡ restored → record { log = log_of (graph_of s) keys; restored = restored } ≡ v
     → record { log = log_of (graph_of t) later; restored = more } ≡ v
-view_same s t keys later vars more v graph same rest is = (λ i. record { log = log_of (graph i) (same i); restored = rest i }) ∙ is
+view_same s t keys later restored more v graph same rest is = (λ i. record { log = log_of (graph i) (same i); restored = rest i }) ∙ is
 
 pub on_err : {T E : Type 0} (r : Result T E) (P : Type 0) → P → OnErr r P
 on_err (Ok x) P p = tt
 on_err (Err e) P p = p
+
+-- what holds of the values of a result holds where it is no error
+pub where_ok : {T E : Type 0} (r : Result T E) (P : Type 0) → false ≡ is_err r → OnOk r P → P
+where_ok (Ok x) P e p = p
+where_ok (Err x) P e p = absurd (false≢true e)
+
+pub where_err : {T E : Type 0} (r : Result T E) (P : Type 0) → true ≡ is_err r → OnErr r P → P
+where_err (Ok x) P e p = absurd (false≢true (sym e))
+where_err (Err x) P e p = p
 
 -- a node at a place, however the place is read
 pub node_read : (s : Slab Node) (keys : List ℕ) (place k : ℕ) (n : Node) → place < length keys → k ≡ get_or keys place k → get s k ≡ Some n → get s (get_or keys place 0) ≡ Some n

@@ -16,19 +16,20 @@ use Rattle.palm_explain.specs.declared.node.Node.{Node}
 use Rattle.palm_explain.specs.declared.rows.Row.{Row}
 use Rattle.palm_explain.specs.declared.threads.Threads.{Threads}
 use Rattle.palm_explain.specs.Explanations.{IsLink, IsLinked, LacksExactly}
-use Rattle.palm_explain.specs.Graph.{AreFound, HasClosedUp, HasForgotten, HasLinked, HasNoMark, IsBy, IsAntecedent, IsGraph, IsStored, IsKey, Link, graph_of, has_mark, link_of, log_of, marks_of, pair_at}
+use Rattle.palm_explain.specs.Graph.{AreFound, HasClosedUp, HasForgotten, HasLinked, HasNoMark, IsBy, IsAntecedent, IsDependent, IsGraph, IsStored, IsKey, Link, graph_of, has_mark, link_of, log_of, marks_of, pair_at}
 use Rattle.palm_explain.specs.Lost.{AreTold, HasBack, kept_of, lost_of}
 use Rattle.palm_explain.specs.Restored.{KeepsKeys}
 use Rattle.palm_explain.specs.Rows.{AreFormedRows, key_at}
 use Rattle.palm_explain.specs.Threads.{AreFormedThreads, AreThreaded, thread_of}
 use Rattle.palm_explain.proofs.ClosedUp.{IsGone, left_found, left_graph, left_log, left_threaded}
 use Rattle.palm_explain.proofs.Entered.{IsEntered, by_entered, entered, entered_by, entered_found, entered_graph, entered_log}
-use Rattle.palm_explain.proofs.Graphs.{key_pair, pair_is}
-use Rattle.palm_explain.proofs.Keeping.{kept_linked, lacks_kept, loses_kept, noted_vars}
+use Rattle.palm_explain.proofs.Graphs.{dependent_key, key_pair, pair_is}
+use Rattle.palm_explain.proofs.Keeping.{kept_linked, lacks_kept, log_lost_of, loses_kept, noted_vars}
 use Rattle.palm_explain.proofs.Linked.{linked_push}
 use Rattle.palm_explain.proofs.Once.{distinct_push}
 use Rattle.palm_explain.proofs.PuttingBack.{kept_and_lost}
 use Rattle.palm_explain.proofs.ThreadKeys.{once_with}
+use Rattle.palm_explain.proofs.Writes.{none_some}
 
 pub on_ok : {T E : Type 0} (r : Result T E) (P Q : Type 0) → (P → Q) → OnOk r P → OnOk r Q
 on_ok (Ok x) P Q f p = f p
@@ -61,6 +62,10 @@ kept_with_keys nodes keys rows later spare kept same = record {
   room = kept.room;
 }
 
+-- a key that no node has is no dependent
+pub vacant_apart : (nodes : Slab Node) (keys : List ℕ) (key k : ℕ) → IsGraph (graph_of nodes) keys → get nodes key ≡ None → IsDependent (graph_of nodes) key k → ⊥
+vacant_apart nodes keys key k graph free dependent = let at = dependent_key (graph_of nodes) keys key k graph dependent in none_some (sym (ap link_of free) ∙ at.1)
+
 -- nodes that say the same, and as much room
 pub kept_like : (nodes later : Slab Node) (keys : List ℕ) (rows : List Row) (spare more : ℕ) → IsStored nodes keys rows spare → graph_of later ≡ graph_of nodes → marks_of later ≡ marks_of nodes → length keys ≤ more
     → IsStored later keys rows more
@@ -92,9 +97,6 @@ module _ (s t u : Slab Node) (keys : List ℕ) (rows : List Row) (spare key : �
     (are_reasons : map (pair_at (graph_of s)) n.antecedents.items ≡ reasons) (are_keys : (c : ℕ) → Contains n.antecedents.items c → IsKey (graph_of s) c) (found : key_at rows n.pair ≡ Some key)
     (linked : HasLinked (graph_of s) (graph_of t) n.antecedents.items key) (marks : marks_of t ≡ marks_of s) (free : get t key ≡ None) (updates : Updates t u key (Some n))
     (alone : n.dependents.items ≡ []) (place : n.place ≡ length keys) (unmarked : n.mark ≡ false) (room : length keys + 1 ≤ spare) where
-  none_some : {x : Link} → None ≡ Some x → ⊥
-  none_some e = cc
-
   abbrev new : Link
   new = record { pair = n.pair; by = n.by; antecedents = n.antecedents.items; dependents = n.dependents.items; place = n.place }
 
@@ -200,6 +202,11 @@ module _ (s m t u : Slab Node) (keys left : List ℕ) (rows : List Row) (spare l
       subst (λ l. (Contains vars x → Contains (vars_of (lost_pairs (log_of (graph_of s) keys) l)) x) × (Contains (vars_of (lost_pairs (log_of (graph_of s) keys) l)) x → Contains vars x)) (sym log_left)
       (noted_vars (graph_of s) cid (marks_of m) keys vars kept.linked told x
       (subst (λ g. (Contains vars x → Contains (vars_of (lost_of g (marks_of m) keys)) x) × (Contains (vars_of (lost_of g (marks_of m) keys)) x → Contains vars x)) graph noted))
+
+  pub pairs_withdrawn : (p : Pair) → Contains (lost_pairs (log_of (graph_of s) keys) (log_of (graph_of u) left)) p → Contains (lost_of (graph_of m) (marks_of m) keys) p
+  pairs_withdrawn p lost =
+      subst (λ g. Contains (lost_of g (marks_of m) keys) p) (sym graph)
+      (log_lost_of (graph_of s) cid (marks_of m) keys told p (subst (λ l. Contains (lost_pairs (log_of (graph_of s) keys) l) p) log_left lost))
 
   pub threaded_withdrawn : (threads : Threads) → AreThreaded threads (graph_of s) (λ k. IsBy (graph_of s) cid k ⊎ (marks_of m k ≡ true)) → AreThreaded threads (graph_of u) (λ k. ⊥)
   threaded_withdrawn threads threaded = left_threaded (graph_of s) (graph_of t) (graph_of u) keys left cid (marks_of m) kept.graph told gone shut threads threaded

@@ -2,8 +2,9 @@
 use Rattle.std.proofs.Common.{◌≡◌, ℕ, suc, ◌+◌, ◌<◌, ◌≤◌, Bool, true, false, not, cond, List, [], ◌∷◌, ◌++◌, length, filter, take, drop, set, get_or, slice_get, Some, Contains, inl, inr, refl, sym, ap, ◌∙◌, subst, arith}
 use Rattle.std.proofs.lemmas.Bool.{cases_Bool, false≢true}
 use Rattle.std.proofs.lemmas.Option.{slice_get-get_or, slice_get_within}
-use Rattle.std.proofs.lemmas.List.{append-nil, drop-set-lt, length-append, length-set, take_all, take_more_set}
+use Rattle.std.proofs.lemmas.List.{append-nil, drop-set-lt, length-append, length-set, length-take-le, take-append-drop, take_all, take_more_set}
 use Rattle.std.proofs.lemmas.List.Elements.{filter-append}
+use Rattle.std.proofs.lemmas.List.Filters.{length-filter_both}
 use Rattle.palm_base.proofs.cited.Members.{filter_member, member_filter, member_nil}
 use Rattle.palm_model.specs.Constraint.{Distinct}
 use Rattle.palm_explain.specs.Lost.{kept_of}
@@ -23,10 +24,6 @@ marked_next marks xs i k at is =
     ap (λ l. length (filter marks l)) (taken_more xs i k at) ∙ ap length (filter-append marks (take i xs) (k ∷ [])) ∙ length-append (filter marks (take i xs)) (filter marks (k ∷ []))
     ∙ ap (λ b. length (filter marks (take i xs)) + length (cond b (k ∷ []) [])) is
 
-pub kept_less : (marks : ℕ → Bool) (xs : List ℕ) (i k : ℕ) → slice_get xs i ≡ Some k → marks k ≡ true → kept_of marks (take (i + 1) xs) ≡ kept_of marks (take i xs)
-kept_less marks xs i k at is =
-    ap (kept_of marks) (taken_more xs i k at) ∙ filter-append (λ j. not (marks j)) (take i xs) (k ∷ []) ∙ ap (λ b. kept_of marks (take i xs) ++ cond (not b) (k ∷ []) []) is ∙ append-nil (kept_of marks (take i xs))
-
 pub none_long : (xs : List ℕ) → length xs ≤ 0 → xs ≡ []
 none_long [] le = refl
 none_long (x ∷ xs) le = absurd (omega (arith, le))
@@ -37,6 +34,17 @@ none_marked marks xs none = kept_all marks xs (λ k m. elim (cases_Bool (marks k
   | inl is ↦ absurd (member_nil k (subst (λ l. Contains l k) none (member_filter marks xs k m is)))
   | inr free ↦ free
 ])
+
+-- where so many of the first are marked, and no more of all, the others are kept
+pub front_kept : (marks : ℕ → Bool) (xs : List ℕ) (n : ℕ) → n ≤ length xs → length (filter marks (take n xs)) ≡ n → length (filter marks xs) ≤ n → drop n xs ≡ kept_of marks xs
+front_kept marks xs n le all few =
+    let split = take-append-drop n xs in
+    let parts = ap length (ap (filter marks) (sym split) ∙ filter-append marks (take n xs) (drop n xs)) ∙ length-append (filter marks (take n xs)) (filter marks (drop n xs)) in
+    let none : filter marks (drop n xs) ≡ [] = none_long (filter marks (drop n xs)) (omega (arith, parts, all, few)) in
+    let long = length-take-le n xs le in
+    let both = length-filter_both marks (λ k. not (marks k)) (λ k. refl) (take n xs) in
+    let empty : kept_of marks (take n xs) ≡ [] = none_long (kept_of marks (take n xs)) (omega (arith, both, all, long)) in
+    sym (ap (kept_of marks) (sym split) ∙ filter-append (λ k. not (marks k)) (take n xs) (drop n xs) ∙ ap (λ l. l ++ kept_of marks (drop n xs)) empty ∙ none_marked marks (drop n xs) none)
 
 -- ---- what passes a test
 

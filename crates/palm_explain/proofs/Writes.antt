@@ -1,17 +1,15 @@
 -- What a write to one node changes, and what it does not.
-use Rattle.std.proofs.Common.{◌≡◌, ◌≢◌, ℕ, ◌-◌, Bool, false, true, not, cond, List, [], ◌∷◌, ◌++◌, length, Option, Some, None, is_some, IsSome, Contains, slice_get, ◌⊎◌, inl, inr, refl, sym, ap, ◌∙◌, subst, arith}
+use Rattle.std.proofs.Common.{◌≡◌, ◌≢◌, ℕ, ◌-◌, Bool, false, true, not, List, [], ◌∷◌, ◌++◌, length, Option, Some, None, IsSome, Contains, slice_get, ◌⊎◌, inl, inr, refl, sym, ap, ◌∙◌, subst}
 use Rattle.std.proofs.lemmas.Bool.{cases_Bool, cases_eq, false≢true}
 use Rattle.std.proofs.lemmas.List.Elements.{Contains-append_left, Contains-push, Contains-push_cases}
-use Rattle.std.proofs.lemmas.List.{length-append}
-use Rattle.std.proofs.lemmas.List.Sums.{sum_by-set}
 use Rattle.slab.specs.Slab.{ContainsKey, Slab, Updates, get, with_value}
-use Rattle.slab.proofs.SlabLemmas.{ContainsKey-within, Updates-with_value}
-use Rattle.palm_base.proofs.cited.Members.{member_get, member_here, member_same, member_single}
+use Rattle.slab.proofs.SlabLemmas.{Updates-with_value}
+use Rattle.palm_base.proofs.cited.Members.{member_cases, member_get, member_here, member_same, member_single}
 use Rattle.palm_model.specs.Constraint.{Distinct}
 use Rattle.palm_explain.specs.declared.node.Node.{Node}
-use Rattle.palm_explain.specs.Graph.{HasForgotten, HasLinked, IsKey, IsReady, IsReadyAt, IsSameNode, IsTailed, IsTakenOut, KeepsRoom, Link, graph_of, has_mark, link_of, marks_of, said}
+use Rattle.palm_explain.specs.Graph.{Graph, HasEnded, HasForgotten, HasLinked, IsDependent, IsKey, IsLast, IsSameNode, IsTailed, IsTakenOut, KeepsRoom, Link, graph_of, has_mark, link_of, marks_of, said}
 use Rattle.palm_explain.specs.Lost.{kept_of}
-use Rattle.palm_explain.proofs.Entered.{place_last}
+use Rattle.palm_explain.proofs.Changes.{same_then}
 use Rattle.palm_explain.proofs.Graphs.{link_same, some_same}
 use Rattle.palm_explain.proofs.Unmarked.{distinct_filter, kept_member, member_kept}
 
@@ -63,16 +61,12 @@ module _ (s : Slab Node) (k : ℕ) (n v : Node) (at : get s k ≡ Some n) where
   pub same_marks : v.mark ≡ n.mark → marks_of (with_value s k v) ≡ marks_of s
   same_marks same = λ i j. same_everywhere has_mark same j i
 
-  pub same_room : KeepsRoom s (with_value s k v)
-  same_room =
-      let within = ContainsKey-within s k (node_there s k n at) in
-      let sums = sum_by-set (λ o. cond (is_some o) 1 0) s.slots k (Some v) None within in
-      let slot : Option Node → ℕ = λ o. cond (is_some o) 1 0 in
-      let one : slot (get s k) ≡ slot (Some n) = ap slot at in record {
-        len = omega (arith, sums, one);
-        capacity = refl;
-        vacant_key = refl;
-      }
+  -- a key stays one
+  pub same_key : (j : ℕ) → IsKey (graph_of s) j → IsKey (graph_of (with_value s k v)) j
+  same_key j key = elim (cases_eq j k) [
+    | inl e ↦ (said v, ap (graph_of (with_value s k v)) e ∙ ap link_of here)
+    | inr differs ↦ (key.0, ap link_of (elsewhere j differs) ∙ key.1)
+  ]
 
 -- ---- dependents
 
@@ -155,6 +149,60 @@ module _ (s t : Slab Node) (k : ℕ) (n v : Node) (at : get s k ≡ Some n) (the
     once = dependents_by (IsTailed key) tailed;
   }
 
+  -- the key stands behind the dependents, or they are the same
+  pub ends : (key : ℕ) → (v.dependents.items ≡ n.dependents.items) ⊎ ((v.dependents.items ≡ n.dependents.items ++ key ∷ []) × (IsLast n.dependents.items key → ⊥)) → HasEnded (graph_of s) (graph_of t) (k ∷ []) key
+  ends key now = record {
+    none = vacant;
+    some = λ j l is. elim (cases_eq j k) [
+      | inl e ↦
+          let r = same_node l (subst (λ i. graph_of s i ≡ Some l) e is) in (
+            r.0,
+            subst (λ i. graph_of t i ≡ Some r.0) (sym e) r.1,
+            r.2,
+            elim now [
+              | inl same ↦ inl (r.3 ∙ same ∙ sym r.4)
+              | inr more ↦ inr (
+                member_same (k ∷ []) k j (sym e) (member_here k []),
+                r.3 ∙ more.0 ∙ ap (λ ds. ds ++ key ∷ []) (sym r.4),
+                λ last. more.1 (subst (λ ds. IsLast ds key) r.4 last),
+              )
+            ],
+          )
+      | inr differs ↦ (l, ap link_of (others j differs) ∙ is, itself l, inl refl)
+    ];
+  }
+
+  -- a graph without the key comes one step nearer where the key is taken off the end
+  pub nearer : (g : Graph) (antecedents : List ℕ) (key : ℕ) → HasEnded g (graph_of s) (k ∷ antecedents) key → ((j : ℕ) → IsDependent g key j → ⊥)
+      → ((IsLast n.dependents.items key → ⊥) → v.dependents.items ≡ n.dependents.items) → ((ds : List ℕ) → n.dependents.items ≡ ds ++ key ∷ [] → v.dependents.items ≡ ds)
+      → HasEnded g (graph_of t) antecedents key
+  nearer g antecedents key ended new stay less = record {
+    none = λ j e. vacant j (ended.none j e);
+    some = λ j l is.
+        let m = ended.some j l is in
+        elim (cases_eq j k) [
+          | inl e ↦
+              let r = same_node m.0 (subst (λ i. graph_of s i ≡ Some m.0) e m.1) in (
+                r.0,
+                subst (λ i. graph_of t i ≡ Some r.0) (sym e) r.1,
+                same_then l m.0 r.0 m.2 r.2,
+                inl (elim m.3 [
+                  | inl same ↦ r.3 ∙ stay (λ last. new j (l, is, member_get l.dependents (length l.dependents - 1) key (subst (λ ds. IsLast ds key) (sym r.4 ∙ same) last))) ∙ sym r.4 ∙ same
+                  | inr more ↦ r.3 ∙ less l.dependents (sym r.4 ∙ more.1)
+                ]),
+              )
+          | inr differs ↦ (
+            m.0,
+            ap link_of (others j differs) ∙ m.1,
+            m.2,
+            elim m.3 [
+              | inl same ↦ inl same
+              | inr more ↦ inr (elim (member_cases k antecedents j more.0) [ inl e ↦ absurd (differs (sym e)) | inr o ↦ o ], more.1, more.2)
+            ],
+          )
+        ];
+  }
+
 -- the dependents with one more, and those without one
 pub pushed_only : (ds : List ℕ) (key d : ℕ) → Contains (ds ++ key ∷ []) d → Contains ds d ⊎ (key ≡ d)
 pushed_only ds key d m = Contains-push_cases ds key d m
@@ -187,15 +235,3 @@ taken_out s t k updates = record {
 
 pub room_then : (s t u : Slab Node) → KeepsRoom s t → KeepsRoom t u → KeepsRoom s u
 room_then s t u a b = record { len = b.len ∙ a.len; capacity = b.capacity ∙ a.capacity; vacant_key = b.vacant_key ∙ a.vacant_key }
-
--- after a push the last dependent is the one that was pushed
-pub ready_pushed : (s : Slab Node) (k key : ℕ) (n v : Node) → get s k ≡ Some n → v.dependents.items ≡ n.dependents.items ++ key ∷ [] → (j : ℕ) → IsReadyAt s key j → IsReadyAt (with_value s k v) key j
-ready_pushed s k key n v at pushed j ready m found = elim (cases_eq j k) [
-  | inl e ↦
-      let same : v ≡ m = some_same v m (sym (here s k n v at) ∙ sym (ap (get (with_value s k v)) e) ∙ found) in
-      let long = ap length pushed in
-      let more = length-append n.dependents.items (key ∷ []) in
-      let last : length v.dependents.items - 1 ≡ length n.dependents.items = omega (arith, long, more) in
-      subst (IsReady key) same (inr (ap (λ i. slice_get v.dependents.items i) last ∙ ap (λ ds. slice_get ds (length n.dependents.items)) pushed ∙ place_last n.dependents.items key))
-  | inr differs ↦ ready m (sym (elsewhere s k n v at j differs) ∙ found)
-]

@@ -1,8 +1,9 @@
 -- How many lost dependents a withdrawal counts at each removal that stays, and which of these lose some.
-use Rattle.std.specs.Prelude.{◌≡◌, ◌⊎◌, ℕ, ◌<◌, ◌≤◌, false, List, length, filter, Option, Some, None, Contains, slice_get}
+use Rattle.std.specs.Prelude.{◌≡◌, ◌⊎◌, ℕ, ◌<◌, ◌≤◌, Bool, true, false, List, length, filter, Option, Some, None, Contains, slice_get}
 use Rattle.slab.specs.Slab.{Slab, get}
+use Rattle.palm_model.specs.Constraint.{Distinct}
 use Rattle.palm_explain.specs.declared.node.Node.{Node}
-use Rattle.palm_explain.specs.Graph.{Graph, IsKey, graph_of, marks_of}
+use Rattle.palm_explain.specs.Graph.{Graph, IsKey, IsSameNode, Link, graph_of, marks_of}
 
 -- the count of the node under a key
 abbrev pub count_or : Option Node → ℕ
@@ -43,3 +44,15 @@ HoldsKeys g room = (ks : List ℕ) → ((i j k : ℕ) → slice_get ks i ≡ Som
 -- no removal that stays has more marked dependents than are counted
 abbrev pub AreCounted : Slab Node → Type 0
 AreCounted nodes = (k : ℕ) (n : Node) → get nodes k ≡ Some n → marks_of nodes k ≡ false → length (filter (marks_of nodes) n.dependents.items) ≤ n.lost
+
+-- marked dependents of a removal are gone, where it stays, and nothing else has changed
+pub record IsLoosened (marks : ℕ → Bool) (k : ℕ) (l m : Link) : Type 0 where
+  pub same : IsSameNode l m
+  pub fewer : (d : ℕ) → Contains m.dependents d → Contains l.dependents d
+  pub left : (d : ℕ) → Contains l.dependents d → Contains m.dependents d ⊎ ((marks d ≡ true) × (marks k ≡ false))
+  pub once : Distinct l.dependents → Distinct m.dependents
+
+-- the same of all removals
+pub record HasLoosened (g : Graph) (marks : ℕ → Bool) (h : Graph) : Type 0 where
+  pub none : (k : ℕ) → g k ≡ None → h k ≡ None
+  pub some : (k : ℕ) (l : Link) → g k ≡ Some l → (m : Link) × (h k ≡ Some m) × IsLoosened marks k l m

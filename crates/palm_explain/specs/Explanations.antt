@@ -1,15 +1,26 @@
 -- The log of removals as its callers see it, what holds of every such log, and how a store of domains goes with it.
-use Rattle.std.specs.Prelude.{◌≡◌, ℕ, ℤ, ⊤, List, [], ◌∷◌, ◌++◌, map, Contains, slice_index_or}
+use Rattle.std.specs.Prelude.{◌≡◌, ℕ, ℤ, ◌≤ℤ◌, ⊤, List, [], ◌∷◌, ◌++◌, map, Contains, slice_index_or}
 use Rattle.palm_base.specs.declared.terms.Pair.{Pair}
 use Rattle.palm_base.specs.declared.terms.Cid.{Cid}
 use Rattle.palm_domain.specs.Rows.{Row, IsDeclared, initial_of, present_of}
 use Rattle.palm_model.specs.Domains.{without}
 use Rattle.palm_model.specs.Log.{Removal, NamesOfPair, log_pairs}
+use Rattle.palm_explain.specs.declared.restored.Restored.{Restored}
 
--- the removals, the oldest first, and the variables of which the last withdrawal put values back
+-- the removals, the oldest first, and what the last withdrawal told of the variables of which it put values back
 pub record Explanations : Type 0 where
   pub log : List Removal
-  pub restored : List ℕ
+  pub restored : List Restored
+
+-- ---- what was put back
+
+-- the variables
+abbrev pub restored_vars : List Restored → List ℕ
+restored_vars restored = map (λ r. r.var) restored
+
+-- the value lies between those that are told of its variable
+abbrev pub IsSpanned : List Restored → Pair → Type 0
+IsSpanned restored p = (r : Restored) × Contains restored r × (r.var ≡ p.var) × (r.low ≤ℤ p.value) × (p.value ≤ℤ r.high)
 
 -- ---- logs
 

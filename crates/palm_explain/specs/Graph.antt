@@ -1,5 +1,5 @@
 -- The graph of the removals: what each node says, the log as the keys of its nodes, and how the two go together.
-use Rattle.std.specs.Prelude.{◌≡◌, ◌≢◌, ℕ, ℤ, pos, ◌-◌, ◌<◌, ◌≤◌, ◌⊎◌, Bool, true, false, not, List, [], map, filter, take, length, Option, Some, None, Contains, slice_get, slice_index_or, vec_len, vec_capacity}
+use Rattle.std.specs.Prelude.{◌≡◌, ◌≢◌, ℕ, ℤ, pos, ◌+◌, ◌-◌, ◌<◌, ◌≤◌, ◌⊎◌, Bool, true, false, not, List, [], ◌∷◌, ◌++◌, map, filter, take, length, Option, Some, None, Contains, slice_get, slice_index_or}
 use Rattle.slab.specs.Slab.{Slab, get, slab_len}
 use Rattle.palm_base.specs.declared.terms.Pair.{Pair}
 use Rattle.palm_base.specs.declared.terms.Cid.{Cid}
@@ -145,6 +145,16 @@ pub record HasLinked (g h : Graph) (antecedents : List ℕ) (key : ℕ) : Type 0
       × ((d : ℕ) → Contains l.dependents d ⊎ ((key ≡ d) × Contains antecedents k) → Contains m.dependents d)
   pub once : (k : ℕ) (l m : Link) → g k ≡ Some l → h k ≡ Some m → IsTailed key l.dependents → IsTailed key m.dependents
 
+-- the key is the last one
+abbrev pub IsLast : List ℕ → ℕ → Type 0
+IsLast keys key = slice_get keys (length keys - 1) ≡ Some key
+
+-- the removal under the key stands behind the dependents of some of these, of which it was not the last, and nothing else has changed
+pub record HasEnded (g h : Graph) (antecedents : List ℕ) (key : ℕ) : Type 0 where
+  pub none : (k : ℕ) → g k ≡ None → h k ≡ None
+  pub some : (k : ℕ) (l : Link) → g k ≡ Some l → (m : Link) × (h k ≡ Some m) × IsSameNode l m
+      × ((m.dependents ≡ l.dependents) ⊎ (Contains antecedents k × (m.dependents ≡ l.dependents ++ key ∷ []) × (IsLast l.dependents key → ⊥)))
+
 -- the removals under k have lost exactly the dependents d that are gone for them, and nothing else has changed
 pub record HasForgotten (g h : Graph) (Gone : ℕ → ℕ → Type 0) : Type 0 where
   pub none : (k : ℕ) → g k ≡ None → h k ≡ None
@@ -193,13 +203,6 @@ pub record IsStored (nodes : Slab Node) (keys : List ℕ) (rows : List Row) (spa
 
 -- ---- room
 
--- there is room for one more dependent, or the last one is this
-abbrev pub IsReady : ℕ → Node → Type 0
-IsReady key n = (vec_len n.dependents < vec_capacity n.dependents) ⊎ (slice_get n.dependents.items (length n.dependents.items - 1) ≡ Some key)
-
-abbrev pub IsReadyAt : Slab Node → ℕ → ℕ → Type 0
-IsReadyAt nodes key k = (n : Node) → get nodes k ≡ Some n → IsReady key n
-
 -- as many nodes, and as much room for more
 pub record KeepsRoom (old new : Slab Node) : Type 0 where
   pub len : slab_len new ≡ slab_len old
@@ -221,3 +224,10 @@ AreBefore g due place = (k : ℕ) → due k ≡ true → (l : Link) × (g k ≡ 
 -- whether the place is noted
 abbrev pub is_due : List Bool → ℕ → Bool
 is_due due place = slice_index_or due place false
+
+-- the keys of the first so many reasons' removals, and room for those of the others
+pub record HasFirst (g : Graph) (reasons : List Pair) (count : ℕ) (keys : List ℕ) (room : ℕ) : Type 0 where
+  pub within : count ≤ length reasons
+  pub pairs : map (pair_at g) keys ≡ take count reasons
+  pub all : (k : ℕ) → Contains keys k → IsKey g k
+  pub fits : length keys + (length reasons - count) ≤ room

@@ -1,21 +1,21 @@
--- The variables of which a withdrawal put values back: a list, and a flag in the row of each of them.
-use Rattle.std.specs.Prelude.{◌≡◌, ℕ, Bool, false, List, length, Option, Some, None, Contains, slice_get}
-use Rattle.palm_base.specs.Tells.{Tells}
+-- The variables of which a withdrawal put values back: a list, and in the row of each of them its place there.
+use Rattle.std.specs.Prelude.{◌≡◌, ℕ, List, length, Option, Some, None, slice_get}
 use Rattle.palm_base.specs.declared.terms.Pair.{Pair}
+use Rattle.palm_explain.specs.declared.restored.Restored.{Restored}
 use Rattle.palm_explain.specs.declared.rows.Row.{Row}
 use Rattle.palm_explain.specs.Rows.{AreFormedRows, key_at}
 
--- whether the flag of a variable stands
-abbrev pub flag_or : Option Row → Bool
-flag_or None = false
-flag_or (Some r) = r.restored
+-- the place that the row of a variable says
+abbrev pub slot_or : Option Row → ℕ
+slot_or None = 0
+slot_or (Some r) = r.slot
 
-abbrev pub flag_at : List Row → ℕ → Bool
-flag_at rows x = flag_or (slice_get rows x)
+abbrev pub slot_at : List Row → ℕ → ℕ
+slot_at rows x = slot_or (slice_get rows x)
 
--- the flags of exactly these variables stand
-abbrev pub AreFlagged : List Row → List ℕ → Type 0
-AreFlagged rows vars = (x : ℕ) → Tells (flag_at rows x) (Contains vars x)
+-- each of these stands where its row says
+abbrev pub AreSlotted : List Row → List Restored → Type 0
+AreSlotted rows restored = (i : ℕ) (r : Restored) → slice_get restored i ≡ Some r → slot_at rows r.var ≡ i
 
 -- as many rows, with the same keys
 pub record KeepsKeys (old new : List Row) : Type 0 where

@@ -1,16 +1,16 @@
-//! How a withdrawal takes what it loses out of the lists of what stays. Along the chain of lost removals it counts first how many of
-//! them each list of dependents has, and lists the removals that stay and lose some. Then each of their lists is passed once, from
-//! its end, and no other list. Mostly the lost ones stand last, and are cut off.
-ghost use Rattle.std.specs.Prelude.{◌≡◌, ◌⊎◌, ℕ, ◌+◌, ◌-◌, ◌<◌, ◌≤◌, List, Some, true, false, [], ◌∷◌, ◌++◌, length, filter, take, slice_get, slice_set, vec_capacity, Contains};
+//! How a withdrawal takes what it loses out of the lists of what stays. From the end of the log on it takes each lost removal off the
+//! dependents of its antecedents, where it is the last one of them, as it mostly is. It counts it at the others, and lists these. Then
+//! each of their lists is passed once, and no other list. Mostly the lost ones stand first there, where an older constraint goes.
+ghost use Rattle.std.specs.Prelude.{◌≡◌, ◌⊎◌, ℕ, ◌+◌, ◌-◌, ◌<◌, ◌≤◌, List, Some, true, false, [], ◌∷◌, ◌++◌, length, filter, take, drop, slice_get, slice_set, vec_capacity, Contains};
 ghost use Rattle.palm_base.specs.declared.terms.Cid.{Cid as CidTerm};
 ghost use Rattle.palm_model.specs.Constraint.{Distinct};
 ghost use Rattle.palm_explain.specs.Chain.{IsLine, nexts_of};
-ghost use Rattle.palm_explain.specs.Counts.{AreCounted, AreNoted, HasCounted, HoldsKeys, counts_of};
-ghost use Rattle.palm_explain.specs.Graph.{HasForgotten, IsAntecedent, IsBy, IsGraph, IsKey, graph_of, marks_of};
+ghost use Rattle.palm_explain.specs.Counts.{AreCounted, AreNoted, HasCounted, HasLoosened, HoldsKeys, counts_of};
+ghost use Rattle.palm_explain.specs.Graph.{AreOnce, HasForgotten, IsAntecedent, IsBy, IsDependent, IsGraph, IsKey, Link, graph_of, marks_of};
 ghost use Rattle.palm_explain.specs.Lost.{kept_of};
 ghost use Rattle.palm_explain.specs.Threads.{AreFormedThreads, AreThreaded, thread_of};
 
-use crate::node::{Nodes, count_dependent, is_by, is_marked, set_at};
+use crate::node::{Nodes, is_by, is_marked, loosen, set_at};
 use crate::threads::Threads;
 use palm_base::Cid;
 use std::mem;
@@ -65,93 +65,69 @@ pub(crate) fn forget_threads(
     }
 }
 
-/// Counts one more lost dependent of each of the removals that stays, and lists these.
+/// Takes a lost removal off the dependents of each of these that stays, where it is the last; it is counted at the others, which are
+/// listed.
 #[inline(always)]
-fn count_each(nodes: &mut Nodes, losing: &mut Vec<u32>, keys: &[u32])
-    requires keys { (k : ℕ) → Contains keys.now k → IsKey (graph_of nodes.old) k }
+fn loosen_each(nodes: &mut Nodes, losing: &mut Vec<u32>, antecedents: &[u32], key: u32)
+    requires keys { (k : ℕ) → Contains antecedents.now k → IsKey (graph_of nodes.old) k }
+    requires lost { marks_of nodes.old key ≡ true }
+    requires once { AreOnce (graph_of nodes.old) }
     requires noted { AreNoted nodes.old losing.old.items }
     requires room { HoldsKeys (graph_of nodes.old) (vec_capacity losing.old) }
-    ensures graph { graph_of nodes.new ≡ graph_of nodes.old }
+    ensures loosened { HasLoosened (graph_of nodes.old) (marks_of nodes.old) (graph_of nodes.new) }
     ensures marks { marks_of nodes.new ≡ marks_of nodes.old }
-    ensures nexts { nexts_of nodes.new ≡ nexts_of nodes.old }
     ensures counted { HasCounted (counts_of nodes.old) (counts_of nodes.new) losing.old.items losing.new.items
-        (λ k. (marks_of nodes.old k ≡ false) × Contains keys.now k) }
+        (λ k. (marks_of nodes.old k ≡ false) × Contains antecedents.now k × IsDependent (graph_of nodes.new) key k) }
     ensures noted { AreNoted nodes.new losing.new.items }
     ensures room { vec_capacity losing.new ≡ vec_capacity losing.old }
 {
-    for key in keys {
-        count_dependent(nodes, losing, *key);
+    for antecedent in antecedents {
+        loosen(nodes, losing, *antecedent, key);
     }
 }
 
-/// Counts a lost removal at each of its antecedents that stays, and lists these. (Their list is taken out meanwhile, so that it is
-/// looked up once.)
-fn count_at(nodes: &mut Nodes, losing: &mut Vec<u32>, key: u32)
+/// The same of its antecedents, where it is lost. (Their list is taken out meanwhile, so that it is looked up once.)
+fn loosen_at(nodes: &mut Nodes, losing: &mut Vec<u32>, key: u32)
     requires key { IsKey (graph_of nodes.old) key }
     requires keys { (c : ℕ) → IsAntecedent (graph_of nodes.old) c key → IsKey (graph_of nodes.old) c }
+    requires once { AreOnce (graph_of nodes.old) }
     requires noted { AreNoted nodes.old losing.old.items }
     requires room { HoldsKeys (graph_of nodes.old) (vec_capacity losing.old) }
-    ensures graph { graph_of nodes.new ≡ graph_of nodes.old }
+    ensures loosened { HasLoosened (graph_of nodes.old) (marks_of nodes.old) (graph_of nodes.new) }
     ensures marks { marks_of nodes.new ≡ marks_of nodes.old }
-    ensures nexts { nexts_of nodes.new ≡ nexts_of nodes.old }
     ensures counted { HasCounted (counts_of nodes.old) (counts_of nodes.new) losing.old.items losing.new.items
-        (λ c. (marks_of nodes.old c ≡ false) × IsAntecedent (graph_of nodes.old) c key) }
+        (λ k. (marks_of nodes.old key ≡ true) × (marks_of nodes.old k ≡ false) × IsAntecedent (graph_of nodes.old) k key × IsDependent (graph_of nodes.new) key k) }
     ensures noted { AreNoted nodes.new losing.new.items }
     ensures room { vec_capacity losing.new ≡ vec_capacity losing.old }
 {
     let node = &mut nodes[key as usize];
+    if !node.mark {
+        return;
+    }
     let none = Vec::new(*node.antecedents.allocator());
     let antecedents = mem::replace(&mut node.antecedents, none);
-    count_each(nodes, losing, &antecedents);
+    loosen_each(nodes, losing, &antecedents, key);
     nodes[key as usize].antecedents = antecedents;
 }
 
-/// Counts the removals of the chain at those of their antecedents that stay, and lists these.
-pub(crate) fn count_lost(
-    nodes: &mut Nodes,
-    losing: &mut Vec<u32>,
-    log: &[u32],
-    first: u32,
-    count: usize,
-)
+/// The same of each lost removal, from the last one of the log on: the later ones mostly stand last.
+fn loosen_lost(nodes: &mut Nodes, losing: &mut Vec<u32>, log: &[u32], start: usize)
     requires graph { IsGraph (graph_of nodes.old) log.now }
-    requires line { (chain : List ℕ) × IsLine nodes.old first count chain }
     requires none { losing.old.items ≡ [] }
     requires room { length log.now ≤ vec_capacity losing.old }
-    ensures graph { graph_of nodes.new ≡ graph_of nodes.old }
+    requires earliest { (k : ℕ) (l : Link) → marks_of nodes.old k ≡ true → graph_of nodes.old k ≡ Some l → start ≤ l.place }
+    ensures loosened { HasLoosened (graph_of nodes.old) (marks_of nodes.old) (graph_of nodes.new) }
     ensures marks { marks_of nodes.new ≡ marks_of nodes.old }
     ensures counted { AreCounted nodes.new }
     ensures noted { AreNoted nodes.new losing.new.items }
-    ensures whole { (k d : ℕ) → marks_of nodes.old k ≡ false → marks_of nodes.old d ≡ true → IsAntecedent (graph_of nodes.old) k d
-        → Contains losing.new.items k }
+    ensures whole { (k d : ℕ) → marks_of nodes.old k ≡ false → marks_of nodes.old d ≡ true → IsDependent (graph_of nodes.new) d k → Contains losing.new.items k }
     ensures room { vec_capacity losing.new ≡ vec_capacity losing.old }
 {
-    let mut key = first;
-    let mut place = 0;
-    while place < count {
-        count_at(nodes, losing, key);
-        key = nodes[key as usize].next;
-        place += 1;
+    let mut place = log.len();
+    while place > start {
+        place -= 1;
+        loosen_at(nodes, losing, log[place]);
     }
-}
-
-/// The end of the keys without the marked ones that stand last, where so many are marked, or fewer.
-fn end_of_kept(nodes: &Nodes, keys: &[u32], lost: usize) -> usize
-    requires { length (filter (marks_of nodes.now) keys.now) ≤ lost }
-    ensures within { result ≤ length keys.now }
-    ensures kept { kept_of (marks_of nodes.now) (take result keys.now) ≡ kept_of (marks_of nodes.now) keys.now }
-    ensures left { length (filter (marks_of nodes.now) (take result keys.now)) + (length keys.now - result) ≤ lost }
-{
-    let mut end = keys.len();
-    let mut left = lost;
-    while end > 0 && left > 0 {
-        if !is_marked(nodes, keys[end - 1]) {
-            return end;
-        }
-        end -= 1;
-        left -= 1;
-    }
-    end
 }
 
 /// The first place at which a marked one may stand, where so many are marked, or fewer.
@@ -187,11 +163,43 @@ fn keep_at(nodes: &Nodes, keys: &mut Vec<u32>, place: usize, end: usize) -> usiz
     end + 1
 }
 
-/// Takes the marked ones out, where so many are marked, or fewer. The others keep their order.
+/// Whether the first keys are all marked, so many of them.
+fn begins_marked(nodes: &Nodes, keys: &[u32], count: usize) -> bool
+    ensures { result ≡ true → (count ≤ length keys.now) × (length (filter (marks_of nodes.now) (take count keys.now)) ≡ count) }
+{
+    if keys.len() < count {
+        return false;
+    }
+    let mut place = 0;
+    while place < count {
+        if !is_marked(nodes, keys[place]) {
+            return false;
+        }
+        place += 1;
+    }
+    true
+}
+
+/// Cuts the first keys off, so many of them.
+fn cut_front(keys: &mut Vec<u32>, count: usize)
+    requires { count ≤ length keys.old.items }
+    ensures { keys.new.items ≡ drop count keys.old.items }
+{
+    let len = keys.len();
+    keys.copy_within(count..len, 0);
+    keys.truncate(len - count);
+}
+
+/// Takes the marked ones out, where so many are marked, or fewer. The others keep their order. Often the marked ones stand first, and
+/// the others are not looked at.
 fn keep_unmarked(nodes: &Nodes, keys: &mut Vec<u32>, lost: usize)
     requires { length (filter (marks_of nodes.now) keys.old.items) ≤ lost }
     ensures { keys.new.items ≡ kept_of (marks_of nodes.now) keys.old.items }
 {
+    if begins_marked(nodes, keys, lost) {
+        cut_front(keys, lost);
+        return;
+    }
     let start = place_of_lost(nodes, keys, lost);
     let mut end = start;
     for place in start..keys.len() {
@@ -219,39 +227,19 @@ fn drop_among(nodes: &mut Nodes, key: u32)
     nodes[key as usize].dependents = dependents;
 }
 
-/// Takes the marked dependents of a removal that is not marked out. Mostly all of them stand last, and are cut off.
-fn drop_dependents(nodes: &mut Nodes, key: u32)
-    requires key { IsKey (graph_of nodes.old) key }
-    requires unmarked { marks_of nodes.old key ≡ false }
-    requires counted { AreCounted nodes.old }
-    ensures forgotten { HasForgotten (graph_of nodes.old) (graph_of nodes.new)
-        (λ k d. (key ≡ k) × (marks_of nodes.old d ≡ true) × (marks_of nodes.old k ≡ false)) }
-    ensures marks { marks_of nodes.new ≡ marks_of nodes.old }
-    ensures counted { AreCounted nodes.new }
-{
-    let node = &nodes[key as usize];
-    let kept = end_of_kept(nodes, &node.dependents, node.lost);
-    if node.dependents.len() - kept < node.lost {
-        drop_among(nodes, key);
-        return;
-    }
-    let node = &mut nodes[key as usize];
-    node.lost = 0;
-    node.dependents.truncate(kept);
-}
-
-/// Takes the marked removals out of the dependents of the others, where all that lose some are listed.
-pub(crate) fn forget_lost(nodes: &mut Nodes, log: &[u32], losing: &[u32])
+/// Takes the marked removals, none of which stands before the start, out of the dependents of the others.
+pub(crate) fn forget_lost(nodes: &mut Nodes, losing: &mut Vec<u32>, log: &[u32], start: usize)
     requires graph { IsGraph (graph_of nodes.old) log.now }
-    requires counted { AreCounted nodes.old }
-    requires noted { AreNoted nodes.old losing.now }
-    requires whole { (k d : ℕ) → marks_of nodes.old k ≡ false → marks_of nodes.old d ≡ true → IsAntecedent (graph_of nodes.old) k d
-        → Contains losing.now k }
+    requires none { losing.old.items ≡ [] }
+    requires room { length log.now ≤ vec_capacity losing.old }
+    requires earliest { (k : ℕ) (l : Link) → marks_of nodes.old k ≡ true → graph_of nodes.old k ≡ Some l → start ≤ l.place }
     ensures forgotten { HasForgotten (graph_of nodes.old) (graph_of nodes.new)
         (λ k d. (marks_of nodes.old d ≡ true) × (marks_of nodes.old k ≡ false) × IsAntecedent (graph_of nodes.old) k d) }
     ensures marks { marks_of nodes.new ≡ marks_of nodes.old }
+    ensures room { vec_capacity losing.new ≡ vec_capacity losing.old }
 {
-    for key in losing {
-        drop_dependents(nodes, *key);
+    loosen_lost(nodes, losing, log, start);
+    for key in losing.as_slice() {
+        drop_among(nodes, *key);
     }
 }

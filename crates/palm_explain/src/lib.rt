@@ -9,6 +9,7 @@ mod keys;
 mod laws;
 mod marking;
 mod node;
+mod restored;
 mod rows;
 mod store;
 mod threads;
@@ -20,4 +21,5 @@ pub use laws::{
     full_stores_lack_nothing, stores_lack_what_is_taken_out, well_founded_logs_are_linked,
     withdrawals_add_up,
 };
+pub use restored::Restored;
 pub use store::ExplainStore;

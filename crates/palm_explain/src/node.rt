@@ -1,10 +1,11 @@
 //! The nodes of the graph: what is kept of each removal.
-ghost use Rattle.std.specs.Prelude.{◌≡◌, ◌≢◌, ℕ, false, [], ◌∷◌, OnOk, vec_capacity};
+ghost use Rattle.std.specs.Prelude.{◌≡◌, ◌≢◌, ℕ, List, true, false, [], ◌∷◌, OnErr, OnOk, vec_capacity};
 ghost use Rattle.slab.specs.Slab.{get};
 ghost use Rattle.palm_base.specs.Order.{same_cid};
+ghost use Rattle.palm_base.specs.Tells.{Tells};
 ghost use Rattle.palm_explain.specs.Chain.{nexts_of};
-ghost use Rattle.palm_explain.specs.Counts.{AreNoted, HasCounted, HoldsKeys, IsCountedAt, counts_of};
-ghost use Rattle.palm_explain.specs.Graph.{HasLinked, IsKey, IsMoved, IsReadyAt, KeepsRoom, graph_of, marks_of};
+ghost use Rattle.palm_explain.specs.Counts.{AreNoted, HasCounted, HasLoosened, HoldsKeys, IsCountedAt, counts_of};
+ghost use Rattle.palm_explain.specs.Graph.{AreOnce, Graph, HasEnded, HasLinked, IsDependent, IsKey, IsLast, IsMoved, KeepsRoom, graph_of, marks_of};
 
 use crate::keys::has_at;
 use palm_base::{Cid, NoMemory, Pair};
@@ -78,38 +79,50 @@ pub(crate) fn set_place(nodes: &mut Nodes, key: u32, place: usize)
     nodes[key as usize].place = place;
 }
 
-/// Makes room for one more dependent of a removal.
+/// Whether the key is the last one.
 #[inline(always)]
-pub(crate) fn reserve_dependent(
-    nodes: &mut Nodes,
-    antecedent: u32,
-    key: u32,
-) -> Result<(), NoMemory>
-    requires { IsKey (graph_of nodes.old) antecedent }
-    ensures graph { graph_of nodes.new ≡ graph_of nodes.old }
-    ensures marks { marks_of nodes.new ≡ marks_of nodes.old }
-    ensures ready { OnOk result (IsReadyAt nodes.new key antecedent) }
-    ensures others { (k : ℕ) → k ≢ antecedent → get nodes.new k ≡ get nodes.old k }
-    ensures room { KeepsRoom nodes.old nodes.new }
+fn ends_with(keys: &[u32], key: u32) -> bool
+    ensures { Tells result (IsLast keys.now key) }
 {
-    nodes[antecedent as usize].dependents.reserve(1)?;
-    Ok(())
+    match keys.last() {
+        Some(last) => *last == key,
+        None => false,
+    }
 }
 
-/// Adds a dependent of a removal behind the others, unless it is the last.
+/// Adds a dependent of a removal behind the others, unless it is the last. Without memory nothing changes.
 #[inline(always)]
-pub(crate) fn add_dependent(nodes: &mut Nodes, antecedent: u32, key: u32)
-    requires key { IsKey (graph_of nodes.old) antecedent }
-    requires ready { IsReadyAt nodes.old key antecedent }
-    ensures linked { HasLinked (graph_of nodes.old) (graph_of nodes.new) (antecedent ∷ []) key }
+pub(crate) fn add_dependent(nodes: &mut Nodes, antecedent: u32, key: u32) -> Result<(), NoMemory>
+    requires { IsKey (graph_of nodes.old) antecedent }
+    ensures linked { OnOk result (HasLinked (graph_of nodes.old) (graph_of nodes.new) (antecedent ∷ []) key) }
+    ensures ends { OnOk result (HasEnded (graph_of nodes.old) (graph_of nodes.new) (antecedent ∷ []) key) }
+    ensures err { OnErr result (graph_of nodes.new ≡ graph_of nodes.old) }
     ensures marks { marks_of nodes.new ≡ marks_of nodes.old }
-    ensures ready { (k : ℕ) → IsReadyAt nodes.old key k → IsReadyAt nodes.new key k }
     ensures room { KeepsRoom nodes.old nodes.new }
 {
     let dependents = &mut nodes[antecedent as usize].dependents;
-    match dependents.last() {
-        Some(last) if *last == key => {}
-        _ => dependents.push_reserved(key),
+    if ends_with(dependents, key) {
+        return Ok(());
+    }
+    if dependents.len() == dependents.capacity() {
+        dependents.reserve(1)?;
+    }
+    dependents.push_reserved(key);
+    Ok(())
+}
+
+/// Takes a dependent of a removal off, where it is the last.
+pub(crate) fn drop_last(nodes: &mut Nodes, antecedent: u32, key: u32)
+    requires { IsKey (graph_of nodes.old) antecedent }
+    ensures nearer { (g : Graph) (others : List ℕ) → HasEnded g (graph_of nodes.old) (antecedent ∷ others) key → ((k : ℕ) → IsDependent g key k → ⊥)
+        → HasEnded g (graph_of nodes.new) others key }
+    ensures keys { (k : ℕ) → IsKey (graph_of nodes.old) k → IsKey (graph_of nodes.new) k }
+    ensures marks { marks_of nodes.new ≡ marks_of nodes.old }
+    ensures room { KeepsRoom nodes.old nodes.new }
+{
+    let dependents = &mut nodes[antecedent as usize].dependents;
+    if ends_with(dependents, key) {
+        let _ = dependents.pop();
     }
 }
 
@@ -124,30 +137,36 @@ fn one_more(count: usize) -> usize
     count
 }
 
-/// Counts one more lost dependent of a removal, unless it is lost itself, and lists it where it is not listed.
+/// Takes a lost removal off the dependents of one of its antecedents, where it is the last of them. Otherwise it is counted there, and
+/// the antecedent is listed where it is not listed. One that is lost itself is passed over.
 #[inline(always)]
-pub(crate) fn count_dependent(nodes: &mut Nodes, losing: &mut Vec<u32>, key: u32)
-    requires key { IsKey (graph_of nodes.old) key }
+pub(crate) fn loosen(nodes: &mut Nodes, losing: &mut Vec<u32>, antecedent: u32, key: u32)
+    requires key { IsKey (graph_of nodes.old) antecedent }
+    requires lost { marks_of nodes.old key ≡ true }
+    requires once { AreOnce (graph_of nodes.old) }
     requires noted { AreNoted nodes.old losing.old.items }
     requires room { HoldsKeys (graph_of nodes.old) (vec_capacity losing.old) }
-    ensures graph { graph_of nodes.new ≡ graph_of nodes.old }
+    ensures loosened { HasLoosened (graph_of nodes.old) (marks_of nodes.old) (graph_of nodes.new) }
     ensures marks { marks_of nodes.new ≡ marks_of nodes.old }
-    ensures nexts { nexts_of nodes.new ≡ nexts_of nodes.old }
     ensures counted { HasCounted (counts_of nodes.old) (counts_of nodes.new) losing.old.items losing.new.items
-        (λ k. (marks_of nodes.old k ≡ false) × (key ≡ k)) }
+        (λ k. (marks_of nodes.old k ≡ false) × (antecedent ≡ k) × IsDependent (graph_of nodes.new) key k) }
     ensures noted { AreNoted nodes.new losing.new.items }
     ensures room { vec_capacity losing.new ≡ vec_capacity losing.old }
 {
-    let node = &mut nodes[key as usize];
+    let node = &mut nodes[antecedent as usize];
     if node.mark {
         return;
     }
+    if ends_with(&node.dependents, key) {
+        let _ = node.dependents.pop();
+        return;
+    }
     node.lost = one_more(node.lost);
-    if has_at(losing, node.slot, key) {
+    if has_at(losing, node.slot, antecedent) {
         return;
     }
     node.slot = losing.len();
-    losing.push_reserved(key);
+    losing.push_reserved(antecedent);
 }
 
 /// Notes where the key of a removal stands in the thread of its constraint.

@@ -1,7 +1,7 @@
 //! The keys of removed pairs, in a row for each variable, so that none is looked up by hashing.
-ghost use Rattle.std.specs.Prelude.{◌≡◌, ◌≢◌, ℕ, ℤ, ◌<◌, ◌≤◌, true, false, None, Some, length, slice_index_or, MatchOption, OnOk};
+ghost use Rattle.std.specs.Prelude.{◌≡◌, ◌≢◌, ℕ, ℤ, ◌<◌, ◌≤◌, true, None, Some, length, slice_index_or, MatchOption, OnOk};
 ghost use Rattle.palm_base.specs.declared.terms.Pair.{Pair as PairTerm};
-ghost use Rattle.palm_explain.specs.Restored.{KeepsKeys, flag_at};
+ghost use Rattle.palm_explain.specs.Restored.{KeepsKeys, slot_at};
 ghost use Rattle.palm_explain.specs.Rows.{AreFormedRows, IsFormedRow, key_at, key_in};
 
 use palm_base::{NoMemory, Pair, Value, Var};
@@ -12,20 +12,19 @@ use std::alloc::{AllocError, AllocFailed, Global};
 pub(crate) struct Row {
     values: Vec<Value>,
     keys: Vec<u32>,
-    /// Stands while the last withdrawal has the variable among those of which it put values back.
-    restored: bool,
+    /// Where the variable stands in the list of those of which the last withdrawal put values back, if it is there.
+    slot: usize,
 }
 
 impl Row {
     fn new(alloc: Global) -> Row
         ensures formed { IsFormedRow result }
         ensures none { (v : ℤ) → key_in result.values.items result.keys.items v ≡ None }
-        ensures flag { result.restored ≡ false }
     {
         Row {
             values: Vec::new(alloc),
             keys: Vec::new(alloc),
-            restored: false,
+            slot: 0,
         }
     }
 
@@ -54,7 +53,7 @@ impl Row {
 
     /// The key of a value, which is looked for first near a place.
     #[inline(always)]
-    fn key_near(&self, value: Value, near: &mut usize) -> Option<u32>
+    pub(crate) fn key_near(&self, value: Value, near: &mut usize) -> Option<u32>
         requires { IsFormedRow self.now }
         ensures { result ≡ key_in self.now.values.items self.now.keys.items value }
     {
@@ -79,7 +78,6 @@ impl Row {
         ensures there { OnOk result (key_in self.new.values.items self.new.keys.items value ≡ Some key) }
         ensures others { (v : ℤ) → (v ≡ value → ⊥)
             → key_in self.new.values.items self.new.keys.items v ≡ key_in self.old.values.items self.old.keys.items v }
-        ensures flag { self.new.restored ≡ self.old.restored }
     {
         match self.values.binary_search(&value) {
             Ok(place) => self.keys[place] = key,
@@ -118,7 +116,6 @@ fn reach(rows: &mut Vec<Row>, variables: usize) -> Result<(), NoMemory>
     requires { AreFormedRows rows.old.items }
     ensures formed { AreFormedRows rows.new.items }
     ensures same { (p : PairTerm) → key_at rows.new.items p ≡ key_at rows.old.items p }
-    ensures flags { (x : ℕ) → flag_at rows.new.items x ≡ flag_at rows.old.items x }
     ensures reached { OnOk result (variables ≤ length rows.new.items) }
 {
     while rows.len() < variables {
@@ -134,7 +131,6 @@ pub(crate) fn put_key(rows: &mut Vec<Row>, pair: &Pair, key: u32) -> Result<(), 
     ensures formed { AreFormedRows rows.new.items }
     ensures there { OnOk result (key_at rows.new.items pair.now ≡ Some key) }
     ensures others { (p : PairTerm) → (p ≡ pair.now → ⊥) → key_at rows.new.items p ≡ key_at rows.old.items p }
-    ensures flags { (x : ℕ) → flag_at rows.new.items x ≡ flag_at rows.old.items x }
 {
     let place = pair.var.0 as usize;
     reach(rows, place + 1)?;
@@ -142,20 +138,21 @@ pub(crate) fn put_key(rows: &mut Vec<Row>, pair: &Pair, key: u32) -> Result<(), 
     row.put(pair.value, key)
 }
 
-/// Whether the flag of a variable stands.
-pub(crate) fn is_flagged(rows: &[Row], var: Var) -> bool
+/// Where a variable stands in the list of restored ones, if it is there.
+#[inline(always)]
+pub(crate) fn slot_of(rows: &[Row], var: Var) -> usize
     requires { var < length rows.now }
-    ensures { result ≡ flag_at rows.now var }
+    ensures { result ≡ slot_at rows.now var }
 {
-    rows[var.0 as usize].restored
+    rows[var.0 as usize].slot
 }
 
-/// Sets the flag of a variable, or clears it.
-pub(crate) fn set_flag(rows: &mut Vec<Row>, var: Var, flag: bool)
+/// Notes where a variable stands in the list of restored ones.
+pub(crate) fn set_slot(rows: &mut Vec<Row>, var: Var, slot: usize)
     requires { var < length rows.old.items }
     ensures keys { KeepsKeys rows.old.items rows.new.items }
-    ensures flagged { flag_at rows.new.items var ≡ flag }
-    ensures others { (x : ℕ) → x ≢ var → flag_at rows.new.items x ≡ flag_at rows.old.items x }
+    ensures noted { slot_at rows.new.items var ≡ slot }
+    ensures others { (x : ℕ) → x ≢ var → slot_at rows.new.items x ≡ slot_at rows.old.items x }
 {
-    rows[var.0 as usize].restored = flag;
+    rows[var.0 as usize].slot = slot;
 }

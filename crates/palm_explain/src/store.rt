@@ -1,21 +1,23 @@
 //! The log of removals, with what each of them rests on.
-ghost use Rattle.std.specs.Prelude.{◌≡◌, ◌↔◌, ℕ, ℤ, ◌<◌, ◌≤◌, Some, [], ◌∷◌, ◌++◌, length, slice_get, Contains, MatchOption, OnOk, OnErr, vec_len};
+ghost use Rattle.std.specs.Prelude.{◌≡◌, ◌↔◌, ℕ, ℤ, ◌<◌, Some, [], ◌∷◌, ◌++◌, length, slice_get, Contains, MatchOption, OnOk, OnErr, vec_len};
 ghost use Rattle.palm_base.specs.Tells.{Tells};
+ghost use Rattle.palm_base.specs.declared.terms.Pair.{Pair as PairTerm};
 ghost use Rattle.palm_domain.specs.Rows.{initial_of};
 ghost use Rattle.palm_model.specs.Constraint.{Distinct};
 ghost use Rattle.palm_model.specs.Event.{lost_pairs, vars_of};
 ghost use Rattle.palm_model.specs.Log.{IsListOf, Loses, NamesOfPair, log_pairs};
-ghost use Rattle.palm_explain.specs.Explanations.{IsLinked, LacksExactly, NamesOfSome, log_bys, reasons_of};
+ghost use Rattle.palm_explain.specs.Explanations.{IsLinked, IsSpanned, LacksExactly, NamesOfSome, log_bys, reasons_of, restored_vars};
 
 use crate::emptied::Emptied;
-use crate::entering::{antecedents_of, link, make_room};
-use crate::forgetting::{count_lost, forget_lost, forget_threads};
+use crate::entering::{antecedents_of, link, make_room, unlink};
+use crate::forgetting::{forget_lost, forget_threads};
 use crate::marking::mark_lost;
 use crate::node::{Node, Nodes};
+use crate::restored::Restored;
 use crate::rows::{Row, key_of, put_key};
 use crate::threads::Threads;
 use crate::walking::{cids_of, rests_on};
-use crate::withdrawing::{close_up, empty_out, put_back};
+use crate::withdrawing::{close_up, put_back};
 use palm_base::{Cid, CidList, NoMemory, Pair, Value, Var};
 use palm_domain::DomainStore;
 use slab::Slab;
@@ -32,8 +34,8 @@ pub struct ExplainStore {
     log: Vec<u32>,
     rows: Vec<Row>,
     threads: Threads,
-    /// The variables of which the last withdrawal put values back.
-    restored: Vec<Var>,
+    /// The variables of which the last withdrawal put values back, each once.
+    restored: Vec<Restored>,
     /// The removals that stay and lose dependents, while a withdrawal is on its way.
     losing: Vec<u32>,
     emptied: Emptied,
@@ -49,7 +51,7 @@ impl Model for ExplainStore {
 
     ghost view = { λ s. record { log = log_of (graph_of s.nodes) s.log.items; restored = s.restored.items } };
 
-    ghost invariant = { λ s. IsWhole s.nodes s.log.items s.rows.items s.restored.items (vec_capacity s.restored) (vec_capacity s.losing) s.threads };
+    ghost invariant = { λ s. IsWhole s.nodes s.log.items s.rows.items (vec_capacity s.restored) (vec_capacity s.losing) s.threads };
 }
 
 impl ExplainStore {
@@ -89,11 +91,15 @@ impl ExplainStore {
             &mut self.restored,
             &mut self.losing,
             &mut self.emptied,
-            &antecedents,
-            key,
         )?;
-        let at = self.threads.push(&by, key)?;
-        link(&mut self.nodes, &antecedents, key);
+        link(&mut self.nodes, &antecedents, key)?;
+        let at = match self.threads.push(&by, key) {
+            Ok(at) => at,
+            Err(NoMemory) => {
+                unlink(&mut self.nodes, &antecedents, key);
+                return Err(NoMemory);
+            }
+        };
         self.nodes.insert_reserved(Node {
             pair,
             by,
@@ -221,10 +227,10 @@ impl ExplainStore {
         ensures loses { Loses self.old.log (cid ∷ []) self.old.log self.new.log }
         ensures initial { initial_of store.new ≡ initial_of store.old }
         ensures lacks { LacksExactly store.new (log_pairs self.new.log) }
-        ensures once { Distinct self.new.restored }
-        ensures restored { (x : ℕ) → Contains self.new.restored x ↔ Contains (vars_of (lost_pairs self.old.log self.new.log)) x }
+        ensures once { Distinct (restored_vars self.new.restored) }
+        ensures restored { (x : ℕ) → Contains (restored_vars self.new.restored) x ↔ Contains (vars_of (lost_pairs self.old.log self.new.log)) x }
+        ensures within { (p : PairTerm) → Contains (lost_pairs self.old.log self.new.log) p → IsSpanned self.new.restored p }
     {
-        empty_out(&mut self.rows, &mut self.restored);
         let log = self.log.as_slice();
         let own = self.threads.take(&cid);
         let first = own.first().copied().unwrap_or(0);
@@ -240,13 +246,12 @@ impl ExplainStore {
         );
         forget_threads(&mut self.nodes, &mut self.threads, first, count, &cid);
         self.losing.clear();
-        count_lost(&mut self.nodes, &mut self.losing, log, first, count);
-        forget_lost(&mut self.nodes, log, &self.losing);
+        forget_lost(&mut self.nodes, &mut self.losing, log, start);
         close_up(&mut self.nodes, &mut self.log, &mut self.emptied, start);
     }
 
     /// The variables of which the last withdrawal put values back, each once.
-    pub fn restored(&self) -> &[Var]
+    pub fn restored(&self) -> &[Restored]
         ensures { result.now ≡ self.now.restored }
     {
         self.restored.as_slice()

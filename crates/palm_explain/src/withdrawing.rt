@@ -1,38 +1,27 @@
 //! How a withdrawal puts back and takes out what it loses, and closes up the log. A variable of which it puts values back stands in a
-//! list once, by a flag in its row.
-ghost use Rattle.std.specs.Prelude.{◌≡◌, ◌≢◌, ◌⊎◌, ◌↔◌, ℕ, ◌+◌, ◌<◌, ◌≤◌, List, true, false, Some, ◌∷◌, [], length, All, Contains, slice_get, slice_set, vec_capacity, vec_len};
+//! list once: its row says where.
+ghost use Rattle.std.specs.Prelude.{◌≡◌, ◌⊎◌, ◌↔◌, ℕ, ◌+◌, ◌<◌, ◌≤◌, List, true, false, Some, ◌∷◌, [], length, All, Contains, slice_get, slice_set, vec_capacity, vec_len};
+ghost use Rattle.palm_base.specs.declared.terms.Pair.{Pair as PairTerm};
 ghost use Rattle.palm_domain.specs.Rows.{Ascends, IsDeclared, IsPresent, initial_of, present_of};
 ghost use Rattle.palm_model.specs.Constraint.{Distinct};
 ghost use Rattle.palm_model.specs.Event.{vars_of};
 ghost use Rattle.palm_model.specs.Log.{log_pairs};
 ghost use Rattle.palm_explain.specs.Chain.{IsLine};
-ghost use Rattle.palm_explain.specs.Explanations.{LacksExactly};
+ghost use Rattle.palm_explain.specs.Explanations.{IsSpanned, LacksExactly, restored_vars};
 ghost use Rattle.palm_explain.specs.Graph.{AreFound, HasClosedUp, HasNoMark, IsGraph, IsKey, IsMoved, IsPlaced, IsTakenOut, Link, graph_of, log_of, marks_of};
 ghost use Rattle.palm_explain.specs.Lost.{HasBack, lost_of};
-ghost use Rattle.palm_explain.specs.Restored.{AreFlagged, KeepsKeys};
+ghost use Rattle.palm_explain.specs.Restored.{AreSlotted, KeepsKeys};
+ghost use Rattle.palm_explain.specs.declared.restored.Restored.{Restored as RestoredTerm};
 
 use crate::emptied::Emptied;
 use crate::node::{Node, Nodes, set_place};
-use crate::rows::{Row, is_flagged, set_flag};
-use palm_base::Var;
+use crate::restored::Restored;
+use crate::rows::{Row, set_slot, slot_of};
+use palm_base::{Pair, Var};
 use palm_domain::DomainStore;
 
-/// Empties the list, and clears the flags of the variables that stand in it.
-pub(crate) fn empty_out(rows: &mut Vec<Row>, vars: &mut Vec<Var>)
-    requires { AreFlagged rows.old.items vars.old.items }
-    ensures keys { KeepsKeys rows.old.items rows.new.items }
-    ensures flags { AreFlagged rows.new.items vars.new.items }
-    ensures empty { vars.new.items ≡ [] }
-    ensures room { vec_capacity vars.new ≡ vec_capacity vars.old }
-{
-    for var in vars.as_slice() {
-        set_flag(rows, *var, false);
-    }
-    vars.clear();
-}
-
-/// Puts the pair of each removal of the chain back, and notes its variable. Answers the first of their places in the log, or
-/// that behind the last one of the log where the chain is empty.
+/// Puts the pair of each removal of the chain back, and lists exactly their variables. Answers the first of their places in the log,
+/// or that behind the last one of the log where the chain is empty.
 pub(crate) fn put_back(
     nodes: &Nodes,
     log: &[u32],
@@ -40,26 +29,25 @@ pub(crate) fn put_back(
     count: usize,
     store: &mut DomainStore,
     rows: &mut Vec<Row>,
-    restored: &mut Vec<Var>,
+    restored: &mut Vec<Restored>,
 ) -> usize
     requires graph { IsGraph (graph_of nodes.now) log.now }
     requires found { AreFound rows.old.items (graph_of nodes.now) }
     requires line { (chain : List ℕ) × IsLine nodes.now first count chain }
     requires lacks { LacksExactly store.old (log_pairs (log_of (graph_of nodes.now) log.now)) }
-    requires flags { AreFlagged rows.old.items restored.old.items }
-    requires room { vec_len restored.old + length log.now ≤ vec_capacity restored.old }
+    requires room { length log.now ≤ vec_capacity restored.old }
     ensures initial { initial_of store.new ≡ initial_of store.old }
     ensures back { HasBack store.old store.new (lost_of (graph_of nodes.now) (marks_of nodes.now) log.now) }
     ensures ascend { All Ascends (present_of store.new) × All Ascends (initial_of store.new) }
     ensures keys { KeepsKeys rows.old.items rows.new.items }
-    ensures flags { AreFlagged rows.new.items restored.new.items }
-    ensures once { Distinct restored.old.items → Distinct restored.new.items }
-    ensures noted { (x : ℕ) → Contains restored.new.items x
-        ↔ (Contains restored.old.items x ⊎ Contains (vars_of (lost_of (graph_of nodes.now) (marks_of nodes.now) log.now)) x) }
+    ensures once { Distinct (restored_vars restored.new.items) }
+    ensures noted { (x : ℕ) → Contains (restored_vars restored.new.items) x ↔ Contains (vars_of (lost_of (graph_of nodes.now) (marks_of nodes.now) log.now)) x }
+    ensures spanned { (p : PairTerm) → Contains (lost_of (graph_of nodes.now) (marks_of nodes.now) log.now) p → IsSpanned restored.new.items p }
     ensures room { vec_capacity restored.new ≡ vec_capacity restored.old }
     ensures within { result ≤ length log.now }
     ensures earliest { (k : ℕ) (l : Link) → marks_of nodes.now k ≡ true → graph_of nodes.now k ≡ Some l → result ≤ l.place }
 {
+    restored.clear();
     let mut key = first;
     let mut place = 0;
     let mut start = log.len();
@@ -74,40 +62,59 @@ pub(crate) fn put_back(
     start
 }
 
-/// Puts the pair of a removal back, and notes its variable.
-fn put_back_pair(node: &Node, store: &mut DomainStore, rows: &mut Vec<Row>, restored: &mut Vec<Var>)
+/// Puts the pair of a removal back, and notes it.
+fn put_back_pair(
+    node: &Node,
+    store: &mut DomainStore,
+    rows: &mut Vec<Row>,
+    restored: &mut Vec<Restored>,
+)
     requires declared { IsDeclared store.old node.now.pair.var node.now.pair.value }
     requires out { IsPresent store.old node.now.pair.var node.now.pair.value → ⊥ }
     requires row { node.now.pair.var < length rows.old.items }
-    requires flags { AreFlagged rows.old.items restored.old.items }
+    requires slots { AreSlotted rows.old.items restored.old.items }
     requires room { vec_len restored.old < vec_capacity restored.old }
     ensures back { HasBack store.old store.new (node.now.pair ∷ []) }
     ensures keys { KeepsKeys rows.old.items rows.new.items }
-    ensures flags { AreFlagged rows.new.items restored.new.items }
-    ensures once { Distinct restored.old.items → Distinct restored.new.items }
-    ensures noted { (x : ℕ) → Contains restored.new.items x ↔ (Contains restored.old.items x ⊎ (node.now.pair.var ≡ x)) }
+    ensures slots { AreSlotted rows.new.items restored.new.items }
+    ensures noted { (x : ℕ) → Contains (restored_vars restored.new.items) x → Contains (restored_vars restored.old.items) x ⊎ (node.now.pair.var ≡ x) }
+    ensures spanned { (p : PairTerm) → IsSpanned restored.old.items p ⊎ (node.now.pair ≡ p) → IsSpanned restored.new.items p }
     ensures room { (vec_capacity restored.new ≡ vec_capacity restored.old) × (vec_len restored.new ≤ vec_len restored.old + 1) }
 {
     store.put_back(node.pair);
-    note(rows, restored, node.pair.var);
+    note(rows, restored, node.pair);
 }
 
-/// Notes a variable for which there is room, unless it is noted.
-fn note(rows: &mut Vec<Row>, restored: &mut Vec<Var>, var: Var)
-    requires row { var < length rows.old.items }
-    requires flags { AreFlagged rows.old.items restored.old.items }
+/// Whether the variable stands at the place.
+#[inline(always)]
+fn has_at(restored: &[Restored], place: usize, var: Var) -> bool
+    ensures there { result ≡ true → (r : RestoredTerm) × (slice_get restored.now place ≡ Some r) × (r.var ≡ var) }
+    ensures other { result ≡ false → (r : RestoredTerm) → slice_get restored.now place ≡ Some r → r.var ≡ var → ⊥ }
+{
+    match restored.get(place) {
+        Some(entry) => entry.var == var,
+        None => false,
+    }
+}
+
+/// Notes a pair: its variable's entry is widened, or comes behind the others, for which there is room.
+fn note(rows: &mut Vec<Row>, restored: &mut Vec<Restored>, pair: Pair)
+    requires row { pair.var < length rows.old.items }
+    requires slots { AreSlotted rows.old.items restored.old.items }
     requires room { vec_len restored.old < vec_capacity restored.old }
     ensures keys { KeepsKeys rows.old.items rows.new.items }
-    ensures flags { AreFlagged rows.new.items restored.new.items }
-    ensures once { Distinct restored.old.items → Distinct restored.new.items }
-    ensures noted { (x : ℕ) → Contains restored.new.items x ↔ (Contains restored.old.items x ⊎ (var ≡ x)) }
+    ensures slots { AreSlotted rows.new.items restored.new.items }
+    ensures noted { (x : ℕ) → Contains (restored_vars restored.new.items) x → Contains (restored_vars restored.old.items) x ⊎ (pair.var ≡ x) }
+    ensures spanned { (p : PairTerm) → IsSpanned restored.old.items p ⊎ (pair ≡ p) → IsSpanned restored.new.items p }
     ensures room { (vec_capacity restored.new ≡ vec_capacity restored.old) × (vec_len restored.new ≤ vec_len restored.old + 1) }
 {
-    if is_flagged(rows, var) {
+    let slot = slot_of(rows, pair.var);
+    if has_at(restored, slot, pair.var) {
+        restored[slot].widen(pair.value);
         return;
     }
-    set_flag(rows, var, true);
-    restored.push_reserved(var);
+    set_slot(rows, pair.var, restored.len());
+    restored.push_reserved(Restored::of(pair));
 }
 
 /// Moves the removal to a place, where no mark stands at it, and takes it out of the nodes otherwise. Answers

@@ -1,2 +1,3 @@
+pub mod Heeds
 pub mod Index
 pub mod Shapes

@@ -5,8 +5,10 @@ ghost use Rattle.palm_model.specs.Constraint.{scope, IsWellFormed};
 ghost use Rattle.palm_model.specs.Domains.{Has};
 ghost use Rattle.palm_model.specs.Reason.{AreFilled, IsReason, reason};
 ghost use Rattle.palm_model.specs.Support.{IsSupported, LacksSupport};
+ghost use Rattle.palm_filter.specs.Heeds.{FitsHeed};
 ghost use Rattle.palm_filter.specs.Shapes.{FitsShape};
 
+use crate::heed::Heed;
 use crate::shape::Shape;
 use palm_base::{NoMemory, Pair, Steps, VarList};
 use palm_domain::DomainStore;
@@ -35,6 +37,15 @@ pub trait Filter: Drop {
         ensures { FitsShape (meaning self.now) place result }
     {
         Shape::Any
+    }
+
+    /// Which losses of the variable at a place of the scope may take support from values of the other variables, whatever the
+    /// domains are. A filter that says nothing of it is asked after each loss.
+    fn heed(&self, place: usize) -> Heed
+        requires { place < length (scope (meaning self.now)) }
+        ensures { FitsHeed (meaning self.now) place result }
+    {
+        Heed::Each
     }
 
     /// Whether the value has support within the present domains, in every part of the constraint over its variable.

@@ -3,6 +3,7 @@
 
 mod alone;
 mod filter;
+mod heed;
 mod index;
 mod laws;
 mod reasons;
@@ -11,6 +12,7 @@ mod starts;
 
 pub use alone::is_alone;
 pub use filter::{Filter, Reasons, ask};
+pub use heed::Heed;
 pub use index::ValueIndex;
 pub use laws::single_values_are_supported_where_they_satisfy;
 pub use reasons::{is_missing, push_passing, push_removed, whole_or_none};

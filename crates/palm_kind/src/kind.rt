@@ -14,7 +14,7 @@ use filter_occur::OccurFilter;
 use filter_table::TableFilter;
 use palm_base::{NoMemory, Pair, VarList};
 use palm_domain::DomainStore;
-use palm_filter::{Filter, Reasons, Shape};
+use palm_filter::{Filter, Heed, Reasons, Shape};
 use palm_model::Con;
 use std::alloc::Global;
 
@@ -81,6 +81,18 @@ impl Filter for Kind {
             Kind::Count(filter) => filter.shape(place),
             Kind::Differ(filter) => filter.shape(place),
             Kind::Within(filter) => filter.shape(place),
+        }
+    }
+
+    fn heed(&self, place: usize) -> Heed {
+        match self {
+            Kind::Compare(filter) => filter.heed(place),
+            Kind::Linear(filter) => filter.heed(place),
+            Kind::Table(filter) => filter.heed(place),
+            Kind::Element(filter) => filter.heed(place),
+            Kind::Count(filter) => filter.heed(place),
+            Kind::Differ(filter) => filter.heed(place),
+            Kind::Within(filter) => filter.heed(place),
         }
     }
 

@@ -10,7 +10,7 @@ use palm_base::{NoMemory, Pair, VarList};
 use palm_book::Book;
 use palm_domain::DomainStore;
 use palm_engine::Engine;
-use palm_filter::{Filter, Reasons, Shape};
+use palm_filter::{Filter, Heed, Reasons, Shape};
 use palm_kind::Kind;
 use std::alloc::Global;
 
@@ -79,6 +79,11 @@ impl Filter for Lent<'_> {
     #[inline(always)]
     fn shape(&self, place: usize) -> Shape {
         self.kind.shape(place)
+    }
+
+    #[inline(always)]
+    fn heed(&self, place: usize) -> Heed {
+        self.kind.heed(place)
     }
 
     #[inline(always)]

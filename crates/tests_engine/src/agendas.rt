@@ -1,9 +1,11 @@
 //! The agenda alone: what is woken is handed out, and marks follow what woke.
-ghost use Rattle.std.specs.Prelude.{◌≡◌, ℕ, ◌<◌, [], ◌∷◌, OnOk};
+ghost use Rattle.std.specs.Prelude.{◌≡◌, ℕ, ◌<◌, List, [], ◌∷◌, length, IfOk, OnOk};
+ghost use Rattle.palm_filter.specs.declared.heed.Heed.{Heed as HeedTerm};
 ghost use Rattle.palm_agenda.specs.Agenda.{HasPlace, IsConnected, marked_whole};
 
-use palm_agenda::{Agenda, LastOrder, Order, RotateOrder};
-use palm_base::{Cid, NoMemory, Var};
+use palm_agenda::{Agenda, LastOrder, Loss, Mark, Order, RotateOrder};
+use palm_base::{Cid, NoMemory, Value, Var};
+use palm_filter::Heed;
 use std::alloc::Global;
 use std::test::Fail;
 
@@ -19,13 +21,33 @@ fn user() -> Cid
     Cid::User(70_000)
 }
 
-/// Connects the two.
-fn connect_two(agenda: &mut Agenda) -> Result<(), NoMemory>
-    requires { agenda.old.connected ≡ [] }
-    ensures { OnOk result (agenda.new.connected ≡ marked_whole (Cid.Decide 2) (2 ∷ []) ∷ marked_whole (Cid.User 70000) (0 ∷ 1 ∷ 0 ∷ []) ∷ []) }
+/// The same heed for each of so many places.
+fn heeds_of(alloc: Global, heed: Heed, count: usize) -> Result<Vec<Heed>, NoMemory>
+    ensures { IfOk result (λ heeds. length heeds.items ≡ count) }
 {
-    agenda.connect(user(), &[Var(0), Var(1), Var(0)])?;
-    agenda.connect(decision(), &[Var(2)])
+    let mut heeds = Vec::new(alloc);
+    heeds.resize(count, heed)?;
+    Ok(heeds)
+}
+
+/// Connects the two. The user's heeds the losses of each place so.
+fn connect_two(alloc: Global, agenda: &mut Agenda, heed: Heed) -> Result<(), NoMemory>
+    requires { agenda.old.connected ≡ [] }
+    ensures { OnOk result ((some : List HeedTerm) × (others : List HeedTerm)
+        × (agenda.new.connected ≡ marked_whole (Cid.Decide 2) (2 ∷ []) some ∷ marked_whole (Cid.User 70000) (0 ∷ 1 ∷ 0 ∷ []) others ∷ [])) }
+{
+    agenda.connect(user(), &[Var(0), Var(1), Var(0)], heeds_of(alloc, heed, 3)?)?;
+    agenda.connect(decision(), &[Var(2)], heeds_of(alloc, heed, 1)?)
+}
+
+/// The loss of the value 5, where lesser, greater and several ones are left.
+fn loss() -> Loss {
+    Loss {
+        value: Value(5),
+        below: true,
+        above: true,
+        several: true,
+    }
 }
 
 /// Whether both are handed out by rising name, and then nothing.
@@ -44,11 +66,11 @@ fn hands_out_as_answered(agenda: &mut Agenda) -> bool
     requires { IsConnected agenda.old.connected (Cid.Decide 2) }
     ensures { IsConnected agenda.new.connected (Cid.Decide 2) }
 {
-    agenda.wake(Var(0));
+    agenda.wake(Var(0), loss());
     agenda.wake_one(decision());
     let mut last = Some(LastOrder::new());
     let first = agenda.take(&mut last);
-    agenda.wake(Var(1));
+    agenda.wake(Var(1), loss());
     let mut turned = RotateOrder::new();
     turned.ran(user(), 0);
     let mut rotate = Some(turned);
@@ -66,10 +88,10 @@ fn is_decision_left(agenda: &mut Agenda) -> bool
 }
 
 /// Whether the agenda hands out what is woken.
-fn hands_out_what_woke(agenda: &mut Agenda) -> Result<bool, NoMemory>
+fn hands_out_what_woke(alloc: Global, agenda: &mut Agenda) -> Result<bool, NoMemory>
     requires { agenda.old.connected ≡ [] }
 {
-    connect_two(agenda)?;
+    connect_two(alloc, agenda, Heed::Each)?;
     let by_name = hands_out_by_name(agenda);
     let as_answered = hands_out_as_answered(agenda);
     Ok(by_name && as_answered && is_decision_left(agenda))
@@ -78,7 +100,7 @@ fn hands_out_what_woke(agenda: &mut Agenda) -> Result<bool, NoMemory>
 /// The same of a new agenda.
 fn is_handed_out(alloc: Global) -> Result<bool, NoMemory> {
     let mut agenda = Agenda::new(alloc);
-    hands_out_what_woke(&mut agenda)
+    hands_out_what_woke(alloc, &mut agenda)
 }
 
 #[test]
@@ -97,34 +119,143 @@ fn unmark_user(agenda: &mut Agenda)
     }
 }
 
-/// Whether the first variable marks the place of the other where a value of it is taken out, and its own where one is put
-/// back.
-fn marks_what_woke(agenda: &mut Agenda) -> bool
-    requires { (place : ℕ) → place < 3 → HasPlace agenda.old.connected (Cid.User 70000) place }
-{
-    agenda.wake(Var(0));
-    let other = agenda.marks(user()) == [false, true, false].as_slice();
-    agenda.wake_restored(Var(0));
-    other && agenda.is_marked(user(), 2)
+/// The mark of the values from the one to the other.
+fn between(low: i32, high: i32) -> Mark {
+    Mark::Between {
+        low: Value(low),
+        high: Value(high),
+    }
 }
 
-/// Whether the marks of the user's, all taken away, follow what wakes it.
-fn follows_what_woke(agenda: &mut Agenda) -> Result<bool, NoMemory>
+/// Whether a value of the first variable that is put back marks its own places, and no other.
+fn marks_what_came_back(agenda: &mut Agenda) -> bool
+    requires { (place : ℕ) → place < 3 → HasPlace agenda.old.connected (Cid.User 70000) place }
+{
+    agenda.wake_restored(Var(0), Value(2), Value(4));
+    agenda.marks(user()) == [between(2, 4), Mark::Clear, between(2, 4)].as_slice()
+}
+
+/// Whether the marks of the user's, all taken away, follow what comes back.
+fn follows_what_came_back(alloc: Global, agenda: &mut Agenda) -> Result<bool, NoMemory>
     requires { agenda.old.connected ≡ [] }
 {
-    connect_two(agenda)?;
+    connect_two(alloc, agenda, Heed::Each)?;
     unmark_user(agenda);
-    Ok(marks_what_woke(agenda))
+    Ok(marks_what_came_back(agenda))
 }
 
 /// The same of a new agenda.
-fn is_marked_anew(alloc: Global) -> Result<bool, NoMemory> {
+fn comes_back_marked(alloc: Global) -> Result<bool, NoMemory> {
     let mut agenda = Agenda::new(alloc);
-    follows_what_woke(&mut agenda)
+    follows_what_came_back(alloc, &mut agenda)
 }
 
 #[test]
-fn marks_follow_what_woke(rt: HostRuntime) -> Result<(), Fail> {
-    assert!(rt; is_marked_anew(rt.alloc())?);
+fn marks_follow_what_came_back(rt: HostRuntime) -> Result<(), Fail> {
+    assert!(rt; comes_back_marked(rt.alloc())?);
+    Ok(())
+}
+
+/// Whether the places of the first variable stay clear where values of it are lost, and that of the other variable is marked so.
+fn marks_what_is_lost(agenda: &mut Agenda, losses: &[Loss], mark: &Mark) -> bool
+    requires { (place : ℕ) → place < 3 → HasPlace agenda.old.connected (Cid.User 70000) place }
+{
+    for loss in losses {
+        agenda.wake(Var(0), *loss);
+    }
+    agenda.marks(user()) == [Mark::Clear, *mark, Mark::Clear].as_slice()
+}
+
+/// Whether the marks of the user's, all taken away, follow what is lost, where losses are heeded so.
+fn follows_what_is_lost(
+    alloc: Global,
+    agenda: &mut Agenda,
+    heed: Heed,
+    losses: &[Loss],
+    mark: &Mark,
+) -> Result<bool, NoMemory>
+    requires { agenda.old.connected ≡ [] }
+{
+    connect_two(alloc, agenda, heed)?;
+    unmark_user(agenda);
+    Ok(marks_what_is_lost(agenda, losses, mark))
+}
+
+/// The same of a new agenda.
+fn are_heeded(alloc: Global, heed: Heed, losses: &[Loss], mark: &Mark) -> Result<bool, NoMemory> {
+    let mut agenda = Agenda::new(alloc);
+    follows_what_is_lost(alloc, &mut agenda, heed, losses, mark)
+}
+
+/// The losses of the least value, of the greatest one, and one that leaves a single value below it.
+fn least() -> Loss {
+    Loss {
+        below: false,
+        ..loss()
+    }
+}
+
+fn greatest() -> Loss {
+    Loss {
+        above: false,
+        ..loss()
+    }
+}
+
+fn last_but_one() -> Loss {
+    Loss {
+        above: false,
+        several: false,
+        ..loss()
+    }
+}
+
+/// The loss of another value that leaves the same.
+fn loss_of(value: i32) -> Loss {
+    Loss {
+        value: Value(value),
+        ..loss()
+    }
+}
+
+/// Whether each heed marks for exactly the losses that it names.
+fn heeds_are_kept(alloc: Global) -> Result<bool, NoMemory> {
+    let rows: [(Heed, &[Loss], Mark); 20] = [
+        (Heed::Each, &[loss()], Mark::Whole),
+        (Heed::Least, &[loss()], Mark::Clear),
+        (Heed::Least, &[greatest()], Mark::Clear),
+        (Heed::Least, &[least()], Mark::Whole),
+        (Heed::Least, &[loss(), least()], Mark::Whole),
+        (Heed::Least, &[least(), loss()], Mark::Whole),
+        (Heed::Greatest, &[loss()], Mark::Clear),
+        (Heed::Greatest, &[least()], Mark::Clear),
+        (Heed::Greatest, &[greatest()], Mark::Whole),
+        (Heed::Ends, &[loss()], Mark::Clear),
+        (Heed::Ends, &[least()], Mark::Whole),
+        (Heed::Ends, &[greatest()], Mark::Whole),
+        (Heed::Alone, &[loss()], Mark::Clear),
+        (Heed::Alone, &[least(), greatest()], Mark::Clear),
+        (Heed::Alone, &[last_but_one()], Mark::Whole),
+        (Heed::Shifted(3), &[loss()], between(8, 8)),
+        (Heed::Shifted(-7), &[loss(), loss_of(9)], between(-2, 2)),
+        (
+            Heed::Shifted(3),
+            &[loss_of(i32::MAX - 3)],
+            between(i32::MAX, i32::MAX),
+        ),
+        (Heed::Shifted(3), &[loss_of(i32::MAX - 2)], Mark::Whole),
+        (Heed::Shifted(-3), &[loss_of(i32::MIN + 2)], Mark::Whole),
+    ];
+    for (heed, losses, mark) in &rows {
+        if !are_heeded(alloc, *heed, losses, mark)? {
+            return Ok(false);
+        }
+    }
+    Ok(true)
+}
+
+#[test]
+fn marks_follow_the_losses_that_are_heeded(rt: HostRuntime) -> Result<(), Fail> {
+    assert!(rt; heeds_are_kept(rt.alloc())?);
     Ok(())
 }

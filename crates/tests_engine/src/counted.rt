@@ -1,7 +1,7 @@
-//! Filters that count how often they are asked for support: one that tells the shapes of its kind, and one that tells none.
+//! Filters that count how often they are asked for support: one that tells the shapes and heeds of its kind, and one that tells none.
 use palm_base::{NoMemory, Pair, VarList};
 use palm_domain::DomainStore;
-use palm_filter::{Filter, Reasons, Shape};
+use palm_filter::{Filter, Heed, Reasons, Shape};
 use palm_kind::Kind;
 use std::cell::Cell;
 
@@ -25,6 +25,10 @@ impl Filter for Counted<'_> {
         self.kind.shape(place)
     }
 
+    fn heed(&self, place: usize) -> Heed {
+        self.kind.heed(place)
+    }
+
     fn supported(&self, store: &DomainStore, pair: Pair) -> bool {
         count(self.asked);
         self.kind.supported(store, pair)
@@ -35,7 +39,7 @@ impl Filter for Counted<'_> {
     }
 }
 
-/// A filter that counts, and has no word on shapes of its own, as that of a caller who wrote none.
+/// A filter that counts, and has no word on shapes and heeds of its own, as that of a caller who wrote none.
 #[derive(Drop)]
 pub struct Silent<'a> {
     pub kind: Kind,

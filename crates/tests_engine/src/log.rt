@@ -96,8 +96,8 @@ fn has_last(log: &ExplainStore) -> bool {
     let restored = log.restored();
     has_removals(log, &last)
         && restored.len() == 2
-        && restored.contains(&Var(0))
-        && restored.contains(&Var(1))
+        && restored.iter().any(|entry| entry.var == Var(0))
+        && restored.iter().any(|entry| entry.var == Var(1))
 }
 
 /// Whether x and y have both values again, and z has the first.

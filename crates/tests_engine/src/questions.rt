@@ -103,9 +103,9 @@ fn is_settled_at_once(alloc: Global, engine: &mut Engine<Counted<'_>>) -> Result
 }
 
 /// How often `x < y` and `u < v` ask together. The first revision of `x < y` asks for 1 of x, which has support, and from above
-/// for 3, which lacks it, and 2; then for 1 of y, which lacks it, 2, and from above for 3. The second one, for the loss of 1 of y,
-/// asks for the ends of x, 1 and 2. That is eight times, and as often for `u < v`.
-const ASKED: u64 = 16;
+/// for 3, which lacks it, and 2; then for 1 of y, which lacks it, 2, and from above for 3. The second one asks for nothing: x lost
+/// its greatest value and y its least one, and neither hurts the other variable. That is six times, and as often for `u < v`.
+const ASKED: u64 = 12;
 
 /// Whether the filters are asked as often as the engine counts and as is said above, and not once more after the withdrawal.
 fn is_asked_as_counted<'a>(

@@ -1,5 +1,5 @@
-//! What a kind says of the support of its values spares questions, and changes nothing else: each problem is settled by two
-//! engines, of which one hears of it and one does not.
+//! What a kind says of the support of its values, and of the losses that hurt it, spares questions, and changes nothing else: each
+//! problem is settled by two engines, of which one hears of it and one does not.
 use crate::choice::Choice;
 use crate::twins::{Asked, Twins};
 use palm_base::NoMemory;
@@ -37,7 +37,9 @@ const TWO: &[&str] = &["var x -2..3", "var y {-3,-1,0,2,4}"];
 /// Four variables.
 const FOUR: &[&str] = &["var x 1..4", "var y 1..4", "var z 1..4", "var n 0..4"];
 
-/// Comparisons, and lists of values. Equality of variables and lists say nothing; `x > 1` keeps two values, and `x > 9` none.
+/// Comparisons, and lists of values. Lists say nothing; `x > 1` keeps two values, and `x > 9` none. Of an equality a loss of one
+/// variable is known to hurt one value of the other: with `x = y` the losses of -3 and 4 of y leave all values of x between, with
+/// `x = y - 2` those of -3 and -1 leave none.
 const COMPARISONS: &[Row] = &[
     Row {
         variables: TWO,
@@ -66,9 +68,15 @@ const COMPARISONS: &[Row] = &[
     },
     Row {
         variables: TWO,
-        firsts: &["add a : x = y", "add a : x = y - 2"],
+        firsts: &["add a : x = y"],
         others: &[],
         asks: Asks::AsOften,
+    },
+    Row {
+        variables: TWO,
+        firsts: &["add a : x = y - 2"],
+        others: &[],
+        asks: Asks::Less,
     },
     Row {
         variables: TWO,
@@ -505,13 +513,15 @@ fn shapes_of_other_kinds_change_nothing_but_the_questions(rt: HostRuntime) -> Re
 /// none, derived from what the shapes are known to spare.
 ///
 /// `x <= y` keeps all, so both ends of each variable are asked. `x < y` asks for 0 of x, for 255, which goes, and 254; then for 0
-/// of y, which goes, 1 and 255; and again for both ends of x, since y lost a value, where all 255 left are asked otherwise.
+/// of y, which goes, 1 and 255. Since y lost a value, all 255 values of x that are left are asked for again otherwise; but it was
+/// not the greatest of y, and no other hurts x.
 /// `x = 7` asks for one value beside 7, which stands for all, and for 7; so does `x != 7`, and where 7 were no value it would ask
 /// once. No value of `x != y`, of the differ or of the sum lacks support while the other variables have two. The count asks for 7
-/// and one value beside it, of each variable.
+/// and one value beside it, of each variable. Of the equality all are asked for; with 100 between them, y loses 156 to 255 in the
+/// end, which hurts none of the 156 values of x that are left and asked for again otherwise.
 const WIDE: &[(&str, u64, u64)] = &[
     ("add a : x <= y", 4, 512),
-    ("add a : x < y", 8, 767),
+    ("add a : x < y", 6, 767),
     ("add a : x = 7", 2, 256),
     ("add a : x != 7", 2, 256),
     ("add a : x != 300", 1, 256),
@@ -521,6 +531,7 @@ const WIDE: &[(&str, u64, u64)] = &[
     ("add a : sum x + y + z <= 510", 6, 768),
     ("add a : count 7 x y z >= 1", 6, 768),
     ("add a : x = y", 512, 512),
+    ("add a : x = y + 100", 512, 668),
 ];
 
 /// Three variables with as many values as they may have.

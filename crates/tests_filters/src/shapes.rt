@@ -1,10 +1,10 @@
-//! What each kind tells of the support of its variables, place by place.
+//! What each kind tells of the support of its variables, and which of their losses it heeds, place by place.
 ghost use Rattle.std.specs.Prelude.{◌≡◌, pos, [], ◌∷◌, true, IfOk, IfSome, OnOk};
 ghost use Rattle.palm_model.specs.Constraint.{IsWellFormed};
 ghost use Rattle.palm_model.specs.Linear.{IsLinearOp};
 
 use palm_base::{NoMemory, Value, ValueList, Var, VarList};
-use palm_filter::{Filter, Shape};
+use palm_filter::{Filter, Heed, Shape};
 use palm_kind::Kind;
 use palm_model::{Con, Op, RowList, Target, Term, TermList};
 use std::alloc::Global;
@@ -337,6 +337,92 @@ const SHAPES: &[(Sample, &[Wanted])] = &[
 fn kinds_tell_their_shapes(rt: HostRuntime) -> Result<(), Fail> {
     for (sample, wanted) in SHAPES {
         assert!(rt; tells(rt.alloc(), sample, wanted)?);
+    }
+    Ok(())
+}
+
+/// Whether the filter heeds losses so, of one place of its scope after another.
+fn has_heeds(kind: &Kind, wanted: &[Heed]) -> bool {
+    if kind.scope().len() != wanted.len() {
+        return false;
+    }
+    for place in 0..wanted.len() {
+        if kind.heed(place) != wanted[place] {
+            return false;
+        }
+    }
+    true
+}
+
+/// The same of the filter of the sample's constraint.
+fn heeds(alloc: Global, sample: &Sample, wanted: &[Heed]) -> Result<bool, NoMemory> {
+    match con_of(alloc, sample)? {
+        Some(con) => Ok(has_heeds(&Kind::from_con(alloc, &con)?, wanted)),
+        None => Ok(false),
+    }
+}
+
+/// Which losses the kinds heed at their places. A lesser x makes `x < y` easier for y, a greater y for x; the sum is x - 2*y.
+const HEEDS: &[(Sample, &[Heed])] = &[
+    (
+        Sample::Variables(Op::Eq, 3),
+        &[Heed::Shifted(-3), Heed::Shifted(3)],
+    ),
+    (Sample::Variables(Op::Ne, 3), &[Heed::Alone, Heed::Alone]),
+    (
+        Sample::Variables(Op::Lt, -3),
+        &[Heed::Least, Heed::Greatest],
+    ),
+    (
+        Sample::Variables(Op::Le, -3),
+        &[Heed::Least, Heed::Greatest],
+    ),
+    (
+        Sample::Variables(Op::Gt, -3),
+        &[Heed::Greatest, Heed::Least],
+    ),
+    (
+        Sample::Variables(Op::Ge, -3),
+        &[Heed::Greatest, Heed::Least],
+    ),
+    (Sample::Sum(Op::Le), &[Heed::Least, Heed::Greatest]),
+    (Sample::Sum(Op::Ge), &[Heed::Greatest, Heed::Least]),
+    (Sample::Sum(Op::Eq), &[Heed::Ends, Heed::Ends]),
+    (Sample::Sum(Op::Ne), &[Heed::Alone, Heed::Alone]),
+    (Sample::Count(Op::Le), &[Heed::Each, Heed::Each]),
+    (
+        Sample::CountVariable(Op::Eq),
+        &[Heed::Each, Heed::Each, Heed::Each],
+    ),
+    (
+        Sample::CountVariable(Op::Ne),
+        &[Heed::Each, Heed::Each, Heed::Alone],
+    ),
+    (
+        Sample::CountVariable(Op::Lt),
+        &[Heed::Each, Heed::Each, Heed::Greatest],
+    ),
+    (
+        Sample::CountVariable(Op::Le),
+        &[Heed::Each, Heed::Each, Heed::Greatest],
+    ),
+    (
+        Sample::CountVariable(Op::Gt),
+        &[Heed::Each, Heed::Each, Heed::Least],
+    ),
+    (
+        Sample::CountVariable(Op::Ge),
+        &[Heed::Each, Heed::Each, Heed::Least],
+    ),
+    (Sample::Table, &[Heed::Each, Heed::Each]),
+    (Sample::Element, &[Heed::Each, Heed::Each]),
+    (Sample::Differ, &[Heed::Alone, Heed::Alone, Heed::Alone]),
+];
+
+#[test]
+fn each_kind_heeds_these_losses(rt: HostRuntime) -> Result<(), Fail> {
+    for (sample, wanted) in HEEDS {
+        assert!(rt; heeds(rt.alloc(), sample, wanted)?);
     }
     Ok(())
 }

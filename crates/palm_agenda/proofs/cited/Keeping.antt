@@ -1,5 +1,5 @@
 -- What an agenda keeps, after each of its calls.
-use Rattle.std.proofs.Common.{◌≡◌, ℕ, ◌+◌, ◌<◌, ◌≤◌, Bool, true, false, not, ◌||◌, if◌then◌else◌, List, [], ◌∷◌, map, reverse, length, get_or, set, take, slice_get, insert, remove, Contains, All, Option, None, Some, zero, suc, ◌⊎◌, ◌↔◌, inl, inr, refl, sym, ap, ◌∙◌, subst, arith, nat_eq, nat_lt, lt-ltb, le-ltb, IfNone, eq-eqb, eqb-true, length-set}
+use Rattle.std.proofs.Common.{◌≡◌, ℕ, ◌+◌, ◌<◌, ◌≤◌, Bool, true, false, not, ◌&&◌, ◌||◌, if◌then◌else◌, List, [], ◌∷◌, map, reverse, length, get_or, set, take, slice_get, insert, remove, Contains, All, Option, None, Some, zero, suc, ◌⊎◌, ◌↔◌, inl, inr, refl, sym, ap, ◌∙◌, subst, arith, nat_eq, nat_lt, lt-ltb, le-ltb, IfNone, eq-eqb, eqb-true, length-set}
 use Rattle.std.specs.Option.{MatchOption}
 use Rattle.std.proofs.lemmas.Bool.{cases_Bool, cases_lt, false≢true}
 use Rattle.std.proofs.lemmas.List.{get_or-map, length-map, length-replicate, nil_from_length, take_all}
@@ -18,14 +18,21 @@ use Rattle.palm_events.proofs.cited.Names.{member_named}
 use Rattle.palm_events.proofs.cited.States.{without_cid_rises}
 use Rattle.palm_agenda.specs.Flags.{FlagRow, IsFirst, count_raised, flagged}
 use Rattle.palm_agenda.specs.Cids.{Roomy, cids_at}
-use Rattle.palm_agenda.specs.Agenda.{Connected, HasMarks, IsConnected, IsFormed, IsMarked, Takes, index_within, IsOver, HasPlace, connected_cids, marked_whole, marked_where, changed_at, changed_among, mark_others, is_over, unmarked, with_connected, without_connected}
+use Rattle.palm_agenda.specs.Agenda.{Connected, HasMarks, IsConnected, IsFormed, Takes, index_within, IsOver, HasPlace, connected_cids, marked_whole, changed_where, changed_at, changed_among, mark_others, is_over, unmarked, with_connected, without_connected}
 use Rattle.palm_agenda.specs.Kept.{IsAgenda, IsShown}
-use Rattle.palm_agenda.specs.Places.{is_place, mark_places}
+use Rattle.palm_agenda.specs.Places.{is_place, mark_at, mark_places}
+use Rattle.palm_filter.specs.declared.heed.Heed.{Heed}
+use Rattle.palm_agenda.specs.Losses.{heed_of, is_by_value, mark_after}
+use Rattle.palm_agenda.specs.declared.loss.Loss.{Loss}
+use Rattle.palm_agenda.specs.Marks.{widened}
+use Rattle.palm_agenda.specs.declared.mark.Mark.{Mark}
+use Rattle.palm_agenda.specs.declared.mark.Mark.TheVariants.{Clear, Whole}
 use Rattle.palm_agenda.specs.declared.connection.Places.{Places}
 use Rattle.palm_agenda.specs.declared.connection.Places.TheVariants.{Own, Others}
 use Rattle.palm_agenda.proofs.cited.Connecting.{cid_of, cid_connected, cids_with, cids_without, over_connected, over_with, over_without, stands, connected_at, disconnected_at, with_connected_cases, without_connected_member, sorted_connected}
 use Rattle.palm_agenda.proofs.Flagged.{flagged_length, flagged_member, flagged_rises, inserted_set, lowered_without, raised_set, removed_lowered, first_flagged}
-use Rattle.palm_agenda.proofs.cited.Marking.{marks_length, marks_none, marks_twice}
+use Rattle.palm_agenda.proofs.Heeding.{after_twice}
+use Rattle.palm_agenda.proofs.cited.Marking.{marks_again, marks_alone, marks_length, marks_none, widened_twice}
 use Rattle.palm_base.proofs.cited.RisingLists.{with_cid_rises, rising}
 use Rattle.palm_agenda.proofs.CidLists.{filter_short, member_reverse, reverse_member}
 use Rattle.palm_agenda.proofs.Rows.{front_last, front_more, row_within}
@@ -36,6 +43,15 @@ if_true b x y e = ap (λ v. if v then x else y) e
 
 pub if_false : {X : Type 0} (b : Bool) (x y : X) → b ≡ false → (if b then x else y) ≡ y
 if_false b x y e = ap (λ v. if v then x else y) e
+
+-- what tests tell
+pub not_true : (b : Bool) → not b ≡ true → b ≡ false
+not_true true e = absurd (false≢true e)
+not_true false e = refl
+
+pub both_true : (a b : Bool) → (a && b) ≡ true → (a ≡ true) × (b ≡ true)
+both_true true b e = (refl, e)
+both_true false b e = absurd (false≢true e)
 
 -- the ids at raised flags are of connected constraints, and rise
 pub formed_of : (connected : List Connected) (flags : List Bool) → Rises (connected_cids connected) → All HasMarks connected → IsFormed (record { connected = connected; pending = flagged (connected_cids connected) flags })
@@ -48,10 +64,11 @@ formed_of connected flags rises marks = record {
 
 -- ---- a change of marks
 
--- a change that keeps the id, the scope and how many marks there are
+-- a change that keeps the id, the scope, how losses are heeded and how many marks there are
 pub record KeepsScopes (f : Connected → Connected) : Type 0 where
   pub cid : (d : Connected) → (f d).cid ≡ d.cid
   pub scope : (d : Connected) → (f d).scope ≡ d.scope
+  pub heeds : (d : Connected) → (f d).heeds ≡ d.heeds
   pub many : (d : Connected) → length (f d).marks ≡ length d.marks
 
 module _ (f : Connected → Connected) (keeps : KeepsScopes f) where
@@ -206,11 +223,11 @@ answered_taken connected over flags now shown kept cids looked shows is answer c
 
 -- ---- which marks change
 
-keeps_where : (test : ℕ → Bool) → KeepsScopes (marked_where test)
-keeps_where test = record { cid = λ d. refl; scope = λ d. refl; many = λ d. marks_length test d.scope d.marks }
+keeps_where : (test : ℕ → Bool) (change : Connected → Mark → Mark) → KeepsScopes (λ d. changed_where test (change d) d)
+keeps_where test change = record { cid = λ d. refl; scope = λ d. refl; heeds = λ d. refl; many = λ d. marks_length test (change d) d.scope d.marks }
 
 pub keeps_unmarked : (place : ℕ) → KeepsScopes (unmarked place)
-keeps_unmarked place = record { cid = λ d. refl; scope = λ d. refl; many = λ d. length-set d.marks place false }
+keeps_unmarked place = record { cid = λ d. refl; scope = λ d. refl; heeds = λ d. refl; many = λ d. length-set d.marks place Clear }
 
 keeps_if : (test : Connected → Bool) (f : Connected → Connected) → KeepsScopes f → KeepsScopes (λ d. if test d then f d else d)
 keeps_if test f keeps = record {
@@ -222,15 +239,27 @@ keeps_if test f keeps = record {
     | inl t ↦ ap (λ (e : Connected). e.scope) (if_true (test d) (f d) d t) ∙ keeps.scope d
     | inr e ↦ ap (λ (e : Connected). e.scope) (if_false (test d) (f d) d e)
   ];
+  heeds = λ d. elim (cases_Bool (test d)) [
+    | inl t ↦ ap (λ (e : Connected). e.heeds) (if_true (test d) (f d) d t) ∙ keeps.heeds d
+    | inr e ↦ ap (λ (e : Connected). e.heeds) (if_false (test d) (f d) d e)
+  ];
   many = λ d. elim (cases_Bool (test d)) [
     | inl t ↦ ap (λ (e : Connected). length e.marks) (if_true (test d) (f d) d t) ∙ keeps.many d
     | inr e ↦ ap (λ (e : Connected). length e.marks) (if_false (test d) (f d) d e)
   ];
 }
 
+-- each place of another variable is marked as the constraint heeds the loss
+abbrev pub others_after : ℕ → Loss → Connected → Connected
+others_after x loss d = changed_where (λ y. not (nat_eq y x)) (mark_after (heed_of x d.scope d.heeds) loss) d
+
 pub keeps_places : (places : Places) (x : ℕ) → KeepsScopes (mark_places places x)
-keeps_places Own x = keeps_where (λ y. nat_eq y x)
-keeps_places Others x = keeps_if (is_over x) (marked_where (λ y. not (nat_eq y x))) (keeps_where (λ y. not (nat_eq y x)))
+keeps_places (Own low high) x = keeps_where (λ y. nat_eq y x) (λ d. widened low high)
+keeps_places (Others loss) x = keeps_if (is_over x) (others_after x loss) (keeps_where (λ y. not (nat_eq y x)) (λ d. mark_after (heed_of x d.scope d.heeds) loss))
+
+-- a change leaves how losses of a variable are heeded
+pub heed_kept : (f : Connected → Connected) → KeepsScopes f → (x : ℕ) (d : Connected) → heed_of x (f d).scope (f d).heeds ≡ heed_of x d.scope d.heeds
+heed_kept f keeps x d = ap (λ xs. heed_of x xs (f d).heeds) (keeps.scope d) ∙ ap (heed_of x d.scope) (keeps.heeds d)
 
 pub keeps_at : (cid : Cid) (f : Connected → Connected) → KeepsScopes f → KeepsScopes (changed_at cid f)
 keeps_at cid f keeps = keeps_if (λ d. same_cid cid d.cid) f keeps
@@ -238,44 +267,57 @@ keeps_at cid f keeps = keeps_if (λ d. same_cid cid d.cid) f keeps
 pub keeps_among : (cids : List Cid) (f : Connected → Connected) → KeepsScopes f → KeepsScopes (changed_among cids f)
 keeps_among cids f keeps = keeps_if (λ d. is_named cids d.cid) f keeps
 
--- marking twice is marking once
-where_twice : (test : ℕ → Bool) (d : Connected) → marked_where test (marked_where test d) ≡ marked_where test d
-where_twice test d = ap (λ marks. record d { marks = marks }) (marks_twice test d.scope d.marks)
+-- marking again, by a change that adds nothing to the first one, changes nothing
+where_again : (test : ℕ → Bool) (change more : Mark → Mark) → ((mark : Mark) → more (change mark) ≡ change mark) → (d : Connected) → changed_where test more (changed_where test change d) ≡ changed_where test change d
+where_again test change more again d = ap (λ marks. record d { marks = marks }) (marks_again test change more again d.scope d.marks)
 
-places_twice : (places : Places) (x : ℕ) (d : Connected) → mark_places places x (mark_places places x d) ≡ mark_places places x d
-places_twice Own x d = where_twice (λ y. nat_eq y x) d
-places_twice Others x d = elim (cases_Bool (is_over x d)) [
+-- nor does another loss, where it adds nothing
+pub others_again : (x : ℕ) (loss more : Loss) (d : Connected)
+    → (is_over x d ≡ true → (mark : Mark) → mark_after (heed_of x d.scope d.heeds) more (mark_after (heed_of x d.scope d.heeds) loss mark) ≡ mark_after (heed_of x d.scope d.heeds) loss mark)
+    → mark_others x more (mark_others x loss d) ≡ mark_others x loss d
+others_again x loss more d again = elim (cases_Bool (is_over x d)) [
   | inl t ↦
-      let once : mark_others x d ≡ marked_where (λ y. not (nat_eq y x)) d = if_true (is_over x d) (marked_where (λ y. not (nat_eq y x)) d) d t in
-      ap (mark_others x) once
-      ∙ if_true (is_over x d) (marked_where (λ y. not (nat_eq y x)) (marked_where (λ y. not (nat_eq y x)) d)) (marked_where (λ y. not (nat_eq y x)) d) t
-      ∙ where_twice (λ y. not (nat_eq y x)) d ∙ sym once
-  | inr f ↦ ap (mark_others x) (if_false (is_over x d) (marked_where (λ y. not (nat_eq y x)) d) d f)
+      let once : mark_others x loss d ≡ others_after x loss d = if_true (is_over x d) (others_after x loss d) d t in
+      ap (mark_others x more) once ∙ if_true (is_over x d) (others_after x more (others_after x loss d)) (others_after x loss d) t
+      ∙ where_again (λ y. not (nat_eq y x)) (mark_after (heed_of x d.scope d.heeds) loss) (mark_after (heed_of x d.scope d.heeds) more) (again t) d ∙ sym once
+  | inr f ↦
+      let none : mark_others x loss d ≡ d = if_false (is_over x d) (others_after x loss d) d f in
+      ap (mark_others x more) none ∙ if_false (is_over x d) (others_after x more d) d f ∙ sym none
 ]
+
+-- marking twice is marking once
+pub places_twice : (places : Places) (x : ℕ) (d : Connected) → mark_places places x (mark_places places x d) ≡ mark_places places x d
+places_twice (Own low high) x d = where_again (λ y. nat_eq y x) (widened low high) (widened low high) (widened_twice low high) d
+places_twice (Others loss) x d = others_again x loss loss d (λ t. after_twice (heed_of x d.scope d.heeds) loss)
 
 over_told : (x : ℕ) (d : Connected) → Contains d.scope x → is_over x d ≡ true
 over_told x d m = member_any (λ y. nat_eq y x) d.scope x m (eq-eqb x x refl)
 
-told_over : (x : ℕ) (d : Connected) → is_over x d ≡ true → Contains d.scope x
+pub told_over : (x : ℕ) (d : Connected) → is_over x d ≡ true → Contains d.scope x
 told_over x d h = let r = any_member (λ y. nat_eq y x) d.scope h in member_same d.scope r.0 x (eqb-true r.0 x r.2) r.1
 
 -- where a constraint is not over the variable, nothing is marked
 places_none : (places : Places) (x : ℕ) (d : Connected) → (Contains d.scope x → ⊥) → mark_places places x d ≡ d
-places_none Own x d none =
-    ap (λ marks. record d { marks = marks }) (marks_none (λ y. nat_eq y x) d.scope d.marks (λ y m. apart' y m (nat_eq y x) refl))
+places_none (Own low high) x d none =
+    ap (λ marks. record d { marks = marks }) (marks_none (λ y. nat_eq y x) (widened low high) d.scope d.marks (λ y m. apart' y m (nat_eq y x) refl))
   where
     apart' : (y : ℕ) → Contains d.scope y → (b : Bool) → nat_eq y x ≡ b → nat_eq y x ≡ false
     apart' y m true e = absurd (none (subst (λ z. Contains d.scope z) (eqb-true y x e) m))
     apart' y m false e = e
-places_none Others x d none = elim (cases_Bool (is_over x d)) [
+places_none (Others loss) x d none = elim (cases_Bool (is_over x d)) [
   | inl t ↦ absurd (none (told_over x d t))
-  | inr f ↦ if_false (is_over x d) (marked_where (λ y. not (nat_eq y x)) d) d f
+  | inr f ↦ if_false (is_over x d) (others_after x loss d) d f
 ]
 
 -- where it is, these places are
-places_over : (places : Places) (x : ℕ) (d : Connected) → Contains d.scope x → marked_where (is_place places x) d ≡ mark_places places x d
-places_over Own x d over = refl
-places_over Others x d over = sym (if_true (is_over x d) (marked_where (λ y. not (nat_eq y x)) d) d (over_told x d over))
+pub places_over : (places : Places) (x : ℕ) (d : Connected) → Contains d.scope x → changed_where (is_place places x) (mark_at places (heed_of x d.scope d.heeds)) d ≡ mark_places places x d
+places_over (Own low high) x d over = refl
+places_over (Others loss) x d over = sym (if_true (is_over x d) (others_after x loss d) d (over_told x d over))
+
+-- where the marks stay as they are, the constraint does
+pub places_alone : (places : Places) (x : ℕ) (d : Connected) → Contains d.scope x → ((mark : Mark) → mark_at places (heed_of x d.scope d.heeds) mark ≡ mark) → d ≡ mark_places places x d
+places_alone places x d over alone =
+    sym (ap (λ marks. record d { marks = marks }) (marks_alone (is_place places x) (mark_at places (heed_of x d.scope d.heeds)) alone d.scope d.marks)) ∙ places_over places x d over
 
 -- ---- a change at one place
 
@@ -325,16 +367,17 @@ module _ (connected : List Connected) (rises : Rises (connected_cids connected))
         | inr f ↦ f
       ]
 
-  -- these places are marked at the constraint, which is over the variable
-  pub marked_here : (places : Places) (x : ℕ) (is : IsOver connected x cid) (d now : Connected) → d ≡ get_or connected place d → now ≡ marked_where (is_place places x) d → set connected place now ≡ map (changed_at cid (mark_places places x)) connected
-  marked_here places x is d now e becomes =
-      let owner = owner_is (over_connected connected x cid is) d e in
-      let over : Contains d.scope x = subst (λ (o : Connected). Contains o.scope x) (sym owner) is.over in
-      changed_here (mark_places places x) (over_connected connected x cid is) d now e (becomes ∙ places_over places x d over)
+  -- the constraint is over the variable
+  pub over_here : (x : ℕ) (is : IsOver connected x cid) (d : Connected) → d ≡ get_or connected place d → Contains d.scope x
+  over_here x is d e = subst (λ (o : Connected). Contains o.scope x) (sym (owner_is (over_connected connected x cid is) d e)) is.over
+
+  -- what holds of it holds of each constraint under the id
+  pub holds_here : (d : Connected) → d ≡ get_or connected place d → (P : Connected → Type 0) → P d → (e : Connected) → Contains connected e → e.cid ≡ cid → P e
+  holds_here d item P told e listed named = subst P (owner_is (record { owner = e; listed = listed; named = named }) d item) told
 
 -- ---- changes at several
 
-map_twice : (f g : Connected → Connected) (connected : List Connected) → map f (map g connected) ≡ map (λ d. f (g d)) connected
+pub map_twice : (f g : Connected → Connected) (connected : List Connected) → map f (map g connected) ≡ map (λ d. f (g d)) connected
 map_twice f g [] = refl
 map_twice f g (d ∷ connected) = ap (λ ds. f (g d) ∷ ds) (map_twice f g connected)
 
@@ -398,22 +441,22 @@ grown_after connected over later flags now shown room kept cids same longer = re
   shown_room = omega (arith, kept.shown_room, longer);
 }
 
-module _ (connected : List Connected) (over later : List Roomy) (flags now : List Bool) (shown room : ℕ) (cid : Cid) (scope : List ℕ) (place : ℕ) (kept : IsAgenda connected over flags shown)
+module _ (connected : List Connected) (over later : List Roomy) (flags now : List Bool) (shown room : ℕ) (cid : Cid) (scope : List ℕ) (heeds : List Heed) (place : ℕ) (kept : IsAgenda connected over flags shown)
     (at : IsPartedAt (λ d. cid_before d.cid cid) connected place) (absent : IsConnected connected cid → ⊥) where
-  inserted_is : insert connected place (marked_whole cid scope) ≡ with_connected (marked_whole cid scope) connected
-  inserted_is = connected_at connected kept.formed.rising cid place at absent (marked_whole cid scope) refl
+  inserted_is : insert connected place (marked_whole cid scope heeds) ≡ with_connected (marked_whole cid scope heeds) connected
+  inserted_is = connected_at connected kept.formed.rising cid place at absent (marked_whole cid scope heeds) refl
 
-  pub connected_after : (after : List Connected) → after ≡ insert connected place (marked_whole cid scope)
+  pub connected_after : (after : List Connected) → after ≡ insert connected place (marked_whole cid scope heeds)
       → ((x : ℕ) (c : Cid) → Contains (cids_at later x) c ↔ (Contains (cids_at over x) c ⊎ (Contains scope x × (c ≡ cid))))
       → now ≡ insert flags place true → length connected + 1 ≤ room → IsAgenda after later now room
   connected_after after is cids now_is long =
-      let whole = marked_whole cid scope in
+      let whole = marked_whole cid scope heeds in
       let e : after ≡ with_connected whole connected = is ∙ inserted_is in
       let many : length after ≡ length connected + 1 = ap length is ∙ length-insert connected place whole at.within in
       record {
         formed = formed_of after now (subst (λ ds. Rises (connected_cids ds)) (sym e) (subst Rises (sym (cids_with whole connected)) (with_cid_rises cid (connected_cids connected) kept.formed.rising)))
             (subst (All HasMarks) (sym e) (all_members HasMarks (with_connected whole connected) (λ d m. elim (with_connected_cases whole connected d m) [
-              | inl s ↦ subst HasMarks s (length-replicate (length scope) true)
+              | inl s ↦ subst HasMarks s (length-replicate (length scope) Whole)
               | inr k ↦ subst HasMarks k.2 (kept.formed.marks k.0 d k.1)
             ])));
         over_cids = λ x c. subst (λ ds. Contains (cids_at later x) c ↔ IsOver ds x c) (sym e) (
@@ -425,10 +468,10 @@ module _ (connected : List Connected) (over later : List Roomy) (flags now : Lis
       }
 
   -- the new one is pending
-  pub pending_with : (after : List Connected) → after ≡ insert connected place (marked_whole cid scope) → now ≡ insert flags place true → (c : Cid)
+  pub pending_with : (after : List Connected) → after ≡ insert connected place (marked_whole cid scope heeds) → now ≡ insert flags place true → (c : Cid)
       → Contains (flagged (connected_cids after) now) c ↔ (Contains (flagged (connected_cids connected) flags) c ⊎ (c ≡ cid))
   pending_with after is now_is c =
-      let cids_is : connected_cids after ≡ insert (connected_cids connected) place cid = ap connected_cids is ∙ map_insert cid_of connected place (marked_whole cid scope) in
+      let cids_is : connected_cids after ≡ insert (connected_cids connected) place cid = ap connected_cids is ∙ map_insert cid_of connected place (marked_whole cid scope heeds) in
       subst (λ cids. Contains (flagged cids now) c ↔ (Contains (flagged (connected_cids connected) flags) c ⊎ (c ≡ cid))) (sym cids_is)
       (subst (λ fs. Contains (flagged (insert (connected_cids connected) place cid) fs) c ↔ (Contains (flagged (connected_cids connected) flags) c ⊎ (c ≡ cid))) (sym now_is)
       (inserted_set cid (connected_cids connected) flags place (kept.flag_each ∙ sym (length-map connected cid_of)) c))
@@ -524,25 +567,15 @@ pub marks_here : (connected : List Connected) (cid : Cid) (place : ℕ) → Rise
     → (e : Connected) → Contains connected e → e.cid ≡ cid → d ≡ e
 marks_here connected cid place rises at d item e m named = owner_is connected rises cid place at (record { owner = e; listed = m; named = named }) d item
 
-pub place_of_marks : (connected : List Connected) (cid : Cid) (place : ℕ) (is : HasPlace connected cid place) (marks : List Bool)
+pub place_of_marks : (connected : List Connected) (cid : Cid) (place : ℕ) (is : HasPlace connected cid place) (marks : List Mark)
     → ((d : Connected) → Contains connected d → d.cid ≡ cid → length marks ≡ length d.scope) → place < length marks
 place_of_marks connected cid place is marks whole = omega (arith, whole is.owner is.listed is.named, is.within)
 
--- what the answer of a test says of a mark
-pub tells_mark : (connected : List Connected) (cid : Cid) (place : ℕ) → HasPlace connected cid place → (marks : List Bool)
-    → ((d : Connected) → Contains connected d → d.cid ≡ cid → marks ≡ d.marks) → place < length marks → Tells (get_or marks place false) (IsMarked connected cid place)
-tells_mark connected cid place has marks is within = go (get_or marks place false) refl
-  where
-    go : (b : Bool) → get_or marks place false ≡ b → Tells b (IsMarked connected cid place)
-    go true e = record {
-      owner = has.owner;
-      listed = has.listed;
-      named = has.named;
-      marked = ap (λ ms. slice_get ms place) (sym (is has.owner has.listed has.named)) ∙ slice_get-get_or marks place false within ∙ ap Some e;
-    }
-    go false e = λ m.
-        let f = get_or_from_slice_get m.owner.marks place true false m.marked in
-        false≢true (sym e ∙ ap (λ ms. get_or ms place false) (is m.owner m.listed m.named) ∙ f)
+-- the mark that is read there
+pub mark_told : (connected : List Connected) (cid : Cid) (place : ℕ) (marks : List Mark) → ((d : Connected) → Contains connected d → d.cid ≡ cid → marks ≡ d.marks) → place < length marks
+    → (mark : Mark) → mark ≡ get_or marks place mark → (d : Connected) → Contains connected d → d.cid ≡ cid → slice_get d.marks place ≡ Some mark
+mark_told connected cid place marks is within mark item d listed named =
+    ap (λ ms. slice_get ms place) (sym (is d listed named)) ∙ slice_get-get_or marks place mark within ∙ ap Some (sym item)
 
 -- ---- waking by id
 
@@ -583,3 +616,15 @@ put_all_set first now more i past so_far c = subst (λ cids. Contains now c ↔ 
 
 pub none_put : (cids : List Cid) (c : Cid) → Contains cids c ↔ (Contains cids c ⊎ Contains {X = Cid} [] c)
 none_put cids c = (λ m. inl m, λ h. elim h [ inl m ↦ m | inr m ↦ absurd (member_nil c m) ])
+
+-- no loss of the variable is heeded by value, at one more constraint
+pub whole_more : (f : Connected → Connected) → KeepsScopes f → (x : ℕ) (first now : List Connected) → now ≡ map f first → (cids : List Cid) (i : ℕ) (cid : Cid) → i < length cids → cid ≡ get_or cids i cid
+    → ((d : Connected) → Contains first d → Contains (take i cids) d.cid → is_by_value (heed_of x d.scope d.heeds) ≡ false)
+    → ((d : Connected) → Contains now d → d.cid ≡ cid → is_by_value (heed_of x d.scope d.heeds) ≡ false)
+    → (d : Connected) → Contains first d → Contains (take (i + 1) cids) d.cid → is_by_value (heed_of x d.scope d.heeds) ≡ false
+whole_more f keeps x first now is cids i cid lt item so_far here d m n = elim (member_take_more cids i cid d.cid lt item n) [
+  | inl k ↦ so_far d m k
+  | inr e ↦
+      ap is_by_value (sym (heed_kept f keeps x d))
+      ∙ here (f d) (subst (λ ds. Contains ds (f d)) (sym is) (member_map f first d m)) (keeps.cid d ∙ sym e)
+]

@@ -5,7 +5,8 @@ use Rattle.std.proofs.lemmas.List.{get_or-map, get_or_past, map-set, set-get_or,
 use Rattle.std.proofs.lemmas.List.Elements.{All-set, All-push, All-map, All-weaker}
 use Rattle.palm_base.proofs.cited.Members.{member_nil, member_same}
 use Rattle.palm_domain.specs.declared.limits.TheConstants.{MOST_VALUES}
-use Rattle.palm_domain.specs.Rows.{Row, initial_of, present_of, values_of, present_values, values_with, values_without, IsFormed, AreFormed, LosesPair, GainsPair, Ascends}
+use Rattle.palm_domain.specs.declared.placed.Placed.{Placed}
+use Rattle.palm_domain.specs.Rows.{Row, IsPlaced, StandsIn, initial_of, present_of, values_of, present_values, values_with, values_without, IsFormed, AreFormed, LosesPair, GainsPair, Ascends}
 use Rattle.palm_domain.proofs.RowMarks.{row}
 use Rattle.palm_domain.proofs.cited.Values.{without_member, member_without, Ascends-without, with_member, member_with, member_with_itself, Ascends-with, length-with, length-without}
 
@@ -46,6 +47,10 @@ initial-row rows i r l e = get_or-map (λ (s : Row). s.initial) rows i r [] l �
 
 pub present-row : (rows : List Row) (i : ℕ) (r : Row) → i < length rows → r ≡ get_or rows i r → values_of (present_of rows) i ≡ r.present
 present-row rows i r l e = get_or-map (λ (s : Row). s.present) rows i r [] l ∙ ap (λ (s : Row). s.present) (sym e)
+
+-- where the declared values stay, a value keeps its place
+pub placed_stays : (before after : List Row) (x : ℕ) (p : Placed) → initial_of after ≡ initial_of before → IsPlaced before x p → IsPlaced after x p
+placed_stays before after x p same placed = subst (λ lists. StandsIn (values_of lists x) p) (sym same) placed
 
 -- a variable with some value is one of the store's
 pub exists_from_member : (lists : List (List ℤ)) (i : ℕ) (v : ℤ) → Contains (values_of lists i) v → i < length lists

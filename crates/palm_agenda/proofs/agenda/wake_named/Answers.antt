@@ -1,8 +1,16 @@
-use Rattle.std.proofs.Common.{arith}
+use Rattle.std.proofs.Common.{◌≡◌, ◌∙◌, arith, ap, false, sym}
+use Rattle.palm_agenda.specs.Agenda.{Connected}
+use Rattle.palm_agenda.specs.Losses.{heed_of, is_by_value}
 use Rattle.palm_agenda.specs.Places.{mark_places}
 use Rattle.palm_agenda.proofs.cited.Connecting.{over_connected, parted_in}
-use Rattle.palm_agenda.proofs.cited.Keeping.{keeps_places, marked_here, place_within, woken_at}
+use Rattle.palm_agenda.proofs.cited.Keeping.{changed_here, holds_here, keeps_places, not_true, over_here, place_within, woken_at}
 use Rattle.palm_agenda.proofs.agenda.wake_named.Goals as goal
+
+pub mark-heed-requires : goal.mark-heed-requires
+mark-heed-requires c =
+    over_here c.args.connections.now.items c.requires.rising c.args.cid.now c.place_from-place.result
+    (parted_in c.deref.result.now c.args.connections.now.items c.args.cid.now c.place_from-place.result c.deref.ensures.value c.place_from-place.ensures)
+    c.args.var.now c.requires.over c.index_mut-connection.result.now c.index_mut-connection.ensures.value
 
 pub raise-requires : goal.raise-requires
 raise-requires c =
@@ -14,13 +22,21 @@ raise-requires c =
 
 pub returns-clause-marks : goal.returns-clause-marks
 returns-clause-marks c =
-    marked_here c.args.connections.now.items c.requires.rising c.args.cid.now c.place_from-place.result
+    changed_here c.args.connections.now.items c.requires.rising c.args.cid.now c.place_from-place.result
     (parted_in c.deref.result.now c.args.connections.now.items c.args.cid.now c.place_from-place.result c.deref.ensures.value c.place_from-place.ensures)
-    c.args.places c.args.var.now c.requires.over c.index_mut-connection.result.now c.mark.new.self c.index_mut-connection.ensures.value c.mark.ensures
+    (mark_places c.args.places.now c.args.var.now) (over_connected c.args.connections.now.items c.args.var.now c.args.cid.now c.requires.over)
+    c.index_mut-connection.result.now c.mark-heed.new.self c.index_mut-connection.ensures.value c.mark-heed.ensures.marked
 
 pub returns-clause-pending : goal.returns-clause-pending
 returns-clause-pending c =
-    woken_at c.args.connections.now.items _ c.args.pending.now.flags c.raise.new.self.flags c.args.cid.now c.place_from-place.result c.args.var.now (mark_places c.args.places c.args.var.now)
-    (keeps_places c.args.places c.args.var.now) c.requires.rising c.requires.flags
+    woken_at c.args.connections.now.items _ c.args.pending.now.flags c.raise.new.self.flags c.args.cid.now c.place_from-place.result c.args.var.now (mark_places c.args.places.now c.args.var.now)
+    (keeps_places c.args.places.now c.args.var.now) c.requires.rising c.requires.flags
     (parted_in c.deref.result.now c.args.connections.now.items c.args.cid.now c.place_from-place.result c.deref.ensures.value c.place_from-place.ensures)
     c.requires.over (returns-clause-marks c) c.raise.ensures
+
+pub returns-clause-whole : goal.returns-clause-whole
+returns-clause-whole c told =
+    holds_here c.args.connections.now.items c.requires.rising c.args.cid.now c.place_from-place.result
+    (parted_in c.deref.result.now c.args.connections.now.items c.args.cid.now c.place_from-place.result c.deref.ensures.value c.place_from-place.ensures)
+    c.index_mut-connection.result.now c.index_mut-connection.ensures.value (λ (d : Connected). is_by_value (heed_of c.args.var.now d.scope d.heeds) ≡ false)
+    (ap is_by_value (sym c.mark-heed.ensures.heed) ∙ sym c.is_by_value.ensures ∙ not_true c.is_by_value.result told)

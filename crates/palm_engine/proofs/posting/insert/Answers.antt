@@ -2,13 +2,14 @@ use Rattle.std.proofs.Common.{◌≡◌, ◌⊎◌, ◌↔◌, if◌then◌else�
 use Rattle.palm_base.specs.declared.terms.Cid.{Cid}
 use Rattle.palm_base.specs.Order.{cid_before, IsPartedAt}
 use Rattle.palm_model.specs.Log.{IsActive}
+use Rattle.palm_agenda.specs.Agenda.{marked_whole, with_connected}
 use Rattle.palm_engine.specs.Posted.{active_of, actives_of}
 use Rattle.palm_engine.proofs.Placing.{inserted_cids}
-use Rattle.palm_engine.proofs.Scopes.{connected_is_active}
+use Rattle.palm_engine.proofs.Scopes.{connected_is_active, heeds_fit}
 use Rattle.palm_engine.proofs.posting.insert.Goals as goal
 
-pub connect-requires : goal.connect-requires
-connect-requires g c is =
+pub connect-requires-clause-new : goal.connect-requires-clause-new
+connect-requires-clause-new g c is =
     let active = actives_of g.F.Filter.meaning c.args.posted.now.items in
     c.requires.inactive (subst (IsActive active) c.cid-cid.ensures (connected_is_active active c.args.agenda.now.connected c.requires.connected c.cid-cid.result is))
 
@@ -25,6 +26,17 @@ returns-clause-active g c =
     ∙ ap (λ b. if b then insert c.reserve.new.self.items place new else c.reserve.new.self.items) (sym c.is_ok.ensures.value ∙ c.if-prove.false)
     ∙ ap (λ xs. insert xs place new) c.in_ok-reserve.ensures.items)
     ∙ inserted_cids (active_of meaning) before new place c.requires.rising here c.requires.inactive
+
+pub returns-clause-connected : goal.returns-clause-connected
+returns-clause-connected g c =
+    let a = active_of g.F.Filter.meaning c.args.constraint in
+    let heeds = c.in_ok-heeds.heeds.items in (
+      heeds,
+      heeds_fit a heeds c.in_ok-heeds.ensures.fit,
+      c.in_ok-connect.ensures.connected
+          ∙ ap (λ cid. with_connected (marked_whole cid c.scope.result.now heeds) c.args.agenda.now.connected) c.cid-cid.ensures
+          ∙ ap (λ vars. with_connected (marked_whole a.cid vars heeds) c.args.agenda.now.connected) c.scope.ensures.scope,
+    )
 
 pub returns-clause-pending : goal.returns-clause-pending
 returns-clause-pending g c =

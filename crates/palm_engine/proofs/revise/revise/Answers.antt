@@ -1,12 +1,24 @@
 use Rattle.std.proofs.Common.{ℕ, ◌≤◌, List, length, sym, subst, ◌∙◌, arith}
+use Rattle.palm_base.specs.declared.terms.Cid.{Cid}
 use Rattle.palm_domain.specs.Rows.{present_of}
 use Rattle.palm_model.specs.Constraint.{scope}
+use Rattle.palm_agenda.specs.Agenda.{IsConnected}
 use Rattle.palm_engine.specs.Kept.{IsEmptyKept}
 use Rattle.palm_engine.specs.Posted.{active_of}
 use Rattle.palm_engine.proofs.Progress.{on_err_of}
 use Rattle.palm_engine.proofs.Places.{places_start, places_more, places_done, places_emptied, places_stopped, places_counted, places_part_counted, kept_empty, place_at}
 use Rattle.palm_engine.proofs.Settles.{none_of}
+use Rattle.palm_engine.proofs.Clear.{owner_connected, clear_walked}
 use Rattle.palm_engine.proofs.revise.revise.Goals as goal
+
+pub is_clear-requires : goal.is_clear-requires
+is_clear-requires g c =
+    let r = c.requires in
+    subst (λ (n : Cid). IsConnected c.args.filtering.now.agenda.connected n) (sym c.cid.ensures) (owner_connected c.args.filtering.now r.0 (active_of g.F.Filter.meaning c.args.constraint.now) r.1)
+
+pub returns-then-is_clear-clause-walked : goal.returns-then-is_clear-clause-walked
+returns-then-is_clear-clause-walked g c = λ active r.
+    clear_walked c.args.filtering.now active (active_of g.F.Filter.meaning c.args.constraint.now) r (λ d m named. c.is_clear.ensures c.if-is_clear.true d m (named ∙ sym c.cid.ensures))
 
 pub loop-place-init : goal.loop-place-init
 loop-place-init g c = λ active r. places_start active (active_of g.F.Filter.meaning c.args.constraint.now) c.args.filtering.now c.args.steps.now r

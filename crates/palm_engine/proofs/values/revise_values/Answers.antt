@@ -27,8 +27,8 @@ revise_apart-requires-clause-apart g c =
     let fits : SFits w32 c.in-Apart.by = search rules in
     subst (λ (by : ℤ). IsApart owner.con c.args.var by) (sym (to_z-of_z w32 c.in-Apart.by fits)) shaped
 
-pub revise_each-requires-clause-over : goal.revise_each-requires-clause-over
-revise_each-requires-clause-over g c = place_over (active_of g.F.Filter.meaning c.args.constraint.now) c.args.place c.args.var c.requires.at
+pub revise_marked-requires-clause-over : goal.revise_marked-requires-clause-over
+revise_marked-requires-clause-over g c = place_over (active_of g.F.Filter.meaning c.args.constraint.now) c.args.place c.args.var c.requires.at
 
 pub returns-in-Guarded-clause-walked : goal.returns-in-Guarded-clause-walked
 returns-in-Guarded-clause-walked g c = λ active r.

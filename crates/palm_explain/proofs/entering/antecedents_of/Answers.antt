@@ -1,36 +1,51 @@
-use Rattle.std.proofs.Common.{◌≡◌, ◌∙◌, ◌++◌, ◌∷◌, [], ◌+◌, length, map, take, Some, IsSome, Contains, inl, inr, refl, sym, ap, ap₂, subst, arith}
-use Rattle.std.proofs.lemmas.List.{length-append, map-append, take_more}
-use Rattle.std.proofs.lemmas.List.Elements.{Contains-push_cases}
-use Rattle.palm_explain.specs.Graph.{IsKey, graph_of, pair_at}
-use Rattle.palm_explain.specs.Rows.{key_at}
-use Rattle.palm_explain.proofs.Graphs.{pair_is, some_same}
+use Rattle.std.proofs.Common.{◌≡◌, ◌∙◌, ◌<◌, ℕ, List, Some, length, slice_get, sym, ap, subst}
+use Rattle.std.proofs.lemmas.List.Elements.{All-contains}
+use Rattle.std.proofs.lemmas.Option.{get_or_from_slice_get, slice_get-get_or}
+use Rattle.palm_base.specs.declared.terms.Pair.{Pair}
+use Rattle.palm_base.proofs.cited.Members.{member_get}
+use Rattle.palm_explain.specs.Graph.{AreFound, Graph, IsKey, graph_of, pair_at}
+use Rattle.palm_explain.specs.declared.rows.Row.{Row}
+use Rattle.palm_explain.specs.Rows.{IsFormedRow, key_at, row_key}
+use Rattle.palm_explain.proofs.Graphs.{pair_is}
+use Rattle.palm_explain.proofs.Slots.{key_within}
 use Rattle.palm_explain.proofs.entering.antecedents_of.Goals as goal
 
-pub unwrap-requires : goal.unwrap-requires
-unwrap-requires c =
-    let p = c.reason-item.result in
-    let r = c.requires.removed p (c.loop-reason.reason-index, c.loop-reason-test.true, sym c.reason-item.is) in
-    let found : key_at c.args.rows.now p ≡ Some r.0 = ap (key_at c.args.rows.now) (sym r.2 ∙ pair_is (graph_of c.args.nodes.now) r.0 r.1.0 r.1.1) ∙ c.requires.found r.0 r.1.0 r.1.1 in
-    subst IsSome (sym (c.key_near.ensures ∙ found)) refl
+-- a reason's key stands in the rows
+reason_key : (rows : List Row) (g : Graph) → AreFound rows g → (p : Pair) (k : ℕ) → IsKey g k → pair_at g k ≡ p → key_at rows p ≡ Some k
+reason_key rows g found p k key is = ap (key_at rows) (sym is ∙ pair_is g k key.0 key.1) ∙ found k key.0 key.1
 
-pub loop-reason-preserved : goal.loop-reason-preserved
-loop-reason-preserved c =
-    let g = graph_of c.args.nodes.now in
-    let p = c.reason-item.result in
-    let i = c.loop-reason.reason-index in
-    let r = c.requires.removed p (i, c.loop-reason-test.true, sym c.reason-item.is) in
-    let found : key_at c.args.rows.now p ≡ Some r.0 = ap (key_at c.args.rows.now) (sym r.2 ∙ pair_is g r.0 r.1.0 r.1.1) ∙ c.requires.found r.0 r.1.0 r.1.1 in
-    let same : r.0 ≡ c.unwrap.result = some_same r.0 c.unwrap.result (sym (c.key_near.ensures ∙ found) ∙ c.unwrap.ensures) in
-    let next : take i c.args.reasons.now ++ p ∷ [] ≡ take (i + 1) c.args.reasons.now = ap (λ z. take i c.args.reasons.now ++ z ∷ []) c.reason-item.is ∙ sym (take_more c.args.reasons.now i p c.loop-reason-test.true) in record {
-      reasons = ap (map (pair_at g)) c.push_reserved.ensures.items ∙ map-append (pair_at g) c.loop-reason.antecedents.items (c.unwrap.result ∷ [])
-          ∙ ap₂ (λ ps q. ps ++ q ∷ []) c.loop-reason.invariant.reasons (ap (pair_at g) (sym same) ∙ r.2) ∙ next;
-      room =
-          let long = ap length c.push_reserved.ensures.items ∙ length-append c.loop-reason.antecedents.items (c.unwrap.result ∷ []) in omega (arith, long, c.push_reserved.ensures.capacity, c.loop-reason.invariant.room, c.loop-reason-test.true);
-      keys = λ k m. elim (Contains-push_cases c.loop-reason.antecedents.items c.unwrap.result k (subst (λ ks. Contains ks k) c.push_reserved.ensures.items m)) [
-        | inl old ↦ c.loop-reason.invariant.keys k old
-        | inr e ↦ subst (IsKey g) (same ∙ e) r.1
-      ];
-    }
+-- so there is a row of its variable
+row_within : (rows : List Row) (g : Graph) → AreFound rows g → (p : Pair) → ((k : ℕ) × IsKey g k × (pair_at g k ≡ p)) → p.var < length rows
+row_within rows g found p r = key_within rows p r.0 (reason_key rows g found p r.0 r.1 r.2)
 
-pub push_reserved-requires : goal.push_reserved-requires
-push_reserved-requires c = omega (arith, c.loop-reason.invariant.room, c.loop-reason-test.true)
+pub bounds-rows-var-inside : goal.bounds-rows-var-inside
+bounds-rows-var-inside c =
+    let rows = c.args.rows.now in
+    let p = c.index-reasons-place.result in
+    let lt = row_within rows (graph_of c.args.nodes.now) c.requires.found p (c.requires.removed p (c.loop-place.place, c.loop-place-test.true, sym c.index-reasons-place.is)) in
+    subst (λ x. x < length rows) (ap (λ (z : Pair). z.var) c.index-reasons-place.is ∙ sym c.var.view_is) lt
+
+pub push_run-place-requires-clause-formed : goal.push_run-place-requires-clause-formed
+push_run-place-requires-clause-formed c =
+    let rows = c.args.rows.now in
+    let row = c.index-rows-var.result in
+    let p = c.index-reasons-place.result in
+    let within = row_within rows (graph_of c.args.nodes.now) c.requires.found p (c.requires.removed p (c.loop-place.place, c.loop-place-test.true, sym c.index-reasons-place.is)) in
+    let lt : c.var.inside.0 < length rows = subst (λ x. x < length rows) (ap (λ (z : Pair). z.var) c.index-reasons-place.is ∙ sym c.var.view_is) within in
+    let at : slice_get rows c.var.inside.0 ≡ Some row = slice_get-get_or rows c.var.inside.0 row lt ∙ ap Some (sym c.index-rows-var.is) in
+    All-contains IsFormedRow rows row c.requires.formed (member_get rows c.var.inside.0 row at)
+
+pub push_run-place-requires-clause-found : goal.push_run-place-requires-clause-found
+push_run-place-requires-clause-found c p k var key is =
+    let rows = c.args.rows.now in
+    let row = c.index-rows-var.result in
+    let q = c.index-reasons-place.result in
+    let within = row_within rows (graph_of c.args.nodes.now) c.requires.found q (c.requires.removed q (c.loop-place.place, c.loop-place-test.true, sym c.index-reasons-place.is)) in
+    let lt : c.var.inside.0 < length rows = subst (λ x. x < length rows) (ap (λ (z : Pair). z.var) c.index-reasons-place.is ∙ sym c.var.view_is) within in
+    let at : slice_get rows c.var.inside.0 ≡ Some row = slice_get-get_or rows c.var.inside.0 row lt ∙ ap Some (sym c.index-rows-var.is) in
+    let found = reason_key rows (graph_of c.args.nodes.now) c.requires.found p k key is in
+    ap (λ o. row_key o p.value) (sym at ∙ ap (slice_get rows) (c.var.view_is ∙ var)) ∙ found
+
+pub push_run-place-requires-clause-one : goal.push_run-place-requires-clause-one
+push_run-place-requires-clause-one c p at =
+    ap (λ (z : Pair). z.var) (sym (get_or_from_slice_get c.args.reasons.now c.loop-place.place p c.index-reasons-place.result at))

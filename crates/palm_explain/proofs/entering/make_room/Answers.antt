@@ -1,9 +1,6 @@
-use Rattle.std.proofs.Common.{◌∙◌, sym, ap, subst}
-use Rattle.palm_explain.specs.Graph.{IsKey, graph_of, marks_of}
+use Rattle.std.proofs.Common.{ap}
+use Rattle.palm_explain.specs.Graph.{graph_of, marks_of}
 use Rattle.palm_explain.proofs.entering.make_room.Goals as goal
-
-pub reserve_links-requires : goal.reserve_links-requires
-reserve_links-requires c k m = subst (λ g. IsKey g k) (sym (ap graph_of c.reserve-4.ensures.rest_kept)) (c.requires k m)
 
 pub returns-in_err-reserve-4-clause-graph : goal.returns-in_err-reserve-4-clause-graph
 returns-in_err-reserve-4-clause-graph c = ap graph_of c.reserve-4.ensures.rest_kept
@@ -12,7 +9,7 @@ pub returns-in_err-reserve-4-clause-marks : goal.returns-in_err-reserve-4-clause
 returns-in_err-reserve-4-clause-marks c = ap marks_of c.reserve-4.ensures.rest_kept
 
 pub returns-clause-graph : goal.returns-clause-graph
-returns-clause-graph c = c.reserve_links.ensures.graph ∙ ap graph_of c.reserve-4.ensures.rest_kept
+returns-clause-graph c = ap graph_of c.reserve-4.ensures.rest_kept
 
 pub returns-clause-marks : goal.returns-clause-marks
-returns-clause-marks c = c.reserve_links.ensures.marks ∙ ap marks_of c.reserve-4.ensures.rest_kept
+returns-clause-marks c = ap marks_of c.reserve-4.ensures.rest_kept

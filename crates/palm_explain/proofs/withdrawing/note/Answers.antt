@@ -1,39 +1,49 @@
-use Rattle.std.proofs.Common.{◌≡◌, ◌∙◌, true, false, Contains, inl, inr, sym, subst}
-use Rattle.palm_base.proofs.cited.Members.{member_same}
-use Rattle.palm_base.proofs.cited.Telling.{tells_false, tells_true}
-use Rattle.palm_model.specs.Constraint.{Distinct}
-use Rattle.palm_explain.specs.Restored.{AreFlagged, flag_at}
-use Rattle.palm_explain.proofs.Flags.{flags_pushed}
-use Rattle.palm_explain.proofs.Once.{distinct_push}
-use Rattle.palm_explain.proofs.Writes.{pushed_more, pushed_only}
+use Rattle.std.proofs.Common.{◌≡◌, ◌∙◌, Some, Contains, slice_get, inl, sym, ap, subst}
+use Rattle.palm_explain.specs.declared.restored.Restored.{Restored}
+use Rattle.palm_explain.specs.Explanations.{IsSpanned, restored_vars}
+use Rattle.palm_explain.specs.Restored.{AreSlotted, slot_at}
+use Rattle.palm_explain.proofs.Slots.{entry_at, pushed_noted, pushed_slotted, pushed_spanned, widened_noted, widened_slotted, widened_spanned}
 use Rattle.palm_explain.proofs.withdrawing.note.Goals as goal
 
-pub returns-then-is_flagged-clause-noted : goal.returns-then-is_flagged-clause-noted
-returns-then-is_flagged-clause-noted c x =
-    let rows = c.args.rows.now.items in
-    let vars = c.args.restored.now.items in
-    let var = c.args.var in
-    let is : flag_at rows var ≡ true = rw c.deref.ensures.value at (sym c.is_flagged.ensures ∙ c.if-is_flagged.true) in
-    let there = tells_true (Contains vars var) (flag_at rows var) (c.requires.flags var) is in
-    (λ m. inl m, λ m. elim m [ inl o ↦ o | inr e ↦ member_same vars var x e there ])
+pub returns-then-has_at-clause-slots : goal.returns-then-has_at-clause-slots
+returns-then-has_at-clause-slots c =
+    let restored = c.args.restored.now.items in
+    let slot = c.slot_of-slot.result in
+    let n = c.index_mut.result.now in
+    let at = entry_at restored slot c.args.pair.var n (rw c.deref-2.ensures.value at (c.has_at.ensures.there c.if-has_at.true)) c.index_mut.ensures.value in
+    widened_slotted restored slot n c.widen.new.self at.0 c.widen.ensures.var c.args.rows.now.items c.requires.slots
 
-pub returns-clause-flags : goal.returns-clause-flags
-returns-clause-flags c =
-    let vars = c.args.restored.now.items in
-    subst (AreFlagged c.set_flag.new.rows.items) (sym c.push_reserved.ensures.items)
-    (flags_pushed c.args.rows.now.items vars c.requires.flags c.set_flag.new.rows.items c.args.var c.set_flag.ensures.flagged c.set_flag.ensures.others)
+pub returns-then-has_at-clause-noted : goal.returns-then-has_at-clause-noted
+returns-then-has_at-clause-noted c x m =
+    let restored = c.args.restored.now.items in
+    let slot = c.slot_of-slot.result in
+    let n = c.index_mut.result.now in
+    let at = entry_at restored slot c.args.pair.var n (rw c.deref-2.ensures.value at (c.has_at.ensures.there c.if-has_at.true)) c.index_mut.ensures.value in
+    inl (widened_noted restored slot n c.widen.new.self at.0 c.widen.ensures.var x m)
 
-pub returns-clause-once : goal.returns-clause-once
-returns-clause-once c once =
+pub returns-then-has_at-clause-spanned : goal.returns-then-has_at-clause-spanned
+returns-then-has_at-clause-spanned c q m =
+    let restored = c.args.restored.now.items in
+    let slot = c.slot_of-slot.result in
+    let n = c.index_mut.result.now in
+    let at = entry_at restored slot c.args.pair.var n (rw c.deref-2.ensures.value at (c.has_at.ensures.there c.if-has_at.true)) c.index_mut.ensures.value in
+    widened_spanned restored slot n c.widen.new.self at.0 c.widen.ensures.var c.args.pair q at.1 c.widen.ensures.low c.widen.ensures.high m
+
+pub returns-clause-slots : goal.returns-clause-slots
+returns-clause-slots c =
     let rows = c.args.rows.now.items in
-    let vars = c.args.restored.now.items in
-    let var = c.args.var in
-    let free : flag_at rows var ≡ false = rw c.deref.ensures.value at (sym c.is_flagged.ensures ∙ c.if-is_flagged.false) in
-    subst Distinct (sym c.push_reserved.ensures.items) (distinct_push vars var once (tells_false (Contains vars var) (flag_at rows var) (c.requires.flags var) free))
+    let restored = c.args.restored.now.items in
+    let x = c.args.pair.var in
+    let slot : c.slot_of-slot.result ≡ slot_at rows x = c.slot_of-slot.ensures ∙ ap (λ rs. slot_at rs x) c.deref.ensures.value in
+    let other : (t : Restored) → slice_get restored c.slot_of-slot.result ≡ Some t → t.var ≡ x → ⊥ = rw c.deref-2.ensures.value at (c.has_at.ensures.other c.if-has_at.false) in
+    subst (AreSlotted c.set_slot.new.rows.items) (sym c.push_reserved.ensures.items)
+    (pushed_slotted restored c.of.result x (ap (λ (z : Restored). z.var) c.of.ensures) rows c.set_slot.new.rows.items c.requires.slots (λ t at. other t (ap (slice_get restored) slot ∙ at))
+    (c.set_slot.ensures.noted ∙ c.len.ensures ∙ c.args.restored.now.ok.0) c.set_slot.ensures.others)
 
 pub returns-clause-noted : goal.returns-clause-noted
-returns-clause-noted c x =
-    let vars = c.args.restored.now.items in
-    let var = c.args.var in
-    let is = c.push_reserved.ensures.items in
-    (λ m. pushed_only vars var x (subst (λ l. Contains l x) is m), λ m. subst (λ l. Contains l x) (sym is) (pushed_more vars var x m))
+returns-clause-noted c y m =
+    pushed_noted c.args.restored.now.items c.of.result c.args.pair.var (ap (λ (z : Restored). z.var) c.of.ensures) y (subst (λ rs. Contains (restored_vars rs) y) c.push_reserved.ensures.items m)
+
+pub returns-clause-spanned : goal.returns-clause-spanned
+returns-clause-spanned c q m =
+    subst (λ rs. IsSpanned rs q) (sym c.push_reserved.ensures.items) (pushed_spanned c.args.restored.now.items c.of.result c.args.pair q c.of.ensures m)

@@ -1,4 +1,4 @@
-use Rattle.std.proofs.Common.{◌≡◌, ◌<◌, ◌∷◌, [], Some, get_or, length, take, inl, inr, refl, sym, ap, ◌∙◌, subst, arith, Contains}
+use Rattle.std.proofs.Common.{◌≡◌, ◌<◌, ◌∷◌, [], Some, get_or, length, take, inl, inr, sym, ap, ◌∙◌, subst, arith, Contains}
 use Rattle.std.proofs.Math.Nat.{min-le_left, min-le_right}
 use Rattle.std.proofs.lemmas.List.{take_all}
 use Rattle.std.proofs.lemmas.Option.{get_or_from_slice_get}
@@ -6,24 +6,25 @@ use Rattle.palm_base.proofs.cited.Members.{member_nil, member_take_more}
 use Rattle.palm_model.specs.Log.{Removal}
 use Rattle.palm_explain.specs.Chain.{next_or}
 use Rattle.palm_explain.specs.Graph.{Link, graph_of, link_of, marks_of, said}
-use Rattle.palm_explain.specs.Lost.{lost_at}
+use Rattle.palm_explain.specs.Lost.{lost_at, lost_of}
+use Rattle.palm_explain.specs.Restored.{AreSlotted}
 use Rattle.palm_explain.proofs.Chains.{line_at, line_marked, line_next, mark_key}
-use Rattle.palm_explain.proofs.Flags.{key_within, keys_same, keys_then}
 use Rattle.palm_explain.proofs.Going.{line_all, line_out, line_short}
 use Rattle.palm_explain.proofs.Graphs.{link_same, removal_is}
-use Rattle.palm_explain.proofs.PuttingBack.{back_below_all, back_below_next, back_below_none, lost_here}
+use Rattle.palm_explain.proofs.PuttingBack.{IsBackBelow, back_below_all, back_below_next, back_below_none, lost_here}
+use Rattle.palm_explain.proofs.Slots.{key_within, keys_same, keys_then, none_slotted, slotted_once, spanned_vars}
 use Rattle.palm_explain.proofs.Writes.{key_there}
 use Rattle.palm_explain.proofs.withdrawing.put_back.Goals as goal
 
 pub loop-place-init : goal.loop-place-init
 loop-place-init c = record {
   cursor = λ chain line. line.starts;
-  below = λ chain line. back_below_none (graph_of c.args.nodes.now) (marks_of c.args.nodes.now) chain c.args.store.now c.args.restored.now.items;
+  below = λ chain line. subst (λ rs. IsBackBelow (graph_of c.args.nodes.now) (marks_of c.args.nodes.now) chain c.args.store.now c.args.store.now rs 0) (sym c.clear.ensures.items)
+      (back_below_none (graph_of c.args.nodes.now) (marks_of c.args.nodes.now) chain c.args.store.now);
   keys = keys_same c.args.rows.now.items;
-  flags = c.requires.flags;
-  once = λ once. once;
-  few = omega arith;
-  room = refl;
+  slots = subst (AreSlotted c.args.rows.now.items) (sym c.clear.ensures.items) (none_slotted c.args.rows.now.items);
+  few = let none = ap length c.clear.ensures.items in let ok = c.clear.new.self.ok.0 in omega (arith, none, ok);
+  room = c.clear.ensures.capacity;
   within = omega arith;
   earliest = λ chain line k m t at. absurd (member_nil k t);
 }
@@ -43,7 +44,7 @@ put_back_pair-requires-clause-declared c =
     let line = c.requires.line.1 in
     let key = c.loop-place.key in
     let n = c.index-node.result.now in
-    (line_out s c.args.first c.args.count chain c.args.log.now line c.requires.graph c.args.store.now c.loop-place.store c.args.restored.now.items c.loop-place.restored.items c.loop-place.place key (said n)
+    (line_out s c.args.first c.args.count chain c.args.log.now line c.requires.graph c.args.store.now c.loop-place.store c.loop-place.restored.items c.loop-place.place key (said n)
     c.requires.lacks (c.loop-place.invariant.below chain line) (line_at s c.args.first c.args.count chain line c.loop-place.place key c.loop-place-test.true (c.loop-place.invariant.cursor chain line)) (ap link_of c.index-node.ensures)).0
 
 pub put_back_pair-requires-clause-out : goal.put_back_pair-requires-clause-out
@@ -53,7 +54,7 @@ put_back_pair-requires-clause-out c =
     let line = c.requires.line.1 in
     let key = c.loop-place.key in
     let n = c.index-node.result.now in
-    (line_out s c.args.first c.args.count chain c.args.log.now line c.requires.graph c.args.store.now c.loop-place.store c.args.restored.now.items c.loop-place.restored.items c.loop-place.place key (said n)
+    (line_out s c.args.first c.args.count chain c.args.log.now line c.requires.graph c.args.store.now c.loop-place.store c.loop-place.restored.items c.loop-place.place key (said n)
     c.requires.lacks (c.loop-place.invariant.below chain line) (line_at s c.args.first c.args.count chain line c.loop-place.place key c.loop-place-test.true (c.loop-place.invariant.cursor chain line)) (ap link_of c.index-node.ensures)).1
 
 pub put_back_pair-requires-clause-row : goal.put_back_pair-requires-clause-row
@@ -62,8 +63,8 @@ put_back_pair-requires-clause-row c =
     let lt = key_within c.args.rows.now.items n.pair c.loop-place.key (c.requires.found c.loop-place.key (said n) (ap link_of c.index-node.ensures)) in
     subst (λ k. n.pair.var < k) (sym c.loop-place.invariant.keys.long) lt
 
-pub put_back_pair-requires-clause-flags : goal.put_back_pair-requires-clause-flags
-put_back_pair-requires-clause-flags c = c.loop-place.invariant.flags
+pub put_back_pair-requires-clause-slots : goal.put_back_pair-requires-clause-slots
+put_back_pair-requires-clause-slots c = c.loop-place.invariant.slots
 
 pub put_back_pair-requires-clause-room : goal.put_back_pair-requires-clause-room
 put_back_pair-requires-clause-room c =
@@ -92,11 +93,10 @@ loop-place-preserved c =
           let at = line_at s c.args.first c.args.count chain line place key c.loop-place-test.true (c.loop-place.invariant.cursor chain line) in
           let mark = line_marked s c.args.first c.args.count chain line place key c.loop-place-test.true (c.loop-place.invariant.cursor chain line) in
           let here : lost_at g marks chain place ≡ n.pair ∷ [] = lost_here g marks chain place key at mark ∙ ap (λ (r : Removal). r.pair ∷ []) (removal_is g key (said n) node) in
-          back_below_next g marks chain c.args.store.now c.loop-place.store c.put_back_pair.new.store c.args.restored.now.items c.loop-place.restored.items c.put_back_pair.new.restored.items n.pair place here
-          (c.loop-place.invariant.below chain line) put.back put.noted;
+          back_below_next g marks chain c.args.store.now c.loop-place.store c.put_back_pair.new.store c.loop-place.restored.items c.put_back_pair.new.restored.items n.pair place here
+          (c.loop-place.invariant.below chain line) put.back put.noted put.spanned;
       keys = keys_then c.args.rows.now.items c.loop-place.rows.items c.put_back_pair.new.rows.items c.loop-place.invariant.keys put.keys;
-      flags = put.flags;
-      once = λ once. put.once (c.loop-place.invariant.once once);
+      slots = put.slots;
       few = let few = c.loop-place.invariant.few in let more = put.room.1 in omega (arith, few, more);
       room = put.room.0 ∙ c.loop-place.invariant.room;
       within = let w = c.loop-place.invariant.within in omega (arith, left, w, is);
@@ -117,12 +117,12 @@ returns-clause-back c =
     let chain = c.requires.line.0 in
     let line = c.requires.line.1 in
     let long = line.long in
-    (line_all s c.args.first c.args.count chain c.args.log.now line c.requires.graph c.args.store.now c.loop-place.store c.args.restored.now.items c.loop-place.restored.items
-    (back_below_all (graph_of s) (marks_of s) chain c.args.store.now c.loop-place.store c.args.restored.now.items c.loop-place.restored.items c.loop-place.place
+    (line_all s c.args.first c.args.count chain c.args.log.now line c.requires.graph c.args.store.now c.loop-place.store c.loop-place.restored.items
+    (back_below_all (graph_of s) (marks_of s) chain c.args.store.now c.loop-place.store c.loop-place.restored.items c.loop-place.place
     (c.loop-place.invariant.below chain line) (omega (arith, c.loop-place-test.false, long)))).back
 
 pub returns-clause-once : goal.returns-clause-once
-returns-clause-once c = c.loop-place.invariant.once
+returns-clause-once c = slotted_once c.loop-place.rows.items c.loop-place.restored.items c.loop-place.invariant.slots
 
 pub returns-clause-noted : goal.returns-clause-noted
 returns-clause-noted c x =
@@ -131,10 +131,20 @@ returns-clause-noted c x =
     let line = c.requires.line.1 in
     let long = line.long in
     let all =
-    line_all s c.args.first c.args.count chain c.args.log.now line c.requires.graph c.args.store.now c.loop-place.store c.args.restored.now.items c.loop-place.restored.items
-    (back_below_all (graph_of s) (marks_of s) chain c.args.store.now c.loop-place.store c.args.restored.now.items c.loop-place.restored.items c.loop-place.place
+    line_all s c.args.first c.args.count chain c.args.log.now line c.requires.graph c.args.store.now c.loop-place.store c.loop-place.restored.items
+    (back_below_all (graph_of s) (marks_of s) chain c.args.store.now c.loop-place.store c.loop-place.restored.items c.loop-place.place
     (c.loop-place.invariant.below chain line) (omega (arith, c.loop-place-test.false, long))) in
-    (all.noted x, all.all x)
+    (all.noted x, spanned_vars (lost_of (graph_of s) (marks_of s) c.args.log.now) c.loop-place.restored.items all.spanned x)
+
+pub returns-clause-spanned : goal.returns-clause-spanned
+returns-clause-spanned c =
+    let s = c.args.nodes.now in
+    let chain = c.requires.line.0 in
+    let line = c.requires.line.1 in
+    let long = line.long in
+    (line_all s c.args.first c.args.count chain c.args.log.now line c.requires.graph c.args.store.now c.loop-place.store c.loop-place.restored.items
+    (back_below_all (graph_of s) (marks_of s) chain c.args.store.now c.loop-place.store c.loop-place.restored.items c.loop-place.place
+    (c.loop-place.invariant.below chain line) (omega (arith, c.loop-place-test.false, long)))).spanned
 
 pub returns-clause-earliest : goal.returns-clause-earliest
 returns-clause-earliest c k m mark at =

@@ -27,17 +27,17 @@ invariant_of-self-in_err-insert c = (
   tt,
 )
 
-is_inserted : (c : After-insert_over) → c.insert.new.self.items ≡ insert c.self.inside.connections.items c.place_of-place.result (marked_whole c.args.cid c.args.scope.now)
+is_inserted : (c : After-insert_over) → c.insert.new.self.items ≡ insert c.self.inside.connections.items c.place_of-place.result (marked_whole c.args.cid c.args.scope.now c.args.heeds.items)
 is_inserted c =
     c.in_ok-insert.ensures.items
-    ∙ ap (insert c.self.inside.connections.items c.place_of-place.result) (c.in_ok-connection.ensures ∙ ap (λ cid. marked_whole cid c.args.scope.now) c.copy.ensures)
+    ∙ ap (insert c.self.inside.connections.items c.place_of-place.result) (c.in_ok-connection.ensures ∙ ap (λ cid. marked_whole cid c.args.scope.now c.args.heeds.items) c.copy.ensures)
 
 is_absent : (c : After-insert_over) → IsConnected c.self.inside.connections.items c.args.cid → ⊥
-is_absent c is = c.requires (subst (λ (w : Waiting). IsConnected w.connected c.args.cid) c.self.view_is is)
+is_absent c is = c.requires.new (subst (λ (w : Waiting). IsConnected w.connected c.args.cid) c.self.view_is is)
 
 pub invariant_of-self-2 : goal.invariant_of-self-2
 invariant_of-self-2 c = (
-  connected_after c.self.inside.connections.items c.make_room_for.new.over.items c.insert_over.new.over.items c.make_room_for.new.pending.flags c.insert-2.new.self.flags _ _ c.args.cid c.args.scope.now c.place_of-place.result
+  connected_after c.self.inside.connections.items c.make_room_for.new.over.items c.insert_over.new.over.items c.make_room_for.new.pending.flags c.insert-2.new.self.flags _ _ c.args.cid c.args.scope.now c.args.heeds.items c.place_of-place.result
       (grown_after c.self.inside.connections.items c.self.inside.over.items c.make_room_for.new.over.items c.self.inside.pending.flags c.make_room_for.new.pending.flags _ (vec_capacity c.make_room_for.new.shown) c.self.invariant.0 c.make_room_for.ensures.cids c.make_room_for.ensures.flags c.make_room_for.ensures.grows)
       (parted_in c.deref.result.now c.self.inside.connections.items c.args.cid c.place_of-place.result c.deref.ensures.value c.place_of-place.ensures) (is_absent c)
       c.insert.new.self.items (is_inserted c) c.insert_over.ensures c.insert-2.ensures (omega (arith, c.in_ok-make_room_for.ensures.shown, c.len-count.ensures, c.self.inside.connections.ok.0)),
@@ -50,12 +50,12 @@ returns-clause-connected c =
     rw (← c.self.view_is)
     (is_inserted c
     ∙ connected_at c.self.inside.connections.items c.self.invariant.0.formed.rising c.args.cid c.place_of-place.result
-    (parted_in c.deref.result.now c.self.inside.connections.items c.args.cid c.place_of-place.result c.deref.ensures.value c.place_of-place.ensures) (is_absent c) (marked_whole c.args.cid c.args.scope.now) refl)
+    (parted_in c.deref.result.now c.self.inside.connections.items c.args.cid c.place_of-place.result c.deref.ensures.value c.place_of-place.ensures) (is_absent c) (marked_whole c.args.cid c.args.scope.now c.args.heeds.items) refl)
 
 pub returns-clause-pending : goal.returns-clause-pending
 returns-clause-pending c =
     rw (← c.self.view_is)
-    (pending_with c.self.inside.connections.items c.self.inside.over.items c.self.inside.over.items c.self.inside.pending.flags c.insert-2.new.self.flags _ 0 c.args.cid c.args.scope.now c.place_of-place.result c.self.invariant.0
+    (pending_with c.self.inside.connections.items c.self.inside.over.items c.self.inside.over.items c.self.inside.pending.flags c.insert-2.new.self.flags _ 0 c.args.cid c.args.scope.now c.args.heeds.items c.place_of-place.result c.self.invariant.0
     (parted_in c.deref.result.now c.self.inside.connections.items c.args.cid c.place_of-place.result c.deref.ensures.value c.place_of-place.ensures) (is_absent c)
     c.insert.new.self.items (is_inserted c) (c.insert-2.ensures ∙ ap (λ fs. insert fs c.place_of-place.result true) c.make_room_for.ensures.flags))
 

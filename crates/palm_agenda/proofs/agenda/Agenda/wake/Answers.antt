@@ -1,7 +1,6 @@
-use Rattle.std.proofs.Common.{◌≡◌, ◌↔◌, ◌⊎◌, ◌∙◌, ap, subst, map, reverse, Contains}
+use Rattle.std.proofs.Common.{◌≡◌, ◌↔◌, ◌⊎◌, ◌∙◌, ap, map, reverse, Contains}
 use Rattle.palm_base.specs.declared.terms.Cid.{Cid}
 use Rattle.palm_agenda.specs.Agenda.{IsOver, connected_cids, mark_others}
-use Rattle.palm_agenda.specs.Kept.{IsWoken}
 use Rattle.palm_agenda.specs.Flags.{flagged}
 use Rattle.palm_agenda.specs.Cids.{cids_at}
 use Rattle.palm_agenda.specs.declared.connection.Places.TheVariants.{Others}
@@ -9,47 +8,49 @@ use Rattle.palm_agenda.proofs.cited.Keeping.{cids_are_over, woken_after, woken_c
 use Rattle.palm_agenda.proofs.Woken.{woken_already, woken_noted}
 use Rattle.palm_agenda.proofs.agenda.Agenda.wake.Goals as goal
 
-pub wake_each-requires-clause-over : goal.wake_each-requires-clause-over
-wake_each-requires-clause-over c k m =
+pub wake_each-whole-requires-clause-over : goal.wake_each-whole-requires-clause-over
+wake_each-whole-requires-clause-over c k m =
     (cids_are_over c.args.var c.cids_over-cids.result.now c.self.inside.connections.items c.self.inside.over.items c.self.inside.pending.flags _ c.self.invariant.0
     (c.cids_over-cids.ensures ∙ ap (λ rows. reverse (cids_at rows c.args.var)) c.deref.ensures.value) k).0 m
 
 pub invariant_of-self : goal.invariant_of-self
 invariant_of-self c = (
-  woken_after Others c.args.var c.cids_over-cids.result.now c.self.inside.connections.items c.self.inside.over.items c.self.inside.pending.flags c.wake_each.new.pending.flags _ c.self.invariant.0
-      c.wake_each.ensures.flags c.wake_each.new.connections.items c.wake_each.ensures.marks,
+  woken_after (Others c.args.loss) c.args.var c.cids_over-cids.result.now c.self.inside.connections.items c.self.inside.over.items c.self.inside.pending.flags c.wake_each-whole.new.pending.flags _ c.self.invariant.0
+      c.wake_each-whole.ensures.flags c.wake_each-whole.new.connections.items c.wake_each-whole.ensures.marks,
   tt,
-  woken_noted c.args.var c.self.inside.connections.items c.wake_each.new.connections.items (flagged (connected_cids c.self.inside.connections.items) c.self.inside.pending.flags)
-      (flagged (connected_cids c.wake_each.new.connections.items) c.wake_each.new.pending.flags)
-      (woken_connected Others c.args.var c.cids_over-cids.result.now c.self.inside.connections.items c.self.inside.over.items c.self.inside.pending.flags _ c.self.invariant.0
-      (c.cids_over-cids.ensures ∙ ap (λ rows. reverse (cids_at rows c.args.var)) c.deref.ensures.value) c.wake_each.new.connections.items c.wake_each.ensures.marks)
+  woken_noted c.wake_each-whole.result c.noted-self-inside.result c.args.var c.args.loss c.noted-self-inside.ensures c.cids_over-cids.result.now c.self.inside.connections.items c.wake_each-whole.new.connections.items
+      (flagged (connected_cids c.self.inside.connections.items) c.self.inside.pending.flags) (flagged (connected_cids c.wake_each-whole.new.connections.items) c.wake_each-whole.new.pending.flags)
+      (woken_connected (Others c.args.loss) c.args.var c.cids_over-cids.result.now c.self.inside.connections.items c.self.inside.over.items c.self.inside.pending.flags _ c.self.invariant.0
+      (c.cids_over-cids.ensures ∙ ap (λ rows. reverse (cids_at rows c.args.var)) c.deref.ensures.value) c.wake_each-whole.new.connections.items c.wake_each-whole.ensures.marks)
       (woken_pending c.args.var c.cids_over-cids.result.now c.self.inside.connections.items c.self.inside.over.items c.self.inside.pending.flags _ c.self.invariant.0
       (c.cids_over-cids.ensures ∙ ap (λ rows. reverse (cids_at rows c.args.var)) c.deref.ensures.value)
-      (flagged (connected_cids c.self.inside.connections.items) c.self.inside.pending.flags) (flagged (connected_cids c.wake_each.new.connections.items) c.wake_each.new.pending.flags) c.wake_each.ensures.pending),
+      (flagged (connected_cids c.self.inside.connections.items) c.self.inside.pending.flags) (flagged (connected_cids c.wake_each-whole.new.connections.items) c.wake_each-whole.new.pending.flags) c.wake_each-whole.ensures.pending)
+      (cids_are_over c.args.var c.cids_over-cids.result.now c.self.inside.connections.items c.self.inside.over.items c.self.inside.pending.flags _ c.self.invariant.0
+      (c.cids_over-cids.ensures ∙ ap (λ rows. reverse (cids_at rows c.args.var)) c.deref.ensures.value)) c.wake_each-whole.ensures.whole,
 )
 
 pub returns-clause-connected : goal.returns-clause-connected
 returns-clause-connected c =
     rw (← c.self.view_is)
-    (woken_connected Others c.args.var c.cids_over-cids.result.now c.self.inside.connections.items c.self.inside.over.items c.self.inside.pending.flags _ c.self.invariant.0
-    (c.cids_over-cids.ensures ∙ ap (λ rows. reverse (cids_at rows c.args.var)) c.deref.ensures.value) c.wake_each.new.connections.items c.wake_each.ensures.marks)
+    (woken_connected (Others c.args.loss) c.args.var c.cids_over-cids.result.now c.self.inside.connections.items c.self.inside.over.items c.self.inside.pending.flags _ c.self.invariant.0
+    (c.cids_over-cids.ensures ∙ ap (λ rows. reverse (cids_at rows c.args.var)) c.deref.ensures.value) c.wake_each-whole.new.connections.items c.wake_each-whole.ensures.marks)
 
 pub returns-clause-pending : goal.returns-clause-pending
 returns-clause-pending c =
     rw (← c.self.view_is)
     (woken_pending c.args.var c.cids_over-cids.result.now c.self.inside.connections.items c.self.inside.over.items c.self.inside.pending.flags _ c.self.invariant.0
     (c.cids_over-cids.ensures ∙ ap (λ rows. reverse (cids_at rows c.args.var)) c.deref.ensures.value)
-    (flagged (connected_cids c.self.inside.connections.items) c.self.inside.pending.flags) (flagged (connected_cids c.wake_each.new.connections.items) c.wake_each.new.pending.flags) c.wake_each.ensures.pending)
+    (flagged (connected_cids c.self.inside.connections.items) c.self.inside.pending.flags) (flagged (connected_cids c.wake_each-whole.new.connections.items) c.wake_each-whole.new.pending.flags) c.wake_each-whole.ensures.pending)
 
 pub returns-clause-formed : goal.returns-clause-formed
 returns-clause-formed c = (invariant_of-self c).0.formed
 
-already : (c : goal.Then-is_noted) → (c.self.inside.connections.items ≡ map (mark_others c.args.var) c.self.inside.connections.items)
+already : (c : goal.Then-is_noted) → (c.self.inside.connections.items ≡ map (mark_others c.args.var c.args.loss) c.self.inside.connections.items)
     × ((d : Cid) → Contains (flagged (connected_cids c.self.inside.connections.items) c.self.inside.pending.flags) d
     ↔ (Contains (flagged (connected_cids c.self.inside.connections.items) c.self.inside.pending.flags) d ⊎ IsOver c.self.inside.connections.items c.args.var d))
 already c =
-    woken_already c.args.var c.self.inside.connections.items (flagged (connected_cids c.self.inside.connections.items) c.self.inside.pending.flags)
-    (subst (λ w. IsWoken w c.self.inside.connections.items (flagged (connected_cids c.self.inside.connections.items) c.self.inside.pending.flags)) (c.is_noted.ensures c.if-is_noted.true) c.self.invariant.2)
+    woken_already c.self.inside.woken c.args.var c.args.loss c.self.inside.connections.items (flagged (connected_cids c.self.inside.connections.items) c.self.inside.pending.flags) c.self.invariant.2
+    (c.is_noted.ensures c.if-is_noted.true)
 
 pub returns-then-is_noted-clause-connected : goal.returns-then-is_noted-clause-connected
 returns-then-is_noted-clause-connected c = rw (← c.self.view_is) ((already c).0)

@@ -13,7 +13,7 @@ wake_each-requires-clause-over c k m =
 
 pub invariant_of-self : goal.invariant_of-self
 invariant_of-self c = (
-  woken_after Own c.args.var c.cids_over-cids.result.now c.self.inside.connections.items c.self.inside.over.items c.self.inside.pending.flags c.wake_each.new.pending.flags _ c.self.invariant.0
+  woken_after (Own c.args.low c.args.high) c.args.var c.cids_over-cids.result.now c.self.inside.connections.items c.self.inside.over.items c.self.inside.pending.flags c.wake_each.new.pending.flags _ c.self.invariant.0
       c.wake_each.ensures.flags c.wake_each.new.connections.items c.wake_each.ensures.marks,
   tt,
   tt,
@@ -22,7 +22,7 @@ invariant_of-self c = (
 pub returns-clause-connected : goal.returns-clause-connected
 returns-clause-connected c =
     rw (← c.self.view_is)
-    (woken_connected Own c.args.var c.cids_over-cids.result.now c.self.inside.connections.items c.self.inside.over.items c.self.inside.pending.flags _ c.self.invariant.0
+    (woken_connected (Own c.args.low c.args.high) c.args.var c.cids_over-cids.result.now c.self.inside.connections.items c.self.inside.over.items c.self.inside.pending.flags _ c.self.invariant.0
     (c.cids_over-cids.ensures ∙ ap (λ rows. reverse (cids_at rows c.args.var)) c.deref.ensures.value) c.wake_each.new.connections.items c.wake_each.ensures.marks)
 
 pub returns-clause-pending : goal.returns-clause-pending

@@ -7,5 +7,5 @@ wake_restored-requires c = away_formed c.args.self.now.agenda c.disconnect.new.s
 pub returns : goal.returns
 returns c =
     put_back c.args.self.now c.args.cid.now c.withdraw.new.store c.withdraw.new.self c.disconnect.new.self c.wake_restored.new.agenda c.restored.result.now c.after_gain-self.result
-    c.disconnect.ensures.connected c.disconnect.ensures.pending c.withdraw.ensures.initial c.withdraw.ensures.loses c.withdraw.ensures.lacks c.withdraw.ensures.restored c.restored.ensures
+    c.disconnect.ensures.connected c.disconnect.ensures.pending c.withdraw.ensures.initial c.withdraw.ensures.loses c.withdraw.ensures.lacks c.withdraw.ensures.restored c.withdraw.ensures.within c.restored.ensures
     c.wake_restored.ensures.formed c.wake_restored.ensures.connected c.wake_restored.ensures.pending c.after_gain-self.ensures

@@ -26,7 +26,6 @@ invariant_of-self c =
     record {
       kept = kept_same c.self.inside.nodes c.rests_on.new.nodes c.self.inside.log.items c.self.inside.rows.items _ c.self.invariant.kept c.rests_on.ensures.graph c.rests_on.ensures.unmarked;
       threaded = threaded_same c.self.inside.threads c.self.inside.threads (graph_of c.self.inside.nodes) (graph_of c.rests_on.new.nodes) _ c.self.invariant.threaded c.self.invariant.threaded.formed (λ q. refl) c.rests_on.ensures.graph;
-      flagged = c.self.invariant.flagged;
       fits = c.self.invariant.fits;
     }
 

@@ -1,18 +1,15 @@
-use Rattle.std.proofs.Common.{◌≡◌, ◌⊎◌, ℕ, true, ◌∷◌, [], length, vec_capacity, inl, inr, sym, ap, ◌∙◌, subst, arith, Contains}
-use Rattle.palm_base.proofs.cited.Members.{member_nil}
-use Rattle.palm_model.specs.Constraint.{Distinct}
+use Rattle.std.proofs.Common.{◌≡◌, ◌⊎◌, true, ◌∷◌, [], length, vec_capacity, sym, ap, ◌∙◌, subst, arith, Contains}
+use Rattle.palm_base.specs.declared.terms.Pair.{Pair}
 use Rattle.palm_model.specs.Event.{lost_pairs, vars_of}
 use Rattle.palm_model.specs.Log.{Loses}
-use Rattle.palm_explain.specs.Explanations.{Explanations}
-use Rattle.palm_explain.specs.Counts.{AreNoted}
-use Rattle.palm_explain.specs.Graph.{IsAntecedent, IsBy, IsGraph, IsPlaced, graph_of, log_of, marks_of}
+use Rattle.palm_explain.specs.Explanations.{Explanations, IsSpanned, restored_vars}
+use Rattle.palm_explain.specs.Graph.{IsBy, IsGraph, IsPlaced, graph_of, log_of, marks_of}
 use Rattle.palm_explain.specs.Lost.{lost_of}
 use Rattle.palm_explain.specs.Threads.{AreThreaded}
 use Rattle.palm_explain.proofs.Chains.{mark_key}
 use Rattle.palm_explain.proofs.ClosedUp.{forgotten_earliest, forgotten_placed}
 use Rattle.palm_explain.proofs.Dropping.{forgotten_on}
-use Rattle.palm_explain.proofs.Flags.{keys_then}
-use Rattle.palm_explain.proofs.Stores.{kept_with_keys, kept_withdrawn, left_short, lacks_withdrawn, loses_withdrawn, threaded_withdrawn, vars_withdrawn}
+use Rattle.palm_explain.proofs.Stores.{kept_with_keys, kept_withdrawn, left_short, lacks_withdrawn, loses_withdrawn, pairs_withdrawn, threaded_withdrawn, vars_withdrawn}
 use Rattle.palm_explain.proofs.ThreadKeys.{taken_sound, taken_whole, threaded_taken}
 use Rattle.palm_explain.proofs.store.ExplainStore.withdraw.Goals as goal
 
@@ -28,37 +25,27 @@ forget_threads-requires-clause-once c =
 
 pub put_back-start-requires-clause-found : goal.put_back-start-requires-clause-found
 put_back-start-requires-clause-found c k l at =
-    c.empty_out.ensures.keys.keys l.pair ∙ c.self.invariant.kept.found k l (sym (ap (λ g. g k) c.mark_lost-count.ensures.graph) ∙ at)
+    c.self.invariant.kept.found k l (sym (ap (λ g. g k) c.mark_lost-count.ensures.graph) ∙ at)
 
 pub put_back-start-requires-clause-room : goal.put_back-start-requires-clause-room
 put_back-start-requires-clause-room c =
-    let none = ap length c.empty_out.ensures.empty in
-    let long = ap length c.as_slice-log.ensures.value in
-    let ok = c.empty_out.new.vars.ok.0 in omega (arith, none, long, ok, c.self.invariant.kept.room, c.empty_out.ensures.room)
-
-pub count_lost-requires-clause-graph : goal.count_lost-requires-clause-graph
-count_lost-requires-clause-graph c =
-    rw (← c.as_slice-log.ensures.value) at (subst (λ g. IsGraph g c.self.inside.log.items) (sym (c.forget_threads.ensures.graph ∙ c.mark_lost-count.ensures.graph)) c.self.invariant.kept.graph)
-
-pub count_lost-requires-clause-room : goal.count_lost-requires-clause-room
-count_lost-requires-clause-room c = let long = ap length c.as_slice-log.ensures.value in omega (arith, long, c.self.invariant.fits, c.clear.ensures.capacity)
+    let long = ap length c.as_slice-log.ensures.value in omega (arith, long, c.self.invariant.kept.room)
 
 pub forget_lost-requires-clause-graph : goal.forget_lost-requires-clause-graph
 forget_lost-requires-clause-graph c =
-    rw (← c.as_slice-log.ensures.value) at (subst (λ g. IsGraph g c.self.inside.log.items) (sym (c.count_lost.ensures.graph ∙ c.forget_threads.ensures.graph ∙ c.mark_lost-count.ensures.graph)) c.self.invariant.kept.graph)
+    rw (← c.as_slice-log.ensures.value) at (subst (λ g. IsGraph g c.self.inside.log.items) (sym (c.forget_threads.ensures.graph ∙ c.mark_lost-count.ensures.graph)) c.self.invariant.kept.graph)
 
-pub forget_lost-requires-clause-noted : goal.forget_lost-requires-clause-noted
-forget_lost-requires-clause-noted c = subst (AreNoted c.count_lost.new.nodes) (sym c.deref-3.ensures.value) c.count_lost.ensures.noted
+pub forget_lost-requires-clause-room : goal.forget_lost-requires-clause-room
+forget_lost-requires-clause-room c = let long = ap length c.as_slice-log.ensures.value in omega (arith, long, c.self.invariant.fits, c.clear.ensures.capacity)
 
-pub forget_lost-requires-clause-whole : goal.forget_lost-requires-clause-whole
-forget_lost-requires-clause-whole c k d free gone rests =
-    let marks : (j : ℕ) → marks_of c.forget_threads.new.nodes j ≡ marks_of c.count_lost.new.nodes j = λ j. sym (ap (λ q. q j) c.count_lost.ensures.marks) in
-    subst (λ l. Contains l k) (sym c.deref-3.ensures.value) (c.count_lost.ensures.whole k d (marks k ∙ free) (marks d ∙ gone) (subst (λ g. IsAntecedent g k d) c.count_lost.ensures.graph rests))
+pub forget_lost-requires-clause-earliest : goal.forget_lost-requires-clause-earliest
+forget_lost-requires-clause-earliest c k l marked at =
+    c.put_back-start.ensures.earliest k l (sym (ap (λ q. q k) c.forget_threads.ensures.marks) ∙ marked) (sym (ap (λ g. g k) c.forget_threads.ensures.graph) ∙ at)
 
 pub close_up-requires-clause-places : goal.close_up-requires-clause-places
 close_up-requires-clause-places c =
     forgotten_placed (graph_of c.mark_lost-count.new.nodes) (graph_of c.forget_lost.new.nodes) c.self.inside.log.items _
-    (subst (λ g. IsPlaced g c.self.inside.log.items) (sym c.mark_lost-count.ensures.graph) c.self.invariant.kept.graph.places) (forgotten_on c.mark_lost-count.new.nodes c.count_lost.new.nodes c.forget_lost.new.nodes (c.count_lost.ensures.graph ∙ c.forget_threads.ensures.graph) (c.count_lost.ensures.marks ∙ c.forget_threads.ensures.marks) c.forget_lost.ensures.forgotten)
+    (subst (λ g. IsPlaced g c.self.inside.log.items) (sym c.mark_lost-count.ensures.graph) c.self.invariant.kept.graph.places) (forgotten_on c.mark_lost-count.new.nodes c.forget_threads.new.nodes c.forget_lost.new.nodes c.forget_threads.ensures.graph c.forget_threads.ensures.marks c.forget_lost.ensures.forgotten)
 
 pub close_up-requires-clause-within : goal.close_up-requires-clause-within
 close_up-requires-clause-within c = rw c.as_slice-log.ensures.value at c.put_back-start.ensures.within
@@ -66,8 +53,8 @@ close_up-requires-clause-within c = rw c.as_slice-log.ensures.value at c.put_bac
 pub close_up-requires-clause-earliest : goal.close_up-requires-clause-earliest
 close_up-requires-clause-earliest c k m mark at =
     let s = c.mark_lost-count.new.nodes in
-    let marked : marks_of s k ≡ true = sym (ap (λ q. q k) (c.forget_lost.ensures.marks ∙ c.count_lost.ensures.marks ∙ c.forget_threads.ensures.marks)) ∙ mark in
-    forgotten_earliest (graph_of s) (graph_of c.forget_lost.new.nodes) _ c.put_back-start.result k m (forgotten_on c.mark_lost-count.new.nodes c.count_lost.new.nodes c.forget_lost.new.nodes (c.count_lost.ensures.graph ∙ c.forget_threads.ensures.graph) (c.count_lost.ensures.marks ∙ c.forget_threads.ensures.marks) c.forget_lost.ensures.forgotten) (λ l is. c.put_back-start.ensures.earliest k l marked is) (mark_key s k marked) at
+    let marked : marks_of s k ≡ true = sym (ap (λ q. q k) (c.forget_lost.ensures.marks ∙ c.forget_threads.ensures.marks)) ∙ mark in
+    forgotten_earliest (graph_of s) (graph_of c.forget_lost.new.nodes) _ c.put_back-start.result k m (forgotten_on c.mark_lost-count.new.nodes c.forget_threads.new.nodes c.forget_lost.new.nodes c.forget_threads.ensures.graph c.forget_threads.ensures.marks c.forget_lost.ensures.forgotten) (λ l is. c.put_back-start.ensures.earliest k l marked is) (mark_key s k marked) at
 
 pub invariant_of-self : goal.invariant_of-self
 invariant_of-self c =
@@ -81,19 +68,18 @@ invariant_of-self c =
     record {
       kept = kept_with_keys c.close_up.new.nodes c.close_up.new.log.items c.self.inside.rows.items c.put_back-start.new.rows.items (vec_capacity c.put_back-start.new.restored)
           (kept_withdrawn c.self.inside.nodes c.mark_lost-count.new.nodes c.forget_lost.new.nodes c.close_up.new.nodes c.self.inside.log.items c.close_up.new.log.items c.self.inside.rows.items (vec_capacity c.self.inside.restored) (vec_capacity c.put_back-start.new.restored) c.args.cid c.self.invariant.kept
-          c.mark_lost-count.ensures.graph told (forgotten_on c.mark_lost-count.new.nodes c.count_lost.new.nodes c.forget_lost.new.nodes (c.count_lost.ensures.graph ∙ c.forget_threads.ensures.graph) (c.count_lost.ensures.marks ∙ c.forget_threads.ensures.marks) c.forget_lost.ensures.forgotten) (c.forget_lost.ensures.marks ∙ c.count_lost.ensures.marks ∙ c.forget_threads.ensures.marks) c.close_up.ensures.closed c.close_up.ensures.unmarked
-          (omega (arith, c.self.invariant.kept.room, c.empty_out.ensures.room, c.put_back-start.ensures.room)))
-          (keys_then c.self.inside.rows.items c.empty_out.new.rows.items c.put_back-start.new.rows.items c.empty_out.ensures.keys c.put_back-start.ensures.keys);
+          c.mark_lost-count.ensures.graph told (forgotten_on c.mark_lost-count.new.nodes c.forget_threads.new.nodes c.forget_lost.new.nodes c.forget_threads.ensures.graph c.forget_threads.ensures.marks c.forget_lost.ensures.forgotten) (c.forget_lost.ensures.marks ∙ c.forget_threads.ensures.marks) c.close_up.ensures.closed c.close_up.ensures.unmarked
+          (omega (arith, c.self.invariant.kept.room, c.put_back-start.ensures.room)))
+          c.put_back-start.ensures.keys;
       threaded = threaded_withdrawn c.self.inside.nodes c.mark_lost-count.new.nodes c.forget_lost.new.nodes c.close_up.new.nodes c.self.inside.log.items c.close_up.new.log.items c.self.inside.rows.items (vec_capacity c.self.inside.restored) (vec_capacity c.put_back-start.new.restored) c.args.cid c.self.invariant.kept
-          c.mark_lost-count.ensures.graph told (forgotten_on c.mark_lost-count.new.nodes c.count_lost.new.nodes c.forget_lost.new.nodes (c.count_lost.ensures.graph ∙ c.forget_threads.ensures.graph) (c.count_lost.ensures.marks ∙ c.forget_threads.ensures.marks) c.forget_lost.ensures.forgotten) (c.forget_lost.ensures.marks ∙ c.count_lost.ensures.marks ∙ c.forget_threads.ensures.marks) c.close_up.ensures.closed c.close_up.ensures.unmarked
-          (omega (arith, c.self.invariant.kept.room, c.empty_out.ensures.room, c.put_back-start.ensures.room))
+          c.mark_lost-count.ensures.graph told (forgotten_on c.mark_lost-count.new.nodes c.forget_threads.new.nodes c.forget_lost.new.nodes c.forget_threads.ensures.graph c.forget_threads.ensures.marks c.forget_lost.ensures.forgotten) (c.forget_lost.ensures.marks ∙ c.forget_threads.ensures.marks) c.close_up.ensures.closed c.close_up.ensures.unmarked
+          (omega (arith, c.self.invariant.kept.room, c.put_back-start.ensures.room))
           c.forget_threads.new.threads (subst (λ g. AreThreaded c.forget_threads.new.threads g (λ k. IsBy g c.args.cid k ⊎ (marks_of c.mark_lost-count.new.nodes k ≡ true))) graph forgot);
-      flagged = c.put_back-start.ensures.flags;
       fits =
           let short = left_short c.self.inside.nodes c.mark_lost-count.new.nodes c.forget_lost.new.nodes c.close_up.new.nodes c.self.inside.log.items c.close_up.new.log.items c.self.inside.rows.items (vec_capacity c.self.inside.restored) (vec_capacity c.put_back-start.new.restored) c.args.cid c.self.invariant.kept
-          c.mark_lost-count.ensures.graph told (forgotten_on c.mark_lost-count.new.nodes c.count_lost.new.nodes c.forget_lost.new.nodes (c.count_lost.ensures.graph ∙ c.forget_threads.ensures.graph) (c.count_lost.ensures.marks ∙ c.forget_threads.ensures.marks) c.forget_lost.ensures.forgotten) (c.forget_lost.ensures.marks ∙ c.count_lost.ensures.marks ∙ c.forget_threads.ensures.marks) c.close_up.ensures.closed c.close_up.ensures.unmarked
-          (omega (arith, c.self.invariant.kept.room, c.empty_out.ensures.room, c.put_back-start.ensures.room)) in
-          omega (arith, short, c.self.invariant.fits, c.clear.ensures.capacity, c.count_lost.ensures.room);
+          c.mark_lost-count.ensures.graph told (forgotten_on c.mark_lost-count.new.nodes c.forget_threads.new.nodes c.forget_lost.new.nodes c.forget_threads.ensures.graph c.forget_threads.ensures.marks c.forget_lost.ensures.forgotten) (c.forget_lost.ensures.marks ∙ c.forget_threads.ensures.marks) c.close_up.ensures.closed c.close_up.ensures.unmarked
+          (omega (arith, c.self.invariant.kept.room, c.put_back-start.ensures.room)) in
+          omega (arith, short, c.self.invariant.fits, c.clear.ensures.capacity, c.forget_lost.ensures.room);
     }
 
 pub returns-clause-loses : goal.returns-clause-loses
@@ -104,8 +90,8 @@ returns-clause-loses c =
     (taken_whole c.self.inside.threads (graph_of c.self.inside.nodes) c.args.cid c.deref-2.result.now c.self.invariant.threaded is)) in
     subst (λ (v : Explanations). Loses v.log (c.args.cid ∷ []) v.log (log_of (graph_of c.close_up.new.nodes) c.close_up.new.log.items)) c.self.view_is
     (loses_withdrawn c.self.inside.nodes c.mark_lost-count.new.nodes c.forget_lost.new.nodes c.close_up.new.nodes c.self.inside.log.items c.close_up.new.log.items c.self.inside.rows.items (vec_capacity c.self.inside.restored) (vec_capacity c.put_back-start.new.restored) c.args.cid c.self.invariant.kept
-    c.mark_lost-count.ensures.graph told (forgotten_on c.mark_lost-count.new.nodes c.count_lost.new.nodes c.forget_lost.new.nodes (c.count_lost.ensures.graph ∙ c.forget_threads.ensures.graph) (c.count_lost.ensures.marks ∙ c.forget_threads.ensures.marks) c.forget_lost.ensures.forgotten) (c.forget_lost.ensures.marks ∙ c.count_lost.ensures.marks ∙ c.forget_threads.ensures.marks) c.close_up.ensures.closed c.close_up.ensures.unmarked
-    (omega (arith, c.self.invariant.kept.room, c.empty_out.ensures.room, c.put_back-start.ensures.room)))
+    c.mark_lost-count.ensures.graph told (forgotten_on c.mark_lost-count.new.nodes c.forget_threads.new.nodes c.forget_lost.new.nodes c.forget_threads.ensures.graph c.forget_threads.ensures.marks c.forget_lost.ensures.forgotten) (c.forget_lost.ensures.marks ∙ c.forget_threads.ensures.marks) c.close_up.ensures.closed c.close_up.ensures.unmarked
+    (omega (arith, c.self.invariant.kept.room, c.put_back-start.ensures.room)))
 
 pub returns-clause-lacks : goal.returns-clause-lacks
 returns-clause-lacks c =
@@ -114,19 +100,18 @@ returns-clause-lacks c =
     rw c.as_slice-log.ensures.value at (c.mark_lost-count.ensures.told c.args.cid (taken_sound c.self.inside.threads (graph_of c.self.inside.nodes) c.args.cid c.deref-2.result.now c.self.invariant.threaded is)
     (taken_whole c.self.inside.threads (graph_of c.self.inside.nodes) c.args.cid c.deref-2.result.now c.self.invariant.threaded is)) in
     lacks_withdrawn c.self.inside.nodes c.mark_lost-count.new.nodes c.forget_lost.new.nodes c.close_up.new.nodes c.self.inside.log.items c.close_up.new.log.items c.self.inside.rows.items (vec_capacity c.self.inside.restored) (vec_capacity c.put_back-start.new.restored) c.args.cid c.self.invariant.kept
-    c.mark_lost-count.ensures.graph told (forgotten_on c.mark_lost-count.new.nodes c.count_lost.new.nodes c.forget_lost.new.nodes (c.count_lost.ensures.graph ∙ c.forget_threads.ensures.graph) (c.count_lost.ensures.marks ∙ c.forget_threads.ensures.marks) c.forget_lost.ensures.forgotten) (c.forget_lost.ensures.marks ∙ c.count_lost.ensures.marks ∙ c.forget_threads.ensures.marks) c.close_up.ensures.closed c.close_up.ensures.unmarked
-    (omega (arith, c.self.invariant.kept.room, c.empty_out.ensures.room, c.put_back-start.ensures.room))
+    c.mark_lost-count.ensures.graph told (forgotten_on c.mark_lost-count.new.nodes c.forget_threads.new.nodes c.forget_lost.new.nodes c.forget_threads.ensures.graph c.forget_threads.ensures.marks c.forget_lost.ensures.forgotten) (c.forget_lost.ensures.marks ∙ c.forget_threads.ensures.marks) c.close_up.ensures.closed c.close_up.ensures.unmarked
+    (omega (arith, c.self.invariant.kept.room, c.put_back-start.ensures.room))
     c.args.store.now c.put_back-start.new.store (rw (← c.self.view_is) at c.requires.lacks) (rw c.as_slice-log.ensures.value at c.put_back-start.ensures.back) c.put_back-start.ensures.ascend.1 c.put_back-start.ensures.ascend.0
 
 pub returns-clause-once : goal.returns-clause-once
-returns-clause-once c = c.put_back-start.ensures.once (subst Distinct (sym c.empty_out.ensures.empty) tt)
+returns-clause-once c = c.put_back-start.ensures.once
 
 pub returns-clause-restored : goal.returns-clause-restored
 returns-clause-restored c x =
     let vars = vars_of (lost_of (graph_of c.mark_lost-count.new.nodes) (marks_of c.mark_lost-count.new.nodes) c.self.inside.log.items) in
-    let noted : (Contains c.put_back-start.new.restored.items x → Contains [] x ⊎ Contains vars x) × (Contains [] x ⊎ Contains vars x → Contains c.put_back-start.new.restored.items x) =
-    rw (c.as_slice-log.ensures.value, c.empty_out.ensures.empty) at (c.put_back-start.ensures.noted x) in
-    let keys = c.put_back-start.new.restored.items in
+    let keys = restored_vars c.put_back-start.new.restored.items in
+    let noted : (Contains keys x → Contains vars x) × (Contains vars x → Contains keys x) = rw c.as_slice-log.ensures.value at (c.put_back-start.ensures.noted x) in
     let is = c.deref-2.ensures.value ∙ c.take-own.ensures.taken in
     let told =
     rw c.as_slice-log.ensures.value at (c.mark_lost-count.ensures.told c.args.cid (taken_sound c.self.inside.threads (graph_of c.self.inside.nodes) c.args.cid c.deref-2.result.now c.self.invariant.threaded is)
@@ -134,5 +119,19 @@ returns-clause-restored c x =
     subst (λ (v : Explanations). (Contains keys x → Contains (vars_of (lost_pairs v.log (log_of (graph_of c.close_up.new.nodes) c.close_up.new.log.items))) x)
     × (Contains (vars_of (lost_pairs v.log (log_of (graph_of c.close_up.new.nodes) c.close_up.new.log.items))) x → Contains keys x)) c.self.view_is
     (vars_withdrawn c.self.inside.nodes c.mark_lost-count.new.nodes c.forget_lost.new.nodes c.close_up.new.nodes c.self.inside.log.items c.close_up.new.log.items c.self.inside.rows.items (vec_capacity c.self.inside.restored) (vec_capacity c.put_back-start.new.restored) c.args.cid c.self.invariant.kept
-    c.mark_lost-count.ensures.graph told (forgotten_on c.mark_lost-count.new.nodes c.count_lost.new.nodes c.forget_lost.new.nodes (c.count_lost.ensures.graph ∙ c.forget_threads.ensures.graph) (c.count_lost.ensures.marks ∙ c.forget_threads.ensures.marks) c.forget_lost.ensures.forgotten) (c.forget_lost.ensures.marks ∙ c.count_lost.ensures.marks ∙ c.forget_threads.ensures.marks) c.close_up.ensures.closed c.close_up.ensures.unmarked
-    (omega (arith, c.self.invariant.kept.room, c.empty_out.ensures.room, c.put_back-start.ensures.room)) keys x (λ m. elim (noted.0 m) [ inl none ↦ absurd (member_nil x none) | inr n ↦ n ], λ m. noted.1 (inr m)))
+    c.mark_lost-count.ensures.graph told (forgotten_on c.mark_lost-count.new.nodes c.forget_threads.new.nodes c.forget_lost.new.nodes c.forget_threads.ensures.graph c.forget_threads.ensures.marks c.forget_lost.ensures.forgotten) (c.forget_lost.ensures.marks ∙ c.forget_threads.ensures.marks) c.close_up.ensures.closed c.close_up.ensures.unmarked
+    (omega (arith, c.self.invariant.kept.room, c.put_back-start.ensures.room)) keys x noted)
+
+pub returns-clause-within : goal.returns-clause-within
+returns-clause-within c p lost =
+    let is = c.deref-2.ensures.value ∙ c.take-own.ensures.taken in
+    let told =
+    rw c.as_slice-log.ensures.value at (c.mark_lost-count.ensures.told c.args.cid (taken_sound c.self.inside.threads (graph_of c.self.inside.nodes) c.args.cid c.deref-2.result.now c.self.invariant.threaded is)
+    (taken_whole c.self.inside.threads (graph_of c.self.inside.nodes) c.args.cid c.deref-2.result.now c.self.invariant.threaded is)) in
+    let spanned : (q : Pair) → Contains (lost_of (graph_of c.mark_lost-count.new.nodes) (marks_of c.mark_lost-count.new.nodes) c.self.inside.log.items) q → IsSpanned c.put_back-start.new.restored.items q =
+    rw c.as_slice-log.ensures.value at c.put_back-start.ensures.spanned in
+    spanned p
+    (pairs_withdrawn c.self.inside.nodes c.mark_lost-count.new.nodes c.forget_lost.new.nodes c.close_up.new.nodes c.self.inside.log.items c.close_up.new.log.items c.self.inside.rows.items (vec_capacity c.self.inside.restored) (vec_capacity c.put_back-start.new.restored) c.args.cid c.self.invariant.kept
+    c.mark_lost-count.ensures.graph told (forgotten_on c.mark_lost-count.new.nodes c.forget_threads.new.nodes c.forget_lost.new.nodes c.forget_threads.ensures.graph c.forget_threads.ensures.marks c.forget_lost.ensures.forgotten) (c.forget_lost.ensures.marks ∙ c.forget_threads.ensures.marks) c.close_up.ensures.closed c.close_up.ensures.unmarked
+    (omega (arith, c.self.invariant.kept.room, c.put_back-start.ensures.room)) p
+    (subst (λ (v : Explanations). Contains (lost_pairs v.log (log_of (graph_of c.close_up.new.nodes) c.close_up.new.log.items)) p) (sym c.self.view_is) lost))
