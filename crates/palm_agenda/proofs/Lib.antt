@@ -1,6 +1,7 @@
 pub mod CidLists
 pub mod cited
 pub mod Flagged
+pub mod Opening
 pub mod Rows
 pub mod Woken
 pub mod Heeding

@@ -3,7 +3,7 @@ use Rattle.std.specs.Prelude.{◌≡◌, ℕ, ◌≤◌, ◌↔◌, ⊤, Bool, t
 use Rattle.palm_base.specs.declared.terms.Cid.{Cid}
 use Rattle.palm_agenda.specs.declared.loss.Loss.{Loss}
 use Rattle.palm_agenda.specs.declared.agenda.Woken.{Woken}
-use Rattle.palm_agenda.specs.Losses.{IsAlike}
+use Rattle.palm_agenda.specs.Open.{is_open}
 use Rattle.palm_agenda.specs.Agenda.{Connected, IsFormed, IsOver, connected_cids, mark_others}
 use Rattle.palm_agenda.specs.Flags.{flagged}
 use Rattle.palm_agenda.specs.Cids.{Roomy, cids_at}
@@ -21,9 +21,9 @@ abbrev pub IsShown : Bool → List Cid → List Cid → Type 0
 IsShown false shown pending = ⊤
 IsShown true shown pending = shown ≡ pending
 
--- waking the variable changes nothing where a loss leaves the same, where one is noted: the other places of each constraint over it
--- are marked so, and it is pending
+-- where a waking is noted, a loss of the variable that may mark nothing more changes nothing: the other places of each constraint over
+-- it are marked so, and it is pending
 abbrev pub IsWoken : Option Woken → List Connected → List Cid → Type 0
 IsWoken None connected pending = ⊤
 IsWoken (Some w) connected pending =
-    ((loss : Loss) → IsAlike w.loss loss → map (mark_others w.var loss) connected ≡ connected) × ((c : Cid) → IsOver connected w.var c → Contains pending c)
+    ((loss : Loss) → is_open w.still loss ≡ false → map (mark_others w.var loss) connected ≡ connected) × ((c : Cid) → IsOver connected w.var c → Contains pending c)

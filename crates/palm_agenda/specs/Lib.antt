@@ -6,3 +6,4 @@ pub mod Orders
 pub mod Places
 pub mod Marks
 pub mod Losses
+pub mod Open

@@ -1,5 +1,5 @@
 -- Which losses of a variable matter to the other variables of a constraint, and what becomes of their marks.
-use Rattle.std.specs.Prelude.{◌≡◌, ℕ, ℤ, pos, ◌+ℤ◌, ◌-ℤ◌, if◌then◌else◌, Bool, true, false, not, ◌||◌, List, [], ◌∷◌, nat_eq, int_lt}
+use Rattle.std.specs.Prelude.{ℕ, ℤ, pos, ◌+ℤ◌, ◌-ℤ◌, if◌then◌else◌, Bool, true, not, ◌||◌, List, [], ◌∷◌, nat_eq, int_lt}
 use Rattle.palm_filter.specs.declared.heed.Heed.{Heed}
 use Rattle.palm_filter.specs.declared.heed.Heed.TheVariants.{Each, Least, Greatest, Ends, Alone, Shifted}
 use Rattle.palm_agenda.specs.declared.loss.Loss.{Loss}
@@ -29,21 +29,6 @@ mark_after Greatest loss mark = if matters Greatest loss then Whole else mark
 mark_after Ends loss mark = if matters Ends loss then Whole else mark
 mark_after Alone loss mark = if matters Alone loss then Whole else mark
 mark_after (Shifted by) loss mark = shifted by loss.value mark
-
--- whether it depends on the value that is lost
-abbrev pub is_by_value : Heed → Bool
-is_by_value Each = false
-is_by_value Least = false
-is_by_value Greatest = false
-is_by_value Ends = false
-is_by_value Alone = false
-is_by_value (Shifted by) = true
-
--- the two losses leave the same, whatever the values
-pub record IsAlike (l k : Loss) : Type 0 where
-  pub below : l.below ≡ k.below
-  pub above : l.above ≡ k.above
-  pub several : l.several ≡ k.several
 
 -- how a variable's losses are heeded: as its first place says, and each where it has none
 abbrev pub heed_of : ℕ → List ℕ → List Heed → Heed

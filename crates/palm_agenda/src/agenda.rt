@@ -1,5 +1,5 @@
 //! The connected constraints, and those of them that wait to be revised.
-ghost use Rattle.std.specs.Prelude.{◌≡◌, ℕ, ◌<◌, ◌≤◌, ◌↔◌, ◌⊎◌, [], ◌∷◌, ◌++◌, length, map, true, false, All, Contains, MatchOption, IfSome, IfNone, IsSomeAnd, Some, None, if◌then◌else◌, OnOk, OnErr, is_some, slice_get, vec_capacity};
+ghost use Rattle.std.specs.Prelude.{◌≡◌, ℕ, ◌<◌, ◌≤◌, ◌↔◌, ◌⊎◌, [], ◌∷◌, ◌++◌, length, map, true, false, All, Contains, MatchOption, IfSome, IfNone, IsSomeAnd, Some, OnOk, OnErr, is_some, slice_get, vec_capacity};
 ghost use Rattle.std.specs.List.{AllWithin};
 ghost use Rattle.palm_base.specs.Tells.{Tells};
 ghost use Rattle.palm_base.specs.declared.terms.Cid.{Cid as CidTerm};
@@ -7,7 +7,8 @@ ghost use Rattle.palm_base.specs.Order.{Rises, cid_before, IsPartedAt};
 ghost use Rattle.palm_model.specs.State.{without_cid};
 ghost use Rattle.palm_agenda.specs.Agenda.{Connected, HasPlace, IsConnected, IsFormed, IsOver, Takes, changed_among, changed_at, index_within, marked_whole, mark_others, mark_own, connected_cids, unmarked, with_connected, without_connected};
 ghost use Rattle.palm_agenda.specs.declared.mark.Mark.TheVariants.{Clear};
-ghost use Rattle.palm_agenda.specs.Losses.{IsAlike, heed_of, is_by_value};
+ghost use Rattle.palm_agenda.specs.Losses.{heed_of};
+ghost use Rattle.palm_agenda.specs.Open.{Covers, is_open};
 ghost use Rattle.palm_agenda.specs.declared.agenda.Woken.{Woken as WokenTerm};
 ghost use Rattle.palm_agenda.specs.Flags.{count_raised, flagged};
 ghost use Rattle.palm_agenda.specs.Cids.{HasSpace, cids_at};
@@ -19,6 +20,7 @@ use crate::connection::{Connection, Places};
 use crate::flags::{Flags, raised_from};
 use crate::loss::Loss;
 use crate::mark::Mark;
+use crate::open::Open;
 use crate::order::Order;
 use crate::over::{cids_over, insert_over, make_room, remove_over};
 use palm_base::{Cid, HasCid, NoMemory, Value, Var, place_from, place_of, stands_at};
@@ -26,17 +28,18 @@ use palm_filter::Heed;
 use std::alloc::Global;
 use std::marker::Model;
 
-/// A variable, and a loss of it that woke the constraints over it.
+/// A variable of which a loss woke the constraints over it, and which losses of it may mark something more.
 #[derive(Clone, Copy, Debug)]
 struct Woken {
     var: Var,
-    loss: Loss,
+    still: Open,
 }
 
 /// The connected constraints by rising id, a flag for each of them that is raised where it is pending, and the ids of
 /// the constraints over each variable. There is room for every id among those that an order is shown; where it is noted so
-/// they are those that are pending. The place of the constraint that was taken last is where one is looked for first. The loss that
-/// woke constraints last is known while nothing was taken or unmarked since: one that leaves the same changes nothing.
+/// they are those that are pending. The place of the constraint that was taken last is where one is looked for first. The
+/// variable of which a loss woke constraints last is known while nothing was taken or unmarked since, and which losses of it may mark
+/// something more: another one changes nothing.
 #[derive(Debug, Drop)]
 pub struct Agenda {
     connections: Vec<Connection>,
@@ -76,16 +79,8 @@ fn place_near(connections: &[Connection], near: usize, cid: &Cid) -> usize
     }
 }
 
-/// Whether what a loss marks depends on the value that is lost.
-#[inline(always)]
-fn is_by_value(heed: Heed) -> bool
-    ensures { result ≡ is_by_value heed }
-{
-    matches!(heed, Heed::Shifted(_))
-}
-
 /// Makes the constraint pending, and marks these places of it, as seen from the variable. It is counted from the one at
-/// `near`, which is it from then on. Answers whether another loss that leaves the same marks nothing more.
+/// `near`, which is it from then on. Answers how losses of the variable are heeded.
 fn wake_named(
     connections: &mut Vec<Connection>,
     pending: &mut Flags,
@@ -93,7 +88,7 @@ fn wake_named(
     cid: &Cid,
     places: &Places,
     var: &Var,
-) -> bool
+) -> Heed
     requires rising { Rises (connected_cids connections.old.items) }
     requires flags { length pending.old.flags ≡ length connections.old.items }
     requires over { IsOver connections.old.items var.now cid.now }
@@ -101,52 +96,35 @@ fn wake_named(
     ensures pending { (c : CidTerm) → Contains (flagged (connected_cids connections.new.items) pending.new.flags) c
         ↔ (Contains (flagged (connected_cids connections.old.items) pending.old.flags) c ⊎ (c ≡ cid.now)) }
     ensures flags { length pending.new.flags ≡ length pending.old.flags }
-    ensures whole { result ≡ true → (d : Connected) → Contains connections.old.items d → d.cid ≡ cid.now → is_by_value (heed_of var.now d.scope d.heeds) ≡ false }
+    ensures heed { (d : Connected) → Contains connections.old.items d → d.cid ≡ cid.now → result ≡ heed_of var.now d.scope d.heeds }
 {
     let place = place_from(connections, *near, cid);
     let connection = &mut connections[place];
     let heed = connection.mark(places, var);
     pending.raise(place);
     *near = place;
-    !is_by_value(heed)
+    heed
 }
 
-/// Whether a waking is noted of the variable, by a loss that left the same.
+/// Whether a waking is noted of the variable, after which the loss marks nothing more.
 fn is_noted(woken: &Option<Woken>, var: &Var, loss: &Loss) -> bool
-    ensures { result ≡ true → (w : WokenTerm) × (woken.now ≡ Some w) × (w.var ≡ var.now) × IsAlike w.loss loss.now }
+    ensures { result ≡ true → (w : WokenTerm) × (woken.now ≡ Some w) × (w.var ≡ var.now) × (is_open w.still loss.now ≡ false) }
 {
     match woken {
-        Some(noted) => {
-            noted.var == *var
-                && noted.loss.below == loss.below
-                && noted.loss.above == loss.above
-                && noted.loss.several == loss.several
-        }
+        Some(noted) => noted.var == *var && !noted.still.lets(loss),
         None => false,
     }
 }
 
-/// The waking that is noted: none where one by another loss that leaves the same may mark more.
-#[inline(always)]
-fn noted(whole: bool, var: Var, loss: Loss) -> Option<Woken>
-    ensures { result ≡ (if whole then Some (record { var = var; loss = loss }) else None) }
-{
-    if whole {
-        Some(Woken { var, loss })
-    } else {
-        None
-    }
-}
-
-/// Makes each of the constraints pending, and marks these places of it, as seen from the variable. Answers whether another loss that
-/// leaves the same marks nothing more.
+/// Makes each of the constraints pending, and marks these places of it, as seen from the variable. Answers which
+/// losses of the variable may mark something more.
 fn wake_each(
     connections: &mut Vec<Connection>,
     pending: &mut Flags,
     cids: &[Cid],
     places: &Places,
     var: &Var,
-) -> bool
+) -> Open
     requires rising { Rises (connected_cids connections.old.items) }
     requires flags { length pending.old.flags ≡ length connections.old.items }
     requires over { (c : CidTerm) → Contains cids.now c → IsOver connections.old.items var.now c }
@@ -154,14 +132,15 @@ fn wake_each(
     ensures pending { (c : CidTerm) → Contains (flagged (connected_cids connections.new.items) pending.new.flags) c
         ↔ (Contains (flagged (connected_cids connections.old.items) pending.old.flags) c ⊎ Contains cids.now c) }
     ensures flags { length pending.new.flags ≡ length pending.old.flags }
-    ensures whole { result ≡ true → (d : Connected) → Contains connections.old.items d → Contains cids.now d.cid → is_by_value (heed_of var.now d.scope d.heeds) ≡ false }
+    ensures covers { (d : Connected) → Contains connections.old.items d → Contains cids.now d.cid → Covers result places.now (heed_of var.now d.scope d.heeds) }
 {
     let mut near = connections.len().wrapping_sub(1);
-    let mut whole = true;
+    let mut still = Open::none();
     for cid in cids {
-        whole &= wake_named(connections, pending, &mut near, cid, places, var);
+        let heed = wake_named(connections, pending, &mut near, cid, places, var);
+        still.note_marked(heed, places);
     }
-    whole
+    still
 }
 
 /// Takes a mark of the constraint away, which is looked for at `near` first.
@@ -248,7 +227,7 @@ fn cid_at(connections: &[Connection], place: usize) -> Cid
 
 /// Whether each of the marks is clear.
 fn are_clear(marks: &[Mark]) -> bool
-    ensures { result ≡ true → All (λ mark. mark ≡ Clear) marks.now }
+    ensures { Tells result (All (λ mark. mark ≡ Clear) marks.now) }
 {
     for mark in marks {
         if *mark != Mark::Clear {
@@ -294,10 +273,9 @@ impl Agenda {
     }
 
     /// Connects a constraint, pending and marked whole. For each place of its scope it is told which losses of the variable are
-    /// heeded: those that may take support from values of the others. Without memory nothing changes.
+    /// heeded: those that may take support from values of the others, and each where nothing is told. Without memory nothing changes.
     pub fn connect(&mut self, cid: Cid, scope: &[Var], heeds: Vec<Heed>) -> Result<(), NoMemory>
         requires new { IsConnected self.old.connected cid → ⊥ }
-        requires heeds { length heeds.items ≡ length scope.now }
         ensures connected { OnOk result (self.new.connected ≡ with_connected (marked_whole cid scope.now heeds.items) self.old.connected) }
         ensures pending { OnOk result ((c : CidTerm) → Contains self.new.pending c ↔ (Contains self.old.pending c ⊎ (c ≡ cid))) }
         ensures formed { IsFormed self.new }
@@ -349,14 +327,14 @@ impl Agenda {
         self.is_shown = false;
         self.woken = None;
         let cids = cids_over(&self.over, &var);
-        let whole = wake_each(
+        let still = wake_each(
             &mut self.connections,
             &mut self.pending,
             cids,
             &Places::Others(loss),
             &var,
         );
-        self.woken = noted(whole, var, loss);
+        self.woken = Some(Woken { var, still });
     }
 
     /// Values of the variable were put back, none below the one and none above the other: each constraint over it is
@@ -404,7 +382,7 @@ impl Agenda {
     /// Whether no value may lack support in the constraint: each of its marks is clear.
     pub fn is_clear(&self, cid: Cid) -> bool
         requires { IsConnected self.now.connected cid }
-        ensures { result ≡ true → (d : Connected) → Contains self.now.connected d → d.cid ≡ cid → All (λ mark. mark ≡ Clear) d.marks }
+        ensures { (d : Connected) → Contains self.now.connected d → d.cid ≡ cid → Tells result (All (λ mark. mark ≡ Clear) d.marks) }
     {
         are_clear(self.marks(cid))
     }

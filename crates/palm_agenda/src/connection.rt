@@ -39,7 +39,7 @@ impl Model for Connection {
 
     ghost view = { λ d. record { cid = d.cid; scope = d.scope; heeds = d.heeds.items; marks = d.marks.items } };
 
-    ghost invariant = { λ d. (length d.marks.items ≡ length d.scope) × (length d.heeds.items ≡ length d.scope) };
+    ghost invariant = { λ d. length d.marks.items ≡ length d.scope };
 }
 
 impl HasCid for Connection {
@@ -108,7 +108,6 @@ impl Connection {
         scope: &[Var],
         heeds: Vec<Heed>,
     ) -> Result<Connection, NoMemory>
-        requires { length heeds.items ≡ length scope.now }
         ensures { IfOk result (λ d. d ≡ marked_whole cid scope.now heeds.items) }
     {
         let mut marks = Vec::new(alloc);
@@ -142,7 +141,7 @@ impl Connection {
     {
         for place in 0..self.scope.len() {
             if self.scope.as_slice()[place] == *var {
-                return self.heeds[place];
+                return self.heeds.get(place).copied().unwrap_or(Heed::Each);
             }
         }
         Heed::Each

@@ -8,6 +8,7 @@ mod connection;
 mod flags;
 mod loss;
 mod mark;
+mod open;
 mod order;
 mod over;
 

@@ -2,7 +2,7 @@
 use Rattle.std.proofs.Common.{◌≡◌, ℕ, ◌-◌, ◌<◌, Bool, true, false, cond, ℤ, pos, ◌+ℤ◌, ◌-ℤ◌, ◌<ℤ◌, ◌≤ℤ◌, Option, Some, None, IfNone, IfSome, List, [], ◌∷◌, length, get_or, Contains, int_lt, ◌⊎◌, inl, inr, sym, ◌∙◌, subst, arith}
 use Rattle.std.proofs.lemmas.Int.{ints, clamps}
 use Rattle.std.proofs.lemmas.List.Elements.{All-contains}
-use Rattle.palm_base.proofs.cited.Members.{int_known, member_here, member_there, member_single}
+use Rattle.palm_base.proofs.cited.Members.{int_known, member_here, member_nil, member_there, member_single}
 use Rattle.palm_domain.proofs.cited.Ascending.{get_or-rises}
 use Rattle.palm_model.specs.Domains.{Domains, Ascends, Has, values_of}
 use Rattle.palm_filter.specs.Shapes.{HasOther, HasTwo, LeavesFree}
@@ -26,6 +26,15 @@ two_differ d x up lt = of (values_of d x) (λ v m. m) up lt
           has_other = has w (member_there v (w ∷ vs) w (member_here w vs));
           different = λ e. omega (arith, ints, above, e);
         }
+
+-- a variable with two values has more than one
+pub two_many : (d : Domains) (x : ℕ) → HasTwo d x → 1 < length (values_of d x)
+two_many d x two = of (values_of d x) two.one two.other two.has_one two.has_other two.different
+  where
+    of : (vs : List ℤ) (v w : ℤ) → Contains vs v → Contains vs w → (v ≡ w → ⊥) → 1 < length vs
+    of [] v w m n apart = absurd (member_nil v m)
+    of (u ∷ []) v w m n apart = absurd (apart (sym (member_single u v m) ∙ member_single u w n))
+    of (u ∷ t ∷ vs) v w m n apart = omega arith
 
 -- one of them is not the number
 pub other_of_two : (d : Domains) (x : ℕ) (n : ℤ) → HasTwo d x → HasOther d x n

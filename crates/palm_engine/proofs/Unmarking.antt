@@ -6,6 +6,7 @@ use Rattle.std.proofs.lemmas.Int.{ints}
 use Rattle.palm_base.specs.declared.terms.Pair.{Pair}
 use Rattle.palm_base.specs.declared.terms.Cid.{Cid}
 use Rattle.palm_base.proofs.cited.Members.{member_get, member_map, member_unmap, member_same}
+use Rattle.palm_base.proofs.cited.Telling.{tells_true}
 use Rattle.palm_model.specs.Domains.{Domains, Has}
 use Rattle.palm_model.specs.Constraint.{scope}
 use Rattle.palm_model.specs.Support.{IsSupported}
@@ -82,14 +83,14 @@ pub spared_keeps : (h : Heed) (c : Con) (d e : Domains) (p : Pair) (loss : Loss)
     → (MayLack (mark_after h loss m) w → ⊥) → KeepsAt c d e p.var y w
 spared_keeps Each c d e p loss m y w heeded loses told out = absurd (out tt)
 spared_keeps Least c d e p loss m y w heeded loses told out =
-    heeded d e p.value loses (told.below (not_false loss.below (left_out (not loss.below) m w out))) y w
+    heeded d e p.value loses (tells_true _ loss.below told.below (not_false loss.below (left_out (not loss.below) m w out))) y w
 spared_keeps Greatest c d e p loss m y w heeded loses told out =
-    heeded d e p.value loses (told.above (not_false loss.above (left_out (not loss.above) m w out))) y w
+    heeded d e p.value loses (tells_true _ loss.above told.above (not_false loss.above (left_out (not loss.above) m w out))) y w
 spared_keeps Ends c d e p loss m y w heeded loses told out =
     let both = either_false (not loss.below) (not loss.above) (left_out (not loss.below || not loss.above) m w out) in
-    heeded d e p.value loses (told.below (not_false loss.below both.0)) (told.above (not_false loss.above both.1)) y w
+    heeded d e p.value loses (tells_true _ loss.below told.below (not_false loss.below both.0)) (tells_true _ loss.above told.above (not_false loss.above both.1)) y w
 spared_keeps Alone c d e p loss m y w heeded loses told out =
-    heeded d e p.value loses (told.several (not_false loss.several (left_out (not loss.several) m w out))) y w
+    heeded d e p.value loses (tells_true _ loss.several told.several (not_false loss.several (left_out (not loss.several) m w out))) y w
 spared_keeps (Shifted by) c d e p loss m y w heeded loses told out =
     let v = loss.value +ℤ by in
     heeded d e p.value loses y w

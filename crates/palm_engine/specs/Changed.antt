@@ -1,7 +1,8 @@
 -- What a removal and a withdrawal do to what an engine keeps.
-use Rattle.std.specs.Prelude.{◌≡◌, ℕ, ◌<◌, ◌↔◌, ◌⊎◌, true, List, [], ◌∷◌, ◌++◌, map, length, Contains, Option, Some, None}
+use Rattle.std.specs.Prelude.{◌≡◌, ℕ, ◌<◌, ◌↔◌, ◌⊎◌, List, [], ◌∷◌, ◌++◌, map, length, Contains, Option, Some, None}
 use Rattle.palm_base.specs.declared.terms.Pair.{Pair}
 use Rattle.palm_base.specs.declared.terms.Cid.{Cid}
+use Rattle.palm_base.specs.Tells.{Tells}
 use Rattle.palm_domain.specs.Rows.{LosesPair, initial_of, present_of}
 use Rattle.palm_model.specs.Domains.{Domains, values_of}
 use Rattle.palm_model.specs.Log.{Loses, log_pairs}
@@ -25,12 +26,12 @@ abbrev pub NotesGain : Option ℕ → Option ℕ → Domains → Type 0
 NotesGain None after d = after ≡ None
 NotesGain (Some x) after d = (values_of d x ≡ [] → after ≡ Some x) × (0 < length (values_of d x) → after ≡ None)
 
--- what the loss tells of the pair's variable holds
+-- the loss tells of the pair's variable what is left of it
 pub record TellsLoss (d : Domains) (p : Pair) (loss : Loss) : Type 0 where
   pub value : loss.value ≡ p.value
-  pub below : loss.below ≡ true → HasBelow d p.var p.value
-  pub above : loss.above ≡ true → HasAbove d p.var p.value
-  pub several : loss.several ≡ true → HasTwo d p.var
+  pub below : Tells loss.below (HasBelow d p.var p.value)
+  pub above : Tells loss.above (HasAbove d p.var p.value)
+  pub several : Tells loss.several (HasTwo d p.var)
 
 -- the pair is taken out under the id and for the reasons, and the constraints over its variable wait
 pub record TakesOut (f : Filtering) (p : Pair) (by : Cid) (reasons : List Pair) (g : Filtering) : Type 0 where

@@ -1,7 +1,7 @@
 -- Chains of marked removals: how one grows behind its end, and what it has reached.
-use Rattle.std.proofs.Common.{◌≡◌, ◌≢◌, ℕ, zero, suc, ◌+◌, ◌-◌, ◌<◌, ◌≤◌, Bool, true, false, List, [], ◌∷◌, ◌++◌, length, get_or, Option, Some, None, Contains, slice_get, remove, nat_eq, eqb-true, inl, inr, refl, sym, ap, ◌∙◌, subst, arith}
+use Rattle.std.proofs.Common.{◌≡◌, ◌≢◌, ℕ, zero, suc, ◌+◌, ◌-◌, ◌<◌, ◌≤◌, Bool, true, false, List, [], ◌∷◌, ◌++◌, length, get_or, take, Option, Some, None, Contains, slice_get, remove, nat_eq, eqb-true, inl, inr, refl, sym, ap, ◌∙◌, subst, arith}
 use Rattle.std.proofs.lemmas.Bool.{cases_eq, cases_lt, false≢true}
-use Rattle.std.proofs.lemmas.List.{append-nil, append_assoc, length-append}
+use Rattle.std.proofs.lemmas.List.{append-nil, append_assoc, length-append, take_all}
 use Rattle.std.proofs.lemmas.List.Edits.{length-remove}
 use Rattle.std.proofs.lemmas.List.Elements.{Contains-append_left, Contains-push, Contains-push_cases}
 use Rattle.std.proofs.lemmas.Option.{slice_get_within, slice_get-get_or}
@@ -237,7 +237,7 @@ pub sound_next : (g : Graph) (keys : List ℕ) (c : Cid) (marks later : ℕ → 
     → (k : ℕ) → later k ≡ true → NamesAt g keys c k
 sound_next g keys c marks later key graph sound mark marked k m = elim (marked.only k m) [
   | inl old ↦ sound k old
-  | inr d ↦ let antecedent = graph.caused k key d in names_antecedent g keys k key antecedent.0 c graph antecedent.1 antecedent.2 (sound key mark)
+  | inr d ↦ let antecedent = graph.links.caused k key d in names_antecedent g keys k key antecedent.0 c graph antecedent.1 antecedent.2 (sound key mark)
 ]
 
 -- ---- going along a chain
@@ -267,6 +267,11 @@ line_on s t first count chain marks nexts line = record {
   marked = λ k m. ap (λ q. q k) marks ∙ line.marked k m;
   whole = λ k m. line.whole k (sym (ap (λ q. q k) marks) ∙ m);
 }
+
+-- behind the end of the chain every marked one is passed
+pub line_passed : (s : Slab Node) (first count place : ℕ) (chain : List ℕ) → IsLine s first count chain → count ≤ place → (k : ℕ) → marks_of s k ≡ true → Contains (take place chain) k
+line_passed s first count place chain line past k m =
+    let long = line.long in subst (λ l. Contains l k) (sym (take_all place chain (omega (arith, past, long)))) (line.whole k m)
 
 -- where nothing is marked the chain is empty
 pub no_line : (s : Slab Node) (first : ℕ) → ((k : ℕ) → marks_of s k ≡ false) → IsLine s first 0 []

@@ -9,11 +9,10 @@ use Rattle.palm_base.proofs.cited.Members.{filter_member, member_known, member_n
 use Rattle.palm_model.specs.Constraint.{Distinct}
 use Rattle.palm_explain.specs.declared.node.Node.{Node}
 use Rattle.palm_explain.specs.Counts.{AreCounted, AreNoted, HasCounted, HoldsKeys, IsCountedAt, count_or, counts_of, slot_or, slots_of}
-use Rattle.palm_explain.specs.Graph.{AreOnce, Graph, IsDependent, IsGraph, IsKey, IsPlaced, Link, graph_of, link_of, marks_of, said}
-use Rattle.palm_explain.proofs.Chains.{mark_key, once_short}
+use Rattle.palm_explain.specs.Graph.{AreOnce, Graph, IsDependent, IsGraph, IsKey, graph_of, link_of, marks_of, said}
+use Rattle.palm_explain.proofs.Chains.{once_short}
 use Rattle.palm_explain.proofs.Entered.{place_cases}
 use Rattle.palm_explain.proofs.Graphs.{key_member}
-use Rattle.palm_explain.proofs.Loosening.{IsFrom, from_next, none_from}
 use Rattle.palm_explain.proofs.Once.{distinct_remove, removed_apart}
 use Rattle.palm_explain.proofs.Unmarked.{distinct_filter, filter_short}
 use Rattle.palm_explain.proofs.Writes.{elsewhere, here, node_mark, same_everywhere, same_graph, same_marks}
@@ -130,83 +129,73 @@ none_noted s losing none = subst (AreNoted s) (sym none) (record {
   stay = λ k m. absurd (member_nil k m);
 })
 
--- ---- from the end of the log on
+-- ---- of one lost removal after another
 
--- of the lost removals from the place on no more are dependents of one that stays than are counted there, and those that have some are listed
-pub record IsCountedFrom (h : Graph) (marks : ℕ → Bool) (counts : ℕ → ℕ) (losing keys : List ℕ) (place : ℕ) : Type 0 where
-  pub enough : (k : ℕ) (xs : List ℕ) → marks k ≡ false → Distinct xs → ((d : ℕ) → Contains xs d → IsFrom place keys d × (marks d ≡ true) × IsDependent h d k) → (length xs ≤ counts k) ⊎ (18446744073709551615 ≤ counts k)
-  pub listed : (k d : ℕ) → marks k ≡ false → IsFrom place keys d → marks d ≡ true → IsDependent h d k → Contains losing k
+-- of the removals that are done no more are dependents of one that stays than are counted there, and those that have some are listed
+pub record IsCountedOf (Done : ℕ → Type 0) (h : Graph) (marks : ℕ → Bool) (counts : ℕ → ℕ) (losing : List ℕ) : Type 0 where
+  pub enough : (k : ℕ) (xs : List ℕ) → marks k ≡ false → Distinct xs → ((d : ℕ) → Contains xs d → Done d × IsDependent h d k) → (length xs ≤ counts k) ⊎ (18446744073709551615 ≤ counts k)
+  pub listed : (k d : ℕ) → marks k ≡ false → Done d → IsDependent h d k → Contains losing k
 
 no_member : (xs : List ℕ) → ((d : ℕ) → Contains xs d → ⊥) → xs ≡ []
 no_member [] none = refl
 no_member (x ∷ xs) none = absurd (none x (0, omega arith, refl))
 
-pub counted_start : (h : Graph) (marks : ℕ → Bool) (counts : ℕ → ℕ) (losing keys : List ℕ) (place : ℕ) → length keys ≤ place → IsCountedFrom h marks counts losing keys place
-counted_start h marks counts losing keys place past = record {
+pub counted_start : (Done : ℕ → Type 0) (h : Graph) (marks : ℕ → Bool) (counts : ℕ → ℕ) (losing : List ℕ) → ((d : ℕ) → Done d → ⊥) → IsCountedOf Done h marks counts losing
+counted_start Done h marks counts losing none = record {
   enough = λ k xs free once sub.
-      let none = no_member xs (λ d m. none_from keys place d past (sub d m).0) in
-      let long = ap length none in inl (omega (arith, long));
-  listed = λ k d free from lost dependent. absurd (none_from keys place d past from);
+      let long = ap length (no_member xs (λ d m. none d (sub d m).0)) in inl (omega (arith, long));
+  listed = λ k d free done dependent. absurd (none d done);
 }
 
-module _ (g h : Graph) (marks : ℕ → Bool) (old new : ℕ → ℕ) (before after keys : List ℕ) (place key : ℕ) (at : slice_get keys place ≡ Some key) (from : IsCountedFrom g marks old before keys (place + 1))
-    (fewer : (d k : ℕ) → IsDependent h d k → IsDependent g d k) (counted : HasCounted old new before after (λ k. (marks key ≡ true) × (marks k ≡ false) × IsDependent h key k)) where
-  next_enough : (k : ℕ) (xs : List ℕ) → marks k ≡ false → Distinct xs → ((d : ℕ) → Contains xs d → IsFrom place keys d × (marks d ≡ true) × IsDependent h d k) → (length xs ≤ new k) ⊎ (18446744073709551615 ≤ new k)
+-- one more is done
+module _ (Done Next : ℕ → Type 0) (g h : Graph) (marks : ℕ → Bool) (old new : ℕ → ℕ) (before after : List ℕ) (key : ℕ) (split : (d : ℕ) → Next d → Done d ⊎ (key ≡ d)) (of : IsCountedOf Done g marks old before)
+    (fewer : (d k : ℕ) → IsDependent h d k → IsDependent g d k) (counted : HasCounted old new before after (λ k. (marks k ≡ false) × IsDependent h key k)) where
+  next_enough : (k : ℕ) (xs : List ℕ) → marks k ≡ false → Distinct xs → ((d : ℕ) → Contains xs d → Next d × IsDependent h d k) → (length xs ≤ new k) ⊎ (18446744073709551615 ≤ new k)
   next_enough k xs free once sub = elim (member_known nat_known xs key) [
     | inl m ↦
         let there = member_place xs key m in
         let less = remove xs there.0 in
         let long = length-remove xs there.0 (slice_get_within xs there.0 key there.1) in
-        let is = sub key m in
-        let more = (counted.more k (is.1, free, is.2)).0 in
-        elim (from.enough k less free (distinct_remove xs there.0 once) (λ d n.
+        let more = (counted.more k (free, (sub key m).1)).0 in
+        elim (of.enough k less free (distinct_remove xs there.0 once) (λ d n.
         let r = sub d (remove_member xs there.0 d n) in (
-          elim (from_next keys place key d at r.0) [
-            | inl e ↦ absurd (removed_apart xs there.0 key once there.1 (member_same less d key (sym e) n))
-            | inr p ↦ p
+          elim (split d r.0) [
+            | inl done ↦ done
+            | inr e ↦ absurd (removed_apart xs there.0 key once there.1 (member_same less d key (sym e) n))
           ],
-          r.1,
-          fewer d k r.2,
+          fewer d k r.1,
         ))) [
           | inl few ↦ elim more.1 [ inl up ↦ inl (omega (arith, few, up, long)) | inr full ↦ inr full ]
           | inr full ↦ let up = more.0 in inr (omega (arith, full, up))
         ]
     | inr other ↦
         let grows = counted.grows k in
-        elim (from.enough k xs free once (λ d n.
+        elim (of.enough k xs free once (λ d n.
         let r = sub d n in (
-          elim (from_next keys place key d at r.0) [ inl e ↦ absurd (other (member_same xs d key (sym e) n)) | inr p ↦ p ],
-          r.1,
-          fewer d k r.2,
+          elim (split d r.0) [ inl done ↦ done | inr e ↦ absurd (other (member_same xs d key (sym e) n)) ],
+          fewer d k r.1,
         ))) [ inl few ↦ inl (omega (arith, few, grows)) | inr full ↦ inr (omega (arith, full, grows)) ]
   ]
 
-  next_listed : (k d : ℕ) → marks k ≡ false → IsFrom place keys d → marks d ≡ true → IsDependent h d k → Contains after k
-  next_listed k d free there lost dependent = elim (from_next keys place key d at there) [
-    | inl e ↦ (counted.more k (ap marks e ∙ lost, free, subst (λ i. IsDependent h i k) (sym e) dependent)).1
-    | inr p ↦ counted.stays k (from.listed k d free p lost (fewer d k dependent))
+  next_listed : (k d : ℕ) → marks k ≡ false → Next d → IsDependent h d k → Contains after k
+  next_listed k d free next dependent = elim (split d next) [
+    | inl done ↦ counted.stays k (of.listed k d free done (fewer d k dependent))
+    | inr e ↦ (counted.more k (free, subst (λ i. IsDependent h i k) (sym e) dependent)).1
   ]
 
-  pub counted_next : IsCountedFrom h marks new after keys place
+  pub counted_next : IsCountedOf Next h marks new after
   counted_next = record { enough = next_enough; listed = next_listed }
 
--- every lost removal stands at the first lost one's place or behind it
-pub lost_from : (s : Slab Node) (keys : List ℕ) (start place d : ℕ) → IsPlaced (graph_of s) keys → place ≤ start → ((k : ℕ) (l : Link) → marks_of s k ≡ true → graph_of s k ≡ Some l → start ≤ l.place) → marks_of s d ≡ true → IsFrom place keys d
-lost_from s keys start place d placed le earliest lost =
-    let key = mark_key s d lost in
-    let late = earliest d key.0 lost key.1 in
-    (key.0.place, omega (arith, le, late), placed.logged d key.0 key.1)
-
--- there are enough everywhere
-pub counted_all : (t : Slab Node) (marks : ℕ → Bool) (losing keys : List ℕ) (place : ℕ) → AreOnce (graph_of t) → marks_of t ≡ marks → ((d : ℕ) → marks d ≡ true → IsFrom place keys d) → IsCountedFrom (graph_of t) marks (counts_of t) losing keys place → AreCounted t
-counted_all t marks losing keys place once same there from k n at free =
+-- where all lost ones are done there are enough everywhere
+pub counted_all : (Done : ℕ → Type 0) (t : Slab Node) (marks : ℕ → Bool) (losing : List ℕ) → AreOnce (graph_of t) → marks_of t ≡ marks → ((d : ℕ) → marks d ≡ true → Done d) → IsCountedOf Done (graph_of t) marks (counts_of t) losing → AreCounted t
+counted_all Done t marks losing once same all of k n at free =
     let xs = filter (marks_of t) n.dependents.items in
     let node = ap link_of at in
     let few = filter_short (marks_of t) n.dependents.items in
     let is : counts_of t k ≡ n.lost = ap count_or at in
-    elim (from.enough k xs (sym (ap (λ q. q k) same) ∙ free) (distinct_filter (marks_of t) n.dependents.items (once k (said n) node)) (λ d m.
+    elim (of.enough k xs (sym (ap (λ q. q k) same) ∙ free) (distinct_filter (marks_of t) n.dependents.items (once k (said n) node)) (λ d m.
     let r = filter_member (marks_of t) n.dependents.items d m in
-    let lost = sym (ap (λ q. q d) same) ∙ r.1 in (there d lost, lost, (said n, node, r.0)))) [
+    (all d (sym (ap (λ q. q d) same) ∙ r.1), (said n, node, r.0)))) [
       | inl short ↦ omega (arith, short, is)
       | inr full ↦ omega (arith, full, is, few, n.dependents.ok.0)
     ]

@@ -1,10 +1,11 @@
 -- A node of which the marked dependents are taken out.
-use Rattle.std.proofs.Common.{◌≡◌, ◌≢◌, ℕ, Bool, true, false, [], length, filter, Option, Some, inl, inr, sym, ap, ◌∙◌, subst, arith}
+use Rattle.std.proofs.Common.{◌≡◌, ◌≢◌, ℕ, true, false, [], length, filter, Option, Some, inl, inr, sym, ap, ◌∙◌, arith}
 use Rattle.std.proofs.lemmas.Bool.{cases_eq}
 use Rattle.slab.specs.Slab.{Slab, get, with_value}
 use Rattle.palm_explain.specs.declared.node.Node.{Node}
+use Rattle.palm_explain.specs.Chain.{next_or, nexts_of}
 use Rattle.palm_explain.specs.Counts.{AreCounted}
-use Rattle.palm_explain.specs.Graph.{HasForgotten, IsAntecedent, graph_of, has_mark, marks_of}
+use Rattle.palm_explain.specs.Graph.{HasForgotten, graph_of, has_mark, marks_of}
 use Rattle.palm_explain.specs.Lost.{kept_of}
 use Rattle.palm_explain.proofs.Graphs.{some_same}
 use Rattle.palm_explain.proofs.Unmarked.{kept_unmarked}
@@ -33,6 +34,9 @@ module _ (s t : Slab Node) (k : ℕ) (n v : Node) (at : get s k ≡ Some n) (las
   pub dropped_marks : marks_of t ≡ marks_of s
   dropped_marks = λ i j. same has_mark mark j i
 
+  pub dropped_nexts : v.next ≡ n.next → nexts_of t ≡ nexts_of s
+  dropped_nexts next = λ i j. same next_or next j i
+
   pub dropped : marks_of s k ≡ false → v.dependents.items ≡ kept_of (marks_of s) n.dependents.items → HasForgotten (graph_of s) (graph_of t) (λ j d. (k ≡ j) × (marks_of s d ≡ true) × (marks_of s j ≡ false))
   dropped free is = drops s t k n v at last far pair by (ap (λ z. z.items) antecedents) place (marks_of s) free is
 
@@ -47,10 +51,3 @@ module _ (s t : Slab Node) (k : ℕ) (n v : Node) (at : get s k ≡ Some n) (las
         let few = counted j x (sym (far j differs) ∙ there) (sym (ap (λ f. f j) dropped_marks) ∙ free) in
         let e = ap (λ f. length (filter f x.dependents.items)) dropped_marks in omega (arith, few, e)
   ]
-
--- what is forgotten where graph and marks are the same
-pub forgotten_on : (s u t : Slab Node) → graph_of u ≡ graph_of s → marks_of u ≡ marks_of s → HasForgotten (graph_of u) (graph_of t) (λ k d. (marks_of u d ≡ true) × (marks_of u k ≡ false) × IsAntecedent (graph_of u) k d)
-    → HasForgotten (graph_of s) (graph_of t) (λ k d. (marks_of s d ≡ true) × (marks_of s k ≡ false) × IsAntecedent (graph_of s) k d)
-forgotten_on s u t graph marks forgotten =
-    subst (λ g. HasForgotten g (graph_of t) (λ k d. (marks_of s d ≡ true) × (marks_of s k ≡ false) × IsAntecedent g k d)) graph
-    (subst (λ (q : ℕ → Bool). HasForgotten (graph_of u) (graph_of t) (λ k d. (q d ≡ true) × (q k ≡ false) × IsAntecedent (graph_of u) k d)) marks forgotten)

@@ -126,7 +126,7 @@ module _ (g f : Graph) (keys : List ℕ) (key : ℕ) (new : Link) (graph : IsGra
           let l = antecedents c m in
           let n = is.some c l.0 l.1 in (n.0, n.1, n.4 k (inr (e.0, m)))
       | inr o ↦
-          let d = graph.depends k c (o.0, o.1, subst (λ cs. Contains cs c) o.2.antecedents antecedent.2) in
+          let d = graph.links.depends k c (o.0, o.1, subst (λ cs. Contains cs c) o.2.antecedents antecedent.2) in
           let n = is.some c d.0 d.1 in (n.0, n.1, n.4 k (inl d.2))
     ]
 
@@ -135,7 +135,7 @@ module _ (g f : Graph) (keys : List ℕ) (key : ℕ) (new : Link) (graph : IsGra
       | inl e ↦ absurd (member_nil k (subst (λ ds. Contains ds k) (ap (λ (z : Link). z.dependents) (sym e.1) ∙ is.alone) dependent.2))
       | inr o ↦ elim (o.3 k dependent.2) [
         | inl m ↦
-            let a = graph.caused k c (o.0, o.1, m) in
+            let a = graph.links.caused k c (o.0, o.1, m) in
             let n = is.some k a.0 a.1 in (n.0, n.1, subst (λ cs. Contains cs c) (sym n.2.antecedents) a.2)
         | inr e ↦ (new, subst (λ j. f j ≡ Some new) e.0 is.there, e.1)
       ]
@@ -145,8 +145,8 @@ module _ (g f : Graph) (keys : List ℕ) (key : ℕ) (new : Link) (graph : IsGra
     entered_once k m has = elim (node_cases k m has) [
       | inl e ↦ subst (λ (z : Link). Distinct z.dependents) e.1 (subst Distinct (sym is.alone) tt)
       | inr o ↦
-          let free : Contains o.0.dependents key → ⊥ = λ d. let a = graph.caused key k (o.0, o.1, d) in old_key key a.0 a.1 refl in
-          (is.once k o.0 m o.1 has (graph.once k o.0 o.1, λ d. absurd (free d))).0
+          let free : Contains o.0.dependents key → ⊥ = λ d. let a = graph.links.caused key k (o.0, o.1, d) in old_key key a.0 a.1 refl in
+          (is.once k o.0 m o.1 has (graph.links.once k o.0 o.1, λ d. absurd (free d))).0
     ]
 
     new_apart : (k : ℕ) → IsKey g k → pair_at f key ≡ pair_at f k → ⊥
@@ -166,7 +166,7 @@ module _ (g f : Graph) (keys : List ℕ) (key : ℕ) (new : Link) (graph : IsGra
     ]
 
     pub entered_graph : IsGraph f (keys ++ key ∷ [])
-    entered_graph = record { places = entered_placed; depends = entered_depends; caused = entered_caused; once = entered_once; apart = entered_apart }
+    entered_graph = record { places = entered_placed; links = record { depends = entered_depends; caused = entered_caused; once = entered_once }; apart = entered_apart }
 
     -- the log has the removal behind the others
     pub entered_log : (r : Removal) → r.pair ≡ new.pair → r.by ≡ new.by → map (pair_at g) new.antecedents ≡ r.reasons → log_of f (keys ++ key ∷ []) ≡ log_of g keys ++ r ∷ []

@@ -37,6 +37,12 @@ module _ (s : Slab Node) (first count : ℕ) (chain keys : List ℕ) (line : IsL
       let e = lost_entry (graph_of s) (marks_of s) keys p m in
       member_same (lost_of (graph_of s) (marks_of s) chain) (removal_at (graph_of s) e.0).pair p e.2 (entry_lost (graph_of s) (marks_of s) chain e.0 (line.whole e.0 e.3) e.3)
 
+  -- the pair of each removal of the chain is lost from the log
+  pub line_lost : (k : ℕ) (l : Link) → Contains chain k → graph_of s k ≡ Some l → Contains (lost_of (graph_of s) (marks_of s) keys) l.pair
+  line_lost k l m at =
+      let g = graph_of s in
+      member_same (lost_of g (marks_of s) keys) (removal_at g k).pair l.pair (ap (λ (r : Removal). r.pair) (removal_is g k l at)) (entry_lost g (marks_of s) keys k (line_logged k m) (line.marked k m))
+
   pub line_all : (before now : List Row) (restored : List Restored) → IsAllBack (graph_of s) (marks_of s) chain before now restored → IsAllBack (graph_of s) (marks_of s) keys before now restored
   line_all before now restored is =
       let some = lost_of (graph_of s) (marks_of s) chain in

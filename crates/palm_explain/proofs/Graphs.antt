@@ -8,7 +8,7 @@ use Rattle.palm_model.specs.Log.{Removal, Names, NamesOfPair, log_pairs}
 use Rattle.palm_model.specs.Log.Names.{by_itself, by_reason}
 use Rattle.palm_events.proofs.cited.Logs.{logged, pair_logged}
 use Rattle.palm_explain.specs.Explanations.{AreLinked, IsLinked}
-use Rattle.palm_explain.specs.Graph.{Graph, IsAntecedent, IsDependent, IsGraph, IsKey, IsPlaced, Link, NamesAt, log_of, pair_at, pair_or, removal_at, removal_or}
+use Rattle.palm_explain.specs.Graph.{Graph, IsAntecedent, IsDependent, IsGraph, IsKey, IsMutual, IsPlaced, Link, NamesAt, log_of, pair_at, pair_or, removal_at, removal_or}
 
 pub some_same : {X : Type 0} (x y : X) → Some x ≡ Some y → x ≡ y
 some_same x y e = cc
@@ -61,11 +61,15 @@ pub key_pair : (g : Graph) (keys : List ℕ) (k : ℕ) → IsPlaced g keys → I
 key_pair g keys k placed key =
     member_same (log_pairs (log_of g keys)) (removal_at g k).pair (pair_at g k) (removal_pair g k) (pair_logged (log_of g keys) (removal_at g k) (removal_logged g keys k placed key))
 
+-- an antecedent has a node
+pub linked_key : (g : Graph) (c k : ℕ) → IsMutual g → IsAntecedent g c k → IsKey g c
+linked_key g c k links antecedent = let d = links.depends k c antecedent in (d.0, d.1)
+
 pub antecedent_key : (g : Graph) (keys : List ℕ) (c k : ℕ) → IsGraph g keys → IsAntecedent g c k → IsKey g c
-antecedent_key g keys c k graph antecedent = let d = graph.depends k c antecedent in (d.0, d.1)
+antecedent_key g keys c k graph antecedent = linked_key g c k graph.links antecedent
 
 pub dependent_key : (g : Graph) (keys : List ℕ) (k c : ℕ) → IsGraph g keys → IsDependent g k c → IsKey g k
-dependent_key g keys k c graph dependent = let d = graph.caused k c dependent in (d.0, d.1)
+dependent_key g keys k c graph dependent = let d = graph.links.caused k c dependent in (d.0, d.1)
 
 -- ---- what a removal names
 

@@ -6,6 +6,7 @@ mod Closing
 mod Counting
 mod Dropping
 mod Entered
+mod Falling
 mod Going
 mod Graphs
 mod Keeping

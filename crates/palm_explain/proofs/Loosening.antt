@@ -9,7 +9,7 @@ use Rattle.palm_base.proofs.cited.Members.{member_cases, member_nil, member_same
 use Rattle.palm_model.specs.Constraint.{Distinct}
 use Rattle.palm_explain.specs.declared.node.Node.{Node}
 use Rattle.palm_explain.specs.Counts.{HasLoosened, HoldsKeys, IsLoosened}
-use Rattle.palm_explain.specs.Graph.{AreOnce, Graph, HasForgotten, IsAntecedent, IsDependent, IsGraph, IsKey, IsLast, Link, graph_of, link_of, marks_of, said}
+use Rattle.palm_explain.specs.Graph.{AreOnce, Graph, HasForgotten, IsAntecedent, IsDependent, IsKey, IsLast, IsMutual, Link, graph_of, link_of, marks_of, said}
 use Rattle.palm_explain.proofs.Changes.{same_itself, same_then}
 use Rattle.palm_explain.proofs.Graphs.{link_same, some_same}
 use Rattle.palm_explain.proofs.Unmarked.{taken_more}
@@ -231,9 +231,9 @@ forgotten_apart g h Gone d k forgotten dependent = elim (found_or (g k)) [
 ]
 
 -- no marked dependent is left to what stays
-pub loosened_forgotten : (g h : Graph) (keys : List ℕ) (marks : ℕ → Bool) → IsGraph g keys → HasLoosened g marks h → ((k d : ℕ) → marks k ≡ false → marks d ≡ true → IsDependent h d k → ⊥)
+pub loosened_forgotten : (g h : Graph) (marks : ℕ → Bool) → IsMutual g → HasLoosened g marks h → ((k d : ℕ) → marks k ≡ false → marks d ≡ true → IsDependent h d k → ⊥)
     → HasForgotten g h (λ k d. (marks d ≡ true) × (marks k ≡ false) × IsAntecedent g k d)
-loosened_forgotten g h keys marks graph loosened none = record {
+loosened_forgotten g h marks links loosened none = record {
   none = loosened.none;
   some = λ k l at.
       let m = loosened.some k l at in
@@ -244,7 +244,7 @@ loosened_forgotten g h keys marks graph loosened none = record {
         λ d q. (a.fewer d q, λ gone. none k d gone.1 gone.0 (m.0, m.1, q)),
         λ d q stays. elim (a.left d q) [
           | inl there ↦ there
-          | inr gone ↦ absurd (stays (gone.0, gone.1, graph.caused d k (l, at, q)))
+          | inr gone ↦ absurd (stays (gone.0, gone.1, links.caused d k (l, at, q)))
         ],
       );
   once = λ k l m at there once. let r = loosened.some k l at in subst (λ (z : Link). Distinct z.dependents) (link_same h k r.0 m r.1 there) (r.2.once once);

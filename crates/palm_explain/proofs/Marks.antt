@@ -25,7 +25,7 @@ closed_from g keys cid marks graph own closed k l at _ same (by_reason r s m rea
     let pair : pair_at g j.0 ≡ s.pair = sym (removal_pair g j.0) ∙ ap (λ (z : Removal). z.pair) j.2 in
     let one : j.0 ≡ u.0 = graph.apart j.0 u.0 j.1 (antecedent_key g keys u.0 k graph (l, at, u.1)) (pair ∙ sym u.2) in
     let mark : marks j.0 ≡ true = closed_from g keys cid marks graph own closed j.0 j.1.0 j.1.1 s (sym j.2) cids in
-    closed u.0 k (subst (λ i. marks i ≡ true) one mark) (graph.depends k u.0 (l, at, u.1))
+    closed u.0 k (subst (λ i. marks i ≡ true) one mark) (graph.links.depends k u.0 (l, at, u.1))
 
 pub spread_told : (g : Graph) (keys : List ℕ) (cid : Cid) (marks : ℕ → Bool) → IsGraph g keys → ((k : ℕ) → IsBy g cid k → marks k ≡ true) → ((k d : ℕ) → marks k ≡ true → IsDependent g d k → marks d ≡ true)
     → ((k : ℕ) → marks k ≡ true → NamesAt g keys cid k) → AreTold g keys cid marks

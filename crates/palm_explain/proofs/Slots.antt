@@ -11,7 +11,7 @@ use Rattle.palm_model.specs.Constraint.{Distinct}
 use Rattle.palm_model.specs.Event.{vars_of}
 use Rattle.palm_explain.specs.declared.restored.Restored.{Restored}
 use Rattle.palm_explain.specs.declared.rows.Row.{Row}
-use Rattle.palm_explain.specs.Explanations.{IsSpanned, restored_vars}
+use Rattle.palm_explain.specs.Explanations.{AreEnds, IsSpanned, restored_vars}
 use Rattle.palm_explain.specs.Restored.{AreSlotted, KeepsKeys, slot_at}
 use Rattle.palm_explain.specs.Rows.{key_at, row_key}
 use Rattle.palm_explain.proofs.Entered.{place_cases}
@@ -87,6 +87,21 @@ spanned_vars pairs restored spanned x m =
     let r = spanned p.0 p.1 in
     member_same (restored_vars restored) r.0.var x (r.2 ∙ p.2) (member_map (λ (z : Restored). z.var) restored r.0 r.1)
 
+-- ---- ends
+
+-- the ends of one entry are among the pairs
+abbrev HasEnds : List Pair → Restored → Type 0
+HasEnds pairs r = Contains pairs (record { var = r.var; value = r.low }) × Contains pairs (record { var = r.var; value = r.high })
+
+-- an end that is the value of one of two pairs of its variable
+end_among : (pairs : List Pair) (p q : Pair) (x : ℕ) (v : ℤ) → Contains pairs p → Contains pairs q → x ≡ p.var → x ≡ q.var → (v ≡ p.value) ⊎ (v ≡ q.value) → Contains pairs (record { var = x; value = v })
+end_among pairs p q x v one two e f is = elim is [
+  | inl l ↦ member_same pairs p (record { var = x; value = v }) (λ i. record { var = sym e i; value = sym l i }) one
+  | inr r ↦ member_same pairs q (record { var = x; value = v }) (λ i. record { var = sym f i; value = sym r i }) two
+]
+
+-- ---- an entry that is widened or added
+
 -- an entry is widened
 module _ (restored : List Restored) (i : ℕ) (r s : Restored) (at : slice_get restored i ≡ Some r) (var : s.var ≡ r.var) where
   pub widened_slotted : (rows : List Row) → AreSlotted rows restored → AreSlotted rows (set restored i s)
@@ -123,6 +138,18 @@ module _ (restored : List Restored) (i : ℕ) (r s : Restored) (at : slice_get r
         | inr e ↦ subst (λ (z : Pair). IsSpanned (set restored i s) z) e (s, here, var ∙ same, low.1, high.1)
       ]
 
+  pub widened_ends : (p : Pair) (pairs : List Pair) → r.var ≡ p.var → (s.low ≡ r.low) ⊎ (s.low ≡ p.value) → (s.high ≡ r.high) ⊎ (s.high ≡ p.value) → AreEnds restored pairs → Contains pairs p → AreEnds (set restored i s) pairs
+  widened_ends p pairs same low high ends there t m =
+      let old = ends r (member_get restored i r at) in
+      let place = member_place (set restored i s) t m in
+      elim (set_cases restored i s place.0 t place.1) [
+        | inl e ↦ subst (HasEnds pairs) e.1 (
+          end_among pairs (record { var = r.var; value = r.low }) p s.var s.low old.0 there var (var ∙ same) low,
+          end_among pairs (record { var = r.var; value = r.high }) p s.var s.high old.1 there var (var ∙ same) high,
+        )
+        | inr o ↦ ends t (member_get restored place.0 t o)
+      ]
+
 -- an entry is added
 module _ (restored : List Restored) (r : Restored) (x : ℕ) (var : r.var ≡ x) where
   pub pushed_slotted : (rows later : List Row) → AreSlotted rows restored → ((t : Restored) → slice_get restored (slot_at rows x) ≡ Some t → t.var ≡ x → ⊥) → slot_at later x ≡ length restored → ((y : ℕ) → y ≢ x → slot_at later y ≡ slot_at rows y)
@@ -149,4 +176,10 @@ pushed_spanned restored r p q is m = elim m [
       let low : r.low ≤ℤ p.value = subst (λ v. v ≤ℤ p.value) (sym (ap (λ (z : Restored). z.low) is)) itself in
       let high : p.value ≤ℤ r.high = subst (λ v. p.value ≤ℤ v) (sym (ap (λ (z : Restored). z.high) is)) itself in
       subst (λ (z : Pair). IsSpanned (restored ++ r ∷ []) z) e (r, Contains-push restored r, ap (λ (z : Restored). z.var) is, low, high)
+]
+
+pub pushed_ends : (restored : List Restored) (r : Restored) (p : Pair) (pairs : List Pair) → r ≡ record { var = p.var; low = p.value; high = p.value } → AreEnds restored pairs → Contains pairs p → AreEnds (restored ++ r ∷ []) pairs
+pushed_ends restored r p pairs is ends there t m = elim (Contains-push_cases restored r t m) [
+  | inl o ↦ ends t o
+  | inr e ↦ subst (HasEnds pairs) (sym is ∙ e) (there, there)
 ]

@@ -16,7 +16,7 @@ use Rattle.palm_explain.specs.declared.node.Node.{Node}
 use Rattle.palm_explain.specs.declared.rows.Row.{Row}
 use Rattle.palm_explain.specs.declared.threads.Threads.{Threads}
 use Rattle.palm_explain.specs.Explanations.{IsLink, IsLinked, LacksExactly}
-use Rattle.palm_explain.specs.Graph.{AreFound, HasClosedUp, HasForgotten, HasLinked, HasNoMark, IsBy, IsAntecedent, IsDependent, IsGraph, IsStored, IsKey, Link, graph_of, has_mark, link_of, log_of, marks_of, pair_at}
+use Rattle.palm_explain.specs.Graph.{AreFound, HasClosedUp, HasForgotten, HasLinked, HasLost, HasNoMark, IsBy, IsDependent, IsGraph, IsStored, IsKey, Link, graph_of, has_mark, link_of, log_of, marks_of, pair_at}
 use Rattle.palm_explain.specs.Lost.{AreTold, HasBack, kept_of, lost_of}
 use Rattle.palm_explain.specs.Restored.{KeepsKeys}
 use Rattle.palm_explain.specs.Rows.{AreFormedRows, key_at}
@@ -24,7 +24,7 @@ use Rattle.palm_explain.specs.Threads.{AreFormedThreads, AreThreaded, thread_of}
 use Rattle.palm_explain.proofs.ClosedUp.{IsGone, left_found, left_graph, left_log, left_threaded}
 use Rattle.palm_explain.proofs.Entered.{IsEntered, by_entered, entered, entered_by, entered_found, entered_graph, entered_log}
 use Rattle.palm_explain.proofs.Graphs.{dependent_key, key_pair, pair_is}
-use Rattle.palm_explain.proofs.Keeping.{kept_linked, lacks_kept, log_lost_of, loses_kept, noted_vars}
+use Rattle.palm_explain.proofs.Keeping.{kept_linked, lacks_kept, log_lost_of, loses_kept, lost_of_log, noted_vars}
 use Rattle.palm_explain.proofs.Linked.{linked_push}
 use Rattle.palm_explain.proofs.Once.{distinct_push}
 use Rattle.palm_explain.proofs.PuttingBack.{kept_and_lost}
@@ -157,56 +157,74 @@ module _ (s t u : Slab Node) (keys : List ℕ) (rows : List Row) (spare key : �
 
 -- ---- withdrawing
 
-module _ (s m t u : Slab Node) (keys left : List ℕ) (rows : List Row) (spare later : ℕ) (cid : Cid) (kept : IsStored s keys rows spare)
-    (graph : graph_of m ≡ graph_of s) (told : AreTold (graph_of s) keys cid (marks_of m))
-    (forgotten : HasForgotten (graph_of m) (graph_of t) (λ k d. (marks_of m d ≡ true) × (marks_of m k ≡ false) × IsAntecedent (graph_of m) k d)) (marks : marks_of t ≡ marks_of m)
-    (closed : HasClosedUp (graph_of t) (marks_of t) keys (graph_of u) left) (unmarked : HasNoMark u)
-    (room : length keys ≤ later) where
-  gone : HasForgotten (graph_of s) (graph_of t) (IsGone (graph_of s) (marks_of m))
-  gone = subst (λ g. HasForgotten g (graph_of t) (IsGone g (marks_of m))) graph forgotten
+-- its steps: what names the constraint is marked, the log is closed up, links are forgotten, and the marked nodes are gone
+pub record AreSteps (s m h t u : Slab Node) (keys left : List ℕ) (cid : Cid) : Type 0 where
+  pub graph : graph_of m ≡ graph_of s
+  pub told : AreTold (graph_of s) keys cid (marks_of m)
+  pub closed : HasClosedUp (graph_of s) (marks_of m) keys (graph_of h) left
+  pub forgotten : HasForgotten (graph_of h) (graph_of t) (IsGone (graph_of h) (marks_of m))
+  pub lost : HasLost (graph_of t) (marks_of m) (graph_of u)
+  pub unmarked : HasNoMark u
 
-  shut : HasClosedUp (graph_of t) (marks_of m) keys (graph_of u) left
-  shut = subst (λ marks. HasClosedUp (graph_of t) marks keys (graph_of u) left) marks closed
+-- between which graph or marks stay as they are
+pub steps_on : (s m f h t u : Slab Node) (keys left : List ℕ) (cid : Cid) → graph_of m ≡ graph_of s → AreTold (graph_of s) keys cid (marks_of m) → graph_of f ≡ graph_of m → marks_of f ≡ marks_of m
+    → HasClosedUp (graph_of f) (marks_of f) keys (graph_of h) left → marks_of h ≡ marks_of f → HasForgotten (graph_of h) (graph_of t) (IsGone (graph_of h) (marks_of h)) → marks_of t ≡ marks_of h
+    → HasLost (graph_of t) (marks_of t) (graph_of u) → HasNoMark u → AreSteps s m h t u keys left cid
+steps_on s m f h t u keys left cid graph told same marks closed marks_closed forgotten marks_forgotten lost unmarked = record {
+  graph = graph;
+  told = told;
+  closed = subst (λ g. HasClosedUp g (marks_of m) keys (graph_of h) left) (same ∙ graph) (subst (λ q. HasClosedUp (graph_of f) q keys (graph_of h) left) marks closed);
+  forgotten = subst (λ q. HasForgotten (graph_of h) (graph_of t) (IsGone (graph_of h) q)) (marks_closed ∙ marks) forgotten;
+  lost = subst (λ q. HasLost (graph_of t) q (graph_of u)) (marks_forgotten ∙ marks_closed ∙ marks) lost;
+  unmarked = unmarked;
+}
 
+module _ (s m h t u : Slab Node) (keys left : List ℕ) (rows : List Row) (spare later : ℕ) (cid : Cid) (kept : IsStored s keys rows spare) (steps : AreSteps s m h t u keys left cid) (room : length keys ≤ later) where
   pub log_left : log_of (graph_of u) left ≡ log_of (graph_of s) (kept_of (marks_of m) keys)
-  log_left = left_log (graph_of s) (graph_of t) (graph_of u) keys left cid (marks_of m) kept.graph told gone shut
+  log_left = left_log (graph_of s) (graph_of h) (graph_of t) (graph_of u) keys left cid (marks_of m) kept.graph steps.told steps.closed steps.forgotten steps.lost
 
   pub left_short : length left ≤ length keys
   left_short =
       let all = kept_and_lost (graph_of m) (marks_of m) keys in
-      let same = ap length shut.left_is in omega (arith, all, same)
+      let same = ap length steps.closed.left_is in omega (arith, all, same)
 
   pub kept_withdrawn : IsStored u left rows later
   kept_withdrawn = record {
-    linked = subst IsLinked (sym log_left) (kept_linked (graph_of s) cid (marks_of m) keys kept.linked told);
-    graph = left_graph (graph_of s) (graph_of t) (graph_of u) keys left cid (marks_of m) kept.graph told gone shut;
-    unmarked = unmarked;
+    linked = subst IsLinked (sym log_left) (kept_linked (graph_of s) cid (marks_of m) keys kept.linked steps.told);
+    graph = left_graph (graph_of s) (graph_of h) (graph_of t) (graph_of u) keys left cid (marks_of m) kept.graph steps.told steps.closed steps.forgotten steps.lost;
+    unmarked = steps.unmarked;
     formed = kept.formed;
-    found = left_found (graph_of s) (graph_of t) (graph_of u) keys left cid (marks_of m) kept.graph told gone shut rows kept.found;
+    found = left_found (graph_of s) (graph_of h) (graph_of t) (graph_of u) keys left cid (marks_of m) kept.graph steps.told steps.closed steps.forgotten steps.lost rows kept.found;
     room = let short = left_short in omega (arith, short, room);
   }
 
   pub loses_withdrawn : Loses (log_of (graph_of s) keys) (cid ∷ []) (log_of (graph_of s) keys) (log_of (graph_of u) left)
-  loses_withdrawn = subst (λ l. Loses (log_of (graph_of s) keys) (cid ∷ []) (log_of (graph_of s) keys) l) (sym log_left) (loses_kept (graph_of s) cid (marks_of m) keys told)
+  loses_withdrawn = subst (λ l. Loses (log_of (graph_of s) keys) (cid ∷ []) (log_of (graph_of s) keys) l) (sym log_left) (loses_kept (graph_of s) cid (marks_of m) keys steps.told)
 
   pub lacks_withdrawn : (before after : List StoreRow) → LacksExactly before (log_pairs (log_of (graph_of s) keys)) → HasBack before after (lost_of (graph_of m) (marks_of m) keys)
       → All Ascends (initial_of after) → All Ascends (present_of after) → LacksExactly after (log_pairs (log_of (graph_of u) left))
   lacks_withdrawn before after lacks back ascend present =
       subst (λ l. LacksExactly after (log_pairs l)) (sym log_left)
-      (lacks_kept (graph_of s) cid (marks_of m) keys before after kept.linked told lacks (subst (λ g. HasBack before after (lost_of g (marks_of m) keys)) graph back) ascend present)
+      (lacks_kept (graph_of s) cid (marks_of m) keys before after kept.linked steps.told lacks (subst (λ g. HasBack before after (lost_of g (marks_of m) keys)) steps.graph back) ascend present)
 
   pub vars_withdrawn : (vars : List ℕ) (x : ℕ) → (Contains vars x → Contains (vars_of (lost_of (graph_of m) (marks_of m) keys)) x) × (Contains (vars_of (lost_of (graph_of m) (marks_of m) keys)) x → Contains vars x)
       → (Contains vars x → Contains (vars_of (lost_pairs (log_of (graph_of s) keys) (log_of (graph_of u) left))) x)
       × (Contains (vars_of (lost_pairs (log_of (graph_of s) keys) (log_of (graph_of u) left))) x → Contains vars x)
   vars_withdrawn vars x noted =
       subst (λ l. (Contains vars x → Contains (vars_of (lost_pairs (log_of (graph_of s) keys) l)) x) × (Contains (vars_of (lost_pairs (log_of (graph_of s) keys) l)) x → Contains vars x)) (sym log_left)
-      (noted_vars (graph_of s) cid (marks_of m) keys vars kept.linked told x
-      (subst (λ g. (Contains vars x → Contains (vars_of (lost_of g (marks_of m) keys)) x) × (Contains (vars_of (lost_of g (marks_of m) keys)) x → Contains vars x)) graph noted))
+      (noted_vars (graph_of s) cid (marks_of m) keys vars kept.linked steps.told x
+      (subst (λ g. (Contains vars x → Contains (vars_of (lost_of g (marks_of m) keys)) x) × (Contains (vars_of (lost_of g (marks_of m) keys)) x → Contains vars x)) steps.graph noted))
 
   pub pairs_withdrawn : (p : Pair) → Contains (lost_pairs (log_of (graph_of s) keys) (log_of (graph_of u) left)) p → Contains (lost_of (graph_of m) (marks_of m) keys) p
   pairs_withdrawn p lost =
-      subst (λ g. Contains (lost_of g (marks_of m) keys) p) (sym graph)
-      (log_lost_of (graph_of s) cid (marks_of m) keys told p (subst (λ l. Contains (lost_pairs (log_of (graph_of s) keys) l) p) log_left lost))
+      subst (λ g. Contains (lost_of g (marks_of m) keys) p) (sym steps.graph)
+      (log_lost_of (graph_of s) cid (marks_of m) keys steps.told p (subst (λ l. Contains (lost_pairs (log_of (graph_of s) keys) l) p) log_left lost))
+
+  -- and the other way round
+  pub lost_withdrawn : (p : Pair) → Contains (lost_of (graph_of m) (marks_of m) keys) p → Contains (lost_pairs (log_of (graph_of s) keys) (log_of (graph_of u) left)) p
+  lost_withdrawn p is =
+      subst (λ l. Contains (lost_pairs (log_of (graph_of s) keys) l) p) (sym log_left)
+      (lost_of_log (graph_of s) cid (marks_of m) keys kept.linked steps.told p (subst (λ g. Contains (lost_of g (marks_of m) keys) p) steps.graph is))
 
   pub threaded_withdrawn : (threads : Threads) → AreThreaded threads (graph_of s) (λ k. IsBy (graph_of s) cid k ⊎ (marks_of m k ≡ true)) → AreThreaded threads (graph_of u) (λ k. ⊥)
-  threaded_withdrawn threads threaded = left_threaded (graph_of s) (graph_of t) (graph_of u) keys left cid (marks_of m) kept.graph told gone shut threads threaded
+  threaded_withdrawn threads threaded = left_threaded (graph_of s) (graph_of h) (graph_of t) (graph_of u) keys left cid (marks_of m) kept.graph steps.told steps.closed steps.forgotten steps.lost threads threaded

@@ -2,12 +2,12 @@
 use Rattle.std.proofs.Common.{◌≡◌, ◌≢◌, ℕ, ◌-◌, Bool, false, true, not, List, [], ◌∷◌, ◌++◌, length, Option, Some, None, IsSome, Contains, slice_get, ◌⊎◌, inl, inr, refl, sym, ap, ◌∙◌, subst}
 use Rattle.std.proofs.lemmas.Bool.{cases_Bool, cases_eq, false≢true}
 use Rattle.std.proofs.lemmas.List.Elements.{Contains-append_left, Contains-push, Contains-push_cases}
-use Rattle.slab.specs.Slab.{ContainsKey, Slab, Updates, get, with_value}
+use Rattle.slab.specs.Slab.{ContainsKey, Slab, get, with_value}
 use Rattle.slab.proofs.SlabLemmas.{Updates-with_value}
 use Rattle.palm_base.proofs.cited.Members.{member_cases, member_get, member_here, member_same, member_single}
 use Rattle.palm_model.specs.Constraint.{Distinct}
 use Rattle.palm_explain.specs.declared.node.Node.{Node}
-use Rattle.palm_explain.specs.Graph.{Graph, HasEnded, HasForgotten, HasLinked, IsDependent, IsKey, IsLast, IsSameNode, IsTailed, IsTakenOut, KeepsRoom, Link, graph_of, has_mark, link_of, marks_of, said}
+use Rattle.palm_explain.specs.Graph.{Graph, HasEnded, HasForgotten, HasLinked, IsDependent, IsKey, IsLast, IsSameNode, IsTailed, KeepsRoom, Link, graph_of, has_mark, link_of, marks_of, said}
 use Rattle.palm_explain.specs.Lost.{kept_of}
 use Rattle.palm_explain.proofs.Changes.{same_then}
 use Rattle.palm_explain.proofs.Graphs.{link_same, some_same}
@@ -223,15 +223,6 @@ same_said s t k n m graph at there =
     let e : link_of (Some m) ≡ link_of (Some n) = sym (ap link_of there) ∙ ap (λ g. g k) graph ∙ ap link_of at in
     let f = some_same (said m) (said n) e in
     (ap (λ (z : Link). z.antecedents) f, ap (λ (z : Link). z.dependents) f, ap (λ (z : Link). z.place) f, ap (λ (z : Link). z.by) f, ap (λ (z : Link). z.pair) f)
-
--- one node is gone
-pub taken_out : (s t : Slab Node) (k : ℕ) → Updates s t k None → IsTakenOut (graph_of s) (graph_of t) (marks_of s) (marks_of t) k
-taken_out s t k updates = record {
-  gone = ap link_of updates.changed;
-  cleared = ap has_mark updates.changed;
-  others = λ j differs. ap link_of (updates.others j differs);
-  marks = λ j differs. ap has_mark (updates.others j differs);
-}
 
 pub room_then : (s t u : Slab Node) → KeepsRoom s t → KeepsRoom t u → KeepsRoom s u
 room_then s t u a b = record { len = b.len ∙ a.len; capacity = b.capacity ∙ a.capacity; vacant_key = b.vacant_key ∙ a.vacant_key }

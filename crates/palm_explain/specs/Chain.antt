@@ -1,5 +1,5 @@
 -- The marked removals in a chain that is threaded through their nodes.
-use Rattle.std.specs.Prelude.{◌≡◌, ℕ, suc, ◌-◌, Bool, true, List, ◌++◌, length, Option, Some, None, Contains, slice_get}
+use Rattle.std.specs.Prelude.{◌≡◌, ◌≢◌, ℕ, suc, ◌-◌, Bool, true, List, ◌++◌, length, Option, Some, None, Contains, slice_get}
 use Rattle.slab.specs.Slab.{Slab, get}
 use Rattle.palm_explain.specs.declared.node.Node.{Node}
 use Rattle.palm_explain.specs.Graph.{marks_of}
@@ -33,3 +33,9 @@ pub record IsLine (nodes : Slab Node) (first count : ℕ) (chain : List ℕ) : T
   pub once : (i j k : ℕ) → slice_get chain i ≡ Some k → slice_get chain j ≡ Some k → i ≡ j
   pub marked : (k : ℕ) → Contains chain k → marks_of nodes k ≡ true
   pub whole : (k : ℕ) → marks_of nodes k ≡ true → Contains chain k
+
+-- the node under the key stands before the one that was first, and the others stand as before
+pub record IsPutFirst (old new : Slab Node) (before after key : ℕ) : Type 0 where
+  pub first : after ≡ key
+  pub follows : nexts_of new key ≡ before
+  pub others : (k : ℕ) → k ≢ key → nexts_of new k ≡ nexts_of old k

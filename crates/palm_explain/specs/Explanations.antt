@@ -22,6 +22,10 @@ restored_vars restored = map (λ r. r.var) restored
 abbrev pub IsSpanned : List Restored → Pair → Type 0
 IsSpanned restored p = (r : Restored) × Contains restored r × (r.var ≡ p.var) × (r.low ≤ℤ p.value) × (p.value ≤ℤ r.high)
 
+-- what is told of each variable are its least and greatest value among these
+abbrev pub AreEnds : List Restored → List Pair → Type 0
+AreEnds restored pairs = (r : Restored) → Contains restored r → Contains pairs (record { var = r.var; value = r.low }) × Contains pairs (record { var = r.var; value = r.high })
+
 -- ---- logs
 
 -- the ids of the constraints that removed, and the reasons of the removal at a place

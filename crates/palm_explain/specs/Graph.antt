@@ -103,12 +103,16 @@ pub record IsPlaced (g : Graph) (keys : List ℕ) : Type 0 where
   pub placed : (i k : ℕ) → slice_get keys i ≡ Some k → (l : Link) × (g k ≡ Some l) × (l.place ≡ i)
   pub logged : (k : ℕ) (l : Link) → g k ≡ Some l → slice_get keys l.place ≡ Some k
 
--- besides, the links in both directions agree, none stands twice, and no pair stands under two keys
-pub record IsGraph (g : Graph) (keys : List ℕ) : Type 0 where
-  pub places : IsPlaced g keys
+-- the links in both directions agree, and no node lists a dependent twice
+pub record IsMutual (g : Graph) : Type 0 where
   pub depends : (k c : ℕ) → IsAntecedent g c k → IsDependent g k c
   pub caused : (k c : ℕ) → IsDependent g k c → IsAntecedent g c k
   pub once : AreOnce g
+
+-- the nodes stand in the log, their links agree, and no pair stands under two keys
+pub record IsGraph (g : Graph) (keys : List ℕ) : Type 0 where
+  pub places : IsPlaced g keys
+  pub links : IsMutual g
   pub apart : (j k : ℕ) → IsKey g j → IsKey g k → pair_at g j ≡ pair_at g k → j ≡ k
 
 -- ---- changes
@@ -175,12 +179,17 @@ pub record IsMoved (g h : Graph) (key place : ℕ) : Type 0 where
   pub moved : (l : Link) → g key ≡ Some l → h key ≡ Some (record l { place = place })
   pub others : (k : ℕ) → k ≢ key → h k ≡ g k
 
--- the marked nodes are gone, and those that are left stand at their places in a log without the others
+-- the log is without the marked nodes, and those that are left stand at their places there; nothing else has changed
 pub record HasClosedUp (g : Graph) (marks : ℕ → Bool) (keys : List ℕ) (h : Graph) (left : List ℕ) : Type 0 where
   pub left_is : left ≡ filter (λ k. not (marks k)) keys
   pub kept : (j k : ℕ) → slice_get left j ≡ Some k → (l : Link) × (g k ≡ Some l) × (h k ≡ Some (record l { place = j }))
-  pub gone : (k : ℕ) → Contains keys k → marks k ≡ true → h k ≡ None
+  pub lost : (k : ℕ) → marks k ≡ true → h k ≡ g k
   pub none : (k : ℕ) → g k ≡ None → h k ≡ None
+
+-- the marked nodes are gone, and nothing else has changed
+pub record HasLost (g : Graph) (marks : ℕ → Bool) (h : Graph) : Type 0 where
+  pub gone : (k : ℕ) → marks k ≡ true → h k ≡ None
+  pub kept : (k : ℕ) → marks k ≡ false → h k ≡ g k
 
 -- ---- what the nodes keep between calls
 

@@ -1,5 +1,5 @@
-//! How a removal is entered: first all memory, then the links in both directions.
-ghost use Rattle.std.specs.Prelude.{◌≡◌, ℕ, Some, slice_get, ◌+◌, ◌<◌, ◌≤◌, length, map, Contains, IfOk, OnOk, OnErr, vec_capacity, vec_len};
+//! How a removal is entered: its antecedents are found, room is made, and it is linked in both directions.
+ghost use Rattle.std.specs.Prelude.{◌≡◌, ℕ, [], Some, slice_get, ◌+◌, ◌<◌, ◌≤◌, length, map, Contains, IfOk, OnOk, OnErr, vec_capacity, vec_len};
 ghost use Rattle.slab.specs.Slab.{HasRoomFor};
 ghost use Rattle.palm_base.specs.declared.terms.Pair.{Pair as PairTerm};
 ghost use Rattle.palm_explain.specs.Graph.{AreFound, Graph, HasEnded, HasFirst, HasLinked, IsDependent, IsKey, KeepsRoom, graph_of, marks_of, pair_at};
@@ -9,8 +9,9 @@ use crate::emptied::Emptied;
 use crate::node::{Nodes, add_dependent, drop_last};
 use crate::restored::Restored;
 use crate::rows::Row;
+use crate::spare::Spare;
 use palm_base::{NoMemory, Pair, Var};
-use std::alloc::{AllocError, AllocFailed, Global};
+use std::alloc::{AllocError, AllocFailed};
 
 /// Adds the keys of the reasons' removals from a place on, as long as they are of one variable. Answers the place behind
 /// them. (Out of line, so that the row is read once for all of them.)
@@ -44,20 +45,22 @@ fn push_run(
     place
 }
 
-/// The keys of the reasons' removals.
+/// The keys of the reasons' removals, in a list that is empty.
 pub(crate) fn antecedents_of(
-    alloc: Global,
     nodes: &Nodes,
     rows: &[Row],
     reasons: &[Pair],
+    empty: Vec<u32>,
 ) -> Result<Vec<u32>, NoMemory>
+    requires none { empty.items ≡ [] }
     requires formed { AreFormedRows rows.now }
     requires found { AreFound rows.now (graph_of nodes.now) }
     requires removed { (p : PairTerm) → Contains reasons.now p → (k : ℕ) × IsKey (graph_of nodes.now) k × (pair_at (graph_of nodes.now) k ≡ p) }
     ensures reasons { IfOk result (λ antecedents. map (pair_at (graph_of nodes.now)) antecedents.items ≡ reasons.now) }
     ensures keys { IfOk result (λ antecedents. (k : ℕ) → Contains antecedents.items k → IsKey (graph_of nodes.now) k) }
 {
-    let mut antecedents = Vec::with_capacity(alloc, reasons.len())?;
+    let mut antecedents = empty;
+    antecedents.reserve(reasons.len())?;
     let mut place = 0;
     while place < reasons.len() {
         let var = reasons[place].var;
@@ -68,7 +71,7 @@ pub(crate) fn antecedents_of(
 }
 
 /// Makes room for one more removal, in the log and among the nodes. There is then also room for as many restored variables, as many
-/// removals that lose dependents, and as many lists of dependents, as there are removals with it.
+/// removals that lose dependents, and as many lists of dependents and of antecedents, as there are removals with it.
 #[inline(always)]
 pub(crate) fn make_room(
     nodes: &mut Nodes,
@@ -76,6 +79,7 @@ pub(crate) fn make_room(
     restored: &mut Vec<Restored>,
     losing: &mut Vec<u32>,
     emptied: &mut Emptied,
+    spare: &mut Spare,
 ) -> Result<(), NoMemory>
     ensures graph { graph_of nodes.new ≡ graph_of nodes.old }
     ensures marks { marks_of nodes.new ≡ marks_of nodes.old }
@@ -91,6 +95,7 @@ pub(crate) fn make_room(
 {
     let count = log.len() + 1;
     emptied.make_room(count)?;
+    spare.make_room(count)?;
     restored.reserve(count)?;
     losing.clear();
     losing.reserve(count)?;

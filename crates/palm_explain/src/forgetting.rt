@@ -1,12 +1,13 @@
-//! How a withdrawal takes what it loses out of the lists of what stays. From the end of the log on it takes each lost removal off the
-//! dependents of its antecedents, where it is the last one of them, as it mostly is. It counts it at the others, and lists these. Then
-//! each of their lists is passed once, and no other list. Mostly the lost ones stand first there, where an older constraint goes.
+//! How a withdrawal takes what it loses out of the lists of what stays. It goes along the chain from the last lost removal to the first,
+//! and takes each off the dependents of its antecedents, where it is the last one of them, as it mostly is. It counts it at the others,
+//! and lists these. Then each of their lists is passed once, and no other list. Mostly the lost ones stand first there, where an older
+//! constraint goes.
 ghost use Rattle.std.specs.Prelude.{◌≡◌, ◌⊎◌, ℕ, ◌+◌, ◌-◌, ◌<◌, ◌≤◌, List, Some, true, false, [], ◌∷◌, ◌++◌, length, filter, take, drop, slice_get, slice_set, vec_capacity, Contains};
 ghost use Rattle.palm_base.specs.declared.terms.Cid.{Cid as CidTerm};
 ghost use Rattle.palm_model.specs.Constraint.{Distinct};
 ghost use Rattle.palm_explain.specs.Chain.{IsLine, nexts_of};
 ghost use Rattle.palm_explain.specs.Counts.{AreCounted, AreNoted, HasCounted, HasLoosened, HoldsKeys, counts_of};
-ghost use Rattle.palm_explain.specs.Graph.{AreOnce, HasForgotten, IsAntecedent, IsBy, IsDependent, IsGraph, IsKey, Link, graph_of, marks_of};
+ghost use Rattle.palm_explain.specs.Graph.{AreOnce, HasForgotten, IsAntecedent, IsBy, IsDependent, IsKey, IsMutual, graph_of, marks_of};
 ghost use Rattle.palm_explain.specs.Lost.{kept_of};
 ghost use Rattle.palm_explain.specs.Threads.{AreFormedThreads, AreThreaded, thread_of};
 
@@ -76,6 +77,7 @@ fn loosen_each(nodes: &mut Nodes, losing: &mut Vec<u32>, antecedents: &[u32], ke
     requires room { HoldsKeys (graph_of nodes.old) (vec_capacity losing.old) }
     ensures loosened { HasLoosened (graph_of nodes.old) (marks_of nodes.old) (graph_of nodes.new) }
     ensures marks { marks_of nodes.new ≡ marks_of nodes.old }
+    ensures nexts { nexts_of nodes.new ≡ nexts_of nodes.old }
     ensures counted { HasCounted (counts_of nodes.old) (counts_of nodes.new) losing.old.items losing.new.items
         (λ k. (marks_of nodes.old k ≡ false) × Contains antecedents.now k × IsDependent (graph_of nodes.new) key k) }
     ensures noted { AreNoted nodes.new losing.new.items }
@@ -86,47 +88,51 @@ fn loosen_each(nodes: &mut Nodes, losing: &mut Vec<u32>, antecedents: &[u32], ke
     }
 }
 
-/// The same of its antecedents, where it is lost. (Their list is taken out meanwhile, so that it is looked up once.)
-fn loosen_at(nodes: &mut Nodes, losing: &mut Vec<u32>, key: u32)
+/// The same of its antecedents. (Their list is taken out meanwhile, so that it is looked up once.) Answers the next one of the chain.
+fn loosen_at(nodes: &mut Nodes, losing: &mut Vec<u32>, key: u32) -> u32
     requires key { IsKey (graph_of nodes.old) key }
     requires keys { (c : ℕ) → IsAntecedent (graph_of nodes.old) c key → IsKey (graph_of nodes.old) c }
+    requires lost { marks_of nodes.old key ≡ true }
     requires once { AreOnce (graph_of nodes.old) }
     requires noted { AreNoted nodes.old losing.old.items }
     requires room { HoldsKeys (graph_of nodes.old) (vec_capacity losing.old) }
     ensures loosened { HasLoosened (graph_of nodes.old) (marks_of nodes.old) (graph_of nodes.new) }
     ensures marks { marks_of nodes.new ≡ marks_of nodes.old }
+    ensures nexts { nexts_of nodes.new ≡ nexts_of nodes.old }
     ensures counted { HasCounted (counts_of nodes.old) (counts_of nodes.new) losing.old.items losing.new.items
-        (λ k. (marks_of nodes.old key ≡ true) × (marks_of nodes.old k ≡ false) × IsAntecedent (graph_of nodes.old) k key × IsDependent (graph_of nodes.new) key k) }
+        (λ k. (marks_of nodes.old k ≡ false) × IsAntecedent (graph_of nodes.old) k key × IsDependent (graph_of nodes.new) key k) }
     ensures noted { AreNoted nodes.new losing.new.items }
     ensures room { vec_capacity losing.new ≡ vec_capacity losing.old }
+    ensures next { result ≡ nexts_of nodes.old key }
 {
     let node = &mut nodes[key as usize];
-    if !node.mark {
-        return;
-    }
     let none = Vec::new(*node.antecedents.allocator());
     let antecedents = mem::replace(&mut node.antecedents, none);
     loosen_each(nodes, losing, &antecedents, key);
-    nodes[key as usize].antecedents = antecedents;
+    let node = &mut nodes[key as usize];
+    node.antecedents = antecedents;
+    node.next
 }
 
-/// The same of each lost removal, from the last one of the log on: the later ones mostly stand last.
-fn loosen_lost(nodes: &mut Nodes, losing: &mut Vec<u32>, log: &[u32], start: usize)
-    requires graph { IsGraph (graph_of nodes.old) log.now }
+/// The same of each lost removal, along their chain.
+fn loosen_lost(nodes: &mut Nodes, losing: &mut Vec<u32>, first: u32, count: usize)
+    requires line { (chain : List ℕ) × IsLine nodes.old first count chain }
+    requires links { IsMutual (graph_of nodes.old) }
     requires none { losing.old.items ≡ [] }
-    requires room { length log.now ≤ vec_capacity losing.old }
-    requires earliest { (k : ℕ) (l : Link) → marks_of nodes.old k ≡ true → graph_of nodes.old k ≡ Some l → start ≤ l.place }
+    requires room { HoldsKeys (graph_of nodes.old) (vec_capacity losing.old) }
     ensures loosened { HasLoosened (graph_of nodes.old) (marks_of nodes.old) (graph_of nodes.new) }
     ensures marks { marks_of nodes.new ≡ marks_of nodes.old }
+    ensures nexts { nexts_of nodes.new ≡ nexts_of nodes.old }
     ensures counted { AreCounted nodes.new }
     ensures noted { AreNoted nodes.new losing.new.items }
     ensures whole { (k d : ℕ) → marks_of nodes.old k ≡ false → marks_of nodes.old d ≡ true → IsDependent (graph_of nodes.new) d k → Contains losing.new.items k }
     ensures room { vec_capacity losing.new ≡ vec_capacity losing.old }
 {
-    let mut place = log.len();
-    while place > start {
-        place -= 1;
-        loosen_at(nodes, losing, log[place]);
+    let mut key = first;
+    let mut place = 0;
+    while place < count {
+        key = loosen_at(nodes, losing, key);
+        place += 1;
     }
 }
 
@@ -216,6 +222,7 @@ fn drop_among(nodes: &mut Nodes, key: u32)
     ensures forgotten { HasForgotten (graph_of nodes.old) (graph_of nodes.new)
         (λ k d. (key ≡ k) × (marks_of nodes.old d ≡ true) × (marks_of nodes.old k ≡ false)) }
     ensures marks { marks_of nodes.new ≡ marks_of nodes.old }
+    ensures nexts { nexts_of nodes.new ≡ nexts_of nodes.old }
     ensures counted { AreCounted nodes.new }
 {
     let node = &mut nodes[key as usize];
@@ -227,18 +234,19 @@ fn drop_among(nodes: &mut Nodes, key: u32)
     nodes[key as usize].dependents = dependents;
 }
 
-/// Takes the marked removals, none of which stands before the start, out of the dependents of the others.
-pub(crate) fn forget_lost(nodes: &mut Nodes, losing: &mut Vec<u32>, log: &[u32], start: usize)
-    requires graph { IsGraph (graph_of nodes.old) log.now }
+/// Takes the removals of the chain out of the dependents of the others.
+pub(crate) fn forget_lost(nodes: &mut Nodes, losing: &mut Vec<u32>, first: u32, count: usize)
+    requires line { (chain : List ℕ) × IsLine nodes.old first count chain }
+    requires links { IsMutual (graph_of nodes.old) }
     requires none { losing.old.items ≡ [] }
-    requires room { length log.now ≤ vec_capacity losing.old }
-    requires earliest { (k : ℕ) (l : Link) → marks_of nodes.old k ≡ true → graph_of nodes.old k ≡ Some l → start ≤ l.place }
+    requires room { HoldsKeys (graph_of nodes.old) (vec_capacity losing.old) }
     ensures forgotten { HasForgotten (graph_of nodes.old) (graph_of nodes.new)
         (λ k d. (marks_of nodes.old d ≡ true) × (marks_of nodes.old k ≡ false) × IsAntecedent (graph_of nodes.old) k d) }
     ensures marks { marks_of nodes.new ≡ marks_of nodes.old }
+    ensures nexts { nexts_of nodes.new ≡ nexts_of nodes.old }
     ensures room { vec_capacity losing.new ≡ vec_capacity losing.old }
 {
-    loosen_lost(nodes, losing, log, start);
+    loosen_lost(nodes, losing, first, count);
     for key in losing.as_slice() {
         drop_among(nodes, *key);
     }

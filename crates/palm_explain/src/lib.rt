@@ -11,6 +11,7 @@ mod marking;
 mod node;
 mod restored;
 mod rows;
+mod spare;
 mod store;
 mod threads;
 mod walking;

@@ -75,6 +75,7 @@ pub(crate) fn set_place(nodes: &mut Nodes, key: u32, place: usize)
     requires { IsKey (graph_of nodes.old) key }
     ensures moved { IsMoved (graph_of nodes.old) (graph_of nodes.new) key place }
     ensures marks { marks_of nodes.new ≡ marks_of nodes.old }
+    ensures nexts { nexts_of nodes.new ≡ nexts_of nodes.old }
 {
     nodes[key as usize].place = place;
 }
@@ -148,6 +149,7 @@ pub(crate) fn loosen(nodes: &mut Nodes, losing: &mut Vec<u32>, antecedent: u32, 
     requires room { HoldsKeys (graph_of nodes.old) (vec_capacity losing.old) }
     ensures loosened { HasLoosened (graph_of nodes.old) (marks_of nodes.old) (graph_of nodes.new) }
     ensures marks { marks_of nodes.new ≡ marks_of nodes.old }
+    ensures nexts { nexts_of nodes.new ≡ nexts_of nodes.old }
     ensures counted { HasCounted (counts_of nodes.old) (counts_of nodes.new) losing.old.items losing.new.items
         (λ k. (marks_of nodes.old k ≡ false) × (antecedent ≡ k) × IsDependent (graph_of nodes.new) key k) }
     ensures noted { AreNoted nodes.new losing.new.items }

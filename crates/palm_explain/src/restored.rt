@@ -1,9 +1,9 @@
 //! What a withdrawal tells of the values that it put back.
-ghost use Rattle.std.specs.Prelude.{◌≡◌, ◌≤ℤ◌};
+ghost use Rattle.std.specs.Prelude.{◌≡◌, ◌⊎◌, ◌≤ℤ◌};
 
 use palm_base::{Pair, Value, Var};
 
-/// A variable of which a withdrawal put values back, all from `low` to `high`.
+/// A variable of which a withdrawal put values back: the least of them, and the greatest.
 #[derive(Clone, Copy, Debug, PartialEq, Eq)]
 pub struct Restored {
     pub var: Var,
@@ -30,6 +30,8 @@ impl Restored {
         ensures var { self.new.var ≡ self.old.var }
         ensures low { (self.new.low ≤ℤ self.old.low) × (self.new.low ≤ℤ value) }
         ensures high { (self.old.high ≤ℤ self.new.high) × (value ≤ℤ self.new.high) }
+        ensures least { (self.new.low ≡ self.old.low) ⊎ (self.new.low ≡ value) }
+        ensures greatest { (self.new.high ≡ self.old.high) ⊎ (self.new.high ≡ value) }
     {
         if value < self.low {
             self.low = value;

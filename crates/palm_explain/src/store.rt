@@ -6,7 +6,7 @@ ghost use Rattle.palm_domain.specs.Rows.{initial_of};
 ghost use Rattle.palm_model.specs.Constraint.{Distinct};
 ghost use Rattle.palm_model.specs.Event.{lost_pairs, vars_of};
 ghost use Rattle.palm_model.specs.Log.{IsListOf, Loses, NamesOfPair, log_pairs};
-ghost use Rattle.palm_explain.specs.Explanations.{IsLinked, IsSpanned, LacksExactly, NamesOfSome, log_bys, reasons_of, restored_vars};
+ghost use Rattle.palm_explain.specs.Explanations.{AreEnds, IsLinked, IsSpanned, LacksExactly, NamesOfSome, log_bys, reasons_of, restored_vars};
 
 use crate::emptied::Emptied;
 use crate::entering::{antecedents_of, link, make_room, unlink};
@@ -15,9 +15,10 @@ use crate::marking::mark_lost;
 use crate::node::{Node, Nodes};
 use crate::restored::Restored;
 use crate::rows::{Row, key_of, put_key};
+use crate::spare::Spare;
 use crate::threads::Threads;
 use crate::walking::{cids_of, rests_on};
-use crate::withdrawing::{close_up, put_back};
+use crate::withdrawing::{close_up, put_back, remove_lost};
 use palm_base::{Cid, CidList, NoMemory, Pair, Value, Var};
 use palm_domain::DomainStore;
 use slab::Slab;
@@ -39,6 +40,7 @@ pub struct ExplainStore {
     /// The removals that stay and lose dependents, while a withdrawal is on its way.
     losing: Vec<u32>,
     emptied: Emptied,
+    spare: Spare,
 }
 
 impl Model for ExplainStore {
@@ -67,6 +69,7 @@ impl ExplainStore {
             restored: Vec::new(alloc),
             losing: Vec::new(alloc),
             emptied: Emptied::new(alloc),
+            spare: Spare::new(alloc),
         }
     }
 
@@ -83,14 +86,15 @@ impl ExplainStore {
         };
         let place = self.log.len();
         put_key(&mut self.rows, &pair, key)?;
-        let alloc = *self.log.allocator();
-        let antecedents = antecedents_of(alloc, &self.nodes, &self.rows, reasons)?;
+        let empty = self.spare.take(reasons.len());
+        let antecedents = antecedents_of(&self.nodes, &self.rows, reasons, empty)?;
         make_room(
             &mut self.nodes,
             &mut self.log,
             &mut self.restored,
             &mut self.losing,
             &mut self.emptied,
+            &mut self.spare,
         )?;
         link(&mut self.nodes, &antecedents, key)?;
         let at = match self.threads.push(&by, key) {
@@ -230,6 +234,7 @@ impl ExplainStore {
         ensures once { Distinct (restored_vars self.new.restored) }
         ensures restored { (x : ℕ) → Contains (restored_vars self.new.restored) x ↔ Contains (vars_of (lost_pairs self.old.log self.new.log)) x }
         ensures within { (p : PairTerm) → Contains (lost_pairs self.old.log self.new.log) p → IsSpanned self.new.restored p }
+        ensures ends { AreEnds self.new.restored (lost_pairs self.old.log self.new.log) }
     {
         let log = self.log.as_slice();
         let own = self.threads.take(&cid);
@@ -245,9 +250,16 @@ impl ExplainStore {
             &mut self.restored,
         );
         forget_threads(&mut self.nodes, &mut self.threads, first, count, &cid);
+        let last = close_up(&mut self.nodes, &mut self.log, start);
         self.losing.clear();
-        forget_lost(&mut self.nodes, &mut self.losing, log, start);
-        close_up(&mut self.nodes, &mut self.log, &mut self.emptied, start);
+        forget_lost(&mut self.nodes, &mut self.losing, last, count);
+        remove_lost(
+            &mut self.nodes,
+            &mut self.emptied,
+            &mut self.spare,
+            last,
+            count,
+        );
     }
 
     /// The variables of which the last withdrawal put values back, each once.

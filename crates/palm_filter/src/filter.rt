@@ -12,11 +12,10 @@ use crate::heed::Heed;
 use crate::shape::Shape;
 use palm_base::{NoMemory, Pair, Steps, VarList};
 use palm_domain::DomainStore;
-use smallvec::SmallVec;
 use std::sync::ledger::Ledger;
 
-/// The pairs of a reason. Most reasons are short, and stay inline.
-pub type Reasons = SmallVec<Pair, 8>;
+/// The pairs of a reason. One list is filled again and again.
+pub type Reasons = Vec<Pair>;
 
 /// What filters one constraint, its meaning.
 pub trait Filter: Drop {

@@ -30,14 +30,14 @@ fn heeds_of(alloc: Global, heed: Heed, count: usize) -> Result<Vec<Heed>, NoMemo
     Ok(heeds)
 }
 
-/// Connects the two. The user's heeds the losses of each place so.
-fn connect_two(alloc: Global, agenda: &mut Agenda, heed: Heed) -> Result<(), NoMemory>
+/// Connects the two. The user's heeds the losses of its places so.
+fn connect_two(alloc: Global, agenda: &mut Agenda, heeds: Vec<Heed>) -> Result<(), NoMemory>
     requires { agenda.old.connected ≡ [] }
     ensures { OnOk result ((some : List HeedTerm) × (others : List HeedTerm)
         × (agenda.new.connected ≡ marked_whole (Cid.Decide 2) (2 ∷ []) some ∷ marked_whole (Cid.User 70000) (0 ∷ 1 ∷ 0 ∷ []) others ∷ [])) }
 {
-    agenda.connect(user(), &[Var(0), Var(1), Var(0)], heeds_of(alloc, heed, 3)?)?;
-    agenda.connect(decision(), &[Var(2)], heeds_of(alloc, heed, 1)?)
+    agenda.connect(user(), &[Var(0), Var(1), Var(0)], heeds)?;
+    agenda.connect(decision(), &[Var(2)], heeds_of(alloc, Heed::Each, 1)?)
 }
 
 /// The loss of the value 5, where lesser, greater and several ones are left.
@@ -91,7 +91,7 @@ fn is_decision_left(agenda: &mut Agenda) -> bool
 fn hands_out_what_woke(alloc: Global, agenda: &mut Agenda) -> Result<bool, NoMemory>
     requires { agenda.old.connected ≡ [] }
 {
-    connect_two(alloc, agenda, Heed::Each)?;
+    connect_two(alloc, agenda, heeds_of(alloc, Heed::Each, 3)?)?;
     let by_name = hands_out_by_name(agenda);
     let as_answered = hands_out_as_answered(agenda);
     Ok(by_name && as_answered && is_decision_left(agenda))
@@ -139,7 +139,7 @@ fn marks_what_came_back(agenda: &mut Agenda) -> bool
 fn follows_what_came_back(alloc: Global, agenda: &mut Agenda) -> Result<bool, NoMemory>
     requires { agenda.old.connected ≡ [] }
 {
-    connect_two(alloc, agenda, Heed::Each)?;
+    connect_two(alloc, agenda, heeds_of(alloc, Heed::Each, 3)?)?;
     unmark_user(agenda);
     Ok(marks_what_came_back(agenda))
 }
@@ -170,21 +170,26 @@ fn marks_what_is_lost(agenda: &mut Agenda, losses: &[Loss], mark: &Mark) -> bool
 fn follows_what_is_lost(
     alloc: Global,
     agenda: &mut Agenda,
-    heed: Heed,
+    heeds: Vec<Heed>,
     losses: &[Loss],
     mark: &Mark,
 ) -> Result<bool, NoMemory>
     requires { agenda.old.connected ≡ [] }
 {
-    connect_two(alloc, agenda, heed)?;
+    connect_two(alloc, agenda, heeds)?;
     unmark_user(agenda);
     Ok(marks_what_is_lost(agenda, losses, mark))
 }
 
 /// The same of a new agenda.
-fn are_heeded(alloc: Global, heed: Heed, losses: &[Loss], mark: &Mark) -> Result<bool, NoMemory> {
+fn are_heeded(
+    alloc: Global,
+    heeds: Vec<Heed>,
+    losses: &[Loss],
+    mark: &Mark,
+) -> Result<bool, NoMemory> {
     let mut agenda = Agenda::new(alloc);
-    follows_what_is_lost(alloc, &mut agenda, heed, losses, mark)
+    follows_what_is_lost(alloc, &mut agenda, heeds, losses, mark)
 }
 
 /// The losses of the least value, of the greatest one, and one that leaves a single value below it.
@@ -247,7 +252,7 @@ fn heeds_are_kept(alloc: Global) -> Result<bool, NoMemory> {
         (Heed::Shifted(-3), &[loss_of(i32::MIN + 2)], Mark::Whole),
     ];
     for (heed, losses, mark) in &rows {
-        if !are_heeded(alloc, *heed, losses, mark)? {
+        if !are_heeded(alloc, heeds_of(alloc, *heed, 3)?, losses, mark)? {
             return Ok(false);
         }
     }
@@ -257,5 +262,19 @@ fn heeds_are_kept(alloc: Global) -> Result<bool, NoMemory> {
 #[test]
 fn marks_follow_the_losses_that_are_heeded(rt: HostRuntime) -> Result<(), Fail> {
     assert!(rt; heeds_are_kept(rt.alloc())?);
+    Ok(())
+}
+
+/// Whether a loss that the heed of the variable's place leaves alone marks where no heed is told of the place.
+fn heeds_what_is_untold(alloc: Global) -> Result<bool, NoMemory> {
+    let first = heeds_of(alloc, Heed::Least, 1)?;
+    let told = are_heeded(alloc, first, &[loss()], &Mark::Clear)?;
+    let untold = are_heeded(alloc, Vec::new(alloc), &[loss()], &Mark::Whole)?;
+    Ok(told && untold)
+}
+
+#[test]
+fn losses_are_heeded_where_nothing_is_told(rt: HostRuntime) -> Result<(), Fail> {
+    assert!(rt; heeds_what_is_untold(rt.alloc())?);
     Ok(())
 }

@@ -1,5 +1,5 @@
 -- What an agenda keeps, after each of its calls.
-use Rattle.std.proofs.Common.{◌≡◌, ℕ, ◌+◌, ◌<◌, ◌≤◌, Bool, true, false, not, ◌&&◌, ◌||◌, if◌then◌else◌, List, [], ◌∷◌, map, reverse, length, get_or, set, take, slice_get, insert, remove, Contains, All, Option, None, Some, zero, suc, ◌⊎◌, ◌↔◌, inl, inr, refl, sym, ap, ◌∙◌, subst, arith, nat_eq, nat_lt, lt-ltb, le-ltb, IfNone, eq-eqb, eqb-true, length-set}
+use Rattle.std.proofs.Common.{◌≡◌, ℕ, ◌+◌, ◌<◌, ◌≤◌, Bool, true, false, not, ◌||◌, if◌then◌else◌, List, [], ◌∷◌, map, reverse, length, get_or, set, take, slice_get, insert, remove, Contains, All, Option, None, Some, zero, suc, ◌⊎◌, ◌↔◌, inl, inr, refl, sym, ap, ◌∙◌, subst, arith, nat_eq, nat_lt, lt-ltb, le-ltb, IfNone, eq-eqb, eqb-true, length-set}
 use Rattle.std.specs.Option.{MatchOption}
 use Rattle.std.proofs.lemmas.Bool.{cases_Bool, cases_lt, false≢true}
 use Rattle.std.proofs.lemmas.List.{get_or-map, length-map, length-replicate, nil_from_length, take_all}
@@ -22,7 +22,7 @@ use Rattle.palm_agenda.specs.Agenda.{Connected, HasMarks, IsConnected, IsFormed,
 use Rattle.palm_agenda.specs.Kept.{IsAgenda, IsShown}
 use Rattle.palm_agenda.specs.Places.{is_place, mark_at, mark_places}
 use Rattle.palm_filter.specs.declared.heed.Heed.{Heed}
-use Rattle.palm_agenda.specs.Losses.{heed_of, is_by_value, mark_after}
+use Rattle.palm_agenda.specs.Losses.{heed_of, mark_after}
 use Rattle.palm_agenda.specs.declared.loss.Loss.{Loss}
 use Rattle.palm_agenda.specs.Marks.{widened}
 use Rattle.palm_agenda.specs.declared.mark.Mark.{Mark}
@@ -43,15 +43,6 @@ if_true b x y e = ap (λ v. if v then x else y) e
 
 pub if_false : {X : Type 0} (b : Bool) (x y : X) → b ≡ false → (if b then x else y) ≡ y
 if_false b x y e = ap (λ v. if v then x else y) e
-
--- what tests tell
-pub not_true : (b : Bool) → not b ≡ true → b ≡ false
-not_true true e = absurd (false≢true e)
-not_true false e = refl
-
-pub both_true : (a b : Bool) → (a && b) ≡ true → (a ≡ true) × (b ≡ true)
-both_true true b e = (refl, e)
-both_true false b e = absurd (false≢true e)
 
 -- the ids at raised flags are of connected constraints, and rise
 pub formed_of : (connected : List Connected) (flags : List Bool) → Rises (connected_cids connected) → All HasMarks connected → IsFormed (record { connected = connected; pending = flagged (connected_cids connected) flags })
@@ -617,14 +608,14 @@ put_all_set first now more i past so_far c = subst (λ cids. Contains now c ↔ 
 pub none_put : (cids : List Cid) (c : Cid) → Contains cids c ↔ (Contains cids c ⊎ Contains {X = Cid} [] c)
 none_put cids c = (λ m. inl m, λ h. elim h [ inl m ↦ m | inr m ↦ absurd (member_nil c m) ])
 
--- no loss of the variable is heeded by value, at one more constraint
-pub whole_more : (f : Connected → Connected) → KeepsScopes f → (x : ℕ) (first now : List Connected) → now ≡ map f first → (cids : List Cid) (i : ℕ) (cid : Cid) → i < length cids → cid ≡ get_or cids i cid
-    → ((d : Connected) → Contains first d → Contains (take i cids) d.cid → is_by_value (heed_of x d.scope d.heeds) ≡ false)
-    → ((d : Connected) → Contains now d → d.cid ≡ cid → is_by_value (heed_of x d.scope d.heeds) ≡ false)
-    → (d : Connected) → Contains first d → Contains (take (i + 1) cids) d.cid → is_by_value (heed_of x d.scope d.heeds) ≡ false
-whole_more f keeps x first now is cids i cid lt item so_far here d m n = elim (member_take_more cids i cid d.cid lt item n) [
+-- what holds of how losses of the variable are heeded, at one more constraint
+pub heeds_more : (f : Connected → Connected) → KeepsScopes f → (x : ℕ) (first now : List Connected) → now ≡ map f first → (cids : List Cid) (i : ℕ) (cid : Cid) → i < length cids → cid ≡ get_or cids i cid
+    → (P : Heed → Type 0) → ((d : Connected) → Contains first d → Contains (take i cids) d.cid → P (heed_of x d.scope d.heeds))
+    → ((d : Connected) → Contains now d → d.cid ≡ cid → P (heed_of x d.scope d.heeds))
+    → (d : Connected) → Contains first d → Contains (take (i + 1) cids) d.cid → P (heed_of x d.scope d.heeds)
+heeds_more f keeps x first now is cids i cid lt item P so_far here d m n = elim (member_take_more cids i cid d.cid lt item n) [
   | inl k ↦ so_far d m k
   | inr e ↦
-      ap is_by_value (sym (heed_kept f keeps x d))
-      ∙ here (f d) (subst (λ ds. Contains ds (f d)) (sym is) (member_map f first d m)) (keeps.cid d ∙ sym e)
+      subst P (heed_kept f keeps x d)
+      (here (f d) (subst (λ ds. Contains ds (f d)) (sym is) (member_map f first d m)) (keeps.cid d ∙ sym e))
 ]

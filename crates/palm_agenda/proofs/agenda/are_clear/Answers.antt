@@ -15,4 +15,4 @@ loop-mark-preserved c =
     (All-push (λ m. m ≡ Clear) (take index marks) mark c.loop-mark.invariant clear)
 
 pub returns : goal.returns
-returns c = λ _. subst (λ (marks : List Mark). All (λ mark. mark ≡ Clear) marks) (take_all c.loop-mark.mark-index c.args.marks.now c.loop-mark-test.false) c.loop-mark.invariant
+returns c = subst (λ (marks : List Mark). All (λ mark. mark ≡ Clear) marks) (take_all c.loop-mark.mark-index c.args.marks.now c.loop-mark-test.false) c.loop-mark.invariant

@@ -3,32 +3,35 @@ use Rattle.std.proofs.lemmas.List.{length-map, take_all}
 use Rattle.palm_base.proofs.cited.Members.{member_nil}
 use Rattle.palm_agenda.specs.Agenda.{changed_among, changed_at, connected_cids}
 use Rattle.palm_agenda.specs.Flags.{flagged}
+use Rattle.palm_agenda.specs.Losses.{heed_of}
+use Rattle.palm_agenda.specs.Open.{Covers}
 use Rattle.palm_agenda.specs.Places.{mark_places}
-use Rattle.palm_agenda.proofs.cited.Keeping.{both_true, changed_none, keeps_among, keeps_places, marked_more, none_put, over_changed, put_all_set, put_set, rises_changed, whole_more}
+use Rattle.palm_agenda.proofs.cited.Keeping.{changed_none, heeds_more, keeps_among, keeps_places, marked_more, none_put, over_changed, put_all_set, put_set, rises_changed}
+use Rattle.palm_agenda.proofs.Opening.{covers_more}
 use Rattle.palm_agenda.proofs.agenda.wake_each.Goals as goal
 
 pub loop-cid-init : goal.loop-cid-init
 loop-cid-init c = record {
   marks = changed_none (mark_places c.args.places.now c.args.var.now) c.args.connections.now.items;
   pending = none_put (flagged (connected_cids c.args.connections.now.items) c.args.pending.now.flags);
-  whole = λ told d listed among. absurd (member_nil d.cid among);
+  covers = λ d listed among. absurd (member_nil d.cid among);
   flags = refl;
 }
 
-pub wake_named-whole-requires-clause-rising : goal.wake_named-whole-requires-clause-rising
-wake_named-whole-requires-clause-rising c =
+pub wake_named-heed-requires-clause-rising : goal.wake_named-heed-requires-clause-rising
+wake_named-heed-requires-clause-rising c =
     rises_changed (changed_among (take c.loop-cid.cid-index c.args.cids.now) (mark_places c.args.places.now c.args.var.now))
     (keeps_among (take c.loop-cid.cid-index c.args.cids.now) (mark_places c.args.places.now c.args.var.now) (keeps_places c.args.places.now c.args.var.now))
     c.args.connections.now.items c.loop-cid.connections.items c.loop-cid.invariant.marks c.requires.rising
 
-pub wake_named-whole-requires-clause-flags : goal.wake_named-whole-requires-clause-flags
-wake_named-whole-requires-clause-flags c =
+pub wake_named-heed-requires-clause-flags : goal.wake_named-heed-requires-clause-flags
+wake_named-heed-requires-clause-flags c =
     c.loop-cid.invariant.flags ∙ c.requires.flags
     ∙ sym (length-map c.args.connections.now.items (changed_among (take c.loop-cid.cid-index c.args.cids.now) (mark_places c.args.places.now c.args.var.now)))
     ∙ ap length (sym c.loop-cid.invariant.marks)
 
-pub wake_named-whole-requires-clause-over : goal.wake_named-whole-requires-clause-over
-wake_named-whole-requires-clause-over c =
+pub wake_named-heed-requires-clause-over : goal.wake_named-heed-requires-clause-over
+wake_named-heed-requires-clause-over c =
     over_changed (changed_among (take c.loop-cid.cid-index c.args.cids.now) (mark_places c.args.places.now c.args.var.now))
     (keeps_among (take c.loop-cid.cid-index c.args.cids.now) (mark_places c.args.places.now c.args.var.now) (keeps_places c.args.places.now c.args.var.now))
     c.args.connections.now.items c.loop-cid.connections.items c.args.var.now c.cid-item.result c.loop-cid.invariant.marks
@@ -37,17 +40,19 @@ wake_named-whole-requires-clause-over c =
 pub loop-cid-preserved : goal.loop-cid-preserved
 loop-cid-preserved c = record {
   marks =
-      c.wake_named-whole.ensures.marks ∙ ap (map (changed_at c.cid-item.result (mark_places c.args.places.now c.args.var.now))) c.loop-cid.invariant.marks
+      c.wake_named-heed.ensures.marks ∙ ap (map (changed_at c.cid-item.result (mark_places c.args.places.now c.args.var.now))) c.loop-cid.invariant.marks
       ∙ marked_more c.args.places.now c.args.var.now c.args.cids.now c.loop-cid.cid-index c.cid-item.result c.args.connections.now.items c.loop-cid-test.true c.cid-item.is;
   pending =
       put_set (flagged (connected_cids c.args.connections.now.items) c.args.pending.now.flags) (flagged (connected_cids c.loop-cid.connections.items) c.loop-cid.pending.flags)
-      (flagged (connected_cids c.wake_named-whole.new.connections.items) c.wake_named-whole.new.pending.flags) c.args.cids.now c.loop-cid.cid-index c.cid-item.result c.loop-cid-test.true c.cid-item.is
-      c.loop-cid.invariant.pending c.wake_named-whole.ensures.pending;
-  whole = λ told. whole_more (changed_among (take c.loop-cid.cid-index c.args.cids.now) (mark_places c.args.places.now c.args.var.now))
+      (flagged (connected_cids c.wake_named-heed.new.connections.items) c.wake_named-heed.new.pending.flags) c.args.cids.now c.loop-cid.cid-index c.cid-item.result c.loop-cid-test.true c.cid-item.is
+      c.loop-cid.invariant.pending c.wake_named-heed.ensures.pending;
+  covers = heeds_more (changed_among (take c.loop-cid.cid-index c.args.cids.now) (mark_places c.args.places.now c.args.var.now))
       (keeps_among (take c.loop-cid.cid-index c.args.cids.now) (mark_places c.args.places.now c.args.var.now) (keeps_places c.args.places.now c.args.var.now))
       c.args.var.now c.args.connections.now.items c.loop-cid.connections.items c.loop-cid.invariant.marks c.args.cids.now c.loop-cid.cid-index c.cid-item.result c.loop-cid-test.true c.cid-item.is
-      (c.loop-cid.invariant.whole (both_true c.loop-cid.whole c.wake_named-whole.result told).0) (c.wake_named-whole.ensures.whole (both_true c.loop-cid.whole c.wake_named-whole.result told).1);
-  flags = c.wake_named-whole.ensures.flags ∙ c.loop-cid.invariant.flags;
+      (Covers c.note_marked.new.self c.args.places.now)
+      (λ d listed among. covers_more c.loop-cid.still c.note_marked.new.self c.note_marked.ensures.more c.args.places.now (heed_of c.args.var.now d.scope d.heeds) (c.loop-cid.invariant.covers d listed among))
+      (λ d listed named. subst (Covers c.note_marked.new.self c.args.places.now) (c.wake_named-heed.ensures.heed d listed named) c.note_marked.ensures.covers);
+  flags = c.wake_named-heed.ensures.flags ∙ c.loop-cid.invariant.flags;
 }
 
 pub returns-clause-pending : goal.returns-clause-pending
@@ -55,6 +60,6 @@ returns-clause-pending c =
     put_all_set (flagged (connected_cids c.args.connections.now.items) c.args.pending.now.flags) (flagged (connected_cids c.loop-cid.connections.items) c.loop-cid.pending.flags)
     c.args.cids.now c.loop-cid.cid-index c.loop-cid-test.false c.loop-cid.invariant.pending
 
-pub returns-clause-whole : goal.returns-clause-whole
-returns-clause-whole c told d listed among =
-    c.loop-cid.invariant.whole told d listed (subst (λ cids. Contains cids d.cid) (sym (take_all c.loop-cid.cid-index c.args.cids.now c.loop-cid-test.false)) among)
+pub returns-clause-covers : goal.returns-clause-covers
+returns-clause-covers c d listed among =
+    c.loop-cid.invariant.covers d listed (subst (λ cids. Contains cids d.cid) (sym (take_all c.loop-cid.cid-index c.args.cids.now c.loop-cid-test.false)) among)

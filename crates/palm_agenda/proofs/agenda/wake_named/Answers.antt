@@ -1,9 +1,9 @@
-use Rattle.std.proofs.Common.{◌≡◌, ◌∙◌, arith, ap, false, sym}
+use Rattle.std.proofs.Common.{◌≡◌, arith}
 use Rattle.palm_agenda.specs.Agenda.{Connected}
-use Rattle.palm_agenda.specs.Losses.{heed_of, is_by_value}
+use Rattle.palm_agenda.specs.Losses.{heed_of}
 use Rattle.palm_agenda.specs.Places.{mark_places}
 use Rattle.palm_agenda.proofs.cited.Connecting.{over_connected, parted_in}
-use Rattle.palm_agenda.proofs.cited.Keeping.{changed_here, holds_here, keeps_places, not_true, over_here, place_within, woken_at}
+use Rattle.palm_agenda.proofs.cited.Keeping.{changed_here, holds_here, keeps_places, over_here, place_within, woken_at}
 use Rattle.palm_agenda.proofs.agenda.wake_named.Goals as goal
 
 pub mark-heed-requires : goal.mark-heed-requires
@@ -34,9 +34,8 @@ returns-clause-pending c =
     (parted_in c.deref.result.now c.args.connections.now.items c.args.cid.now c.place_from-place.result c.deref.ensures.value c.place_from-place.ensures)
     c.requires.over (returns-clause-marks c) c.raise.ensures
 
-pub returns-clause-whole : goal.returns-clause-whole
-returns-clause-whole c told =
+pub returns-clause-heed : goal.returns-clause-heed
+returns-clause-heed c =
     holds_here c.args.connections.now.items c.requires.rising c.args.cid.now c.place_from-place.result
     (parted_in c.deref.result.now c.args.connections.now.items c.args.cid.now c.place_from-place.result c.deref.ensures.value c.place_from-place.ensures)
-    c.index_mut-connection.result.now c.index_mut-connection.ensures.value (λ (d : Connected). is_by_value (heed_of c.args.var.now d.scope d.heeds) ≡ false)
-    (ap is_by_value (sym c.mark-heed.ensures.heed) ∙ sym c.is_by_value.ensures ∙ not_true c.is_by_value.result told)
+    c.index_mut-connection.result.now c.index_mut-connection.ensures.value (λ (d : Connected). c.mark-heed.result ≡ heed_of c.args.var.now d.scope d.heeds) c.mark-heed.ensures.heed

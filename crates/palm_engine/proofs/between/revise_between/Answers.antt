@@ -27,6 +27,12 @@ returns-in_default-clause-supported g c =
     let f = c.args.filtering.now in
     values_supported r.0 owner c.args.var f c.rise.new.filtering (subst (λ n. Advanced r.0 owner c.args.var n f c.rise.new.filtering) c.in_default.is (c.in_ok-first.ensures.advanced r.0 r.1))
 
+pub last_supported-last-requires-clause-present : goal.last_supported-last-requires-clause-present
+last_supported-last-requires-clause-present g c =
+    let r = c.requires.revising in
+    let w = subst (λ n. Advanced r.0 (active_of g.F.Filter.meaning c.args.constraint.now) c.args.var n c.args.filtering.now c.rise.new.filtering) c.in-Some.is (c.in_ok-first.ensures.advanced r.0 r.1) in
+    w.present
+
 pub next_after-above-requires : goal.next_after-above-requires
 next_after-above-requires g c =
     let r = c.requires.revising in

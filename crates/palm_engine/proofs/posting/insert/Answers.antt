@@ -8,10 +8,10 @@ use Rattle.palm_engine.proofs.Placing.{inserted_cids}
 use Rattle.palm_engine.proofs.Scopes.{connected_is_active, heeds_fit}
 use Rattle.palm_engine.proofs.posting.insert.Goals as goal
 
-pub connect-requires-clause-new : goal.connect-requires-clause-new
-connect-requires-clause-new g c is =
+pub connect-requires : goal.connect-requires
+connect-requires g c =
     let active = actives_of g.F.Filter.meaning c.args.posted.now.items in
-    c.requires.inactive (subst (IsActive active) c.cid-cid.ensures (connected_is_active active c.args.agenda.now.connected c.requires.connected c.cid-cid.result is))
+    record { new = λ is. c.requires.inactive (subst (IsActive active) c.cid-cid.ensures (connected_is_active active c.args.agenda.now.connected c.requires.connected c.cid-cid.result is)) }
 
 pub returns-clause-active : goal.returns-clause-active
 returns-clause-active g c =

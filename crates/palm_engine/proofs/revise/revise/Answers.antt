@@ -1,5 +1,6 @@
 use Rattle.std.proofs.Common.{ℕ, ◌≤◌, List, length, sym, subst, ◌∙◌, arith}
 use Rattle.palm_base.specs.declared.terms.Cid.{Cid}
+use Rattle.palm_base.proofs.cited.Telling.{tells_true}
 use Rattle.palm_domain.specs.Rows.{present_of}
 use Rattle.palm_model.specs.Constraint.{scope}
 use Rattle.palm_agenda.specs.Agenda.{IsConnected}
@@ -18,7 +19,7 @@ is_clear-requires g c =
 
 pub returns-then-is_clear-clause-walked : goal.returns-then-is_clear-clause-walked
 returns-then-is_clear-clause-walked g c = λ active r.
-    clear_walked c.args.filtering.now active (active_of g.F.Filter.meaning c.args.constraint.now) r (λ d m named. c.is_clear.ensures c.if-is_clear.true d m (named ∙ sym c.cid.ensures))
+    clear_walked c.args.filtering.now active (active_of g.F.Filter.meaning c.args.constraint.now) r (λ d m named. tells_true _ c.is_clear.result (c.is_clear.ensures d m (named ∙ sym c.cid.ensures)) c.if-is_clear.true)
 
 pub loop-place-init : goal.loop-place-init
 loop-place-init g c = λ active r. places_start active (active_of g.F.Filter.meaning c.args.constraint.now) c.args.filtering.now c.args.steps.now r

@@ -3,7 +3,7 @@ use Rattle.slab.specs.Slab.{with_value}
 use Rattle.palm_explain.specs.declared.node.Node.{Node}
 use Rattle.palm_explain.specs.Graph.{marks_of}
 use Rattle.palm_explain.specs.Lost.{kept_of}
-use Rattle.palm_explain.proofs.Dropping.{dropped, dropped_counted, dropped_marks, found, unwritten, written}
+use Rattle.palm_explain.proofs.Dropping.{dropped, dropped_counted, dropped_marks, dropped_nexts, found, unwritten, written}
 use Rattle.palm_explain.proofs.Writes.{same_marks}
 use Rattle.palm_explain.proofs.forgetting.drop_among.Goals as goal
 
@@ -40,5 +40,6 @@ returns c =
     let mark = ap (λ (z : Node). z.mark) e in record {
       forgotten = dropped s t key n v at last far pair by antecedents place mark c.requires.unmarked is;
       marks = dropped_marks s t key n v at last far pair by antecedents place mark;
+      nexts = dropped_nexts s t key n v at last far pair by antecedents place mark (ap (λ (z : Node). z.next) e);
       counted = dropped_counted s t key n v at last far pair by antecedents place mark c.requires.counted is;
     }

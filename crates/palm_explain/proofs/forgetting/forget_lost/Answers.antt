@@ -13,6 +13,7 @@ loop-key-init c =
     let same = c.as_slice-key-items.ensures.value in record {
       loosened = c.loosen_lost.ensures.loosened;
       marks = c.loosen_lost.ensures.marks;
+      nexts = c.loosen_lost.ensures.nexts;
       counted = c.loosen_lost.ensures.counted;
       left = λ k d free lost dependent.
           let there = member_place c.as_slice-key-items.result.now k (subst (λ l. Contains l k) (sym same) (c.loosen_lost.ensures.whole k d free lost dependent)) in
@@ -54,6 +55,7 @@ loop-key-preserved c =
     let step = forgotten_loosened (graph_of t) (graph_of u) (marks_of t) k (ap (λ q. q k) marks ∙ free) c.drop_among.ensures.forgotten in record {
       loosened = loosened_then (graph_of s) (graph_of t) (graph_of u) (marks_of s) c.loop-key.invariant.loosened (subst (λ q. HasLoosened (graph_of t) q (graph_of u)) marks step);
       marks = c.drop_among.ensures.marks ∙ marks;
+      nexts = c.drop_among.ensures.nexts ∙ c.loop-key.invariant.nexts;
       counted = c.drop_among.ensures.counted;
       left = λ j d stays lost dependent.
           let before = loosened_dependent (graph_of t) (graph_of u) (marks_of t) d j step dependent in
@@ -68,5 +70,5 @@ loop-key-preserved c =
 pub returns-clause-forgotten : goal.returns-clause-forgotten
 returns-clause-forgotten c =
     let s = c.args.nodes.now in
-    loosened_forgotten (graph_of s) (graph_of c.loop-key.nodes) c.args.log.now (marks_of s) c.requires.graph c.loop-key.invariant.loosened
+    loosened_forgotten (graph_of s) (graph_of c.loop-key.nodes) (marks_of s) c.requires.links c.loop-key.invariant.loosened
     (λ k d free lost dependent. none_from c.as_slice-key-items.result.now c.loop-key.key-index k (omega (arith, c.loop-key-test.false)) (c.loop-key.invariant.left k d free lost dependent))

@@ -13,6 +13,7 @@ loop-antecedent-init c =
     let s = c.args.nodes.now in record {
       loosened = loosened_none (graph_of s) (marks_of s);
       marks = refl;
+      nexts = refl;
       counted = counted_none (counts_of s) c.args.losing.now.items (λ k. (marks_of s k ≡ false) × Contains (take 0 c.args.antecedents.now) k × IsDependent (graph_of s) c.args.key k) (λ k m. member_nil k m.1);
       noted = c.requires.noted;
       room = refl;
@@ -52,6 +53,7 @@ loop-antecedent-preserved c =
     let marks = c.loop-antecedent.invariant.marks in record {
       loosened = loosened_then (graph_of s) (graph_of t) (graph_of u) (marks_of s) c.loop-antecedent.invariant.loosened (subst (λ q. HasLoosened (graph_of t) q (graph_of u)) marks c.loosen.ensures.loosened);
       marks = c.loosen.ensures.marks ∙ marks;
+      nexts = c.loosen.ensures.nexts ∙ c.loop-antecedent.invariant.nexts;
       counted = counted_more (marks_of s) (marks_of t) (λ j. IsDependent (graph_of t) c.args.key j) (λ j. IsDependent (graph_of u) c.args.key j) (counts_of s) (counts_of t) (counts_of u) c.args.losing.now.items c.loop-antecedent.losing.items c.loosen.new.losing.items
           keys i k marks (λ j m. loosened_dependent (graph_of t) (graph_of u) (marks_of t) c.args.key j c.loosen.ensures.loosened m) c.loop-antecedent-test.true (sym (get_or_from_slice_get keys i k k at)) c.loop-antecedent.invariant.counted c.loosen.ensures.counted;
       noted = c.loosen.ensures.noted;

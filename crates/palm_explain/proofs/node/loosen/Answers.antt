@@ -1,4 +1,4 @@
-use Rattle.std.proofs.Common.{◌≡◌, ◌∙◌, ◌-◌, ◌++◌, ◌∷◌, false, vec_capacity, [], Some, Contains, slice_get, refl, sym, ap, subst, arith}
+use Rattle.std.proofs.Common.{◌≡◌, ◌∙◌, ◌++◌, ◌∷◌, false, vec_capacity, [], Some, Contains, slice_get, refl, sym, ap, subst, arith}
 use Rattle.std.proofs.lemmas.List.{length-append}
 use Rattle.std.proofs.lemmas.List.Elements.{Contains-append_left, Contains-push}
 use Rattle.slab.specs.Slab.{with_value}
@@ -8,7 +8,7 @@ use Rattle.palm_explain.specs.Counts.{AreNoted, HasCounted, HasLoosened, HoldsKe
 use Rattle.palm_explain.specs.Graph.{IsDependent, IsLast, Link, graph_of, link_of, marks_of, said}
 use Rattle.palm_explain.proofs.Counting.{counted_none, counted_write, noted_fits, noted_kept, noted_pushed}
 use Rattle.palm_explain.proofs.Graphs.{some_same}
-use Rattle.palm_explain.proofs.Lending.{noted_on, same_counts}
+use Rattle.palm_explain.proofs.Lending.{noted_on, same_counts, same_nexts}
 use Rattle.palm_explain.proofs.Loosening.{loosened_none, popped_apart, popped_loosened}
 use Rattle.palm_explain.proofs.Writes.{here, node_mark, same_graph, same_marks}
 use Rattle.palm_explain.proofs.node.loosen.Goals as goal
@@ -37,6 +37,11 @@ pub returns-then-ends_with-clause-marks : goal.returns-then-ends_with-clause-mar
 returns-then-ends_with-clause-marks c =
     let n = c.index_mut-node.result.now in
     same_marks c.args.nodes.now c.args.antecedent n (record n { dependents = c.pop.new.self }) c.index_mut-node.ensures.value refl
+
+pub returns-then-ends_with-clause-nexts : goal.returns-then-ends_with-clause-nexts
+returns-then-ends_with-clause-nexts c =
+    let n = c.index_mut-node.result.now in
+    same_nexts c.args.nodes.now c.args.antecedent n (record n { dependents = c.pop.new.self }) c.index_mut-node.ensures.value refl
 
 pub returns-then-ends_with-clause-counted : goal.returns-then-ends_with-clause-counted
 returns-then-ends_with-clause-counted c =
@@ -69,6 +74,11 @@ pub returns-then-has_at-clause-marks : goal.returns-then-has_at-clause-marks
 returns-then-has_at-clause-marks c =
     let n = c.index_mut-node.result.now in
     same_marks c.args.nodes.now c.args.antecedent n (record n { lost = c.one_more-node.result }) c.index_mut-node.ensures.value refl
+
+pub returns-then-has_at-clause-nexts : goal.returns-then-has_at-clause-nexts
+returns-then-has_at-clause-nexts c =
+    let n = c.index_mut-node.result.now in
+    same_nexts c.args.nodes.now c.args.antecedent n (record n { lost = c.one_more-node.result }) c.index_mut-node.ensures.value refl
 
 pub returns-then-has_at-clause-counted : goal.returns-then-has_at-clause-counted
 returns-then-has_at-clause-counted c =
@@ -104,6 +114,11 @@ pub returns-clause-marks : goal.returns-clause-marks
 returns-clause-marks c =
     let n = c.index_mut-node.result.now in
     same_marks c.args.nodes.now c.args.antecedent n (record n { lost = c.one_more-node.result; slot = c.len-node.result }) c.index_mut-node.ensures.value refl
+
+pub returns-clause-nexts : goal.returns-clause-nexts
+returns-clause-nexts c =
+    let n = c.index_mut-node.result.now in
+    same_nexts c.args.nodes.now c.args.antecedent n (record n { lost = c.one_more-node.result; slot = c.len-node.result }) c.index_mut-node.ensures.value refl
 
 pub returns-clause-counted : goal.returns-clause-counted
 returns-clause-counted c =

@@ -1,8 +1,8 @@
 use Rattle.std.proofs.Common.{◌≡◌, ◌∙◌, Some, Contains, slice_get, inl, sym, ap, subst}
 use Rattle.palm_explain.specs.declared.restored.Restored.{Restored}
-use Rattle.palm_explain.specs.Explanations.{IsSpanned, restored_vars}
+use Rattle.palm_explain.specs.Explanations.{AreEnds, IsSpanned, restored_vars}
 use Rattle.palm_explain.specs.Restored.{AreSlotted, slot_at}
-use Rattle.palm_explain.proofs.Slots.{entry_at, pushed_noted, pushed_slotted, pushed_spanned, widened_noted, widened_slotted, widened_spanned}
+use Rattle.palm_explain.proofs.Slots.{entry_at, pushed_ends, pushed_noted, pushed_slotted, pushed_spanned, widened_ends, widened_noted, widened_slotted, widened_spanned}
 use Rattle.palm_explain.proofs.withdrawing.note.Goals as goal
 
 pub returns-then-has_at-clause-slots : goal.returns-then-has_at-clause-slots
@@ -29,6 +29,14 @@ returns-then-has_at-clause-spanned c q m =
     let at = entry_at restored slot c.args.pair.var n (rw c.deref-2.ensures.value at (c.has_at.ensures.there c.if-has_at.true)) c.index_mut.ensures.value in
     widened_spanned restored slot n c.widen.new.self at.0 c.widen.ensures.var c.args.pair q at.1 c.widen.ensures.low c.widen.ensures.high m
 
+pub returns-then-has_at-clause-ends : goal.returns-then-has_at-clause-ends
+returns-then-has_at-clause-ends c pairs =
+    let restored = c.args.restored.now.items in
+    let slot = c.slot_of-slot.result in
+    let n = c.index_mut.result.now in
+    let at = entry_at restored slot c.args.pair.var n (rw c.deref-2.ensures.value at (c.has_at.ensures.there c.if-has_at.true)) c.index_mut.ensures.value in
+    widened_ends restored slot n c.widen.new.self at.0 c.widen.ensures.var c.args.pair pairs at.1 c.widen.ensures.least c.widen.ensures.greatest
+
 pub returns-clause-slots : goal.returns-clause-slots
 returns-clause-slots c =
     let rows = c.args.rows.now.items in
@@ -47,3 +55,7 @@ returns-clause-noted c y m =
 pub returns-clause-spanned : goal.returns-clause-spanned
 returns-clause-spanned c q m =
     subst (λ rs. IsSpanned rs q) (sym c.push_reserved.ensures.items) (pushed_spanned c.args.restored.now.items c.of.result c.args.pair q c.of.ensures m)
+
+pub returns-clause-ends : goal.returns-clause-ends
+returns-clause-ends c pairs ends there =
+    subst (λ rs. AreEnds rs pairs) (sym c.push_reserved.ensures.items) (pushed_ends c.args.restored.now.items c.of.result c.args.pair pairs c.of.ensures ends there)

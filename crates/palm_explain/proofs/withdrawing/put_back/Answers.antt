@@ -2,14 +2,15 @@ use Rattle.std.proofs.Common.{◌≡◌, ◌<◌, ◌∷◌, [], Some, get_or, l
 use Rattle.std.proofs.Math.Nat.{min-le_left, min-le_right}
 use Rattle.std.proofs.lemmas.List.{take_all}
 use Rattle.std.proofs.lemmas.Option.{get_or_from_slice_get}
-use Rattle.palm_base.proofs.cited.Members.{member_nil, member_take_more}
+use Rattle.palm_base.proofs.cited.Members.{member_get, member_nil, member_take_more}
 use Rattle.palm_model.specs.Log.{Removal}
 use Rattle.palm_explain.specs.Chain.{next_or}
+use Rattle.palm_explain.specs.Explanations.{AreEnds}
 use Rattle.palm_explain.specs.Graph.{Link, graph_of, link_of, marks_of, said}
 use Rattle.palm_explain.specs.Lost.{lost_at, lost_of}
 use Rattle.palm_explain.specs.Restored.{AreSlotted}
 use Rattle.palm_explain.proofs.Chains.{line_at, line_marked, line_next, mark_key}
-use Rattle.palm_explain.proofs.Going.{line_all, line_out, line_short}
+use Rattle.palm_explain.proofs.Going.{line_all, line_lost, line_out, line_short}
 use Rattle.palm_explain.proofs.Graphs.{link_same, removal_is}
 use Rattle.palm_explain.proofs.PuttingBack.{IsBackBelow, back_below_all, back_below_next, back_below_none, lost_here}
 use Rattle.palm_explain.proofs.Slots.{key_within, keys_same, keys_then, none_slotted, slotted_once, spanned_vars}
@@ -21,6 +22,7 @@ loop-place-init c = record {
   cursor = λ chain line. line.starts;
   below = λ chain line. subst (λ rs. IsBackBelow (graph_of c.args.nodes.now) (marks_of c.args.nodes.now) chain c.args.store.now c.args.store.now rs 0) (sym c.clear.ensures.items)
       (back_below_none (graph_of c.args.nodes.now) (marks_of c.args.nodes.now) chain c.args.store.now);
+  ends = subst (λ rs. AreEnds rs (lost_of (graph_of c.args.nodes.now) (marks_of c.args.nodes.now) c.args.log.now)) (sym c.clear.ensures.items) (λ r m. absurd (member_nil r m));
   keys = keys_same c.args.rows.now.items;
   slots = subst (AreSlotted c.args.rows.now.items) (sym c.clear.ensures.items) (none_slotted c.args.rows.now.items);
   few = let none = ap length c.clear.ensures.items in let ok = c.clear.new.self.ok.0 in omega (arith, none, ok);
@@ -95,6 +97,11 @@ loop-place-preserved c =
           let here : lost_at g marks chain place ≡ n.pair ∷ [] = lost_here g marks chain place key at mark ∙ ap (λ (r : Removal). r.pair ∷ []) (removal_is g key (said n) node) in
           back_below_next g marks chain c.args.store.now c.loop-place.store c.put_back_pair.new.store c.loop-place.restored.items c.put_back_pair.new.restored.items n.pair place here
           (c.loop-place.invariant.below chain line) put.back put.noted put.spanned;
+      ends =
+          let chain = c.requires.line.0 in
+          let line = c.requires.line.1 in
+          let at = line_at s c.args.first c.args.count chain line place key c.loop-place-test.true (c.loop-place.invariant.cursor chain line) in
+          put.ends (lost_of g marks c.args.log.now) c.loop-place.invariant.ends (line_lost s c.args.first c.args.count chain c.args.log.now line c.requires.graph key (said n) (member_get chain place key at) node);
       keys = keys_then c.args.rows.now.items c.loop-place.rows.items c.put_back_pair.new.rows.items c.loop-place.invariant.keys put.keys;
       slots = put.slots;
       few = let few = c.loop-place.invariant.few in let more = put.room.1 in omega (arith, few, more);

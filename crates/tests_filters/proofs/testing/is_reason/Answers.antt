@@ -7,11 +7,11 @@ pub returns-in-Some-clause-same : goal.returns-in-Some-clause-same
 returns-in-Some-clause-same g c same =
     let listed = (slice_eq-Decides pair_same c.as_slice-in-Some.result.now c.args.expected.now c.eq.result c.eq.ensures).0 same in
     let exact = rw c.in-Some.is at c.in_ok-reason.ensures.exact in
-    sym exact ∙ sym c.as_slice-in-Some.ensures ∙ listed
+    sym exact ∙ sym c.as_slice-in-Some.ensures.value ∙ listed
 
 pub returns-in-Some-clause-other : goal.returns-in-Some-clause-other
 returns-in-Some-clause-other g c other over present lacking filled listed =
     let exact = rw c.in-Some.is at c.in_ok-reason.ensures.exact in
     let same = (slice_eq-Decides pair_same c.as_slice-in-Some.result.now c.args.expected.now c.eq.result c.eq.ensures).1
-    (c.as_slice-in-Some.ensures ∙ exact ∙ listed) in
+    (c.as_slice-in-Some.ensures.value ∙ exact ∙ listed) in
     (cc)

@@ -8,6 +8,6 @@ loop-place-preserved c =
     let next : c.loop-place.place + 1 ≡ suc c.loop-place.place = omega arith in
     let within : c.loop-place.place < length c.self.inside.scope = omega (arith, c.loop-place-test.true, c.len-place-end.ensures) in
     ap (λ k. heed_of c.args.var.now (drop k c.self.inside.scope) (drop k c.self.inside.heeds.items)) next
-    ∙ heed_past c.args.var.now c.self.inside.scope c.self.inside.heeds.items c.loop-place.place c.index-as_slice-place.result within c.self.invariant.1
+    ∙ heed_past c.args.var.now c.self.inside.scope c.self.inside.heeds.items c.loop-place.place c.index-as_slice-place.result within
     (ap (λ xs. nat_eq (get_or xs c.loop-place.place c.index-as_slice-place.result) c.args.var.now) (sym c.as_slice.ensures) ∙ ap (λ y. nat_eq y c.args.var.now) (sym c.index-as_slice-place.is) ∙ sym c.eq.ensures ∙ c.if-eq.false)
     ∙ c.loop-place.invariant

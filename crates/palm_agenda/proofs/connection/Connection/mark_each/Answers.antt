@@ -18,7 +18,7 @@ loop-place-preserved c = elim c.if-is_place.branch [
     marked =
         marked_next (is_place c.args.places.now c.args.var.now) (mark_at c.args.places.now c.args.heed.now) c.loop-place.self-inside.scope c.as_slice.result.now c.self.inside.marks.items c.loop-place.self-inside.marks.items
         c.if-is_place.self-inside.marks.items c.loop-place.place c.index-as_slice-place.result c.as_slice.ensures c.index-as_slice-place.is (within c) c.loop-place.invariant.marked c.is_place.result
-        c.is_place.ensures w.if-is_place.true (c.self.invariant.0 ∙ ap length (sym c.loop-place.invariant.scope)) (ap (λ s. s.marks.items) w.self-inside-is ∙ w.mark_one.ensures)
+        c.is_place.ensures w.if-is_place.true (c.self.invariant ∙ ap length (sym c.loop-place.invariant.scope)) (ap (λ s. s.marks.items) w.self-inside-is ∙ w.mark_one.ensures)
         ∙ ap (λ s. marks_changed (is_place c.args.places.now c.args.var.now) (mark_at c.args.places.now c.args.heed.now) (take (c.loop-place.place + 1) s.scope) c.self.inside.marks.items) (sym w.self-inside-is);
   }
   | else-is_place w ↦ record {
