@@ -2,18 +2,19 @@
 use Rattle.std.specs.Prelude.{◌≡◌, ℕ, ℤ, ◌<◌, if◌then◌else◌, Bool, not, Some, List, [], ◌∷◌, ◌++◌, length, map, filter, All, Contains, nat_eq, nat_lt, slice_get, slice_set, replicate}
 use Rattle.std.specs.List.{list_any}
 use Rattle.palm_base.specs.declared.terms.Cid.{Cid}
-use Rattle.palm_base.specs.Order.{Rises, cid_before, same_cid}
+use Rattle.palm_base.specs.Order.{Rises, StandsAt, cid_before, same_cid}
 use Rattle.palm_model.specs.Log.{is_named}
 use Rattle.palm_model.specs.State.{without_cid}
 use Rattle.palm_filter.specs.declared.heed.Heed.{Heed}
 use Rattle.palm_agenda.specs.declared.loss.Loss.{Loss}
 use Rattle.palm_agenda.specs.declared.mark.Mark.{Mark}
 use Rattle.palm_agenda.specs.declared.mark.Mark.TheVariants.{Clear, Whole}
+use Rattle.palm_agenda.specs.declared.taken.Taken.{Taken}
 use Rattle.palm_agenda.specs.Losses.{heed_of, mark_after}
 use Rattle.palm_agenda.specs.Marks.{widened}
 
--- a constraint by its id, the variables of its scope, and for each place of the scope how it heeds losses of the variable,
--- and a mark: which values of the variable may lack support
+-- a constraint by its id, the variables of its scope, for each place of the scope, as far as it is told, how it heeds losses of the
+-- variable, and for each place a mark: which values of the variable may lack support
 pub record Connected : Type 0 where
   pub cid : Cid
   pub scope : List ℕ
@@ -34,6 +35,10 @@ pub record IsConnected (connected : List Connected) (cid : Cid) : Type 0 where
   pub owner : Connected
   pub listed : Contains connected owner
   pub named : owner.cid ≡ cid
+
+-- a constraint that was taken stands where it is told
+abbrev pub IsStanding : List Connected → Taken → Type 0
+IsStanding connected taken = StandsAt (λ (d : Connected). d.cid) connected taken.at taken.cid
 
 -- a constraint over the variable is connected under the id
 pub record IsOver (connected : List Connected) (x : ℕ) (cid : Cid) : Type 0 where

@@ -5,7 +5,7 @@ ghost use Rattle.palm_base.specs.Tells.{Tells};
 ghost use Rattle.palm_base.specs.declared.terms.Cid.{Cid as CidTerm};
 ghost use Rattle.palm_base.specs.Order.{Rises, cid_before, IsPartedAt};
 ghost use Rattle.palm_model.specs.State.{without_cid};
-ghost use Rattle.palm_agenda.specs.Agenda.{Connected, HasPlace, IsConnected, IsFormed, IsOver, Takes, changed_among, changed_at, index_within, marked_whole, mark_others, mark_own, connected_cids, unmarked, with_connected, without_connected};
+ghost use Rattle.palm_agenda.specs.Agenda.{Connected, HasPlace, IsConnected, IsFormed, IsOver, IsStanding, Takes, changed_among, changed_at, index_within, marked_whole, mark_others, mark_own, connected_cids, unmarked, with_connected, without_connected};
 ghost use Rattle.palm_agenda.specs.declared.mark.Mark.TheVariants.{Clear};
 ghost use Rattle.palm_agenda.specs.Losses.{heed_of};
 ghost use Rattle.palm_agenda.specs.Open.{Covers, is_open};
@@ -23,7 +23,8 @@ use crate::mark::Mark;
 use crate::open::Open;
 use crate::order::Order;
 use crate::over::{cids_over, insert_over, make_room, remove_over};
-use palm_base::{Cid, HasCid, NoMemory, Value, Var, place_from, place_of, stands_at};
+use crate::taken::Taken;
+use palm_base::{Cid, HasCid, NoMemory, Value, Var, place_from, place_of};
 use palm_filter::Heed;
 use std::alloc::Global;
 use std::marker::Model;
@@ -37,9 +38,8 @@ struct Woken {
 
 /// The connected constraints by rising id, a flag for each of them that is raised where it is pending, and the ids of
 /// the constraints over each variable. There is room for every id among those that an order is shown; where it is noted so
-/// they are those that are pending. The place of the constraint that was taken last is where one is looked for first. The
-/// variable of which a loss woke constraints last is known while nothing was taken or unmarked since, and which losses of it may mark
-/// something more: another one changes nothing.
+/// they are those that are pending. The variable of which a loss woke constraints last is known while nothing was taken or
+/// unmarked since, and which losses of it may mark something more: another one changes nothing.
 #[derive(Debug, Drop)]
 pub struct Agenda {
     connections: Vec<Connection>,
@@ -48,7 +48,6 @@ pub struct Agenda {
     shown: Vec<Cid>,
     is_shown: bool,
     woken: Option<Woken>,
-    near: usize,
 }
 
 impl Model for Agenda {
@@ -64,19 +63,6 @@ impl Model for Agenda {
     ghost invariant = { λ a. IsAgenda a.connections.items a.over.items a.pending.flags (vec_capacity a.shown)
         × IsShown a.is_shown a.shown.items (flagged (connected_cids a.connections.items) a.pending.flags)
         × IsWoken a.woken a.connections.items (flagged (connected_cids a.connections.items) a.pending.flags) };
-}
-
-/// How many of the connected constraints have ids that come before this one, which is looked for at `near` first.
-#[inline(always)]
-fn place_near(connections: &[Connection], near: usize, cid: &Cid) -> usize
-    requires { Rises (connected_cids connections.now) }
-    ensures { IsPartedAt (λ d. cid_before d.cid cid.now) connections.now result }
-{
-    if stands_at(connections, near, cid) {
-        near
-    } else {
-        place_of(connections, cid)
-    }
 }
 
 /// Makes the constraint pending, and marks these places of it, as seen from the variable. It is counted from the one at
@@ -143,14 +129,14 @@ fn wake_each(
     still
 }
 
-/// Takes a mark of the constraint away, which is looked for at `near` first.
-fn unmark_named(connections: &mut Vec<Connection>, near: usize, cid: &Cid, place: usize)
+/// Takes a mark of the constraint away.
+fn unmark_taken(connections: &mut Vec<Connection>, taken: &Taken, place: usize)
     requires rising { Rises (connected_cids connections.old.items) }
-    requires connected { HasPlace connections.old.items cid.now place }
-    ensures { connections.new.items ≡ map (changed_at cid.now (unmarked place)) connections.old.items }
+    requires standing { IsStanding connections.old.items taken.now }
+    requires within { HasPlace connections.old.items taken.now.cid place }
+    ensures { connections.new.items ≡ map (changed_at taken.now.cid (unmarked place)) connections.old.items }
 {
-    let at = place_near(connections, near, cid);
-    let connection = &mut connections[at];
+    let connection = &mut connections[taken.at];
     connection.unmark(place);
 }
 
@@ -268,7 +254,6 @@ impl Agenda {
             shown: Vec::new(alloc),
             is_shown: false,
             woken: None,
-            near: 0,
         }
     }
 
@@ -356,53 +341,53 @@ impl Agenda {
         );
     }
 
-    /// Makes one constraint pending.
-    pub fn wake_one(&mut self, cid: Cid)
-        requires { IsConnected self.old.connected cid }
+    /// Makes a constraint pending that was taken.
+    pub fn wake_taken(&mut self, taken: &Taken)
+        requires { IsStanding self.old.connected taken.now }
         ensures connected { self.new.connected ≡ self.old.connected }
-        ensures pending { (c : CidTerm) → Contains self.new.pending c ↔ (Contains self.old.pending c ⊎ (c ≡ cid)) }
+        ensures pending { (c : CidTerm) → Contains self.new.pending c ↔ (Contains self.old.pending c ⊎ (c ≡ taken.now.cid)) }
         ensures formed { IsFormed self.new }
     {
         self.is_shown = false;
         self.woken = None;
-        let place = place_near(&self.connections, self.near, &cid);
-        self.pending.raise(place);
+        self.pending.raise(taken.at);
     }
 
     /// A mark for each place of the constraint's scope: which values of the place's variable may lack support.
-    pub fn marks(&self, cid: Cid) -> &[Mark]
-        requires { IsConnected self.now.connected cid }
-        ensures marks { (d : Connected) → Contains self.now.connected d → d.cid ≡ cid → result.now ≡ d.marks }
-        ensures whole { (d : Connected) → Contains self.now.connected d → d.cid ≡ cid → length result.now ≡ length d.scope }
+    pub fn marks(&self, taken: &Taken) -> &[Mark]
+        requires { IsStanding self.now.connected taken.now }
+        ensures marks { (d : Connected) → Contains self.now.connected d → d.cid ≡ taken.now.cid → result.now ≡ d.marks }
+        ensures whole { (d : Connected) → Contains self.now.connected d → d.cid ≡ taken.now.cid → length result.now ≡ length d.scope }
     {
-        let place = place_near(&self.connections, self.near, &cid);
-        self.connections[place].marks()
+        self.connections[taken.at].marks()
     }
 
     /// Whether no value may lack support in the constraint: each of its marks is clear.
-    pub fn is_clear(&self, cid: Cid) -> bool
-        requires { IsConnected self.now.connected cid }
-        ensures { (d : Connected) → Contains self.now.connected d → d.cid ≡ cid → Tells result (All (λ mark. mark ≡ Clear) d.marks) }
+    pub fn is_clear(&self, taken: &Taken) -> bool
+        requires { IsStanding self.now.connected taken.now }
+        ensures { (d : Connected) → Contains self.now.connected d → d.cid ≡ taken.now.cid → Tells result (All (λ mark. mark ≡ Clear) d.marks) }
     {
-        are_clear(self.marks(cid))
+        are_clear(self.marks(taken))
     }
 
     /// The mark of a place of the constraint's scope.
-    pub fn mark(&self, cid: Cid, place: usize) -> Mark
-        requires { HasPlace self.now.connected cid place }
-        ensures { (d : Connected) → Contains self.now.connected d → d.cid ≡ cid → slice_get d.marks place ≡ Some result }
+    pub fn mark(&self, taken: &Taken, place: usize) -> Mark
+        requires standing { IsStanding self.now.connected taken.now }
+        requires within { HasPlace self.now.connected taken.now.cid place }
+        ensures { (d : Connected) → Contains self.now.connected d → d.cid ≡ taken.now.cid → slice_get d.marks place ≡ Some result }
     {
-        self.marks(cid)[place]
+        self.marks(taken)[place]
     }
 
     /// Takes the mark of a place away.
-    pub fn unmark(&mut self, cid: Cid, place: usize)
-        requires { HasPlace self.old.connected cid place }
-        ensures connected { self.new.connected ≡ map (changed_at cid (unmarked place)) self.old.connected }
+    pub fn unmark(&mut self, taken: &Taken, place: usize)
+        requires standing { IsStanding self.old.connected taken.now }
+        requires within { HasPlace self.old.connected taken.now.cid place }
+        ensures connected { self.new.connected ≡ map (changed_at taken.now.cid (unmarked place)) self.old.connected }
         ensures pending { self.new.pending ≡ self.old.pending }
     {
         self.woken = None;
-        unmark_named(&mut self.connections, self.near, &cid, place);
+        unmark_taken(&mut self.connections, taken, place);
     }
 
     /// Whether no constraint is pending. What it ensures besides holds of every agenda.
@@ -415,9 +400,10 @@ impl Agenda {
 
     /// The constraint that is revised next, which is pending no longer: the first one without an order, and with one
     /// the one that it answers when it is asked once. It is not asked where none is pending.
-    pub fn take<O: Order>(&mut self, order: &mut Option<O>) -> Option<Cid>
+    pub fn take<O: Order>(&mut self, order: &mut Option<O>) -> Option<Taken>
         ensures none { IfNone result ((self.old.pending ≡ []) × (self.new ≡ self.old) × (order.new ≡ order.old)) }
-        ensures some { IfSome result (λ c. (answer : ℕ) × Takes self.old.pending self.new.pending answer c
+        ensures standing { IfSome result (IsStanding self.old.connected) }
+        ensures some { IfSome result (λ taken. (answer : ℕ) × Takes self.old.pending self.new.pending answer taken.cid
             × MatchOption order.old (answer ≡ 0) (λ before. IsSomeAnd order.new (λ after. O.answers before self.old.pending answer (O.state after)))) }
         ensures connected { self.new.connected ≡ self.old.connected }
         ensures stays { is_some order.new ≡ is_some order.old }
@@ -432,23 +418,25 @@ impl Agenda {
     }
 
     /// The first pending constraint, which is pending no longer.
-    fn take_first(&mut self) -> Option<Cid>
+    fn take_first(&mut self) -> Option<Taken>
         ensures none { IfNone result ((self.old.pending ≡ []) × (self.new ≡ self.old)) }
-        ensures some { IfSome result (λ c. Takes self.old.pending self.new.pending 0 c) }
+        ensures standing { IfSome result (IsStanding self.old.connected) }
+        ensures some { IfSome result (λ taken. Takes self.old.pending self.new.pending 0 taken.cid) }
         ensures connected { self.new.connected ≡ self.old.connected }
     {
         let place = self.pending.lower_first()?;
         self.is_shown = false;
         self.woken = None;
-        self.near = place;
-        Some(cid_at(&self.connections, place))
+        let cid = cid_at(&self.connections, place);
+        Some(Taken { cid, at: place })
     }
 
     /// The pending constraint that the order answers when it is asked once, which is pending no longer. The order is not
     /// asked where none is pending.
-    fn take_answered<O: Order>(&mut self, order: &mut O) -> Option<Cid>
+    fn take_answered<O: Order>(&mut self, order: &mut O) -> Option<Taken>
         ensures none { IfNone result ((self.old.pending ≡ []) × (self.new ≡ self.old) × (order.new ≡ order.old)) }
-        ensures some { IfSome result (λ c. (answer : ℕ) × Takes self.old.pending self.new.pending answer c × O.answers order.old self.old.pending answer (O.state order.new)) }
+        ensures standing { IfSome result (IsStanding self.old.connected) }
+        ensures some { IfSome result (λ taken. (answer : ℕ) × Takes self.old.pending self.new.pending answer taken.cid × O.answers order.old self.old.pending answer (O.state order.new)) }
         ensures connected { self.new.connected ≡ self.old.connected }
     {
         if self.pending.is_empty() {
@@ -470,7 +458,6 @@ impl Agenda {
         self.pending.lower(place);
         self.is_shown = true;
         self.woken = None;
-        self.near = place;
-        Some(cid)
+        Some(Taken { cid, at: place })
     }
 }

@@ -22,7 +22,7 @@ pub(crate) enum Places {
     Others(Loss),
 }
 
-/// A constraint with its scope, and for each place of it how losses are heeded, and a mark.
+/// A constraint with its scope, and for each place of it a mark, and, as far as it is told, how losses are heeded.
 #[derive(Debug, Drop)]
 pub(crate) struct Connection {
     cid: Cid,

@@ -11,8 +11,10 @@ mod mark;
 mod open;
 mod order;
 mod over;
+mod taken;
 
 pub use agenda::Agenda;
 pub use loss::Loss;
 pub use mark::Mark;
 pub use order::{LastOrder, Order, RotateOrder};
+pub use taken::Taken;

@@ -13,7 +13,7 @@ use Rattle.palm_model.specs.Removed.{pairs_of}
 use Rattle.palm_model.specs.Support.{IsSupported}
 use Rattle.palm_model.proofs.cited.Without.{pair_of}
 use Rattle.palm_agenda.specs.declared.mark.Mark.TheVariants.{Clear}
-use Rattle.palm_agenda.specs.Agenda.{Connected, HasMarks, IsConnected}
+use Rattle.palm_agenda.specs.Agenda.{Connected, HasMarks}
 use Rattle.palm_engine.specs.declared.filtering.Filtering.{Filtering}
 use Rattle.palm_engine.specs.Kept.{state_in_revision}
 use Rattle.palm_engine.specs.Revising.{AreSupportedAt, IsRevising, Walked}
@@ -21,13 +21,7 @@ use Rattle.palm_engine.specs.Settling.{walk_order}
 use Rattle.palm_engine.proofs.Joined.{walk_past}
 use Rattle.palm_engine.proofs.Places.{mark_supported}
 use Rattle.palm_engine.proofs.Revised.{present_is}
-use Rattle.palm_engine.proofs.Unmarking.{active_connected, connected_scope}
-
--- the constraint is connected
-pub owner_connected : (f : Filtering) (active : List Active) (owner : Active) → IsRevising f active owner → IsConnected f.agenda.connected owner.cid
-owner_connected f active owner r =
-    let c = active_connected active f.agenda.connected r.kept.connected owner r.posted in
-    record { owner = c.0; listed = c.1; named = c.2 }
+use Rattle.palm_engine.proofs.Unmarking.{connected_scope}
 
 -- none of its marks is there
 abbrev pub IsClear : Filtering → Cid → Type 0

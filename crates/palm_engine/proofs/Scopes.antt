@@ -15,8 +15,12 @@ use Rattle.palm_explain.specs.declared.restored.Restored.{Restored}
 use Rattle.palm_filter.specs.declared.heed.Heed.{Heed}
 use Rattle.palm_filter.specs.Heeds.{FitsHeed, IsHeeded}
 use Rattle.palm_agenda.specs.declared.loss.Loss.{Loss}
-use Rattle.palm_agenda.specs.Agenda.{Connected, IsConnected, IsOver, changed_at, changed_where, is_over, marked_whole, mark_others, mark_own, unmarked, with_connected, without_connected}
+use Rattle.palm_agenda.specs.declared.taken.Taken.{Taken}
+use Rattle.palm_agenda.specs.Agenda.{Connected, IsConnected, IsOver, IsStanding, changed_at, changed_where, connected_cids, is_over, marked_whole, mark_others, mark_own, unmarked, with_connected, without_connected}
 use Rattle.palm_agenda.specs.Losses.{heed_of, mark_after}
+use Rattle.palm_agenda.proofs.cited.Connecting.{named_stands, stands_named}
+use Rattle.palm_base.proofs.cited.RisingLists.{parted_there, rising, sorted_keys}
+use Rattle.palm_base.proofs.cited.Sorted.{listed_at}
 use Rattle.palm_engine.specs.Kept.{Scoped, AreConnected, AreHeeded, IsHeededAs}
 use Rattle.palm_engine.specs.Changed.{widened_by}
 
@@ -25,6 +29,34 @@ scoped d = record { cid = d.cid; scope = d.scope }
 
 abbrev pub scoped_by : Active → Scoped
 scoped_by a = record { cid = a.cid; scope = scope a.con }
+
+-- ---- the constraint that was taken
+
+-- their ids are the same
+cids_scoped : (active : List Active) → map (λ (s : Scoped). s.cid) (map scoped_by active) ≡ cids_of active
+cids_scoped [] = refl
+cids_scoped (a ∷ active) = ap (λ cids. a.cid ∷ cids) (cids_scoped active)
+
+cids_connected : (connected : List Connected) → map (λ (s : Scoped). s.cid) (map scoped connected) ≡ connected_cids connected
+cids_connected [] = refl
+cids_connected (d ∷ connected) = ap (λ cids. d.cid ∷ cids) (cids_connected connected)
+
+same_cids : (active : List Active) (connected : List Connected) → AreConnected active connected → connected_cids connected ≡ cids_of active
+same_cids active connected are = sym (cids_connected connected) ∙ ap (map (λ (s : Scoped). s.cid)) are ∙ cids_scoped active
+
+-- it stands at the same place, whatever becomes of the marks
+pub standing_stays : (active : List Active) (before after : List Connected) → AreConnected active before → AreConnected active after → (t : Taken) → IsStanding before t → IsStanding after t
+standing_stays active before after was is t standing =
+    named_stands (λ (d : Connected). d.cid) after t.at t.cid
+    (subst (λ cids. slice_get cids t.at ≡ Some t.cid) (same_cids active before was ∙ sym (same_cids active after is)) (stands_named (λ (d : Connected). d.cid) before t.at t.cid standing))
+
+-- it stands at the same place among the active ones
+pub active_standing : (active : List Active) (connected : List Connected) → Rises (cids_of active) → AreConnected active connected → (owner : Active) → Contains active owner → (t : Taken) → owner.cid ≡ t.cid → IsStanding connected t
+    → slice_get active t.at ≡ Some owner
+active_standing active connected rises are owner posted t named standing =
+    let at = named_stands (λ (a : Active). a.cid) active t.at t.cid
+    (subst (λ cids. slice_get cids t.at ≡ Some t.cid) (same_cids active connected are) (stands_named (λ (d : Connected). d.cid) connected t.at t.cid standing)) in
+    listed_at (λ (a : Active). a.cid) cid_before rising active (sorted_keys (λ (a : Active). a.cid) active rises) t.cid t.at (parted_there (λ (a : Active). a.cid) active rises t.cid t.at at) owner posted named
 
 -- ---- one by one
 

@@ -15,7 +15,7 @@ use Rattle.palm_model.specs.State.{is_awake, woken, without_cid}
 use Rattle.palm_base.proofs.cited.CidOrder.{rising_same}
 use Rattle.palm_events.proofs.cited.Names.{named_member}
 use Rattle.palm_events.proofs.cited.States.{waits, woken_rises, woken_active, member_woken, awake_named, without_cid_rises, without_cid_member, member_without_cid}
-use Rattle.palm_agenda.specs.Agenda.{IsConnected, IsFormed, Waiting}
+use Rattle.palm_agenda.specs.Agenda.{IsFormed, Waiting}
 use Rattle.palm_engine.specs.declared.filtering.Filtering.{Filtering}
 use Rattle.palm_engine.specs.Settling.{Walks, IsDue, walk_order, rested}
 use Rattle.palm_engine.specs.Kept.{IsInStep, AreConnected, AreHeeded, AreMarked, state_of, state_in_revision}
@@ -24,7 +24,7 @@ use Rattle.palm_engine.specs.Work.{size_of, named_sizes}
 use Rattle.palm_engine.proofs.Joined.{walk_logged}
 use Rattle.palm_engine.proofs.Progress.{counted_more}
 use Rattle.palm_engine.proofs.Spending.{owner_size}
-use Rattle.palm_engine.proofs.Unmarking.{active_connected, connected_active}
+use Rattle.palm_engine.proofs.Unmarking.{connected_active}
 use Rattle.palm_engine.proofs.Waking.{woken_same, pending_woken}
 
 -- ---- the pending ids
@@ -139,11 +139,6 @@ part_revised f m a active cid taken r part kept pending =
       pending = (pending' owner.cid).1 (inr refl);
     } in
     subst (λ (c : Cid). HasPartlyRevised active c (state_in_revision f active c) (state_of (record m { agenda = a }) active)) taken.named one
-
-pub owner_connected : (m : Filtering) (active : List Active) (owner : Active) (cid : Cid) → IsRevising m active owner → owner.cid ≡ cid → IsConnected m.agenda.connected cid
-owner_connected m active owner cid r named =
-    let c = active_connected active m.agenda.connected r.kept.connected owner r.posted in
-    record { owner = c.0; listed = c.1; named = c.2 ∙ named }
 
 -- ---- the constraint that is revised
 

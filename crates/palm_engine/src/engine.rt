@@ -155,16 +155,16 @@ impl<F: Filter> Engine<F> {
         let _checks = self.filtering.checks;
         let mut reasons = Reasons::new(*self.posted.allocator());
         self.revisions = 0;
-        while let Some(cid) = take_next(&mut self.filtering, order, limit, self.revisions) {
+        while let Some(taken) = take_next(&mut self.filtering, order, limit, self.revisions) {
             let removed = run_revision(
                 &mut self.filtering,
                 &self.posted,
-                &cid,
+                &taken,
                 &mut reasons,
                 steps,
             );
             self.revisions = self.revisions.saturating_add(1);
-            tell(order, &cid, removed?);
+            tell(order, &taken.cid, removed?);
         }
         Ok(outcome(&self.filtering))
     }

@@ -18,13 +18,17 @@ use palm_base::{Cid, HasCid, NoMemory};
 use palm_filter::{Filter, Heed};
 use std::alloc::Global;
 
-/// How the constraint heeds losses of the variable at each place of its scope.
+/// How the constraint heeds losses of the variable at each place of its scope. Where it has one variable, there is no other one that a
+/// loss could hurt, and nothing is told.
 fn heeds_of<F: Filter>(alloc: Global, constraint: &Posted<F>) -> Result<Vec<Heed>, NoMemory>
-    ensures each { IfOk result (λ heeds. length heeds.items ≡ length (scope (active_of F.meaning constraint.now).con)) }
-    ensures fit { IfOk result (λ heeds. (place : ℕ) (heed : HeedTerm) → slice_get heeds.items place ≡ Some heed → FitsHeed (active_of F.meaning constraint.now).con place heed) }
+    ensures { IfOk result (λ heeds. (place : ℕ) (heed : HeedTerm) → slice_get heeds.items place ≡ Some heed → FitsHeed (active_of F.meaning constraint.now).con place heed) }
 {
     let mut heeds = Vec::new(alloc);
-    for place in 0..constraint.scope().len() {
+    let places = constraint.scope().len();
+    if places < 2 {
+        return Ok(heeds);
+    }
+    for place in 0..places {
         heeds.push(constraint.heed(place))?;
     }
     Ok(heeds)

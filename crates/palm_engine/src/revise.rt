@@ -1,5 +1,6 @@
 //! A revision: a constraint asks for the values of its variables, and takes out those that lack support.
 ghost use Rattle.std.specs.Prelude.{◌≡◌, List, length, Some, slice_get, OnErr, OnOk};
+ghost use Rattle.palm_agenda.specs.Agenda.{IsStanding};
 ghost use Rattle.palm_domain.specs.Rows.{initial_of, present_of};
 ghost use Rattle.palm_model.specs.Constraint.{scope};
 ghost use Rattle.palm_model.specs.Domains.{values_of};
@@ -14,8 +15,8 @@ ghost use Rattle.palm_engine.specs.Work.{size_of};
 use crate::filtering::Filtering;
 use crate::posted::Posted;
 use crate::values::revise_values;
-use palm_agenda::Mark;
-use palm_base::{HasCid, NoMemory, Steps, Var};
+use palm_agenda::{Mark, Taken};
+use palm_base::{NoMemory, Steps, Var};
 use palm_filter::{Filter, Reasons};
 use std::sync::ledger::Ledger;
 
@@ -24,12 +25,15 @@ use std::sync::ledger::Ledger;
 fn revise_place<F: Filter, L: Ledger>(
     filtering: &mut Filtering,
     constraint: &Posted<F>,
+    taken: &Taken,
     place: usize,
     var: Var,
     reasons: &mut Reasons,
     steps: &mut Steps<L>,
 ) -> Result<(), NoMemory>
     requires revising { (active : List Active) × IsRevising filtering.old active (active_of F.meaning constraint.now) }
+    requires standing { IsStanding filtering.old.agenda.connected taken.now }
+    requires named { (active_of F.meaning constraint.now).cid ≡ taken.now.cid }
     requires filled { AllFilled (present_of filtering.old.store) }
     requires at { slice_get (scope (active_of F.meaning constraint.now).con) place ≡ Some var }
     ensures walked { (active : List Active) → IsRevising filtering.old active (active_of F.meaning constraint.now)
@@ -40,13 +44,12 @@ fn revise_place<F: Filter, L: Ledger>(
         → IsRevising filtering.new active (active_of F.meaning constraint.now) }
     ensures counted { HasCounted (length (values_of (initial_of filtering.old.store) var)) filtering.old filtering.new steps.old steps.new }
 {
-    let cid = constraint.cid();
-    let mark = filtering.agenda.mark(cid, place);
+    let mark = filtering.agenda.mark(taken, place);
     if let Mark::Clear = mark {
         return Ok(());
     }
     revise_values(filtering, constraint, place, var, mark, reasons, steps)?;
-    filtering.agenda.unmark(constraint.cid(), place);
+    filtering.agenda.unmark(taken, place);
     Ok(())
 }
 
@@ -55,10 +58,13 @@ fn revise_place<F: Filter, L: Ledger>(
 pub(crate) fn revise<F: Filter, L: Ledger>(
     filtering: &mut Filtering,
     constraint: &Posted<F>,
+    taken: &Taken,
     reasons: &mut Reasons,
     steps: &mut Steps<L>,
 ) -> Result<(), NoMemory>
-    requires { (active : List Active) × IsRevising filtering.old active (active_of F.meaning constraint.now) }
+    requires revising { (active : List Active) × IsRevising filtering.old active (active_of F.meaning constraint.now) }
+    requires standing { IsStanding filtering.old.agenda.connected taken.now }
+    requires named { (active_of F.meaning constraint.now).cid ≡ taken.now.cid }
     ensures walked { (active : List Active) → IsRevising filtering.old active (active_of F.meaning constraint.now)
         → OnOk result (Walked active (active_of F.meaning constraint.now) (walk_order (initial_of filtering.old.store) (active_of F.meaning constraint.now).con) filtering.old filtering.new) }
     ensures part { (active : List Active) → IsRevising filtering.old active (active_of F.meaning constraint.now)
@@ -67,7 +73,7 @@ pub(crate) fn revise<F: Filter, L: Ledger>(
         → IsRevising filtering.new active (active_of F.meaning constraint.now) }
     ensures counted { HasCounted (size_of (initial_of filtering.old.store) (active_of F.meaning constraint.now).con) filtering.old filtering.new steps.old steps.new }
 {
-    if filtering.agenda.is_clear(constraint.cid()) {
+    if filtering.agenda.is_clear(taken) {
         return Ok(());
     }
     for place in 0..constraint.scope().len() {
@@ -75,7 +81,7 @@ pub(crate) fn revise<F: Filter, L: Ledger>(
             return Ok(());
         }
         let var = constraint.scope()[place];
-        revise_place(filtering, constraint, place, var, reasons, steps)?;
+        revise_place(filtering, constraint, taken, place, var, reasons, steps)?;
     }
     Ok(())
 }

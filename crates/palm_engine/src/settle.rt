@@ -3,7 +3,7 @@ ghost use Rattle.std.specs.Prelude.{◌≡◌, ◌≤◌, [], ◌∷◌, false, 
 ghost use Rattle.palm_base.specs.Tells.{Tells};
 ghost use Rattle.palm_base.specs.declared.limits.TheConstants.{LAST_COUNT};
 ghost use Rattle.palm_model.specs.Log.{Active};
-ghost use Rattle.palm_agenda.specs.Agenda.{Takes};
+ghost use Rattle.palm_agenda.specs.Agenda.{IsStanding};
 ghost use Rattle.palm_engine.specs.Following.{OrderAnswers, OrderHears, told_count};
 ghost use Rattle.palm_engine.specs.Kept.{IsInStep, state_in_revision, state_of};
 ghost use Rattle.palm_engine.specs.Posted.{actives_of};
@@ -12,9 +12,9 @@ ghost use Rattle.palm_engine.specs.Settling.{HasReached};
 ghost use Rattle.palm_engine.specs.Work.{named_sizes};
 
 use crate::filtering::Filtering;
-use crate::posted::{Posted, place_of};
+use crate::posted::Posted;
 use crate::revise::revise;
-use palm_agenda::{Agenda, Order};
+use palm_agenda::{Agenda, Order, Taken};
 use palm_base::{Cid, NoMemory, Steps, Var};
 use palm_filter::{Filter, Reasons};
 use std::sync::ledger::Ledger;
@@ -47,9 +47,10 @@ pub(crate) fn take_next<O: Order>(
     order: &mut Option<O>,
     limit: Option<u64>,
     ran: u64,
-) -> Option<Cid>
+) -> Option<Taken>
     ensures none { IfNone result ((filtering.new ≡ filtering.old) × TakesNone limit ran filtering.old × (order.new ≡ order.old)) }
-    ensures some { IfSome result (λ c. (takes : TakesNext limit (is_some order.old) ran filtering.old filtering.new c)
+    ensures standing { IfSome result (IsStanding filtering.new.agenda.connected) }
+    ensures some { IfSome result (λ taken. (takes : TakesNext limit (is_some order.old) ran filtering.old filtering.new taken.cid)
         × OrderAnswers O.answers O.state filtering.old.agenda.pending takes.answer order.old order.new) }
     ensures stays { is_some order.new ≡ is_some order.old }
 {
@@ -81,20 +82,21 @@ pub(crate) fn tell<O: Order>(order: &mut Option<O>, cid: &Cid, removed: usize)
 pub(crate) fn run_revision<F: Filter, L: Ledger>(
     filtering: &mut Filtering,
     posted: &[Posted<F>],
-    cid: &Cid,
+    taken: &Taken,
     reasons: &mut Reasons,
     steps: &mut Steps<L>,
 ) -> Result<usize, NoMemory>
-    requires { IsTaken filtering.old (actives_of F.meaning posted.now) cid.now }
-    ensures ok { IfOk result (HasRevised (actives_of F.meaning posted.now) cid.now (state_in_revision filtering.old (actives_of F.meaning posted.now) cid.now) (state_of filtering.new (actives_of F.meaning posted.now))) }
-    ensures err { OnErr result (HasPartlyRevised (actives_of F.meaning posted.now) cid.now (state_in_revision filtering.old (actives_of F.meaning posted.now) cid.now) (state_of filtering.new (actives_of F.meaning posted.now))) }
+    requires taken { IsTaken filtering.old (actives_of F.meaning posted.now) taken.now.cid }
+    requires standing { IsStanding filtering.old.agenda.connected taken.now }
+    ensures ok { IfOk result (HasRevised (actives_of F.meaning posted.now) taken.now.cid (state_in_revision filtering.old (actives_of F.meaning posted.now) taken.now.cid) (state_of filtering.new (actives_of F.meaning posted.now))) }
+    ensures err { OnErr result (HasPartlyRevised (actives_of F.meaning posted.now) taken.now.cid (state_in_revision filtering.old (actives_of F.meaning posted.now) taken.now.cid) (state_of filtering.new (actives_of F.meaning posted.now))) }
     ensures kept { IsInStep filtering.new (actives_of F.meaning posted.now) }
-    ensures counted { HasCounted (named_sizes (state_in_revision filtering.old (actives_of F.meaning posted.now) cid.now) (cid.now ∷ [])) filtering.old filtering.new steps.old steps.new }
+    ensures counted { HasCounted (named_sizes (state_in_revision filtering.old (actives_of F.meaning posted.now) taken.now.cid) (taken.now.cid ∷ [])) filtering.old filtering.new steps.old steps.new }
 {
-    let constraint = &posted[place_of(posted, cid)];
+    let constraint = &posted[taken.at];
     let before = filtering.log.removals();
-    if revise(filtering, constraint, reasons, steps).is_err() {
-        filtering.agenda.wake_one(*cid);
+    if revise(filtering, constraint, taken, reasons, steps).is_err() {
+        filtering.agenda.wake_taken(taken);
         return Err(NoMemory);
     }
     Ok(filtering.log.removals() - before)

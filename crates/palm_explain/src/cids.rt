@@ -97,8 +97,10 @@ fn place_near(cids: &[Cid], near: usize, cid: &Cid) -> usize
     }
 }
 
-/// Adds an id at its place in the order, unless it is there, and answers this place. It is looked for from a place on.
-fn put_near(cids: &mut Vec<Cid>, near: usize, cid: &Cid) -> Result<usize, NoMemory>
+/// Adds an id at its place in the order, unless it is there, and answers this place. It is looked for from a place on. (Out of line:
+/// mostly the id stands at the place.)
+#[inline(never)]
+fn put_from(cids: &mut Vec<Cid>, near: usize, cid: &Cid) -> Result<usize, NoMemory>
     requires { Rises cids.old.items }
     ensures { OnOk result (IsMerged cids.old.items (cid.now ∷ []) cids.new.items) }
 {
@@ -112,6 +114,18 @@ fn put_near(cids: &mut Vec<Cid>, near: usize, cid: &Cid) -> Result<usize, NoMemo
     }
     cids.insert(place, *cid)?;
     Ok(place)
+}
+
+/// Adds an id, unless it is there, and answers its place, which is looked for from a place on: mostly it stands right there.
+#[inline(always)]
+fn put_near(cids: &mut Vec<Cid>, near: usize, cid: &Cid) -> Result<usize, NoMemory>
+    requires { Rises cids.old.items }
+    ensures { OnOk result (IsMerged cids.old.items (cid.now ∷ []) cids.new.items) }
+{
+    if stands_at(cids, near, cid) {
+        return Ok(near);
+    }
+    put_from(cids, near, cid)
 }
 
 /// Adds an id, unless it is there. It is looked for from the place of the last one of its kind.

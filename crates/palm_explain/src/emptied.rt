@@ -6,10 +6,10 @@ use palm_base::NoMemory;
 use std::alloc::{AllocFailed, Global};
 
 /// The most lists that are kept.
-const MOST_LISTS: usize = 4096;
+const MOST_LISTS: usize = 16_384;
 
 /// The most keys for which the kept lists have room, all together.
-const MOST_KEYS: usize = 131_072;
+const MOST_KEYS: usize = 1_048_576;
 
 /// The lists of dependents of lost removals.
 #[derive(Debug, Drop)]

@@ -34,7 +34,7 @@ fn forget_thread(nodes: &mut Nodes, threads: &mut Threads, key: u32, cid: &Cid)
         return;
     }
     let at = node.at;
-    if let Some(other) = threads.forget(&node.by, key, at) {
+    if let Some(other) = threads.forget(&node.by, key, at as usize) {
         set_at(nodes, other, at);
     }
 }

@@ -12,27 +12,27 @@ use palm_base::{Cid, NoMemory, Pair};
 use slab::Slab;
 use std::alloc::AllocError;
 
-/// A removal: its pair, the constraint that made it, and how it stands in the graph.
+/// A removal: its pair, the constraint that made it, and how it stands in the graph. What is looked at most often stands together.
 #[derive(Debug, Drop)]
 pub(crate) struct Node {
-    pub(crate) pair: Pair,
-    pub(crate) by: Cid,
-    /// The keys of the reasons' removals, in the order of the reasons.
-    pub(crate) antecedents: Vec<u32>,
-    /// The keys of the removals that have this one among their antecedents.
-    pub(crate) dependents: Vec<u32>,
-    /// The place in the log.
-    pub(crate) place: usize,
     /// Stands while a walk is on its way. No mark stands between calls.
     pub(crate) mark: bool,
     /// The key of the removal behind this one in the chain of those that a withdrawal loses, while it is on its way.
     pub(crate) next: u32,
+    pub(crate) pair: Pair,
+    /// The keys of the removals that have this one among their antecedents.
+    pub(crate) dependents: Vec<u32>,
+    /// The place in the log.
+    pub(crate) place: usize,
     /// How many dependents a withdrawal loses, while it is on its way, or more.
     pub(crate) lost: usize,
     /// Where the key stands in the list of those that stay and lose dependents, while a withdrawal is on its way, if it is there.
     pub(crate) slot: usize,
+    pub(crate) by: Cid,
     /// Where the key most likely stands in the thread of its constraint.
-    pub(crate) at: usize,
+    pub(crate) at: u32,
+    /// The keys of the reasons' removals, in the order of the reasons.
+    pub(crate) antecedents: Vec<u32>,
 }
 
 /// The nodes under their keys.
@@ -171,8 +171,13 @@ pub(crate) fn loosen(nodes: &mut Nodes, losing: &mut Vec<u32>, antecedent: u32, 
     losing.push_reserved(antecedent);
 }
 
+/// A place as it is noted, where it is a guess: the last number of its type where it is more.
+pub(crate) fn guessed(place: usize) -> u32 {
+    u32::try_from(place).unwrap_or(u32::MAX)
+}
+
 /// Notes where the key of a removal stands in the thread of its constraint.
-pub(crate) fn set_at(nodes: &mut Nodes, key: u32, at: usize)
+pub(crate) fn set_at(nodes: &mut Nodes, key: u32, at: u32)
     ensures graph { graph_of nodes.new ≡ graph_of nodes.old }
     ensures marks { marks_of nodes.new ≡ marks_of nodes.old }
     ensures nexts { nexts_of nodes.new ≡ nexts_of nodes.old }

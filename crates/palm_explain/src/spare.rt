@@ -10,7 +10,7 @@ use std::alloc::{AllocFailed, Global};
 const MOST_LISTS: usize = 16_384;
 
 /// The most keys for which the kept lists have room, all together.
-const MOST_KEYS: usize = 131_072;
+const MOST_KEYS: usize = 1_048_576;
 
 /// The lists of antecedents of the removals that the last withdrawal lost.
 #[derive(Debug, Drop)]

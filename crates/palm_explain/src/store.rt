@@ -12,7 +12,7 @@ use crate::emptied::Emptied;
 use crate::entering::{antecedents_of, link, make_room, unlink};
 use crate::forgetting::{forget_lost, forget_threads};
 use crate::marking::mark_lost;
-use crate::node::{Node, Nodes};
+use crate::node::{Node, Nodes, guessed};
 use crate::restored::Restored;
 use crate::rows::{Row, key_of, put_key};
 use crate::spare::Spare;
@@ -114,7 +114,7 @@ impl ExplainStore {
             next: 0,
             lost: 0,
             slot: 0,
-            at,
+            at: guessed(at),
         });
         self.log.push_reserved(key);
         Ok(())

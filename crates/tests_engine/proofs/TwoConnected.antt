@@ -1,14 +1,16 @@
 -- The two constraints of the tests, through the calls that keep them.
-use Rattle.std.proofs.Common.{◌≡◌, ℕ, ℤ, nat_eq, ◌<◌, Bool, true, false, if◌then◌else◌, not, List, [], ◌∷◌, length, map, refl, sym, subst}
+use Rattle.std.proofs.Common.{◌≡◌, ℕ, ℤ, nat_eq, ◌<◌, Bool, true, false, if◌then◌else◌, not, List, [], ◌∷◌, length, map, slice_get, Some, refl, sym, subst}
 use Rattle.palm_base.specs.declared.terms.Cid.{Cid}
 use Rattle.palm_base.specs.declared.terms.Cid.TheVariants.{Decide, User}
 use Rattle.palm_base.proofs.cited.Members.{member_here, member_there}
 use Rattle.palm_filter.specs.declared.heed.Heed.{Heed}
-use Rattle.palm_agenda.specs.Agenda.{Connected, HasPlace, IsConnected, changed_where, is_over, mark_others, mark_own, marked_whole}
+use Rattle.palm_agenda.specs.Agenda.{Connected, HasPlace, IsConnected, IsStanding, changed_where, is_over, mark_others, mark_own, marked_whole}
 use Rattle.palm_agenda.specs.Losses.{heed_of, mark_after}
 use Rattle.palm_agenda.specs.Marks.{widened}
 use Rattle.palm_agenda.specs.declared.loss.Loss.{Loss}
-use Rattle.palm_agenda.proofs.cited.Keeping.{KeepsScopes, connected_kept, place_kept}
+use Rattle.palm_agenda.specs.declared.taken.Taken.{Taken}
+use Rattle.palm_agenda.proofs.cited.Connecting.{named_stands, stands_named}
+use Rattle.palm_agenda.proofs.cited.Keeping.{KeepsScopes, cids_kept, connected_kept, place_kept}
 use Rattle.palm_agenda.proofs.cited.Marking.{marks_length}
 
 abbrev pub decision_con : List Heed → Connected
@@ -17,9 +19,17 @@ decision_con heeds = marked_whole (Decide 2) (2 ∷ []) heeds
 abbrev pub user_con : List Heed → Connected
 user_con heeds = marked_whole (User 70000) (0 ∷ 1 ∷ 0 ∷ []) heeds
 
-pub two_decision : (connected : List Connected) (some others : List Heed) → connected ≡ decision_con some ∷ user_con others ∷ [] → IsConnected connected (Decide 2)
-two_decision connected some others is = subst (λ (cs : List Connected). IsConnected cs (Decide 2)) (sym is)
-    (record { owner = decision_con some; listed = member_here (decision_con some) (user_con others ∷ []); named = refl })
+abbrev pub taken_decision : Taken
+taken_decision = record { cid = Decide 2; at = 0 }
+
+abbrev pub taken_user : Taken
+taken_user = record { cid = User 70000; at = 1 }
+
+pub two_decision : (connected : List Connected) (some others : List Heed) → connected ≡ decision_con some ∷ user_con others ∷ [] → IsStanding connected taken_decision
+two_decision connected some others is = subst (λ (cs : List Connected). IsStanding cs taken_decision) (sym is) refl
+
+pub two_user : (connected : List Connected) (some others : List Heed) → connected ≡ decision_con some ∷ user_con others ∷ [] → IsStanding connected taken_user
+two_user connected some others is = subst (λ (cs : List Connected). IsStanding cs taken_user) (sym is) refl
 
 pub two_places : (connected : List Connected) (some others : List Heed) → connected ≡ decision_con some ∷ user_con others ∷ [] → (place : ℕ) → place < 3 → HasPlace connected (User 70000) place
 two_places connected some others is place lt =
@@ -51,6 +61,12 @@ connected_after f keeps connected after is cid there = subst (λ (cs : List Conn
 
 pub place_after : (f : Connected → Connected) → KeepsScopes f → (connected after : List Connected) → after ≡ map f connected → (cid : Cid) → (place : ℕ) → HasPlace connected cid place → HasPlace after cid place
 place_after f keeps connected after is cid place there = subst (λ (cs : List Connected). HasPlace cs cid place) (sym is) (place_kept f keeps connected cid place there)
+
+pub standing_after : (f : Connected → Connected) → KeepsScopes f → (connected after : List Connected) → after ≡ map f connected → (taken : Taken) → IsStanding connected taken → IsStanding after taken
+standing_after f keeps connected after is taken there =
+    subst (λ (cs : List Connected). IsStanding cs taken) (sym is)
+    (named_stands (λ (d : Connected). d.cid) (map f connected) taken.at taken.cid
+    (subst (λ (cids : List Cid). slice_get cids taken.at ≡ Some taken.cid) (sym (cids_kept f keeps connected)) (stands_named (λ (d : Connected). d.cid) connected taken.at taken.cid there)))
 
 -- the decision stays connected where losses of both variables of the other wake it, one after the other
 pub woken_twice : (loss more : Loss) (before woken taken again last : List Connected) → woken ≡ map (mark_others 0 loss) before → taken ≡ woken → again ≡ map (mark_others 1 more) taken → last ≡ again

@@ -1,9 +1,9 @@
 //! The agenda alone: what is woken is handed out, and marks follow what woke.
 ghost use Rattle.std.specs.Prelude.{◌≡◌, ℕ, ◌<◌, List, [], ◌∷◌, length, IfOk, OnOk};
 ghost use Rattle.palm_filter.specs.declared.heed.Heed.{Heed as HeedTerm};
-ghost use Rattle.palm_agenda.specs.Agenda.{HasPlace, IsConnected, marked_whole};
+ghost use Rattle.palm_agenda.specs.Agenda.{HasPlace, IsConnected, IsStanding, marked_whole};
 
-use palm_agenda::{Agenda, LastOrder, Loss, Mark, Order, RotateOrder};
+use palm_agenda::{Agenda, LastOrder, Loss, Mark, Order, RotateOrder, Taken};
 use palm_base::{Cid, NoMemory, Value, Var};
 use palm_filter::Heed;
 use std::alloc::Global;
@@ -21,10 +21,25 @@ fn user() -> Cid
     Cid::User(70_000)
 }
 
-/// The same heed for each of so many places.
-fn heeds_of(alloc: Global, heed: Heed, count: usize) -> Result<Vec<Heed>, NoMemory>
-    ensures { IfOk result (λ heeds. length heeds.items ≡ count) }
+/// The decision as it is taken: it stands first.
+fn taken_decision() -> Taken
+    ensures { result ≡ record { cid = Cid.Decide 2; at = 0 } }
 {
+    Taken {
+        cid: decision(),
+        at: 0,
+    }
+}
+
+/// The user's as it is taken: it stands second.
+fn taken_user() -> Taken
+    ensures { result ≡ record { cid = Cid.User 70000; at = 1 } }
+{
+    Taken { cid: user(), at: 1 }
+}
+
+/// The same heed for each of so many places.
+fn heeds_of(alloc: Global, heed: Heed, count: usize) -> Result<Vec<Heed>, NoMemory> {
     let mut heeds = Vec::new(alloc);
     heeds.resize(count, heed)?;
     Ok(heeds)
@@ -58,16 +73,16 @@ fn hands_out_by_name(agenda: &mut Agenda) -> bool
     let first = agenda.take(&mut order);
     let second = agenda.take(&mut order);
     let third = agenda.take(&mut order);
-    first == Some(decision()) && second == Some(user()) && third.is_none()
+    first == Some(taken_decision()) && second == Some(taken_user()) && third.is_none()
 }
 
 /// Whether the user's is handed out where an order answers the last of both, and again where one answers the second.
 fn hands_out_as_answered(agenda: &mut Agenda) -> bool
-    requires { IsConnected agenda.old.connected (Cid.Decide 2) }
+    requires { IsStanding agenda.old.connected (record { cid = Cid.Decide 2; at = 0 }) }
     ensures { IsConnected agenda.new.connected (Cid.Decide 2) }
 {
     agenda.wake(Var(0), loss());
-    agenda.wake_one(decision());
+    agenda.wake_taken(&taken_decision());
     let mut last = Some(LastOrder::new());
     let first = agenda.take(&mut last);
     agenda.wake(Var(1), loss());
@@ -75,7 +90,7 @@ fn hands_out_as_answered(agenda: &mut Agenda) -> bool
     turned.ran(user(), 0);
     let mut rotate = Some(turned);
     let second = agenda.take(&mut rotate);
-    first == Some(user()) && second == Some(user())
+    first == Some(taken_user()) && second == Some(taken_user())
 }
 
 /// Whether the decision alone is pending.
@@ -111,11 +126,12 @@ fn woken_constraints_are_handed_out(rt: HostRuntime) -> Result<(), Fail> {
 
 /// Takes the marks of the user's places away.
 fn unmark_user(agenda: &mut Agenda)
-    requires { (place : ℕ) → place < 3 → HasPlace agenda.old.connected (Cid.User 70000) place }
-    ensures { (place : ℕ) → place < 3 → HasPlace agenda.new.connected (Cid.User 70000) place }
+    requires standing { IsStanding agenda.old.connected (record { cid = Cid.User 70000; at = 1 }) }
+    requires places { (place : ℕ) → place < 3 → HasPlace agenda.old.connected (Cid.User 70000) place }
+    ensures { IsStanding agenda.new.connected (record { cid = Cid.User 70000; at = 1 }) }
 {
     for place in 0..3 {
-        agenda.unmark(user(), place);
+        agenda.unmark(&taken_user(), place);
     }
 }
 
@@ -129,10 +145,10 @@ fn between(low: i32, high: i32) -> Mark {
 
 /// Whether a value of the first variable that is put back marks its own places, and no other.
 fn marks_what_came_back(agenda: &mut Agenda) -> bool
-    requires { (place : ℕ) → place < 3 → HasPlace agenda.old.connected (Cid.User 70000) place }
+    requires { IsStanding agenda.old.connected (record { cid = Cid.User 70000; at = 1 }) }
 {
     agenda.wake_restored(Var(0), Value(2), Value(4));
-    agenda.marks(user()) == [between(2, 4), Mark::Clear, between(2, 4)].as_slice()
+    agenda.marks(&taken_user()) == [between(2, 4), Mark::Clear, between(2, 4)].as_slice()
 }
 
 /// Whether the marks of the user's, all taken away, follow what comes back.
@@ -158,12 +174,12 @@ fn marks_follow_what_came_back(rt: HostRuntime) -> Result<(), Fail> {
 
 /// Whether the places of the first variable stay clear where values of it are lost, and that of the other variable is marked so.
 fn marks_what_is_lost(agenda: &mut Agenda, losses: &[Loss], mark: &Mark) -> bool
-    requires { (place : ℕ) → place < 3 → HasPlace agenda.old.connected (Cid.User 70000) place }
+    requires { IsStanding agenda.old.connected (record { cid = Cid.User 70000; at = 1 }) }
 {
     for loss in losses {
         agenda.wake(Var(0), *loss);
     }
-    agenda.marks(user()) == [Mark::Clear, *mark, Mark::Clear].as_slice()
+    agenda.marks(&taken_user()) == [Mark::Clear, *mark, Mark::Clear].as_slice()
 }
 
 /// Whether the marks of the user's, all taken away, follow what is lost, where losses are heeded so.

@@ -1,18 +1,21 @@
 -- Connected constraints: their ids, their places, and what one more and one fewer leaves.
-use Rattle.std.proofs.Common.{◌≡◌, ℕ, Bool, not, List, [], ◌∷◌, ◌++◌, slice_get, insert, remove, filter, Contains, Some, ◌⊎◌, ◌↔◌, inl, inr, refl, sym, ap, ◌∙◌, subst}
+use Rattle.std.proofs.Common.{◌≡◌, ℕ, Bool, not, Option, None, List, [], ◌∷◌, ◌++◌, slice_get, insert, remove, map, filter, zero, suc, arith, Contains, Some, ◌⊎◌, ◌↔◌, inl, inr, refl, sym, ap, ◌∙◌, subst}
 use Rattle.std.proofs.lemmas.Bool.{cases_Bool}
 use Rattle.std.proofs.lemmas.List.{map-append}
+use Rattle.std.proofs.lemmas.Option.{slice_get_within}
 use Rattle.std.proofs.lemmas.List.Elements.{Contains-append_left, Contains-append_right, Contains-append_cases}
 use Rattle.palm_base.specs.declared.terms.Cid.{Cid}
-use Rattle.palm_base.proofs.cited.Members.{member_here, member_there, member_cases, member_same, member_filter, filter_member, member_map, member_unmap, member_single}
-use Rattle.palm_base.specs.Order.{Rises, cid_before, IsPartedAt, with_cid}
+use Rattle.palm_base.proofs.cited.Members.{member_get, member_here, member_there, member_cases, member_same, member_filter, filter_member, member_map, member_unmap, member_single}
+use Rattle.std.specs.Prelude.{IsSomeAnd}
+use Rattle.palm_base.specs.Order.{Rises, StandsAt, cid_before, IsPartedAt, with_cid}
 use Rattle.palm_model.specs.Log.{is_named}
 use Rattle.palm_model.specs.State.{without_cid}
 use Rattle.palm_base.proofs.cited.CidOrder.{cid_order}
 use Rattle.palm_events.proofs.cited.Names.{member_not_named, not_named_member}
-use Rattle.palm_agenda.specs.Agenda.{Connected, HasPlace, IsConnected, IsOver, connected_cids, with_connected, without_connected}
+use Rattle.palm_agenda.specs.declared.taken.Taken.{Taken}
+use Rattle.palm_agenda.specs.Agenda.{Connected, HasPlace, IsConnected, IsOver, IsStanding, connected_cids, with_connected, without_connected}
 use Rattle.palm_base.proofs.cited.Sorted.{IsSortedKeys, filter_passes, filter_fails, inserted, listed_at}
-use Rattle.palm_base.proofs.cited.RisingLists.{sorted_keys, rising}
+use Rattle.palm_base.proofs.cited.RisingLists.{parted_there, sorted_keys, rising}
 use Rattle.palm_agenda.proofs.CidLists.{removed_by_cid}
 
 abbrev pub cid_of : Connected → Cid
@@ -72,6 +75,40 @@ module _ (connected : List Connected) (rises : Rises (connected_cids connected))
   pub disconnected_at : IsConnected connected cid → remove connected place ≡ without_connected cid connected
   disconnected_at is =
       removed_by_cid cid_of cid_before rising connected (sorted_connected connected rises) cid place is.owner (stands is.owner is.listed is.named) is.named
+
+-- ---- a constraint that was taken
+
+named_item : {X : Type 0} (id : X → Cid) (o : Option X) (cid : Cid) → IsSomeAnd o (λ x. id x ≡ cid) → (x : X) × (o ≡ Some x) × (id x ≡ cid)
+named_item id None cid is = absurd is
+named_item id (Some x) cid is = (x, refl, is)
+
+-- an item stands under the id where the id stands among the ids
+pub stands_named : {X : Type 0} (id : X → Cid) (xs : List X) (place : ℕ) (cid : Cid) → StandsAt id xs place cid → slice_get (map id xs) place ≡ Some cid
+stands_named id [] place cid is = let r = named_item id (slice_get [] place) cid is in let within = slice_get_within [] place r.0 r.1 in absurd (omega arith)
+stands_named id (x ∷ xs) zero cid is = ap Some is
+stands_named id (x ∷ xs) (suc place) cid is = stands_named id xs place cid is
+
+pub named_stands : {X : Type 0} (id : X → Cid) (xs : List X) (place : ℕ) (cid : Cid) → slice_get (map id xs) place ≡ Some cid → StandsAt id xs place cid
+named_stands id [] place cid at = let within = slice_get_within (map id []) place cid at in absurd (omega arith)
+named_stands id (x ∷ xs) zero cid at = let e : Some (id x) ≡ Some cid = at in cc
+named_stands id (x ∷ xs) (suc place) cid at = named_stands id xs place cid at
+
+pub standing_owner : (connected : List Connected) (t : Taken) → IsStanding connected t → (d : Connected) × (slice_get connected t.at ≡ Some d) × (d.cid ≡ t.cid)
+standing_owner connected t is = named_item cid_of (slice_get connected t.at) t.cid is
+
+pub standing_connected : (connected : List Connected) (t : Taken) → IsStanding connected t → IsConnected connected t.cid
+standing_connected connected t is =
+    let r = standing_owner connected t is in
+    record { owner = r.0; listed = member_get connected t.at r.0 r.1; named = r.2 }
+
+pub standing_parted : (connected : List Connected) → Rises (connected_cids connected) → (t : Taken) → IsStanding connected t → IsPartedAt (λ d. cid_before d.cid t.cid) connected t.at
+standing_parted connected rises t is = parted_there cid_of connected rises t.cid t.at is
+
+-- where the ids are parted, the constraint under the id stands
+pub parted_standing : (connected : List Connected) → Rises (connected_cids connected) → (cid : Cid) (place : ℕ) → IsPartedAt (λ d. cid_before d.cid cid) connected place → IsConnected connected cid
+    → StandsAt cid_of connected place cid
+parted_standing connected rises cid place at is =
+    subst (λ o. IsSomeAnd o (λ d. d.cid ≡ cid)) (sym (stands connected rises cid place at is.owner is.listed is.named)) is.named
 
 -- ---- one more
 

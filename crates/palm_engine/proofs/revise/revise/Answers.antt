@@ -1,25 +1,19 @@
 use Rattle.std.proofs.Common.{ℕ, ◌≤◌, List, length, sym, subst, ◌∙◌, arith}
-use Rattle.palm_base.specs.declared.terms.Cid.{Cid}
 use Rattle.palm_base.proofs.cited.Telling.{tells_true}
 use Rattle.palm_domain.specs.Rows.{present_of}
 use Rattle.palm_model.specs.Constraint.{scope}
-use Rattle.palm_agenda.specs.Agenda.{IsConnected}
 use Rattle.palm_engine.specs.Kept.{IsEmptyKept}
 use Rattle.palm_engine.specs.Posted.{active_of}
 use Rattle.palm_engine.proofs.Progress.{on_err_of}
 use Rattle.palm_engine.proofs.Places.{places_start, places_more, places_done, places_emptied, places_stopped, places_counted, places_part_counted, kept_empty, place_at}
 use Rattle.palm_engine.proofs.Settles.{none_of}
-use Rattle.palm_engine.proofs.Clear.{owner_connected, clear_walked}
+use Rattle.palm_engine.proofs.Scopes.{standing_stays}
+use Rattle.palm_engine.proofs.Clear.{clear_walked}
 use Rattle.palm_engine.proofs.revise.revise.Goals as goal
-
-pub is_clear-requires : goal.is_clear-requires
-is_clear-requires g c =
-    let r = c.requires in
-    subst (λ (n : Cid). IsConnected c.args.filtering.now.agenda.connected n) (sym c.cid.ensures) (owner_connected c.args.filtering.now r.0 (active_of g.F.Filter.meaning c.args.constraint.now) r.1)
 
 pub returns-then-is_clear-clause-walked : goal.returns-then-is_clear-clause-walked
 returns-then-is_clear-clause-walked g c = λ active r.
-    clear_walked c.args.filtering.now active (active_of g.F.Filter.meaning c.args.constraint.now) r (λ d m named. tells_true _ c.is_clear.result (c.is_clear.ensures d m (named ∙ sym c.cid.ensures)) c.if-is_clear.true)
+    clear_walked c.args.filtering.now active (active_of g.F.Filter.meaning c.args.constraint.now) r (λ d m named. tells_true _ c.is_clear.result (c.is_clear.ensures d m (named ∙ c.requires.named)) c.if-is_clear.true)
 
 pub loop-place-init : goal.loop-place-init
 loop-place-init g c = λ active r. places_start active (active_of g.F.Filter.meaning c.args.constraint.now) c.args.filtering.now c.args.steps.now r
@@ -36,7 +30,7 @@ returns-then-is_some-clause-revising g c = λ active r. (c.loop-place.invariant 
 
 pub returns-then-is_some-clause-counted : goal.returns-then-is_some-clause-counted
 returns-then-is_some-clause-counted g c =
-    let r = c.requires in
+    let r = c.requires.revising in
     places_counted r.0 (active_of g.F.Filter.meaning c.args.constraint.now) c.loop-place.place c.args.filtering.now c.loop-place.filtering c.args.steps.now c.loop-place.steps (c.loop-place.invariant r.0 r.1)
 
 pub revise_place-requires-clause-at : goal.revise_place-requires-clause-at
@@ -45,11 +39,16 @@ revise_place-requires-clause-at g c =
     c.scope.ensures.scope c.scope-place-end.ensures.scope c.loop-place-test.true c.index-scope-place.is
 
 pub revise_place-requires-clause-revising : goal.revise_place-requires-clause-revising
-revise_place-requires-clause-revising g c = let r = c.requires in (r.0, (c.loop-place.invariant r.0 r.1).revising)
+revise_place-requires-clause-revising g c = let r = c.requires.revising in (r.0, (c.loop-place.invariant r.0 r.1).revising)
+
+pub revise_place-requires-clause-standing : goal.revise_place-requires-clause-standing
+revise_place-requires-clause-standing g c =
+    let r = c.requires.revising in
+    standing_stays r.0 c.args.filtering.now.agenda.connected c.loop-place.filtering.agenda.connected r.1.kept.connected (c.loop-place.invariant r.0 r.1).revising.kept.connected c.args.taken.now c.requires.standing
 
 pub revise_place-requires-clause-filled : goal.revise_place-requires-clause-filled
 revise_place-requires-clause-filled g c =
-    let r = c.requires in
+    let r = c.requires.revising in
     let w = c.loop-place.invariant r.0 r.1 in
     let now = c.loop-place.filtering in
     let kept = w.revising.kept in
@@ -69,7 +68,7 @@ returns-in_err-revise_place-clause-revising g c = λ active r. c.revise_place.en
 pub returns-in_err-revise_place-clause-counted : goal.returns-in_err-revise_place-clause-counted
 returns-in_err-revise_place-clause-counted g c =
     let owner = active_of g.F.Filter.meaning c.args.constraint.now in
-    let r = c.requires in
+    let r = c.requires.revising in
     let at = place_at c.scope.result.now (scope owner.con) c.scope-place-end.result.now c.loop-place.place c.index-scope-place.result c.scope.ensures.scope c.scope-place-end.ensures.scope c.loop-place-test.true c.index-scope-place.is in
     places_part_counted r.0 owner c.loop-place.place c.index-scope-place.result c.args.filtering.now c.loop-place.filtering c.revise_place.new.filtering c.args.steps.now c.loop-place.steps c.revise_place.new.steps
     at (c.loop-place.invariant r.0 r.1) c.revise_place.ensures.counted
@@ -91,7 +90,7 @@ returns-clause-walked g c = λ active r.
 
 pub returns-clause-counted : goal.returns-clause-counted
 returns-clause-counted g c =
-    let r = c.requires in
+    let r = c.requires.revising in
     places_counted r.0 (active_of g.F.Filter.meaning c.args.constraint.now) c.loop-place.place c.args.filtering.now c.loop-place.filtering c.args.steps.now c.loop-place.steps (c.loop-place.invariant r.0 r.1)
 
 pub returns-clause-revising : goal.returns-clause-revising

@@ -1,89 +1,103 @@
-use Rattle.std.proofs.Common.{sym, subst, ◌∙◌}
+use Rattle.std.proofs.Common.{◌≡◌, List, Some, slice_get, sym, ap, subst, ◌∙◌}
 use Rattle.palm_domain.specs.Rows.{initial_of}
 use Rattle.palm_model.specs.Log.{Active}
 use Rattle.palm_engine.specs.Posted.{active_of, actives_of}
-use Rattle.palm_engine.specs.Revising.{IsRevising}
+use Rattle.palm_agenda.specs.declared.taken.Taken.{Taken}
+use Rattle.palm_agenda.specs.Agenda.{IsStanding}
+use Rattle.palm_engine.specs.declared.filtering.Filtering.{Filtering}
+use Rattle.palm_engine.specs.Revising.{IsRevising, IsTaken}
 use Rattle.palm_engine.specs.Settling.{walk_order}
-use Rattle.palm_engine.proofs.Settles.{walked_revised, woken_kept, part_revised, owner_connected, get_mapped, mapped_within, revision_counted, counted_agenda, err_of, ok_of, log_grows, log_counts, taken_as}
+use Rattle.palm_engine.proofs.Settles.{walked_revised, woken_kept, part_revised, get_mapped, mapped_within, revision_counted, counted_agenda, err_of, ok_of, log_grows, log_counts, taken_as}
+use Rattle.palm_engine.proofs.Scopes.{active_standing, standing_stays}
 use Rattle.palm_engine.proofs.settle.run_revision.Goals as goal
 
-pub bounds-posted-place_of : goal.bounds-posted-place_of
-bounds-posted-place_of g c =
-    let taken = c.requires in
-    mapped_within (active_of g.F.Filter.meaning) c.args.posted.now c.place_of.result taken.owner (c.place_of.ensures.owner taken.owner taken.revising.posted taken.named)
+-- the constraint that was taken, among the posted ones
+found : (f : Filtering) (active : List Active) (t : Taken) (taken : IsTaken f active t.cid) → IsStanding f.agenda.connected t → slice_get active t.at ≡ Some taken.owner
+found f active t taken standing =
+    active_standing active f.agenda.connected taken.revising.valid.rising taken.revising.kept.connected taken.owner taken.revising.posted t taken.named standing
 
-pub revise-requires : goal.revise-requires
-revise-requires g c =
-    let taken = c.requires in
-    let same = get_mapped (active_of g.F.Filter.meaning) c.args.posted.now c.place_of.result c.index-posted-place_of.result c.index-posted-place_of.result taken.owner (c.place_of.ensures.owner taken.owner taken.revising.posted taken.named) c.index-posted-place_of.is in
+pub bounds-posted-taken : goal.bounds-posted-taken
+bounds-posted-taken g c =
+    let taken = c.requires.taken in
+    mapped_within (active_of g.F.Filter.meaning) c.args.posted.now c.args.taken.now.at taken.owner (found c.args.filtering.now (actives_of g.F.Filter.meaning c.args.posted.now) c.args.taken.now taken c.requires.standing)
+
+pub revise-requires-clause-revising : goal.revise-requires-clause-revising
+revise-requires-clause-revising g c =
+    let taken = c.requires.taken in
+    let same = get_mapped (active_of g.F.Filter.meaning) c.args.posted.now c.args.taken.now.at c.index-posted-taken.result c.index-posted-taken.result taken.owner (found c.args.filtering.now (actives_of g.F.Filter.meaning c.args.posted.now) c.args.taken.now taken c.requires.standing) c.index-posted-taken.is in
     (actives_of g.F.Filter.meaning c.args.posted.now, subst (λ (a : Active). IsRevising c.args.filtering.now (actives_of g.F.Filter.meaning c.args.posted.now) a) same taken.revising)
 
-pub wake_one-requires : goal.wake_one-requires
-wake_one-requires g c =
+pub revise-requires-clause-named : goal.revise-requires-clause-named
+revise-requires-clause-named g c =
+    let same = get_mapped (active_of g.F.Filter.meaning) c.args.posted.now c.args.taken.now.at c.index-posted-taken.result c.index-posted-taken.result c.requires.taken.owner (found c.args.filtering.now (actives_of g.F.Filter.meaning c.args.posted.now) c.args.taken.now c.requires.taken c.requires.standing) c.index-posted-taken.is in
+    ap (λ (a : Active). a.cid) (sym same) ∙ c.requires.taken.named
+
+pub wake_taken-requires : goal.wake_taken-requires
+wake_taken-requires g c =
     let active = actives_of g.F.Filter.meaning c.args.posted.now in
-    let same = get_mapped (active_of g.F.Filter.meaning) c.args.posted.now c.place_of.result c.index-posted-place_of.result c.index-posted-place_of.result c.requires.owner (c.place_of.ensures.owner c.requires.owner c.requires.revising.posted c.requires.named) c.index-posted-place_of.is in
-    let taken = taken_as c.args.filtering.now active c.args.cid.now c.requires (active_of g.F.Filter.meaning c.index-posted-place_of.result) same in
-    owner_connected c.revise.new.filtering active (active_of g.F.Filter.meaning c.index-posted-place_of.result) c.args.cid.now (c.revise.ensures.revising active taken.revising) taken.named
+    let same = get_mapped (active_of g.F.Filter.meaning) c.args.posted.now c.args.taken.now.at c.index-posted-taken.result c.index-posted-taken.result c.requires.taken.owner (found c.args.filtering.now (actives_of g.F.Filter.meaning c.args.posted.now) c.args.taken.now c.requires.taken c.requires.standing) c.index-posted-taken.is in
+    let taken = taken_as c.args.filtering.now active c.args.taken.now.cid c.requires.taken (active_of g.F.Filter.meaning c.index-posted-taken.result) same in
+    standing_stays active c.args.filtering.now.agenda.connected c.revise.new.filtering.agenda.connected c.requires.taken.revising.kept.connected (c.revise.ensures.revising active taken.revising).kept.connected c.args.taken.now c.requires.standing
 
 pub returns-then-is_err-clause-err : goal.returns-then-is_err-clause-err
 returns-then-is_err-clause-err g c =
     let active = actives_of g.F.Filter.meaning c.args.posted.now in
     let m = c.revise.new.filtering in
-    let same = get_mapped (active_of g.F.Filter.meaning) c.args.posted.now c.place_of.result c.index-posted-place_of.result c.index-posted-place_of.result c.requires.owner (c.place_of.ensures.owner c.requires.owner c.requires.revising.posted c.requires.named) c.index-posted-place_of.is in
-    let taken = taken_as c.args.filtering.now active c.args.cid.now c.requires (active_of g.F.Filter.meaning c.index-posted-place_of.result) same in
+    let same = get_mapped (active_of g.F.Filter.meaning) c.args.posted.now c.args.taken.now.at c.index-posted-taken.result c.index-posted-taken.result c.requires.taken.owner (found c.args.filtering.now (actives_of g.F.Filter.meaning c.args.posted.now) c.args.taken.now c.requires.taken c.requires.standing) c.index-posted-taken.is in
+    let taken = taken_as c.args.filtering.now active c.args.taken.now.cid c.requires.taken (active_of g.F.Filter.meaning c.index-posted-taken.result) same in
     let r = c.revise.ensures.revising active taken.revising in
-    part_revised c.args.filtering.now m c.wake_one.new.self active c.args.cid.now taken r (err_of c.revise.result (sym c.is_err.ensures.value ∙ c.if-is_err.true) (c.revise.ensures.part active taken.revising))
-    (woken_kept m c.wake_one.new.self active r.kept c.wake_one.ensures.connected c.wake_one.ensures.formed) c.wake_one.ensures.pending
+    part_revised c.args.filtering.now m c.wake_taken.new.self active c.args.taken.now.cid taken r (err_of c.revise.result (sym c.is_err.ensures.value ∙ c.if-is_err.true) (c.revise.ensures.part active taken.revising))
+    (woken_kept m c.wake_taken.new.self active r.kept c.wake_taken.ensures.connected c.wake_taken.ensures.formed) c.wake_taken.ensures.pending
 
 pub returns-then-is_err-clause-kept : goal.returns-then-is_err-clause-kept
 returns-then-is_err-clause-kept g c =
     let active = actives_of g.F.Filter.meaning c.args.posted.now in
     let m = c.revise.new.filtering in
-    let same = get_mapped (active_of g.F.Filter.meaning) c.args.posted.now c.place_of.result c.index-posted-place_of.result c.index-posted-place_of.result c.requires.owner (c.place_of.ensures.owner c.requires.owner c.requires.revising.posted c.requires.named) c.index-posted-place_of.is in
-    let taken = taken_as c.args.filtering.now active c.args.cid.now c.requires (active_of g.F.Filter.meaning c.index-posted-place_of.result) same in
-    woken_kept m c.wake_one.new.self active (c.revise.ensures.revising active taken.revising).kept c.wake_one.ensures.connected c.wake_one.ensures.formed
+    let same = get_mapped (active_of g.F.Filter.meaning) c.args.posted.now c.args.taken.now.at c.index-posted-taken.result c.index-posted-taken.result c.requires.taken.owner (found c.args.filtering.now (actives_of g.F.Filter.meaning c.args.posted.now) c.args.taken.now c.requires.taken c.requires.standing) c.index-posted-taken.is in
+    let taken = taken_as c.args.filtering.now active c.args.taken.now.cid c.requires.taken (active_of g.F.Filter.meaning c.index-posted-taken.result) same in
+    woken_kept m c.wake_taken.new.self active (c.revise.ensures.revising active taken.revising).kept c.wake_taken.ensures.connected c.wake_taken.ensures.formed
 
 pub returns-then-is_err-clause-counted : goal.returns-then-is_err-clause-counted
 returns-then-is_err-clause-counted g c =
     let active = actives_of g.F.Filter.meaning c.args.posted.now in
     let m = c.revise.new.filtering in
-    let same = get_mapped (active_of g.F.Filter.meaning) c.args.posted.now c.place_of.result c.index-posted-place_of.result c.index-posted-place_of.result c.requires.owner (c.place_of.ensures.owner c.requires.owner c.requires.revising.posted c.requires.named) c.index-posted-place_of.is in
-    let taken = taken_as c.args.filtering.now active c.args.cid.now c.requires (active_of g.F.Filter.meaning c.index-posted-place_of.result) same in
-    counted_agenda _ c.args.filtering.now m c.wake_one.new.self c.args.steps.now c.revise.new.steps
-    (revision_counted c.args.filtering.now m active c.args.cid.now taken c.args.steps.now c.revise.new.steps c.revise.ensures.counted)
+    let same = get_mapped (active_of g.F.Filter.meaning) c.args.posted.now c.args.taken.now.at c.index-posted-taken.result c.index-posted-taken.result c.requires.taken.owner (found c.args.filtering.now (actives_of g.F.Filter.meaning c.args.posted.now) c.args.taken.now c.requires.taken c.requires.standing) c.index-posted-taken.is in
+    let taken = taken_as c.args.filtering.now active c.args.taken.now.cid c.requires.taken (active_of g.F.Filter.meaning c.index-posted-taken.result) same in
+    counted_agenda _ c.args.filtering.now m c.wake_taken.new.self c.args.steps.now c.revise.new.steps
+    (revision_counted c.args.filtering.now m active c.args.taken.now.cid taken c.args.steps.now c.revise.new.steps c.revise.ensures.counted)
 
 pub overflow_sub-result : goal.overflow_sub-result
 overflow_sub-result g c =
     let active = actives_of g.F.Filter.meaning c.args.posted.now in
     let m = c.revise.new.filtering in
-    let same = get_mapped (active_of g.F.Filter.meaning) c.args.posted.now c.place_of.result c.index-posted-place_of.result c.index-posted-place_of.result c.requires.owner (c.place_of.ensures.owner c.requires.owner c.requires.revising.posted c.requires.named) c.index-posted-place_of.is in
-    let taken = taken_as c.args.filtering.now active c.args.cid.now c.requires (active_of g.F.Filter.meaning c.index-posted-place_of.result) same in
+    let same = get_mapped (active_of g.F.Filter.meaning) c.args.posted.now c.args.taken.now.at c.index-posted-taken.result c.index-posted-taken.result c.requires.taken.owner (found c.args.filtering.now (actives_of g.F.Filter.meaning c.args.posted.now) c.args.taken.now c.requires.taken c.requires.standing) c.index-posted-taken.is in
+    let taken = taken_as c.args.filtering.now active c.args.taken.now.cid c.requires.taken (active_of g.F.Filter.meaning c.index-posted-taken.result) same in
     let w = ok_of c.revise.result (sym c.is_err.ensures.value ∙ c.if-is_err.false) (c.revise.ensures.walked active taken.revising) in
-    log_grows c.args.filtering.now m active (active_of g.F.Filter.meaning c.index-posted-place_of.result) (walk_order (initial_of c.args.filtering.now.store) (active_of g.F.Filter.meaning c.index-posted-place_of.result).con)
+    log_grows c.args.filtering.now m active (active_of g.F.Filter.meaning c.index-posted-taken.result) (walk_order (initial_of c.args.filtering.now.store) (active_of g.F.Filter.meaning c.index-posted-taken.result).con)
     c.removals-before.result c.removals.result w c.removals-before.ensures.count c.removals.ensures.count
 
 pub returns-clause-ok : goal.returns-clause-ok
 returns-clause-ok g c =
     let active = actives_of g.F.Filter.meaning c.args.posted.now in
     let m = c.revise.new.filtering in
-    let same = get_mapped (active_of g.F.Filter.meaning) c.args.posted.now c.place_of.result c.index-posted-place_of.result c.index-posted-place_of.result c.requires.owner (c.place_of.ensures.owner c.requires.owner c.requires.revising.posted c.requires.named) c.index-posted-place_of.is in
-    let taken = taken_as c.args.filtering.now active c.args.cid.now c.requires (active_of g.F.Filter.meaning c.index-posted-place_of.result) same in
+    let same = get_mapped (active_of g.F.Filter.meaning) c.args.posted.now c.args.taken.now.at c.index-posted-taken.result c.index-posted-taken.result c.requires.taken.owner (found c.args.filtering.now (actives_of g.F.Filter.meaning c.args.posted.now) c.args.taken.now c.requires.taken c.requires.standing) c.index-posted-taken.is in
+    let taken = taken_as c.args.filtering.now active c.args.taken.now.cid c.requires.taken (active_of g.F.Filter.meaning c.index-posted-taken.result) same in
     let w = ok_of c.revise.result (sym c.is_err.ensures.value ∙ c.if-is_err.false) (c.revise.ensures.walked active taken.revising) in
-    let count = log_counts c.args.filtering.now m active (active_of g.F.Filter.meaning c.index-posted-place_of.result) (walk_order (initial_of c.args.filtering.now.store) (active_of g.F.Filter.meaning c.index-posted-place_of.result).con)
+    let count = log_counts c.args.filtering.now m active (active_of g.F.Filter.meaning c.index-posted-taken.result) (walk_order (initial_of c.args.filtering.now.store) (active_of g.F.Filter.meaning c.index-posted-taken.result).con)
     c.removals-before.result c.removals.result w c.removals-before.ensures.count c.removals.ensures.count in
-    walked_revised c.args.filtering.now m active c.args.cid.now taken _ (c.revise.ensures.revising active taken.revising) w count
+    walked_revised c.args.filtering.now m active c.args.taken.now.cid taken _ (c.revise.ensures.revising active taken.revising) w count
 
 pub returns-clause-kept : goal.returns-clause-kept
 returns-clause-kept g c =
     let active = actives_of g.F.Filter.meaning c.args.posted.now in
-    let same = get_mapped (active_of g.F.Filter.meaning) c.args.posted.now c.place_of.result c.index-posted-place_of.result c.index-posted-place_of.result c.requires.owner (c.place_of.ensures.owner c.requires.owner c.requires.revising.posted c.requires.named) c.index-posted-place_of.is in
-    let taken = taken_as c.args.filtering.now active c.args.cid.now c.requires (active_of g.F.Filter.meaning c.index-posted-place_of.result) same in
+    let same = get_mapped (active_of g.F.Filter.meaning) c.args.posted.now c.args.taken.now.at c.index-posted-taken.result c.index-posted-taken.result c.requires.taken.owner (found c.args.filtering.now (actives_of g.F.Filter.meaning c.args.posted.now) c.args.taken.now c.requires.taken c.requires.standing) c.index-posted-taken.is in
+    let taken = taken_as c.args.filtering.now active c.args.taken.now.cid c.requires.taken (active_of g.F.Filter.meaning c.index-posted-taken.result) same in
     (c.revise.ensures.revising active taken.revising).kept
 
 pub returns-clause-counted : goal.returns-clause-counted
 returns-clause-counted g c =
     let active = actives_of g.F.Filter.meaning c.args.posted.now in
     let m = c.revise.new.filtering in
-    let same = get_mapped (active_of g.F.Filter.meaning) c.args.posted.now c.place_of.result c.index-posted-place_of.result c.index-posted-place_of.result c.requires.owner (c.place_of.ensures.owner c.requires.owner c.requires.revising.posted c.requires.named) c.index-posted-place_of.is in
-    let taken = taken_as c.args.filtering.now active c.args.cid.now c.requires (active_of g.F.Filter.meaning c.index-posted-place_of.result) same in
-    revision_counted c.args.filtering.now m active c.args.cid.now taken c.args.steps.now c.revise.new.steps c.revise.ensures.counted
+    let same = get_mapped (active_of g.F.Filter.meaning) c.args.posted.now c.args.taken.now.at c.index-posted-taken.result c.index-posted-taken.result c.requires.taken.owner (found c.args.filtering.now (actives_of g.F.Filter.meaning c.args.posted.now) c.args.taken.now c.requires.taken c.requires.standing) c.index-posted-taken.is in
+    let taken = taken_as c.args.filtering.now active c.args.taken.now.cid c.requires.taken (active_of g.F.Filter.meaning c.index-posted-taken.result) same in
+    revision_counted c.args.filtering.now m active c.args.taken.now.cid taken c.args.steps.now c.revise.new.steps c.revise.ensures.counted

@@ -1,8 +1,9 @@
-use Rattle.std.proofs.Common.{◌≡◌, ℕ, List, Option, Some, None, MatchOption, is_some, sym, ◌∙◌, refl}
+use Rattle.std.proofs.Common.{◌≡◌, ℕ, List, Option, Some, None, MatchOption, is_some, sym, subst, ◌∙◌, refl}
 use Rattle.std.specs.Prelude.{IsSomeAnd}
 use Rattle.std.proofs.lemmas.Bool.{false≢true}
 use Rattle.palm_base.specs.declared.terms.Cid.{Cid}
 use Rattle.palm_base.proofs.cited.Telling.{tells_false}
+use Rattle.palm_agenda.specs.Agenda.{IsStanding}
 use Rattle.palm_engine.specs.Following.{OrderAnswers}
 use Rattle.palm_engine.specs.Settling.{HasReached}
 use Rattle.palm_engine.proofs.Settles.{some_map, none_of, none_told}
@@ -16,7 +17,7 @@ asked_of answers state pending answer (Some before) None stays told = absurd (fa
 asked_of answers state pending answer (Some before) (Some after) stays told = told
 
 pub returns-clause-some : goal.returns-clause-some
-returns-clause-some g c = some_map _ _ c.take.result (λ cid told. (
+returns-clause-some g c = some_map _ _ c.take.result (λ taken told. (
   record {
     answer = told.0;
     takes = told.1;
@@ -32,3 +33,8 @@ returns-clause-some g c = some_map _ _ c.take.result (λ cid told. (
   },
   asked_of g.O.Order.answers g.O.Order.state c.args.filtering.now.agenda.pending told.0 c.args.order.now c.take.new.order c.take.ensures.stays told.2,
 )) c.take.ensures.some
+
+pub returns-clause-standing : goal.returns-clause-standing
+returns-clause-standing g c =
+    some_map (IsStanding c.args.filtering.now.agenda.connected) (IsStanding c.take.new.self.connected) c.take.result
+    (λ taken standing. subst (λ ds. IsStanding ds taken) (sym c.take.ensures.connected) standing) c.take.ensures.standing

@@ -1,14 +1,14 @@
 use Rattle.std.proofs.Common.{◌≡◌, Contains, ap, ◌∙◌, length, subst, sym}
-use Rattle.palm_agenda.specs.Agenda.{Connected, Waiting}
-use Rattle.palm_agenda.proofs.cited.Connecting.{parted_in}
+use Rattle.palm_agenda.specs.Agenda.{Connected, IsStanding, Waiting}
+use Rattle.palm_agenda.proofs.cited.Connecting.{standing_parted}
 use Rattle.palm_agenda.proofs.cited.Keeping.{marks_here}
 use Rattle.palm_agenda.proofs.agenda.Agenda.marks.Goals as goal
 use Rattle.palm_agenda.proofs.agenda.Agenda.marks.Goals.{After-marks}
 
-found : (c : After-marks) (d : Connected) → Contains c.args.self.now.connected d → d.cid ≡ c.args.cid → c.index.result.now ≡ d
+found : (c : After-marks) (d : Connected) → Contains c.args.self.now.connected d → d.cid ≡ c.args.taken.now.cid → c.index.result.now ≡ d
 found c d m named =
-    marks_here c.self.inside.connections.items c.args.cid c.place_near-place.result c.self.invariant.0.formed.rising
-    (parted_in c.deref.result.now c.self.inside.connections.items c.args.cid c.place_near-place.result c.deref.ensures.value c.place_near-place.ensures)
+    marks_here c.self.inside.connections.items c.args.taken.now.cid c.args.taken.now.at c.self.invariant.0.formed.rising
+    (standing_parted c.self.inside.connections.items c.self.invariant.0.formed.rising c.args.taken.now (subst (λ (w : Waiting). IsStanding w.connected c.args.taken.now) (sym c.self.view_is) c.requires))
     c.index.result.now c.index.ensures d (subst (λ (w : Waiting). Contains w.connected d) (sym c.self.view_is) m) named
 
 pub returns-clause-marks : goal.returns-clause-marks

@@ -1,8 +1,8 @@
 use Rattle.std.proofs.Common.{◌≡◌, ◌∙◌, [], ap, arith, false, length, refl, slice_set, subst, sym}
 use Rattle.palm_model.specs.State.{without_cid}
-use Rattle.palm_agenda.specs.Agenda.{Takes, Waiting, index_within, connected_cids}
+use Rattle.palm_agenda.specs.Agenda.{IsStanding, Takes, Waiting, index_within, connected_cids}
 use Rattle.palm_agenda.specs.Flags.{FlagRow, flagged}
-use Rattle.palm_agenda.proofs.cited.Connecting.{parted_in}
+use Rattle.palm_agenda.proofs.cited.Connecting.{parted_in, parted_standing}
 use Rattle.palm_agenda.proofs.cited.Keeping.{answered_taken, lowered_at, no_pending, place_within, set_after, shown_connected, some_pending}
 use Rattle.palm_agenda.proofs.agenda.Agenda.take_answered.Goals as goal
 
@@ -59,3 +59,12 @@ returns-clause-some g c =
           (index_within c.next-answer.result (length c.show.new.shown.items)) c.take_chosen-cid.result c.take_chosen-cid.ensures.chosen) (c.lower.ensures ∙ ap (λ (f : FlagRow). slice_set f.flags c.place_of-place.result false) c.lowest-lowest.ensures.same))),
       subst (λ cs. g.O.Order.answers c.args.order.now cs c.next-answer.result (g.O.Order.state c.next-answer.new.self)) (c.deref-2.ensures.value ∙ shows ∙ ap (λ (w : Waiting). w.pending) c.self.view_is) c.next-answer.ensures,
     )
+
+pub returns-clause-standing : goal.returns-clause-standing
+returns-clause-standing g c =
+    let shows = c.show.ensures.cids ∙ ap (λ ds. flagged (connected_cids ds) c.as_slice.result.now) c.deref.ensures.value ∙ ap (flagged (connected_cids c.self.inside.connections.items)) (c.as_slice.ensures ∙ ap (λ (f : FlagRow). f.flags) c.lowest-lowest.ensures.same) in
+    subst (λ (w : Waiting). IsStanding w.connected (record { cid = c.take_chosen-cid.result; at = c.place_of-place.result })) c.self.view_is
+    (parted_standing c.self.inside.connections.items c.self.invariant.0.formed.rising c.take_chosen-cid.result c.place_of-place.result
+    (parted_in c.deref-3.result.now c.self.inside.connections.items c.take_chosen-cid.result c.place_of-place.result c.deref-3.ensures.value c.place_of-place.ensures)
+    (shown_connected c.self.inside.connections.items c.self.inside.over.items c.self.inside.pending.flags _ c.self.invariant.0 c.show.new.shown.items c.show.new.shown.items shows refl
+    (index_within c.next-answer.result (length c.show.new.shown.items)) c.take_chosen-cid.result c.take_chosen-cid.ensures.chosen))

@@ -17,10 +17,10 @@ use Rattle.palm_engine.proofs.engine.Engine.settle.Goals as goal
 use Rattle.palm_engine.proofs.engine.Engine.settle.Goals.{After-take_next, After-run_revision-removed, In_err-removed, In_ok-removed, In_default}
 
 -- the state before, as it was seen
-seen : (g : given.Over) (c : After-take_next g) → c.args.self.now.state ≡ state_of c.self.inside.filtering (actives_of g.F.Filter.meaning c.loop-cid.self-inside.posted.items)
+seen : (g : given.Over) (c : After-take_next g) → c.args.self.now.state ≡ state_of c.self.inside.filtering (actives_of g.F.Filter.meaning c.loop-taken.self-inside.posted.items)
 seen g c =
     sym (ap (λ (v : View). v.state) c.self.view_is)
-    ∙ ap (λ ys. state_of c.self.inside.filtering (actives_of g.F.Filter.meaning ys)) (sym (ap (λ p. p.items) c.loop-cid.invariant.same))
+    ∙ ap (λ ys. state_of c.self.inside.filtering (actives_of g.F.Filter.meaning ys)) (sym (ap (λ p. p.items) c.loop-taken.invariant.same))
 
 -- the order's own relations
 abbrev answering : (g : given.Over) → List Cid → ℕ → Option g.row.O.Denot → Option g.row.O.Denot → Type 0
@@ -31,52 +31,52 @@ following g = OrderFollows g.O.Order.answers g.O.Order.hears g.O.Order.state
 
 -- the constraint that was taken, and what the order was asked for it
 abbrev taking : (g : given.Over) (c : After-run_revision-removed g)
-    → (takes : TakesNext c.args.limit (is_some c.args.order.now) c.loop-cid.self-inside.revisions c.loop-cid.self-inside.filtering c.take_next.new.filtering c.in-Some.cid)
-    × answering g c.loop-cid.self-inside.filtering.agenda.pending takes.answer c.loop-cid.order c.take_next.new.order
+    → (takes : TakesNext c.args.limit (is_some c.args.order.now) c.loop-taken.self-inside.revisions c.loop-taken.self-inside.filtering c.take_next.new.filtering c.in-Some.taken.cid)
+    × answering g c.loop-taken.self-inside.filtering.agenda.pending takes.answer c.loop-taken.order c.take_next.new.order
 taking g c =
-    let now = c.loop-cid.self-inside.filtering in
+    let now = c.loop-taken.self-inside.filtering in
     let after = c.take_next.new.filtering in
-    subst (λ (o : Bool). (takes : TakesNext c.args.limit o c.loop-cid.self-inside.revisions now after c.in-Some.cid) × answering g now.agenda.pending takes.answer c.loop-cid.order c.take_next.new.order)
-    c.loop-cid.invariant.stays c.in-Some.ensures.some
+    subst (λ (o : Bool). (takes : TakesNext c.args.limit o c.loop-taken.self-inside.revisions now after c.in-Some.taken.cid) × answering g now.agenda.pending takes.answer c.loop-taken.order c.take_next.new.order)
+    c.loop-taken.invariant.stays c.in-Some.ensures.some
 
 -- after the call that revises the constraint that was taken
-abbrev tried : (g : given.Over) (c : After-run_revision-removed g) → HasTried c.args.limit (is_some c.args.order.now) (actives_of g.F.Filter.meaning c.loop-cid.self-inside.posted.items) c.self.inside.filtering c.loop-cid.self-inside.filtering
-    c.take_next.new.filtering c.run_revision-removed.new.filtering c.loop-cid.self-inside.revisions c.args.steps.now c.loop-cid.steps c.run_revision-removed.new.steps c.in-Some.cid
+abbrev tried : (g : given.Over) (c : After-run_revision-removed g) → HasTried c.args.limit (is_some c.args.order.now) (actives_of g.F.Filter.meaning c.loop-taken.self-inside.posted.items) c.self.inside.filtering c.loop-taken.self-inside.filtering
+    c.take_next.new.filtering c.run_revision-removed.new.filtering c.loop-taken.self-inside.revisions c.args.steps.now c.loop-taken.steps c.run_revision-removed.new.steps c.in-Some.taken.cid
 tried g c =
     let meaning = g.F.Filter.meaning in
     let before = c.take_next.new.filtering in
     let after = c.run_revision-removed.new.filtering in
-    let cid = c.in-Some.cid in
+    let cid = c.in-Some.taken.cid in
     record {
-      run = c.loop-cid.invariant.by.run;
+      run = c.loop-taken.invariant.by.run;
       takes = (taking g c).0;
       kept = subst (λ ys. IsInStep after (actives_of meaning ys)) c.deref.ensures.value c.run_revision-removed.ensures.kept;
-      counted = subst (λ ys. HasCounted (named_sizes (state_in_revision before (actives_of meaning ys) cid) (cid ∷ [])) before after c.loop-cid.steps c.run_revision-removed.new.steps) c.deref.ensures.value c.run_revision-removed.ensures.counted;
+      counted = subst (λ ys. HasCounted (named_sizes (state_in_revision before (actives_of meaning ys) cid) (cid ∷ [])) before after c.loop-taken.steps c.run_revision-removed.new.steps) c.deref.ensures.value c.run_revision-removed.ensures.counted;
     }
 
-pub loop-cid-init : goal.loop-cid-init
-loop-cid-init g c = record {
+pub loop-taken-init : goal.loop-taken-init
+loop-taken-init g c = record {
   by = run_start (following g) c.args.limit (actives_of g.F.Filter.meaning c.self.inside.posted.items) c.self.inside.filtering c.args.steps.now c.args.order.now c.self.invariant;
   stays = refl;
   same = refl;
 }
 
-pub run_revision-removed-requires : goal.run_revision-removed-requires
-run_revision-removed-requires g c =
+pub run_revision-removed-requires-clause-taken : goal.run_revision-removed-requires-clause-taken
+run_revision-removed-requires-clause-taken g c =
     let meaning = g.F.Filter.meaning in
-    let now = c.loop-cid.self-inside.filtering in
+    let now = c.loop-taken.self-inside.filtering in
     let after = c.take_next.new.filtering in
-    let takes = subst (λ (o : Bool). TakesNext c.args.limit o c.loop-cid.self-inside.revisions now after c.in-Some.cid) c.loop-cid.invariant.stays c.in-Some.ensures.some.0 in
-    subst (λ ys. IsTaken after (actives_of meaning ys) c.in-Some.cid) (sym c.deref.ensures.value)
-    (taken_is c.args.limit (is_some c.args.order.now) c.loop-cid.self-inside.revisions (actives_of meaning c.loop-cid.self-inside.posted.items) now after c.in-Some.cid takes c.loop-cid.invariant.by.run.engine)
+    let takes = subst (λ (o : Bool). TakesNext c.args.limit o c.loop-taken.self-inside.revisions now after c.in-Some.taken.cid) c.loop-taken.invariant.stays c.in-Some.ensures.some.0 in
+    subst (λ ys. IsTaken after (actives_of meaning ys) c.in-Some.taken.cid) (sym c.deref.ensures.value)
+    (taken_is c.args.limit (is_some c.args.order.now) c.loop-taken.self-inside.revisions (actives_of meaning c.loop-taken.self-inside.posted.items) now after c.in-Some.taken.cid takes c.loop-taken.invariant.by.run.engine)
 
 -- ---- where memory ran out
 
-part : (g : given.Over) (c : In_err-removed g) → HasPartlyRevised (actives_of g.F.Filter.meaning c.loop-cid.self-inside.posted.items) c.in-Some.cid
-    (state_in_revision c.take_next.new.filtering (actives_of g.F.Filter.meaning c.loop-cid.self-inside.posted.items) c.in-Some.cid) (state_of c.run_revision-removed.new.filtering (actives_of g.F.Filter.meaning c.loop-cid.self-inside.posted.items))
+part : (g : given.Over) (c : In_err-removed g) → HasPartlyRevised (actives_of g.F.Filter.meaning c.loop-taken.self-inside.posted.items) c.in-Some.taken.cid
+    (state_in_revision c.take_next.new.filtering (actives_of g.F.Filter.meaning c.loop-taken.self-inside.posted.items) c.in-Some.taken.cid) (state_of c.run_revision-removed.new.filtering (actives_of g.F.Filter.meaning c.loop-taken.self-inside.posted.items))
 part g c =
     let actives = actives_of g.F.Filter.meaning in
-    let cid = c.in-Some.cid in
+    let cid = c.in-Some.taken.cid in
     let told = subst (λ (r : Result ℕ NoMemory). OnErr r (HasPartlyRevised (actives c.deref.result.now) cid (state_in_revision c.take_next.new.filtering (actives c.deref.result.now) cid) (state_of c.run_revision-removed.new.filtering (actives c.deref.result.now))))
     c.in_err-removed.was c.run_revision-removed.ensures.err in
     subst (λ ys. HasPartlyRevised (actives ys) cid (state_in_revision c.take_next.new.filtering (actives ys) cid) (state_of c.run_revision-removed.new.filtering (actives ys))) c.deref.ensures.value told
@@ -90,15 +90,15 @@ pub returns-in_err-removed-clause-err : goal.returns-in_err-removed-clause-err
 returns-in_err-removed-clause-err g c =
     let at = goal.at.returns-in_err-removed-clause-err g c in
     let after = c.run_revision-removed.new.filtering in
-    let left = λ (n : ℕ). let v : View = record { state = state_of after (actives_of g.F.Filter.meaning c.loop-cid.self-inside.posted.items); revisions = n; checks = after.checks } in v in
+    let left = λ (n : ℕ). let v : View = record { state = state_of after (actives_of g.F.Filter.meaning c.loop-taken.self-inside.posted.items); revisions = n; checks = after.checks } in v in
     on_err_of c.from_residual.result
     (subst (λ (n : ℕ). IsInterruptedBy (answering g) (following g) c.args.limit c.args.order.now c.take_next.new.order c.args.self.now (left n)) (sym c.saturating_add-self-inside.ensures)
-    (run_stopped c.loop-cid.order (tried g at.After-run_revision-removed) c.args.self.now (seen g at.After-take_next) (part g at.In_err-removed) c.loop-cid.invariant.by.followed (taking g at.After-run_revision-removed).1))
+    (run_stopped c.loop-taken.order (tried g at.After-run_revision-removed) c.args.self.now (seen g at.After-take_next) (part g at.In_err-removed) c.loop-taken.invariant.by.followed (taking g at.After-run_revision-removed).1))
 
 pub returns-in_err-removed-clause-asked : goal.returns-in_err-removed-clause-asked
 returns-in_err-removed-clause-asked g c =
     let at = goal.at.returns-in_err-removed-clause-asked g c in
-    let active = actives_of g.F.Filter.meaning c.loop-cid.self-inside.posted.items in
+    let active = actives_of g.F.Filter.meaning c.loop-taken.self-inside.posted.items in
     subst (λ (s : EngineState). HasAsked s (state_of c.run_revision-removed.new.filtering active) c.args.steps.now c.run_revision-removed.new.steps) (sym (seen g at.After-take_next))
     (stopped_asked (tried g at.After-run_revision-removed) (part g at.In_err-removed))
 
@@ -116,63 +116,63 @@ returns-in_err-removed-clause-valid g c =
 
 -- ---- where the revision ended
 
-revised : (g : given.Over) (c : In_ok-removed g) → HasRevised (actives_of g.F.Filter.meaning c.loop-cid.self-inside.posted.items) c.in-Some.cid
-    (state_in_revision c.take_next.new.filtering (actives_of g.F.Filter.meaning c.loop-cid.self-inside.posted.items) c.in-Some.cid) (state_of c.run_revision-removed.new.filtering (actives_of g.F.Filter.meaning c.loop-cid.self-inside.posted.items)) c.in_ok-removed.field-0
+revised : (g : given.Over) (c : In_ok-removed g) → HasRevised (actives_of g.F.Filter.meaning c.loop-taken.self-inside.posted.items) c.in-Some.taken.cid
+    (state_in_revision c.take_next.new.filtering (actives_of g.F.Filter.meaning c.loop-taken.self-inside.posted.items) c.in-Some.taken.cid) (state_of c.run_revision-removed.new.filtering (actives_of g.F.Filter.meaning c.loop-taken.self-inside.posted.items)) c.in_ok-removed.field-0
 revised g c =
     let actives = actives_of g.F.Filter.meaning in
-    let cid = c.in-Some.cid in
+    let cid = c.in-Some.taken.cid in
     let told = subst (λ (r : Result ℕ NoMemory). IfOk r (HasRevised (actives c.deref.result.now) cid (state_in_revision c.take_next.new.filtering (actives c.deref.result.now) cid) (state_of c.run_revision-removed.new.filtering (actives c.deref.result.now))))
     c.in_ok-removed.was c.run_revision-removed.ensures.ok in
     subst (λ ys. HasRevised (actives ys) cid (state_in_revision c.take_next.new.filtering (actives ys) cid) (state_of c.run_revision-removed.new.filtering (actives ys)) c.in_ok-removed.field-0) c.deref.ensures.value told
 
-pub loop-cid-smaller : goal.loop-cid-smaller
-loop-cid-smaller g c =
-    let at = goal.at.loop-cid-smaller g c in
+pub loop-taken-smaller : goal.loop-taken-smaller
+loop-taken-smaller g c =
+    let at = goal.at.loop-taken-smaller g c in
     run_falls (tried g at.After-run_revision-removed) c.in_ok-removed.field-0 (revised g at.In_ok-removed)
 
-pub loop-cid-preserved : goal.loop-cid-preserved
-loop-cid-preserved g c =
-    let at = goal.at.loop-cid-preserved g c in
-    let active = actives_of g.F.Filter.meaning c.loop-cid.self-inside.posted.items in
+pub loop-taken-preserved : goal.loop-taken-preserved
+loop-taken-preserved g c =
+    let at = goal.at.loop-taken-preserved g c in
+    let active = actives_of g.F.Filter.meaning c.loop-taken.self-inside.posted.items in
     record {
       by = subst (λ (n : ℕ). HasRunBy (following g) c.args.limit active c.self.inside.filtering c.run_revision-removed.new.filtering n c.args.steps.now c.run_revision-removed.new.steps c.args.order.now c.tell.new.order)
           (sym c.saturating_add-self-inside.ensures)
-          (run_more c.loop-cid.order (tried g at.After-run_revision-removed) c.in_ok-removed.field-0 (revised g at.In_ok-removed) c.loop-cid.invariant.by.followed
+          (run_more c.loop-taken.order (tried g at.After-run_revision-removed) c.in_ok-removed.field-0 (revised g at.In_ok-removed) c.loop-taken.invariant.by.followed
           (record { between = c.take_next.new.order; asked = (taking g at.After-run_revision-removed).1; told = c.tell.ensures.told }));
-      stays = c.tell.ensures.stays ∙ c.take_next.ensures.stays ∙ c.loop-cid.invariant.stays;
-      same = c.loop-cid.invariant.same;
+      stays = c.tell.ensures.stays ∙ c.take_next.ensures.stays ∙ c.loop-taken.invariant.stays;
+      same = c.loop-taken.invariant.same;
     }
 
 -- ---- where the settling ended
 
-ended : (g : given.Over) (c : In_default g) → HasRunBy (following g) c.args.limit (actives_of g.F.Filter.meaning c.loop-cid.self-inside.posted.items) c.self.inside.filtering c.take_next.new.filtering
-    c.loop-cid.self-inside.revisions c.args.steps.now c.loop-cid.steps c.args.order.now c.take_next.new.order
+ended : (g : given.Over) (c : In_default g) → HasRunBy (following g) c.args.limit (actives_of g.F.Filter.meaning c.loop-taken.self-inside.posted.items) c.self.inside.filtering c.take_next.new.filtering
+    c.loop-taken.self-inside.revisions c.args.steps.now c.loop-taken.steps c.args.order.now c.take_next.new.order
 ended g c =
-    let active = actives_of g.F.Filter.meaning c.loop-cid.self-inside.posted.items in
+    let active = actives_of g.F.Filter.meaning c.loop-taken.self-inside.posted.items in
     let first = c.args.order.now in
-    let count = c.loop-cid.self-inside.revisions in
-    subst (λ (o : Option g.row.O.Denot). HasRunBy (following g) c.args.limit active c.self.inside.filtering c.take_next.new.filtering count c.args.steps.now c.loop-cid.steps first o) (sym c.in_default.ensures.none.2)
-    (subst (λ (z : Filtering). HasRunBy (following g) c.args.limit active c.self.inside.filtering z count c.args.steps.now c.loop-cid.steps first c.loop-cid.order) (sym c.in_default.ensures.none.0) c.loop-cid.invariant.by)
+    let count = c.loop-taken.self-inside.revisions in
+    subst (λ (o : Option g.row.O.Denot). HasRunBy (following g) c.args.limit active c.self.inside.filtering c.take_next.new.filtering count c.args.steps.now c.loop-taken.steps first o) (sym c.in_default.ensures.none.2)
+    (subst (λ (z : Filtering). HasRunBy (following g) c.args.limit active c.self.inside.filtering z count c.args.steps.now c.loop-taken.steps first c.loop-taken.order) (sym c.in_default.ensures.none.0) c.loop-taken.invariant.by)
 
 pub returns-clause-ok : goal.returns-clause-ok
 returns-clause-ok g c =
     let at = goal.at.returns-clause-ok g c in
-    let active = actives_of g.F.Filter.meaning c.loop-cid.self-inside.posted.items in
-    let count = c.loop-cid.self-inside.revisions in
+    let active = actives_of g.F.Filter.meaning c.loop-taken.self-inside.posted.items in
+    let count = c.loop-taken.self-inside.revisions in
     let run = ended g at.In_default in
     let none = subst (λ (z : Filtering). TakesNone c.args.limit count z) (sym c.in_default.ensures.none.0) c.in_default.ensures.none.1 in
-    run_settled (following g) c.args.limit active c.self.inside.filtering c.take_next.new.filtering count c.args.steps.now c.loop-cid.steps c.args.order.now c.take_next.new.order c.outcome.result c.args.self.now
+    run_settled (following g) c.args.limit active c.self.inside.filtering c.take_next.new.filtering count c.args.steps.now c.loop-taken.steps c.args.order.now c.take_next.new.order c.outcome.result c.args.self.now
     (seen g at.After-take_next) run none (c.outcome.ensures active run.run.engine.kept)
 
 pub returns-clause-asked : goal.returns-clause-asked
 returns-clause-asked g c =
     let at = goal.at.returns-clause-asked g c in
-    let active = actives_of g.F.Filter.meaning c.loop-cid.self-inside.posted.items in
-    subst (λ (s : EngineState). HasAsked s (state_of c.take_next.new.filtering active) c.args.steps.now c.loop-cid.steps) (sym (seen g at.After-take_next))
-    (run_asked c.args.limit (is_some c.args.order.now) active c.self.inside.filtering c.take_next.new.filtering c.loop-cid.self-inside.revisions c.args.steps.now c.loop-cid.steps c.loop-cid.invariant.by.run.engine.valid.rising (ended g at.In_default).run)
+    let active = actives_of g.F.Filter.meaning c.loop-taken.self-inside.posted.items in
+    subst (λ (s : EngineState). HasAsked s (state_of c.take_next.new.filtering active) c.args.steps.now c.loop-taken.steps) (sym (seen g at.After-take_next))
+    (run_asked c.args.limit (is_some c.args.order.now) active c.self.inside.filtering c.take_next.new.filtering c.loop-taken.self-inside.revisions c.args.steps.now c.loop-taken.steps c.loop-taken.invariant.by.run.engine.valid.rising (ended g at.In_default).run)
 
 pub returns-clause-checks : goal.returns-clause-checks
 returns-clause-checks g c =
     let le : c.self.inside.filtering.checks ≤ LAST_COUNT = omega arith in
     let is = ap (λ (v : View). v.checks) c.self.view_is in
-    (ended g (goal.at.returns-clause-checks g c).In_default).run.asked.checks le ∙ ap (λ (k : ℕ). min (k + (c.loop-cid.steps - c.args.steps.now)) LAST_COUNT) is
+    (ended g (goal.at.returns-clause-checks g c).In_default).run.asked.checks le ∙ ap (λ (k : ℕ). min (k + (c.loop-taken.steps - c.args.steps.now)) LAST_COUNT) is

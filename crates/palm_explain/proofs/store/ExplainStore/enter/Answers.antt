@@ -134,7 +134,7 @@ invariant_of-self-2 c =
     let t = c.link.new.nodes in
     let u = c.insert_reserved.new.self in
     let key = c.in-Ok.key in
-    let n : Node = record { pair = c.args.pair; by = c.args.by; antecedents = c.in_ok-antecedents.antecedents; dependents = c.take.result; place = c.len-place.result; mark = false; next = 0; lost = 0; slot = 0; at = c.in-Ok-push.at } in
+    let n : Node = record { pair = c.args.pair; by = c.args.by; antecedents = c.in_ok-antecedents.antecedents; dependents = c.take.result; place = c.len-place.result; mark = false; next = 0; lost = 0; slot = 0; at = c.guessed.result } in
     let place : c.len-place.result ≡ length keys = c.len-place.ensures ∙ c.self.inside.log.ok.0 in
     let same : c.insert_reserved.result ≡ key = c.insert_reserved.ensures.key ∙ c.link.ensures.room.vacant_key ∙ c.make_room.ensures.vacant_key ∙ sym c.vacant_key.ensures.value ∙ sym c.in-Ok.ensures.1 in
     let linked : HasLinked (graph_of s) (graph_of t) n.antecedents.items key =
@@ -162,7 +162,7 @@ returns-clause-ok c =
     let t = c.link.new.nodes in
     let u = c.insert_reserved.new.self in
     let key = c.in-Ok.key in
-    let n : Node = record { pair = c.args.pair; by = c.args.by; antecedents = c.in_ok-antecedents.antecedents; dependents = c.take.result; place = c.len-place.result; mark = false; next = 0; lost = 0; slot = 0; at = c.in-Ok-push.at } in
+    let n : Node = record { pair = c.args.pair; by = c.args.by; antecedents = c.in_ok-antecedents.antecedents; dependents = c.take.result; place = c.len-place.result; mark = false; next = 0; lost = 0; slot = 0; at = c.guessed.result } in
     let place : c.len-place.result ≡ length keys = c.len-place.ensures ∙ c.self.inside.log.ok.0 in
     let same : c.insert_reserved.result ≡ key = c.insert_reserved.ensures.key ∙ c.link.ensures.room.vacant_key ∙ c.make_room.ensures.vacant_key ∙ sym c.vacant_key.ensures.value ∙ sym c.in-Ok.ensures.1 in
     let linked : HasLinked (graph_of s) (graph_of t) n.antecedents.items key =

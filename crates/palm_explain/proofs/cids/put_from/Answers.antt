@@ -4,7 +4,7 @@ use Rattle.palm_base.specs.Order.{Rises, StandsAt}
 use Rattle.palm_base.proofs.cited.RisingLists.{belongs_there, rises_itself}
 use Rattle.palm_explain.specs.Merging.{IsMerged}
 use Rattle.palm_explain.proofs.Rising.{merged_put}
-use Rattle.palm_explain.proofs.cids.put_near.Goals as goal
+use Rattle.palm_explain.proofs.cids.put_from.Goals as goal
 
 pub returns : goal.returns
 returns c =
