@@ -48,7 +48,7 @@ module _ (vars : List ℕ) (rows : List (List ℤ)) (distinct : Distinct vars) (
       let inside = slice_get_within vars c x at in
       ap (λ r. get_or r c (pos 0)) is ∙ get_or-map a vars c x (pos 0) inside ∙ ap a (get_or_from_slice_get vars c x x at)
 
-  column_at : (c k : ℕ) → k < length rows → slice_get (column_values rows c) k ≡ Some (get_or (row_at rows k) c (pos 0))
+  pub column_at : (c k : ℕ) → k < length rows → slice_get (column_values rows c) k ≡ Some (get_or (row_at rows k) c (pos 0))
   column_at c k lt =
       let entry : List ℤ → ℤ = λ r. get_or r c (pos 0) in
       slice_get-get_or (map entry rows) k (pos 0) (omega (arith, length-map rows entry)) ∙ ap Some (get_or-map entry rows k [] (pos 0) lt)
@@ -183,7 +183,7 @@ missing_entry d ps y w h =
           (member_same ps r.0 here e r.2, subst (λ (p : Pair). Has d p.var p.value → ⊥) e r.3)
     ]
 
-blocked_entry : (initial present : Domains) (vars : List ℕ) (x : ℕ) (v : ℤ) (y : ℕ) (w : ℤ) (row : List ℤ) → is_blocked_at initial present vars x v y w row ≡ true → is_among (row_pairs vars row) y w ≡ true
+pub blocked_entry : (initial present : Domains) (vars : List ℕ) (x : ℕ) (v : ℤ) (y : ℕ) (w : ℤ) (row : List ℤ) → is_blocked_at initial present vars x v y w row ≡ true → is_among (row_pairs vars row) y w ≡ true
 blocked_entry initial present vars x v y w row h =
     member_among (row_pairs vars row) y w (missing_entry present (row_pairs vars row) y w (blocked_parts initial present vars x v y w row h).first).0
 

@@ -79,7 +79,7 @@ there_each d (y ∷ ys) (w ∷ row) long each =
     ap (λ b. b && are_there d (row_pairs ys row)) (member_listed (values_of d y) w (each 0 (omega arith)))
     ∙ there_each d ys row (omega (arith, long)) (λ c lt. each (suc c) (omega arith))
 
-there_column : (d : Domains) (vars : List ℕ) (row : List ℤ) → length row ≡ length vars → are_there d (row_pairs vars row) ≡ true → (c : ℕ) → c < length vars → HasEntry d vars row c
+pub there_column : (d : Domains) (vars : List ℕ) (row : List ℤ) → length row ≡ length vars → are_there d (row_pairs vars row) ≡ true → (c : ℕ) → c < length vars → HasEntry d vars row c
 there_column d [] row long h c lt = absurd (omega arith)
 there_column d (y ∷ ys) [] long h c lt = absurd (omega (arith, long))
 there_column d (y ∷ ys) (w ∷ row) long h zero lt = listed_member (values_of d y) w (and_parts (is_listed (values_of d y) w) (are_there d (row_pairs ys row)) h).0
@@ -99,6 +99,21 @@ module _ (d : Domains) (vars : List ℕ) (row : List ℤ) (long : length row ≡
     | inl t ↦ absurd (n (there_column d vars row long t (1 - own) (omega arith)))
     | inr f ↦ f
   ]
+
+-- the first entry that is not there is the other one, where that is not
+pub two_missing : (d : Domains) (vars : List ℕ) (row : List ℤ) → length row ≡ length vars → length vars ≡ 2 → (own : ℕ) → own < length vars → HasEntry d vars row own → (HasEntry d vars row (1 - own) → ⊥)
+    → first_missing d (row_pairs vars row) ≡ entry_at vars row (1 - own) ∷ []
+two_missing d vars row long two own lt has n = elim (nat_known own 0) [
+  | inl first ↦
+      let other : 1 - own ≡ 1 = omega (arith, first) in
+      subst (λ c. first_missing d (row_pairs vars row) ≡ entry_at vars row c ∷ []) (sym other)
+      (missing_here vars row long d 1 (omega (arith, two)) (missing_later vars row long d 0 (omega (arith, two)) refl (subst (HasEntry d vars row) first has))
+      (subst (λ c. HasEntry d vars row c → ⊥) other n))
+  | inr last ↦
+      let other : 1 - own ≡ 0 = omega (arith, last) in
+      subst (λ c. first_missing d (row_pairs vars row) ≡ entry_at vars row c ∷ []) (sym other)
+      (missing_here vars row long d 0 (omega (arith, two)) refl (subst (λ c. HasEntry d vars row c → ⊥) other n))
+]
 
 -- ---- the first entry that is not there
 

@@ -1,4 +1,6 @@
+pub mod Bits
 pub mod Entries
 pub mod Columned
+pub mod Besides
 pub mod Blocking
 pub mod Supporting

@@ -1,5 +1,5 @@
 -- A table, its columns, and the rows that give a value.
-use Rattle.std.specs.Prelude.{◌≡◌, ℕ, ℤ, pos, ◌<◌, List, [], length, map, All, Bool, not, ◌&&◌, slice_index_or}
+use Rattle.std.specs.Prelude.{◌≡◌, ℕ, ◌-◌, ℤ, pos, ◌<◌, List, [], length, map, All, Bool, not, ◌&&◌, Some, slice_get, slice_index_or}
 use Rattle.std.specs.List.{list_any}
 use Rattle.palm_base.specs.declared.terms.Pair.{Pair}
 use Rattle.palm_model.specs.Constraint.{Distinct}
@@ -8,6 +8,8 @@ use Rattle.palm_model.specs.Table.{are_there, is_blocked_at, row_pairs}
 use Rattle.palm_model.specs.Removed.{is_listed}
 use Rattle.palm_model.specs.declared.constraint.Con.{Con}
 use Rattle.palm_model.specs.declared.constraint.Con.TheVariants.{Table}
+use Rattle.filter_table.specs.Beside.{AreBeside}
+use Rattle.filter_table.specs.declared.beside.Beside.{Beside}
 use Rattle.filter_table.specs.declared.indexed.IndexedTable.{IndexedTable}
 
 abbrev pub table_of : IndexedTable → Con
@@ -34,11 +36,16 @@ pub record AreColumns (rows : List (List ℤ)) (count : ℕ) (columns : List (Li
   pub many : length columns ≡ count
   pub each : (c : ℕ) (d : List ℤ) → c < count → slice_index_or columns c d ≡ column_values rows c
 
+-- the bits of the first columns of two, as many as there are
+pub record AreBesides (columns : List (List ℤ)) (besides : List Beside) : Type 0 where
+  pub each : (c : ℕ) (b : Beside) → slice_get besides c ≡ Some b → AreBeside (slice_index_or columns c []) (slice_index_or columns (1 - c) []) (length (slice_index_or columns c [])) b
+
 -- the rows are as long as the variables, which differ, and each column has its index
 pub record IsIndexed (t : IndexedTable) : Type 0 where
   pub distinct : Distinct t.vars
   pub long : All (λ row. length row ≡ length t.vars) t.rows
   pub columns : AreColumns t.rows (length t.vars) t.columns.items
+  pub besides : AreBesides t.columns.items t.besides.items
 
 -- whether the row has v in the column of x, and every entry of it is present
 abbrev pub is_support_row : Domains → List ℕ → ℕ → ℤ → List ℤ → Bool

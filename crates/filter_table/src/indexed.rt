@@ -1,7 +1,7 @@
 //! A table with an index of each of its columns.
-ghost use Rattle.std.specs.Prelude.{◌≡◌, ◌++◌, ℕ, ◌<◌, length, true, All, Contains, IfOk, OnOk, MatchOption, Some, slice_get};
+ghost use Rattle.std.specs.Prelude.{◌≡◌, ◌++◌, ℕ, ◌<◌, length, true, All, Contains, IfOk, IfSome, OnOk, MatchOption, Some, slice_get};
 ghost use Rattle.std.specs.List.{list_any};
-ghost use Rattle.filter_table.specs.Table.{AreColumns, IsIndexed, column_values, is_support_row, is_blocker, row_at, table_of};
+ghost use Rattle.filter_table.specs.Table.{AreBesides, AreColumns, IsIndexed, column_values, is_support_row, is_blocker, row_at, table_of};
 ghost use Rattle.palm_domain.specs.Rows.{initial_of, present_of};
 ghost use Rattle.palm_model.specs.Constraint.{Distinct};
 ghost use Rattle.palm_model.specs.declared.constraint.Con.{Con};
@@ -9,18 +9,21 @@ ghost use Rattle.palm_model.specs.Domains.{Has, is_among};
 ghost use Rattle.palm_model.specs.Table.{blocking_values, is_blocked_at, row_pairs, table_reason};
 ghost use Rattle.palm_model.specs.Removed.{pairs_of};
 
+use crate::beside::{Beside, near};
 use palm_base::{NoMemory, Pair, Value, ValueList, Var, VarList};
 use palm_domain::DomainStore;
 use palm_filter::{Reasons, ValueIndex, is_missing, push_passing};
 use palm_model::RowList;
 use std::alloc::Global;
 
-/// A table with an index of each of its columns, in which the rows with a value are found.
+/// A table with an index of each of its columns, in which the rows with a value are found. One of two columns whose
+/// values lie close together keeps what stands beside each value too.
 #[derive(Debug, Drop)]
 pub(crate) struct IndexedTable {
     pub(crate) vars: VarList,
     rows: RowList,
     pub(crate) columns: Vec<ValueIndex>,
+    besides: Vec<Beside>,
 }
 
 /// The index of a column.
@@ -51,6 +54,23 @@ fn column_indexes(
     Ok(columns)
 }
 
+/// What stands beside the values of the first columns of two, as far as they lie close together.
+fn besides_of(alloc: Global, columns: &[ValueIndex]) -> Result<Vec<Beside>, NoMemory>
+    ensures { IfOk result (λ besides. AreBesides columns.now besides.items) }
+{
+    let mut besides = Vec::new(alloc);
+    if columns.len() != 2 {
+        return Ok(besides);
+    }
+    for own in 0..2 {
+        let Some(beside) = Beside::of(columns[own].values(), columns[1 - own].values()) else {
+            return Ok(besides);
+        };
+        besides.push(beside)?;
+    }
+    Ok(besides)
+}
+
 /// The place of the variable among the variables.
 fn column_of(vars: &[Var], var: &Var) -> Option<usize>
     ensures { MatchOption result (Contains vars.now var.now → ⊥) (λ c. slice_get vars.now c ≡ Some var.now) }
@@ -77,10 +97,12 @@ impl IndexedTable {
         ensures indexed { IfOk result (λ table. IsIndexed table) }
     {
         let columns = column_indexes(alloc, rows.as_slice(), vars.len())?;
+        let besides = besides_of(alloc, &columns)?;
         Ok(IndexedTable {
             vars,
             rows,
             columns,
+            besides,
         })
     }
 
@@ -96,35 +118,55 @@ impl IndexedTable {
     }
 
     /// Whether some row has the value of the pair in its column, and only present entries.
-    pub(crate) fn is_given(&self, store: &DomainStore, pair: &Pair) -> bool
+    pub(crate) fn is_given(&self, store: &DomainStore, pair: Pair) -> bool
         requires indexed { IsIndexed self.now }
         requires declared { All (λ x. x < length store.now) self.now.vars }
-        requires over { Contains self.now.vars pair.now.var }
-        requires present { Has (present_of store.now) pair.now.var pair.now.value }
-        ensures { result ≡ list_any (is_support_row (present_of store.now) self.now.vars pair.now.var pair.now.value) self.now.rows }
+        requires over { Contains self.now.vars pair.var }
+        requires present { Has (present_of store.now) pair.var pair.value }
+        ensures { result ≡ list_any (is_support_row (present_of store.now) self.now.vars pair.var pair.value) self.now.rows }
     {
-        if self.vars.len() == 2 {
-            let own = column_of_two(self.vars.as_slice(), &pair.var);
-            return self.is_given_by_two(store, own, pair);
+        if self.vars.len() != 2 {
+            return self.is_given_by_many(store, pair);
         }
-        match column_of(self.vars.as_slice(), &pair.var) {
-            Some(own) => self.is_given_by_many(store, own, pair),
-            None => unreachable!(),
+        let own = column_of_two(self.vars.as_slice(), &pair.var);
+        if let Some(given) = self.is_beside(store, own, &pair) {
+            return given;
         }
+        self.is_given_by_two(store, own, pair)
     }
 
-    /// The same of a table of two columns: whether some row has the value, and a present entry beside it.
-    fn is_given_by_two(&self, store: &DomainStore, own: usize, pair: &Pair) -> bool
+    /// The same of a table of two columns, by bits: whether a number that stands beside the value is present. There is
+    /// no answer where the values of a column, or those of the other variable, do not lie close together.
+    #[inline(always)]
+    fn is_beside(&self, store: &DomainStore, own: usize, pair: &Pair) -> Option<bool>
         requires indexed { IsIndexed self.now }
         requires declared { All (λ x. x < length store.now) self.now.vars }
         requires present { Has (present_of store.now) pair.now.var pair.now.value }
         requires own { slice_get self.now.vars own ≡ Some pair.now.var }
         requires two { length self.now.vars ≡ 2 }
-        ensures { result ≡ list_any (is_support_row (present_of store.now) self.now.vars pair.now.var pair.now.value) self.now.rows }
+        ensures { IfSome result (λ given. given ≡ list_any (is_support_row (present_of store.now) self.now.vars pair.now.var pair.now.value) self.now.rows) }
+    {
+        let beside = self.besides.get(own)?;
+        let window = store.window(self.vars.as_slice()[1 - own], beside.other_least)?;
+        match near(beside.own_least, pair.value) {
+            Some(word) => Some(beside.words[word] & window != 0),
+            None => Some(false),
+        }
+    }
+
+    /// The same of a table of two columns, by its rows: whether some row has the value, and a present entry beside it.
+    #[inline(never)]
+    fn is_given_by_two(&self, store: &DomainStore, own: usize, pair: Pair) -> bool
+        requires indexed { IsIndexed self.now }
+        requires declared { All (λ x. x < length store.now) self.now.vars }
+        requires present { Has (present_of store.now) pair.var pair.value }
+        requires own { slice_get self.now.vars own ≡ Some pair.var }
+        requires two { length self.now.vars ≡ 2 }
+        ensures { result ≡ list_any (is_support_row (present_of store.now) self.now.vars pair.var pair.value) self.now.rows }
     {
         let var = self.vars.as_slice()[1 - own];
         let entries = self.columns[1 - own].values();
-        for place in self.places(own, pair) {
+        for place in self.places(own, &pair) {
             if store.contains(Pair {
                 var,
                 value: entries[*place],
@@ -136,14 +178,18 @@ impl IndexedTable {
     }
 
     /// The same of a table of any number of columns.
-    fn is_given_by_many(&self, store: &DomainStore, own: usize, pair: &Pair) -> bool
+    #[inline(never)]
+    fn is_given_by_many(&self, store: &DomainStore, pair: Pair) -> bool
         requires indexed { IsIndexed self.now }
         requires declared { All (λ x. x < length store.now) self.now.vars }
-        requires present { Has (present_of store.now) pair.now.var pair.now.value }
-        requires own { slice_get self.now.vars own ≡ Some pair.now.var }
-        ensures { result ≡ list_any (is_support_row (present_of store.now) self.now.vars pair.now.var pair.now.value) self.now.rows }
+        requires over { Contains self.now.vars pair.var }
+        requires present { Has (present_of store.now) pair.var pair.value }
+        ensures { result ≡ list_any (is_support_row (present_of store.now) self.now.vars pair.var pair.value) self.now.rows }
     {
-        for place in self.places(own, pair) {
+        let Some(own) = column_of(self.vars.as_slice(), &pair.var) else {
+            unreachable!();
+        };
+        for place in self.places(own, &pair) {
             if self.are_present(store, own, *place) {
                 return true;
             }
@@ -152,8 +198,58 @@ impl IndexedTable {
     }
 
     /// Whether the entry of `at`, in the column `end`, is the first removed one of some row that could have given the
-    /// value of `pair`. It looks at the rows that have the entry.
+    /// value of `pair`. It looks at the rows that have the entry, unless bits tell it.
     fn is_blocking(
+        &self,
+        store: &DomainStore,
+        own: usize,
+        pair: &Pair,
+        end: usize,
+        at: &Pair,
+    ) -> bool
+        requires indexed { IsIndexed self.now }
+        requires declared { All (λ x. x < length store.now) self.now.vars }
+        requires own { slice_get self.now.vars own ≡ Some pair.now.var }
+        requires given { Has (initial_of store.now) pair.now.var pair.now.value }
+        requires present { Has (present_of store.now) pair.now.var pair.now.value }
+        requires end { slice_get self.now.vars end ≡ Some at.now.var }
+        requires missing { Has (present_of store.now) at.now.var at.now.value → ⊥ }
+        ensures { result ≡ list_any (is_blocked_at (initial_of store.now) (present_of store.now) self.now.vars pair.now.var pair.now.value at.now.var at.now.value) self.now.rows }
+    {
+        if let Some(blocking) = self.is_blocking_beside(store, own, pair, end, at) {
+            return blocking;
+        }
+        self.is_blocking_by_rows(store, own, pair, end, at)
+    }
+
+    /// The same of a table of two columns, by bits: whether some row has both values, and the one of `at` was declared.
+    /// There is no answer where the values of a column do not lie close together.
+    fn is_blocking_beside(
+        &self,
+        store: &DomainStore,
+        own: usize,
+        pair: &Pair,
+        end: usize,
+        at: &Pair,
+    ) -> Option<bool>
+        requires indexed { IsIndexed self.now }
+        requires declared { All (λ x. x < length store.now) self.now.vars }
+        requires own { slice_get self.now.vars own ≡ Some pair.now.var }
+        requires given { Has (initial_of store.now) pair.now.var pair.now.value }
+        requires present { Has (present_of store.now) pair.now.var pair.now.value }
+        requires end { slice_get self.now.vars end ≡ Some at.now.var }
+        requires missing { Has (present_of store.now) at.now.var at.now.value → ⊥ }
+        ensures { IfSome result (λ blocking. blocking ≡ list_any (is_blocked_at (initial_of store.now) (present_of store.now) self.now.vars pair.now.var pair.now.value at.now.var at.now.value) self.now.rows) }
+    {
+        if self.vars.len() != 2 || end == own {
+            return None;
+        }
+        let beside = self.besides.get(own)?;
+        Some(beside.has(pair.value, at.value) && store.declared(*at))
+    }
+
+    /// The same by the rows that have the entry.
+    fn is_blocking_by_rows(
         &self,
         store: &DomainStore,
         own: usize,

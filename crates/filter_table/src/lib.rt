@@ -1,6 +1,7 @@
 //! The filter of a table: the values of the variables are one of the rows.
 #![tactic(auto)]
 
+mod beside;
 mod indexed;
 mod row;
 mod table;

@@ -54,7 +54,7 @@ impl Filter for TableFilter {
     }
 
     fn supported(&self, store: &DomainStore, pair: Pair) -> bool {
-        self.table.is_given(store, &pair)
+        self.table.is_given(store, pair)
     }
 
     fn reason(&self, store: &DomainStore, pair: Pair, out: &mut Reasons) -> Result<(), NoMemory> {

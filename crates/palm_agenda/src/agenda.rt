@@ -24,7 +24,7 @@ use crate::open::Open;
 use crate::order::Order;
 use crate::over::{cids_over, insert_over, make_room, remove_over};
 use crate::taken::Taken;
-use palm_base::{Cid, HasCid, NoMemory, Value, Var, place_from, place_of};
+use palm_base::{Cid, HasCid, NoMemory, Value, Var, place_from, place_of, stands_at};
 use palm_filter::Heed;
 use std::alloc::Global;
 use std::marker::Model;
@@ -65,12 +65,64 @@ impl Model for Agenda {
         × IsWoken a.woken a.connections.items (flagged (connected_cids a.connections.items) a.pending.flags) };
 }
 
-/// Makes the constraint pending, and marks these places of it, as seen from the variable. It is counted from the one at
-/// `near`, which is it from then on. Answers how losses of the variable are heeded.
+/// A connected constraint from which others are counted: its id, and where it stands.
+#[derive(Clone, Copy, Debug)]
+struct Known {
+    cid: Cid,
+    place: usize,
+}
+
+/// The last of the connected constraints.
+fn last_known(connections: &[Connection]) -> Known {
+    match connections.last() {
+        Some(last) => Known {
+            cid: last.cid(),
+            place: connections.len() - 1,
+        },
+        None => Known {
+            cid: Cid::Decide(Var(0)),
+            place: 0,
+        },
+    }
+}
+
+/// How many places before the one id the other one stands, where both are users' and each number between the two is
+/// taken. It wraps around.
+#[inline(always)]
+fn places_between(known: Cid, cid: &Cid) -> usize {
+    match (known, cid) {
+        (Cid::User(known), Cid::User(number)) => (known as usize).wrapping_sub(*number as usize),
+        _ => 0,
+    }
+}
+
+/// Where the constraint stands, counted from the known one.
+#[inline(always)]
+fn guessed_place(known: &Known, cid: &Cid) -> usize {
+    known.place.wrapping_sub(places_between(known.cid, cid))
+}
+
+/// How many of the connected constraints have ids that come before this one, which is looked for first where it is
+/// guessed.
+#[inline(always)]
+fn place_near(connections: &[Connection], known: &Known, cid: &Cid) -> usize
+    requires { Rises (connected_cids connections.now) }
+    ensures { IsPartedAt (λ d. cid_before d.cid cid.now) connections.now result }
+{
+    let guess = guessed_place(known, cid);
+    if stands_at(connections, guess, cid) {
+        guess
+    } else {
+        place_from(connections, known.place, cid)
+    }
+}
+
+/// Makes the constraint pending, and marks these places of it, as seen from the variable. It is counted from the known
+/// one, and is known from then on. Answers how losses of the variable are heeded.
 fn wake_named(
     connections: &mut Vec<Connection>,
     pending: &mut Flags,
-    near: &mut usize,
+    known: &mut Known,
     cid: &Cid,
     places: &Places,
     var: &Var,
@@ -84,11 +136,11 @@ fn wake_named(
     ensures flags { length pending.new.flags ≡ length pending.old.flags }
     ensures heed { (d : Connected) → Contains connections.old.items d → d.cid ≡ cid.now → result ≡ heed_of var.now d.scope d.heeds }
 {
-    let place = place_from(connections, *near, cid);
+    let place = place_near(connections, known, cid);
     let connection = &mut connections[place];
     let heed = connection.mark(places, var);
     pending.raise(place);
-    *near = place;
+    *known = Known { cid: *cid, place };
     heed
 }
 
@@ -120,10 +172,10 @@ fn wake_each(
     ensures flags { length pending.new.flags ≡ length pending.old.flags }
     ensures covers { (d : Connected) → Contains connections.old.items d → Contains cids.now d.cid → Covers result places.now (heed_of var.now d.scope d.heeds) }
 {
-    let mut near = connections.len().wrapping_sub(1);
+    let mut known = last_known(connections);
     let mut still = Open::none();
     for cid in cids {
-        let heed = wake_named(connections, pending, &mut near, cid, places, var);
+        let heed = wake_named(connections, pending, &mut known, cid, places, var);
         still.note_marked(heed, places);
     }
     still

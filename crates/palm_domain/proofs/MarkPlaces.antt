@@ -1,10 +1,11 @@
 -- Marks of places: what a write to one word leaves, and what a word's bits say of its places.
-use Rattle.std.proofs.Common.{◌≡◌, ◌≢◌, ℕ, ◌+◌, ◌-◌, ◌*◌, ◌/◌, ◌%◌, ◌^◌, ◌<◌, ◌≤◌, true, false, not, List, [], ◌∷◌, length, ◌↔◌, nat_lt, min, zero, suc, lt-ltb, le-ltb, get_or, set, nat_eq, refl, sym, ap, ◌∙◌, arith, w64, bit_and, bit_or, get_or-set_same, get_or-set_other, ⊎_elim}
+use Rattle.std.proofs.Common.{◌≡◌, ◌≢◌, ℕ, ◌+◌, ◌-◌, ◌*◌, ◌/◌, ◌%◌, ◌^◌, ◌<◌, ◌≤◌, true, false, not, List, [], ◌∷◌, length, ◌↔◌, nat_lt, min, zero, suc, lt-ltb, le-ltb, get_or, set, nat_eq, refl, sym, ap, ◌∙◌, arith, w64, bit_and, bit_or, get_or-set_same, get_or-set_other, ◌⊎◌, inl, inr, ⊎_elim, max, pow_pos}
 use Rattle.std.specs.Int.{bit_at, bit_not}
 use Rattle.std.proofs.lemmas.Bool.{cases_eq, cases_lt}
 use Rattle.std.proofs.lemmas.List.{get_or_past}
-use Rattle.std.proofs.lemmas.Nat.Bits.{bit_at_set_same, bit_at_set_other, bit_at_clear_same, bit_at_clear_other, shr_and_one, bit_at_not, bit_at-lt, bit_at_ones, bit_at_ones_above, bit_at-zero}
+use Rattle.std.proofs.lemmas.Nat.Bits.{bit_at_set_same, bit_at_set_other, bit_at_clear_same, bit_at_clear_other, shr_and_one, bit_at_not, bit_at-lt, bit_at_ones, bit_at_ones_above, bit_at-zero, bit_at_or, bit_at_above, bit_at_cat_low, bit_at_cat_high}
 use Rattle.palm_domain.specs.Marks.{is_marked}
+use Rattle.palm_domain.proofs.WordOnes.{bit_at-shr, bit_at-mod}
 
 -- the words after a write that sets the place's bit
 abbrev pub words_with : List ℕ → ℕ → List ℕ
@@ -102,3 +103,55 @@ is_marked_zeros words w low high small zeros k from below =
 -- what holds of the places up to a, and of those from a up to b, holds up to b
 pub no_mark_before : (words : List ℕ) (from a b : ℕ) → ((k : ℕ) → from ≤ k → k < a → is_marked words k ≡ false) → ((k : ℕ) → a ≤ k → k < b → is_marked words k ≡ false) → (k : ℕ) → from ≤ k → k < b → is_marked words k ≡ false
 no_mark_before words from a b early late k low high = ⊎_elim (λ l. early k low l) (λ ge. late k ge high) (cases_lt k a)
+
+-- ---- 64 places in a row, as a word
+
+-- the bits of a word shifted down are the marks of its places from there on
+window_within : (words : List ℕ) (from k : ℕ) → from % 64 + k < 64 → nat_eq (bit_at (get_or words (from / 64) 0 / 2 ^ (from % 64)) k) 1 ≡ is_marked words (from + k)
+unfolding is_marked
+window_within words from k l =
+    let word : from / 64 ≡ (from + k) / 64 = omega arith in
+    let bit : from % 64 + k ≡ (from + k) % 64 = omega arith in
+    ap (λ b. nat_eq b 1) (bit_at-shr (get_or words (from / 64) 0) (from % 64) k ∙ ap (λ w. bit_at (get_or words w 0) (from % 64 + k)) word ∙ ap (bit_at (get_or words ((from + k) / 64) 0)) bit)
+
+-- behind the word there are none
+shifted_out : (word s k : ℕ) → word < 2 ^ 64 → 64 ≤ s + k → bit_at (word / 2 ^ s) k ≡ 0
+shifted_out word s k fits ge = bit_at-shr word s k ∙ bit_at_above word 64 (s + k) fits ge
+
+-- the bits of a word shifted up
+shifted_low : (word p k : ℕ) → k < 64 → k < p → bit_at (word * 2 ^ p % 2 ^ 64) k ≡ 0
+shifted_low word p k small l =
+    let e : word * 2 ^ p ≡ word * 2 ^ p + 0 = omega arith in
+    bit_at-mod (word * 2 ^ p) 64 k small ∙ ap (λ n. bit_at n k) e ∙ bit_at_cat_low word p 0 k l ∙ bit_at-zero k
+
+shifted_high : (word p k : ℕ) → k < 64 → p ≤ k → bit_at (word * 2 ^ p % 2 ^ 64) k ≡ bit_at word (k - p)
+shifted_high word p k small ge =
+    let e : word * 2 ^ p ≡ word * 2 ^ p + 0 = omega arith in
+    bit_at-mod (word * 2 ^ p) 64 k small ∙ ap (λ n. bit_at n k) e ∙ bit_at_cat_high word p 0 k (pow_pos p) ge
+
+pub window_of_one : (words : List ℕ) (from k : ℕ) → get_or words (from / 64) 0 < 2 ^ 64 → k < 64 → (from % 64 ≡ 0) ⊎ (length words ≤ from / 64 + 1) → nat_eq (bit_at (get_or words (from / 64) 0 / 2 ^ (from % 64)) k) 1 ≡ is_marked words (from + k)
+window_of_one words from k fits small last =
+    ⊎_elim (window_within words from k) (λ ge.
+    let none : length words ≤ (from + k) / 64 = elim last [ inl first ↦ absurd (omega arith) | inr l ↦ omega arith ] in
+    ap (λ b. nat_eq b 1) (shifted_out (get_or words (from / 64) 0) (from % 64) k fits ge)
+    ∙ sym (is_marked_zero words (from + k) (ap (λ w. bit_at w ((from + k) % 64)) (get_or_past words ((from + k) / 64) 0 none) ∙ bit_at-zero ((from + k) % 64)))) (cases_lt (from % 64 + k) 64)
+
+pub window_of_two : (words : List ℕ) (from k : ℕ) → get_or words (from / 64) 0 < 2 ^ 64 → k < 64 → nat_eq (bit_at (bit_or (get_or words (from / 64) 0 / 2 ^ (from % 64)) (get_or words (from / 64 + 1) 0 * 2 ^ (64 - from % 64) % 2 ^ 64)) k) 1 ≡ is_marked words (from + k)
+unfolding is_marked
+window_of_two words from k fits small =
+    let low = get_or words (from / 64) 0 / 2 ^ (from % 64) in
+    let p = 64 - from % 64 in
+    let high = get_or words (from / 64 + 1) 0 in
+    ap (λ b. nat_eq b 1) (bit_at_or low (high * 2 ^ p % 2 ^ 64) k) ∙
+    ⊎_elim (λ l.
+    let none = shifted_low high p k small (omega arith) in
+    let one : max (bit_at low k) 0 ≡ bit_at low k = omega arith in
+    ap (λ b. nat_eq (max (bit_at low k) b) 1) none ∙ ap (λ b. nat_eq b 1) one ∙ window_within words from k l)
+    (λ ge.
+    let none = shifted_out (get_or words (from / 64) 0) (from % 64) k fits ge in
+    let word : from / 64 + 1 ≡ (from + k) / 64 = omega arith in
+    let bit : k - p ≡ (from + k) % 64 = omega arith in
+    let one : max 0 (bit_at high (k - p)) ≡ bit_at high (k - p) = omega arith in
+    ap (λ b. nat_eq (max b (bit_at (high * 2 ^ p % 2 ^ 64) k)) 1) none
+    ∙ ap (λ b. nat_eq (max 0 b) 1) (shifted_high high p k small (omega arith))
+    ∙ ap (λ b. nat_eq b 1) (one ∙ ap (λ w. bit_at (get_or words w 0) (k - p)) word ∙ ap (bit_at (get_or words ((from + k) / 64) 0)) bit)) (cases_lt (from % 64 + k) 64)

@@ -1,11 +1,13 @@
 -- What is kept beside the marks of a row, and what it says of the row.
-use Rattle.std.proofs.Common.{◌≡◌, ℕ, ℤ, ◌+◌, ◌-◌, ◌<◌, ◌≤◌, ◌<ℤ◌, ◌≤ℤ◌, Bool, true, false, not, ltb, min, max, pos, List, length, get_or, slice_get, Option, None, Some, IfNone, IfSome, unwrap_or, Contains, sym, ap, subst, ◌∙◌, arith, inl, inr, ⊎_elim, lt-ltb, le-ltb}
+use Rattle.std.proofs.Common.{◌≡◌, ℕ, ℤ, ◌+◌, ◌-◌, ◌<◌, ◌≤◌, ◌+ℤ◌, ◌<ℤ◌, ◌≤ℤ◌, Bool, true, false, not, nat_eq, ltb, min, max, pos, List, length, get_or, slice_get, Option, None, Some, IfNone, IfSome, unwrap_or, Contains, sym, ap, subst, ◌∙◌, arith, inl, inr, ⊎_elim, lt-ltb, le-ltb}
+use Rattle.std.specs.Int.{bit_at}
 use Rattle.std.proofs.lemmas.Int.{ints}
 use Rattle.std.proofs.lemmas.Bool.{cases_lt, cases_eq, both_ways, not-true, not-false, false_from_ne_true}
 use Rattle.std.proofs.lemmas.List.{get_or_default}
 use Rattle.std.proofs.lemmas.Option.{slice_get_within, get_or_from_slice_get, slice_get-get_or}
 use Rattle.palm_base.proofs.cited.Members.{member_same}
-use Rattle.palm_domain.specs.Rows.{Row, Ascends, IsFormed, IsLeastOf, IsGreatestOf, IsLastBefore, IsNextFrom, IsNextRemovedFrom}
+use Rattle.palm_base.proofs.cited.Telling.{tells_both}
+use Rattle.palm_domain.specs.Rows.{Row, Ascends, IsFormed, IsLeastOf, IsGreatestOf, IsLastBefore, IsNextFrom, IsNextRemovedFrom, HasRun, IsWindow}
 use Rattle.palm_domain.specs.Places.{IsPlaceFrom}
 use Rattle.palm_domain.specs.Marks.{AreMarks, kept}
 use Rattle.palm_domain.proofs.cited.Ascending.{get_or-ascends, get_or-rises, same_place, place_below}
@@ -197,6 +199,25 @@ module _ (m : ℕ → Bool) (xs : List ℤ) (count first end : ℕ) (marks : Are
   next_removed_none n flips low place found from past between w h high =
       let late : place ≤ h.0 = ⊎_elim (λ lt. absurd (omega (arith, ints, from.below h.0 w lt, h.2))) (λ ge. ge) (cases_lt h.0 place) in
       member_same (kept m 0 xs) (get_or xs h.0 w) w h.2 (member_kept m xs h.0 w h.1 (not-false (m h.0) (sym (flips h.0 (omega (arith, marks.small))) ∙ between h.0 late (omega arith))))
+
+  -- ---- a bit for each number of a run
+
+  -- a present number of the run is not behind the row's end
+  run_within : (first : ℤ) (place k : ℕ) → HasRun xs first place → Contains (kept m 0 xs) (first +ℤ pos k) → place + k < length xs
+  run_within first place k run h =
+      let r = kept_member m xs (first +ℤ pos k) h in
+      ⊎_elim (λ l. l) (λ ge.
+      let n : ℕ = length xs - 1 - place in
+      let l : place + n < length xs = omega (arith, run.within) in
+      let top = get_or_from_slice_get xs (place + n) (first +ℤ pos n) (first +ℤ pos n) (run.each n l) in
+      absurd (omega (arith, ints, run.within, get_or-rises xs marks.ascends r.0 (place + n) (first +ℤ pos k) (first +ℤ pos n) (omega (arith, r.1, run.within)) l, r.2, top))) (cases_lt (place + k) (length xs))
+
+  pub window_is : (first : ℤ) (place word : ℕ) → HasRun xs first place → ((k : ℕ) → k < 64 → nat_eq (bit_at word k) 1 ≡ m (place + k)) → IsWindow (kept m 0 xs) first word
+  window_is first place word run bits k small =
+      let v = first +ℤ pos k in
+      tells_both (Contains (kept m 0 xs) v) (nat_eq (bit_at word k) 1)
+      (λ e. let mark = sym (bits k small) ∙ e in present_at (place + k) v (run.each k (marked_within (place + k) mark)) mark)
+      (λ e h. removed_at (place + k) v (run.each k (run_within first place k run h)) (sym (bits k small) ∙ e) h)
 
   -- ---- a mark changes: v stands at place p
 

@@ -1,8 +1,10 @@
 -- The rows of a store, one for each variable, and what its calls say of them.
-use Rattle.std.specs.Prelude.{◌≡◌, ℕ, ◌^◌, ℤ, ◌<◌, ◌≤◌, ◌<ℤ◌, ◌≤ℤ◌, List, [], ◌∷◌, All, Contains, Some, not, filter, map, length, int_lt, slice_get, if◌then◌else◌}
+use Rattle.std.specs.Prelude.{◌≡◌, ℕ, ◌+◌, ◌^◌, ℤ, pos, ◌+ℤ◌, ◌<◌, ◌≤◌, ◌<ℤ◌, ◌≤ℤ◌, List, [], ◌∷◌, All, Contains, Some, not, filter, map, length, nat_eq, int_lt, slice_get, if◌then◌else◌}
+use Rattle.std.specs.Int.{bit_at}
 use Rattle.std.specs.Ordering.{int_eq}
 pub use Rattle.palm_base.specs.Ascending.{Ascends}
 pub use Rattle.palm_base.specs.Values.{values_of}
+use Rattle.palm_base.specs.Tells.{Tells}
 use Rattle.palm_domain.specs.declared.limits.TheConstants.{MOST_VALUES}
 use Rattle.palm_domain.specs.declared.placed.Placed.{Placed}
 
@@ -48,6 +50,19 @@ values_without v vs = filter (λ w. not (int_eq w v)) vs
 abbrev pub values_with : ℤ → List ℤ → List ℤ
 values_with v [] = v ∷ []
 values_with v (w ∷ ws) = if int_lt v w then v ∷ w ∷ ws else (w ∷ values_with v ws)
+
+-- the values leave out no number between the first and the last of them
+abbrev pub IsGapless : List ℤ → Type 0
+IsGapless vs = (low : ℤ) × ((k : ℕ) → k < length vs → slice_get vs k ≡ Some (low +ℤ pos k))
+
+-- from this place on, the values are one number after another, from the first on
+pub record HasRun (vs : List ℤ) (first : ℤ) (place : ℕ) : Type 0 where
+  pub within : place < length vs
+  pub each : (k : ℕ) → place + k < length vs → slice_get vs (place + k) ≡ Some (first +ℤ pos k)
+
+-- bit k of the word tells whether the values have the number k above the first
+abbrev pub IsWindow : List ℤ → ℤ → ℕ → Type 0
+IsWindow vs first word = (k : ℕ) → k < 64 → Tells (nat_eq (bit_at word k) 1) (Contains vs (first +ℤ pos k))
 
 -- the lowest of the values
 pub record IsLeastOf (vs : List ℤ) (v : ℤ) : Type 0 where

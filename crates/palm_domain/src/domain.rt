@@ -1,18 +1,19 @@
 //! The values of one variable.
-ghost use Rattle.std.specs.Prelude.{◌≡◌, ℤ, pos, ◌+ℤ◌, ◌<◌, ◌≤◌, ◌<ℤ◌, ◌≤ℤ◌, length, Contains, IfOk, IfSome, MatchOption};
+ghost use Rattle.std.specs.Prelude.{◌≡◌, ℤ, pos, ◌+ℤ◌, ◌<◌, ◌≤◌, ◌<ℤ◌, ◌≤ℤ◌, length, Contains, IfNone, IfOk, IfSome, MatchOption};
 ghost use Rattle.palm_base.specs.Tells.{Tells};
-ghost use Rattle.palm_domain.specs.Rows.{Ascends, IsFormed, IsGreatestOf, IsLastBefore, IsLeastOf, IsNextFrom, IsNextRemovedFrom, StandsIn, values_with, values_without};
+ghost use Rattle.palm_domain.specs.Rows.{Ascends, IsFormed, IsGapless, IsGreatestOf, IsLastBefore, IsLeastOf, IsNextFrom, IsNextRemovedFrom, IsWindow, StandsIn, values_with, values_without};
 
 use crate::limits::MOST_VALUES;
 use crate::marks::Marks;
 use crate::placed::Placed;
-use crate::places::{place_after, place_from, place_of};
+use crate::places::{is_gapless, place_after, place_from, place_in_run, place_of};
 use palm_base::{NoMemory, Value};
 use std::alloc::Global;
 use std::marker::Model;
 
 /// The declared values in their order, with a mark at the place of each that is present. How many marks there are,
-/// the first of them and one past the last are kept, so that no reader walks the values.
+/// the first of them and one past the last are kept, so that no reader walks the values, and whether the values leave out
+/// no number between the first and the last of them.
 #[derive(Debug, Drop)]
 pub(crate) struct Domain {
     initial: Vec<Value>,
@@ -20,10 +21,12 @@ pub(crate) struct Domain {
     count: u16,
     first: u16,
     end: u16,
+    gapless: bool,
 }
 
 impl Model for Domain {
-    ghost use Rattle.palm_domain.specs.Rows.{Row};
+    ghost use Rattle.palm_base.specs.Tells.{Tells};
+    ghost use Rattle.palm_domain.specs.Rows.{IsGapless, Row};
     ghost use Rattle.palm_domain.specs.Marks.{AreMarks, is_marked, kept};
 
     ghost Value = { Row };
@@ -33,7 +36,8 @@ impl Model for Domain {
       present = kept (is_marked d.marks.words) 0 d.initial.items;
     } };
 
-    ghost invariant = { λ d. AreMarks (is_marked d.marks.words) d.initial.items d.count d.first d.end };
+    ghost invariant = { λ d. AreMarks (is_marked d.marks.words) d.initial.items d.count d.first d.end
+        × Tells d.gapless (IsGapless d.initial.items) };
 }
 
 impl Domain {
@@ -51,6 +55,7 @@ impl Domain {
             count: count as u16,
             first: 0,
             end: count as u16,
+            gapless: is_gapless(values),
         })
     }
 
@@ -78,6 +83,20 @@ impl Domain {
             Some(place) => self.marks.has(place),
             None => false,
         }
+    }
+
+    /// A bit for each of the 64 numbers from a declared value on: one where the number is present. They are not told
+    /// where the declared values leave out a number between the first and the last of them.
+    #[inline(always)]
+    pub(crate) fn window(&self, first: Value) -> Option<u64>
+        ensures window { IfSome result (IsWindow self.now.present first) }
+        ensures none { IfNone result (IsGapless self.now.initial → Contains self.now.initial first → ⊥) }
+    {
+        if !self.gapless {
+            return None;
+        }
+        let place = place_in_run(&self.initial, first)?;
+        Some(self.marks.window(place))
     }
 
     /// How many values were declared.

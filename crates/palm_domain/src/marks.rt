@@ -1,5 +1,6 @@
 //! A mark for each value that a variable may be declared with.
-ghost use Rattle.std.specs.Prelude.{◌≡◌, ◌≢◌, ℕ, ◌-◌, ◌<◌, ◌≤◌, true, false, not, nat_lt, IfNone, IfSome};
+ghost use Rattle.std.specs.Prelude.{◌≡◌, ◌≢◌, ℕ, ◌+◌, ◌-◌, ◌<◌, ◌≤◌, true, false, not, nat_eq, nat_lt, IfNone, IfSome};
+ghost use Rattle.std.specs.Int.{bit_at};
 ghost use Rattle.palm_domain.specs.Marks.{is_marked};
 
 use crate::bits::{first_one, low_ones, ones_end};
@@ -53,6 +54,22 @@ impl Marks {
             is_marked self.new.words k ≡ is_marked self.old.words k }
     {
         self.words[place / 64] &= !(1 << (place % 64));
+    }
+
+    /// A bit for each of the 64 places from `from` on: one where the place is marked.
+    #[inline(always)]
+    pub(crate) fn window(&self, from: usize) -> u64
+        requires { from < MOST_VALUES }
+        ensures { (k : ℕ) → k < 64 →
+            nat_eq (bit_at result k) 1 ≡ is_marked self.now.words (from + k) }
+    {
+        let low = self.words[from / 64] >> (from % 64);
+        let past = 64 - from % 64;
+        if past == 64 || from / 64 == 3 {
+            low
+        } else {
+            low | self.words[from / 64 + 1] << past
+        }
     }
 
     /// The first marked place from `from` on, where one below `end` is marked. No word behind that of `end` is read.

@@ -2,7 +2,8 @@
 ghost use Rattle.std.specs.Prelude.{◌≡◌, ℕ, ℤ, pos, ◌+ℤ◌, ◌<◌, ◌≤◌, ◌≤ℤ◌, length, slice_index_or, slice_get, IfSome, MatchOption, Contains};
 ghost use Rattle.std.specs.Int.{int_gap};
 ghost use Rattle.palm_domain.specs.Places.{IsPlaceFrom};
-ghost use Rattle.palm_domain.specs.Rows.{Ascends};
+ghost use Rattle.palm_base.specs.Tells.{Tells};
+ghost use Rattle.palm_domain.specs.Rows.{Ascends, HasRun, IsGapless};
 
 use palm_base::Value;
 
@@ -50,6 +51,36 @@ fn gapless_place(values: &[Value], value: Value) -> Option<usize>
     let first = values.first()?;
     let place = value.0.wrapping_sub(first.0).cast_unsigned() as usize;
     if place < values.len() && values[place] == value {
+        Some(place)
+    } else {
+        None
+    }
+}
+
+/// Whether the list leaves out no number between its first and its last value.
+pub(crate) fn is_gapless(values: &[Value]) -> bool
+    requires ascend { Ascends values.now }
+    requires filled { 0 < length values.now }
+    ensures { Tells result (IsGapless values.now) }
+{
+    let last = values.len() - 1;
+    gap(values[0], values[last]) == last
+}
+
+/// The place of the value, if the list has it, which leaves out no number between its first and its last value.
+#[inline(always)]
+pub(crate) fn place_in_run(values: &[Value], value: Value) -> Option<usize>
+    requires ascend { Ascends values.now }
+    requires filled { 0 < length values.now }
+    requires gapless { IsGapless values.now }
+    ensures { MatchOption result (Contains values.now value → ⊥) (HasRun values.now value) }
+{
+    let least = values[0];
+    if value < least {
+        return None;
+    }
+    let place = gap(least, value);
+    if place < values.len() {
         Some(place)
     } else {
         None

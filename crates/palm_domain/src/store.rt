@@ -1,7 +1,7 @@
 //! The domains of all variables.
-ghost use Rattle.std.specs.Prelude.{◌≡◌, ℕ, ℤ, pos, ◌+ℤ◌, ◌+◌, ◌-◌, ◌^◌, ◌<◌, ◌≤◌, ◌<ℤ◌, ◌≤ℤ◌, [], ◌∷◌, ◌++◌, length, All, Contains, IfOk, IfSome, OnOk, OnErr, MatchOption, slice_set};
+ghost use Rattle.std.specs.Prelude.{◌≡◌, ℕ, ℤ, pos, ◌+ℤ◌, ◌+◌, ◌-◌, ◌^◌, ◌<◌, ◌≤◌, ◌<ℤ◌, ◌≤ℤ◌, [], ◌∷◌, ◌++◌, length, All, Contains, IfNone, IfOk, IfSome, OnOk, OnErr, MatchOption, slice_set};
 ghost use Rattle.palm_base.specs.Tells.{Tells};
-ghost use Rattle.palm_domain.specs.Rows.{Ascends, GainsPair, IsDeclared, IsGreatestOf, IsLastBefore, IsLeastOf, IsNextFrom, IsNextRemovedFrom, IsPlaced, IsPresent, LosesPair, declared_values, initial_of, present_of, present_values, values_with, values_without};
+ghost use Rattle.palm_domain.specs.Rows.{Ascends, GainsPair, IsDeclared, IsGapless, IsGreatestOf, IsLastBefore, IsLeastOf, IsNextFrom, IsNextRemovedFrom, IsPlaced, IsPresent, IsWindow, LosesPair, declared_values, initial_of, present_of, present_values, values_with, values_without};
 
 use crate::domain::Domain;
 use crate::limits::MOST_VALUES;
@@ -95,6 +95,17 @@ impl DomainStore {
         ensures { Tells result (IsPresent self.now pair.var pair.value) }
     {
         self.domain(pair.var).contains(pair.value)
+    }
+
+    /// A bit for each of the 64 numbers from a declared value on: one where the number is present. They are not told
+    /// where the declared values leave out a number between the first and the last of them.
+    #[inline(always)]
+    pub fn window(&self, var: Var, first: Value) -> Option<u64>
+        requires { var < length self.now }
+        ensures window { IfSome result (IsWindow (present_values self.now var) first) }
+        ensures none { IfNone result (IsGapless (declared_values self.now var) → IsDeclared self.now var first → ⊥) }
+    {
+        self.domain(var).window(first)
     }
 
     /// How many values the variable was declared with.

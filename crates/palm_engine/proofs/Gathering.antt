@@ -1,7 +1,7 @@
 -- Conflicts and flat conflicts, gathered from one value or one id after another.
-use Rattle.std.proofs.Common.{◌≡◌, ℕ, ◌+◌, ◌<◌, ◌≤◌, List, [], ◌∷◌, ◌++◌, length, get_or, take, Contains, Some, ℤ, ◌⊎◌, inl, inr, sym, ap, ◌∙◌, subst}
-use Rattle.std.proofs.lemmas.List.{take_more, take_all}
-use Rattle.std.proofs.lemmas.List.Elements.{Contains-append_left, Contains-push, Contains-push_cases}
+use Rattle.std.proofs.Common.{◌≡◌, ℕ, ◌+◌, ◌<◌, ◌≤◌, List, [], ◌∷◌, ◌++◌, length, get_or, take, drop, All, Contains, Some, ℤ, ◌⊎◌, inl, inr, sym, ap, ◌∙◌, subst}
+use Rattle.std.proofs.lemmas.List.{take_more, take_all, take-append-drop}
+use Rattle.std.proofs.lemmas.List.Elements.{All-contains, Contains-append_left, Contains-append_right, Contains-append_cases, Contains-push, Contains-push_cases}
 use Rattle.palm_base.specs.declared.terms.Pair.{Pair}
 use Rattle.palm_base.specs.declared.terms.Cid.{Cid}
 use Rattle.palm_base.specs.declared.terms.Cid.TheVariants.{Not}
@@ -68,12 +68,17 @@ kept_conflict f active var x cids kept known is conflict =
 
 -- ---- flat conflicts
 
-pub flat_none : (active : List Active) (from cids : List Cid) → from ≡ [] → cids ≡ [] → IsListOf (InFlat active (Contains from)) cids
-flat_none active from cids e f = nothing_listed (InFlat active (Contains from)) cids f (λ c flat. none active from c e flat)
+pub flat_none : (active : List Active) (from cids : List Cid) → Rises cids → Gathers (InFlat active (Contains (take 0 from))) cids cids
+flat_none active from cids rises = record {
+  rising = rises;
+  sound = λ c m. inl m;
+  first = λ c m. m;
+  second = λ c flat. absurd (none c flat);
+}
   where
-    none : (active : List Active) (from : List Cid) (c : Cid) → from ≡ [] → InFlat active (Contains from) c → ⊥
-    none active from c e (as_it_is k justifier) = member_nil c (subst (λ ns. Contains ns c) e k)
-    none active from c e (in_place p a k m n held) = member_nil (Not p) (subst (λ ns. Contains ns (Not p)) e k)
+    none : (c : Cid) → InFlat active (Contains (take 0 from)) c → ⊥
+    none c (as_it_is k justifier) = member_nil c k
+    none c (in_place p a k m n held) = member_nil (Not p) k
 
 flat_weaker : (active : List Active) (K L : Cid → Type 0) → ((c : Cid) → K c → L c) → (c : Cid) → InFlat active K c → InFlat active L c
 flat_weaker active K L sub c (as_it_is k justifier) = as_it_is (sub c k) justifier
@@ -83,22 +88,63 @@ flat_either : (active : List Active) (K L M : Cid → Type 0) → ((c : Cid) →
 flat_either active K L M split c (as_it_is k justifier) = elim (split c k) [ inl l ↦ inl (as_it_is l justifier) | inr m ↦ inr (as_it_is m justifier) ]
 flat_either active K L M split c (in_place p a k m n held) = elim (split (Not p) k) [ inl l ↦ inl (in_place p a l m n held) | inr o ↦ inr (in_place p a o m n held) ]
 
-pub flat_more : (active : List Active) (from : List Cid) (i : ℕ) (cid : Cid) (cids gathered : List Cid) → i < length from → cid ≡ get_or from i cid
-    → IsListOf (InFlat active (Contains (take i from))) cids → Gathers (InFlat active (λ d. d ≡ cid)) cids gathered → IsListOf (InFlat active (Contains (take (i + 1) from))) gathered
-flat_more active from i cid cids gathered lt at listed gathers = record {
-  rising = gathers.rising;
-  sound = λ c m. elim (gathers.sound c m) [
-    | inl k ↦ flat_weaker active (Contains (take i from)) (Contains (take (i + 1) from)) (more_left from i cid lt at) c (listed.sound c k)
-    | inr k ↦ flat_weaker active (λ d. d ≡ cid) (Contains (take (i + 1) from)) (λ d e. member_same (take (i + 1) from) cid d (sym e) (more_last from i cid lt at)) c k
+-- ids in two parts
+pub flat_both : (active : List Active) (K L M : Cid → Type 0) (cids some all : List Cid) → ((c : Cid) → K c → M c) → ((c : Cid) → L c → M c) → ((c : Cid) → M c → K c ⊎ L c)
+    → Gathers (InFlat active K) cids some → Gathers (InFlat active L) some all → Gathers (InFlat active M) cids all
+flat_both active K L M cids some all left right split one other = record {
+  rising = other.rising;
+  sound = λ c m. elim (other.sound c m) [
+    | inl k ↦ elim (one.sound c k) [ inl n ↦ inl n | inr f ↦ inr (flat_weaker active K M left c f) ]
+    | inr f ↦ inr (flat_weaker active L M right c f)
   ];
-  whole = λ c flat. elim (flat_either active (Contains (take (i + 1) from)) (Contains (take i from)) (λ d. d ≡ cid) (λ d m. elim (more_cases from i cid lt at d m) [ inl k ↦ inl k | inr e ↦ inr (sym e) ]) c flat) [
-    | inl k ↦ gathers.first c (listed.whole c k)
-    | inr k ↦ gathers.second c k
+  first = λ c m. other.first c (one.first c m);
+  second = λ c flat. elim (flat_either active M K L split c flat) [
+    | inl f ↦ other.first c (one.second c f)
+    | inr f ↦ other.second c f
   ];
 }
 
-pub flat_all : (active : List Active) (from : List Cid) (i : ℕ) (cids : List Cid) → length from ≤ i → IsListOf (InFlat active (Contains (take i from))) cids → IsListOf (InFlat active (Contains from)) cids
-flat_all active from i cids le listed = subst (λ ns. IsListOf (InFlat active (Contains ns)) cids) (take_all i from le) listed
+pub flat_more : (active : List Active) (from : List Cid) (i : ℕ) (cid : Cid) (cids some gathered : List Cid) → i < length from → cid ≡ get_or from i cid
+    → Gathers (InFlat active (Contains (take i from))) cids some → Gathers (InFlat active (λ d. d ≡ cid)) some gathered → Gathers (InFlat active (Contains (take (i + 1) from))) cids gathered
+flat_more active from i cid cids some gathered lt at =
+    flat_both active (Contains (take i from)) (λ d. d ≡ cid) (Contains (take (i + 1) from)) cids some gathered
+    (more_left from i cid lt at) (λ d e. member_same (take (i + 1) from) cid d (sym e) (more_last from i cid lt at))
+    (λ d m. elim (more_cases from i cid lt at d m) [ inl k ↦ inl k | inr e ↦ inr (sym e) ])
+
+pub flat_all : (active : List Active) (from : List Cid) (i : ℕ) (cids gathered : List Cid) → length from ≤ i → Gathers (InFlat active (Contains (take i from))) cids gathered → Gathers (InFlat active (Contains from)) cids gathered
+flat_all active from i cids gathered le = subst (λ ns. Gathers (InFlat active (Contains ns)) cids gathered) (take_all i from le)
+
+-- a list is its front and its back
+pub split_parts : (xs front back : List Cid) (n : ℕ) → front ≡ take n xs → back ≡ drop n xs → xs ≡ front ++ back
+split_parts xs front back n a b = sym (ap (λ ys. ys ++ back) a ∙ ap (λ ys. take n xs ++ ys) b ∙ take-append-drop n xs)
+
+-- all ids, where the last ones stand for themselves, gathered from nothing
+pub flat_parts : (active : List Active) (from first last nothing some all : List Cid) → from ≡ first ++ last → nothing ≡ [] → All IsJustifier last
+    → Gathers (InFlat active (Contains first)) nothing some → IsMerged some last all → IsListOf (InFlat active (Contains from)) all
+flat_parts active from first last nothing some all parts none justifiers one merged = record {
+  rising = merged.rising;
+  sound = λ c m. elim (merged.sound c m) [
+    | inl k ↦ elim (one.sound c k) [
+      | inl n ↦ absurd (member_nil c (subst (λ ns. Contains ns c) none n))
+      | inr f ↦ flat_weaker active (Contains first) (Contains from) in_first c f
+    ]
+    | inr k ↦ as_it_is (in_last c k) (All-contains IsJustifier last c justifiers k)
+  ];
+  whole = λ c flat. elim (flat_either active (Contains from) (Contains first) (Contains last) (λ d m. Contains-append_cases first last d (subst (λ ns. Contains ns d) parts m)) c flat) [
+    | inl f ↦ merged.first c (one.second c f)
+    | inr f ↦ merged.second c (itself c f)
+  ];
+}
+  where
+    in_first : (d : Cid) → Contains first d → Contains from d
+    in_first d f = subst (λ ns. Contains ns d) (sym parts) (Contains-append_left first last d f)
+
+    in_last : (d : Cid) → Contains last d → Contains from d
+    in_last d l = subst (λ ns. Contains ns d) (sym parts) (Contains-append_right first last d l)
+
+    itself : (c : Cid) → InFlat active (Contains last) c → Contains last c
+    itself c (as_it_is k g) = k
+    itself c (in_place p a k m n held) = absurd (All-contains IsJustifier last (Not p) justifiers k)
 
 -- a negation stands for its justification
 pub flat_negation : (active : List Active) (cid : Cid) (p : Pair) (a : Active) (cids justification gathered : List Cid) → Rises (cids_of active) → cid ≡ Not p → Contains active a → a.cid ≡ cid → justification ≡ a.justification

@@ -1,11 +1,11 @@
 //! The constraints of a conflict.
-ghost use Rattle.std.specs.Prelude.{◌≡◌, [], List, Contains, IfOk, OnErr, OnOk};
+ghost use Rattle.std.specs.Prelude.{◌≡◌, ◌≤◌, false, [], List, length, drop, All, Contains, IfOk, OnErr, OnOk};
 ghost use Rattle.palm_base.specs.declared.terms.Cid.{Cid as CidTerm};
 ghost use Rattle.palm_domain.specs.Rows.{present_of};
 ghost use Rattle.palm_model.specs.Conflict.{InFlat, IsKeptConflict};
 ghost use Rattle.palm_base.specs.Order.{Rises};
 ghost use Rattle.palm_model.specs.Log.{Active, IsActive, IsListOf, cids_of, log_pairs};
-ghost use Rattle.palm_model.specs.State.{IsEmptyAt};
+ghost use Rattle.palm_model.specs.State.{IsEmptyAt, IsJustifier};
 ghost use Rattle.palm_explain.specs.Explanations.{LacksExactly};
 ghost use Rattle.palm_engine.specs.Gathered.{Gathers};
 ghost use Rattle.palm_engine.specs.Kept.{state_of};
@@ -47,7 +47,47 @@ fn add_flat<F: Filter>(posted: &[Posted<F>], cid: &Cid, cids: &mut Vec<Cid>) -> 
     }
 }
 
-/// The ids with each negation replaced by its justification, by rising id.
+/// Adds the same of each of the ids.
+fn add_flat_each<F: Filter>(
+    posted: &[Posted<F>],
+    from: &[Cid],
+    cids: &mut Vec<Cid>,
+) -> Result<(), NoMemory>
+    requires rising { Rises (cids_of (actives_of F.meaning posted.now)) }
+    requires active { (c : CidTerm) → Contains from.now c → IsActive (actives_of F.meaning posted.now) c }
+    requires cids { Rises cids.old.items }
+    ensures { OnOk result (Gathers (InFlat (actives_of F.meaning posted.now) (Contains from.now)) cids.old.items cids.new.items) }
+{
+    for cid in from {
+        add_flat(posted, cid, cids)?;
+    }
+    Ok(())
+}
+
+/// Whether the id is that of a negation.
+fn is_negation(cid: &Cid) -> bool
+    ensures { result ≡ false → IsJustifier cid.now }
+{
+    match cid {
+        Cid::Not(_) => true,
+        Cid::Decide(_) | Cid::User(_) => false,
+    }
+}
+
+/// A place from which on no id is that of a negation.
+fn last_part(from: &[Cid]) -> usize
+    ensures within { result ≤ length from.now }
+    ensures justifiers { All IsJustifier (drop result from.now) }
+{
+    let mut place = from.len();
+    while place > 0 && !is_negation(&from[place - 1]) {
+        place -= 1;
+    }
+    place
+}
+
+/// The ids with each negation replaced by its justification, by rising id. The last ids, mostly those of users, are put
+/// in together.
 pub(crate) fn flat_of<F: Filter>(
     alloc: Global,
     posted: &[Posted<F>],
@@ -57,9 +97,9 @@ pub(crate) fn flat_of<F: Filter>(
     requires active { (c : CidTerm) → Contains from.now c → IsActive (actives_of F.meaning posted.now) c }
     ensures { IfOk result (IsListOf (InFlat (actives_of F.meaning posted.now) (Contains from.now))) }
 {
+    let (first, last) = from.split_at(last_part(from));
     let mut cids = Vec::new(alloc);
-    for cid in from {
-        add_flat(posted, cid, &mut cids)?;
-    }
+    add_flat_each(posted, first, &mut cids)?;
+    add_cids(&mut cids, last)?;
     Ok(CidList::from_vec(cids))
 }

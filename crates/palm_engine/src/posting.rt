@@ -1,5 +1,5 @@
 //! Putting a constraint among the active ones, and taking it out with what rests on it.
-ghost use Rattle.std.specs.Prelude.{◌≡◌, ◌↔◌, ◌⊎◌, ℕ, ◌<◌, List, [], ◌∷◌, length, remove, Contains, Some, true, false, IfOk, IfSome, OnErr, OnOk, slice_get};
+ghost use Rattle.std.specs.Prelude.{◌≡◌, ◌↔◌, ◌⊎◌, ℕ, ◌<◌, ◌≤◌, List, [], ◌∷◌, length, remove, Contains, Some, true, false, IfOk, IfSome, OnErr, OnOk, slice_get};
 ghost use Rattle.palm_base.specs.declared.terms.Cid.{Cid as CidTerm};
 ghost use Rattle.palm_model.specs.Constraint.{scope, IsWellFormed};
 ghost use Rattle.palm_model.specs.Event.{WithdrawsAll, with_posted};
@@ -21,7 +21,8 @@ use std::alloc::Global;
 /// How the constraint heeds losses of the variable at each place of its scope. Where it has one variable, there is no other one that a
 /// loss could hurt, and nothing is told.
 fn heeds_of<F: Filter>(alloc: Global, constraint: &Posted<F>) -> Result<Vec<Heed>, NoMemory>
-    ensures { IfOk result (λ heeds. (place : ℕ) (heed : HeedTerm) → slice_get heeds.items place ≡ Some heed → FitsHeed (active_of F.meaning constraint.now).con place heed) }
+    ensures each { IfOk result (λ heeds. 2 ≤ length (scope (active_of F.meaning constraint.now).con) → length heeds.items ≡ length (scope (active_of F.meaning constraint.now).con)) }
+    ensures fit { IfOk result (λ heeds. (place : ℕ) (heed : HeedTerm) → slice_get heeds.items place ≡ Some heed → FitsHeed (active_of F.meaning constraint.now).con place heed) }
 {
     let mut heeds = Vec::new(alloc);
     let places = constraint.scope().len();

@@ -2,14 +2,9 @@
 //! many keys the kept lists have room is counted, so that what is kept is bounded, whatever is lost.
 ghost use Rattle.std.specs.Prelude.{◌≡◌, []};
 
+use crate::limits::{MOST_KEYS, MOST_LISTS};
 use palm_base::NoMemory;
 use std::alloc::{AllocFailed, Global};
-
-/// The most lists that are kept.
-const MOST_LISTS: usize = 16_384;
-
-/// The most keys for which the kept lists have room, all together.
-const MOST_KEYS: usize = 1_048_576;
 
 /// The lists of dependents of lost removals.
 #[derive(Debug, Drop)]

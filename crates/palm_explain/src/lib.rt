@@ -7,6 +7,7 @@ mod entering;
 mod forgetting;
 mod keys;
 mod laws;
+mod limits;
 mod marking;
 mod node;
 mod restored;

@@ -81,3 +81,30 @@ fn a_pair_comes_back(rt: HostRuntime) -> Result<(), Fail> {
     assert!(rt; answers(rt.alloc(), &Back)?);
     Ok(())
 }
+
+/// The presence of numbers as bits: of a variable whose values leave none out, from a value on, and of one with gaps.
+struct Shown;
+
+impl Question for Shown {
+    fn is_answered(&self, _alloc: Global, store: &mut DomainStore) -> Result<bool, NoMemory> {
+        store.add_variable(&[Value(3), Value(4), Value(5), Value(6)])?;
+        store.add_variable(&[Value(-2), Value(0), Value(5)])?;
+        if !store.contains(pair(0, 4)) {
+            return Ok(false);
+        }
+        store.take_out(pair(0, 4));
+        Ok(
+            store.window(Var(0), Value(3)) == Some(0b1101)
+                && store.window(Var(0), Value(5)) == Some(0b11)
+                && store.window(Var(0), Value(2)).is_none()
+                && store.window(Var(0), Value(7)).is_none()
+                && store.window(Var(1), Value(0)).is_none(),
+        )
+    }
+}
+
+#[test]
+fn numbers_are_shown_as_bits(rt: HostRuntime) -> Result<(), Fail> {
+    assert!(rt; answers(rt.alloc(), &Shown)?);
+    Ok(())
+}

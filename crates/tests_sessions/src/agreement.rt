@@ -156,6 +156,14 @@ const OTHERS: &[(&str, &str)] = &[
         "ok\nok\nok\nok\n",
     ),
     (
+        "var x {1,5,200}\nvar y 1..4\nadd t : table x y : (1,2) (5,3) (200,4) (5,9)\nadd f : y != 3\ndomains\n",
+        "ok\nok\nok\nok\n",
+    ),
+    (
+        "var x {1,3,9}\nvar y 0..2\nadd t : table y x : (0,1) (1,3) (2,9) (1,4)\nadd f : x != 3\ndomains\n",
+        "ok\nok\nok\nok\n",
+    ),
+    (
         "var z {3,5,7}\nvar y 0..4\nadd e : element z y (5,3,5)\nadd f : z != 5\ndomains\n",
         "ok\nok\nok\nok\n",
     ),

@@ -8,34 +8,34 @@ use Rattle.palm_agenda.proofs.agenda.wake_named.Goals as goal
 
 pub mark-heed-requires : goal.mark-heed-requires
 mark-heed-requires c =
-    over_here c.args.connections.now.items c.requires.rising c.args.cid.now c.place_from-place.result
-    (parted_in c.deref.result.now c.args.connections.now.items c.args.cid.now c.place_from-place.result c.deref.ensures.value c.place_from-place.ensures)
+    over_here c.args.connections.now.items c.requires.rising c.args.cid.now c.place_near-place.result
+    (parted_in c.deref.result.now c.args.connections.now.items c.args.cid.now c.place_near-place.result c.deref.ensures.value c.place_near-place.ensures)
     c.args.var.now c.requires.over c.index_mut-connection.result.now c.index_mut-connection.ensures.value
 
 pub raise-requires : goal.raise-requires
 raise-requires c =
-    let within = place_within c.args.connections.now.items c.requires.rising c.args.cid.now c.place_from-place.result
-    (parted_in c.deref.result.now c.args.connections.now.items c.args.cid.now c.place_from-place.result c.deref.ensures.value c.place_from-place.ensures)
+    let within = place_within c.args.connections.now.items c.requires.rising c.args.cid.now c.place_near-place.result
+    (parted_in c.deref.result.now c.args.connections.now.items c.args.cid.now c.place_near-place.result c.deref.ensures.value c.place_near-place.ensures)
     (over_connected c.args.connections.now.items c.args.var.now c.args.cid.now c.requires.over) in
     let same = c.requires.flags in
     omega arith
 
 pub returns-clause-marks : goal.returns-clause-marks
 returns-clause-marks c =
-    changed_here c.args.connections.now.items c.requires.rising c.args.cid.now c.place_from-place.result
-    (parted_in c.deref.result.now c.args.connections.now.items c.args.cid.now c.place_from-place.result c.deref.ensures.value c.place_from-place.ensures)
+    changed_here c.args.connections.now.items c.requires.rising c.args.cid.now c.place_near-place.result
+    (parted_in c.deref.result.now c.args.connections.now.items c.args.cid.now c.place_near-place.result c.deref.ensures.value c.place_near-place.ensures)
     (mark_places c.args.places.now c.args.var.now) (over_connected c.args.connections.now.items c.args.var.now c.args.cid.now c.requires.over)
     c.index_mut-connection.result.now c.mark-heed.new.self c.index_mut-connection.ensures.value c.mark-heed.ensures.marked
 
 pub returns-clause-pending : goal.returns-clause-pending
 returns-clause-pending c =
-    woken_at c.args.connections.now.items _ c.args.pending.now.flags c.raise.new.self.flags c.args.cid.now c.place_from-place.result c.args.var.now (mark_places c.args.places.now c.args.var.now)
+    woken_at c.args.connections.now.items _ c.args.pending.now.flags c.raise.new.self.flags c.args.cid.now c.place_near-place.result c.args.var.now (mark_places c.args.places.now c.args.var.now)
     (keeps_places c.args.places.now c.args.var.now) c.requires.rising c.requires.flags
-    (parted_in c.deref.result.now c.args.connections.now.items c.args.cid.now c.place_from-place.result c.deref.ensures.value c.place_from-place.ensures)
+    (parted_in c.deref.result.now c.args.connections.now.items c.args.cid.now c.place_near-place.result c.deref.ensures.value c.place_near-place.ensures)
     c.requires.over (returns-clause-marks c) c.raise.ensures
 
 pub returns-clause-heed : goal.returns-clause-heed
 returns-clause-heed c =
-    holds_here c.args.connections.now.items c.requires.rising c.args.cid.now c.place_from-place.result
-    (parted_in c.deref.result.now c.args.connections.now.items c.args.cid.now c.place_from-place.result c.deref.ensures.value c.place_from-place.ensures)
+    holds_here c.args.connections.now.items c.requires.rising c.args.cid.now c.place_near-place.result
+    (parted_in c.deref.result.now c.args.connections.now.items c.args.cid.now c.place_near-place.result c.deref.ensures.value c.place_near-place.ensures)
     c.index_mut-connection.result.now c.index_mut-connection.ensures.value (λ (d : Connected). c.mark-heed.result ≡ heed_of c.args.var.now d.scope d.heeds) c.mark-heed.ensures.heed

@@ -1,26 +1,17 @@
-use Rattle.std.proofs.Common.{[], Contains, refl, sym, subst}
+use Rattle.std.proofs.Common.{All, Contains, sym, subst}
 use Rattle.palm_model.specs.Conflict.{InFlat}
 use Rattle.palm_model.specs.Log.{IsListOf}
+use Rattle.palm_model.specs.State.{IsJustifier}
 use Rattle.palm_engine.specs.Posted.{actives_of}
-use Rattle.palm_engine.proofs.Gathering.{flat_all, flat_more, flat_none}
+use Rattle.palm_engine.proofs.Gathering.{flat_parts, split_parts}
 use Rattle.palm_engine.proofs.conflicts.flat_of.Goals as goal
-
-pub loop-cid-init : goal.loop-cid-init
-loop-cid-init g c = flat_none (actives_of g.F.Filter.meaning c.args.posted.now) [] c.new-cids.result.items refl c.new-cids.ensures.items
-
-pub add_flat-requires-clause-active : goal.add_flat-requires-clause-active
-add_flat-requires-clause-active g c = c.requires.active c.cid-item.result (c.loop-cid.cid-index, c.loop-cid-test.true, sym c.cid-item.is)
-
-pub add_flat-requires-clause-cids : goal.add_flat-requires-clause-cids
-add_flat-requires-clause-cids g c = c.loop-cid.invariant.rising
-
-pub loop-cid-preserved : goal.loop-cid-preserved
-loop-cid-preserved g c =
-    flat_more (actives_of g.F.Filter.meaning c.args.posted.now) c.args.from.now c.loop-cid.cid-index c.cid-item.result c.loop-cid.cids.items c.add_flat.new.cids.items
-    c.loop-cid-test.true c.cid-item.is c.loop-cid.invariant c.in_ok-add_flat.ensures
 
 pub returns : goal.returns
 returns g c =
     let active = actives_of g.F.Filter.meaning c.args.posted.now in
+    let first = c.split_at.result.0.now in
+    let last = c.split_at.result.1.now in
     subst (IsListOf (InFlat active (Contains c.args.from.now))) (sym c.from_vec.ensures)
-    (flat_all active c.args.from.now c.loop-cid.cid-index c.loop-cid.cids.items c.loop-cid-test.false c.loop-cid.invariant)
+    (flat_parts active c.args.from.now first last c.new-cids.result.items c.add_flat_each.new.cids.items c.add_cids.new.cids.items
+    (split_parts c.args.from.now first last c.last_part.result c.split_at.ensures.front c.split_at.ensures.back) c.new-cids.ensures.items
+    (subst (All IsJustifier) (sym c.split_at.ensures.back) c.last_part.ensures.justifiers) c.in_ok-add_flat_each.ensures c.in_ok-add_cids.ensures)

@@ -32,7 +32,7 @@ returns-clause-connected g c =
     let a = active_of g.F.Filter.meaning c.args.constraint in
     let heeds = c.in_ok-heeds.heeds.items in (
       heeds,
-      heeds_fit a heeds c.in_ok-heeds.ensures,
+      heeds_fit a heeds c.in_ok-heeds.ensures.fit,
       c.in_ok-connect.ensures.connected
           ∙ ap (λ cid. with_connected (marked_whole cid c.scope.result.now heeds) c.args.agenda.now.connected) c.cid-cid.ensures
           ∙ ap (λ vars. with_connected (marked_whole a.cid vars heeds) c.args.agenda.now.connected) c.scope.ensures.scope,

@@ -9,8 +9,8 @@ pub returns-in-Some : goal.returns-in-Some
 returns-in-Some c =
     let at = rw c.deref.ensures.value at c.in-Some.ensures in
     tells_both (Contains c.args.self.now.present c.args.value) c.has.result
-    (λ e. subst (λ (r : Row). Contains r.present c.args.value) c.self.view_is (present_at _ _ _ _ _ c.self.invariant c.in-Some.place c.args.value at (sym c.has.ensures ∙ e)))
-    (λ e h. removed_at _ _ _ _ _ c.self.invariant c.in-Some.place c.args.value at (sym c.has.ensures ∙ e) (rw (← c.self.view_is) at h))
+    (λ e. subst (λ (r : Row). Contains r.present c.args.value) c.self.view_is (present_at _ _ _ _ _ c.self.invariant.0 c.in-Some.place c.args.value at (sym c.has.ensures ∙ e)))
+    (λ e h. removed_at _ _ _ _ _ c.self.invariant.0 c.in-Some.place c.args.value at (sym c.has.ensures ∙ e) (rw (← c.self.view_is) at h))
 
 pub returns-in-None : goal.returns-in-None
 returns-in-None c h =

@@ -16,4 +16,4 @@ returns-clause-tells c =
     (member_of_some _ c.args.value c.place_of.result (rw c.deref.ensures.value at c.place_of.ensures)))
 
 pub returns-clause-formed : goal.returns-clause-formed
-returns-clause-formed c = subst IsFormed c.self.view_is (formed _ _ _ _ _ c.self.invariant)
+returns-clause-formed c = subst IsFormed c.self.view_is (formed _ _ _ _ _ c.self.invariant.0)

@@ -5,13 +5,13 @@ use Rattle.palm_domain.proofs.domain.Domain.greatest.Goals as goal
 
 pub overflow_sub-from : goal.overflow_sub-from
 overflow_sub-from c =
-    omega (arith, end_within _ _ _ _ _ c.self.invariant (rw (← c.self.view_is) at c.requires), c.from.ensures)
+    omega (arith, end_within _ _ _ _ _ c.self.invariant.0 (rw (← c.self.view_is) at c.requires), c.from.ensures)
 
 pub index-requires : goal.index-requires
 index-requires c =
-    omega (arith, end_within _ _ _ _ _ c.self.invariant (rw (← c.self.view_is) at c.requires), c.from.ensures, c.self.inside.initial.ok.0)
+    omega (arith, end_within _ _ _ _ _ c.self.invariant.0 (rw (← c.self.view_is) at c.requires), c.from.ensures, c.self.inside.initial.ok.0)
 
 pub returns : goal.returns
 returns c =
-    let greatest = greatest_is _ _ _ _ _ c.self.invariant c.index.result.now (rw (← c.self.view_is) at c.requires) (rw c.from.ensures at c.index.ensures) in
+    let greatest = greatest_is _ _ _ _ _ c.self.invariant.0 c.index.result.now (rw (← c.self.view_is) at c.requires) (rw c.from.ensures at c.index.ensures) in
     subst (λ (r : Row). IsGreatestOf r.present c.index.result.now) c.self.view_is greatest

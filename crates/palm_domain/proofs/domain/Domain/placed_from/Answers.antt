@@ -8,12 +8,12 @@ pub returns-clause-next : goal.returns-clause-next
 returns-clause-next c =
     let from = rw c.deref.ensures.value at c.place_from-from.ensures in
     let found = c.in_ok-place.ensures in
-    let next = next_is _ _ _ _ _ c.self.invariant c.args.value c.index.result.now c.place_from-from.result c.in_ok-place.place from found.from found.marked found.between c.index.ensures in
+    let next = next_is _ _ _ _ _ c.self.invariant.0 c.args.value c.index.result.now c.place_from-from.result c.in_ok-place.place from found.from found.marked found.between c.index.ensures in
     subst (λ (r : Row). IsNextFrom r.present c.args.value c.index.result.now) c.self.view_is next
 
 pub returns-clause-placed : goal.returns-clause-placed
 returns-clause-placed c =
-    let within = marked_within _ _ _ _ _ c.self.invariant c.in_ok-place.place c.in_ok-place.ensures.marked in
+    let within = marked_within _ _ _ _ _ c.self.invariant.0 c.in_ok-place.place c.in_ok-place.ensures.marked in
     let stands = read_stands c.self.inside.initial.items c.in_ok-place.place c.index.result.now within c.index.ensures in
     subst (λ (r : Row). StandsIn r.initial (record { place = c.in_ok-place.place; value = c.index.result.now })) c.self.view_is stands
 
@@ -21,4 +21,4 @@ pub returns-in_err-place-clause-next : goal.returns-in_err-place-clause-next
 returns-in_err-place-clause-next c =
     let from = rw c.deref.ensures.value at c.place_from-from.ensures in
     let none = rw c.from.ensures at c.in_err-place.ensures.none in
-    rw c.from_residual.ensures (λ w h. next_none _ _ _ _ _ c.self.invariant c.args.value c.place_from-from.result from none w (rw (← c.self.view_is) at h))
+    rw c.from_residual.ensures (λ w h. next_none _ _ _ _ _ c.self.invariant.0 c.args.value c.place_from-from.result from none w (rw (← c.self.view_is) at h))

@@ -3,7 +3,7 @@ use Rattle.std.specs.List.{AllWithin}
 use Rattle.filter_table.specs.Table.{row_at}
 use Rattle.palm_domain.specs.Rows.{initial_of, present_of}
 use Rattle.palm_model.specs.Table.{is_blocked_at}
-use Rattle.filter_table.proofs.indexed.IndexedTable.is_blocking.Given as goal
+use Rattle.filter_table.proofs.indexed.IndexedTable.is_blocking_by_rows.Given as goal
 
 -- no row so far is blocked there
 abbrev pub invariant-loop-place : goal.invariant-loop-place

@@ -3,7 +3,7 @@ use Rattle.palm_domain.specs.Rows.{initial_of, present_of}
 use Rattle.palm_model.specs.Table.{is_blocked_at}
 use Rattle.filter_table.specs.Table.{row_at}
 use Rattle.filter_table.proofs.Columned.{none_blocked, no_row_more}
-use Rattle.filter_table.proofs.indexed.IndexedTable.is_blocking.Goals as goal
+use Rattle.filter_table.proofs.indexed.IndexedTable.is_blocking_by_rows.Goals as goal
 
 pub loop-place-preserved : goal.loop-place-preserved
 loop-place-preserved c =

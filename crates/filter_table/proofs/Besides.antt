@@ -1,0 +1,192 @@
+-- The rows of a table of two columns that support a value or block it, by the bits of what stands beside it.
+use Rattle.std.proofs.Common.{Bool, ◌≡◌, ℕ, zero, suc, ◌-◌, ◌^◌, ◌<◌, ℤ, pos, ◌+ℤ◌, true, false, not, List, [], length, get_or, slice_get, Some, nat_eq, ne_eqb, bit_and, w64, inl, inr, refl, sym, ap, ◌∙◌, subst, arith}
+use Rattle.std.specs.Int.{bit_at, trailing_zeros}
+use Rattle.std.specs.List.{list_any}
+use Rattle.std.proofs.lemmas.Int.{ints}
+use Rattle.std.proofs.lemmas.Bool.{cases_Bool, cases_eq, both_ways, and_parts}
+use Rattle.std.proofs.lemmas.List.{get_or_default, length-map}
+use Rattle.std.proofs.lemmas.Nat.Bits.{bit_at_and, bit_at-zero, bit_at-lt, bit_at-trailing_zeros}
+use Rattle.std.proofs.lemmas.Option.{slice_get_within, get_or_from_slice_get, slice_get-get_or}
+use Rattle.palm_base.proofs.cited.Telling.{tells_true, tells_false}
+use Rattle.palm_base.specs.Tells.{Tells}
+use Rattle.palm_base.specs.declared.terms.Pair.{Pair}
+use Rattle.palm_model.specs.Domains.{Domains, Has, is_among}
+use Rattle.palm_model.specs.Table.{are_there, is_blocked_at, row_pairs}
+use Rattle.palm_model.proofs.cited.Supports.{any_member}
+use Rattle.filter_table.specs.Beside.{AreBeside, HasBit, IsNear, IsNoted}
+use Rattle.filter_table.specs.Table.{IsIndexed, column_values, entry_at, is_support_row, row_at}
+use Rattle.filter_table.specs.declared.beside.Beside.{Beside}
+use Rattle.filter_table.specs.declared.indexed.IndexedTable.{IndexedTable}
+use Rattle.filter_table.proofs.Columned.{blocked_entry, blocked_first, blocked_parts, column_at, column_every, column_stands, column_within, has_own, own_entry, own_has, some_row, two_gives, two_fails}
+use Rattle.filter_table.proofs.Entries.{is_first, there_column, two_missing, two_there}
+
+-- ---- two words that share a one
+
+shared : (a b : ℕ) → bit_and a b < 2 ^ 64 → (bit_and a b ≡ 0 → ⊥) → (k : ℕ) × (k < 64) × (bit_at a k ≡ 1) × (bit_at b k ≡ 1)
+shared a b fits some =
+    let k = trailing_zeros w64 (bit_and a b) in
+    let one = bit_at-trailing_zeros w64 (bit_and a b) (omega (arith, some)) fits in
+    (k, one.0, omega (arith, one.1, bit_at_and a b k, bit_at-lt a k, bit_at-lt b k), omega (arith, one.1, bit_at_and a b k, bit_at-lt a k, bit_at-lt b k))
+
+unshared : (a b k : ℕ) → bit_and a b ≡ 0 → bit_at a k ≡ 1 → bit_at b k ≡ 1 → ⊥
+unshared a b k none one other = absurd (omega (arith, bit_at_and a b k, ap (λ n. bit_at n k) none, bit_at-zero k, one, other))
+
+-- ---- the other variable
+
+pub other_variable : (xs : List ℕ) → length xs ≡ 2 → (own : ℕ) (vars : List ℕ) (y : ℕ) → vars ≡ xs → y ≡ get_or vars (1 - own) y → slice_get xs (1 - own) ≡ Some y
+other_variable xs two own vars y same is = slice_get-get_or xs (1 - own) y (omega (arith, two)) ∙ ap Some (sym (is ∙ ap (λ zs. get_or zs (1 - own) y) same))
+
+-- ---- no row
+
+no_row_of : (p : List ℤ → Bool) (rows : List (List ℤ)) → ((k : ℕ) → k < length rows → p (row_at rows k) ≡ true → ⊥) → false ≡ list_any p rows
+no_row_of p rows none = elim (cases_Bool (list_any p rows)) [
+  | inl some ↦
+      let r = any_member p rows some in
+      absurd (none r.1.0 r.1.1 (ap p (get_or_default rows r.1.0 [] r.0 r.1.1 ∙ r.1.2) ∙ r.2))
+  | inr f ↦ sym f
+]
+
+none_there : (t : IndexedTable) (d : Domains) (x : ℕ) (v : ℤ) → ((k : ℕ) → k < length t.rows → is_among (row_pairs t.vars (row_at t.rows k)) x v ≡ true → are_there d (row_pairs t.vars (row_at t.rows k)) ≡ false) → false ≡ list_any (is_support_row d t.vars x v) t.rows
+none_there t d x v missing = no_row_of (is_support_row d t.vars x v) t.rows (λ k lt h.
+    let ps = row_pairs t.vars (row_at t.rows k) in
+    let parts = and_parts (is_among ps x v) (are_there d ps) h in
+    both_ways (are_there d ps) (missing k lt parts.0) parts.1)
+
+-- ---- the bits of a column
+
+bits_of : (t : IndexedTable) → IsIndexed t → (own x y : ℕ) → slice_get t.vars own ≡ Some x → slice_get t.vars (1 - own) ≡ Some y → (b : Beside) → slice_get t.besides.items own ≡ Some b
+    → AreBeside (column_values t.rows own) (column_values t.rows (1 - own)) (length (column_values t.rows own)) b
+bits_of t indexed own x y at at_other b lookup =
+    let own_is = indexed.columns.each own [] (slice_get_within t.vars own x at) in
+    let other_is = indexed.columns.each (1 - own) [] (slice_get_within t.vars (1 - own) y at_other) in
+    subst (λ us. AreBeside us (column_values t.rows (1 - own)) (length us) b) own_is
+    (subst (λ ws. AreBeside (get_or t.columns.items own []) ws (length (get_or t.columns.items own [])) b) other_is (indexed.besides.each own b lookup))
+
+-- a place of the columns is that of a row
+column_length : (t : IndexedTable) (c k : ℕ) → k < length t.rows → k < length (column_values t.rows c)
+column_length t c k lt =
+    let entry : List ℤ → ℤ = λ r. get_or r c (pos 0) in omega (arith, length-map t.rows entry)
+
+-- ---- support
+
+module _ (t : IndexedTable) (indexed : IsIndexed t) (two : length t.vars ≡ 2) (d : Domains) (own x : ℕ) (v : ℤ) (at : slice_get t.vars own ≡ Some x) (present : Has d x v)
+    (b : Beside) (lookup : slice_get t.besides.items own ≡ Some b) (y : ℕ) (at_other : slice_get t.vars (1 - own) ≡ Some y) (window : ℕ)
+    (shows : (k : ℕ) → k < 64 → Tells (nat_eq (bit_at window k) 1) (Has d y (b.other_least +ℤ pos k))) where
+  bits : AreBeside (column_values t.rows own) (column_values t.rows (1 - own)) (length (column_values t.rows own)) b
+  bits = bits_of t indexed own x y at at_other b lookup
+
+  -- the entry beside the own one
+  entry_is : (k : ℕ) (w : ℤ) → k < length t.rows → w ≡ get_or (row_at t.rows k) (1 - own) (pos 0) → record { var = y; value = w } ≡ entry_at t.vars (row_at t.rows k) (1 - own)
+  entry_is k w lt is =
+      ap (λ u. pair y u) is ∙ ap (λ z. pair z (get_or (row_at t.rows k) (1 - own) (pos 0))) (sym (get_or_from_slice_get t.vars (1 - own) y 0 at_other))
+    where
+      pair : ℕ → ℤ → Pair
+      pair z u = record { var = z; value = u }
+
+  -- a row that has the value has a bit
+  row_bit : (k : ℕ) → k < length t.rows → is_among (row_pairs t.vars (row_at t.rows k)) x v ≡ true → HasBit b v (get_or (row_at t.rows k) (1 - own) (pos 0))
+  row_bit k lt among =
+      bits.all k v _ (column_length t own k lt) (column_every t.vars t.rows indexed.distinct indexed.long own x k v at lt among)
+      (column_at t.vars t.rows indexed.distinct indexed.long (1 - own) k lt)
+
+  -- a bit that is one in the word of the value and in the window is that of a row
+  pub bit_gives : (i n : ℕ) → IsNear b.own_least v i → n < 64 → IsNoted b i n → bit_at window n ≡ 1 → true ≡ list_any (is_support_row d t.vars x v) t.rows
+  bit_gives i n near small noted one =
+      let r = bits.only i n near.within small noted in
+      let k = r.place in
+      let own_at : slice_get (column_values t.rows own) k ≡ Some v = r.own ∙ ap Some (sym near.is) in
+      let lt = column_within t.vars t.rows indexed.distinct indexed.long own k v own_at in
+      let w : ℤ = b.other_least +ℤ pos n in
+      let entry : w ≡ get_or (row_at t.rows k) (1 - own) (pos 0) = some_same (sym r.other ∙ column_at t.vars t.rows indexed.distinct indexed.long (1 - own) k lt) in
+      two_gives t indexed two d own x v at present k lt (column_stands t.vars t.rows indexed.distinct indexed.long own x k v at own_at)
+      (record { var = y; value = w }) (entry_is k w lt entry) (nat_eq (bit_at window n) 1) (shows n small) (ap (λ m. nat_eq m 1) one)
+    where
+      some_same : {w u : ℤ} → Some w ≡ Some u → w ≡ u
+      some_same e = cc
+
+  pub no_bit : ((i n : ℕ) → IsNear b.own_least v i → IsNoted b i n → bit_at window n ≡ 1 → ⊥) → false ≡ list_any (is_support_row d t.vars x v) t.rows
+  no_bit none = none_there t d x v (λ k lt among.
+      let h = row_bit k lt among in
+      let n = h.bit in
+      let w : ℤ = b.other_least +ℤ pos n in
+      two_fails t indexed two d own x v at present k lt among (record { var = y; value = w }) (entry_is k w lt (sym h.other.is)) (nat_eq (bit_at window n) 1) (shows n h.other.within)
+      (zero_bit (bit_at window n) (bit_at-lt window n) (none h.word n h.own h.noted)))
+    where
+      zero_bit : (m : ℕ) → m < 2 → (m ≡ 1 → ⊥) → nat_eq m 1 ≡ false
+      zero_bit zero l n = refl
+      zero_bit (suc zero) l n = absurd (n refl)
+      zero_bit (suc (suc m)) l n = absurd (omega arith)
+
+  -- the test of the two words
+  pub word_tells : (i : ℕ) → IsNear b.own_least v i → bit_and (get_or b.words i 0) window < 2 ^ 64 → not (nat_eq (bit_and (get_or b.words i 0) window) 0) ≡ list_any (is_support_row d t.vars x v) t.rows
+  word_tells i near fits = elim (cases_eq (bit_and (get_or b.words i 0) window) 0) [
+    | inl none ↦
+        ap (λ m. not (nat_eq m 0)) none ∙ no_bit (λ j n near' noted one.
+        let same : j ≡ i = omega (arith, ints, near.is, near'.is) in
+        unshared (get_or b.words i 0) window n none (ap (λ m. bit_at (get_or b.words m 0) n) (sym same) ∙ noted) one)
+    | inr some ↦
+        let s = shared (get_or b.words i 0) window fits some in
+        ap not (ne_eqb (bit_and (get_or b.words i 0) window) 0 some) ∙ bit_gives i s.0 near s.1 s.2 s.3
+  ]
+
+  -- a value that has no word is in no row
+  pub far_tells : ((k : ℕ) → IsNear b.own_least v k → ⊥) → false ≡ list_any (is_support_row d t.vars x v) t.rows
+  far_tells far = no_bit (λ i n near _ _. far i near)
+
+-- ---- what blocks it
+
+module _ (t : IndexedTable) (indexed : IsIndexed t) (two : length t.vars ≡ 2) (initial present : Domains) (own end x y : ℕ) (v w : ℤ) (at : slice_get t.vars own ≡ Some x) (at_end : slice_get t.vars end ≡ Some y) (apart : end ≡ 1 - own)
+    (given : Has initial x v) (has : Has present x v) (missing : Has present y w → ⊥) (b : Beside) (lookup : slice_get t.besides.items own ≡ Some b) where
+  at_beside : slice_get t.vars (1 - own) ≡ Some y
+  at_beside = subst (λ e. slice_get t.vars e ≡ Some y) apart at_end
+
+  pair_bits : AreBeside (column_values t.rows own) (column_values t.rows (1 - own)) (length (column_values t.rows own)) b
+  pair_bits = bits_of t indexed own x y at at_beside b lookup
+
+  abbrev test : List ℤ → Bool
+  test = is_blocked_at initial present t.vars x v y w
+
+  -- a row with both values is blocked, where the other one was declared
+  row_blocked : (k : ℕ) → k < length t.rows → is_among (row_pairs t.vars (row_at t.rows k)) x v ≡ true → is_among (row_pairs t.vars (row_at t.rows k)) y w ≡ true → Has initial y w → true ≡ test (row_at t.rows k)
+  row_blocked k lt among among_end declared =
+      let row = row_at t.rows k in
+      let long = indexed.long k [] lt in
+      let inside = slice_get_within t.vars own x at in
+      let own_v = own_entry t.vars t.rows indexed.distinct indexed.long own x k v at lt among in
+      let other_w = own_entry t.vars t.rows indexed.distinct indexed.long (1 - own) y k w at_beside lt among_end in
+      let all = two_there initial t.vars row long two own inside (own_has t.vars t.rows indexed.distinct indexed.long initial own x k v at lt own_v given)
+      (own_has t.vars t.rows indexed.distinct indexed.long initial (1 - own) y k w at_beside lt other_w declared) in
+      let first = two_missing present t.vars row long two own inside (own_has t.vars t.rows indexed.distinct indexed.long present own x k v at lt own_v has)
+      (λ h. missing (has_own t.vars t.rows indexed.distinct indexed.long present (1 - own) y k w at_beside lt other_w h)) in
+      blocked_first t.vars t.rows indexed.distinct indexed.long initial present own x k v (1 - own) y w true at lt own_v (sym all) at_beside among_end (is_first present t.vars row (1 - own) first)
+
+  -- so a row that is blocked has both, and the other one was declared
+  blocked_bit : (k : ℕ) → k < length t.rows → test (row_at t.rows k) ≡ true → HasBit b v w × Has initial y w
+  blocked_bit k lt h =
+      let row = row_at t.rows k in
+      let parts = blocked_parts initial present t.vars x v y w row h in
+      let among_end = blocked_entry initial present t.vars x v y w row h in
+      let inside = slice_get_within t.vars (1 - own) y at_beside in (
+        pair_bits.all k v w (column_length t own k lt) (column_every t.vars t.rows indexed.distinct indexed.long own x k v at lt parts.has)
+            (column_every t.vars t.rows indexed.distinct indexed.long (1 - own) y k w at_beside lt among_end),
+        has_own t.vars t.rows indexed.distinct indexed.long initial (1 - own) y k w at_beside lt
+            (own_entry t.vars t.rows indexed.distinct indexed.long (1 - own) y k w at_beside lt among_end)
+            (there_column initial t.vars row (indexed.long k [] lt) parts.declared (1 - own) inside),
+      )
+
+  pub without_bit : (HasBit b v w → ⊥) → false ≡ list_any test t.rows
+  without_bit none = no_row_of test t.rows (λ k lt h. none (blocked_bit k lt h).0)
+
+  pub with_bit : HasBit b v w → (declared : Bool) → Tells declared (Has initial y w) → declared ≡ list_any test t.rows
+  with_bit h declared tells = elim (cases_Bool declared) [
+    | inl t_is ↦
+        let r = pair_bits.only h.word h.bit h.own.within h.other.within h.noted in
+        let k = r.place in
+        let own_at : slice_get (column_values t.rows own) k ≡ Some v = r.own ∙ ap Some (sym h.own.is) in
+        let other_at : slice_get (column_values t.rows (1 - own)) k ≡ Some w = r.other ∙ ap Some (sym h.other.is) in
+        let lt = column_within t.vars t.rows indexed.distinct indexed.long own k v own_at in
+        t_is ∙ some_row test t.rows k lt
+        (sym (row_blocked k lt (column_stands t.vars t.rows indexed.distinct indexed.long own x k v at own_at)
+        (column_stands t.vars t.rows indexed.distinct indexed.long (1 - own) y k w at_beside other_at) (tells_true (Has initial y w) declared tells t_is)))
+    | inr f_is ↦ f_is ∙ no_row_of test t.rows (λ k lt g. tells_false (Has initial y w) declared tells f_is (blocked_bit k lt g).1)
+  ]
