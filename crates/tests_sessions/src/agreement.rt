@@ -163,6 +163,20 @@ const OTHERS: &[(&str, &str)] = &[
         "var x {1,3,9}\nvar y 0..2\nadd t : table y x : (0,1) (1,3) (2,9) (1,4)\nadd f : x != 3\ndomains\n",
         "ok\nok\nok\nok\n",
     ),
+    // Values 63 apart, of which bits are kept, and 64 apart, of which none are.
+    (
+        "var x 0..63\nvar y 0..1\nadd t : table x y : (0,1) (63,0) (63,1) (5,0)\nadd f : y != 0\ndomains\n",
+        "ok\nok\nok\nok\n",
+    ),
+    (
+        "var x 0..64\nvar y 0..1\nadd t : table x y : (0,1) (64,0) (64,1) (5,0)\nadd f : y != 0\ndomains\n",
+        "ok\nok\nok\nok\n",
+    ),
+    // Bits that are shown from the middle of a word of marks on, into the next one.
+    (
+        "var x 0..90\nvar y 0..1\nadd t : table x y : (40,0) (70,1) (90,1)\nadd f : x != 90\ndomains\n",
+        "ok\nok\nok\nok\n",
+    ),
     (
         "var z {3,5,7}\nvar y 0..4\nadd e : element z y (5,3,5)\nadd f : z != 5\ndomains\n",
         "ok\nok\nok\nok\n",
