@@ -12,7 +12,7 @@ with Session() as session:
     if session.do("add late : pour >= 11") == "contradiction":
         print(session.do("minimal conflict"))
         session.do("retract late")
-    print(session.do("solve dbt budget 1000"))
+    print(session.do("solve dbt budget 10000"))
 
     try:
         session.do("add early : survey < nine")

@@ -1,5 +1,9 @@
 -- The constraint of a comparison, and what it asks of one variable where the other one has a value.
-use Rattle.std.specs.Prelude.{ℕ, ℤ, ◌+ℤ◌, ◌-ℤ◌, List, Contains, filter, nat_eq, if◌then◌else◌}
+use Rattle.std.specs.Prelude.{◌≡◌, ℕ, ℤ, ◌+ℤ◌, ◌-ℤ◌, List, Contains, filter, nat_eq, if◌then◌else◌}
+use Rattle.palm_filter.specs.Rules.{declared_passing, written}
+use Rattle.palm_filter.specs.declared.rule.Interval.{Interval}
+use Rattle.palm_filter.specs.declared.rule.Rule.{Rule}
+use Rattle.palm_model.specs.Domains.{Domains}
 use Rattle.palm_model.specs.Relation.{Stands, is_standing}
 use Rattle.palm_model.specs.declared.constraint.Con.{Con}
 use Rattle.palm_model.specs.declared.constraint.Con.TheVariants.{CompareVar, CompareConst}
@@ -37,3 +41,8 @@ pub record IsMet (vs : List ℤ) (d : Demand) : Type 0 where
 -- the values that meet the demand
 abbrev pub meeting_values : List ℤ → Demand → List ℤ
 meeting_values vs d = filter (λ w. is_standing d.op w d.bound) vs
+
+-- written out, the rule gives the declared values of y that stand in the relation to the value plus the number
+abbrev pub IsRuleOf : ℕ → Op → ℤ → Rule → Type 0
+IsRuleOf y op by rule =
+    (initial : Domains) (c : Con) (intervals : List Interval) (x : ℕ) (v : ℤ) → written initial c rule intervals x v ≡ declared_passing initial y (λ w. is_standing op w (v +ℤ by))

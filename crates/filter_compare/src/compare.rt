@@ -3,13 +3,15 @@ ghost use Rattle.std.specs.Prelude.{◌≡◌, ℕ, IfOk};
 ghost use Rattle.palm_model.specs.Comparison.{IsComparison};
 ghost use Rattle.filter_compare.specs.Comparison.{comparison_of, demand_of};
 ghost use Rattle.palm_filter.specs.Heeds.{FitsHeed};
+ghost use Rattle.palm_filter.specs.Rules.{FitsAlways};
 ghost use Rattle.palm_filter.specs.Shapes.{FitsShape};
 ghost use Rattle.palm_model.specs.Constraint.{IsWellFormed};
 
 use crate::demand::{Demand, flipped};
+use crate::rule::rule_of;
 use palm_base::{NoMemory, Pair, Var, VarList};
 use palm_domain::DomainStore;
-use palm_filter::{Filter, Heed, Reasons, Shape, whole_or_none};
+use palm_filter::{Filter, Heed, Intervals, Known, Reasons, Rule, Shape, whole_or_none};
 use palm_model::{Con, Op, number_of};
 use std::alloc::Global;
 use std::marker::Model;
@@ -107,6 +109,18 @@ impl VarComparison {
             Op::Gt | Op::Ge => Heed::Least,
         }
     }
+
+    /// The reasons of the values of the pair's variable: the declared values of the other one that would fit.
+    pub(crate) fn rule(&self, pair: &Pair) -> Rule
+        requires formed { (variables : ℕ) × IsWellFormed variables (comparison_of (Comparison.Variables self.now)) }
+        ensures { FitsAlways (comparison_of (Comparison.Variables self.now)) pair.now.var result }
+    {
+        if pair.var == self.left {
+            rule_of(self.right, flipped(self.op), -self.offset)
+        } else {
+            rule_of(self.left, self.op, self.offset)
+        }
+    }
 }
 
 impl CompareFilter {
@@ -170,6 +184,18 @@ impl Filter for CompareFilter {
         match &self.comparison {
             Comparison::Variables(comparison) => comparison.demand(&pair).is_met(store),
             Comparison::Constant(demand) => demand.is_met_by(&pair.value),
+        }
+    }
+
+    fn rule(
+        &self,
+        _store: &DomainStore,
+        pair: &Pair,
+        _out: &mut Intervals,
+    ) -> Result<Known, NoMemory> {
+        match &self.comparison {
+            Comparison::Variables(comparison) => Ok(Known::always(comparison.rule(pair))),
+            Comparison::Constant(_) => Ok(Known::always(Rule::Empty)),
         }
     }
 

@@ -4,6 +4,7 @@
 
 mod compare;
 mod demand;
+mod rule;
 mod within;
 
 pub use compare::CompareFilter;

@@ -6,7 +6,7 @@ ghost use Rattle.palm_model.specs.Within.{IsWithinCon};
 
 use palm_base::{NoMemory, Pair, Value, Var, VarList};
 use palm_domain::DomainStore;
-use palm_filter::{Filter, Reasons, ValueIndex};
+use palm_filter::{Filter, Intervals, Known, Reasons, Rule, ValueIndex};
 use palm_model::Con;
 use std::alloc::Global;
 use std::marker::Model;
@@ -76,6 +76,17 @@ impl Filter for WithinFilter {
 
     fn supported(&self, _store: &DomainStore, pair: Pair) -> bool {
         self.membership.has(&pair.value)
+    }
+
+    fn rule(
+        &self,
+        _store: &DomainStore,
+        _pair: &Pair,
+        _out: &mut Intervals,
+    ) -> Result<Known, NoMemory> {
+        // What the filter means is told by its fields alone.
+        let _ = &self.membership;
+        Ok(Known::always(Rule::Empty))
     }
 
     fn reason(&self, store: &DomainStore, _pair: Pair, out: &mut Reasons) -> Result<(), NoMemory> {

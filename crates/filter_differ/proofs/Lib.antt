@@ -1,3 +1,4 @@
 pub mod Differing
 pub mod Heeds
+pub mod Rules
 pub mod Shapes

@@ -1,13 +1,18 @@
 //! The filter of variables that differ.
-ghost use Rattle.std.specs.Prelude.{◌≡◌, ◌++◌, ◌<◌, ℕ, length, All, IfOk, OnOk};
+ghost use Rattle.std.specs.Prelude.{◌≡◌, ◌++◌, ◌<◌, ℕ, List, length, All, IfOk, OnOk};
+ghost use Rattle.palm_filter.specs.Rules.{written};
+ghost use Rattle.palm_filter.specs.declared.rule.Interval.{Interval};
+ghost use Rattle.palm_model.specs.declared.constraint.Con.{Con};
 ghost use Rattle.palm_model.specs.Differ.{IsDiffer, differ_reason};
 ghost use Rattle.palm_domain.specs.Rows.{initial_of, present_of};
 ghost use Rattle.palm_model.specs.Constraint.{IsWellFormed};
 
 use crate::others::{first_lone, leave_room};
-use palm_base::{NoMemory, Pair, Var, VarList};
+use palm_base::{NoMemory, Pair, Value, Var, VarList};
 use palm_domain::DomainStore;
-use palm_filter::{Filter, Heed, Reasons, Shape, push_removed, whole_or_none};
+use palm_filter::{
+    Filter, Heed, Intervals, Known, Reasons, Rule, Shape, Shift, push_removed, whole_or_none,
+};
 use palm_model::Con;
 use std::alloc::Global;
 use std::marker::Model;
@@ -44,6 +49,18 @@ fn push_reason(
     match first_lone(store, vars, pair) {
         Some(var) => push_removed(store, var, out),
         None => Ok(()),
+    }
+}
+
+/// The rule of the pair: each declared value but its own of the first other variable whose only present value is its own.
+fn rule_of(store: &DomainStore, vars: &[Var], pair: &Pair) -> Rule
+    requires { All (λ x. x < length store.now) vars.now }
+    ensures { (c : Con) (intervals : List Interval)
+        → written (initial_of store.now) c result intervals pair.now.var pair.now.value ≡ differ_reason (initial_of store.now) (present_of store.now) vars.now pair.now.var pair.now.value }
+{
+    match first_lone(store, vars, pair) {
+        Some(var) => Rule::Other(Shift { var, by: 0 }),
+        None => Rule::Empty,
     }
 }
 
@@ -84,6 +101,18 @@ impl Filter for DifferFilter {
 
     fn supported(&self, store: &DomainStore, pair: Pair) -> bool {
         leave_room(store, self.vars.as_slice(), &pair)
+    }
+
+    fn rule(
+        &self,
+        store: &DomainStore,
+        pair: &Pair,
+        _out: &mut Intervals,
+    ) -> Result<Known, NoMemory> {
+        Ok(Known {
+            rule: rule_of(store, self.vars.as_slice(), pair),
+            last: pair.value,
+        })
     }
 
     fn reason(&self, store: &DomainStore, pair: Pair, out: &mut Reasons) -> Result<(), NoMemory> {

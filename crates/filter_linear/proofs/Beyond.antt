@@ -68,12 +68,6 @@ not_below v w le = no (int_lt v w) (λ e. absurd (omega (arith, ints, le, stands
 -- ---- the ends of an ascending list
 
 module _ (vs : List ℤ) (rise : Ascends vs) (bound : ℤ) where
-  pub lower_parted : IsPartitionedBy (λ v. is_lt (int_cmp v bound)) vs
-  lower_parted i j d le lt h =
-      let rises = get_or-rises vs rise i j d d le lt in
-      let low = lt_from_is_lt (get_or vs j d) bound (sym h) in
-      yes (is_lt (int_cmp (get_or vs i d) bound)) (λ e. let ge = ge_from_is_lt (get_or vs i d) bound e in omega (arith, ints, rises, low, ge))
-
   pub up_to_parted : IsPartitionedBy (λ v. is_le (int_cmp v bound)) vs
   up_to_parted i j d le lt h =
       let rises = get_or-rises vs rise i j d d le lt in

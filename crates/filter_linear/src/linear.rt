@@ -3,11 +3,11 @@ ghost use Rattle.std.specs.Prelude.{◌≡◌, ℕ, IfOk};
 ghost use Rattle.palm_model.specs.Linear.{IsLinear, term_vars};
 ghost use Rattle.palm_model.specs.Constraint.{IsWellFormed};
 
-use crate::reasons::push_reason;
+use crate::reasons::{list_rule, push_reason};
 use crate::rule::LinearRule;
 use palm_base::{NoMemory, Pair, VarList};
 use palm_domain::DomainStore;
-use palm_filter::{Filter, Heed, Reasons, Shape, whole_or_none};
+use palm_filter::{Filter, Heed, Intervals, Known, Reasons, Shape, whole_or_none};
 use palm_model::{Con, Op, TermList};
 use std::alloc::Global;
 use std::marker::Model;
@@ -87,6 +87,15 @@ impl Filter for LinearFilter {
 
     fn supported(&self, store: &DomainStore, pair: Pair) -> bool {
         self.rule.is_met(store, &pair)
+    }
+
+    fn rule(
+        &self,
+        store: &DomainStore,
+        pair: &Pair,
+        out: &mut Intervals,
+    ) -> Result<Known, NoMemory> {
+        list_rule(&self.rule, store, pair, out)
     }
 
     fn reason(&self, store: &DomainStore, pair: Pair, out: &mut Reasons) -> Result<(), NoMemory> {

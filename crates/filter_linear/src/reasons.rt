@@ -1,5 +1,7 @@
 //! Reasons of linear constraints: removed values beyond the present ones, or all removed values.
-ghost use Rattle.std.specs.Prelude.{◌≡◌, ◌++◌, ◌<◌, filter, int_lt, length, OnOk};
+ghost use Rattle.std.specs.Prelude.{◌≡◌, ◌++◌, ◌<◌, ◌≤◌, ◌≤ℤ◌, ℤ, drop, filter, int_lt, length, take, IfOk, OnOk};
+ghost use Rattle.palm_filter.specs.Rules.{interval_pairs, listed_pairs, written};
+ghost use Rattle.palm_model.specs.declared.constraint.Con.{Con};
 ghost use Rattle.filter_linear.specs.Linear.{IsOfLow, beyond_reason, linear_of, values_beyond};
 ghost use Rattle.palm_base.specs.Tells.{Tells};
 ghost use Rattle.palm_domain.specs.Rows.{Ascends, initial_of, present_of};
@@ -12,7 +14,9 @@ ghost use Rattle.palm_model.specs.Removed.{others, pairs_of, removed_pairs};
 use crate::rule::LinearRule;
 use palm_base::{NoMemory, Pair, Value};
 use palm_domain::DomainStore;
-use palm_filter::{Reasons, push_passing, push_removed};
+use palm_filter::{
+    Interval, Intervals, Known, Reasons, Rule, list_pairs, push_passing, push_removed,
+};
 use palm_model::{Op, Term};
 
 /// On which side of the present values others are missing.
@@ -24,12 +28,30 @@ pub enum Side {
     Above,
 }
 
+/// Where the values below the bound end, among ascending ones.
+fn end_of_lower(values: &[Value], bound: &Value) -> usize
+    requires { Ascends values.now }
+    ensures within { result ≤ length values.now }
+    ensures lower { take result values.now ≡ filter (λ v. int_lt v bound.now) values.now }
+{
+    values.partition_point(|value| *value < *bound)
+}
+
+/// Where the values above the bound start, among ascending ones.
+fn start_of_higher(values: &[Value], bound: &Value) -> usize
+    requires { Ascends values.now }
+    ensures within { result ≤ length values.now }
+    ensures higher { drop result values.now ≡ filter (λ v. int_lt bound.now v) values.now }
+{
+    values.partition_point(|value| *value <= *bound)
+}
+
 /// The values below the bound: the first ones of an ascending list.
 fn lower<'a>(values: &'a [Value], bound: &Value) -> &'a [Value]
     requires { Ascends values.now }
     ensures { result.now ≡ filter (λ v. int_lt v bound.now) values.now }
 {
-    let end = values.partition_point(|value| *value < *bound);
+    let end = end_of_lower(values, bound);
     &values[..end]
 }
 
@@ -38,11 +60,55 @@ fn higher<'a>(values: &'a [Value], bound: &Value) -> &'a [Value]
     requires { Ascends values.now }
     ensures { result.now ≡ filter (λ v. int_lt bound.now v) values.now }
 {
-    let start = values.partition_point(|value| *value <= *bound);
+    let start = start_of_higher(values, bound);
     &values[start..]
 }
 
 impl Side {
+    /// The interval of the removed values of the term's variable whose products are on this side of those of all present
+    /// values.
+    fn interval_beyond(self, term: &Term, store: &DomainStore) -> Interval
+        requires factor { IsFactor term.now }
+        requires declared { term.now.var < length store.now }
+        requires filled { 0 < length (values_of (present_of store.now) term.now.var) }
+        ensures { interval_pairs (initial_of store.now) result ≡ pairs_of term.now.var (values_beyond self (initial_of store.now) (present_of store.now) term.now) }
+    {
+        let values = store.initial_values(term.var);
+        if self.is_of_low_values(term) {
+            Interval {
+                var: term.var,
+                first: 0,
+                end: end_of_lower(values, &store.least(term.var)),
+            }
+        } else {
+            Interval {
+                var: term.var,
+                first: start_of_higher(values, &store.greatest(term.var)),
+                end: values.len(),
+            }
+        }
+    }
+
+    /// Appends these intervals of every variable of the sum but that of the pair.
+    fn push_intervals(
+        self,
+        rule: &LinearRule,
+        store: &DomainStore,
+        pair: &Pair,
+        out: &mut Intervals,
+    ) -> Result<(), NoMemory>
+        requires formed { IsWellFormed (length store.now) (linear_of rule.now) }
+        requires filled { AreFilled (present_of store.now) (term_vars rule.now.terms) }
+        ensures { OnOk result (listed_pairs (initial_of store.now) out.new.items ≡ listed_pairs (initial_of store.now) out.old.items ++ beyond_reason self (initial_of store.now) (present_of store.now) rule.now.terms pair.now.var) }
+    {
+        for term in rule.terms.as_slice() {
+            if term.var != pair.var {
+                out.push(self.interval_beyond(term, store))?;
+            }
+        }
+        Ok(())
+    }
+
     /// Whether the products of the term on this side are those of its low values.
     fn is_of_low_values(self, term: &Term) -> bool
         requires { IsFactor term.now }
@@ -141,5 +207,58 @@ pub(crate) fn push_reason(
         Op::Ne => push_others(rule, store, pair, out),
         Op::Lt | Op::Le => Side::Below.push_pairs(rule, store, pair, out),
         Op::Gt | Op::Ge => Side::Above.push_pairs(rule, store, pair, out),
+    }
+}
+
+/// Replaces what `out` has by the intervals of the removed values of every variable of the sum but that of the pair.
+fn list_others(
+    rule: &LinearRule,
+    store: &DomainStore,
+    pair: &Pair,
+    out: &mut Intervals,
+) -> Result<(), NoMemory>
+    requires formed { IsWellFormed (length store.now) (linear_of rule.now) }
+    ensures { OnOk result (listed_pairs (initial_of store.now) out.new.items ≡ removed_pairs (initial_of store.now) (present_of store.now) (others (term_vars rule.now.terms) pair.now.var)) }
+{
+    let mut removed = Reasons::new(*out.allocator());
+    push_others(rule, store, pair, &mut removed)?;
+    list_pairs(store, removed.as_slice(), out)
+}
+
+/// The rule of the reasons: a list of intervals, which replaces what `out` has. It is the same for every value, but of a sum
+/// that is to be equal to the bound, where it is told of the value alone.
+pub(crate) fn list_rule(
+    rule: &LinearRule,
+    store: &DomainStore,
+    pair: &Pair,
+    out: &mut Intervals,
+) -> Result<Known, NoMemory>
+    requires formed { IsWellFormed (length store.now) (linear_of rule.now) }
+    requires filled { AreFilled (present_of store.now) (term_vars rule.now.terms) }
+    ensures { IfOk result (λ known. (c : Con) (v : ℤ) → pair.now.value ≤ℤ v → v ≤ℤ known.last
+        → written (initial_of store.now) c known.rule out.new.items pair.now.var v ≡ linear_reason (initial_of store.now) (present_of store.now) rule.now.terms rule.now.op rule.now.bound pair.now.var v) }
+{
+    out.clear();
+    match rule.op {
+        Op::Eq => {
+            rule.missing_side(store, pair)
+                .push_intervals(rule, store, pair, out)?;
+            Ok(Known {
+                rule: Rule::Listed,
+                last: pair.value,
+            })
+        }
+        Op::Ne => {
+            list_others(rule, store, pair, out)?;
+            Ok(Known::always(Rule::Listed))
+        }
+        Op::Lt | Op::Le => {
+            Side::Below.push_intervals(rule, store, pair, out)?;
+            Ok(Known::always(Rule::Listed))
+        }
+        Op::Gt | Op::Ge => {
+            Side::Above.push_intervals(rule, store, pair, out)?;
+            Ok(Known::always(Rule::Listed))
+        }
     }
 }

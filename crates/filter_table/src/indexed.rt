@@ -1,5 +1,5 @@
 //! A table with an index of each of its columns.
-ghost use Rattle.std.specs.Prelude.{◌≡◌, ◌++◌, ℕ, ◌<◌, length, true, All, Contains, IfOk, IfSome, OnOk, MatchOption, Some, slice_get};
+ghost use Rattle.std.specs.Prelude.{◌≡◌, ◌++◌, [], ◌∷◌, ℕ, ◌<◌, length, true, All, Contains, IfOk, IfSome, OnOk, MatchOption, Some, slice_get};
 ghost use Rattle.std.specs.List.{list_any};
 ghost use Rattle.filter_table.specs.Table.{AreBesides, AreColumns, IsIndexed, column_values, is_support_row, is_blocker, row_at, table_of};
 ghost use Rattle.palm_domain.specs.Rows.{initial_of, present_of};
@@ -7,7 +7,7 @@ ghost use Rattle.palm_model.specs.Constraint.{Distinct};
 ghost use Rattle.palm_model.specs.declared.constraint.Con.{Con};
 ghost use Rattle.palm_model.specs.Domains.{Has, is_among};
 ghost use Rattle.palm_model.specs.Table.{blocking_values, is_blocked_at, row_pairs, table_reason};
-ghost use Rattle.palm_model.specs.Removed.{pairs_of};
+ghost use Rattle.palm_model.specs.Removed.{others, pairs_of};
 
 use crate::beside::{Beside, near};
 use palm_base::{NoMemory, Pair, Value, ValueList, Var, VarList};
@@ -115,6 +115,19 @@ impl IndexedTable {
         ensures every { (k : ℕ) → k < length self.now.rows → is_among (row_pairs self.now.vars (row_at self.now.rows k)) pair.now.var pair.now.value ≡ true → Contains result.now k }
     {
         self.columns[column].places(&pair.value)
+    }
+
+    /// The other variable of a table of two columns.
+    pub(crate) fn partner_of(&self, var: &Var) -> Option<Var>
+        requires indexed { IsIndexed self.now }
+        requires over { Contains self.now.vars var.now }
+        ensures { IfSome result (λ partner. others self.now.vars var.now ≡ partner ∷ []) }
+    {
+        if self.vars.len() != 2 {
+            return None;
+        }
+        let own = column_of_two(self.vars.as_slice(), var);
+        Some(self.vars.as_slice()[1 - own])
     }
 
     /// Whether some row has the value of the pair in its column, and only present entries.

@@ -5,3 +5,4 @@ pub mod Looping
 pub mod Moving
 pub mod Owned
 pub mod Reaching
+pub mod Stopping

@@ -5,3 +5,4 @@ pub mod Ends
 pub mod Following
 pub mod Improving
 pub mod Moves
+pub mod Stopping

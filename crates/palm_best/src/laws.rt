@@ -11,6 +11,14 @@ ghost use Rattle.palm_best.specs.Answers.{IsTrueOf};
 ghost use Rattle.palm_best.specs.Cuts.{is_own};
 ghost use Rattle.palm_best.specs.Ends.{Minimizes};
 
+use crate::limits::{FIRST_CUT, MOST_CUTS};
+
+/// The numbers of the cuts, which an order object is shown.
+pub fn limits_are_these_numbers()
+    ensures first { FIRST_CUT ≡ 65536 }
+    ensures most { MOST_CUTS ≡ 2000001 }
+{}
+
 /// A minimization has fewer turns than this, whatever the guide and the order, and however often it finds values.
 pub fn minimizations_are_bounded()
     ensures { (guided ordered : Bool) (target budget : ℕ) (s t : EngineState) (turns : List Turn) (best : Best)

@@ -10,8 +10,8 @@ mod minimizing;
 
 pub use best::Best;
 pub use laws::{
-    ends_are_true, minimizations_are_bounded, minimizations_leave_the_constraints,
-    minimizations_leave_the_log,
+    ends_are_true, limits_are_these_numbers, minimizations_are_bounded,
+    minimizations_leave_the_constraints, minimizations_leave_the_log,
 };
 pub use limits::FIRST_CUT;
 pub use minimizing::minimize;

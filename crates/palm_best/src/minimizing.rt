@@ -3,16 +3,18 @@ ghost use Rattle.std.specs.Prelude.{◌≡◌, ℤ, ◌<◌, ◌≤◌, [], leng
 ghost use Rattle.palm_model.specs.Domains.{Has};
 ghost use Rattle.palm_model.specs.Limits.{IsValue};
 ghost use Rattle.palm_model.specs.State.{IsValid};
-ghost use Rattle.palm_engine.specs.Following.{OrderFollows};
+ghost use Rattle.palm_engine.specs.Following.{OrderAnswers, OrderFollows};
 ghost use Rattle.palm_search.specs.Calls.{search_state};
 ghost use Rattle.palm_search.specs.Following.{GuideFollows};
 ghost use Rattle.palm_search.specs.Kept.{HasDecisions, HasNone};
 ghost use Rattle.palm_search.specs.Leaves.{Counts, Leaves, Lent};
+ghost use Rattle.palm_search.specs.Stopping.{GuideStops};
 ghost use Rattle.palm_best.specs.Answers.{IsTrueOf};
 ghost use Rattle.palm_best.specs.Breaking.{BreaksOff, IsCutOff};
 ghost use Rattle.palm_best.specs.Cuts.{is_own};
 ghost use Rattle.palm_best.specs.Following.{HasRunBy, MinimizesBy};
 ghost use Rattle.palm_best.specs.Improving.{HasCuts, Proves};
+ghost use Rattle.palm_best.specs.Stopping.{BreaksOffBy, IsCutOffBy};
 
 use crate::best::Best;
 use crate::cuts::{improve, withdraw_cuts, without_cuts};
@@ -61,6 +63,8 @@ fn run<G: Guide, O: Order, L: Ledger>(
     ensures ok { IfOk result (λ best. HasRunBy (GuideFollows G.answers G.hears G.state) (OrderFollows O.answers O.hears O.state) guide.old guide.new order.old order.new
         target budget engine.old.state search.new.journal best (search_state engine.new.state search.new)) }
     ensures err { OnErr result (IsCutOff (is_some guide.old) (is_some order.old) target budget engine.old.state search.new.journal engine.new.state) }
+    ensures stopped { OnErr result (IsCutOffBy (GuideFollows G.answers G.hears G.state) (GuideStops G.answers G.hears G.state) (OrderFollows O.answers O.hears O.state) (OrderAnswers O.answers O.state)
+        guide.old guide.new order.old order.new target budget engine.old.state search.new.journal engine.new.state) }
     ensures decisions { HasDecisions (search_state engine.new.state search.new) }
     ensures cuts { HasCuts incumbent.new.cuts engine.new.state }
     ensures few { incumbent.new.cuts ≤ MOST_CUTS }
@@ -98,7 +102,8 @@ fn run<G: Guide, O: Order, L: Ledger>(
 /// all decisions, negations and cuts are withdrawn, and the engine settles once more. The journal holds the turns. The guide
 /// and the order are asked and told as in `solve`, and the settlings after cuts go through the order, too. After want of
 /// memory the decisions, negations and cuts are withdrawn too, the journal holds the turns so far, and constraints may be
-/// pending. (Branch and bound over the search of Jussien, Debruyne and Boizumault 2000)
+/// pending; the guide and the order were asked and told along the moves so far, and for the step that broke off as far as it
+/// came. (Branch and bound over the search of Jussien, Debruyne and Boizumault 2000)
 pub fn minimize<G: Guide, O: Order, L: Ledger>(
     alloc: Global,
     engine: &mut Engine<Kind>,
@@ -117,6 +122,8 @@ pub fn minimize<G: Guide, O: Order, L: Ledger>(
         target budget engine.old.state search.new.journal best engine.new.state) }
     ensures holds { IfOk result (IsTrueOf engine.old.state target budget) }
     ensures err { OnErr result (BreaksOff (is_some guide.old) (is_some order.old) target budget engine.old.state search.new.journal engine.new.state) }
+    ensures stopped { OnErr result (BreaksOffBy (GuideFollows G.answers G.hears G.state) (GuideStops G.answers G.hears G.state) (OrderFollows O.answers O.hears O.state) (OrderAnswers O.answers O.state)
+        guide.old guide.new order.old order.new target budget engine.old.state search.new.journal engine.new.state) }
     ensures leaves { Leaves engine.old.state engine.new.state search.new result }
     ensures counts { Counts engine.old engine.new steps.old steps.new }
     ensures lent { Lent guide.old guide.new order.old order.new }

@@ -10,7 +10,7 @@ use palm_read::next_line;
 use std::alloc::Global;
 
 /// The verdict on a text: that it is a certificate and what it proves, or its first line that has a cause. A text may be
-/// of any length. A step costs what its own reasons cost, and not more where many steps stand before it.
+/// of any length.
 pub fn check(alloc: Global, bytes: &[u8]) -> Result<Verdict, NoMemory>
     ensures verdict { IfOk result (IsVerdict bytes.now) }
     ensures named { IfOk result IsOverItsBook }

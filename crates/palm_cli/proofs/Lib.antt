@@ -1,5 +1,7 @@
 pub mod CommandLine
 pub mod Endings
+pub mod EvidentLemmas
+pub mod Hosting
 pub mod InnerLines
 pub mod JudgeLemmas
 pub mod LeadLemmas

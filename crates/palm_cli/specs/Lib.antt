@@ -1,9 +1,12 @@
 pub mod Commands
+pub mod Evident
 pub mod Generator
+pub mod Host
 pub mod Judging
 pub mod Led
 pub mod Numbers
 pub mod Serving
 pub mod Solving
+pub mod Stock
 pub mod Verdicts
 pub mod Words

@@ -1,4 +1,4 @@
-//! The one call that the program makes.
+//! The public call: words, streams and objects in, a status out.
 ghost use Rattle.std.specs.Prelude.{ℕ, map, string_bytes, vec_len};
 ghost use Rattle.palm_base.specs.Streams.{Rose};
 ghost use Rattle.palm_engine.specs.Following.{OrderFollows};
@@ -34,7 +34,7 @@ pub fn top<S: Source, K: Sink, G: Guide, O: Order>(
     ensures runs { IsRun (map string_bytes words.now) →
         Runs (numbered (vec_len guides)) (numbered (vec_len orders))
         (streams (S.state source.old) (K.state sink.old)) (streams (S.state source.new) (K.state sink.new)) result }
-    // Where `run` ends by no stop, its lines led the objects under the numbers that they were handed in by, and no others.
+    // Where `run` ends with `Done`, its lines led the objects under the numbers that they were handed in by, and no others.
     ensures led { IsRun (map string_bytes words.now) →
         RunsLead (GuideFollows G.answers G.hears G.state) (OrderFollows O.answers O.hears O.state)
         (numbered (vec_len guides)) (numbered (vec_len orders)) (handed_in guides.items orders.items)

@@ -3,16 +3,22 @@
 
 mod command;
 mod generator;
+mod host;
 mod judging;
 mod laws;
 mod limits;
 mod queens;
 mod serving;
 mod status;
+mod stock;
 mod verdicts;
 mod words;
 
 pub use command::top;
-pub use laws::{a_size_has_one_summary, limits_are_these_numbers, summaries_are_of_replies};
+pub use host::program;
+pub use laws::{
+    a_size_has_one_summary, limits_are_these_numbers, summaries_are_of_replies,
+    what_is_accepted_is_so, what_run_writes_is_accepted,
+};
 pub use limits::{MOST_INPUT_BYTES, MOST_QUEENS, MOST_SIZE_DIGITS, PIECE, SEARCH_BUDGET};
 pub use status::Status;

@@ -17,9 +17,11 @@ use Rattle.palm_engine.specs.declared.filtering.Filtering.{Filtering}
 use Rattle.palm_engine.specs.Kept.{state_in_revision}
 use Rattle.palm_engine.specs.Advancing.{Advanced, LacksAbove, LacksFrom, values_below, values_before, values_from, IsBefore}
 use Rattle.palm_engine.specs.Revising.{IsRevising, Walked, HasCounted}
+use Rattle.palm_engine.specs.Work.{asks_of}
 use Rattle.palm_engine.proofs.Counting.{length_filter_le, length_filter_lt}
 use Rattle.palm_engine.proofs.Joined.{walk_has}
 use Rattle.palm_engine.proofs.Bounds.{IsNextAt, left_from, below_from}
+use Rattle.palm_engine.proofs.Quiet.{IsQuiet, none_asked}
 use Rattle.palm_engine.proofs.Revised.{present_is}
 use Rattle.palm_engine.proofs.Progress.{declared_ascend, has_declared_value, one_more_below, below_or_not, over, counted_none, counted_then, counted_more, revising_checks, walked_checks, walked_initial, values_more, values_passed, values_fewer}
 
@@ -227,9 +229,9 @@ ends_lacking owner x last next now after same lacks is_next =
 -- the values up to the first one and those above it are all
 pub ends_counted : (active : List Active) (owner : Active) (x : ℕ) (first : ℤ) (before now after end : Filtering) (s t u : ℕ) → Advanced active owner x (Some first) before now
     → HasCounted (length (values_below (first +ℤ pos 1) (values_of (initial_of before.store) x))) before now s t
-    → HasCounted (length (values_from (first +ℤ pos 1) (values_of (initial_of now.store) x))) now after t u → end.checks ≡ after.checks
+    → HasCounted (length (values_from (first +ℤ pos 1) (values_of (initial_of now.store) x))) now after t u → end.checks ≡ after.checks → s + asks_of owner ≤ t → IsQuiet owner after end
     → HasCounted (length (values_of (initial_of before.store) x)) before end s u
-ends_counted active owner x first before now after end s t u w low high same =
+ends_counted active owner x first before now after end s t u w low high same asked quiet =
     let vs = values_of (initial_of before.store) x in
     let bound = first +ℤ pos 1 in
     let i = walked_initial active owner (pairs_of x (values_below first vs)) before now w.walked in
@@ -237,7 +239,12 @@ ends_counted active owner x first before now after end s t u w low high same =
     let e : length (values_below bound vs) + length (values_from bound vs) ≡ length vs = sym (length-append (values_below bound vs) (values_from bound vs)) ∙ ap length (below_from bound vs a) in
     let both = counted_then (length (values_below bound vs)) (length (values_from bound vs)) before now after s t u low (subst (λ (d : Domains). HasCounted (length (values_from bound (values_of d x))) now after t u) i high) in
     let all = subst (λ n. HasCounted n before after s u) e both in
-    record { later = all.later; few = all.few; checks = λ le. same ∙ all.checks le }
+    let ticked = all.ticked in
+    let later = high.ticked.later in
+    record {
+      ticked = record { later = ticked.later; few = ticked.few; checks = λ le. same ∙ ticked.checks le };
+      silent = λ e. quiet (none_asked owner s t u asked later e) ∙ all.silent e;
+    }
 
 -- ---- those above the last one
 

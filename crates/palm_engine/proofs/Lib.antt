@@ -19,6 +19,8 @@ pub mod PlacedWalks
 pub mod Placing
 pub mod Plain
 pub mod Progress
+pub mod Quiet
+pub mod Removers
 pub mod Restoring
 pub mod Revised
 pub mod Running

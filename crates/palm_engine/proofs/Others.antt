@@ -21,11 +21,13 @@ use Rattle.palm_model.proofs.cited.Without.{pair_of}
 use Rattle.palm_engine.specs.declared.filtering.Filtering.{Filtering}
 use Rattle.palm_engine.specs.Advancing.{Advanced, AreSupportedBut, LackBut, asked_but, asked_of}
 use Rattle.palm_engine.specs.Kept.{state_in_revision}
-use Rattle.palm_engine.specs.Revising.{IsRevising, Walked, WalkedPart, AreSupportedAt, HasCounted}
+use Rattle.palm_engine.specs.Revising.{IsRevising, Walked, WalkedPart, AreSupportedAt, HasCounted, HasTicked}
+use Rattle.palm_engine.specs.Work.{asks_of}
 use Rattle.palm_engine.specs.Settling.{IsDue, Walks}
 use Rattle.palm_engine.proofs.Bounds.{IsNextAt, below_between, below_from, below_of, between_one, supported_past, values_before, values_below, values_between, values_from, walk_on, walk_value}
 use Rattle.palm_engine.proofs.Joined.{walk_has}
-use Rattle.palm_engine.proofs.Progress.{checks_walked, revising_checks, counted_more, counted_none, counted_then, has_declared_value, values_stopped, walked_initial}
+use Rattle.palm_engine.proofs.Progress.{checks_walked, revising_checks, counted_more, counted_then, ticked_more, ticked_none, ticked_then, has_declared_value, values_stopped, walked_initial}
+use Rattle.palm_engine.proofs.Quiet.{IsQuiet, not_asked}
 use Rattle.palm_engine.proofs.Revised.{one_supports, present_is, some_length}
 
 -- ---- the least present value but one
@@ -83,9 +85,9 @@ asked_before but vs low (Some v) now a next =
 asked_before but vs low None now a none = asked_all but vs low a
 
 -- where the checks stay, nothing was asked
-counted_same : (n : ℕ) (f g : Filtering) (s : ℕ) → g.checks ≡ f.checks → HasCounted n f g s s
-counted_same n f g s same =
-    let none = counted_more 0 n f f s s (omega arith) (counted_none f s) in
+ticked_same : (n : ℕ) (f g : Filtering) (s : ℕ) → g.checks ≡ f.checks → HasTicked n f g s s
+ticked_same n f g s same =
+    let none = ticked_more 0 n f f s s (omega arith) (ticked_none f s) in
     record { later = none.later; few = none.few; checks = λ le. same ∙ none.checks le }
 
 -- ---- only the checks changed
@@ -126,6 +128,20 @@ asked_counted x but f g h s t u same first second =
     let store : g.store ≡ f.store = ap (λ (z : Filtering). z.store) same in
     let after = subst (λ (rows : List Row). HasCounted (asked_of but (values_of (initial_of rows) x)) g h t u) store second in
     counted_more (asked_but but vs + asked_of but vs) (length vs) f h s u (asked_both but vs) (counted_then (asked_but but vs) (asked_of but vs) f g h s t u first after)
+
+-- and where the others were taken out for that
+pub asked_others : (owner : Active) (x : ℕ) (but : ℤ) (f g h : Filtering) (s t u : ℕ) → g ≡ record f { checks = g.checks } → HasCounted (asked_but but (values_of (initial_of f.store) x)) f g s t → t ≡ s + asks_of owner
+    → HasTicked (asked_of but (values_of (initial_of g.store) x)) g h t u → IsQuiet owner g h → HasCounted (length (values_of (initial_of f.store) x)) f h s u
+asked_others owner x but f g h s t u same first asked second quiet =
+    let vs = values_of (initial_of f.store) x in
+    let store : g.store ≡ f.store = ap (λ (z : Filtering). z.store) same in
+    let after = subst (λ (rows : List Row). HasTicked (asked_of but (values_of (initial_of rows) x)) g h t u) store second in
+    let before = first.ticked.later in
+    let later = second.later in
+    record {
+      ticked = ticked_more (asked_but but vs + asked_of but vs) (length vs) f h s u (asked_both but vs) (ticked_then (asked_but but vs) (asked_of but vs) f g h s t u first.ticked after);
+      silent = λ e. quiet (not_asked owner s t asked (omega (arith, before, later, e))) ∙ first.silent (omega (arith, before, later, e));
+    }
 
 -- ---- one value that is asked for, and the others have support
 
@@ -218,16 +234,16 @@ lack_still active owner ps x but f g r q w lack v has other =
 pub record WalkedOthers (active : List Active) (owner : Active) (x : ℕ) (but : ℤ) (next : Option ℤ) (before now : Filtering) (old new : ℕ) : Type 0 where
   pub advanced : Advanced active owner x next before now
   pub lacking : LackBut now owner x but
-  pub counted : HasCounted (asked_of but (values_before next (values_of (initial_of before.store) x))) before now old new
+  pub counted : HasTicked (asked_of but (values_before next (values_of (initial_of before.store) x))) before now old new
 
 -- no value below the least one was asked for
-pub others_start : (x : ℕ) (but v : ℤ) (f : Filtering) (s : ℕ) → HasCounted (asked_of but (values_below v (values_of (initial_of f.store) x))) f f s s
-others_start x but v f s = counted_same (asked_of but (values_below v (values_of (initial_of f.store) x))) f f s refl
+pub others_start : (x : ℕ) (but v : ℤ) (f : Filtering) (s : ℕ) → HasTicked (asked_of but (values_below v (values_of (initial_of f.store) x))) f f s s
+others_start x but v f s = ticked_same (asked_of but (values_below v (values_of (initial_of f.store) x))) f f s refl
 
 -- one value more
 pub others_counted : (active : List Active) (owner : Active) (x : ℕ) (but v : ℤ) (next : Option ℤ) (before now after : Filtering) (s t u : ℕ) → Advanced active owner x (Some v) before now
-    → HasCounted (asked_of but (values_below v (values_of (initial_of before.store) x))) before now s t → HasCounted (asked_of but (v ∷ [])) now after t u → IsNextAt next (present_values after.store x) (v +ℤ pos 1)
-    → HasCounted (asked_of but (values_before next (values_of (initial_of before.store) x))) before after s u
+    → HasTicked (asked_of but (values_below v (values_of (initial_of before.store) x))) before now s t → HasTicked (asked_of but (v ∷ [])) now after t u → IsNextAt next (present_values after.store x) (v +ℤ pos 1)
+    → HasTicked (asked_of but (values_before next (values_of (initial_of before.store) x))) before after s u
 others_counted active owner x but v next before now after s t u w first one is_next =
     let vs = values_of (initial_of before.store) x in
     let i = walked_initial active owner (pairs_of x (values_below v vs)) before now w.walked in
@@ -235,13 +251,13 @@ others_counted active owner x but v next before now after s t u w first one is_n
     let has : Contains vs v = subst (λ (d : Domains). Has d x v) i (has_declared_value now active w.revising.kept x v w.present) in
     let more = asked_more but vs v a has in
     let all = asked_before but vs (v +ℤ pos 1) next (present_values after.store x) a is_next in
-    counted_more (asked_of but (values_below v vs) + asked_of but (v ∷ [])) (asked_of but (values_before next vs)) before after s u (omega (arith, more, all))
-    (counted_then (asked_of but (values_below v vs)) (asked_of but (v ∷ [])) before now after s t u first one)
+    ticked_more (asked_of but (values_below v vs) + asked_of but (v ∷ [])) (asked_of but (values_before next vs)) before after s u (omega (arith, more, all))
+    (ticked_then (asked_of but (values_below v vs)) (asked_of but (v ∷ [])) before now after s t u first one)
 
 -- and as many at most as there are
 pub others_stopped : (active : List Active) (owner : Active) (x : ℕ) (but v : ℤ) (before now after : Filtering) (s t u : ℕ) → Advanced active owner x (Some v) before now
-    → HasCounted (asked_of but (values_below v (values_of (initial_of before.store) x))) before now s t → HasCounted (asked_of but (v ∷ [])) now after t u
-    → HasCounted (asked_of but (values_of (initial_of before.store) x)) before after s u
+    → HasTicked (asked_of but (values_below v (values_of (initial_of before.store) x))) before now s t → HasTicked (asked_of but (v ∷ [])) now after t u
+    → HasTicked (asked_of but (values_of (initial_of before.store) x)) before after s u
 others_stopped active owner x but v before now after s t u w first one =
     let vs = values_of (initial_of before.store) x in
     let i = walked_initial active owner (pairs_of x (values_below v vs)) before now w.walked in
@@ -249,8 +265,8 @@ others_stopped active owner x but v before now after s t u w first one =
     let has : Contains vs v = subst (λ (d : Domains). Has d x v) i (has_declared_value now active w.revising.kept x v w.present) in
     let more = asked_more but vs v a has in
     let all = asked_all but vs (v +ℤ pos 1) a in
-    counted_more (asked_of but (values_below v vs) + asked_of but (v ∷ [])) (asked_of but vs) before after s u (omega (arith, more, all))
-    (counted_then (asked_of but (values_below v vs)) (asked_of but (v ∷ [])) before now after s t u first one)
+    ticked_more (asked_of but (values_below v vs) + asked_of but (v ∷ [])) (asked_of but vs) before after s u (omega (arith, more, all))
+    (ticked_then (asked_of but (values_below v vs)) (asked_of but (v ∷ [])) before now after s t u first one)
 
 -- ---- two facts of one result
 

@@ -27,6 +27,7 @@ use Rattle.palm_engine.specs.Settling.Walks.{walked_empty}
 use Rattle.palm_engine.specs.Advancing.{AreSupportedUnless}
 use Rattle.palm_engine.specs.Kept.{IsEmptyKept, AreConnected, AreHeeded, AreMarked, state_in_revision}
 use Rattle.palm_engine.specs.Revising.{IsRevising, IsAgain, Walked, WalkedPart, AreSupportedAt, HasCounted}
+use Rattle.palm_engine.specs.Work.{users_removals}
 use Rattle.palm_engine.proofs.Bounds.{supported_past}
 use Rattle.palm_engine.proofs.Scopes.{bare_unmarked, connected_stays, heeded_stays}
 use Rattle.palm_engine.proofs.Unmarking.{active_connected, marked_walked, unmark}
@@ -144,7 +145,12 @@ cleared_walked active owner pairs f g h place w clears = record {
 }
 
 pub cleared_counted : (n : ℕ) (f g h : Filtering) (s t : ℕ) (cid : Cid) (place : ℕ) → HasCounted n f g s t → Clears cid place g h → HasCounted n f h s t
-cleared_counted n f g h s t cid place counted clears = record { later = counted.later; few = counted.few; checks = λ le. clears.checks ∙ counted.checks le }
+cleared_counted n f g h s t cid place counted clears =
+    let ticked = counted.ticked in
+    record {
+      ticked = record { later = ticked.later; few = ticked.few; checks = λ le. clears.checks ∙ ticked.checks le };
+      silent = λ e. ap (λ (l : Explanations). users_removals l.log) clears.log ∙ counted.silent e;
+    }
 
 -- ---- all places
 

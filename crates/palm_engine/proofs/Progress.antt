@@ -20,10 +20,12 @@ use Rattle.palm_engine.specs.Settling.{IsDue}
 use Rattle.palm_engine.specs.Settling.Walks.{walked_all}
 use Rattle.palm_engine.specs.Kept.{IsInStep, state_in_revision}
 use Rattle.palm_engine.specs.Advancing.{Advanced}
-use Rattle.palm_engine.specs.Revising.{IsRevising, IsAgain, Walked, WalkedPart, AreSupportedAt, HasCounted}
+use Rattle.palm_engine.specs.Revising.{IsRevising, IsAgain, Walked, WalkedPart, AreSupportedAt, HasCounted, HasTicked}
+use Rattle.palm_engine.specs.Work.{asks_of}
 use Rattle.palm_engine.proofs.cited.Walking.{walk_filters}
 use Rattle.palm_engine.proofs.Joined.{walk_has, walk_then, walk_one_past, walk_one_out}
 use Rattle.palm_engine.proofs.Bounds.{left_from, fewer_left, values_below, values_from, values_between, values_before, IsBefore, IsNextAt, below_between, below_from, between_one, below_of, member_below, member_from, walk_next, walk_on, walk_least, walk_value, pairs_both}
+use Rattle.palm_engine.proofs.Quiet.{IsQuiet, asks_few, not_asked}
 use Rattle.palm_engine.proofs.Revised.{over_connected, present_is, present_length, stated, out_removes, out_kept, one_keeps, one_supports, only_emptied, some_length}
 use Rattle.palm_events.proofs.cited.Reasons.{reasons_right}
 use Rattle.palm_events.proofs.cited.Valid.{removes_valid}
@@ -83,8 +85,8 @@ min_joined c s t u g h last st tu eg eh = omega arith
 min_within : (n last : ℕ) → min n last ≤ last
 min_within n last = omega arith
 
-pub counted_then : (a b : ℕ) (f g h : Filtering) (s t u : ℕ) → HasCounted a f g s t → HasCounted b g h t u → HasCounted (a + b) f h s u
-counted_then a b f g h s t u first second =
+pub ticked_then : (a b : ℕ) (f g h : Filtering) (s t u : ℕ) → HasTicked a f g s t → HasTicked b g h t u → HasTicked (a + b) f h s u
+ticked_then a b f g h s t u first second =
     let l = first.later in
     let m = second.later in
     let x = first.few in
@@ -98,14 +100,46 @@ counted_then a b f g h s t u first second =
           min_joined f.checks s t u g.checks h.checks LAST_COUNT l m e (second.checks (subst (λ n. n ≤ LAST_COUNT) (sym e) within));
     }
 
-pub counted_none : (f : Filtering) (s : ℕ) → HasCounted 0 f f s s
-counted_none f s = record { later = omega arith; few = omega arith; checks = λ le. same f.checks s LAST_COUNT le }
+pub ticked_none : (f : Filtering) (s : ℕ) → HasTicked 0 f f s s
+ticked_none f s = record { later = omega arith; few = omega arith; checks = λ le. same f.checks s LAST_COUNT le }
   where
     same : (c s last : ℕ) → c ≤ last → c ≡ min (c + (s - s)) last
     same c s last le = omega arith
 
+pub ticked_more : (a b : ℕ) (f g : Filtering) (s t : ℕ) → a ≤ b → HasTicked a f g s t → HasTicked b f g s t
+ticked_more a b f g s t le c = let x = c.few in record { later = c.later; few = omega (arith, x); checks = c.checks }
+
+pub counted_then : (a b : ℕ) (f g h : Filtering) (s t u : ℕ) → HasCounted a f g s t → HasCounted b g h t u → HasCounted (a + b) f h s u
+counted_then a b f g h s t u first second =
+    let l = first.ticked.later in
+    let m = second.ticked.later in
+    record {
+      ticked = ticked_then a b f g h s t u first.ticked second.ticked;
+      silent = λ e. second.silent (omega (arith, l, m, e)) ∙ first.silent (omega (arith, l, m, e));
+    }
+
+pub counted_none : (f : Filtering) (s : ℕ) → HasCounted 0 f f s s
+counted_none f s = record { ticked = ticked_none f s; silent = λ e. refl }
+
 pub counted_more : (a b : ℕ) (f g : Filtering) (s t : ℕ) → a ≤ b → HasCounted a f g s t → HasCounted b f g s t
-counted_more a b f g s t le c = let x = c.few in record { later = c.later; few = omega (arith, x); checks = c.checks }
+counted_more a b f g s t le c = record { ticked = ticked_more a b f g s t le c.ticked; silent = c.silent }
+
+once_later : (asks s t : ℕ) → t ≡ s + asks → s ≤ t
+once_later asks s t e = omega arith
+
+once_few : (asks s t : ℕ) → t ≡ s + asks → asks ≤ 1 → t ≤ s + 1
+once_few asks s t e le = omega arith
+
+-- one value was asked for, and was left or taken out
+pub counted_one : (owner : Active) (f g : Filtering) (s t : ℕ) → t ≡ s + asks_of owner → g.checks ≡ min (f.checks + (t - s)) LAST_COUNT → IsQuiet owner f g → HasCounted 1 f g s t
+counted_one owner f g s t asked checks quiet = record {
+  ticked = record {
+    later = once_later (asks_of owner) s t asked;
+    few = once_few (asks_of owner) s t asked (asks_few owner);
+    checks = λ le. checks;
+  };
+  silent = λ e. quiet (not_asked owner s t asked e);
+}
 
 -- ---- one value
 

@@ -19,16 +19,17 @@ use Rattle.palm_engine.specs.declared.settle.Settle.{Settle}
 use Rattle.palm_engine.specs.declared.settle.Settle.TheVariants.{Settled, Empty, Stopped}
 use Rattle.palm_engine.specs.Engine.{View, EndsAs, HasAsked}
 use Rattle.palm_engine.specs.Following.{Hearing, HasSettledBy, IsInterruptedBy, LeadsAlong, hearings}
-use Rattle.palm_engine.specs.Settling.{Revision, Revises, Revisions, FitsOrder, IsEnded, IsInLimit, HasReached}
+use Rattle.palm_engine.specs.Settling.{Revision, Revises, Revisions, FitsOrder, IsEnded, IsInLimit, HasReached, walk_order}
 use Rattle.palm_engine.specs.Settling.IsEnded.{ended_empty, ended_quiet, ended_limit}
 use Rattle.palm_engine.specs.Kept.{IsInStep, IsEmptyKept, IsEngine, AreConnected, AreHeeded, AreMarked, state_of, state_in_revision}
 use Rattle.palm_engine.specs.Revising.{HasCounted, IsTaken, HasRevised, HasPartlyRevised, TakesNext, TakesNone, TellsEnd}
 use Rattle.palm_engine.specs.Revising.TakesNone.{none_filled, none_allowed, none_pending}
-use Rattle.palm_engine.specs.Work.{effort, named_sizes, most_asked_in}
+use Rattle.palm_engine.specs.Work.{effort, named_sizes, most_asked_in, users_removals}
 use Rattle.palm_engine.proofs.Ending.{revision_falls}
 use Rattle.palm_engine.proofs.Joined.{walk_scoped, walk_valid}
 use Rattle.palm_engine.proofs.Places.{kept_empty}
 use Rattle.palm_engine.proofs.Progress.{counted_none, counted_then}
+use Rattle.palm_engine.proofs.Removers.{HasRemovers, more_removers, no_removers, rested_removers}
 use Rattle.palm_engine.proofs.Settles.{pending_is_active, pending_waits}
 use Rattle.palm_engine.proofs.Spending.{asked_more, settling_asked, interrupted_asked}
 use Rattle.palm_engine.proofs.Waking.{taken_woken}
@@ -44,6 +45,7 @@ pub record HasRun (limit : Option ℕ) (ordered : Bool) (active : List Active) (
   pub within : IsInLimit limit (length revisions)
   pub counted : count ≡ min (length revisions) LAST_COUNT
   pub asked : HasCounted (most_asked_in (state_of before active) revisions) before now old new
+  pub removers : HasRemovers (state_of before active) (state_of now active) old new
 
 -- and the order that they led from the one state to the other
 pub record HasRunBy {O : Type 0} (follows : Hearing → Option O → Option O → Type 0) (limit : Option ℕ) (active : List Active) (before now : Filtering) (count old new : ℕ) (first last : Option O) : Type 0 where
@@ -75,6 +77,7 @@ run_start follows limit active f s order engine = record {
     within = none_within limit;
     counted = omega arith;
     asked = counted_none f s;
+    removers = no_removers (state_of f active) s;
   };
   followed = refl;
 }
@@ -159,29 +162,42 @@ fits_more true rs r fits zero_answer = tt
 count_more : (count n top : ℕ) → count ≡ min n top → min (count + 1) top ≡ min (n + 1) top
 count_more count n top is = omega arith
 
-counted_from : (n : ℕ) (f g h : Filtering) (s t : ℕ) → g.checks ≡ f.checks → HasCounted n g h s t → HasCounted n f h s t
-counted_from n f g h s t same c = record {
-  later = c.later;
-  few = c.few;
-  checks = λ le. c.checks (subst (λ k. k ≤ LAST_COUNT) (sym same) le) ∙ ap (λ k. min (k + (t - s)) LAST_COUNT) same;
-}
+counted_from : (n : ℕ) (f g h : Filtering) (s t : ℕ) → g.checks ≡ f.checks → g.log ≡ f.log → HasCounted n g h s t → HasCounted n f h s t
+counted_from n f g h s t same log c =
+    let ticked = c.ticked in
+    record {
+      ticked = record {
+        later = ticked.later;
+        few = ticked.few;
+        checks = λ le. ticked.checks (subst (λ k. k ≤ LAST_COUNT) (sym same) le) ∙ ap (λ k. min (k + (t - s)) LAST_COUNT) same;
+      };
+      silent = λ e. c.silent e ∙ ap (λ (l : Explanations). users_removals l.log) log;
+    }
 
 -- the revision's questions, as the settling counts them
-spent_more : (limit : Option ℕ) (ordered : Bool) (active : List Active) (before f g h : Filtering) (count old mid new : ℕ) (cid : Cid) → (tried : HasTried limit ordered active before f g h count old mid new cid)
-    → HasCounted (most_asked_in (state_of before active) tried.run.revisions + named_sizes (state_of before active) (cid ∷ [])) before h old new
-spent_more limit ordered active before f g h count old mid new cid tried =
+tried_counted : (limit : Option ℕ) (ordered : Bool) (active : List Active) (before f g h : Filtering) (count old mid new : ℕ) (cid : Cid) → HasTried limit ordered active before f g h count old mid new cid
+    → HasCounted (named_sizes (state_of before active) (cid ∷ [])) f h mid new
+tried_counted limit ordered active before f g h count old mid new cid tried =
     let s = state_of before active in
     let m = state_of f active in
     let run = tried.run in
     let e = taken_state limit ordered count active f g cid tried.takes run.engine in
     let same = revisions_filter s run.revisions m run.ran in
     let size : named_sizes (state_in_revision g active cid) (cid ∷ []) ≡ named_sizes s (cid ∷ []) = ap (λ (z : EngineState). named_sizes z (cid ∷ [])) e ∙ same_named s m (cid ∷ []) same.active same.initial in
-    counted_then (most_asked_in s run.revisions) (named_sizes s (cid ∷ [])) before f h old mid new run.asked (counted_from (named_sizes s (cid ∷ [])) f g h mid new tried.takes.checks (subst (λ n. HasCounted n g h mid new) size tried.counted))
+    counted_from (named_sizes s (cid ∷ [])) f g h mid new tried.takes.checks tried.takes.log (subst (λ n. HasCounted n g h mid new) size tried.counted)
+
+-- and with those before it
+spent_more : (limit : Option ℕ) (ordered : Bool) (active : List Active) (before f g h : Filtering) (count old mid new : ℕ) (cid : Cid) → (tried : HasTried limit ordered active before f g h count old mid new cid)
+    → HasCounted (most_asked_in (state_of before active) tried.run.revisions + named_sizes (state_of before active) (cid ∷ [])) before h old new
+spent_more limit ordered active before f g h count old mid new cid tried =
+    let s = state_of before active in
+    let run = tried.run in
+    counted_then (most_asked_in s run.revisions) (named_sizes s (cid ∷ [])) before f h old mid new run.asked (tried_counted limit ordered active before f g h count old mid new cid tried)
 
 pub tried_checks : {limit : Option ℕ} {ordered : Bool} {active : List Active} {before f g h : Filtering} {count old mid new : ℕ} {cid : Cid} → HasTried limit ordered active before f g h count old mid new cid
     → before.checks ≤ LAST_COUNT → h.checks ≡ min (before.checks + (new - old)) LAST_COUNT
 tried_checks {limit = limit} {ordered = ordered} {active = active} {before = before} {f = f} {g = g} {h = h} {count = count} {old = old} {mid = mid} {new = new} {cid = cid} tried le =
-    (spent_more limit ordered active before f g h count old mid new cid tried).checks le
+    (spent_more limit ordered active before f g h count old mid new cid tried).ticked.checks le
 
 -- one revision more, of which the order hears
 heard_more : {X : Type 0} (follows : Hearing → X → X → Type 0) (s : EngineState) (rs : List Revision) (m : EngineState) (r : Revision) (t : EngineState) (a b c : X) (run : Revisions s rs m) → Revises m r t → LeadsAlong follows (hearings s rs m run) a b
@@ -208,6 +224,7 @@ run_more {follows = follows} {limit = limit} {active = active} {before = before}
     let filters = revision_filters m r t one in
     let longer : length (rs ++ r ∷ []) ≡ length rs + 1 = length-append rs (r ∷ []) in
     let more = heard_more follows s rs m r t first now last run.ran one led step in
+    let counted = tried_counted limit ordered active before f g h count old mid new cid tried in
     record {
       run = record {
         engine = record {
@@ -221,6 +238,7 @@ run_more {follows = follows} {limit = limit} {active = active} {before = before}
         within = subst (λ n. IsInLimit limit n) (sym longer) (within_more limit count (length rs) run.counted run.within takes.below takes.bounded);
         counted = count_more count (length rs) LAST_COUNT run.counted ∙ ap (λ n. min n LAST_COUNT) (sym longer);
         asked = subst (λ n. HasCounted n before h old new) (sym (asked_more s rs r)) (spent_more limit ordered active before f g h count old mid new cid tried);
+        removers = rested_removers s m one.state t one.owner (walk_order m.initial one.owner.con) removed cid old mid new run.engine.valid.rising run.removers one.walk one.after counted.ticked.later counted.silent;
       };
       followed = more.1;
     }
@@ -269,7 +287,7 @@ run_settled follows limit active before now count old new first last answer view
     })
 
 pub run_asked : (limit : Option ℕ) (ordered : Bool) (active : List Active) (before now : Filtering) (count old new : ℕ) → Rises (cids_of active) → HasRun limit ordered active before now count old new → HasAsked (state_of before active) (state_of now active) old new
-run_asked limit ordered active before now count old new rises run = settling_asked (state_of before active) run.revisions (state_of now active) old new rises run.ran run.asked.later run.asked.few
+run_asked limit ordered active before now count old new rises run = settling_asked (state_of before active) run.revisions (state_of now active) old new rises run.ran run.asked.ticked.later run.asked.ticked.few run.removers
 
 -- ---- an interruption
 
@@ -337,6 +355,8 @@ stopped_asked {limit = limit} {ordered = ordered} {active = active} {before = be
     let one = stopped_from tried part in
     let has = chosen_pending limit ordered count f g cid tried.takes in
     let all = spent_more limit ordered active before f g h count old mid new cid tried in
+    let counted = tried_counted limit ordered active before f g h count old mid new cid tried in
     interrupted_asked s run.revisions m one.owner one.walked one.removed (state_of h active) old new run.engine.valid.rising run.ran (member_same f.agenda.pending cid one.owner.cid (sym one.named) has)
-    (filled_state f active run.engine.kept tried.takes.filled) one.walk all.later
-    (subst (λ (c : Cid). new ≤ old + (most_asked_in s run.revisions + named_sizes s (c ∷ []))) (sym one.named) all.few)
+    (filled_state f active run.engine.kept tried.takes.filled) one.walk all.ticked.later
+    (subst (λ (c : Cid). new ≤ old + (most_asked_in s run.revisions + named_sizes s (c ∷ []))) (sym one.named) all.ticked.few)
+    (more_removers s m (state_of h active) one.owner one.walked one.removed old mid new run.engine.valid.rising run.removers one.walk counted.ticked.later counted.silent)

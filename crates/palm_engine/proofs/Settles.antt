@@ -158,7 +158,7 @@ revision_counted f g active cid taken s t counted =
     (counted_more (size_of (initial_of f.store) taken.owner.con) (named_sizes (state_in_revision f active taken.owner.cid) (taken.owner.cid ∷ [])) f g s t le counted)
 
 pub counted_agenda : (n : ℕ) (f m : Filtering) (a : Waiting) (s t : ℕ) → HasCounted n f m s t → HasCounted n f (record m { agenda = a }) s t
-counted_agenda n f m a s t c = record { later = c.later; few = c.few; checks = c.checks }
+counted_agenda n f m a s t c = let ticked = c.ticked in record { ticked = record { later = ticked.later; few = ticked.few; checks = ticked.checks }; silent = c.silent }
 
 -- ---- answers of calls
 

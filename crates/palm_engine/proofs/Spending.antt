@@ -11,6 +11,7 @@ use Rattle.palm_engine.specs.Settling.{Walks, Revision, Revisions}
 use Rattle.palm_engine.specs.Work.{size_of, named_sizes, most_asked_in}
 use Rattle.palm_engine.specs.Engine.{HasAsked}
 use Rattle.palm_engine.proofs.cited.Walking.{took_none}
+use Rattle.palm_engine.proofs.Removers.{HasRemovers, removers_of}
 use Rattle.palm_engine.proofs.Working.{calm_sizes, some_pays, pays_then, same_named, revisions_pay}
 
 -- ---- one more revision
@@ -38,31 +39,33 @@ owner_size s a m = member_sum (λ (b : Active). size_of s.initial b.con) (filter
 
 -- ---- whole and interrupted settlings
 
-pub settling_asked : (s : EngineState) (rs : List Revision) (t : EngineState) (old new : ℕ) → Rises (cids_of s.active) → Revisions s rs t → old ≤ new → new ≤ old + most_asked_in s rs → HasAsked s t old new
-settling_asked s rs t old new rises run later few =
+pub settling_asked : (s : EngineState) (rs : List Revision) (t : EngineState) (old new : ℕ) → Rises (cids_of s.active) → Revisions s rs t → old ≤ new → new ≤ old + most_asked_in s rs → HasRemovers s t old new → HasAsked s t old new
+settling_asked s rs t old new rises run later few by =
     let pays = revisions_pay s rs t rises run in
     let k = pays.paid in
-    record { gained = pays.gained; log = pays.log; later = later; paid = omega (arith, few, k) }
+    record { gained = pays.gained; log = pays.log; later = later; least = removers_of s t old new pays.gained by pays.log; paid = omega (arith, few, k) }
 
 pub interrupted_asked : (s : EngineState) (rs : List Revision) (m : EngineState) (a : Active) (walked : List Pair) (n : ℕ) (t : EngineState) (old new : ℕ) → Rises (cids_of s.active) → Revisions s rs m → Contains m.pending a.cid → AllFilled (present m)
-    → Walks a walked m n t → old ≤ new → new ≤ old + (most_asked_in s rs + named_sizes s (a.cid ∷ [])) → HasAsked s t old new
-interrupted_asked s rs m a walked zero t old new rises run pending filled walk later few =
+    → Walks a walked m n t → old ≤ new → new ≤ old + (most_asked_in s rs + named_sizes s (a.cid ∷ [])) → HasRemovers s t old new → HasAsked s t old new
+interrupted_asked s rs m a walked zero t old new rises run pending filled walk later few by =
     let pays = revisions_pay s rs m rises run in
     let none = took_none a walked m zero t walk refl filled in
     let k = pays.paid in
     let one = calm_sizes m a.cid pending in
     let same = same_named s m (a.cid ∷ []) pays.active pays.initial in
+    let log = ap (λ (z : EngineState). z.log) none.same ∙ pays.log in
     record {
       gained = pays.gained;
-      log = ap (λ (z : EngineState). z.log) none.same ∙ pays.log;
+      log = log;
       later = later;
+      least = removers_of s t old new pays.gained by log;
       paid = omega (arith, few, k, one, same);
     }
-interrupted_asked s rs m a walked (suc n) t old new rises run pending filled walk later few =
+interrupted_asked s rs m a walked (suc n) t old new rises run pending filled walk later few by =
     let pays = revisions_pay s rs m rises run in
     let rises' : Rises (cids_of m.active) = subst (λ (l : List Active). Rises (cids_of l)) (sym pays.active) rises in
     let last = some_pays a walked m (suc n) t rises' pending (omega arith) walk in
     let same = same_named s m (a.cid ∷ []) pays.active pays.initial in
     let all = pays_then s m t (most_asked_in s rs) (named_sizes m (a.cid ∷ [])) pays last in
     let k = all.paid in
-    record { gained = all.gained; log = all.log; later = later; paid = omega (arith, few, k, same) }
+    record { gained = all.gained; log = all.log; later = later; least = removers_of s t old new all.gained by all.log; paid = omega (arith, few, k, same) }

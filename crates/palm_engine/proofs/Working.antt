@@ -83,14 +83,14 @@ sums_below f u c p o (x ∷ xs) each =
     sums_joined : (U C P O a b d e u c p o : ℕ) → U ≡ a + u → C ≡ b + c → P ≡ d + p → O ≡ e + o → a + b ≤ d + e → u + c ≤ p + o → U + C ≤ P + O
     sums_joined U C P O a b d e u c p o eu ec ep eo here rest = omega arith
 
-none_sum : {X : Type 0} (f : X → ℕ) (xs : List X) → sum_by f (filter (λ x. false) xs) ≡ 0
+pub none_sum : {X : Type 0} (f : X → ℕ) (xs : List X) → sum_by f (filter (λ x. false) xs) ≡ 0
 none_sum f [] = refl
 none_sum f (x ∷ xs) = none_sum f xs
 
 -- ---- one member at a time
 
 -- what passes u passes p or o
-one_or_other : (u p o : Bool) → (u ≡ true → (p ≡ true) ⊎ (o ≡ true)) → cond u 1 0 + 0 ≤ cond p 1 0 + cond o 1 0
+pub one_or_other : (u p o : Bool) → (u ≡ true → (p ≡ true) ⊎ (o ≡ true)) → cond u 1 0 + 0 ≤ cond p 1 0 + cond o 1 0
 one_or_other false p o h = omega arith
 one_or_other true p o h = elim (h refl) [
   | inl e ↦ rw e (omega arith)

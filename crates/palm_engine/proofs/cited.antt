@@ -1,5 +1,6 @@
 -- Lemmas that other crates cite.
 pub mod Leading
+pub mod Restored
 pub mod Results
 pub mod Settled
 pub mod Walking

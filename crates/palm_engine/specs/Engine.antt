@@ -6,7 +6,7 @@ use Rattle.palm_model.specs.Log.{Active, Removal, log_pairs}
 use Rattle.palm_model.specs.State.{EngineState, IsEmptyAt, IsSettled, AllFilled, present}
 use Rattle.palm_engine.specs.Settling.{Revision, Revisions, Settles, Walks, IsDue, FitsOrder, IsInLimit, HasReached, index_within, walk_order}
 use Rattle.palm_engine.specs.Kept.{state_of}
-use Rattle.palm_engine.specs.Work.{most_asked}
+use Rattle.palm_engine.specs.Work.{most_asked, removers}
 use Rattle.palm_engine.specs.declared.filtering.Filtering.{Filtering}
 use Rattle.palm_engine.specs.declared.settle.Settle.{Settle}
 use Rattle.palm_engine.specs.declared.settle.Settle.TheVariants.{Settled, Empty, Stopped}
@@ -67,9 +67,10 @@ pub record IsInterrupted (limit : Option ℕ) (ordered : Bool) (before after : V
   pub counted : after.revisions ≡ min (length revisions + 1) LAST_COUNT
 
 -- how often support was asked for on the way from s to t: no more than the constraints that were pending and those over the
--- removed pairs' variables have pairs
+-- removed pairs' variables have pairs, and no less than there are constraints of users that took a value out
 pub record HasAsked (s t : EngineState) (before after : ℕ) : Type 0 where
   pub gained : List Removal
   pub log : t.log ≡ s.log ++ gained
   pub later : before ≤ after
+  pub least : before + length (removers s.active gained) ≤ after
   pub paid : after ≤ before + most_asked s (log_pairs gained)

@@ -13,6 +13,7 @@ use Rattle.palm_engine.specs.Settling.{Walks, IsDue, HasReached, walk_order, res
 use Rattle.palm_engine.specs.declared.settle.Settle.{Settle}
 use Rattle.palm_engine.specs.declared.settle.Settle.TheVariants.{Settled, Empty, Stopped}
 use Rattle.palm_engine.specs.Kept.{IsInStep, state_in_revision}
+use Rattle.palm_engine.specs.Work.{users_removals}
 use Rattle.palm_engine.specs.declared.filtering.Filtering.{Filtering}
 
 -- what holds at every moment of the constraint's revision
@@ -46,10 +47,15 @@ abbrev pub AreSupportedAt : Filtering → Active → ℕ → Type 0
 AreSupportedAt f owner x = (v : ℤ) → Has (present_of f.store) x v → IsSupported (present_of f.store) owner.con x v
 
 -- support was asked for at most so often, and the checks rose alike
-pub record HasCounted (most : ℕ) (before after : Filtering) (old new : ℕ) : Type 0 where
+pub record HasTicked (most : ℕ) (before after : Filtering) (old new : ℕ) : Type 0 where
   pub later : old ≤ new
   pub few : new ≤ old + most
   pub checks : before.checks ≤ LAST_COUNT → after.checks ≡ min (before.checks + (new - old)) LAST_COUNT
+
+-- and where it was not asked for, no constraint of a user took a value out
+pub record HasCounted (most : ℕ) (before after : Filtering) (old new : ℕ) : Type 0 where
+  pub ticked : HasTicked most before after old new
+  pub silent : new ≡ old → users_removals after.log.log ≡ users_removals before.log.log
 
 -- ---- in a settling
 

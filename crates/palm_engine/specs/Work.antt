@@ -1,12 +1,13 @@
 -- How much a settling may ask.
-use Rattle.std.specs.Prelude.{◌≡◌, ℕ, ◌+◌, ◌*◌, ◌<◌, ◌≤◌, ◌⊎◌, ◌++◌, List, [], ◌∷◌, length, filter, sum_by}
+use Rattle.std.specs.Prelude.{◌≡◌, ℕ, ◌+◌, ◌*◌, ◌<◌, ◌≤◌, ◌⊎◌, ◌&&◌, ◌++◌, if◌then◌else◌, List, [], ◌∷◌, length, filter, map, sum_by, Contains}
 use Rattle.palm_base.specs.declared.terms.Pair.{Pair}
 use Rattle.palm_base.specs.declared.terms.Cid.{Cid}
 use Rattle.palm_model.specs.Domains.{Domains, values_of}
 use Rattle.palm_model.specs.Constraint.{scope}
 use Rattle.palm_model.specs.Trial.{value_count}
 use Rattle.palm_model.specs.Log.{Active, Removal, is_named, log_pairs}
-use Rattle.palm_model.specs.State.{EngineState, is_over, present}
+use Rattle.palm_model.specs.State.{EngineState, is_over, is_user, present}
+use Rattle.palm_model.specs.Event.{lost_pairs, vars_of}
 use Rattle.palm_model.specs.declared.constraint.Con.{Con}
 use Rattle.palm_engine.specs.Settling.{Revision}
 
@@ -35,6 +36,18 @@ most_asked s pairs = named_sizes s s.pending + sum_by (λ p. sizes_over s p.var)
 abbrev pub most_asked_in : EngineState → List Revision → ℕ
 most_asked_in s rs = sum_by (λ r. named_sizes s (r.cid ∷ [])) rs
 
+-- how often the constraint is asked for one value: a user's once, and a decision and a negation never
+abbrev pub asks_of : Active → ℕ
+asks_of a = if is_user a.cid then 1 else 0
+
+-- the removals that constraints of users made
+abbrev pub users_removals : List Removal → List Removal
+users_removals log = filter (λ r. is_user r.by) log
+
+-- the active constraints of users that made some of the removals
+abbrev pub removers : List Active → List Removal → List Active
+removers active gained = filter (λ a. is_user a.cid && is_named (map (λ r. r.by) gained) a.cid) active
+
 -- how far a settling can still go: values times constraints, and pending ones. It falls in each revision
 abbrev pub effort : EngineState → ℕ
 effort s = value_count (present s) * (length s.active + 1) + length s.pending
@@ -49,3 +62,22 @@ pub record IsPaid (s : EngineState) (rs : List Revision) (t : EngineState) : Typ
   pub gained : List Removal
   pub log : t.log ≡ s.log ++ gained
   pub paid : most_asked_in s rs ≤ most_asked s (log_pairs gained)
+
+-- ---- behind a withdrawal
+
+-- each variable of which a value came back on the way from s to t is among these
+abbrev pub HasRestored : EngineState → EngineState → List ℕ → Type 0
+HasRestored s t vars = (x : ℕ) → Contains (vars_of (lost_pairs s.log t.log)) x → Contains vars x
+
+-- what may be asked where values of these variables came back and these pairs are taken out: for each variable, and for each
+-- pair, all pairs of each active constraint over it
+abbrev pub most_asked_back : EngineState → List ℕ → List Pair → ℕ
+most_asked_back s vars pairs = sum_by (sizes_over s) vars + sum_by (λ p. sizes_over s p.var) pairs
+
+-- a settling behind a withdrawal from s to m looks at no more than it may ask, and it may ask no more than the variables of
+-- which values came back, each once, and the pairs that it takes out give it to ask
+pub record IsPaidBack (s m : EngineState) (rs : List Revision) (t : EngineState) : Type 0 where
+  pub gained : List Removal
+  pub log : t.log ≡ m.log ++ gained
+  pub paid : most_asked_in m rs ≤ most_asked m (log_pairs gained)
+  pub back : (vars : List ℕ) → HasRestored s m vars → most_asked m (log_pairs gained) ≤ most_asked_back m vars (log_pairs gained)

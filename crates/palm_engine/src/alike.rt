@@ -1,5 +1,5 @@
 //! The walk where all values but one have support alike: one of them is asked for, and that one.
-ghost use Rattle.std.specs.Prelude.{◌≡◌, ◌≢◌, ◌<◌, [], ◌∷◌, ℤ, false, List, length, Contains, OnErr, OnOk, IfNone, IfSome, true};
+ghost use Rattle.std.specs.Prelude.{◌≡◌, ◌≢◌, ◌+◌, ◌<◌, [], ◌∷◌, ℤ, false, List, length, Contains, OnErr, OnOk, IfNone, IfSome, true};
 ghost use Rattle.palm_domain.specs.Rows.{initial_of, present_of};
 ghost use Rattle.palm_filter.specs.Shapes.{AreAlikeBut};
 ghost use Rattle.palm_model.specs.Constraint.{scope};
@@ -10,8 +10,9 @@ ghost use Rattle.palm_model.specs.State.{AllFilled};
 ghost use Rattle.palm_model.specs.Support.{IsSupported, LacksSupport};
 ghost use Rattle.palm_engine.specs.Advancing.{AreSupportedBut, LackBut, asked_but, asked_of};
 ghost use Rattle.palm_engine.specs.Posted.{active_of};
-ghost use Rattle.palm_engine.specs.Revising.{AreSupportedAt, HasCounted, IsRevising, Walked, WalkedPart};
+ghost use Rattle.palm_engine.specs.Revising.{AreSupportedAt, HasCounted, HasTicked, IsRevising, Walked, WalkedPart};
 ghost use Rattle.palm_engine.specs.Settling.{IsDue};
+ghost use Rattle.palm_engine.specs.Work.{asks_of};
 
 use crate::filtering::Filtering;
 use crate::posted::Posted;
@@ -51,6 +52,7 @@ fn others_supported<F: Filter, L: Ledger>(
     ensures lacking { result ≡ false → LackBut filtering.old (active_of F.meaning constraint.now) var but }
     ensures same { filtering.new ≡ record filtering.old { checks = filtering.new.checks } }
     ensures counted { HasCounted (asked_but but (values_of (initial_of filtering.old.store) var)) filtering.old filtering.new steps.old steps.new }
+    ensures asked { result ≡ false → steps.new ≡ steps.old + asks_of (active_of F.meaning constraint.now) }
 {
     let Some(value) = other_value(&filtering.store, var, but) else {
         return true;
@@ -113,7 +115,7 @@ fn take_out_unless<F: Filter, L: Ledger>(
         → IsSupported (present_of filtering.new.store) (active_of F.meaning constraint.now).con pair.var pair.value) }
     ensures err { OnErr result (filtering.new ≡ record filtering.old { checks = filtering.new.checks }) }
     ensures due { OnErr result (IsDue (present_of filtering.old.store) (active_of F.meaning constraint.now).con pair) }
-    ensures counted { HasCounted (asked_of but (pair.value ∷ [])) filtering.old filtering.new steps.old steps.new }
+    ensures counted { HasTicked (asked_of but (pair.value ∷ [])) filtering.old filtering.new steps.old steps.new }
 {
     if pair.value == but {
         examine(filtering, constraint, pair, reasons, steps)
@@ -142,7 +144,7 @@ fn take_others_out<F: Filter, L: Ledger>(
     ensures revising { (active : List Active) → IsRevising filtering.old active (active_of F.meaning constraint.now)
         → IsRevising filtering.new active (active_of F.meaning constraint.now) }
     ensures supported { OnOk result (AreSupportedAt filtering.new (active_of F.meaning constraint.now) var) }
-    ensures counted { HasCounted (asked_of but (values_of (initial_of filtering.old.store) var)) filtering.old filtering.new steps.old steps.new }
+    ensures counted { HasTicked (asked_of but (values_of (initial_of filtering.old.store) var)) filtering.old filtering.new steps.old steps.new }
 {
     let mut next = Some(filtering.store.least(var));
     while let Some(value) = next {

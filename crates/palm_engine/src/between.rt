@@ -1,5 +1,5 @@
 //! The walk where the values with support lie together: support is asked for from both ends alone.
-ghost use Rattle.std.specs.Prelude.{◌≡◌, ℤ, pos, ◌+ℤ◌, ◌≤ℤ◌, List, length, Contains, None, OnErr, OnOk, IfOk, IfSome};
+ghost use Rattle.std.specs.Prelude.{◌≡◌, ◌+◌, ◌≤◌, ℤ, pos, ◌+ℤ◌, ◌≤ℤ◌, List, length, Contains, None, OnErr, OnOk, IfOk, IfSome};
 ghost use Rattle.palm_domain.specs.Rows.{initial_of, present_of};
 ghost use Rattle.palm_filter.specs.Shapes.{IsConvex};
 ghost use Rattle.palm_model.specs.Constraint.{scope};
@@ -11,6 +11,7 @@ ghost use Rattle.palm_model.specs.Support.{IsSupported};
 ghost use Rattle.palm_engine.specs.Advancing.{Advanced, LacksAbove, LacksFrom, values_below, values_from};
 ghost use Rattle.palm_engine.specs.Posted.{active_of};
 ghost use Rattle.palm_engine.specs.Revising.{AreSupportedAt, HasCounted, IsRevising, Walked, WalkedPart};
+ghost use Rattle.palm_engine.specs.Work.{asks_of};
 ghost use Rattle.palm_engine.specs.declared.filtering.Filtering.{Filtering as FilteringTerm};
 
 use crate::filtering::Filtering;
@@ -42,6 +43,7 @@ fn rise<F: Filter, L: Ledger>(
     ensures counted { HasCounted (length (values_of (initial_of filtering.old.store) var)) filtering.old filtering.new steps.old steps.new }
     ensures first { IfOk result (λ first. IfSome first (λ value.
         HasCounted (length (values_below (value +ℤ pos 1) (values_of (initial_of filtering.old.store) var))) filtering.old filtering.new steps.old steps.new)) }
+    ensures asked { IfOk result (λ first. IfSome first (λ value. steps.old + asks_of (active_of F.meaning constraint.now) ≤ steps.new)) }
 {
     let mut next = Some(filtering.store.least(var));
     while let Some(value) = next {

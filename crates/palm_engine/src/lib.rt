@@ -22,5 +22,7 @@ pub use laws::settling::{
     settlings_keep_validity, settlings_without_order_are_unique, settlings_without_order_exist,
     the_same_answers_give_the_same_settling,
 };
-pub use laws::work::{settlings_ask_no_more, walks_look_at_each_pair_once};
+pub use laws::work::{
+    settlings_after_withdrawals_ask_no_more, settlings_ask_no_more, walks_look_at_each_pair_once,
+};
 pub use settle::Settle;

@@ -12,6 +12,7 @@ ghost use Rattle.palm_model.specs.Support.{IsSupported, LacksSupport};
 ghost use Rattle.palm_filter.specs.Heeds.{FitsHeed};
 ghost use Rattle.palm_filter.specs.Shapes.{FitsShape};
 ghost use Rattle.palm_engine.specs.Posted.{IsInForm, active_of, actives_of, is_decision, is_negation, negated};
+ghost use Rattle.palm_engine.specs.Work.{asks_of};
 
 use palm_base::{Cid, CidList, HasCid, NoMemory, Pair, Steps, Var};
 use palm_domain::DomainStore;
@@ -154,8 +155,7 @@ impl<F: Filter> Posted<F> {
         requires present { Has (present_of store.now) pair.var pair.value }
         ensures supported { result ≡ true → IsSupported (present_of store.now) (active_of F.meaning self.now).con pair.var pair.value }
         ensures lacking { result ≡ false → LacksSupport (present_of store.now) (active_of F.meaning self.now).con pair.var pair.value }
-        ensures later { steps.old ≤ steps.new }
-        ensures once { steps.new ≤ steps.old + 1 }
+        ensures counted { steps.new ≡ steps.old + asks_of (active_of F.meaning self.now) }
         ensures checks { checks.new ≡ min (checks.old + (steps.new - steps.old)) LAST_COUNT }
     {
         let counted = checks.saturating_add(1);

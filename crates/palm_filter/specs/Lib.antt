@@ -1,3 +1,4 @@
 pub mod Heeds
 pub mod Index
+pub mod Rules
 pub mod Shapes

@@ -55,17 +55,17 @@ lines_unbroken text lines are =
 -- ---- the session of a name
 
 -- the session has another name
-abbrev Differs : List ℕ → Opened → Type 0
+abbrev pub Differs : List ℕ → Opened → Type 0
 Differs name o = o.name ≢ name
 
 -- one session alone has the name, and this is what it holds
-abbrev IsOnly : List Opened → List ℕ → SessionState → Bool → Type 0
+abbrev pub IsOnly : List Opened → List ℕ → SessionState → Bool → Type 0
 IsOnly [] name state over = ⊥
 IsOnly (o ∷ hub) name state over =
     ((o ≡ opened name state over) × IsNewName hub name) ⊎ (Differs name o × IsOnly hub name state over)
 
 -- the session of the name holds this, where one that is still to be opened holds what a fresh one does
-abbrev Holds : List Opened → List ℕ → SessionState → Bool → Type 0
+abbrev pub Holds : List Opened → List ℕ → SessionState → Bool → Type 0
 Holds hub name state over = IsOnly hub name state over ⊎ (IsNewName hub name × (state ≡ fresh [] []) × (over ≡ false))
 
 -- a name that a session has is not new
@@ -77,7 +77,7 @@ not_new (o ∷ hub) name state over only new = elim only [
   | inr there ↦ not_new hub name state over there.1 (All-tail (Differs name) o hub new)
 ]
 
-not_new_at : (front back : List Opened) (name : List ℕ) (state : SessionState) (over : Bool)
+pub not_new_at : (front back : List Opened) (name : List ℕ) (state : SessionState) (over : Bool)
     → IsNewName (front ++ opened name state over ∷ back) name → ⊥
 not_new_at [] back name state over new = All-head (Differs name) (opened name state over) back new refl
 not_new_at (o ∷ front) back name state over new =
@@ -125,7 +125,7 @@ only_beside (o ∷ front) back other name before after was is state over differs
 ]
 
 -- a change of the session of the name itself leaves it the only one
-only_at : (front back : List Opened) (name : List ℕ) (before after : SessionState) (was is : Bool)
+pub only_at : (front back : List Opened) (name : List ℕ) (before after : SessionState) (was is : Bool)
     (state : SessionState) (over : Bool) → IsOnly (front ++ opened name before was ∷ back) name state over
     → (before ≡ state) × (over ≡ was) × IsOnly (front ++ opened name after is ∷ back) name after is
 only_at [] back name before after was is state over only = elim only [
@@ -151,7 +151,7 @@ admitted_other hub among other name state over differs (opens _ room) holds =
     ]
 
 -- the session of a line that is passed is there, and holds what was held before
-admitted : (hub among : List Opened) (name : List ℕ) (state : SessionState) (over : Bool) → Admits hub name among
+pub admitted : (hub among : List Opened) (name : List ℕ) (state : SessionState) (over : Bool) → Admits hub name among
     → Holds hub name state over → IsOnly among name state over
 admitted hub among name state over (stays was at) holds = elim holds [
   | inl only ↦ only
@@ -167,24 +167,24 @@ admitted hub among name state over (opens new room) holds =
     ]
 
 -- the hub line does not concern the session of the name
-record PassesBy (name : List ℕ) (state : SessionState) (over : Bool) (outcome : Outcome) (among : List Opened) : Type 0 where
-  text : text_in name outcome ≡ []
-  replies : reply_in name outcome ≡ []
-  holds : Holds among name state over
+pub record PassesBy (name : List ℕ) (state : SessionState) (over : Bool) (outcome : Outcome) (among : List Opened) : Type 0 where
+  pub text : text_in name outcome ≡ []
+  pub replies : reply_in name outcome ≡ []
+  pub holds : Holds among name state over
 
 -- or this line was passed to it
-record Gets (name : List ℕ) (state : SessionState) (over : Bool) (outcome : Outcome) (among : List Opened) : Type 0 where
-  line : List ℕ
-  reply : List ℕ
-  after : SessionState
-  ends : Bool
-  going : over ≡ false
-  unbroken : HasNoFeed line
-  text : text_in name outcome ≡ ended line
-  replies : reply_in name outcome ≡ reply
-  answers : Answers state (without_return line) reply after
-  leaves : Leaves (without_return line) ends
-  holds : Holds among name after ends
+pub record Gets (name : List ℕ) (state : SessionState) (over : Bool) (outcome : Outcome) (among : List Opened) : Type 0 where
+  pub line : List ℕ
+  pub reply : List ℕ
+  pub after : SessionState
+  pub ends : Bool
+  pub going : over ≡ false
+  pub unbroken : HasNoFeed line
+  pub text : text_in name outcome ≡ ended line
+  pub replies : reply_in name outcome ≡ reply
+  pub answers : Answers state (without_return line) reply after
+  pub leaves : Leaves (without_return line) ends
+  pub holds : Holds among name after ends
 
 -- a line that is passed to a session, by whether the names are the same
 passed : (name : List ℕ) (state : SessionState) (over : Bool) (hub : List Opened) (bytes other line reply : List ℕ)
@@ -226,7 +226,7 @@ passed name state over hub bytes other line reply front back before after ends t
     })
 
 -- what a hub line does to the session of the name
-one_line : (name : List ℕ) (state : SessionState) (over : Bool) (hub : List Opened) (bytes : List ℕ) (outcome : Outcome)
+pub one_line : (name : List ℕ) (state : SessionState) (over : Bool) (hub : List Opened) (bytes : List ℕ) (outcome : Outcome)
     (among : List Opened) → HasNoFeed bytes → Holds hub name state over → HubAnswers hub bytes outcome among
     → PassesBy name state over outcome among ⊎ Gets name state over outcome among
 one_line name state over hub bytes outcome among unbroken holds (comments _) =
@@ -384,7 +384,7 @@ hub_replies input output lines outcomes sessions are run written = record {
 }
 
 -- without guides and orders no line chooses one
-no_object : (line : List ℕ) → ChoosesObject [] [] line → ⊥
+pub no_object : (line : List ℕ) → ChoosesObject [] [] line → ⊥
 no_object line (chooses_guide number among is) = member_nil number among
 no_object line (chooses_order number among is) = member_nil number among
 

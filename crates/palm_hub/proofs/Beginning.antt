@@ -190,7 +190,7 @@ name_says : (name rest : List ℕ) → IsNameText name → is_note (after_blanks
 name_says [] rest named = absurd named
 name_says (b ∷ bs) rest named = letter_says b (bs ++ rest) named.0
 
-addressed_says : (bytes name line : List ℕ) → Addresses bytes name line → IsHubComment bytes → ⊥
+pub addressed_says : (bytes name line : List ℕ) → Addresses bytes name line → IsHubComment bytes → ⊥
 addressed_says bytes name line a comment =
     both_ways (is_note (after_blanks bytes))
     (ap (λ (z : List ℕ). is_note (after_blanks z)) a.whole ∙ name_says name (a.gap ∷ line) a.named) comment

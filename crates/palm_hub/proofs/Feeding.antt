@@ -1,21 +1,22 @@
 -- A hub is fed bytes line by line, and a last line is answered.
 use Rattle.std.proofs.Common.{◌≡◌, ◌≢◌, ℕ, Result, Ok, Err, IfErr, OnOk, ◌+◌, ◌-◌, Bool, true, false, cond, List, [], ◌∷◌, ◌++◌, length, take, drop, flat_map, Option, refl, sym, ap, ◌∙◌, subst, append_assoc, append-nil, arith}
 use Rattle.std.specs.Prelude.{slice_range}
-use Rattle.std.proofs.lemmas.List.Elements.{All-append}
+use Rattle.std.proofs.lemmas.List.Elements.{All-append, All-cons, All-nil}
 use Rattle.std.proofs.lemmas.Slice.{between_to_end}
 use Rattle.palm_base.specs.Streams.{Appended, Rose, SinkState}
 use Rattle.palm_base.proofs.cited.StreamLemmas.{appended_nothing, appended_both}
 use Rattle.palm_lang.proofs.cited.Writes.{stopped_in_second}
+use Rattle.palm_lang.specs.Writing.{AppendedUntil}
 use Rattle.palm_lang.specs.declared.stop.WriteStop.{WriteStop as Stop}
 use Rattle.palm_lang.specs.declared.stop.WriteStop.TheVariants.{NoMemory}
 use Rattle.palm_read.specs.Lines.{AreLines, HasNoFeed, IsNextFeed, ended, without_return}
-use Rattle.palm_hub.specs.Hub.{Opened, output_of}
+use Rattle.palm_hub.specs.Hub.{HubRun, Opened, output_of}
 use Rattle.palm_hub.specs.declared.part.Part.{Part}
 use Rattle.palm_hub.specs.declared.part.Part.TheVariants.{Head, Blanks, Skipped, Session}
-use Rattle.palm_hub.specs.Standing.{AnswersLast, AnswersLines, AnswersUntil, Holds, HubView, Member, Stands, StandsBehind}
+use Rattle.palm_hub.specs.Standing.{AnswersLast, AnswersLastUntil, AnswersLines, AnswersUntil, Holds, HubView, Member, Stands, StandsBehind}
 use Rattle.palm_hub.specs.Stepping.{AnswersOne, AnswersOneUntil, IsAtStart, IsQuiet}
 use Rattle.palm_hub.proofs.Beginning.{addresses_some}
-use Rattle.palm_hub.proofs.Running.{cut_line, cut_lines, cut_none, first_line, lines_longer, lines_none, lines_then, lines_then_stop, lines_until, one_output, one_run, rest_unbroken}
+use Rattle.palm_hub.proofs.Running.{cut_line, cut_lines, cut_none, lines_longer, lines_none, lines_then, lines_then_stop, lines_until, one_output, one_run, rest_unbroken}
 
 -- ---- one line among others
 
@@ -36,23 +37,40 @@ lines_one before after line was mid now unbroken nothing one = record {
       (appended_both was mid now [] (output_of one.outcome) nothing one.written);
 }
 
--- one line was answered until a stop, and more may stand behind it
+-- one line was answered until a stop, or memory ran out before; and more may stand behind it
 until_one : (stop : Stop) (before : List Opened) (line more : List ℕ) (was mid now : Option (List ℕ)) → HasNoFeed line
     → Appended was mid [] → AnswersOneUntil stop before (without_return line) mid now
     → AnswersUntil stop before (ended line ++ more) was now
-until_one stop before line more was mid now unbroken nothing one =
-    let found = first_line line more unbroken in
-    let whole : without_return line ∷ found.0 ≡ one.lines ++ (one.others ++ found.0) =
-    ap (λ (z : List (List ℕ)). z ++ found.0) one.whole ∙ append_assoc one.lines one.others found.0 in
-    record {
-      lines = one.lines;
-      others = one.others ++ found.0;
+until_one stop before line more was mid now unbroken nothing one = go one.lines one.whole one.run
+  where
+    written : AppendedUntil stop was now (flat_map output_of one.outcomes)
+    written = stopped_in_second was mid now [] (flat_map output_of one.outcomes) nothing one.written
+
+    go : (lines : List (List ℕ)) → without_return line ∷ [] ≡ lines ++ one.others → HubRun before lines one.outcomes one.after
+        → AnswersUntil stop before (ended line ++ more) was now
+    go [] whole run = record {
+      lines = [];
+      rest = ended line ++ more;
       outcomes = one.outcomes;
       after = one.after;
-      are_lines = subst (AreLines (ended line ++ more)) whole found.1;
-      run = one.run;
-      written = stopped_in_second was mid now [] (flat_map output_of one.outcomes) nothing one.written;
+      whole = refl;
+      unbroken = All-nil HasNoFeed;
+      run = run;
+      written = written;
     }
+    go (l ∷ []) whole run =
+        let same : l ∷ [] ≡ without_return line ∷ [] = cc in
+        record {
+          lines = line ∷ [];
+          rest = more;
+          outcomes = one.outcomes;
+          after = one.after;
+          whole = ap (λ (z : List ℕ). z ++ more) (sym (append-nil (ended line)));
+          unbroken = All-cons HasNoFeed line [] unbroken (All-nil HasNoFeed);
+          run = subst (λ (ls : List (List ℕ)). HubRun before ls one.outcomes one.after) same run;
+          written = written;
+        }
+    go (l ∷ m ∷ ls) whole run = absurd cc
 
 -- nothing more was written behind some lines
 lines_still : (before after : List Opened) (text rest : List ℕ) (was mid now : Option (List ℕ)) → Appended mid now []
@@ -270,7 +288,7 @@ last_one hub after (b ∷ bs) was now some one = record {
 
 -- it was answered until a stop
 last_until : (stop : Stop) (hub : List Opened) (seen : List ℕ) (was now : Option (List ℕ)) → HasNoFeed seen → seen ≢ []
-    → AnswersOneUntil stop hub (without_return seen) was now → AnswersUntil stop hub seen was now
+    → AnswersOneUntil stop hub (without_return seen) was now → AnswersLastUntil stop hub seen was now
 last_until stop hub [] was now free some one = absurd (some refl)
 last_until stop hub (b ∷ bs) was now free some one = record {
   lines = one.lines;
@@ -297,7 +315,7 @@ module _ {G O T : Type 0} (before : HubView G O) (begun : IsAtStart before → �
       → IfErr result (λ stop. (sessions : List Opened) (seen : List ℕ) → HasNoFeed seen → StandsBehind sessions seen before
       → calm stop → AnswersOneUntil stop sessions (without_return seen) was now)
       → IfErr result (λ stop. (sessions : List Opened) (seen : List ℕ) → HasNoFeed seen → StandsBehind sessions seen before
-      → calm stop → AnswersUntil stop sessions seen was now)
+      → calm stop → AnswersLastUntil stop sessions seen was now)
   last_stopped calm (Ok t) stopped = tt
   last_stopped calm (Err stop) stopped = λ sessions seen free stands still.
       let some = λ (empty : seen ≡ []). begun (none_taken stands empty) in

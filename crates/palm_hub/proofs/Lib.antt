@@ -6,6 +6,7 @@ pub mod Ending
 pub mod Feeding
 pub mod MarkedTexts
 pub mod Marks
+pub mod Outcomes
 pub mod PassedLines
 pub mod Prefixing
 pub mod Running

@@ -10,9 +10,8 @@ use Rattle.palm_lang.specs.Writing.{AppendedUntil}
 use Rattle.palm_lang.specs.declared.stop.WriteStop.{WriteStop as Stop}
 use Rattle.palm_lang.specs.declared.stop.WriteStop.TheVariants.{NoMemory}
 use Rattle.palm_read.specs.Lines.{AreLines, Cuts, HasNoFeed, ended, last_line, without_return}
-use Rattle.palm_read.proofs.cited.Cutting.{has_lines}
 use Rattle.palm_hub.specs.Hub.{HubAnswers, HubRun, Opened, Outcome, output_of}
-use Rattle.palm_hub.specs.Standing.{AnswersLast, AnswersLines, AnswersUntil}
+use Rattle.palm_hub.specs.Standing.{AnswersLast, AnswersLastUntil, AnswersLines, AnswersUntil}
 
 -- ---- runs
 
@@ -63,25 +62,40 @@ cut_line line unbroken = record {
   unfinished = All-nil (λ (b : ℕ). b ≡ 10 → ⊥);
 }
 
+-- lines and then more lines stand before a rest
+whole_behind : (xs ys : List (List ℕ)) (rest : List ℕ)
+    → flat_map ended xs ++ (flat_map ended ys ++ rest) ≡ flat_map ended (xs ++ ys) ++ rest
+whole_behind xs ys rest =
+    sym (append_assoc (flat_map ended xs) (flat_map ended ys) rest)
+    ∙ ap (λ (z : List ℕ). z ++ rest) (sym (flat_map-append ended xs ys))
+
+-- where lines stand before a rest, and more lines in it and more bytes
+whole_append : (text more : List ℕ) (xs ys : List (List ℕ)) (mid rest : List ℕ) → text ≡ flat_map ended xs ++ mid
+    → mid ++ more ≡ flat_map ended ys ++ rest → text ++ more ≡ flat_map ended (xs ++ ys) ++ rest
+whole_append text more xs ys mid rest one two =
+    ap (λ (z : List ℕ). z ++ more) one ∙ append_assoc (flat_map ended xs) mid more
+    ∙ ap (λ (z : List ℕ). flat_map ended xs ++ z) two ∙ whole_behind xs ys rest
+
 -- where a text is cut, and more is cut behind its rest
 pub cut_append : (text more : List ℕ) (xs ys : List (List ℕ)) (mid rest : List ℕ) → Cuts text xs mid → Cuts (mid ++ more) ys rest
     → Cuts (text ++ more) (xs ++ ys) rest
 cut_append text more xs ys mid rest one two = record {
-  whole = ap (λ (z : List ℕ). z ++ more) one.whole ∙ append_assoc (flat_map ended xs) mid more
-      ∙ ap (λ (z : List ℕ). flat_map ended xs ++ z) two.whole
-      ∙ sym (append_assoc (flat_map ended xs) (flat_map ended ys) rest)
-      ∙ ap (λ (z : List ℕ). z ++ rest) (sym (flat_map-append ended xs ys));
+  whole = whole_append text more xs ys mid rest one.whole two.whole;
   unbroken = All-append HasNoFeed xs ys one.unbroken two.unbroken;
   unfinished = two.unfinished;
 }
 
--- where a text is cut, and its rest and more have lines
-pub lines_append : (text more : List ℕ) (xs ys : List (List ℕ)) (mid : List ℕ) → Cuts text xs mid → AreLines (mid ++ more) ys
-    → AreLines (text ++ more) (map without_return xs ++ ys)
-lines_append text more xs ys mid one two = record {
+-- where a text is cut, and its rest has lines
+lines_behind : (text : List ℕ) (xs ys : List (List ℕ)) (mid : List ℕ) → Cuts text xs mid → AreLines mid ys
+    → AreLines text (map without_return xs ++ ys)
+lines_behind text xs ys mid one two = record {
   ended_lines = xs ++ two.ended_lines;
   rest = two.rest;
-  cuts = cut_append text more xs two.ended_lines mid two.rest one two.cuts;
+  cuts = record {
+    whole = one.whole ∙ ap (λ (z : List ℕ). flat_map ended xs ++ z) two.cuts.whole ∙ whole_behind xs two.ended_lines two.rest;
+    unbroken = All-append HasNoFeed xs two.ended_lines one.unbroken two.cuts.unbroken;
+    unfinished = two.cuts.unfinished;
+  };
   all = ap (λ (z : List (List ℕ)). map without_return xs ++ z) two.all
       ∙ sym (append_assoc (map without_return xs) (map without_return two.ended_lines) (last_line two.rest))
       ∙ ap (λ (z : List (List ℕ)). z ++ last_line two.rest) (sym (map-append without_return xs two.ended_lines));
@@ -91,13 +105,6 @@ lines_append text more xs ys mid one two = record {
 pub cut_lines : (text : List ℕ) (xs : List (List ℕ)) (rest : List ℕ) → Cuts text xs rest
     → AreLines text (map without_return xs ++ last_line rest)
 cut_lines text xs rest cuts = record { ended_lines = xs; rest = rest; cuts = cuts; all = refl }
-
--- the first of the lines of a text that begins with a line
-pub first_line : (line more : List ℕ) → HasNoFeed line → (others : List (List ℕ))
-    × AreLines (ended line ++ more) (without_return line ∷ others)
-first_line line more unbroken =
-    let found = has_lines more in
-    (found.0, lines_append (ended line) more (line ∷ []) found.0 [] (cut_line line unbroken) found.1)
 
 -- ---- answers
 
@@ -152,47 +159,63 @@ pub lines_until : (stop : Stop) (before among : List Opened) (text more mid : Li
     → AnswersLines before text was then mid among
     → AnswersUntil stop among (mid ++ more) then now → AnswersUntil stop before (text ++ more) was now
 lines_until stop before among text more mid was then now one two = record {
-  lines = map without_return one.lines ++ two.lines;
-  others = two.others;
+  lines = one.lines ++ two.lines;
+  rest = two.rest;
   outcomes = one.outcomes ++ two.outcomes;
   after = two.after;
-  are_lines = subst (AreLines (text ++ more)) (sym (append_assoc (map without_return one.lines) two.lines two.others))
-      (lines_append text more one.lines (two.lines ++ two.others) mid one.cuts two.are_lines);
-  run = run_append before among two.after (map without_return one.lines) two.lines one.outcomes two.outcomes one.run two.run;
+  whole = whole_append text more one.lines two.lines mid two.rest one.cuts.whole two.whole;
+  unbroken = All-append HasNoFeed one.lines two.lines one.cuts.unbroken two.unbroken;
+  run = subst (λ (ls : List (List ℕ)). HubRun before ls (one.outcomes ++ two.outcomes) two.after)
+      (sym (map-append without_return one.lines two.lines))
+      (run_append before among two.after (map without_return one.lines)
+      (map without_return two.lines) one.outcomes two.outcomes one.run two.run);
   written = written_until stop was then now one.outcomes two.outcomes one.written two.written;
 }
 
 -- memory ran out before any line was answered
 pub until_none : (hub : List Opened) (text : List ℕ) (was : Option (List ℕ)) → AnswersUntil NoMemory hub text was was
-until_none hub text was =
-    let found = has_lines text in
-    record {
-      lines = [];
-      others = found.0;
-      outcomes = [];
-      after = hub;
-      are_lines = found.1;
-      run = (refl, refl);
-      written = stopped_at_once was [];
-    }
+until_none hub text was = record {
+  lines = [];
+  rest = text;
+  outcomes = [];
+  after = hub;
+  whole = refl;
+  unbroken = All-nil HasNoFeed;
+  run = (refl, refl);
+  written = stopped_at_once was [];
+}
 
 -- memory ran out behind some lines, and nothing was written since
 pub lines_then_stop : (before after : List Opened) (text more rest : List ℕ) (was then now : Option (List ℕ))
     → AnswersLines before text was then rest after
     → Appended then now [] → AnswersUntil NoMemory before (text ++ more) was now
-lines_then_stop before after text more rest was then now one nothing =
-    let found = has_lines (rest ++ more) in
-    record {
-      lines = map without_return one.lines;
-      others = found.0;
-      outcomes = one.outcomes;
-      after = after;
-      are_lines = lines_append text more one.lines found.0 rest one.cuts found.1;
-      run = one.run;
-      written = stopped_behind was now (flat_map output_of one.outcomes)
-          (subst (Appended was now) (append-nil (flat_map output_of one.outcomes))
-          (appended_both was then now (flat_map output_of one.outcomes) [] one.written nothing));
-    }
+lines_then_stop before after text more rest was then now one nothing = record {
+  lines = one.lines;
+  rest = rest ++ more;
+  outcomes = one.outcomes;
+  after = after;
+  whole = ap (λ (z : List ℕ). z ++ more) one.cuts.whole ∙ append_assoc (flat_map ended one.lines) rest more;
+  unbroken = one.cuts.unbroken;
+  run = one.run;
+  written = stopped_behind was now (flat_map output_of one.outcomes)
+      (subst (Appended was now) (append-nil (flat_map output_of one.outcomes))
+      (appended_both was then now (flat_map output_of one.outcomes) [] one.written nothing));
+}
+
+-- the lines with their line feeds were answered, and then a last one until a stop
+pub lines_last_until : (stop : Stop) (before among : List Opened) (text rest : List ℕ) (was then now : Option (List ℕ))
+    → AnswersLines before text was then rest among
+    → AnswersLastUntil stop among rest then now → AnswersLastUntil stop before text was now
+lines_last_until stop before among text rest was then now one two = record {
+  lines = map without_return one.lines ++ two.lines;
+  others = two.others;
+  outcomes = one.outcomes ++ two.outcomes;
+  after = two.after;
+  are_lines = subst (AreLines text) (sym (append_assoc (map without_return one.lines) two.lines two.others))
+      (lines_behind text one.lines (two.lines ++ two.others) rest one.cuts two.are_lines);
+  run = run_append before among two.after (map without_return one.lines) two.lines one.outcomes two.outcomes one.run two.run;
+  written = written_until stop was then now one.outcomes two.outcomes one.written two.written;
+}
 
 -- all lines of a text were answered, those with their line feeds and then the last one
 pub lines_last : (before among : List Opened) (text rest : List ℕ) (was then now : Option (List ℕ))

@@ -1,5 +1,5 @@
 -- What the hub keeps from one read to the next, and how it ends.
-use Rattle.std.proofs.Common.{◌≡◌, ℕ, ◌+◌, ◌-◌, ◌≤◌, List, [], ◌++◌, flat_map, take, length, Option, Some, None, Err, refl, sym, ap, ◌∙◌, subst, arith, append-nil, length-append, min}
+use Rattle.std.proofs.Common.{◌≡◌, ℕ, ◌+◌, ◌-◌, ◌≤◌, inl, inr, List, [], ◌++◌, flat_map, take, length, Option, Some, None, Err, refl, sym, ap, ◌∙◌, subst, arith, append-nil, length-append, min}
 use Rattle.std.proofs.lemmas.List.{length-take, take_all, take_min, take-take}
 use Rattle.std.proofs.lemmas.List.Elements.{All-nil}
 use Rattle.std.proofs.Math.Seq.{take-append-add, take-append_seam}
@@ -9,13 +9,13 @@ use Rattle.palm_lang.specs.Writing.{HasStopCause}
 use Rattle.palm_lang.specs.declared.stop.WriteStop.{WriteStop as Stop}
 use Rattle.palm_lang.specs.declared.stop.WriteStop.TheVariants as stops
 use Rattle.palm_hub.specs.Hub.{Opened, output_of}
-use Rattle.palm_hub.specs.Serving.{IsAll, IsCut, Pumps, PumpsFault, PumpsLast, PumpsPiece, PumpsUntil, Serves, ServesAll, ServesToFault, ServesToNoMemory, ServesToWriteFault, Streams, TakesOver, first_bytes, status_of}
-use Rattle.palm_hub.specs.Standing.{AnswersLines, AnswersUntil, HubView, StandsBehind}
+use Rattle.palm_hub.specs.Serving.{IsAll, IsCut, Pumps, PumpsFault, PumpsLast, PumpsLastUntil, PumpsPiece, PumpsTo, PumpsUntil, Serves, ServesAll, ServesPart, ServesToFault, ServesToNoMemory, ServesToWriteFault, Streams, TakesOver, first_bytes, status_of}
+use Rattle.palm_hub.specs.Standing.{AnswersLastUntil, AnswersLines, AnswersUntil, HubView, StandsBehind}
 use Rattle.palm_hub.specs.declared.limits.TheConstants.{MOST_INPUT_BYTES}
 use Rattle.palm_hub.specs.declared.status.HubStatus.{HubStatus}
 use Rattle.palm_hub.specs.declared.status.HubStatus.TheVariants.{Done, Usage, ReadFault, WriteFault, NoMemory, TooLong}
 use Rattle.palm_hub.proofs.Apart.{hub_replies}
-use Rattle.palm_hub.proofs.Running.{lines_last, lines_none, lines_then, lines_until, until_none}
+use Rattle.palm_hub.proofs.Running.{lines_last, lines_last_until, lines_none, lines_then, lines_until, until_none}
 
 -- ---- streams
 
@@ -60,13 +60,9 @@ fed_piece room count fed seen buffer is fits =
     ap (λ (z : List ℕ). seen ++ z)
     (sym (take-take fed count buffer (omega (arith, is))) ∙ ap (λ (k : ℕ). take k piece) same ∙ take_min room piece)
 
--- and none of none
-fed_nothing : (room : ℕ) (seen : List ℕ) → seen ≡ seen ++ take room []
-fed_nothing room seen = sym (ap (λ (z : List ℕ). seen ++ z) (take_all room [] (omega arith)) ∙ append-nil seen)
-
 -- by the status of the stop
 stopped : {G O : Type 0} (stop : Stop) (sessions : List Opened) (seen : List ℕ) (room : ℕ) (before now : Streams) (hub : HubView G O)
-    → PumpsUntil stop sessions seen room before now → Pumps sessions seen room before now hub (Err (status_of stop))
+    → PumpsTo stop sessions seen room before now → Pumps sessions seen room before now hub (Err (status_of stop))
 stopped stops.WriteFault sessions seen room before now hub p = p
 stopped stops.NoMemory sessions seen room before now hub p = p
 
@@ -95,28 +91,28 @@ module _ {G O : Type 0} (sessions : List Opened) (seen : List ℕ) (room count :
       → ((stop ≡ stops.NoMemory → Rose before.sink.faults now.sink.faults → ⊥)
       → AnswersUntil stop sessions (seen ++ take fed buffer) before.sink.written now.sink.written)
       → Pumps sessions seen room before now hub (Err (status_of stop))
-  pumps_until stop fed is cause answers = stopped stop sessions seen room before now hub (record {
+  pumps_until stop fed is cause answers = stopped stop sessions seen room before now hub (inl (record {
     piece = take count buffer;
     takes = takes;
     answers = λ none. subst (λ (z : List ℕ). AnswersUntil stop sessions z before.sink.written now.sink.written)
         (fed_piece room count fed seen buffer is fits) (answers none);
     calm_source = calm;
     cause = cause;
-  })
+  }))
 
-  -- or none, and the answer to a last line stopped
-  pub pumps_last_until : (stop : Stop) → count ≡ 0 → HasStopCause before.sink.faults now.sink.faults stop
+  -- or none at the end, and the answer to a last line stopped
+  pub pumps_last_until : (stop : Stop) → count ≡ 0 → (count ≡ 0 → IsAtEnd before.source.left)
+      → HasStopCause before.sink.faults now.sink.faults stop
       → ((stop ≡ stops.NoMemory → Rose before.sink.faults now.sink.faults → ⊥)
-      → AnswersUntil stop sessions seen before.sink.written now.sink.written)
+      → AnswersLastUntil stop sessions seen before.sink.written now.sink.written)
       → Pumps sessions seen room before now hub (Err (status_of stop))
-  pumps_last_until stop at_end cause answers = stopped stop sessions seen room before now hub (record {
-    piece = [];
-    takes = subst (λ (k : ℕ). Consumes before.source.left now.source.left (take k buffer)) at_end takes;
-    answers = λ none. subst (λ (z : List ℕ). AnswersUntil stop sessions z before.sink.written now.sink.written)
-        (fed_nothing room seen) (answers none);
+  pumps_last_until stop none ends cause answers = stopped stop sessions seen room before now hub (inr (record {
+    takes = subst (λ (k : ℕ). Consumes before.source.left now.source.left (take k buffer)) none takes;
+    at_end = ends none;
+    answers = answers;
     calm_source = calm;
     cause = cause;
-  })
+  }))
 
 -- ---- what is kept
 
@@ -152,7 +148,7 @@ pub wants_at_once : (before : Streams) → Serves before before NoMemory
 wants_at_once before = record {
   text = [];
   takes = consumes_nothing before.source.left;
-  answers = λ none. until_none [] [] before.sink.written;
+  part = λ none. inl (until_none [] [] before.sink.written);
   calm_source = refl;
   calm_sink = refl;
 }
@@ -224,36 +220,65 @@ module _ {G O : Type 0} (before mid now : Streams) (taken : ℕ) (hub : HubView 
     calm_sink = ap (λ (k : SinkState). k.faults) p.sink ∙ s.calm_sink;
   }
 
-  -- the answers stopped
-  answers_until : {stop : Stop} (p : PumpsUntil stop s.sessions s.rest (MOST_INPUT_BYTES - taken) mid now)
-      → (stop ≡ stops.NoMemory → Rose mid.sink.faults now.sink.faults → ⊥)
-      → AnswersUntil stop [] (first_bytes (s.text ++ p.piece)) before.sink.written now.sink.written
-  answers_until {stop = stop} p none =
-      subst (λ (z : List ℕ). AnswersUntil stop [] z before.sink.written now.sink.written) (fed_text s.text p.piece taken s.long le)
+  -- the answers to the lines of a piece stopped
+  part_until : {stop : Stop} (p : PumpsUntil stop s.sessions s.rest (MOST_INPUT_BYTES - taken) mid now)
+      → (stop ≡ stops.NoMemory → Rose mid.sink.faults now.sink.faults → ⊥) → ServesPart stop before now (s.text ++ p.piece)
+  part_until {stop = stop} p none =
+      inl (subst (λ (z : List ℕ). AnswersUntil stop [] z before.sink.written now.sink.written) (fed_text s.text p.piece taken s.long le)
       (lines_until stop [] s.sessions (first_bytes s.text) (take (MOST_INPUT_BYTES - taken) p.piece) s.rest
-      before.sink.written mid.sink.written now.sink.written s.answers (p.answers none))
+      before.sink.written mid.sink.written now.sink.written s.answers (p.answers none)))
+
+  -- or the answer to a last line
+  part_last : {stop : Stop} → PumpsLastUntil stop s.sessions s.rest mid now
+      → (stop ≡ stops.NoMemory → Rose mid.sink.faults now.sink.faults → ⊥) → ServesPart stop before now s.text
+  part_last {stop = stop} p none = inr (record {
+    short = omega (arith, s.long, le);
+    all = all_left before.source.left mid.source.left s.text s.takes p.at_end;
+    answers = lines_last_until stop [] s.sessions s.text s.rest before.sink.written mid.sink.written now.sink.written
+        whole_answers (p.answers none);
+  })
 
   -- since a write failed
-  serves_to_write_fault : PumpsUntil stops.WriteFault s.sessions s.rest (MOST_INPUT_BYTES - taken) mid now → ServesToWriteFault before now
-  serves_to_write_fault p =
+  serves_to_write_fault : PumpsTo stops.WriteFault s.sessions s.rest (MOST_INPUT_BYTES - taken) mid now → ServesToWriteFault before now
+  serves_to_write_fault pumps =
       let other : stops.WriteFault ≡ stops.NoMemory → ⊥ = λ e. cc in
-      record {
-        text = s.text ++ p.piece;
-        takes = consumes_both before.source.left mid.source.left now.source.left s.text p.piece s.takes p.takes;
-        answers = answers_until p (λ e rose. other e);
-        calm_source = p.calm_source ∙ s.calm_source;
-        rose = rose_after before.sink.faults mid.sink.faults now.sink.faults s.calm_sink p.cause.1;
-      }
+      elim pumps [
+        | inl p ↦ record {
+          text = s.text ++ p.piece;
+          takes = consumes_both before.source.left mid.source.left now.source.left s.text p.piece s.takes p.takes;
+          part = part_until p (λ e rose. other e);
+          calm_source = p.calm_source ∙ s.calm_source;
+          rose = rose_after before.sink.faults mid.sink.faults now.sink.faults s.calm_sink p.cause.1;
+        }
+        | inr p ↦ record {
+          text = s.text;
+          takes = takes_no_more before.source.left mid.source.left now.source.left s.text s.takes p.takes;
+          part = part_last p (λ e rose. other e);
+          calm_source = p.calm_source ∙ s.calm_source;
+          rose = rose_after before.sink.faults mid.sink.faults now.sink.faults s.calm_sink p.cause.1;
+        }
+      ]
 
   -- since memory ran out
-  serves_to_no_memory : PumpsUntil stops.NoMemory s.sessions s.rest (MOST_INPUT_BYTES - taken) mid now → ServesToNoMemory before now
-  serves_to_no_memory p = record {
-    text = s.text ++ p.piece;
-    takes = consumes_both before.source.left mid.source.left now.source.left s.text p.piece s.takes p.takes;
-    answers = λ none. answers_until p (λ e rose. none (rose_after before.sink.faults mid.sink.faults now.sink.faults s.calm_sink rose));
-    calm_source = p.calm_source ∙ s.calm_source;
-    calm_sink = p.cause ∙ s.calm_sink;
-  }
+  serves_to_no_memory : PumpsTo stops.NoMemory s.sessions s.rest (MOST_INPUT_BYTES - taken) mid now → ServesToNoMemory before now
+  serves_to_no_memory pumps =
+      let since = rose_after before.sink.faults mid.sink.faults now.sink.faults s.calm_sink in
+      elim pumps [
+        | inl p ↦ record {
+          text = s.text ++ p.piece;
+          takes = consumes_both before.source.left mid.source.left now.source.left s.text p.piece s.takes p.takes;
+          part = λ none. part_until p (λ e rose. none (since rose));
+          calm_source = p.calm_source ∙ s.calm_source;
+          calm_sink = p.cause ∙ s.calm_sink;
+        }
+        | inr p ↦ record {
+          text = s.text;
+          takes = takes_no_more before.source.left mid.source.left now.source.left s.text s.takes p.takes;
+          part = λ none. part_last p (λ e rose. none (since rose));
+          calm_source = p.calm_source ∙ s.calm_source;
+          calm_sink = p.cause ∙ s.calm_sink;
+        }
+      ]
 
   -- the read was the last one
   pub serves_last : (status : HubStatus) (later : HubView G O) → Pumps s.sessions s.rest (MOST_INPUT_BYTES - taken) mid now later (Err status)

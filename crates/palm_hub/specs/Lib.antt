@@ -1,4 +1,5 @@
 pub mod Addressing
+pub mod Host
 pub mod Hub
 pub mod Marked
 pub mod Numbers

@@ -1,12 +1,12 @@
 -- What the hub reads and writes, and the cause of each status.
-use Rattle.std.specs.Prelude.{◌≡◌, ℕ, ◌<◌, ◌≤◌, List, [], ◌++◌, length, take, codes, Option, Some, None, Result, Ok, Err, ⊤}
+use Rattle.std.specs.Prelude.{◌≡◌, ℕ, ◌<◌, ◌≤◌, ◌⊎◌, List, [], ◌++◌, length, take, codes, Option, Some, None, Result, Ok, Err, ⊤}
 use Rattle.palm_base.specs.Streams.{SourceState, SinkState, Consumes, IsAtEnd, Appended, AppendedProperFront, Rose}
 use Rattle.palm_lang.specs.Writing.{HasStopCause}
 use Rattle.palm_lang.specs.declared.stop.WriteStop.{WriteStop as Stop}
 use Rattle.palm_lang.specs.declared.stop.WriteStop.TheVariants as stops
 use Rattle.palm_read.specs.Lines.{ended}
 use Rattle.palm_hub.specs.Hub.{HubReplies, Opened}
-use Rattle.palm_hub.specs.Standing.{AnswersLast, AnswersLines, AnswersUntil, HubView, StandsBehind}
+use Rattle.palm_hub.specs.Standing.{AnswersLast, AnswersLastUntil, AnswersLines, AnswersUntil, HubView, StandsBehind}
 use Rattle.palm_hub.specs.declared.limits.TheConstants.{MOST_INPUT_BYTES}
 use Rattle.palm_hub.specs.declared.status.HubStatus.{HubStatus}
 use Rattle.palm_hub.specs.declared.status.HubStatus.TheVariants.{Done, Usage, ReadFault, WriteFault, NoMemory, TooLong}
@@ -62,11 +62,24 @@ pub record ServesTooLong (before after : Streams) : Type 0 where
   pub calm_source : after.source.faults ≡ before.source.faults
   pub calm_sink : after.sink.faults ≡ before.sink.faults
 
+-- the source ended within the limit, and the replies to its lines were written until the stop, bytes behind the last line feed
+-- counted as a line
+pub record ServesLast (stop : Stop) (before after : Streams) (text : List ℕ) : Type 0 where
+  pub short : length text ≤ MOST_INPUT_BYTES
+  pub all : IsAll before.source.left text
+  pub answers : AnswersLastUntil stop [] text before.sink.written after.sink.written
+
+-- the replies to the lines that the first bytes complete of what was taken were written until the stop, or, where the source
+-- ended, those to all lines
+abbrev pub ServesPart : Stop → Streams → Streams → List ℕ → Type 0
+ServesPart stop before after text =
+    AnswersUntil stop [] (first_bytes text) before.sink.written after.sink.written ⊎ ServesLast stop before after text
+
 -- a write failed, and a front of the replies was written
 pub record ServesToWriteFault (before after : Streams) : Type 0 where
   pub text : List ℕ
   pub takes : Consumes before.source.left after.source.left text
-  pub answers : AnswersUntil stops.WriteFault [] (first_bytes text) before.sink.written after.sink.written
+  pub part : ServesPart stops.WriteFault before after text
   pub calm_source : after.source.faults ≡ before.source.faults
   pub rose : Rose before.sink.faults after.sink.faults
 
@@ -74,7 +87,7 @@ pub record ServesToWriteFault (before after : Streams) : Type 0 where
 pub record ServesToNoMemory (before after : Streams) : Type 0 where
   pub text : List ℕ
   pub takes : Consumes before.source.left after.source.left text
-  pub answers : (Rose before.sink.faults after.sink.faults → ⊥) → AnswersUntil stops.NoMemory [] (first_bytes text) before.sink.written after.sink.written
+  pub part : (Rose before.sink.faults after.sink.faults → ⊥) → ServesPart stops.NoMemory before after text
   pub calm_source : after.source.faults ≡ before.source.faults
   pub calm_sink : after.sink.faults ≡ before.sink.faults
 
@@ -163,7 +176,7 @@ pub record PumpsPiece {G O : Type 0} (sessions : List Opened) (seen : List ℕ) 
   pub calm_source : after.source.faults ≡ before.source.faults
   pub calm_sink : after.sink.faults ≡ before.sink.faults
 
--- bytes were read, or none at the end, and the lines were answered until the stop
+-- bytes were read, and the lines that the first of them complete were answered until the stop
 pub record PumpsUntil (stop : Stop) (sessions : List Opened) (seen : List ℕ) (room : ℕ) (before after : Streams) : Type 0 where
   pub piece : List ℕ
   pub takes : Consumes before.source.left after.source.left piece
@@ -172,11 +185,25 @@ pub record PumpsUntil (stop : Stop) (sessions : List Opened) (seen : List ℕ) (
   pub calm_source : after.source.faults ≡ before.source.faults
   pub cause : HasStopCause before.sink.faults after.sink.faults stop
 
+-- the end was read, and a last line answered until the stop
+pub record PumpsLastUntil (stop : Stop) (sessions : List Opened) (seen : List ℕ) (before after : Streams) : Type 0 where
+  pub takes : Consumes before.source.left after.source.left []
+  pub at_end : IsAtEnd before.source.left
+  pub answers : (stop ≡ stops.NoMemory → Rose before.sink.faults after.sink.faults → ⊥)
+      → AnswersLastUntil stop sessions seen before.sink.written after.sink.written
+  pub calm_source : after.source.faults ≡ before.source.faults
+  pub cause : HasStopCause before.sink.faults after.sink.faults stop
+
+-- one read and the answers to its lines came to the stop
+abbrev pub PumpsTo : Stop → List Opened → List ℕ → ℕ → Streams → Streams → Type 0
+PumpsTo stop sessions seen room before after =
+    PumpsUntil stop sessions seen room before after ⊎ PumpsLastUntil stop sessions seen before after
+
 -- what one read and the answers to its lines do: the number of bytes that were read, or how the hub ends there
 abbrev pub Pumps : {G O : Type 0} → List Opened → List ℕ → ℕ → Streams → Streams → HubView G O → Result ℕ HubStatus → Type 0
 Pumps sessions seen room before after hub (Ok count) = PumpsPiece sessions seen room count before after hub
 Pumps sessions seen room before after hub (Err Done) = PumpsLast sessions seen before after
 Pumps sessions seen room before after hub (Err ReadFault) = PumpsFault before after
-Pumps sessions seen room before after hub (Err WriteFault) = PumpsUntil stops.WriteFault sessions seen room before after
-Pumps sessions seen room before after hub (Err NoMemory) = PumpsUntil stops.NoMemory sessions seen room before after
+Pumps sessions seen room before after hub (Err WriteFault) = PumpsTo stops.WriteFault sessions seen room before after
+Pumps sessions seen room before after hub (Err NoMemory) = PumpsTo stops.NoMemory sessions seen room before after
 Pumps sessions seen room before after hub (Err _) = ⊥

@@ -4,7 +4,7 @@ use Rattle.palm_base.specs.Streams.{Appended}
 use Rattle.palm_lang.specs.Writing.{AppendedUntil}
 use Rattle.palm_lang.specs.declared.stop.WriteStop.{WriteStop as Stop}
 use Rattle.palm_read.specs.Bytes.{after_blanks}
-use Rattle.palm_read.specs.Lines.{AreLines, Cuts, last_line, without_return}
+use Rattle.palm_read.specs.Lines.{AreLines, Cuts, HasNoFeed, ended, last_line, without_return}
 use Rattle.palm_session.specs.Answers.{Answers}
 use Rattle.palm_session.specs.Feeding.{View}
 use Rattle.palm_session.specs.State.{SessionState}
@@ -153,14 +153,15 @@ pub record AnswersLines (before : List Opened) (text : List ℕ) (was now : Opti
   pub run : HubRun before (map without_return lines) outcomes after
   pub written : Appended was now (flat_map output_of outcomes)
 
--- the first lines of the text were answered, the last of them until the stop
+-- the first lines that the text completes were answered, the last of them until the stop
 pub record AnswersUntil (stop : Stop) (before : List Opened) (text : List ℕ) (was now : Option (List ℕ)) : Type 0 where
   pub lines : List (List ℕ)
-  pub others : List (List ℕ)
+  pub rest : List ℕ
   pub outcomes : List Outcome
   pub after : List Opened
-  pub are_lines : AreLines text (lines ++ others)
-  pub run : HubRun before lines outcomes after
+  pub whole : text ≡ flat_map ended lines ++ rest
+  pub unbroken : All HasNoFeed lines
+  pub run : HubRun before (map without_return lines) outcomes after
   pub written : AppendedUntil stop was now (flat_map output_of outcomes)
 
 -- a last line without its line feed was answered, if it has a byte
@@ -169,3 +170,13 @@ pub record AnswersLast (before : List Opened) (rest : List ℕ) (was now : Optio
   pub after : List Opened
   pub run : HubRun before (last_line rest) outcomes after
   pub written : Appended was now (flat_map output_of outcomes)
+
+-- nothing comes behind the text, and its first lines were answered, the last of them until the stop
+pub record AnswersLastUntil (stop : Stop) (before : List Opened) (text : List ℕ) (was now : Option (List ℕ)) : Type 0 where
+  pub lines : List (List ℕ)
+  pub others : List (List ℕ)
+  pub outcomes : List Outcome
+  pub after : List Opened
+  pub are_lines : AreLines text (lines ++ others)
+  pub run : HubRun before lines outcomes after
+  pub written : AppendedUntil stop was now (flat_map output_of outcomes)

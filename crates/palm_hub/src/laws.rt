@@ -1,8 +1,8 @@
-//! Laws of hubs: the limits, and that sessions are apart.
+//! Laws of hubs: the limits, that the replies to an input are there and are the only ones, and that sessions are apart.
 ghost use Rattle.std.specs.Prelude.{◌≡◌, ℕ, List, [], All};
 ghost use Rattle.palm_read.specs.Lines.{HasNoFeed};
 ghost use Rattle.palm_session.specs.Replies.{Replies};
-ghost use Rattle.palm_hub.specs.Hub.{HubReplies, HubRun, Opened, Outcome, replies_of, text_of};
+ghost use Rattle.palm_hub.specs.Hub.{HubAnswers, HubReplies, HubRun, Opened, Outcome, replies_of, text_of};
 
 use crate::limits::{MOST_INPUT_BYTES, MOST_SESSIONS};
 
@@ -10,6 +10,25 @@ use crate::limits::{MOST_INPUT_BYTES, MOST_SESSIONS};
 pub fn limits_are_these_numbers()
     ensures input { MOST_INPUT_BYTES ≡ 16777216 }
     ensures sessions { MOST_SESSIONS ≡ 16 }
+{}
+
+/// Behind whatever hub lines were answered, a hub line has an outcome, and no two.
+pub fn each_hub_line_has_one_outcome()
+    ensures some { (lines : List (List ℕ)) (outcomes : List Outcome) (hub : List Opened) → All HasNoFeed lines → HubRun [] lines outcomes hub
+        → (line : List ℕ) → (outcome : Outcome) × (after : List Opened) × HubAnswers hub line outcome after }
+    ensures once { (lines : List (List ℕ)) (outcomes : List Outcome) (hub : List Opened) → All HasNoFeed lines → HubRun [] lines outcomes hub
+        → (line : List ℕ) (a b : Outcome) (after later : List Opened) → HubAnswers hub line a after → HubAnswers hub line b later
+        → (a ≡ b) × (after ≡ later) }
+{}
+
+/// An input has an output.
+pub fn an_input_has_an_output()
+    ensures { (input : List ℕ) → (output : List ℕ) × HubReplies input output }
+{}
+
+/// An input has no two outputs: the sessions of a hub are handed no guides and no orders.
+pub fn an_input_has_one_output()
+    ensures { (input a b : List ℕ) → HubReplies input a → HubReplies input b → a ≡ b }
 {}
 
 /// The replies of each session are those to its own lines alone, whatever lines of other names come between.

@@ -3,6 +3,7 @@
 
 mod addressee;
 mod deciding;
+mod host;
 mod laws;
 mod limits;
 mod part;
@@ -14,7 +15,11 @@ mod sessions;
 mod standing;
 mod status;
 
-pub use laws::{limits_are_these_numbers, names_have_the_same_replies, sessions_are_apart};
+pub use host::program;
+pub use laws::{
+    an_input_has_an_output, an_input_has_one_output, each_hub_line_has_one_outcome,
+    limits_are_these_numbers, names_have_the_same_replies, sessions_are_apart,
+};
 pub use limits::{MOST_INPUT_BYTES, MOST_SESSIONS};
 pub use prefix::{PrefixSink, Start};
 pub use serving::hub;

@@ -1,4 +1,4 @@
-//! The one call that the program makes.
+//! Hub lines in, and replies out.
 ghost use Rattle.std.specs.Prelude.{◌≡◌, ◌≢◌, ◌<◌, ◌≤◌, ℕ, [], List, IfOk, length};
 ghost use Rattle.palm_base.specs.Streams.{Rose, SourceState};
 ghost use Rattle.palm_read.specs.Lines.{HasNoFeed};
@@ -105,7 +105,7 @@ fn pump<S: Source, K: Sink, L: Ledger>(
 }
 
 /// Writes the usage line.
-fn refuse<K: Sink>(sink: &mut K) -> HubStatus
+pub(crate) fn refuse<K: Sink>(sink: &mut K) -> HubStatus
     ensures { (source : SourceState) → Refuses (streams source (K.state sink.old)) (streams source (K.state sink.new)) result }
 {
     match write_all(sink, b"usage: palm_hub\n") {

@@ -5,7 +5,7 @@ ghost use Rattle.palm_lang.specs.Writing.{IsCounted, Writes};
 ghost use Rattle.palm_lang.specs.declared.stop.WriteStop.TheVariants as stops;
 ghost use Rattle.palm_read.specs.Lines.{HasNoFeed, without_return};
 ghost use Rattle.palm_hub.specs.Hub.{Opened as OpenedTerm, output_of};
-ghost use Rattle.palm_hub.specs.Standing.{AnswersLast, AnswersLines, AnswersUntil, StandsBehind, skipped};
+ghost use Rattle.palm_hub.specs.Standing.{AnswersLast, AnswersLastUntil, AnswersLines, AnswersUntil, StandsBehind, skipped};
 ghost use Rattle.palm_hub.specs.Stepping.{AnswersOne, AnswersOneUntil, IsAtStart, IsDecided, IsQuiet, StandsAtEnd, StandsIn, TakesIn};
 ghost use Rattle.palm_hub.specs.declared.part.Part.TheVariants as parts;
 
@@ -96,7 +96,7 @@ impl Hub {
             → AnswersLast sessions seen (K.state sink.old).written (K.state sink.new).written) }
         ensures stopped { IfErr result (λ stop. (sessions : List OpenedTerm) (seen : List ℕ) → HasNoFeed seen → StandsBehind sessions seen self.old
             → (stop ≡ stops.NoMemory → Rose (K.state sink.old).faults (K.state sink.new).faults → ⊥)
-            → AnswersUntil stop sessions seen (K.state sink.old).written (K.state sink.new).written) }
+            → AnswersLastUntil stop sessions seen (K.state sink.old).written (K.state sink.new).written) }
     {
         if self.is_at_start() {
             return Ok(());

@@ -14,7 +14,7 @@ use filter_occur::OccurFilter;
 use filter_table::TableFilter;
 use palm_base::{NoMemory, Pair, VarList};
 use palm_domain::DomainStore;
-use palm_filter::{Filter, Heed, Reasons, Shape};
+use palm_filter::{Filter, Heed, Intervals, Known, Reasons, Shape};
 use palm_model::Con;
 use std::alloc::Global;
 
@@ -105,6 +105,23 @@ impl Filter for Kind {
             Kind::Count(filter) => supported_apart(filter, store, pair),
             Kind::Differ(filter) => supported_apart(filter, store, pair),
             Kind::Within(filter) => supported_apart(filter, store, pair),
+        }
+    }
+
+    fn rule(
+        &self,
+        store: &DomainStore,
+        pair: &Pair,
+        out: &mut Intervals,
+    ) -> Result<Known, NoMemory> {
+        match self {
+            Kind::Compare(filter) => filter.rule(store, pair, out),
+            Kind::Linear(filter) => filter.rule(store, pair, out),
+            Kind::Table(filter) => filter.rule(store, pair, out),
+            Kind::Element(filter) => filter.rule(store, pair, out),
+            Kind::Count(filter) => filter.rule(store, pair, out),
+            Kind::Differ(filter) => filter.rule(store, pair, out),
+            Kind::Within(filter) => filter.rule(store, pair, out),
         }
     }
 

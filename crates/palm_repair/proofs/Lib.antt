@@ -10,4 +10,5 @@ pub mod Refuting
 pub mod Repairing
 pub mod Running
 pub mod Stepping
+pub mod Stopping
 pub mod Taking

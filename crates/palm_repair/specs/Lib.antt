@@ -5,4 +5,5 @@ pub mod Learned
 pub mod Posting
 pub mod Repair
 pub mod Sets
+pub mod Stopping
 pub mod Turning

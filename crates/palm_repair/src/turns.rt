@@ -7,6 +7,7 @@ ghost use Rattle.palm_engine.specs.Engine.{KeepsCounts};
 ghost use Rattle.palm_search.specs.Calls.{search_state};
 ghost use Rattle.palm_search.specs.Following.{GuideFollows};
 ghost use Rattle.palm_search.specs.Kept.{HasDecisions};
+ghost use Rattle.palm_search.specs.Stopping.{GuideStops, GuideStopsAt};
 ghost use Rattle.palm_search.specs.Turning.{Hears};
 ghost use Rattle.palm_search.specs.Turns.{HasFlatConflict, decided_vars};
 ghost use Rattle.palm_search.specs.declared.turn.Turn.TheVariants.{Undo as TurnUndo};
@@ -46,6 +47,8 @@ fn take_back<F: Filter, G: Guide>(
     ensures told { OnOk result (Hears G.hears G.state (decided_vars conflict.now) guide.old guide.new) }
     ensures err { OnErr result (IsCutTurn (is_some guide.old) tabu
         (repair_state engine.old.state search.old.decisions learned.old) search.old engine.new.state search.new) }
+    ensures stopped { OnErr result (GuideStopsAt (GuideFollows G.answers G.hears G.state) (GuideStops G.answers G.hears G.state) guide.old guide.new
+        (search_state engine.old.state search.old) search.old.journal search.new.journal) }
     ensures within { length search.new.journal ≤ length search.old.journal + 1 }
     ensures decisions { HasDecisions (search_state engine.new.state search.new) }
     ensures counts { KeepsCounts engine.old engine.new }
@@ -78,6 +81,8 @@ pub(crate) fn advance<F: Filter, G: Guide>(
         (repair_state engine.new.state search.new.decisions learned.new) search.new) }
     ensures err { OnErr result (IsCutTurn (is_some guide.old) tabu
         (repair_state engine.old.state search.old.decisions learned.old) search.old engine.new.state search.new) }
+    ensures stopped { OnErr result (GuideStopsAt (GuideFollows G.answers G.hears G.state) (GuideStops G.answers G.hears G.state) guide.old guide.new
+        (search_state engine.old.state search.old) search.old.journal search.new.journal) }
     ensures within { length search.new.journal ≤ budget }
     ensures decisions { HasDecisions (search_state engine.new.state search.new) }
     ensures counts { KeepsCounts engine.old engine.new }

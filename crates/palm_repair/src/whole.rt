@@ -1,13 +1,15 @@
 //! The whole repair.
 ghost use Rattle.std.specs.Prelude.{◌≡◌, ◌<◌, [], IfOk, OnErr, is_some};
 ghost use Rattle.palm_model.specs.State.{IsValid};
-ghost use Rattle.palm_engine.specs.Following.{OrderFollows};
+ghost use Rattle.palm_engine.specs.Following.{OrderAnswers, OrderFollows};
 ghost use Rattle.palm_search.specs.Calls.{search_state};
 ghost use Rattle.palm_search.specs.Following.{GuideFollows};
 ghost use Rattle.palm_search.specs.Kept.{HasDecisions, HasOnlyUsers};
 ghost use Rattle.palm_search.specs.Leaves.{Counts, Leaves, Lent};
+ghost use Rattle.palm_search.specs.Stopping.{GuideStops};
 ghost use Rattle.palm_repair.specs.Answers.{IsTrueOf};
 ghost use Rattle.palm_repair.specs.Following.{HasRepairedBy, HasRunBy};
+ghost use Rattle.palm_repair.specs.Stopping.{BreaksOffBy, IsCutOffBy};
 ghost use Rattle.palm_repair.specs.Turning.{BreaksOff, IsCutOff};
 
 use crate::answer::RepairAnswer;
@@ -39,6 +41,8 @@ fn run<F: Filter, G: Guide, O: Order, L: Ledger>(
     ensures ok { IfOk result (HasRunBy (GuideFollows G.answers G.hears G.state) (OrderFollows O.answers O.hears O.state) guide.old guide.new order.old order.new
         tabu budget engine.old.state search.new.journal engine.new.state) }
     ensures err { OnErr result (IsCutOff (is_some guide.old) (is_some order.old) tabu budget engine.old.state search.new.journal engine.new.state) }
+    ensures stopped { OnErr result (IsCutOffBy (GuideFollows G.answers G.hears G.state) (GuideStops G.answers G.hears G.state) (OrderFollows O.answers O.hears O.state) (OrderAnswers O.answers O.state)
+        guide.old guide.new order.old order.new tabu budget engine.old.state search.new.journal engine.new.state) }
     ensures decisions { HasDecisions (search_state engine.new.state search.new) }
     ensures counts { Counts engine.old engine.new steps.old steps.new }
     ensures lent { Lent guide.old guide.new order.old order.new }
@@ -64,7 +68,8 @@ fn run<F: Filter, G: Guide, O: Order, L: Ledger>(
 /// withdrawn, and the engine settles once more. The journal holds the turns. The guide is asked once at each decision and
 /// told once of each undoing, and the order is asked and told in all settlings, and neither at any other moment. After want
 /// of memory the decisions and negations are withdrawn too, the journal holds the turns so far, and constraints may be
-/// pending. (Jussien and Lhomme 2002)
+/// pending; the guide and the order were asked and told along these turns, and for the step that broke off as far as it came.
+/// (Jussien and Lhomme 2002)
 pub fn repair<F: Filter, G: Guide, O: Order, L: Ledger>(
     alloc: Global,
     engine: &mut Engine<F>,
@@ -82,6 +87,8 @@ pub fn repair<F: Filter, G: Guide, O: Order, L: Ledger>(
         tabu budget engine.old.state search.new.journal engine.new.state) }
     ensures holds { IfOk result (IsTrueOf engine.old.state budget) }
     ensures err { OnErr result (BreaksOff (is_some guide.old) (is_some order.old) tabu budget engine.old.state search.new.journal engine.new.state) }
+    ensures stopped { OnErr result (BreaksOffBy (GuideFollows G.answers G.hears G.state) (GuideStops G.answers G.hears G.state) (OrderFollows O.answers O.hears O.state) (OrderAnswers O.answers O.state)
+        guide.old guide.new order.old order.new tabu budget engine.old.state search.new.journal engine.new.state) }
     ensures leaves { Leaves engine.old.state engine.new.state search.new result }
     ensures counts { Counts engine.old engine.new steps.old steps.new }
     ensures lent { Lent guide.old guide.new order.old order.new }

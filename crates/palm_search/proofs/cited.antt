@@ -14,6 +14,7 @@ pub mod Results
 pub mod Running
 pub mod Showing
 pub mod Solving
+pub mod Stopping
 pub mod Taking
 pub mod Weighing
 pub mod Whole

@@ -6,5 +6,6 @@ pub mod Kept
 pub mod Leaves
 pub mod Measure
 pub mod Search
+pub mod Stopping
 pub mod Turning
 pub mod Turns

@@ -1,5 +1,5 @@
 //! The undoing of mac-dbt.
-ghost use Rattle.std.specs.Prelude.{◌≡◌, ℕ, Contains, OnErr, OnOk, is_some};
+ghost use Rattle.std.specs.Prelude.{◌≡◌, ◌⊎◌, ℕ, Contains, OnErr, OnOk, is_some};
 ghost use Rattle.palm_base.specs.declared.terms.Cid.{Cid as CidTerm};
 ghost use Rattle.palm_base.specs.declared.terms.Pair.{Pair as PairTerm};
 ghost use Rattle.palm_engine.specs.Engine.{KeepsCounts};
@@ -18,8 +18,8 @@ use palm_guide::Guide;
 use std::alloc::Global;
 
 /// Tells the guide the variables of the flat conflict's decisions, undoes the latest decision of it, and forbids its pair
-/// for the rest of it. Where memory runs out, nothing was undone, or the decision was and its pair is not forbidden; the
-/// guide may have been told in both cases.
+/// for the rest of it. Where memory runs out, nothing was undone, and the guide may have been told; or the decision was, the
+/// guide was told, and the pair is not forbidden.
 pub fn undo_latest<F: Filter, G: Guide>(
     alloc: Global,
     engine: &mut Engine<F>,
@@ -33,6 +33,7 @@ pub fn undo_latest<F: Filter, G: Guide>(
     ensures ok { OnOk result ((gone : PairTerm) × TakesTurn (is_some guide.old) (TurnUndo gone conflict.now) engine.old.state search.old engine.new.state search.new) }
     ensures told { OnOk result (Hears G.hears G.state (decided_vars conflict.now) guide.old guide.new) }
     ensures err { OnErr result (IsCutUndoing conflict.now engine.old.state search.old engine.new.state search.new) }
+    ensures stopped { OnErr result (((guide.new ≡ guide.old) × (search.new ≡ search.old)) ⊎ Hears G.hears G.state (decided_vars conflict.now) guide.old guide.new) }
     ensures decisions { HasDecisions (search_state engine.new.state search.new) }
     ensures counts { KeepsCounts engine.old engine.new }
     ensures stays { is_some guide.new ≡ is_some guide.old }

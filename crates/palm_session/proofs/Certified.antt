@@ -55,14 +55,15 @@ removed s is awake none d x value are has missing =
 
 says_cert : (s : SessionState) → IsState s → HasScopedReasons s.engine → s.paused ≡ false → (IsContradiction s → ⊥) → (name : List ℕ) (value : ℤ) (reply : List ℕ) (d : Domains) (x : ℕ) → AreDomains s d → x < length s.book.variables → name_of s.book.variables x ≡ name
     → Has (initial_of s.book) x value → SaysCert s d (pair_of x value) reply → ToldCert s name value reply
-says_cert s is scoped awake none name value reply d x are lt named has (inl p) = cert_present p.1
+says_cert s is scoped awake none name value reply d x are lt named has (inl p) = cert_present x d (record { declared = lt; named = named }) are p.0 p.1
 says_cert s is scoped awake none name value reply d x are lt named has (inr p) =
     cert_accepted x lt named (accepts s is scoped (Gone (pair_of x value)) (removed s is awake none d x value are has p.0) reply p.1)
 
 asked_cert : (s t : SessionState) (name reply : List ℕ) (value : ℤ) (pair : Pair) → IsState s → HasScopedReasons s.engine → (IsUndeclared s name value → ⊥) → IsPair s.book.variables name value pair
     → Accepts s (Ask (Cert pair)) reply t → ToldCert s name value reply
-asked_cert s t name reply value pair is scoped asks found (waits w) = cert_paused refl
-asked_cert s t name reply value pair is scoped asks found (contradicts effect goes does c) = cert_contradiction refl
+asked_cert s t name reply value pair is scoped asks found (waits w) = cert_paused w.paused refl
+asked_cert s t name reply value pair is scoped asks found (contradicts effect goes does c) =
+    cert_contradiction (subst IsContradiction (query_same s does.0 t effect does.1 does.2) c.contradiction) refl
 asked_cert s t name reply value pair is scoped asks found (says effect goes does quiet said) =
     let same : t ≡ s = query_same s does.0 t effect does.1 does.2 in
     let here : IsAnswer s (Cert pair) reply = subst (λ (z : SessionState). IsAnswer z (Cert pair) reply) same said in
@@ -76,17 +77,17 @@ told_cert s t name reply value request is scoped a h =
     let found = a.requests in
     asked_cert s t name reply value found.0 is scoped a.none.1.1.1.1.1.0 found.1 (subst (λ (r : Request). Accepts s r reply t) found.2 h)
 
-says_conflict : (s : SessionState) → IsState s → HasScopedReasons s.engine → (d : Domains) (reply : List ℕ) → SaysCertConflict s d reply → ToldCertConflict s reply
-says_conflict s is scoped d reply (inl p) = claim_none p.1
-says_conflict s is scoped d reply (inr p) =
+says_conflict : (s : SessionState) → IsState s → HasScopedReasons s.engine → (d : Domains) (reply : List ℕ) → AreDomains s d → SaysCertConflict s d reply → ToldCertConflict s reply
+says_conflict s is scoped d reply are (inl p) = claim_none d are p.0 p.1
+says_conflict s is scoped d reply are (inr p) =
     let held = is.held in
     let empty = p.2.empty in
     claim_accepted p.1 (claim_declared s.engine s.book held.valid held.initial held.active (ConflictClaim p.1) empty) (accepts s is scoped (ConflictClaim p.1) empty reply p.3)
 
 pub told_cert_conflict : (s t : SessionState) (reply : List ℕ) → IsState s → HasScopedReasons s.engine → Accepts s (Ask CertConflict) reply t → ToldCertConflict s reply
-told_cert_conflict s t reply is scoped (waits w) = claim_paused refl
+told_cert_conflict s t reply is scoped (waits w) = claim_paused w.paused refl
 told_cert_conflict s t reply is scoped (contradicts effect goes does c) = absurd c.contradictable
 told_cert_conflict s t reply is scoped (says effect goes does quiet said) =
     let same : t ≡ s = query_same s does.0 t effect does.1 does.2 in
     let here : IsAnswer s CertConflict reply = subst (λ (z : SessionState). IsAnswer z CertConflict reply) same said in
-    says_conflict s is scoped here.0 reply here.2
+    says_conflict s is scoped here.0 reply here.1 here.2

@@ -1,12 +1,12 @@
--- What is known of a line: whether it ends the session, its tabu length, and that a line that is too long says nothing.
-use Rattle.std.proofs.Common.{◌≡◌, ℕ, ◌<◌, List, length, inl, inr, refl, sym, subst}
+-- What is known of a line: whether it ends the session, its tabu length, its budget, and that a line that is too long says nothing.
+use Rattle.std.proofs.Common.{◌≡◌, ℕ, ◌<◌, ◌≤◌, List, length, inl, inr, refl, sym, subst}
 use Rattle.palm_base.proofs.cited.Members.{Known, known_like}
-use Rattle.palm_read.specs.Form.{Form, SolveRepairForm}
+use Rattle.palm_read.specs.Form.{Form, ProveForm, SolveRepairForm}
 use Rattle.palm_read.specs.Limits.{IsInRange}
 use Rattle.palm_read.specs.Reading.{IsRead, IsRefusedBy, a_comment, a_form, line_of}
 use Rattle.palm_read.specs.declared.limits.TheConstants.{MOST_LINE_BYTES}
 use Rattle.palm_read.specs.declared.line.Line.{Line}
-use Rattle.palm_read.specs.declared.line.Line.TheVariants.{Quit, SolveRepair}
+use Rattle.palm_read.specs.declared.line.Line.TheVariants.{Prove, Quit, SolveRepair}
 use Rattle.palm_read.specs.declared.mode.Mode.{Mode}
 use Rattle.palm_read.specs.declared.mode.Mode.TheVariants.{One}
 use Rattle.palm_read.specs.declared.parse.LineError.TheVariants.{Bytes, NoMemory}
@@ -28,6 +28,19 @@ form_tabu _ h = tt
 pub tabu_read : (mode : Mode) (bytes : List ℕ) (line : Line) → IsRead mode bytes line → GivesTabu line
 tabu_read mode bytes line (a_comment c) = tt
 tabu_read mode bytes line (a_form form p f _ r none once e) = subst GivesTabu (sym e) (form_tabu form r)
+
+-- the budget that a line gives fits a counter
+abbrev pub GivesBudget : Line → Type 0
+GivesBudget (Prove budget) = budget ≤ 18446744073709551615
+GivesBudget _ = Unit {0}
+
+form_budget : (form : Form) → IsInRange (line_of form) → GivesBudget (line_of form)
+form_budget (ProveForm budget) h = h.1
+form_budget _ h = tt
+
+pub budget_read : (mode : Mode) (bytes : List ℕ) (line : Line) → IsRead mode bytes line → GivesBudget line
+budget_read mode bytes line (a_comment c) = tt
+budget_read mode bytes line (a_form form p f _ r none once e) = subst GivesBudget (sym e) (form_budget form r)
 
 -- whether the bytes say `quit`
 pub quit_known : (bytes : List ℕ) → Known (IsRead One bytes Quit)

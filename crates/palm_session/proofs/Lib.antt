@@ -1,6 +1,8 @@
 pub mod ActiveLists
 pub mod Admitting
 pub mod Answering
+pub mod AskingBack
+pub mod Beginnings
 pub mod Certified
 pub mod cited
 pub mod Conflicting
@@ -28,6 +30,7 @@ mod Preferring
 pub mod Presents
 pub mod Proving
 pub mod ReadOnce
+pub mod RefusedLines
 pub mod Requesting
 pub mod Retracting
 pub mod ScopedLines

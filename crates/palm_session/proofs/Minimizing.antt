@@ -130,11 +130,11 @@ best_end_spent book target budget (SpentBest turns best) count telling h e told 
 
 -- ---- what is told of them
 
-pub best_told : (book : Contents) (target budget : ℕ) (best : Best) (reply : List ℕ) → BestHolds book target budget best → reply ≡ told_text book (best_end best) (best_telling best) → ToldLeast book target budget reply
-best_told book target budget (LeastFound values users) reply h r = best_found values users h.0 r
-best_told book target budget (NoneFound users) reply h r = best_none users h r
-best_told book target budget (SpentBest turns None) reply h r = best_spent h.1 (r ∙ ap (λ (n : ℕ). spent_line n None) h.0)
-best_told book target budget (SpentBest turns (Some values)) reply h r = best_so_far values h.2.0 h.1 (r ∙ ap (λ (n : ℕ). spent_best_line n book.variables values) h.0)
+pub best_told : (s : SessionState) (target budget : ℕ) (best : Best) (reply : List ℕ) → BestHolds s.book target budget best → reply ≡ told_text s.book (best_end best) (best_telling best) → ToldLeast s target budget reply
+best_told s target budget (LeastFound values users) reply h r = best_found values users h.0 r
+best_told s target budget (NoneFound users) reply h r = best_none users h r
+best_told s target budget (SpentBest turns None) reply h r = best_spent h.1 (r ∙ ap (λ (n : ℕ). spent_line n None) h.0)
+best_told s target budget (SpentBest turns (Some values)) reply h r = best_so_far values h.2.0 h.1 (r ∙ ap (λ (n : ℕ). spent_best_line n s.book.variables values) h.0)
 
 -- an end that is told so is this one
 pub found_best : (best : Best) (values : List ℤ) (users : List Cid) → Found values ≡ best_end best → AsLeast users ≡ best_telling best → best ≡ LeastFound values users

@@ -48,16 +48,17 @@ module _ (book : Contents) (weights : List Weight) where
     kept_are_free : (keep : List Cid) (left : List LeftOut) (is : IsKept book weights keep left) → AreFree book is.kept
     kept_are_free keep left is = record { within = kept_active book weights keep left is; free = kept_free book weights keep left is }
 
-    preferred_told : (reply : List ℕ) (preferred : Preferred) → IsPreferred book weights preferred → reply ≡ preferred_text book preferred → ToldPreferred book reply
-    preferred_told reply (Hard conflict) is e =
-        preferred_hard conflict (All-head (IsTight book) conflict [] (conflicts_tight book weights (Hard conflict) book_is is)) e
-    preferred_told reply (Kept keep left) is e =
-        preferred_kept is.kept left (kept_are_free keep left is) (left_out keep left is) (e ∙ ap (λ (k : List Cid). preferred_text book (Kept k left)) is.named)
+preferred_told : (s : SessionState) → IsBook s.book → (reply : List ℕ) (preferred : Preferred) → IsPreferred s.book s.weights preferred → reply ≡ preferred_text s.book preferred → ToldPreferred s reply
+preferred_told s book_is reply (Hard conflict) is e =
+    preferred_hard conflict (All-head (IsTight s.book) conflict [] (conflicts_tight s.book s.weights (Hard conflict) book_is is)) e
+preferred_told s book_is reply (Kept keep left) is e =
+    preferred_kept is.kept left (kept_are_free s.book s.weights book_is keep left is) (left_out s.book s.weights book_is keep left is)
+    (e ∙ ap (λ (k : List Cid). preferred_text s.book (Kept k left)) is.named)
 
-pub told_preferred : (s : SessionState) (reply : List ℕ) (t : SessionState) → IsState s → Accepts s (Ask PreferredAsked) reply t → ToldPreferred s.book reply
-told_preferred s reply t is (waits w) = preferred_paused refl
+pub told_preferred : (s : SessionState) (reply : List ℕ) (t : SessionState) → IsState s → Accepts s (Ask PreferredAsked) reply t → ToldPreferred s reply
+told_preferred s reply t is (waits w) = preferred_paused w.paused refl
 told_preferred s reply t is (contradicts effect goes does c) = absurd c.contradictable
 told_preferred s reply t is (says effect goes does quiet said) =
     let same : t ≡ s = query_same s does.0 t effect does.1 does.2 in
     let here : SaysPreferred s reply = subst (λ (z : SessionState). SaysPreferred z reply) same said in
-    preferred_told s.book s.weights is.held.book reply here.0 here.1 here.2
+    preferred_told s is.held.book reply here.0 here.1 here.2

@@ -1,5 +1,5 @@
 -- What a search tells, and what it leaves.
-use Rattle.std.proofs.Common.{◌≡◌, ℕ, ◌≤◌, is_some, List, ◌++◌, Option, None, Some, refl, sym, ap, ◌∙◌, subst, append_assoc}
+use Rattle.std.proofs.Common.{◌≡◌, ℕ, ◌≤◌, true, is_some, List, ◌++◌, Option, None, Some, refl, sym, ap, ◌∙◌, subst, append_assoc}
 use Rattle.palm_model.specs.State.{EngineState}
 use Rattle.palm_events.specs.Along.{IsStill}
 use Rattle.palm_events.specs.Scoped.{HasScopedReasons}
@@ -43,7 +43,7 @@ still_before s m request is goes h by e =
 -- ---- what is told of an end
 
 short_told : (s : SessionState) → IsHeld s → (by : Procedure) (turns : List Turn) (end : SearchEnd) (dropped : Option ℕ) (e : EngineState) (reply : List ℕ) → SearchesIn s by turns end (InShort dropped) e
-    → reply ≡ end_text s.book end dropped → ToldSearch s.book by reply
+    → reply ≡ end_text s.book end dropped → ToldSearch s by reply
 short_told s is by turns (Found values) dropped e reply search r = search_found values (end_holds s is by turns (Found values) (InShort dropped) e search).0 r
 short_told s is by turns (NoSolution users) dropped e reply search r = search_none users (end_holds s is by turns (NoSolution users) (InShort dropped) e search) r
 short_told s is by turns (Spent count) dropped e reply search r =
@@ -75,7 +75,7 @@ proof_closes s budget turns (Spent count) e text proves =
     let w = proves.writes in closes_so text (declarations s.book) w.argued.lemmas w.conclusion (spent_line count None) w.is w.concludes
 
 full_told : (s : SessionState) → IsHeld s → (budget : ℕ) (turns : List Turn) (end : SearchEnd) (telling : Telling) (e : EngineState) (reply : List ℕ) → SearchesIn s (Proof budget) turns end telling e
-    → ClosesWith reply (end_text s.book end None) → ToldProof s.book budget reply
+    → ClosesWith reply (end_text s.book end None) → ToldProof s budget reply
 full_told s is budget turns (Found values) telling e reply search closes = proof_found values (end_holds s is (Proof budget) turns (Found values) telling e search).0 closes
 full_told s is budget turns (NoSolution users) telling e reply search closes = proof_none users (end_holds s is (Proof budget) turns (NoSolution users) telling e search) closes
 full_told s is budget turns (Spent count) telling e reply search closes =
@@ -88,7 +88,7 @@ told_in_full : (s : SessionState) (budget : ℕ) (turns : List Turn) (end : Sear
 told_in_full s budget turns end telling e reply search r = r ∙ ap (λ (z : Telling). told_text s.book end z) search.told
 
 end_told : (s : SessionState) → IsHeld s → (by : Procedure) (turns : List Turn) (end : SearchEnd) (telling : Telling) (e : EngineState) (reply : List ℕ) → SearchesIn s by turns end telling e
-    → reply ≡ told_text s.book end telling → ToldBy s.book by reply
+    → reply ≡ told_text s.book end telling → ToldBy s by reply
 end_told s is (Dbt budget) turns end telling e reply search r =
     short_told s is (Dbt budget) turns end None e reply (subst (λ (z : Telling). SearchesIn s (Dbt budget) turns end z e) search.told search) (r ∙ ap (λ (z : Telling). told_text s.book end z) search.told)
 end_told s is (Repair tabu budget) turns end telling e reply search r =
@@ -98,7 +98,7 @@ end_told s is (Proof budget) turns end telling e reply search r =
     full_told s is budget turns end telling e reply search
     (subst (λ (t : List ℕ). ClosesWith t (end_text s.book end None)) (sym (told_in_full s budget turns end telling e reply search r)) (proof_closes s budget turns end e search.text search.proves))
 end_told s is (Least target budget) turns end telling e reply search r =
-    best_told s.book target budget search.best reply (least_holds s is target budget turns end telling e search)
+    best_told s target budget search.best reply (least_holds s is target budget turns end telling e search)
     (r ∙ ap (λ (z : SearchEnd). told_text s.book z telling) search.ended ∙ ap (λ (z : Telling). told_text s.book (best_end search.best) z) search.told)
 
 -- where the end is that there is no solution, the proof is accepted
@@ -110,25 +110,25 @@ none_accepted s is scoped budget few turns (Found values) e text proves = tt
 none_accepted s is scoped budget few turns (Spent count) e text proves = tt
 
 full_accepted : (s : SessionState) → IsHeld s → HasScopedReasons s.engine → (budget : ℕ) → budget ≤ 18446744073709551615 → (turns : List Turn) (end : SearchEnd) (telling : Telling) (e : EngineState) (reply : List ℕ)
-    → SearchesIn s (Proof budget) turns end telling e → reply ≡ told_text s.book end telling → ToldAccepted s.book reply
+    → SearchesIn s (Proof budget) turns end telling e → reply ≡ told_text s.book end telling → ToldAccepted s reply
 full_accepted s is scoped budget few turns end telling e reply search r =
-    subst (ToldAccepted s.book) (sym (told_in_full s budget turns end telling e reply search r))
+    subst (ToldAccepted s) (sym (told_in_full s budget turns end telling e reply search r))
     (accepted_end end (proof_closes s budget turns end e search.text search.proves) (none_accepted s is scoped budget few turns end e search.text search.proves))
 
-paused_told : (book : Contents) (by : Procedure) → ToldBy book by (fixed_text Paused)
-paused_told book (Dbt budget) = search_paused refl
-paused_told book (Repair tabu budget) = search_paused refl
-paused_told book (Proof budget) = proof_paused refl
-paused_told book (Least target budget) = best_paused refl
+paused_told : (s : SessionState) (by : Procedure) → s.paused ≡ true → ToldBy s by (fixed_text Paused)
+paused_told s (Dbt budget) on = search_paused on refl
+paused_told s (Repair tabu budget) on = search_paused on refl
+paused_told s (Proof budget) on = proof_paused on refl
+paused_told s (Least target budget) on = best_paused on refl
 
 module _ (s : SessionState) (by : Procedure) (is : IsState s) where
-  follows_told : (m : SessionState) (effect : Effect) (t : SessionState) (reply : List ℕ) → m ≡ s → Follows m (Searches by) effect t → Says t (Solve by) effect reply → ToldBy s.book by reply
+  follows_told : (m : SessionState) (effect : Effect) (t : SessionState) (reply : List ℕ) → m ≡ s → Follows m (Searches by) effect t → Says t (Solve by) effect reply → ToldBy s by reply
   follows_told m Nothing t reply same f r = absurd f
   follows_told m (Settled k) t reply same f r = absurd f
   follows_told m (Searched end telling) t reply same f r =
       let held : IsHeld m = subst IsHeld (sym same) is.held in
       let book : t.book ≡ m.book = ap (λ (z : SessionState). z.book) f.3 in
-      subst (λ (z : SessionState). ToldBy z.book by reply) same
+      subst (λ (z : SessionState). ToldBy z by reply) same
       (end_told m held by f.0 end telling f.1 reply f.2 (subst (λ (b : Contents). reply ≡ told_text b end telling) book r))
 
   follows_leaves : (m : SessionState) (effect : Effect) (t : SessionState) → m ≡ s → IsStill m.engine → Follows m (Searches by) effect t → KeepsAllButJournal m t
@@ -146,8 +146,8 @@ module _ (s : SessionState) (by : Procedure) (is : IsState s) where
         rest = f.3 ∙ ap (λ (js : List Turn). with_search m js f.1) (sym journal) ∙ ap (λ (e : EngineState). with_search m t.journal e) (sym engine);
       }
 
-  pub told_search : (reply : List ℕ) (t : SessionState) → Accepts s (Solve by) reply t → ToldBy s.book by reply
-  told_search reply t (waits w) = paused_told s.book by
+  pub told_search : (reply : List ℕ) (t : SessionState) → Accepts s (Solve by) reply t → ToldBy s by reply
+  told_search reply t (waits w) = paused_told s by w.paused
   told_search reply t (contradicts effect goes does c) = absurd c.contradictable
   told_search reply t (says effect goes does n r) = follows_told does.0 effect t reply does.1 does.2 r
 
@@ -162,17 +162,17 @@ module _ (s : SessionState) (by : Procedure) (is : IsState s) where
 
 module _ (s : SessionState) (budget : ℕ) (few : budget ≤ 18446744073709551615) (is : IsState s) (scoped : HasScopedReasons s.engine) where
   follows_accepted : (m : SessionState) (effect : Effect) (t : SessionState) (reply : List ℕ) → m ≡ s → Follows m (Searches (Proof budget)) effect t → Says t (Solve (Proof budget)) effect reply
-      → ToldAccepted s.book reply
+      → ToldAccepted s reply
   follows_accepted m Nothing t reply same f r = absurd f
   follows_accepted m (Settled k) t reply same f r = absurd f
   follows_accepted m (Searched end telling) t reply same f r =
       let held : IsHeld m = subst IsHeld (sym same) is.held in
       let kept : HasScopedReasons m.engine = subst (λ (z : SessionState). HasScopedReasons z.engine) (sym same) scoped in
       let book : t.book ≡ m.book = ap (λ (z : SessionState). z.book) f.3 in
-      subst (λ (z : SessionState). ToldAccepted z.book reply) same
+      subst (λ (z : SessionState). ToldAccepted z reply) same
       (full_accepted m held kept budget few f.0 end telling f.1 reply f.2 (subst (λ (b : Contents). reply ≡ told_text b end telling) book r))
 
-  pub told_accepted : (reply : List ℕ) (t : SessionState) → Accepts s (Solve (Proof budget)) reply t → ToldAccepted s.book reply
-  told_accepted reply t (waits w) = accepted_paused refl
+  pub told_accepted : (reply : List ℕ) (t : SessionState) → Accepts s (Solve (Proof budget)) reply t → ToldAccepted s reply
+  told_accepted reply t (waits w) = accepted_paused w.paused refl
   told_accepted reply t (contradicts effect goes does c) = absurd c.contradictable
   told_accepted reply t (says effect goes does n r) = follows_accepted does.0 effect t reply does.1 does.2 r

@@ -33,15 +33,16 @@ explanation s is awake none d x value cids are has missing list =
     }
 
 says_why : (s : SessionState) → IsState s → s.paused ≡ false → (IsContradiction s → ⊥) → (name : List ℕ) (value : ℤ) (reply : List ℕ) (d : Domains) (x : ℕ) → AreDomains s d → (x < length s.book.variables) → (name_of s.book.variables x ≡ name)
-    → Has (initial_of s.book) x value → SaysWhy s d x value reply → ToldWhy s.book name value reply
-says_why s is awake none name value reply d x are lt named has (inl p) = why_present p.1
+    → Has (initial_of s.book) x value → SaysWhy s d x value reply → ToldWhy s name value reply
+says_why s is awake none name value reply d x are lt named has (inl p) = why_present x d (record { declared = lt; named = named }) are p.0 p.1
 says_why s is awake none name value reply d x are lt named has (inr p) =
     why_because x p.1 lt named (explanation s is awake none d x value p.1 are has p.0 p.2) p.3
 
 asked_why : (s : SessionState) (name : List ℕ) (value : ℤ) (pair : Pair) (reply : List ℕ) (t : SessionState) → IsState s → (IsUndeclared s name value → ⊥) → IsPair s.book.variables name value pair
-    → Accepts s (Ask (Why pair)) reply t → ToldWhy s.book name value reply
-asked_why s name value pair reply t is asks found (waits w) = why_paused refl
-asked_why s name value pair reply t is asks found (contradicts effect goes does c) = why_contradiction refl
+    → Accepts s (Ask (Why pair)) reply t → ToldWhy s name value reply
+asked_why s name value pair reply t is asks found (waits w) = why_paused w.paused refl
+asked_why s name value pair reply t is asks found (contradicts effect goes does c) =
+    why_contradiction (subst IsContradiction (query_same s does.0 t effect does.1 does.2) c.contradiction) refl
 asked_why s name value pair reply t is asks found (says effect goes does quiet said) =
     let same : t ≡ s = query_same s does.0 t effect does.1 does.2 in
     let here : IsAnswer s (Why pair) reply = subst (λ (z : SessionState). IsAnswer z (Why pair) reply) same said in
@@ -50,22 +51,22 @@ asked_why s name value pair reply t is asks found (says effect goes does quiet s
     says_why s is (awake_for s (Ask (Why pair)) tt goes) calm name value reply here.0 pair.var here.1 found.variable.declared found.variable.named
     (declared_value s name value pair.var asks found.variable.declared found.variable.named) at
 
-pub told_why : (s : SessionState) (name : List ℕ) (value : ℤ) (request : Request) (reply : List ℕ) (t : SessionState) → IsState s → IsAdmitted s (WhyLine name value) request → Accepts s request reply t → ToldWhy s.book name value reply
+pub told_why : (s : SessionState) (name : List ℕ) (value : ℤ) (request : Request) (reply : List ℕ) (t : SessionState) → IsState s → IsAdmitted s (WhyLine name value) request → Accepts s request reply t → ToldWhy s name value reply
 told_why s name value request reply t is a h =
     let found = a.requests in
     asked_why s name value found.0 reply t is a.none.1.1.1.1.1.0 found.1 (subst (λ (r : Request). Accepts s r reply t) found.2 h)
 
-says_conflict : (s : SessionState) → IsState s → (d : Domains) (reply : List ℕ) → SaysConflict s d reply → ToldConflict s.book reply
-says_conflict s is d reply (inl p) = conflict_none p.1
-says_conflict s is d reply (inr p) = conflict_named p.1 (record {
+says_conflict : (s : SessionState) → IsState s → (d : Domains) (reply : List ℕ) → AreDomains s d → SaysConflict s d reply → ToldConflict s reply
+says_conflict s is d reply are (inl p) = conflict_none d are p.0 p.1
+says_conflict s is d reply are (inr p) = conflict_named p.1 (record {
   active = λ c m. conflict_cids_active s is.held p.1 p.2 c m;
   conflicts = conflict_conflicts s is.held p.1 p.2;
 }) p.3
 
-pub told_conflict : (s : SessionState) (reply : List ℕ) (t : SessionState) → IsState s → Accepts s (Ask Conflict) reply t → ToldConflict s.book reply
-told_conflict s reply t is (waits w) = conflict_paused refl
+pub told_conflict : (s : SessionState) (reply : List ℕ) (t : SessionState) → IsState s → Accepts s (Ask Conflict) reply t → ToldConflict s reply
+told_conflict s reply t is (waits w) = conflict_paused w.paused refl
 told_conflict s reply t is (contradicts effect goes does c) = absurd c.contradictable
 told_conflict s reply t is (says effect goes does quiet said) =
     let same : t ≡ s = query_same s does.0 t effect does.1 does.2 in
     let here : IsAnswer s Conflict reply = subst (λ (z : SessionState). IsAnswer z Conflict reply) same said in
-    says_conflict s is here.0 reply here.2
+    says_conflict s is here.0 reply here.1 here.2

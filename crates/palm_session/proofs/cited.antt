@@ -8,3 +8,4 @@ pub mod LawsOfStates
 pub mod LawsOfTexts
 pub mod LedLemmas
 pub mod Pieces
+pub mod ToldLines

@@ -1,7 +1,11 @@
 -- How often support may be asked for while lines are answered.
-use Rattle.std.specs.Prelude.{◌≡◌, ℕ, ◌≤◌, ◌+◌, false, List, [], ◌∷◌, ◌++◌, Option}
+use Rattle.std.specs.Prelude.{◌≡◌, ℕ, ◌≤◌, ◌+◌, ◌⊎◌, false, List, [], ◌∷◌, ◌++◌, Option, Some, slice_get}
+use Rattle.palm_base.specs.declared.terms.Cid.TheVariants.{User}
+use Rattle.palm_book.specs.declared.book.BookCon.{BookCon}
+use Rattle.palm_model.specs.Event.{Withdraws}
 use Rattle.palm_model.specs.Log.{Removal, log_pairs}
-use Rattle.palm_engine.specs.Work.{most_asked}
+use Rattle.palm_model.specs.State.{EngineState}
+use Rattle.palm_engine.specs.Work.{HasRestored, most_asked, most_asked_back}
 use Rattle.palm_read.specs.Reading.{IsRead}
 use Rattle.palm_read.specs.declared.line.Line.{Line}
 use Rattle.palm_session.specs.Modes.{heard}
@@ -48,3 +52,21 @@ RunAsking s [] replies t count = (replies ≡ []) × (t ≡ s) × (count ≡ 0)
 RunAsking s (line ∷ lines) replies t count =
     (reply others : List ℕ) × (m : SessionState) × (here later : ℕ) × Answers s line reply m × Asks s line m here × (replies ≡ reply ++ others)
     × (count ≡ here + later) × RunAsking m lines others t later
+
+-- the constraint with the name was withdrawn
+pub record HasWithdrawn (s : SessionState) (name : List ℕ) (left : EngineState) : Type 0 where
+  pub place : ℕ
+  pub constraint : BookCon
+  pub at : slice_get s.book.constraints place ≡ Some constraint
+  pub named : constraint.name ≡ name
+  pub withdraws : Withdraws s.engine (User constraint.number) left
+
+-- a line that withdraws the constraint with the name asked so often: the engine lost it, or had not got it; then the log gained
+-- some removals; and no more was asked than what is over the variables of which values came back, each once, and over those of
+-- the removed pairs
+pub record AsksBack (s : SessionState) (name : List ℕ) (t : SessionState) (count : ℕ) : Type 0 where
+  pub left : EngineState
+  pub gained : List Removal
+  pub lost : (left ≡ s.engine) ⊎ HasWithdrawn s name left
+  pub log : t.engine.log ≡ left.log ++ gained
+  pub back : (vars : List ℕ) → HasRestored s.engine left vars → count ≤ most_asked_back left vars (log_pairs gained)

@@ -1,5 +1,6 @@
 pub mod Answers
 pub mod Asking
+pub mod EachLine
 pub mod Effects
 pub mod Feeding
 pub mod Led

@@ -2,12 +2,14 @@
 ghost use Rattle.std.specs.Prelude.{◌≡◌, ◌↔◌, ℕ, None, List, take};
 ghost use Rattle.palm_session.specs.State.{SessionState, IsState, fresh};
 ghost use Rattle.palm_session.specs.Answers.{Answers};
+ghost use Rattle.palm_session.specs.EachLine.{EachLine, TellsTruth, LeavesAllRefused};
 ghost use Rattle.palm_read.specs.Lines.{AreLines, without_return};
 ghost use Rattle.palm_read.specs.declared.mode.Mode.TheVariants.{First, One};
 ghost use Rattle.palm_session.specs.Modes.{in_mode};
 ghost use Rattle.palm_session.specs.Replies.{BeginsVersion2, ChoosesNone, Ends, KeepsNoneChosen, Replies, RepliesFrom, Run};
 ghost use Rattle.palm_events.specs.Scoped.{HasScopedReasons};
 
+pub mod asking;
 pub mod pieces;
 pub mod printed;
 
@@ -82,4 +84,21 @@ pub fn the_first_bytes_decide()
 /// And so does whether it ends the session.
 pub fn the_first_bytes_end()
     ensures { (line : List ℕ) → (Ends (without_return line) ↔ Ends (without_return (take MOST_KEPT_BYTES line))) }
+{}
+
+/// What is printed is true: of each accepted line of a text, what its reply tells holds of what the session holds.
+/// `contradiction` comes exactly where some greatest closed domain is empty while filtering does not wait; domains are the
+/// greatest closed ones; the constraints of explanations and conflicts are active, and explain or conflict; the values of a
+/// search satisfy the active constraints, those that it names have no common solution, and a spent budget is below its bound;
+/// certificates, and proofs that end with 'none', are accepted; and each word comes where its condition holds.
+pub fn what_is_printed_is_true()
+    ensures { (guides orders text output : List ℕ) (replies : Replies guides orders text output)
+        → EachLine TellsTruth (fresh guides orders) replies.answered output replies.state replies.run }
+{}
+
+/// A refused line changes nothing but the mode that a first line sets, and asks for nothing: so it is of each line of a text whose
+/// reply begins as refusals do.
+pub fn refused_lines_change_nothing()
+    ensures { (guides orders text output : List ℕ) (replies : Replies guides orders text output)
+        → EachLine LeavesAllRefused (fresh guides orders) replies.answered output replies.state replies.run }
 {}

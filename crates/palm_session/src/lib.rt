@@ -24,6 +24,7 @@ mod weights;
 mod withhold;
 
 pub use going::Going;
+pub use laws::asking::retractions_ask_no_more;
 pub use laws::pieces::{a_line_in_pieces_is_a_line, pieces_are_kept};
 pub use laws::printed::{
     adding_and_retracting_gives_back_the_domains, contradictions_are_empty_domains,
@@ -34,8 +35,9 @@ pub use laws::printed::{
 };
 pub use laws::{
     a_text_has_an_output, a_text_has_one_output, each_line_has_an_answer, fresh_states_are_states,
-    limits_are_these_numbers, no_line_has_two_answers, reasons_lie_in_scopes, states_stay,
-    the_first_bytes_decide, the_first_bytes_end, version_1_texts_stay,
+    limits_are_these_numbers, no_line_has_two_answers, reasons_lie_in_scopes,
+    refused_lines_change_nothing, states_stay, the_first_bytes_decide, the_first_bytes_end,
+    version_1_texts_stay, what_is_printed_is_true,
 };
 pub use limits::MOST_KEPT_BYTES;
 pub use session::Session;

@@ -10,8 +10,7 @@ use proof_text::ProofVerdict;
 use std::alloc::Global;
 
 /// The verdict on a text: that it is a proof, and the constraints that it proves to have no solution, or its first line
-/// that has a cause. A text may be of any length. A step costs what its own reasons cost, and not more where many steps or
-/// lemmas stand before it.
+/// that has a cause. A text may be of any length.
 pub fn check_proof(alloc: Global, bytes: &[u8]) -> Result<ProofVerdict, NoMemory>
     ensures verdict { IfOk result (IsVerdict bytes.now) }
     ensures named { IfOk result AreOfTheirBook }

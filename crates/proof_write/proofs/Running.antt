@@ -233,6 +233,10 @@ module _ {G O : Type 0} {guiding : Moment → Option G → Option G → Type 0} 
   abbrev argues : LeadsAlong (Argues book) (moments guided ordered proving.by.running.turned.start search.journal (search_state t search) proving.by.running.turned.taken) unargued proving.argued
   argues = running_right guiding (Argues book) ordering guided (guide_first, unargued) (guide_now, proving.argued) order_first order_now budget s t search proving.by
 
+  -- the run without its arguments
+  pub left_by : IsRunningBy guiding ordering guided guide_first guide_now order_first order_now budget s t search
+  left_by = running_left guiding (Argues book) ordering guided (guide_first, unargued) (guide_now, proving.argued) order_first order_now budget s t search proving.by
+
   -- ---- where it stops
 
   -- what was to be written, and what follows it
@@ -272,12 +276,12 @@ module _ {G O : Type 0} {guiding : Moment → Option G → Option G → Type 0} 
 
   pub proving_ends : (end : SearchEnd) (conclusion : List ℕ) (now : SinkState) → EndsWith budget (length search.journal) t end → Concludes book proving.argued.undone (search_state t search) end conclusion
       → Writes {T = Unit {0}} mid now conclusion (Ok tt) → HasRun guiding ordering guide_first guide_now order_first order_now budget book s search.journal end (search_state t search) was.written now.written
+  unfolding left_by
   proving_ends end conclusion now ends concludes writes =
       let front = declarations book ++ proving.argued.lemmas in
-      let left = running_left guiding (Argues book) ordering guided (guide_first, unargued) (guide_now, proving.argued) order_first order_now budget s t search proving.by in
       record {
         text = front ++ conclusion;
-        by = run_ends_by guiding ordering guide_first guide_now order_first order_now budget s t search end left ends;
+        by = run_ends_by guiding ordering guide_first guide_now order_first order_now budget s t search end left_by ends;
         writes = record { argued = proving.argued; argues = argues; conclusion = conclusion; concludes = concludes; is = refl };
         written = (writes_then was mid now front conclusion tt (Ok tt) proving.writes writes).ok;
       }

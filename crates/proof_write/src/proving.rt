@@ -2,7 +2,7 @@
 ghost use Rattle.std.specs.Prelude.{◌≡◌, [], IfErr, IfOk, OnErr, is_some};
 ghost use Rattle.palm_book.specs.Book.{active_of, initial_of};
 ghost use Rattle.palm_dbt.specs.Answers.{IsTrueOf};
-ghost use Rattle.palm_engine.specs.Following.{OrderFollows};
+ghost use Rattle.palm_engine.specs.Following.{OrderAnswers, OrderFollows};
 ghost use Rattle.palm_lang.specs.Writing.{IsCounted};
 ghost use Rattle.palm_base.specs.Streams.{IsSameSink};
 ghost use Rattle.palm_events.specs.Scoped.{HasScopedReasons};
@@ -12,6 +12,7 @@ ghost use Rattle.palm_search.specs.Calls.{search_state};
 ghost use Rattle.palm_search.specs.Following.{GuideFollows};
 ghost use Rattle.palm_search.specs.Kept.{HasDecisions};
 ghost use Rattle.palm_search.specs.Leaves.{Counts, Leaves, Lent};
+ghost use Rattle.palm_search.specs.Stopping.{BreaksOffBy, GuideStops, IsCutOffBy};
 ghost use Rattle.proof_write.specs.Proving.{HasProved, HasRun, HasWrittenSoFar};
 
 use crate::declarations::write_declarations;
@@ -52,6 +53,8 @@ pub fn prove<F: Filter, G: Guide, O: Order, K: Sink, L: Ledger>(
         budget book.now engine.old.state search.new.journal end engine.new.state (K.state out.old).written (K.state out.new).written) }
     ensures holds { IfOk result (IsTrueOf engine.old.state budget) }
     ensures err { OnErr result (BreaksOff (is_some guide.old) (is_some order.old) budget engine.old.state search.new.journal engine.new.state) }
+    ensures stopped { OnErr result (BreaksOffBy (GuideFollows G.answers G.hears G.state) (GuideStops G.answers G.hears G.state) (OrderFollows O.answers O.hears O.state) (OrderAnswers O.answers O.state)
+        guide.old guide.new order.old order.new budget engine.old.state search.new.journal engine.new.state) }
     ensures front { IfErr result (λ stop. HasWrittenSoFar stop book.now (is_some guide.old) (is_some order.old) budget engine.old.state search.new.journal (K.state out.old).written (K.state out.new).written) }
     ensures counted { IsCounted (K.state out.old).faults (K.state out.new).faults result }
     ensures sink { IsSameSink (K.state out.old) (K.state out.new) result }
@@ -88,6 +91,8 @@ fn run<F: Filter, G: Guide, O: Order, K: Sink, L: Ledger>(
     ensures ok { IfOk result (λ end. HasRun (GuideFollows G.answers G.hears G.state) (OrderFollows O.answers O.hears O.state) guide.old guide.new order.old order.new
         budget book.now engine.old.state search.new.journal end (search_state engine.new.state search.new) (K.state out.old).written (K.state out.new).written) }
     ensures err { OnErr result (IsCutOff (is_some guide.old) (is_some order.old) budget engine.old.state search.new.journal engine.new.state) }
+    ensures stopped { OnErr result (IsCutOffBy (GuideFollows G.answers G.hears G.state) (GuideStops G.answers G.hears G.state) (OrderFollows O.answers O.hears O.state) (OrderAnswers O.answers O.state)
+        guide.old guide.new order.old order.new budget engine.old.state search.new.journal engine.new.state) }
     ensures front { IfErr result (λ stop. HasWrittenSoFar stop book.now (is_some guide.old) (is_some order.old) budget engine.old.state search.new.journal (K.state out.old).written (K.state out.new).written) }
     ensures counted { IsCounted (K.state out.old).faults (K.state out.new).faults result }
     ensures sink { IsSameSink (K.state out.old) (K.state out.new) result }

@@ -1,6 +1,7 @@
 //! Certificates that are accepted.
-use crate::told::are_told;
+use crate::told::verdict_of;
 use std::test::Fail;
+use tests_compare::first_difference;
 
 /// A certificate for each kind of constraint, and what it claims.
 const KINDS: &[(&[u8], &str)] = &[
@@ -61,13 +62,19 @@ fn a_certificate_is_accepted(rt: HostRuntime) -> Result<(), Fail> {
         ),
         (b"", "refused 1 C5"),
     ];
-    assert!(rt; are_told(rt.alloc(), &rows)?);
+    for (text, line) in rows {
+        let got = verdict_of(rt.alloc(), text)?;
+        assert_eq!(rt; first_difference(line.as_bytes(), &got), None, "{line}");
+    }
     Ok(())
 }
 
 #[test]
 fn each_kind_of_constraint_is_a_cause(rt: HostRuntime) -> Result<(), Fail> {
-    assert!(rt; are_told(rt.alloc(), KINDS)?);
+    for (text, line) in KINDS {
+        let got = verdict_of(rt.alloc(), text)?;
+        assert_eq!(rt; first_difference(line.as_bytes(), &got), None, "{line}");
+    }
     Ok(())
 }
 
@@ -104,6 +111,9 @@ fn the_definition_decides_where_no_filter_is_asked(rt: HostRuntime) -> Result<()
             "accepted conflict 2 because c",
         ),
     ];
-    assert!(rt; are_told(rt.alloc(), &rows)?);
+    for (text, line) in rows {
+        let got = verdict_of(rt.alloc(), text)?;
+        assert_eq!(rt; first_difference(line.as_bytes(), &got), None, "{line}");
+    }
     Ok(())
 }

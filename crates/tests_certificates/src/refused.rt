@@ -1,8 +1,9 @@
 //! Certificates that are refused, each at a line and with a cause. (Those with a line changed stand in tests_program.)
-use crate::told::are_told;
+use crate::told::verdict_of;
 use palm_base::NoMemory;
 use std::alloc::Global;
 use std::test::Fail;
+use tests_compare::first_difference;
 
 #[test]
 fn lines_have_their_places_and_their_causes_an_order(rt: HostRuntime) -> Result<(), Fail> {
@@ -33,7 +34,10 @@ fn lines_have_their_places_and_their_causes_an_order(rt: HostRuntime) -> Result<
         ),
         (b"palm-cert 1\nclaim x 2\nend\n", "refused 2 C2"),
     ];
-    assert!(rt; are_told(rt.alloc(), &rows)?);
+    for (text, line) in rows {
+        let got = verdict_of(rt.alloc(), text)?;
+        assert_eq!(rt; first_difference(line.as_bytes(), &got), None, "{line}");
+    }
     Ok(())
 }
 
@@ -67,7 +71,10 @@ const WITHINS: &[(&[u8], &str)] = &[
 
 #[test]
 fn domains_are_constraints_of_certificates(rt: HostRuntime) -> Result<(), Fail> {
-    assert!(rt; are_told(rt.alloc(), WITHINS)?);
+    for (text, line) in WITHINS {
+        let got = verdict_of(rt.alloc(), text)?;
+        assert_eq!(rt; first_difference(line.as_bytes(), &got), None, "{line}");
+    }
     Ok(())
 }
 
@@ -102,6 +109,9 @@ fn a_certificate_has_128_variables_and_512_constraints_at_most(
         (constraints.as_bytes(), "refused 515 C5"),
         (more_constraints.as_bytes(), "refused 515 C6"),
     ];
-    assert!(rt; are_told(rt.alloc(), &rows)?);
+    for (text, line) in rows {
+        let got = verdict_of(rt.alloc(), text)?;
+        assert_eq!(rt; first_difference(line.as_bytes(), &got), None, "{line}");
+    }
     Ok(())
 }

@@ -7,29 +7,12 @@ use palm_check::{Cause, Proved, Verdict, check};
 use palm_claim::Claim;
 use std::alloc::Global;
 
-/// Whether each text has the verdict beside it, as a line.
-pub(crate) fn are_told(alloc: Global, rows: &[(&[u8], &str)]) -> Result<bool, NoMemory> {
-    for (text, line) in rows {
-        if !is_told(alloc, text, line)? {
-            return Ok(false);
-        }
-    }
-    Ok(true)
-}
-
-/// Whether the text has the verdict of the line.
-fn is_told(alloc: Global, text: &[u8], line: &str) -> Result<bool, NoMemory> {
+/// The verdict on the text, as a line.
+pub(crate) fn verdict_of(alloc: Global, text: &[u8]) -> Result<Vec<u8>, NoMemory> {
     let verdict = check(alloc, text)?;
     let mut out = Vec::new(alloc);
-    is_line(&mut out, &verdict, line)
-}
-
-/// Whether the line is that of the verdict, which is written to `out`.
-fn is_line(out: &mut Vec<u8>, verdict: &Verdict, line: &str) -> Result<bool, NoMemory>
-    requires { IsOverItsBook verdict.now }
-{
-    put_verdict(out, verdict)?;
-    Ok(out.as_slice() == line.as_bytes())
+    put_verdict(&mut out, &verdict)?;
+    Ok(out)
 }
 
 /// `accepted NAME VALUE because NAME NAME`, `accepted conflict NAME because NAME NAME`, or `refused LINE CAUSE`.

@@ -10,6 +10,10 @@ mod kind;
 #[cfg(test)]
 mod model;
 #[cfg(test)]
+mod rules;
+#[cfg(test)]
+mod samples;
+#[cfg(test)]
 mod shapes;
 #[cfg(test)]
 mod store;

@@ -9,7 +9,7 @@ ghost use Rattle.palm_model.specs.Support.{IsSupported, LacksSupport};
 
 use palm_base::{NoMemory, Pair, Value, Var};
 use palm_domain::DomainStore;
-use palm_filter::{Filter, Reasons};
+use palm_filter::{Filter, Intervals, Known, Reasons};
 use std::alloc::Global;
 
 /// What a test asks of a store that has no variable yet.
@@ -106,6 +106,28 @@ pub fn reason_of<F: Filter>(
     let mut out = Reasons::new(alloc);
     filter.reason(store, Pair { var, value }, &mut out)?;
     Ok(Some(out))
+}
+
+/// The rule of a pair, with its list, where there is a reason.
+pub fn rule_of<F: Filter>(
+    alloc: Global,
+    filter: &F,
+    store: &DomainStore,
+    pair: &Pair,
+) -> Result<Option<(Known, Intervals)>, NoMemory>
+    requires formed { IsWellFormed (length store.now) (F.meaning filter.now) }
+    requires over { Contains (scope (F.meaning filter.now)) pair.now.var }
+{
+    let Pair { var, value } = *pair;
+    if !store.contains(Pair { var, value })
+        || !are_filled(store, filter.scope().as_slice())
+        || filter.supported(store, Pair { var, value })
+    {
+        return Ok(None);
+    }
+    let mut out = Intervals::new(alloc);
+    let known = filter.rule(store, pair, &mut out)?;
+    Ok(Some((known, out)))
 }
 
 /// Whether the pair is one of the constraint's variables, present and supported.

@@ -24,7 +24,10 @@ fn is_constraint(
 struct Names;
 
 impl Question for Names {
-    fn is_answered(&self, alloc: Global, book: &mut Book) -> Result<bool, NoMemory> {
+    /// Whether it is so.
+    type Answer = bool;
+
+    fn answer(&self, alloc: Global, book: &mut Book) -> Result<bool, NoMemory> {
         add_two(alloc, book)?;
         Ok(
             is_variable(alloc, book, "y", Some(Var(1)))?
@@ -45,7 +48,10 @@ fn names_stand_for_variables_and_constraints(rt: HostRuntime) -> Result<(), Fail
 struct Variables;
 
 impl Question for Variables {
-    fn is_answered(&self, alloc: Global, book: &mut Book) -> Result<bool, NoMemory> {
+    /// Whether it is so.
+    type Answer = bool;
+
+    fn answer(&self, alloc: Global, book: &mut Book) -> Result<bool, NoMemory> {
         add_two(alloc, book)?;
         Ok(
             book.variables() == 2
@@ -65,7 +71,10 @@ fn a_book_tells_its_variables(rt: HostRuntime) -> Result<(), Fail> {
 struct Numbers;
 
 impl Question for Numbers {
-    fn is_answered(&self, alloc: Global, book: &mut Book) -> Result<bool, NoMemory> {
+    /// Whether it is so.
+    type Answer = bool;
+
+    fn answer(&self, alloc: Global, book: &mut Book) -> Result<bool, NoMemory> {
         add_two(alloc, book)?;
         Ok(
             book.constraints() == 2
@@ -86,7 +95,10 @@ fn a_book_finds_constraints_by_number(rt: HostRuntime) -> Result<(), Fail> {
 struct Changes;
 
 impl Question for Changes {
-    fn is_answered(&self, alloc: Global, book: &mut Book) -> Result<bool, NoMemory> {
+    /// Whether it is so.
+    type Answer = bool;
+
+    fn answer(&self, alloc: Global, book: &mut Book) -> Result<bool, NoMemory> {
         add_two(alloc, book)?;
         book.set_active(0, false);
         book.remove(1);

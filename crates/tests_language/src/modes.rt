@@ -87,9 +87,9 @@ const HEADERS: &[(&str, Reading)] = &[
 #[test]
 fn the_header_is_read_in_the_first_mode_alone(rt: HostRuntime) -> Result<(), Fail> {
     for (text, first) in HEADERS {
-        assert!(rt; read(rt.alloc(), text, Mode::First) == *first);
-        assert!(rt; read(rt.alloc(), text, Mode::One) == UNKNOWN);
-        assert!(rt; read(rt.alloc(), text, Mode::Two) == UNKNOWN);
+        assert!(rt; read(rt.alloc(), text, Mode::First) == *first, "{text}");
+        assert!(rt; read(rt.alloc(), text, Mode::One) == UNKNOWN, "{text}");
+        assert!(rt; read(rt.alloc(), text, Mode::Two) == UNKNOWN, "{text}");
     }
     Ok(())
 }
@@ -156,7 +156,7 @@ const NEWER: &[(&str, Reading)] = &[
 #[test]
 fn forms_of_version_2_are_unknown_in_version_1(rt: HostRuntime) -> Result<(), Fail> {
     for (text, two) in NEWER {
-        assert!(rt; differs(rt.alloc(), text, UNKNOWN, *two));
+        assert!(rt; differs(rt.alloc(), text, UNKNOWN, *two), "{text}");
     }
     Ok(())
 }
@@ -221,7 +221,7 @@ const SAME: &[(&str, Reading)] = &[
 #[test]
 fn all_else_is_read_alike(rt: HostRuntime) -> Result<(), Fail> {
     for (text, reading) in SAME {
-        assert!(rt; differs(rt.alloc(), text, *reading, *reading));
+        assert!(rt; differs(rt.alloc(), text, *reading, *reading), "{text}");
     }
     Ok(())
 }

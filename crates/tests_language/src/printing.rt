@@ -13,13 +13,7 @@ use palm_lang::{
 use palm_model::Con;
 use std::alloc::Global;
 use std::test::Fail;
-
-/// Whether the reply is printed as this text.
-fn is_fixed(alloc: Global, reply: Fixed, text: &str) -> Result<bool, NoMemory> {
-    let mut out = Vec::new(alloc);
-    print_fixed(reply, &mut out)?;
-    Ok(out.as_slice() == text.as_bytes())
-}
+use tests_compare::first_difference;
 
 /// The fixed replies, and what each is printed as.
 const FIXED: &[(Fixed, &str)] = &[
@@ -35,16 +29,11 @@ const FIXED: &[(Fixed, &str)] = &[
 #[test]
 fn prints_fixed_replies(rt: HostRuntime) -> Result<(), Fail> {
     for (reply, text) in FIXED {
-        assert!(rt; is_fixed(rt.alloc(), *reply, text)?);
+        let mut out = Vec::new(rt.alloc());
+        print_fixed(*reply, &mut out)?;
+        assert_eq!(rt; first_difference(text.as_bytes(), &out), None);
     }
     Ok(())
-}
-
-/// Whether the refusal is printed as this text.
-fn is_refusal(alloc: Global, refusal: Refusal, text: &str) -> Result<bool, NoMemory> {
-    let mut out = Vec::new(alloc);
-    print_refusal(refusal, &mut out)?;
-    Ok(out.as_slice() == text.as_bytes())
 }
 
 /// The refusals, and what each is printed as.
@@ -66,7 +55,9 @@ const REFUSALS: &[(Refusal, &str)] = &[
 #[test]
 fn prints_refusals(rt: HostRuntime) -> Result<(), Fail> {
     for (refusal, text) in REFUSALS {
-        assert!(rt; is_refusal(rt.alloc(), *refusal, text)?);
+        let mut out = Vec::new(rt.alloc());
+        print_refusal(*refusal, &mut out)?;
+        assert_eq!(rt; first_difference(text.as_bytes(), &out), None);
     }
     Ok(())
 }
@@ -81,7 +72,8 @@ fn print_numbers(out: &mut Vec<u8>) -> Result<(), NoMemory> {
 fn prints_numbers(rt: HostRuntime) -> Result<(), Fail> {
     let mut out = Vec::new(rt.alloc());
     print_numbers(&mut out)?;
-    assert!(rt; out.as_slice() == b"ran 3\nspent 10\nspent 6 dropped 1\n".as_slice());
+    let text = b"ran 3\nspent 10\nspent 6 dropped 1\n";
+    assert_eq!(rt; first_difference(text, &out), None);
     Ok(())
 }
 
@@ -97,8 +89,8 @@ fn prints_domains(rt: HostRuntime) -> Result<(), Fail> {
     let x = name(rt.alloc(), "x")?;
     let mut out = Vec::new(rt.alloc());
     print_domains(&x, &mut out)?;
-    let text = "x: 1 2\nvar x 1..3\nvar x {1,5}\nvar x 5..5\n";
-    assert!(rt; out.as_slice() == text.as_bytes());
+    let text = b"x: 1 2\nvar x 1..3\nvar x {1,5}\nvar x 5..5\n";
+    assert_eq!(rt; first_difference(text, &out), None);
     Ok(())
 }
 
@@ -116,18 +108,21 @@ fn print_constraints(book: &Book, out: &mut Vec<u8>) -> Result<(), NoMemory>
 struct Constraints;
 
 impl Question for Constraints {
-    fn is_answered(&self, alloc: Global, book: &mut Book) -> Result<bool, NoMemory> {
+    type Answer = Vec<u8>;
+
+    fn answer(&self, alloc: Global, book: &mut Book) -> Result<Vec<u8>, NoMemory> {
         add_two(alloc, book)?;
         let mut out = Vec::new(alloc);
         print_constraints(book, &mut out)?;
-        let text = "x < y\n1 active s : sum -2*x + y <= 3\n2 relaxed m : x < y\n";
-        Ok(out.as_slice() == text.as_bytes())
+        Ok(out)
     }
 }
 
 #[test]
 fn prints_constraints_of_a_book(rt: HostRuntime) -> Result<(), Fail> {
-    assert!(rt; ask(rt.alloc(), &Constraints)?);
+    let text = b"x < y\n1 active s : sum -2*x + y <= 3\n2 relaxed m : x < y\n";
+    let got = ask(rt.alloc(), &Constraints)?;
+    assert_eq!(rt; first_difference(text, &got), None);
     Ok(())
 }
 
@@ -153,18 +148,22 @@ fn print_within(
 struct Withins;
 
 impl Question for Withins {
-    fn is_answered(&self, alloc: Global, book: &mut Book) -> Result<bool, NoMemory> {
+    type Answer = Vec<u8>;
+
+    fn answer(&self, alloc: Global, book: &mut Book) -> Result<Vec<u8>, NoMemory> {
         declare_two(alloc, book)?;
         let mut out = Vec::new(alloc);
         print_within(alloc, book, &[Value(-1), Value(0), Value(1)], &mut out)?;
         print_within(alloc, book, &[Value(1), Value(3)], &mut out)?;
-        Ok(out.as_slice() == b"x in -1..1\nx in {1,3}\n".as_slice())
+        Ok(out)
     }
 }
 
 #[test]
 fn prints_a_domain_in_a_constraint(rt: HostRuntime) -> Result<(), Fail> {
-    assert!(rt; ask(rt.alloc(), &Withins)?);
+    let text = b"x in -1..1\nx in {1,3}\n";
+    let got = ask(rt.alloc(), &Withins)?;
+    assert_eq!(rt; first_difference(text, &got), None);
     Ok(())
 }
 
@@ -190,18 +189,21 @@ fn print_removals(book: &Book, out: &mut Vec<u8>) -> Result<(), NoMemory>
 struct Removals;
 
 impl Question for Removals {
-    fn is_answered(&self, alloc: Global, book: &mut Book) -> Result<bool, NoMemory> {
+    type Answer = Vec<u8>;
+
+    fn answer(&self, alloc: Global, book: &mut Book) -> Result<Vec<u8>, NoMemory> {
         add_two(alloc, book)?;
         let mut out = Vec::new(alloc);
         print_removals(book, &mut out)?;
-        let text = "x 2 by m\ny 3 by m from x 2, y -1\n";
-        Ok(out.as_slice() == text.as_bytes())
+        Ok(out)
     }
 }
 
 #[test]
 fn prints_removals(rt: HostRuntime) -> Result<(), Fail> {
-    assert!(rt; ask(rt.alloc(), &Removals)?);
+    let text = b"x 2 by m\ny 3 by m from x 2, y -1\n";
+    let got = ask(rt.alloc(), &Removals)?;
+    assert_eq!(rt; first_difference(text, &got), None);
     Ok(())
 }
 
@@ -237,19 +239,22 @@ fn print_each_lead(alloc: Global, book: &Book, out: &mut Vec<u8>) -> Result<(), 
 struct Names;
 
 impl Question for Names {
-    fn is_answered(&self, alloc: Global, book: &mut Book) -> Result<bool, NoMemory> {
+    type Answer = Vec<u8>;
+
+    fn answer(&self, alloc: Global, book: &mut Book) -> Result<Vec<u8>, NoMemory> {
         add_two(alloc, book)?;
         let mut out = Vec::new(alloc);
         print_each_lead(alloc, book, &mut out)?;
-        let text =
-            "because s m\nconflict s m\nnone s m\nproved by s m\nproved by\nhard conflict s m\nkeep s m\nkeep\n";
-        Ok(out.as_slice() == text.as_bytes())
+        Ok(out)
     }
 }
 
 #[test]
 fn prints_names(rt: HostRuntime) -> Result<(), Fail> {
-    assert!(rt; ask(rt.alloc(), &Names)?);
+    let text =
+        b"because s m\nconflict s m\nnone s m\nproved by s m\nproved by\nhard conflict s m\nkeep s m\nkeep\n";
+    let got = ask(rt.alloc(), &Names)?;
+    assert_eq!(rt; first_difference(text, &got), None);
     Ok(())
 }
 
@@ -266,17 +271,21 @@ fn print_leaves(alloc: Global, book: &Book, out: &mut Vec<u8>) -> Result<(), NoM
 struct Leaves;
 
 impl Question for Leaves {
-    fn is_answered(&self, alloc: Global, book: &mut Book) -> Result<bool, NoMemory> {
+    type Answer = Vec<u8>;
+
+    fn answer(&self, alloc: Global, book: &mut Book) -> Result<Vec<u8>, NoMemory> {
         add_two(alloc, book)?;
         let mut out = Vec::new(alloc);
         print_leaves(alloc, book, &mut out)?;
-        Ok(out.as_slice() == b"leave s conflict s m\nleave m conflict m\n".as_slice())
+        Ok(out)
     }
 }
 
 #[test]
 fn prints_what_is_left_out(rt: HostRuntime) -> Result<(), Fail> {
-    assert!(rt; ask(rt.alloc(), &Leaves)?);
+    let text = b"leave s conflict s m\nleave m conflict m\n";
+    let got = ask(rt.alloc(), &Leaves)?;
+    assert_eq!(rt; first_difference(text, &got), None);
     Ok(())
 }
 
@@ -294,16 +303,20 @@ fn print_solutions(alloc: Global, book: &mut Book, out: &mut Vec<u8>) -> Result<
 struct Solutions;
 
 impl Question for Solutions {
-    fn is_answered(&self, alloc: Global, book: &mut Book) -> Result<bool, NoMemory> {
+    type Answer = Vec<u8>;
+
+    fn answer(&self, alloc: Global, book: &mut Book) -> Result<Vec<u8>, NoMemory> {
         let mut out = Vec::new(alloc);
         print_solutions(alloc, book, &mut out)?;
-        Ok(out.as_slice() == b"found\nfound x=1 y=2\n".as_slice())
+        Ok(out)
     }
 }
 
 #[test]
 fn prints_solutions(rt: HostRuntime) -> Result<(), Fail> {
-    assert!(rt; ask(rt.alloc(), &Solutions)?);
+    let text = b"found\nfound x=1 y=2\n";
+    let got = ask(rt.alloc(), &Solutions)?;
+    assert_eq!(rt; first_difference(text, &got), None);
     Ok(())
 }
 
@@ -324,16 +337,19 @@ fn print_bests(alloc: Global, book: &mut Book, out: &mut Vec<u8>) -> Result<(), 
 struct Bests;
 
 impl Question for Bests {
-    fn is_answered(&self, alloc: Global, book: &mut Book) -> Result<bool, NoMemory> {
+    type Answer = Vec<u8>;
+
+    fn answer(&self, alloc: Global, book: &mut Book) -> Result<Vec<u8>, NoMemory> {
         let mut out = Vec::new(alloc);
         print_bests(alloc, book, &mut out)?;
-        let text = "best\nspent 1 best\nbest x=-1 y=2\nspent 18446744073709551615 best x=-1 y=2\n";
-        Ok(out.as_slice() == text.as_bytes())
+        Ok(out)
     }
 }
 
 #[test]
 fn prints_best_solutions(rt: HostRuntime) -> Result<(), Fail> {
-    assert!(rt; ask(rt.alloc(), &Bests)?);
+    let text = b"best\nspent 1 best\nbest x=-1 y=2\nspent 18446744073709551615 best x=-1 y=2\n";
+    let got = ask(rt.alloc(), &Bests)?;
+    assert_eq!(rt; first_difference(text, &got), None);
     Ok(())
 }

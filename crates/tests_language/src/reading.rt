@@ -4,6 +4,7 @@ use palm_lang::{Line, LineError, beyond, parse_line, print_line, token};
 use palm_read::Mode;
 use std::alloc::Global;
 use std::test::Fail;
+use tests_compare::first_difference;
 
 /// A line of each form of version 1, as it is printed.
 const EVERY_FORM: &[&str] = &[
@@ -102,18 +103,13 @@ fn read_unprinted(alloc: Global, bytes: &[u8]) -> Result<Reading, NoMemory> {
     read(alloc, bytes, Mode::One, &mut out)
 }
 
-/// Whether the text is read as a line that is printed so.
-fn is_printed(alloc: Global, text: &str, mode: Mode, printed: &str) -> Result<bool, NoMemory> {
+/// What the text is printed as once it is read, or that it is refused.
+fn printed_of(alloc: Global, text: &str, mode: Mode) -> Result<Vec<u8>, NoMemory> {
     let mut out = Vec::new(alloc);
-    Ok(match read(alloc, text.as_bytes(), mode, &mut out)? {
-        Reading::Refused(_) => false,
-        _ => out.as_slice() == printed.as_bytes(),
-    })
-}
-
-/// Whether the text is read as a line that is printed so, and the printed text reads back.
-fn reads_as(alloc: Global, text: &str, mode: Mode, printed: &str) -> Result<bool, NoMemory> {
-    Ok(is_printed(alloc, text, mode, printed)? && is_printed(alloc, printed, mode, printed)?)
+    match read(alloc, text.as_bytes(), mode, &mut out)? {
+        Reading::Refused(_) => Ok(Vec::from_slice(alloc, b"(refused)")?),
+        _ => Ok(out),
+    }
 }
 
 /// Whether the bytes are refused so.
@@ -142,8 +138,10 @@ fn is_within(alloc: Global, text: &str) -> Result<bool, NoMemory> {
 #[test]
 fn every_form_is_read(rt: HostRuntime) -> Result<(), Fail> {
     for line in EVERY_FORM {
-        assert!(rt; reads_as(rt.alloc(), line, Mode::One, line)?);
-        assert!(rt; reads_as(rt.alloc(), line, Mode::Two, line)?);
+        let got = printed_of(rt.alloc(), line, Mode::One)?;
+        assert_eq!(rt; first_difference(line.as_bytes(), &got), None, "{line}");
+        let got = printed_of(rt.alloc(), line, Mode::Two)?;
+        assert_eq!(rt; first_difference(line.as_bytes(), &got), None, "{line}");
     }
     Ok(())
 }
@@ -151,7 +149,8 @@ fn every_form_is_read(rt: HostRuntime) -> Result<(), Fail> {
 #[test]
 fn every_form_of_version_2_is_read(rt: HostRuntime) -> Result<(), Fail> {
     for line in EVERY_NEWER_FORM {
-        assert!(rt; reads_as(rt.alloc(), line, Mode::Two, line)?);
+        let got = printed_of(rt.alloc(), line, Mode::Two)?;
+        assert_eq!(rt; first_difference(line.as_bytes(), &got), None, "{line}");
     }
     Ok(())
 }
@@ -178,7 +177,8 @@ const AT_THE_LIMITS: &[&str] = &[
 #[test]
 fn numbers_at_the_limits_are_read(rt: HostRuntime) -> Result<(), Fail> {
     for line in AT_THE_LIMITS {
-        assert!(rt; reads_as(rt.alloc(), line, Mode::One, line)?);
+        let got = printed_of(rt.alloc(), line, Mode::One)?;
+        assert_eq!(rt; first_difference(line.as_bytes(), &got), None, "{line}");
     }
     Ok(())
 }
@@ -211,7 +211,14 @@ const WRITTEN_OTHERWISE: &[(&str, &str)] = &[
 #[test]
 fn spaces_zeros_and_order_do_not_matter(rt: HostRuntime) -> Result<(), Fail> {
     for (text, printed) in WRITTEN_OTHERWISE {
-        assert!(rt; reads_as(rt.alloc(), text, Mode::One, printed)?);
+        let got = printed_of(rt.alloc(), text, Mode::One)?;
+        assert_eq!(rt; first_difference(printed.as_bytes(), &got), None, "{text}");
+        let got = printed_of(rt.alloc(), printed, Mode::One)?;
+        assert_eq!(rt;
+            first_difference(printed.as_bytes(), &got),
+            None,
+            "{printed}"
+        );
     }
     Ok(())
 }
@@ -236,7 +243,7 @@ const TWO_FAULTS: &[(&str, LineError)] = &[
 #[test]
 fn of_two_faults_the_first_is_told(rt: HostRuntime) -> Result<(), Fail> {
     for (text, error) in TWO_FAULTS {
-        assert!(rt; is_refused(rt.alloc(), text.as_bytes(), *error)?);
+        assert!(rt; is_refused(rt.alloc(), text.as_bytes(), *error)?, "{text}");
     }
     Ok(())
 }
@@ -297,7 +304,7 @@ const ONE_FAULT: &[(&str, LineError)] = &[
 #[test]
 fn each_fault_alone_is_told(rt: HostRuntime) -> Result<(), Fail> {
     for (text, error) in ONE_FAULT {
-        assert!(rt; is_refused(rt.alloc(), text.as_bytes(), *error)?);
+        assert!(rt; is_refused(rt.alloc(), text.as_bytes(), *error)?, "{text}");
     }
     Ok(())
 }
@@ -397,7 +404,7 @@ const PLACES: &[(usize, Option<(usize, usize)>)] = &[
 fn tokens_are_the_longest_that_fit(rt: HostRuntime) -> Result<(), Fail> {
     let text = b" x1<=..-03 ";
     for (from, place) in PLACES {
-        assert!(rt; place_of(text, *from) == *place);
+        assert!(rt; place_of(text, *from) == *place, "from {from}");
     }
     Ok(())
 }

@@ -94,13 +94,16 @@ pub(crate) fn add_two(alloc: Global, book: &mut Book) -> Result<(), NoMemory>
 
 /// What a test asks of a book that has nothing yet.
 pub(crate) trait Question {
-    /// Fills the book, and tells whether it answers as it should.
-    fn is_answered(&self, alloc: Global, book: &mut Book) -> Result<bool, NoMemory>
+    /// What the test compares.
+    type Answer;
+
+    /// Fills the book, and gives what is to be compared.
+    fn answer(&self, alloc: Global, book: &mut Book) -> Result<Self::Answer, NoMemory>
         requires { book.old ≡ record { variables = []; constraints = [] } };
 }
 
-/// Whether a fresh book answers the question as it should.
-pub(crate) fn ask<Q: Question>(alloc: Global, question: &Q) -> Result<bool, NoMemory> {
+/// The answer of a fresh book.
+pub(crate) fn ask<Q: Question>(alloc: Global, question: &Q) -> Result<Q::Answer, NoMemory> {
     let mut book = Book::new(alloc);
-    question.is_answered(alloc, &mut book)
+    question.answer(alloc, &mut book)
 }

@@ -31,26 +31,26 @@ pub fn contradictions_are_empty_domains()
 /// The constraints that `why` names are active, and explain that the value is absent.
 pub fn kept_explanations_explain()
     ensures { (s t : SessionState) (name reply : List ℕ) (value : ℤ) (request : Request)
-        → IsState s → IsAdmitted s (Why name value) request → Accepts s request reply t → ToldWhy s.book name value reply }
+        → IsState s → IsAdmitted s (Why name value) request → Accepts s request reply t → ToldWhy s name value reply }
 {}
 
 /// The constraints that `conflict` names are active, and are a conflict.
 pub fn kept_conflicts_conflict()
     ensures { (s t : SessionState) (reply : List ℕ)
-        → IsState s → Accepts s (Ask Conflict) reply t → ToldConflict s.book reply }
+        → IsState s → Accepts s (Ask Conflict) reply t → ToldConflict s reply }
 {}
 
 /// What `minimal NAME VALUE` names are active constraints that explain the value's absence, and they are the minimal
 /// explanation.
 pub fn minimal_explanations_explain()
     ensures { (s t : SessionState) (name reply : List ℕ) (value : ℤ) (request : Request)
-        → Requests s (Minimal name value) request → Accepts s request reply t → ToldMinimal s.book name value reply }
+        → Requests s (Minimal name value) request → Accepts s request reply t → ToldMinimal s name value reply }
 {}
 
 /// What `minimal conflict` names are active constraints that are a conflict, and they are the minimal conflict.
 pub fn minimal_conflicts_conflict()
     ensures { (s t : SessionState) (reply : List ℕ)
-        → Accepts s (Ask MinimalConflict) reply t → ToldMinimalConflict s.book reply }
+        → Accepts s (Ask MinimalConflict) reply t → ToldMinimalConflict s reply }
 {}
 
 /// The certificate that `cert NAME VALUE` prints is accepted by the checker's definition, with the claim that the value is
@@ -69,14 +69,14 @@ pub fn printed_certificates_are_accepted()
 /// no assignment inside the initial domains that satisfies them gives the variable a lesser value.
 pub fn searches_tell_the_truth()
     ensures { (s t : SessionState) (by : Procedure) (reply : List ℕ)
-        → IsState s → Accepts s (Solve by) reply t → ToldBy s.book by reply }
+        → IsState s → Accepts s (Solve by) reply t → ToldBy s by reply }
 {}
 
 /// A proof that `prove` tells is accepted by the checker's definition where its last line names constraints without a
 /// solution, and what is accepted is that just these have none.
 pub fn printed_proofs_are_accepted()
     ensures { (s t : SessionState) (budget : ℕ) (reply : List ℕ)
-        → IsState s → HasScopedReasons s.engine → budget ≤ 18446744073709551615 → Accepts s (Solve (Proof budget)) reply t → ToldAccepted s.book reply }
+        → IsState s → HasScopedReasons s.engine → budget ≤ 18446744073709551615 → Accepts s (Solve (Proof budget)) reply t → ToldAccepted s reply }
 {}
 
 /// After `solve`, `prove` and `minimize` the book, the constraints of the engine and its log are those from before.
@@ -90,7 +90,7 @@ pub fn searches_leave_all_but_the_journal()
 /// lose a member and has no common solution.
 pub fn preferences_are_told_truly()
     ensures { (s t : SessionState) (reply : List ℕ)
-        → IsState s → Accepts s (Ask Preferred) reply t → ToldPreferred s.book reply }
+        → IsState s → Accepts s (Ask Preferred) reply t → ToldPreferred s reply }
 {}
 
 /// From a fresh session on at most one variable has no value, so `conflict` names the constraints of the one conflict that

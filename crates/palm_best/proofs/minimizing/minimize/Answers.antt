@@ -1,18 +1,22 @@
 use Rattle.std.proofs.Common.{Option, is_some, rules, sym, ◌∙◌, subst}
 use Rattle.palm_model.specs.Event.{WithdrawsAll}
 use Rattle.palm_events.proofs.cited.Reasons.{reasons_right}
-use Rattle.palm_engine.specs.Following.{Hearing, OrderFollows}
+use Rattle.palm_engine.specs.Following.{Hearing, OrderAnswers, OrderFollows}
 use Rattle.palm_engine.proofs.cited.Walking.{filters_none}
 use Rattle.palm_search.specs.Calls.{search_state}
 use Rattle.palm_search.specs.Following.{GuideFollows, Moment}
 use Rattle.palm_search.specs.Search.{own_cids}
+use Rattle.palm_search.specs.Stopping.{GuideStops}
 use Rattle.palm_search.specs.Turns.{SearchState}
 use Rattle.palm_search.proofs.cited.Following.{settled_alike}
 use Rattle.palm_search.proofs.cited.Results.{on_err}
 use Rattle.palm_search.proofs.cited.Running.{counts_then, interrupted_filters}
+use Rattle.palm_search.proofs.cited.Stopping.{order_stops}
 use Rattle.palm_best.specs.Breaking.{BreaksOff}
 use Rattle.palm_best.specs.Cuts.{is_own}
 use Rattle.palm_best.specs.Following.{MinimizesBy}
+use Rattle.palm_best.specs.Stopping.{BreaksOffBy}
+use Rattle.palm_best.specs.Stopping.BreaksOffBy.{by_last_settling, by_run}
 use Rattle.palm_best.proofs.Cutting.{closed_all, cuts_kept, users_closed}
 use Rattle.palm_best.proofs.Looping.{whole_by}
 use Rattle.palm_best.proofs.cited.Ending.{best_true, broken_at_end, broken_leaves, minimizes_leaves}
@@ -58,6 +62,8 @@ returns-in_err-best g c =
       ok = search rules;
       holds = search rules;
       err = on_err _ c.from_residual.result (subst (λ l. BreaksOff guided ordered c.args.target c.args.budget s.state l t.state) (sym c.close.ensures.journal) broken);
+      stopped = on_err _ c.from_residual.result (subst (λ l. BreaksOffBy (guiding g) (GuideStops g.G.Guide.answers g.G.Guide.hears g.G.Guide.state) (ordering g) (OrderAnswers g.O.Order.answers g.O.Order.state) c.args.guide.now c.run-best.new.guide c.args.order.now c.run-best.new.order c.args.target c.args.budget s.state l t.state)
+          (sym c.close.ensures.journal) (by_run e.state c.in_err-best.ensures.stopped broken.withdraws));
       leaves = broken_leaves reasons_right guided ordered c.args.target c.args.budget s.state turns t.state c.close.new.self c.from_residual.result c.requires.none run.before broken c.withdraw_cuts.ensures.valid c.close.ensures.decisions (search rules);
       counts = record { later = run.counts.later; checks = c.withdraw_cuts.ensures.counts.checks ∙ c.close.ensures.counts.checks ∙ run.counts.checks };
       lent = run.lent;
@@ -84,6 +90,9 @@ returns-in_err-settle g c =
       ok = search rules;
       holds = search rules;
       err = on_err _ c.from_residual-in_err-settle.result (subst (λ l. BreaksOff guided ordered c.args.target c.args.budget s.state l t.state) (sym c.close.ensures.journal) broken);
+      stopped = on_err _ c.from_residual-in_err-settle.result (subst (λ l. BreaksOffBy (guiding g) (GuideStops g.G.Guide.answers g.G.Guide.hears g.G.Guide.state) (ordering g) (OrderAnswers g.O.Order.answers g.O.Order.state) c.args.guide.now c.run-best.new.guide c.args.order.now c.settle.new.order c.args.target c.args.budget s.state l t.state)
+          (sym c.close.ensures.journal) (by_last_settling has.state c.in_ok-best.best n.state c.run-best.new.order has.by all
+          (order_stops c.run-best.new.order c.settle.new.order n t c.in_err-settle.ensures.err)));
       leaves = broken_leaves reasons_right guided ordered c.args.target c.args.budget s.state turns t.state c.close.new.self c.from_residual-in_err-settle.result c.requires.none run.before broken settle.valid c.close.ensures.decisions (search rules);
       counts = counts_then s e n t c.args.steps.now c.run-best.new.steps c.settle.new.steps run.counts checks settle.asked.later settle.checks;
       lent = record { guide = run.lent.guide; order = settle.stays ∙ run.lent.order };
@@ -111,6 +120,7 @@ returns g c =
       ok = subst (λ l. MinimizesBy (guiding g) (ordering g) c.args.guide.now c.run-best.new.guide c.args.order.now c.settle.new.order c.args.target c.args.budget s.state l best t.state) (sym c.close.ensures.journal) by;
       holds = best_true reasons_right guided ordered c.args.target c.args.budget s.state turns best has.state c.requires.none run.before has.by.run;
       err = tt;
+      stopped = tt;
       leaves = minimizes_leaves reasons_right guided ordered c.args.target c.args.budget s.state turns best t.state c.close.new.self c.requires.none run.before by.minimizes settle.valid c.close.ensures.decisions;
       counts = counts_then s e n t c.args.steps.now c.run-best.new.steps c.settle.new.steps run.counts checks settle.asked.later settle.checks;
       lent = record { guide = run.lent.guide; order = settle.stays ∙ run.lent.order };

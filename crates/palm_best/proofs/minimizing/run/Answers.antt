@@ -6,16 +6,19 @@ use Rattle.palm_engine.specs.Following.{Hearing, OrderFollows}
 use Rattle.palm_search.specs.declared.next.Next.TheVariants.{Ended}
 use Rattle.palm_search.specs.Calls.{search_state}
 use Rattle.palm_search.specs.Following.{GuideFollows, Moment}
+use Rattle.palm_search.specs.Stopping.GuideStops.{stops_silent}
 use Rattle.palm_search.specs.Turning.{IsNext}
 use Rattle.palm_search.proofs.cited.Following.{settled_alike}
 use Rattle.palm_search.proofs.cited.Results.{on_err}
 use Rattle.palm_search.proofs.cited.Running.{counts_then}
+use Rattle.palm_search.proofs.cited.Stopping.{decision_stops, order_stops}
 use Rattle.palm_search.proofs.cited.Taking.{taken_deciding, taken_undoing}
 use Rattle.palm_best.specs.declared.best.Best.TheVariants.{Spent}
 use Rattle.palm_best.specs.Following.{HasRunBy}
 use Rattle.palm_best.specs.Improving.{Proves, best_state}
 use Rattle.palm_best.proofs.Looping.{HasMade, IsTarget, Stops, ends_by, found_long, found_small, goes_on_by, made_alike, made_checks, made_fewer, made_stays, next_free, proved_ends, starts_by, stops_first, stops_here, stops_settling, stops_undoing}
 use Rattle.palm_best.proofs.Looping.HasMade.{made_cut, made_turn}
+use Rattle.palm_best.proofs.Stopping.{cut_first_by, cut_here_by, cut_settling_by, cut_undoing_by}
 use Rattle.palm_best.proofs.minimizing.run.Given as given
 use Rattle.palm_best.proofs.minimizing.run.Goals as goal
 use Rattle.palm_best.proofs.minimizing.run.Goals.{After-drop-conflict-inside, After-settle-in-loop-values, in-Decide+in_ok-decide-in-Decide, in-Ended-Found+in_ok-improve-in-Ended-Found, in-Undo+in_ok-undo_latest-in-Undo}
@@ -36,6 +39,8 @@ returns-in_err-settle g c =
     record {
       ok = search rules;
       err = on_err _ c.from_residual.result stops.is;
+      stopped = on_err _ c.from_residual.result (cut_first_by c.args.guide.now c.args.order.now c.settle.new.order c.args.target c.args.budget c.args.engine.now.state c.settle.new.self.state c.args.search.now c.requires.fresh
+          (order_stops c.args.order.now c.settle.new.order c.args.engine.now c.settle.new.self c.in_err-settle.ensures.err));
       decisions = stops.decisions;
       cuts = stops.active;
       few = stops.few;
@@ -59,6 +64,42 @@ returns-in_err-values-clause-err g c =
     let m = c.loop-values in
     on_err _ c.from_residual-in_err-values.result
     (stops_here (is_some c.args.guide.now) (is_some c.args.order.now) c.args.target c.args.budget c.args.engine.now.state m.engine.state m.engine.state m.search m.search m.incumbent m.incumbent.cuts m.invariant.0.minimizing refl refl refl).is
+
+pub returns-in_err-values-clause-stopped : goal.returns-in_err-values-clause-stopped
+returns-in_err-values-clause-stopped g c =
+    let m = c.loop-values in
+    on_err _ c.from_residual-in_err-values.result
+    (cut_here_by c.args.guide.now m.guide m.guide c.args.order.now m.order c.args.target c.args.budget c.args.engine.now.state m.engine.state m.engine.state m.search m.search m.incumbent m.invariant.0 refl refl (stops_silent refl))
+
+pub returns-in_err-improve-in-Ended-Found-clause-stopped : goal.returns-in_err-improve-in-Ended-Found-clause-stopped
+returns-in_err-improve-in-Ended-Found-clause-stopped g c =
+    let m = c.loop-values in
+    let same = c.in_err-improve-in-Ended-Found.ensures.err in
+    on_err _ c.from_residual-in_err-improve-in-Ended-Found.result
+    (cut_here_by c.args.guide.now m.guide m.guide c.args.order.now m.order c.args.target c.args.budget c.args.engine.now.state m.engine.state c.improve.new.engine.state m.search m.search m.incumbent m.invariant.0 (λ i. (same.0 i).state) refl (stops_silent refl))
+
+pub returns-in-Ended-NoSolution-clause-stopped : goal.returns-in-Ended-NoSolution-clause-stopped
+returns-in-Ended-NoSolution-clause-stopped g c =
+    let m = c.loop-values in
+    on_err _ c.proved.result
+    (cut_here_by c.args.guide.now m.guide m.guide c.args.order.now m.order c.args.target c.args.budget c.args.engine.now.state m.engine.state m.engine.state m.search m.search m.incumbent m.invariant.0 refl refl (stops_silent refl))
+
+pub returns-in_err-decide-in-Decide-clause-stopped : goal.returns-in_err-decide-in-Decide-clause-stopped
+returns-in_err-decide-in-Decide-clause-stopped g c =
+    let m = c.loop-values in
+    let cut = c.in_err-decide-in-Decide.ensures in
+    on_err _ c.from_residual-in_err-decide-in-Decide.result
+    (cut_here_by c.args.guide.now m.guide c.decide.new.guide c.args.order.now m.order c.args.target c.args.budget c.args.engine.now.state m.engine.state c.decide.new.engine.state m.search c.decide.new.self m.incumbent m.invariant.0
+    (λ i. (cut.err.0 i).state) cut.err.1 (decision_stops (search_state m.engine.state m.search) m.guide c.decide.new.guide cut.asked))
+
+pub returns-in_err-undo_latest-in-Undo-clause-stopped : goal.returns-in_err-undo_latest-in-Undo-clause-stopped
+returns-in_err-undo_latest-in-Undo-clause-stopped g c =
+    let m = c.loop-values in
+    let next = subst (IsNext c.args.budget m.engine.state m.search) c.in-Undo.is c.in_ok-values.ensures in
+    let cut = c.in_err-undo_latest-in-Undo.ensures in
+    on_err _ c.from_residual-in_err-undo_latest-in-Undo.result
+    (cut_undoing_by g.G.Guide.answers g.G.Guide.hears g.G.Guide.state c.args.guide.now m.guide c.undo_latest.new.guide c.args.order.now m.order c.args.target c.args.budget c.args.engine.now.state m.engine.state c.undo_latest.new.engine.state
+    m.search c.undo_latest.new.search m.incumbent c.in-Undo.conflict m.invariant.0 next.0 next.1 cut.err cut.stopped)
 
 pub returns-in_err-improve-in-Ended-Found-clause-err : goal.returns-in_err-improve-in-Ended-Found-clause-err
 returns-in_err-improve-in-Ended-Found-clause-err g c =
@@ -193,6 +234,8 @@ returns-in_err-settle-2 g c =
     record {
       ok = search rules;
       err = on_err _ c.from_residual-in_err-settle-2.result stops.is;
+      stopped = on_err _ c.from_residual-in_err-settle-2.result (cut_settling_by c.args.guide.now m.guide now.guide c.args.order.now m.order c.settle-in-loop-values.new.order target budget c.args.engine.now.state m.engine now.engine after
+          m.search now.search m.incumbent now.incumbent so_far.2.guide so_far.0 made c.in_err-settle-2.ensures.err);
       decisions = stops.decisions;
       cuts = stops.active;
       few = stops.few;

@@ -2,12 +2,14 @@ use Rattle.std.proofs.Common.{None, Option, is_some, refl, rules, ◌∙◌, sub
 use Rattle.palm_events.proofs.cited.Reasons.{reasons_right}
 use Rattle.palm_engine.specs.Engine.{IsInterrupted}
 use Rattle.palm_engine.specs.Following.{Hearing, OrderFollows}
-use Rattle.palm_search.specs.Calls.{TakesTurn}
 use Rattle.palm_search.specs.Following.{GuideFollows, Moment}
 use Rattle.palm_search.specs.Turning.{IsNext}
 use Rattle.palm_search.proofs.cited.Following.{run_ends_by, run_goes_on_by, run_starts_by, settled_alike}
 use Rattle.palm_search.proofs.cited.Results.{on_err}
 use Rattle.palm_search.proofs.cited.Running.{counts_then, cut_first, cut_here, cut_settling, cut_undoing, fresh_has, interrupted_has}
+use Rattle.palm_search.specs.Calls.{TakesTurn, search_state}
+use Rattle.palm_search.specs.Stopping.GuideStops.{stops_silent}
+use Rattle.palm_search.proofs.cited.Stopping.{cut_first_by, cut_here_by, cut_settling_by, cut_undoing_by, decision_stops, order_stops}
 use Rattle.palm_search.proofs.cited.Taking.{HasTaken, taken_alike, taken_deciding, taken_undoing}
 use Rattle.palm_dbt.proofs.solving.run.Given as given
 use Rattle.palm_dbt.proofs.solving.run.Goals as goal
@@ -25,6 +27,11 @@ ordering g = OrderFollows g.O.Order.answers g.O.Order.hears g.O.Order.state
 pub returns-in_err-settle-clause-err : goal.returns-in_err-settle-clause-err
 returns-in_err-settle-clause-err g c =
     on_err _ c.from_residual.result (cut_first (is_some c.args.guide.now) (is_some c.args.order.now) c.args.budget c.args.engine.now c.settle.new.self c.args.search.now c.requires.fresh c.in_err-settle.ensures.err.interrupted)
+
+pub returns-in_err-settle-clause-stopped : goal.returns-in_err-settle-clause-stopped
+returns-in_err-settle-clause-stopped g c =
+    on_err _ c.from_residual.result (cut_first_by c.args.guide.now c.args.order.now c.settle.new.order c.args.budget c.args.engine.now.state c.settle.new.self.state c.args.search.now c.requires.fresh
+    (order_stops c.args.order.now c.settle.new.order c.args.engine.now c.settle.new.self c.in_err-settle.ensures.err))
 
 pub returns-in_err-settle-clause-decisions : goal.returns-in_err-settle-clause-decisions
 returns-in_err-settle-clause-decisions g c =
@@ -46,6 +53,20 @@ returns-in_err-end-clause-err g c =
     let m = c.loop-end.engine.state in
     on_err _ c.from_residual-in_err-end.result (cut_here (is_some c.args.guide.now) (is_some c.args.order.now) c.args.budget c.args.engine.now.state m m c.loop-end.search c.loop-end.search c.loop-end.invariant.0.running refl refl)
 
+pub returns-in_err-end-clause-stopped : goal.returns-in_err-end-clause-stopped
+returns-in_err-end-clause-stopped g c =
+    let m = c.loop-end in
+    on_err _ c.from_residual-in_err-end.result
+    (cut_here_by c.args.guide.now m.guide m.guide c.args.order.now m.order c.args.budget c.args.engine.now.state m.engine.state m.engine.state m.search m.search m.invariant.0 refl refl (stops_silent refl))
+
+pub returns-in_err-decide-in-Decide-clause-stopped : goal.returns-in_err-decide-in-Decide-clause-stopped
+returns-in_err-decide-in-Decide-clause-stopped g c =
+    let m = c.loop-end in
+    let cut = c.in_err-decide-in-Decide.ensures in
+    on_err _ c.from_residual-in_err-decide-in-Decide.result
+    (cut_here_by c.args.guide.now m.guide c.decide.new.guide c.args.order.now m.order c.args.budget c.args.engine.now.state m.engine.state c.decide.new.engine.state m.search c.decide.new.self m.invariant.0
+    (λ i. (cut.err.0 i).state) cut.err.1 (decision_stops (search_state m.engine.state m.search) m.guide c.decide.new.guide cut.asked))
+
 pub returns-in_err-decide-in-Decide-clause-err : goal.returns-in_err-decide-in-Decide-clause-err
 returns-in_err-decide-in-Decide-clause-err g c =
     let cut = c.in_err-decide-in-Decide.ensures.err in
@@ -58,6 +79,15 @@ returns-in_err-undo_latest-in-Undo-clause-err g c =
     on_err _ c.from_residual-in_err-undo_latest-in-Undo.result
     (cut_undoing (is_some c.args.guide.now) (is_some c.args.order.now) c.args.budget c.args.engine.now.state c.loop-end.engine.state c.undo_latest.new.engine.state c.loop-end.search c.undo_latest.new.search c.in-Undo.conflict c.loop-end.invariant.0.running next.0
     c.in_err-undo_latest-in-Undo.ensures.err)
+
+pub returns-in_err-undo_latest-in-Undo-clause-stopped : goal.returns-in_err-undo_latest-in-Undo-clause-stopped
+returns-in_err-undo_latest-in-Undo-clause-stopped g c =
+    let m = c.loop-end in
+    let next = subst (IsNext c.args.budget m.engine.state m.search) c.in-Undo.is c.in_ok-end.ensures in
+    let cut = c.in_err-undo_latest-in-Undo.ensures in
+    on_err _ c.from_residual-in_err-undo_latest-in-Undo.result
+    (cut_undoing_by g.G.Guide.answers g.G.Guide.hears g.G.Guide.state c.args.guide.now m.guide c.undo_latest.new.guide c.args.order.now m.order c.args.budget c.args.engine.now.state m.engine.state c.undo_latest.new.engine.state m.search c.undo_latest.new.search
+    c.in-Undo.conflict m.invariant.0 next.0 next.1 cut.err cut.stopped)
 
 -- ---- the settling after a turn
 
@@ -110,6 +140,9 @@ returns-in_err-settle-2 g c =
     record {
       ok = search rules;
       err = on_err _ c.from_residual-in_err-settle-2.result (cut_settling guided ordered c.args.budget c.args.engine.now.state m.state before taken.turn c.match-branch-3.engine after c.match-branch-3.search so_far.0.running taken.left takes cut);
+      stopped = on_err _ c.from_residual-in_err-settle-2.result
+          (cut_settling_by c.args.guide.now c.loop-end.guide c.match-branch-3.guide c.args.order.now c.loop-end.order c.settle-in-loop-end.new.order c.args.budget c.args.engine.now.state m.state before taken.turn c.match-branch-3.engine.state after.state c.match-branch-3.search
+          so_far.0 taken.left takes taken.step (order_stops c.loop-end.order c.settle-in-loop-end.new.order c.match-branch-3.engine after c.in_err-settle-2.ensures.err));
       decisions = interrupted_has ordered c.match-branch-3.engine after c.match-branch-3.search cut taken.decisions;
       counts = counts_then c.args.engine.now m c.match-branch-3.engine after c.args.steps.now c.loop-end.steps c.settle-in-loop-end.new.steps so_far.1 taken.counts.checks settle.asked.later settle.checks;
       lent = record { guide = taken.stays ∙ so_far.2.guide; order = settle.stays ∙ so_far.2.order };

@@ -1,9 +1,10 @@
+use Rattle.std.proofs.Common.{refl}
 use Rattle.palm_domain.specs.Rows.{initial_of, present_of}
 use Rattle.palm_model.specs.Domains.{values_of}
 use Rattle.palm_engine.specs.Advancing.{asked_but}
 use Rattle.palm_engine.specs.Posted.{active_of}
 use Rattle.palm_engine.proofs.Others.{asked_other}
-use Rattle.palm_engine.proofs.Progress.{counted_more, has_declared_value}
+use Rattle.palm_engine.proofs.Progress.{counted_more, counted_one, has_declared_value}
 use Rattle.palm_engine.proofs.Revised.{owner_in_form, var_present}
 use Rattle.palm_engine.proofs.alike.others_supported.Goals as goal
 
@@ -33,4 +34,4 @@ returns-clause-counted g c =
     let some = c.in-Some.ensures.some in
     let declared = has_declared_value f r.0 r.1.kept c.args.var c.in-Some.value some.0 in
     counted_more 1 (asked_but c.args.but vs) f (record f { checks = c.is_supported.new.checks }) c.args.steps.now c.is_supported.new.steps (asked_other vs c.in-Some.value c.args.but declared some.1)
-    (record { later = c.is_supported.ensures.later; few = c.is_supported.ensures.once; checks = λ le. c.is_supported.ensures.checks })
+    (counted_one (active_of g.F.Filter.meaning c.args.constraint.now) f (record f { checks = c.is_supported.new.checks }) c.args.steps.now c.is_supported.new.steps c.is_supported.ensures.counted c.is_supported.ensures.checks (λ other. refl))

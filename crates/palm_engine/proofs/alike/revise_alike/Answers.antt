@@ -1,11 +1,14 @@
 use Rattle.std.proofs.Common.{sym, subst}
-use Rattle.palm_domain.specs.Rows.{present_of}
+use Rattle.palm_domain.specs.Rows.{initial_of, present_of}
+use Rattle.palm_model.specs.Domains.{values_of}
+use Rattle.palm_model.specs.Removed.{pairs_of}
 use Rattle.palm_model.specs.State.{AllFilled}
 use Rattle.palm_engine.specs.declared.filtering.Filtering.{Filtering}
 use Rattle.palm_engine.specs.Advancing.{AreSupportedBut, LackBut}
 use Rattle.palm_engine.specs.Posted.{active_of}
-use Rattle.palm_engine.proofs.Others.{asked_counted, asked_part, asked_revising, asked_walked}
-use Rattle.palm_engine.proofs.Progress.{on_err, on_ok}
+use Rattle.palm_engine.proofs.Others.{asked_counted, asked_others, asked_part, asked_revising, asked_walked}
+use Rattle.palm_engine.proofs.Progress.{on_either, on_err, on_ok}
+use Rattle.palm_engine.proofs.Quiet.{part_quiet, walked_quiet}
 use Rattle.palm_engine.proofs.alike.revise_alike.Goals as goal
 
 pub revise_one-requires-clause-revising : goal.revise_one-requires-clause-revising
@@ -83,5 +86,13 @@ returns-else-others_supported-clause-revising g c = λ active r.
 
 pub returns-else-others_supported-clause-counted : goal.returns-else-others_supported-clause-counted
 returns-else-others_supported-clause-counted g c =
-    asked_counted c.args.var c.args.but c.args.filtering.now c.others_supported.new.filtering c.take_others_out.new.filtering c.args.steps.now c.others_supported.new.steps c.take_others_out.new.steps
-    c.others_supported.ensures.same c.others_supported.ensures.counted c.take_others_out.ensures.counted
+    let owner = active_of g.F.Filter.meaning c.args.constraint.now in
+    let m = c.others_supported.new.filtering in
+    let end = c.take_others_out.new.filtering in
+    let same = c.others_supported.ensures.same in
+    let some = c.requires.revising in
+    let r = asked_revising some.0 owner c.args.filtering.now m same some.1 in
+    let pairs = pairs_of c.args.var (values_of (initial_of m.store) c.args.var) in
+    asked_others owner c.args.var c.args.but c.args.filtering.now m end c.args.steps.now c.others_supported.new.steps c.take_others_out.new.steps
+    same c.others_supported.ensures.counted (c.others_supported.ensures.asked c.if-others_supported.false) c.take_others_out.ensures.counted
+    (on_either c.take_others_out.result (walked_quiet some.0 owner pairs m end) (part_quiet some.0 owner pairs m end) (c.take_others_out.ensures.walked some.0 r) (c.take_others_out.ensures.part some.0 r))

@@ -5,6 +5,7 @@ use Rattle.palm_model.specs.Domains.{values_of}
 use Rattle.palm_engine.specs.declared.filtering.Filtering.{Filtering}
 use Rattle.palm_engine.specs.Advancing.{values_below}
 use Rattle.palm_engine.specs.Posted.{active_of}
+use Rattle.palm_engine.proofs.Progress.{counted_one}
 use Rattle.palm_engine.proofs.Revised.{owner_in_form, var_stored}
 use Rattle.palm_engine.proofs.Convex.{Sunk, sunk_start, sunk_revising, sunk_counted, sunk_more, sunk_fewer}
 use Rattle.palm_engine.proofs.between.last_supported.Goals as goal
@@ -33,7 +34,7 @@ returns-then-is_supported-clause-counted g c =
     let now = c.loop-var.filtering in
     let after : Filtering = record now { checks = c.is_supported.new.checks } in
     sunk_counted r.0 owner c.args.var c.args.known c.loop-var.value c.args.filtering.now now after c.args.steps.now c.loop-var.steps c.is_supported.new.steps r.1
-    (lt_from_is_lt _ _ (sym c.loop-var-test.true ∙ c.lt.ensures)) c.loop-var.invariant (record { later = c.is_supported.ensures.later; few = c.is_supported.ensures.once; checks = λ le. c.is_supported.ensures.checks })
+    (lt_from_is_lt _ _ (sym c.loop-var-test.true ∙ c.lt.ensures)) c.loop-var.invariant (counted_one owner now after c.loop-var.steps c.is_supported.new.steps c.is_supported.ensures.counted c.is_supported.ensures.checks (λ other. refl))
 
 pub loop-var-smaller : goal.loop-var-smaller
 loop-var-smaller g c =
@@ -52,5 +53,5 @@ loop-var-preserved g c =
     let after : Filtering = record now { checks = c.is_supported.new.checks } in
     let more = sunk_more r.0 owner c.args.var c.args.known c.loop-var.value c.last_before.result c.args.filtering.now now after c.args.steps.now c.loop-var.steps c.is_supported.new.steps r.1 c.requires.present
     (lt_from_is_lt _ _ (sym c.loop-var-test.true ∙ c.lt.ensures)) c.loop-var.invariant (c.is_supported.ensures.lacking c.if-is_supported.false) refl
-    (record { later = c.is_supported.ensures.later; few = c.is_supported.ensures.once; checks = λ le. c.is_supported.ensures.checks }) c.last_before.ensures in
+    (counted_one owner now after c.loop-var.steps c.is_supported.new.steps c.is_supported.ensures.counted c.is_supported.ensures.checks (λ other. refl)) c.last_before.ensures in
     subst (λ (v : ℤ). Sunk owner c.args.var c.args.known v c.args.filtering.now after c.args.steps.now c.is_supported.new.steps) (sym c.unwrap_or-value.ensures) more

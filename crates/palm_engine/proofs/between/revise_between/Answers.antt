@@ -1,13 +1,16 @@
-use Rattle.std.proofs.Common.{◌+ℤ◌, IfSome, length, pos, sym, subst}
+use Rattle.std.proofs.Common.{◌+◌, ◌≤◌, ℤ, ◌+ℤ◌, Option, IfSome, length, pos, sym, subst}
 use Rattle.palm_domain.specs.Rows.{initial_of, present_of}
 use Rattle.palm_model.specs.Domains.{values_of}
+use Rattle.palm_model.specs.Removed.{pairs_of}
 use Rattle.palm_model.specs.Support.{IsSupported}
 use Rattle.palm_engine.specs.declared.filtering.Filtering.{Filtering}
-use Rattle.palm_engine.specs.Advancing.{Advanced, values_below}
+use Rattle.palm_engine.specs.Advancing.{Advanced, values_before, values_below}
 use Rattle.palm_engine.specs.Posted.{active_of}
 use Rattle.palm_engine.specs.Revising.{HasCounted, IsRevising}
 use Rattle.palm_engine.proofs.Revised.{var_stored}
-use Rattle.palm_engine.proofs.Progress.{values_done, values_supported, revising_checks, on_ok, on_err_of}
+use Rattle.palm_engine.specs.Work.{asks_of}
+use Rattle.palm_engine.proofs.Progress.{values_done, values_supported, revising_checks, on_either, on_ok, on_err_of}
+use Rattle.palm_engine.proofs.Quiet.{later_quiet, part_quiet, walked_quiet}
 use Rattle.palm_engine.proofs.Convex.{ends_advanced, ends_lacking, ends_counted}
 use Rattle.palm_engine.proofs.between.revise_between.Goals as goal
 
@@ -110,5 +113,15 @@ returns-clause-counted g c =
     let now = c.rise.new.filtering in
     let w = subst (λ n. Advanced r.0 owner c.args.var n f now) c.in-Some.is (c.in_ok-first.ensures.advanced r.0 r.1) in
     let low = subst (λ n. IfSome n (λ v. HasCounted (length (values_below (v +ℤ pos 1) (values_of (initial_of f.store) c.args.var))) f now c.args.steps.now c.rise.new.steps)) c.in-Some.is c.in_ok-first.ensures.first in
+    let asked = subst (λ (n : Option ℤ). IfSome n (λ v. c.args.steps.now + asks_of owner ≤ c.rise.new.steps)) c.in-Some.is c.in_ok-first.ensures.asked in
+    let high = subst (λ n. IfSome n (IsSupported (present_of now.store) owner.con c.args.var)) c.in-Some.is c.in_ok-first.ensures.supported in
+    let last = c.last_supported-last.ensures in
+    let after = c.last_supported-last.new.filtering in
+    let end = c.take_out_from.new.filtering in
+    let on = ends_advanced r.0 owner c.args.var c.in-Some.first c.last_supported-last.result c.next_after-above.result f now after w last.same last.above high last.supported
+    c.requires.convex c.next_after-above.ensures in
+    let pairs = pairs_of c.args.var (values_of (initial_of f.store) c.args.var) in
+    let quiet = later_quiet owner f after end (walked_quiet r.0 owner (pairs_of c.args.var (values_before c.next_after-above.result (values_of (initial_of f.store) c.args.var))) f after on.walked)
+    (on_either c.take_out_from.result (λ done. walked_quiet r.0 owner pairs f end done.walked) (part_quiet r.0 owner pairs f end) (c.take_out_from.ensures.advanced r.0 f on) (c.take_out_from.ensures.part r.0 f on)) in
     ends_counted r.0 owner c.args.var c.in-Some.first f now c.last_supported-last.new.filtering c.take_out_from.new.filtering c.args.steps.now c.rise.new.steps c.last_supported-last.new.steps w
-    low c.last_supported-last.ensures.counted c.take_out_from.ensures.checks
+    low c.last_supported-last.ensures.counted c.take_out_from.ensures.checks asked quiet

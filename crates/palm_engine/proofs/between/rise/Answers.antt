@@ -1,4 +1,4 @@
-use Rattle.std.proofs.Common.{◌<◌, Some, [], ◌∷◌, ◌∙◌, sym, subst}
+use Rattle.std.proofs.Common.{◌<◌, Some, [], ◌∷◌, ◌∙◌, refl, sym, ap, subst, arith}
 use Rattle.palm_domain.specs.Rows.{initial_of, present_values}
 use Rattle.palm_model.specs.Domains.{values_of}
 use Rattle.palm_model.specs.Removed.{pairs_of}
@@ -8,8 +8,10 @@ use Rattle.palm_engine.specs.Posted.{active_of}
 use Rattle.palm_engine.specs.Revising.{WalkedPart}
 use Rattle.palm_engine.proofs.Bounds.{left_from}
 use Rattle.palm_engine.proofs.Revised.{owner_in_form, var_present, var_stored}
-use Rattle.palm_engine.proofs.Progress.{WalkedValues, values_start, values_more, values_stopped, values_counted, values_fewer, values_filled, start_counted, more_counted, checks_walked, revising_checks, on_err_of}
+use Rattle.palm_engine.proofs.Progress.{WalkedValues, values_start, values_more, values_stopped, values_counted, values_fewer, values_filled, start_counted, more_counted, checks_walked, counted_one, revising_checks, on_err_of}
 use Rattle.palm_engine.proofs.Convex.{advanced_checks, value_counted}
+use Rattle.palm_engine.proofs.Quiet.{walked_quiet}
+use Rattle.palm_engine.specs.Work.{users_removals}
 use Rattle.palm_engine.proofs.between.rise.Goals as goal
 
 pub least-requires : goal.least-requires
@@ -57,7 +59,7 @@ returns-then-is_supported-clause-counted g c =
     let after : Filtering = record now { checks = c.is_supported.new.checks } in
     let w = subst (λ n. WalkedValues r.0 owner c.args.var n f now c.args.steps.now c.loop-next.steps) c.in-Some.is (c.loop-next.invariant r.0 r.1) in
     values_counted r.0 owner c.args.var c.in-Some.value f now after c.args.steps.now c.loop-next.steps c.is_supported.new.steps w.advanced w.counted
-    (record { later = c.is_supported.ensures.later; few = c.is_supported.ensures.once; checks = λ le. c.is_supported.ensures.checks })
+    (counted_one owner now after c.loop-next.steps c.is_supported.new.steps c.is_supported.ensures.counted c.is_supported.ensures.checks (λ other. refl))
 
 pub returns-then-is_supported-clause-first : goal.returns-then-is_supported-clause-first
 returns-then-is_supported-clause-first g c =
@@ -68,7 +70,15 @@ returns-then-is_supported-clause-first g c =
     let after : Filtering = record now { checks = c.is_supported.new.checks } in
     let w = subst (λ n. WalkedValues r.0 owner c.args.var n f now c.args.steps.now c.loop-next.steps) c.in-Some.is (c.loop-next.invariant r.0 r.1) in
     value_counted r.0 owner c.args.var c.in-Some.value f now after c.args.steps.now c.loop-next.steps c.is_supported.new.steps w.advanced w.counted
-    (record { later = c.is_supported.ensures.later; few = c.is_supported.ensures.once; checks = λ le. c.is_supported.ensures.checks })
+    (counted_one owner now after c.loop-next.steps c.is_supported.new.steps c.is_supported.ensures.counted c.is_supported.ensures.checks (λ other. refl))
+
+pub returns-then-is_supported-clause-asked : goal.returns-then-is_supported-clause-asked
+returns-then-is_supported-clause-asked g c =
+    let r = c.requires.revising in
+    let w = c.loop-next.invariant r.0 r.1 in
+    let later = w.counted.ticked.later in
+    let asked = c.is_supported.ensures.counted in
+    omega (arith, later, asked)
 
 pub take_out-requires-clause-revising : goal.take_out-requires-clause-revising
 take_out-requires-clause-revising g c =
@@ -115,7 +125,8 @@ returns-in_err-take_out-clause-counted g c =
     let f = c.args.filtering.now in
     let w = subst (λ n. WalkedValues r.0 owner c.args.var n f c.loop-next.filtering c.args.steps.now c.loop-next.steps) c.in-Some.is (c.loop-next.invariant r.0 r.1) in
     values_counted r.0 owner c.args.var c.in-Some.value f c.loop-next.filtering c.take_out.new.filtering c.args.steps.now c.loop-next.steps c.is_supported.new.steps w.advanced w.counted
-    (record { later = c.is_supported.ensures.later; few = c.is_supported.ensures.once; checks = λ le. c.take_out.ensures.checks ∙ c.is_supported.ensures.checks })
+    (counted_one owner c.loop-next.filtering c.take_out.new.filtering c.loop-next.steps c.is_supported.new.steps c.is_supported.ensures.counted (c.take_out.ensures.checks ∙ c.is_supported.ensures.checks)
+    (λ other. ap (λ (z : Filtering). users_removals z.log.log) c.in_err-take_out.ensures.err))
 
 pub next_after-next-requires : goal.next_after-next-requires
 next_after-next-requires g c =
@@ -148,7 +159,8 @@ loop-next-preserved g c = λ active r.
           (checks_walked active owner (pair_of c.args.var c.in-Some.value ∷ []) now after c.is_supported.new.checks (told.walked active revising)) (told.revising active revising)
           (λ has. absurd (told.gone.gone has)) c.next_after-next.ensures;
       counted = more_counted active owner c.args.var c.in-Some.value c.next_after-next.result f now after c.args.steps.now c.loop-next.steps c.is_supported.new.steps w.advanced w.counted
-          (record { later = c.is_supported.ensures.later; few = c.is_supported.ensures.once; checks = λ le. told.checks ∙ c.is_supported.ensures.checks }) c.next_after-next.ensures;
+          (counted_one owner now after c.loop-next.steps c.is_supported.new.steps c.is_supported.ensures.counted (told.checks ∙ c.is_supported.ensures.checks)
+          (walked_quiet active owner (pair_of c.args.var c.in-Some.value ∷ []) (record now { checks = c.is_supported.new.checks }) after (told.walked active revising))) c.next_after-next.ensures;
     }
 
 pub returns-clause-advanced : goal.returns-clause-advanced

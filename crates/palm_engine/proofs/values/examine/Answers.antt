@@ -1,8 +1,10 @@
-use Rattle.std.proofs.Common.{ℕ, [], ◌∷◌, ◌∙◌, sym, ap}
+use Rattle.std.proofs.Common.{ℕ, [], ◌∷◌, ◌∙◌, refl, sym, ap}
 use Rattle.palm_engine.specs.declared.filtering.Filtering.{Filtering}
 use Rattle.palm_engine.specs.Posted.{active_of}
 use Rattle.palm_engine.proofs.Revised.{owner_in_form}
-use Rattle.palm_engine.proofs.Progress.{passed_walked, checks_walked, revising_checks, on_ok, on_err, on_err_of}
+use Rattle.palm_engine.specs.Work.{users_removals}
+use Rattle.palm_engine.proofs.Progress.{passed_walked, checks_walked, counted_one, revising_checks, on_ok, on_either, on_err, on_err_of}
+use Rattle.palm_engine.proofs.Quiet.{walked_quiet}
 use Rattle.palm_engine.proofs.values.examine.Goals as goal
 
 pub is_supported-requires-clause-formed : goal.is_supported-requires-clause-formed
@@ -16,7 +18,9 @@ pub returns-then-is_supported-clause-revising : goal.returns-then-is_supported-c
 returns-then-is_supported-clause-revising g c = λ active r. revising_checks active (active_of g.F.Filter.meaning c.args.constraint.now) c.args.filtering.now c.is_supported.new.checks r
 
 pub returns-then-is_supported-clause-counted : goal.returns-then-is_supported-clause-counted
-returns-then-is_supported-clause-counted g c = record { later = c.is_supported.ensures.later; few = c.is_supported.ensures.once; checks = λ le. c.is_supported.ensures.checks }
+returns-then-is_supported-clause-counted g c =
+    let f = c.args.filtering.now in
+    counted_one (active_of g.F.Filter.meaning c.args.constraint.now) f (record f { checks = c.is_supported.new.checks }) c.args.steps.now c.is_supported.new.steps c.is_supported.ensures.counted c.is_supported.ensures.checks (λ other. refl)
 
 pub take_out-requires-clause-revising : goal.take_out-requires-clause-revising
 take_out-requires-clause-revising g c = let r = c.requires.revising in (r.0, revising_checks r.0 (active_of g.F.Filter.meaning c.args.constraint.now) c.args.filtering.now c.is_supported.new.checks r.1)
@@ -46,4 +50,11 @@ pub returns-clause-due : goal.returns-clause-due
 returns-clause-due g c = on_err_of c.take_out.result (record { filled = c.requires.filled; has = c.requires.present; lacks = c.is_supported.ensures.lacking c.if-is_supported.false })
 
 pub returns-clause-counted : goal.returns-clause-counted
-returns-clause-counted g c = record { later = c.is_supported.ensures.later; few = c.is_supported.ensures.once; checks = λ le. c.take_out.ensures.checks ∙ c.is_supported.ensures.checks }
+returns-clause-counted g c =
+    let owner = active_of g.F.Filter.meaning c.args.constraint.now in
+    let f = c.args.filtering.now in
+    let asked : Filtering = record f { checks = c.is_supported.new.checks } in
+    let r = c.requires.revising in
+    counted_one owner f c.take_out.new.filtering c.args.steps.now c.is_supported.new.steps c.is_supported.ensures.counted (c.take_out.ensures.checks ∙ c.is_supported.ensures.checks)
+    (on_either c.take_out.result (walked_quiet r.0 owner (c.args.pair ∷ []) asked c.take_out.new.filtering) (λ same other. ap (λ (z : Filtering). users_removals z.log.log) same)
+    (c.take_out.ensures.walked r.0 (revising_checks r.0 owner f c.is_supported.new.checks r.1)) c.take_out.ensures.err)

@@ -11,7 +11,7 @@ returns-in_err-finish-clause-pumps g c = λ sessions seen unbroken stands.
     let r = c.in-Ok.ensures in
     let e = c.in_err-finish.ensures in
     rw (p.1, p.2) (pumps_last_until sessions seen c.args.room c.in-Ok.count c.read.new.buffer before now c.finish.new.self r.bytes.0 r.bytes.1 r.cause.ok
-    c.in_err-finish.field-0.0 c.if-count-eq0.true e.counted (e.stopped sessions seen unbroken stands))
+    c.in_err-finish.field-0.0 c.if-count-eq0.true r.bytes.2 e.counted (e.stopped sessions seen unbroken stands))
 
 pub returns-in_err-feed-clause-pumps : goal.returns-in_err-feed-clause-pumps
 returns-in_err-feed-clause-pumps g c = λ sessions seen unbroken stands.

@@ -1,5 +1,11 @@
+use Rattle.std.proofs.Common.{refl, ap}
 use Rattle.std.specs.Prelude.{is_some}
+use Rattle.palm_search.specs.Calls.{SearchView, search_state}
+use Rattle.palm_search.specs.Stopping.GuideStops.{stops_silent}
+use Rattle.palm_search.specs.Stopping.GuideStopsAt.{stops_between, stops_in_turn}
+use Rattle.palm_search.specs.declared.turn.Turn.TheVariants.{Decide as TurnDecide}
 use Rattle.palm_search.proofs.cited.Results.{on_err}
+use Rattle.palm_search.proofs.cited.Stopping.{decision_stops}
 use Rattle.palm_repair.proofs.Stepping.{decided_cut, decided_ready}
 use Rattle.palm_repair.proofs.turns.advance.Goals as goal
 
@@ -8,6 +14,24 @@ post-requires-clause-repairing g c =
     let decided = c.in_ok-decide-in-Decide in
     let turn = decided.ensures.ok in
     decided_ready (is_some c.args.guide.now) c.args.engine.now.state c.decide.new.engine.state c.args.search.now c.decide.new.self c.args.learned.now decided.field-0 turn.0 turn.2 c.requires.ready.at.repairing
+
+pub returns-in_err-end-clause-stopped : goal.returns-in_err-end-clause-stopped
+returns-in_err-end-clause-stopped g c = on_err _ c.from_residual.result (stops_between refl (stops_silent refl))
+
+pub returns-in_err-decide-in-Decide-clause-stopped : goal.returns-in_err-decide-in-Decide-clause-stopped
+returns-in_err-decide-in-Decide-clause-stopped g c =
+    let cut = c.in_err-decide-in-Decide.ensures in
+    on_err _ c.from_residual-in_err-decide-in-Decide.result
+    (stops_between (ap (λ (v : SearchView). v.journal) cut.err.1) (decision_stops (search_state c.args.engine.now.state c.args.search.now) c.args.guide.now c.decide.new.guide cut.asked))
+
+pub returns-in_err-post-in-Decide-clause-stopped : goal.returns-in_err-post-in-Decide-clause-stopped
+returns-in_err-post-in-Decide-clause-stopped g c =
+    let decided = c.in_ok-decide-in-Decide in
+    let turn = decided.ensures.ok in
+    on_err _ c.from_residual-in_err-post-in-Decide.result (stops_in_turn (TurnDecide decided.field-0 turn.0) turn.2.journal turn.1)
+
+pub returns-in_err-take_back-in-Undo-clause-stopped : goal.returns-in_err-take_back-in-Undo-clause-stopped
+returns-in_err-take_back-in-Undo-clause-stopped g c = on_err _ c.from_residual-in_err-take_back-in-Undo.result c.in_err-take_back-in-Undo.ensures.stopped
 
 pub returns-in_err-post-in-Decide-clause-err : goal.returns-in_err-post-in-Decide-clause-err
 returns-in_err-post-in-Decide-clause-err g c =

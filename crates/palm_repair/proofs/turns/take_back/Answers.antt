@@ -7,6 +7,8 @@ use Rattle.palm_base.specs.declared.terms.Cid.TheVariants.{Decide}
 use Rattle.palm_engine.specs.Engine.{View}
 use Rattle.palm_model.specs.Constraint.{Distinct}
 use Rattle.palm_search.specs.Calls.{SearchView}
+use Rattle.palm_search.specs.Stopping.GuideStops.{stops_silent, stops_told}
+use Rattle.palm_search.specs.Stopping.GuideStopsAt.{stops_between, stops_in_turn}
 use Rattle.palm_search.specs.Turning.{Hears}
 use Rattle.palm_search.specs.Turns.{decided_vars}
 use Rattle.palm_search.specs.declared.turn.Turn.TheVariants.{Undo}
@@ -121,6 +123,24 @@ learn-requires-clause-small g c =
 pub returns-clause-told : goal.returns-clause-told
 returns-clause-told g c =
     on_ok_weaker c.learn.result (λ learns. subst (λ l. Hears g.G.Guide.hears g.G.Guide.state l c.args.guide.now c.tell.new.guide) (c.as_slice-4.ensures ∙ c.in_ok-vars.ensures ∙ ap decided_vars c.as_slice.ensures) c.tell.ensures) c.learn.ensures.ok
+
+pub returns-in_err-vars-clause-stopped : goal.returns-in_err-vars-clause-stopped
+returns-in_err-vars-clause-stopped g c = on_err _ c.from_residual.result (stops_between refl (stops_silent refl))
+
+pub returns-in_err-nogood-clause-stopped : goal.returns-in_err-nogood-clause-stopped
+returns-in_err-nogood-clause-stopped g c = on_err _ c.from_residual-in_err-nogood.result (stops_between refl (stops_silent refl))
+
+pub returns-in_err-undo-clause-stopped : goal.returns-in_err-undo-clause-stopped
+returns-in_err-undo-clause-stopped g c =
+    on_err _ c.from_residual-in_err-undo.result
+    (stops_between (ap (λ (v : SearchView). v.journal) c.in_err-undo.ensures.err.1) (stops_told c.args.conflict.now c.requires.flat
+    (subst (λ l. Hears g.G.Guide.hears g.G.Guide.state l c.args.guide.now c.tell.new.guide) (c.as_slice-4.ensures ∙ c.in_ok-vars.ensures ∙ ap decided_vars c.as_slice.ensures) c.tell.ensures)))
+
+pub returns-clause-stopped : goal.returns-clause-stopped
+returns-clause-stopped g c =
+    let back = c.in_ok-undo.ensures.ok in
+    on_err _ c.learn.result (stops_in_turn (Undo back.gone c.args.conflict.now) back.journal
+    (subst (λ l. Hears g.G.Guide.hears g.G.Guide.state l c.args.guide.now c.tell.new.guide) (c.as_slice-4.ensures ∙ c.in_ok-vars.ensures ∙ ap decided_vars c.as_slice.ensures) c.tell.ensures))
 
 pub returns-clause-decisions : goal.returns-clause-decisions
 returns-clause-decisions g c = c.learn.ensures.decisions

@@ -1,14 +1,18 @@
 use Rattle.std.proofs.Common.{Option, rules, sym, ◌∙◌, subst}
 use Rattle.std.specs.Prelude.{IfOk, OnErr, is_some}
 use Rattle.palm_events.proofs.cited.Reasons.{reasons_right}
-use Rattle.palm_engine.specs.Following.{Hearing, OrderFollows}
+use Rattle.palm_engine.specs.Following.{Hearing, OrderAnswers, OrderFollows}
 use Rattle.palm_engine.proofs.cited.Walking.{filters_none}
 use Rattle.palm_search.specs.Following.{GuideFollows, Moment}
+use Rattle.palm_search.specs.Stopping.{GuideStops}
 use Rattle.palm_search.proofs.cited.Following.{settled_alike}
 use Rattle.palm_search.proofs.cited.Results.{on_err}
 use Rattle.palm_search.proofs.cited.Running.{counts_then, interrupted_filters}
+use Rattle.palm_search.proofs.cited.Stopping.{order_stops}
 use Rattle.palm_repair.specs.Answers.{end_of}
 use Rattle.palm_repair.specs.Following.{HasRepairedBy, HasRunBy}
+use Rattle.palm_repair.specs.Stopping.{BreaksOffBy, IsCutOffBy}
+use Rattle.palm_repair.specs.Stopping.BreaksOffBy.{by_last_settling, by_run}
 use Rattle.palm_repair.specs.Turning.{BreaksOff, IsCutOff}
 use Rattle.palm_repair.proofs.Breaking.{broken_at_end, broken_in_run, broken_leaves, repaired_leaves}
 use Rattle.palm_repair.proofs.Following.{repaired_by}
@@ -38,6 +42,19 @@ returns-in_err-answer-clause-err g c =
     let cut = subst (λ r. OnErr r (IsCutOff guided ordered tabu budget s turns run.new.engine.state)) c.in_err-answer.was run.ensures.err in
     let broken = broken_in_run guided ordered tabu budget s turns run.new.engine.state t t cut c.close.ensures.withdraws (filters_none t) in
     on_err _ c.from_residual.result (subst (λ l. BreaksOff guided ordered tabu budget s l t) (sym c.close.ensures.journal) broken)
+
+pub returns-in_err-answer-clause-stopped : goal.returns-in_err-answer-clause-stopped
+returns-in_err-answer-clause-stopped g c =
+    let tabu = c.args.tabu in
+    let budget = c.args.budget in
+    let s = c.args.engine.now.state in
+    let run = c.run-answer in
+    let turns = run.new.search.journal in
+    let relations = IsCutOffBy (guiding g) (GuideStops g.G.Guide.answers g.G.Guide.hears g.G.Guide.state) (ordering g) (OrderAnswers g.O.Order.answers g.O.Order.state) c.args.guide.now run.new.guide c.args.order.now run.new.order tabu budget s turns run.new.engine.state in
+    let cut = subst (λ r. OnErr r relations) c.in_err-answer.was run.ensures.stopped in
+    on_err _ c.from_residual.result
+    (subst (λ l. BreaksOffBy (guiding g) (GuideStops g.G.Guide.answers g.G.Guide.hears g.G.Guide.state) (ordering g) (OrderAnswers g.O.Order.answers g.O.Order.state) c.args.guide.now run.new.guide c.args.order.now run.new.order tabu budget s l c.close.new.engine.state)
+    (sym c.close.ensures.journal) (by_run run.new.engine.state cut c.close.ensures.withdraws))
 
 pub returns-in_err-answer-clause-leaves : goal.returns-in_err-answer-clause-leaves
 returns-in_err-answer-clause-leaves g c =
@@ -75,6 +92,20 @@ returns-in_err-settle-clause-err g c =
     let has = subst (λ r. IfOk r (HasRunBy (guiding g) (ordering g) c.args.guide.now run.new.guide c.args.order.now run.new.order tabu budget s turns run.new.engine.state)) c.in_ok-answer.was run.ensures.ok in
     let broken = broken_at_end guided ordered tabu budget s turns run.new.engine.state c.in_ok-answer.answer n.state t.state has.has_run c.close.ensures.withdraws (interrupted_filters (is_some run.new.order) n t c.in_err-settle.ensures.err.interrupted) in
     on_err _ c.from_residual-in_err-settle.result (subst (λ l. BreaksOff guided ordered tabu budget s l t.state) (sym c.close.ensures.journal) broken)
+
+pub returns-in_err-settle-clause-stopped : goal.returns-in_err-settle-clause-stopped
+returns-in_err-settle-clause-stopped g c =
+    let tabu = c.args.tabu in
+    let budget = c.args.budget in
+    let s = c.args.engine.now.state in
+    let run = c.run-answer in
+    let turns = run.new.search.journal in
+    let n = c.close.new.engine in
+    let t = c.settle.new.self in
+    let has = subst (λ r. IfOk r (HasRunBy (guiding g) (ordering g) c.args.guide.now run.new.guide c.args.order.now run.new.order tabu budget s turns run.new.engine.state)) c.in_ok-answer.was run.ensures.ok in
+    on_err _ c.from_residual-in_err-settle.result
+    (subst (λ l. BreaksOffBy (guiding g) (GuideStops g.G.Guide.answers g.G.Guide.hears g.G.Guide.state) (ordering g) (OrderAnswers g.O.Order.answers g.O.Order.state) c.args.guide.now run.new.guide c.args.order.now c.settle.new.order tabu budget s l t.state)
+    (sym c.close.ensures.journal) (by_last_settling run.new.engine.state n.state c.in_ok-answer.answer run.new.order has c.close.ensures.withdraws (order_stops run.new.order c.settle.new.order n t c.in_err-settle.ensures.err)))
 
 pub returns-in_err-settle-clause-leaves : goal.returns-in_err-settle-clause-leaves
 returns-in_err-settle-clause-leaves g c =

@@ -4,14 +4,17 @@ use Rattle.palm_events.proofs.cited.Reasons.{reasons_right}
 use Rattle.palm_engine.specs.Engine.{IsInterrupted}
 use Rattle.palm_engine.specs.Following.{Hearing, OrderFollows}
 use Rattle.palm_search.specs.Following.{GuideFollows, Moment}
+use Rattle.palm_search.specs.Stopping.GuideStops.{stops_silent}
 use Rattle.palm_search.proofs.cited.Following.{settled_alike}
 use Rattle.palm_search.proofs.cited.Results.{on_err}
 use Rattle.palm_search.proofs.cited.Running.{counts_then, fresh_has, interrupted_filters, settled_filters}
+use Rattle.palm_search.proofs.cited.Stopping.{order_stops}
 use Rattle.palm_repair.specs.Learned.{repair_state}
 use Rattle.palm_repair.specs.Turning.{Advances, IsCutTurn}
 use Rattle.palm_repair.proofs.Following.{run_ends_by, run_goes_on_by, run_starts_by}
 use Rattle.palm_repair.proofs.Learning.{rows_length}
-use Rattle.palm_repair.proofs.Running.{counts_kept, cut_first, cut_settling, cut_started, cut_turn, filtered_has}
+use Rattle.palm_repair.proofs.Running.{counts_kept, cut_first, cut_settling, cut_started, cut_turn, filtered_has, none_learned}
+use Rattle.palm_repair.proofs.Stopping.{cut_first_by, cut_here_by, cut_settling_by, cut_turn_by}
 use Rattle.palm_repair.proofs.whole.run.Given as given
 use Rattle.palm_repair.proofs.whole.run.Goals as goal
 
@@ -32,6 +35,11 @@ returns-in_err-settle-clause-err g c =
     let budget = c.args.budget in
     let s = c.args.engine.now in
     on_err _ c.from_residual.result (cut_first guided ordered tabu budget s c.settle.new.self c.args.search.now c.requires.fresh c.in_err-settle.ensures.err.interrupted)
+
+pub returns-in_err-settle-clause-stopped : goal.returns-in_err-settle-clause-stopped
+returns-in_err-settle-clause-stopped g c =
+    on_err _ c.from_residual.result (cut_first_by c.args.guide.now c.args.order.now c.settle.new.order c.args.tabu c.args.budget c.args.engine.now.state c.settle.new.self.state c.args.search.now c.requires.fresh
+    (order_stops c.args.order.now c.settle.new.order c.args.engine.now c.settle.new.self c.in_err-settle.ensures.err))
 
 pub returns-in_err-settle-clause-decisions : goal.returns-in_err-settle-clause-decisions
 returns-in_err-settle-clause-decisions g c =
@@ -55,6 +63,19 @@ returns-in_err-learned-clause-err g c =
     let budget = c.args.budget in
     let s = c.args.engine.now in
     on_err _ c.from_residual-in_err-learned.result (cut_started guided ordered tabu budget c.in_ok-settle.field-0 s c.settle.new.self c.args.search.now c.requires.fresh c.in_ok-settle.ensures.ok.settled)
+
+pub returns-in_err-learned-clause-stopped : goal.returns-in_err-learned-clause-stopped
+returns-in_err-learned-clause-stopped g c =
+    let guide = c.args.guide.now in
+    let order = c.args.order.now in
+    let now = c.settle.new.order in
+    let tabu = c.args.tabu in
+    let budget = c.args.budget in
+    let s = c.args.engine.now in
+    let t = c.settle.new.self in
+    let first = none_learned s.state in
+    let by = run_starts_by reasons_right (guiding g) (ordering g) guide order now tabu budget c.in_ok-settle.field-0 s t c.args.search.now first c.store-store.ensures.valid c.requires.users c.requires.fresh c.in_ok-settle.ensures.ok refl in
+    on_err _ c.from_residual-in_err-learned.result (cut_here_by guide guide guide order now tabu budget s.state t.state t.state c.args.search.now c.args.search.now.journal first by refl refl (stops_silent refl))
 
 pub returns-in_err-learned-clause-decisions : goal.returns-in_err-learned-clause-decisions
 returns-in_err-learned-clause-decisions g c =
@@ -137,6 +158,19 @@ returns-in_err-answer-clause-err g c =
     let cut = subst (λ b. IsCutTurn b tabu before m.search taken.engine.state taken.search) so_far.lent.guide c.in_err-answer.ensures.err in
     on_err _ c.from_residual-in_err-answer.result (cut_turn guided ordered tabu budget s.state m.engine.state taken.engine.state m.search taken.search m.learned so_far.by.running cut c.advance.ensures.within)
 
+pub returns-in_err-answer-clause-stopped : goal.returns-in_err-answer-clause-stopped
+returns-in_err-answer-clause-stopped g c =
+    let tabu = c.args.tabu in
+    let budget = c.args.budget in
+    let s = c.args.engine.now in
+    let m = c.loop-learned in
+    let so_far = c.loop-learned.invariant in
+    let taken = c.advance.new in
+    let before = repair_state m.engine.state m.search.decisions m.learned in
+    let cut = subst (λ b. IsCutTurn b tabu before m.search taken.engine.state taken.search) so_far.lent.guide c.in_err-answer.ensures.err in
+    on_err _ c.from_residual-in_err-answer.result
+    (cut_turn_by c.args.guide.now m.guide taken.guide c.args.order.now m.order tabu budget s.state m.engine.state taken.engine.state m.search taken.search m.learned so_far.by cut c.advance.ensures.within c.in_err-answer.ensures.stopped)
+
 pub returns-in_err-answer-clause-decisions : goal.returns-in_err-answer-clause-decisions
 returns-in_err-answer-clause-decisions g c = c.advance.ensures.decisions
 
@@ -168,6 +202,23 @@ returns-in_err-settle-2-clause-err g c =
     (subst (Advances (guiding g) m.guide taken.guide (is_some m.guide) tabu budget before m.search middle taken.search) c.in_default.is c.in_ok-answer.ensures.ok) in
     let cut = subst (λ b. IsInterrupted None b taken.engine after) so_far.lent.order c.in_err-settle-2.ensures.err.interrupted in
     on_err _ c.from_residual-in_err-settle-2.result (cut_settling guided ordered tabu budget s.state m.engine.state m.search m.learned taken.learned turn.0 taken.engine after taken.search so_far.by.running turn.1 turn.2 cut)
+
+pub returns-in_err-settle-2-clause-stopped : goal.returns-in_err-settle-2-clause-stopped
+returns-in_err-settle-2-clause-stopped g c =
+    let tabu = c.args.tabu in
+    let budget = c.args.budget in
+    let s = c.args.engine.now in
+    let m = c.loop-learned in
+    let so_far = c.loop-learned.invariant in
+    let taken = c.advance.new in
+    let before = repair_state m.engine.state m.search.decisions m.learned in
+    let middle = repair_state taken.engine.state taken.search.decisions taken.learned in
+    let after = c.settle-in-loop-learned.new.self in
+    let turn = subst (λ b. Advances (guiding g) m.guide taken.guide b tabu budget before m.search middle taken.search None) so_far.lent.guide
+    (subst (Advances (guiding g) m.guide taken.guide (is_some m.guide) tabu budget before m.search middle taken.search) c.in_default.is c.in_ok-answer.ensures.ok) in
+    on_err _ c.from_residual-in_err-settle-2.result
+    (cut_settling_by c.args.guide.now m.guide taken.guide c.args.order.now m.order c.settle-in-loop-learned.new.order tabu budget s.state m.engine.state m.search m.learned taken.learned turn.0 taken.engine after taken.search so_far.by turn.1 turn.2 turn.3
+    c.in_err-settle-2.ensures.err)
 
 pub returns-in_err-settle-2-clause-decisions : goal.returns-in_err-settle-2-clause-decisions
 returns-in_err-settle-2-clause-decisions g c =

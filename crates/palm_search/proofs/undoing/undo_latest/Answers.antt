@@ -1,4 +1,4 @@
-use Rattle.std.proofs.Common.{◌≡◌, ◌<◌, arith, length, get_or, sym, ap, ◌∙◌, subst}
+use Rattle.std.proofs.Common.{◌≡◌, ◌<◌, arith, length, get_or, inl, inr, refl, sym, ap, ◌∙◌, subst}
 use Rattle.std.proofs.lemmas.Option.{slice_get_within}
 use Rattle.std.proofs.lemmas.Result.{on_err_weaker, on_ok_weaker}
 use Rattle.palm_base.specs.declared.terms.Cid.TheVariants.{Decide, Not}
@@ -14,6 +14,7 @@ use Rattle.palm_search.specs.Kept.{HasDecisions}
 use Rattle.palm_search.specs.Turning.{Hears}
 use Rattle.palm_search.specs.Turning.IsCutUndoing.{cut_within}
 use Rattle.palm_search.specs.Turns.{decided_vars}
+use Rattle.palm_search.proofs.cited.Results.{on_err}
 use Rattle.palm_search.proofs.Undone.{latest_at, latest_found, negated_has, removed_is, undone_declared, undone_justifiers, undone_inactive, undone_posts, undone_turn}
 use Rattle.palm_search.proofs.undoing.undo_latest.Goals as goal
 
@@ -127,6 +128,23 @@ returns-clause-err g c =
     let posts = undone_posts conflict place s m before after back between.searching.valid between.unnegated between.searching.declared c.requires.flat in
     let turn = undone_turn conflict place s m (posted m negation) before after back c.requires.flat latest posts in
     on_err_weaker c.forbid.result (λ e. cut_within back.gone (search_state (posted m negation) after) turn.undoes back.journal (ap (λ (v : View). v.state) e ∙ sym turn.middle)) c.forbid.ensures.err
+
+-- ---- what the guide was told where memory ran out
+
+pub returns-in_err-rest-clause-stopped : goal.returns-in_err-rest-clause-stopped
+returns-in_err-rest-clause-stopped g c = on_err _ c.from_residual.result (inl (refl, refl))
+
+pub returns-in_err-tell_decided-clause-stopped : goal.returns-in_err-tell_decided-clause-stopped
+returns-in_err-tell_decided-clause-stopped g c = on_err _ c.from_residual-in_err-tell_decided.result (inl (c.in_err-tell_decided.ensures.err, refl))
+
+pub returns-in_err-undo-clause-stopped : goal.returns-in_err-undo-clause-stopped
+returns-in_err-undo-clause-stopped g c =
+    on_err _ c.from_residual-in_err-undo.result
+    (inr (subst (λ l. Hears g.G.Guide.hears g.G.Guide.state (decided_vars l) c.args.guide.now c.tell_decided.new.guide) c.as_slice-3.ensures c.in_ok-tell_decided.ensures.ok))
+
+pub returns-clause-stopped : goal.returns-clause-stopped
+returns-clause-stopped g c =
+    on_err _ c.forbid.result (inr (subst (λ l. Hears g.G.Guide.hears g.G.Guide.state (decided_vars l) c.args.guide.now c.tell_decided.new.guide) c.as_slice-3.ensures c.in_ok-tell_decided.ensures.ok))
 
 pub returns-clause-decisions : goal.returns-clause-decisions
 returns-clause-decisions g c =

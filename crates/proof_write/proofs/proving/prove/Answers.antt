@@ -1,15 +1,18 @@
 use Rattle.std.proofs.Common.{Option, is_some, rules, sym, ◌∙◌, subst, arith}
-use Rattle.palm_engine.specs.Following.{Hearing, OrderFollows}
+use Rattle.palm_engine.specs.Following.{Hearing, OrderAnswers, OrderFollows}
 use Rattle.palm_engine.proofs.cited.Walking.{filters_none}
 use Rattle.palm_events.proofs.cited.Reasons.{reasons_right}
 use Rattle.palm_lang.specs.declared.stop.WriteStop.TheVariants.{NoMemory}
 use Rattle.palm_search.specs.Breaking.{BreaksOff}
 use Rattle.palm_search.specs.Calls.{search_state}
 use Rattle.palm_search.specs.Following.{GuideFollows, Moment}
+use Rattle.palm_search.specs.Stopping.{BreaksOffBy, GuideStops}
+use Rattle.palm_search.specs.Stopping.BreaksOffBy.{by_last_settling, by_run}
 use Rattle.palm_search.proofs.cited.Breaking.{broken_at_end, broken_leaves, searches_leaves}
 use Rattle.palm_search.proofs.cited.Following.{settled_alike}
 use Rattle.palm_search.proofs.cited.Results.{on_err}
 use Rattle.palm_search.proofs.cited.Running.{counts_then, interrupted_filters}
+use Rattle.palm_search.proofs.cited.Stopping.{order_stops}
 use Rattle.palm_dbt.proofs.cited.Answering.{answer_true}
 use Rattle.proof_write.specs.Proving.{HasProved}
 use Rattle.proof_write.proofs.Fitting.{book_users}
@@ -25,6 +28,13 @@ abbrev ordering : (g : given.Over) → Hearing → Option g.row.O.Denot → Opti
 ordering g = OrderFollows g.O.Order.answers g.O.Order.hears g.O.Order.state
 
 -- the run stopped
+pub returns-in_err-end-clause-stopped : goal.returns-in_err-end-clause-stopped
+returns-in_err-end-clause-stopped g c =
+    let broken = by_run c.run-end.new.engine.state c.in_err-end.ensures.stopped c.close.ensures.withdraws in
+    on_err _ c.from_residual.result
+    (subst (λ l. BreaksOffBy (guiding g) (GuideStops g.G.Guide.answers g.G.Guide.hears g.G.Guide.state) (ordering g) (OrderAnswers g.O.Order.answers g.O.Order.state) c.args.guide.now c.run-end.new.guide c.args.order.now c.run-end.new.order c.args.budget c.args.engine.now.state l c.close.new.engine.state)
+    (sym c.close.ensures.journal) broken)
+
 pub returns-in_err-end-clause-leaves : goal.returns-in_err-end-clause-leaves
 returns-in_err-end-clause-leaves g c =
     let s = c.args.engine.now.state in
@@ -57,6 +67,10 @@ returns-in_err-settle g c =
       ok = search rules;
       holds = search rules;
       err = on_err _ result (subst (λ l. BreaksOff guided ordered c.args.budget s.state l t.state) (sym c.close.ensures.journal) broken);
+      stopped = on_err _ result
+          (subst (λ l. BreaksOffBy (guiding g) (GuideStops g.G.Guide.answers g.G.Guide.hears g.G.Guide.state) (ordering g) (OrderAnswers g.O.Order.answers g.O.Order.state) c.args.guide.now c.run-end.new.guide c.args.order.now c.settle.new.order c.args.budget c.args.engine.now.state l t.state)
+          (sym c.close.ensures.journal) (by_last_settling (search_state c.run-end.new.engine.state c.run-end.new.search) c.in_ok-end.end n.state c.run-end.new.order ran.ok.by c.close.ensures.withdraws
+          (order_stops c.run-end.new.order c.settle.new.order n t c.in_err-settle.ensures.err)));
       front = (subst (λ l. Stops book guided ordered c.args.budget s.state l (g.K.Sink.state c.args.out.now) (g.K.Sink.state c.run-end.new.out) result) (sym c.close.ensures.journal) quiet).front;
       counted = quiet.counted;
       sink = quiet.sink;
@@ -89,6 +103,7 @@ returns g c =
           (sym c.close.ensures.journal) (record { text = ran.ok.text; proves = proves; accepted = accepted; written = ran.ok.written });
       holds = answer_true reasons_right guided ordered c.args.budget s.state turns t.state end users run.before searches;
       err = tt;
+      stopped = tt;
       front = tt;
       counted = ran.counted;
       sink = ran.sink;

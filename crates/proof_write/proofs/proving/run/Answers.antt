@@ -2,19 +2,21 @@ use Rattle.std.proofs.Common.{None, Option, [], is_some, refl, rules, sym, ap, �
 use Rattle.palm_engine.specs.Engine.{IsInterrupted}
 use Rattle.palm_engine.specs.Following.{Hearing, OrderFollows}
 use Rattle.palm_lang.specs.declared.stop.WriteStop.TheVariants.{NoMemory}
-use Rattle.palm_search.specs.Calls.{TakesTurn}
+use Rattle.palm_search.specs.Calls.{TakesTurn, search_state}
 use Rattle.palm_search.specs.Following.{GuideFollows, Moment}
+use Rattle.palm_search.specs.Stopping.GuideStops.{stops_silent}
 use Rattle.palm_search.specs.Turning.{IsNext}
 use Rattle.palm_search.specs.declared.turn.Turn.TheVariants.{Undo as TurnUndo}
 use Rattle.palm_search.proofs.cited.Following.{settled_alike}
 use Rattle.palm_search.proofs.cited.Results.{on_err}
 use Rattle.palm_search.proofs.cited.Running.{counts_then, cut_first, cut_here, cut_settling, cut_undoing, fewer_left, fresh_has, interrupted_has}
+use Rattle.palm_search.proofs.cited.Stopping.{cut_first_by, cut_here_by, cut_settling_by, cut_undoing_by, decision_stops, order_silent, order_stops}
 use Rattle.proof_run.specs.SoFar.Follows.{a_lemma, an_end}
 use Rattle.proof_write.specs.Numbers.{AreNumbers}
 use Rattle.proof_write.specs.declared.notes.Notes.{Notes}
 use Rattle.proof_write.specs.declared.numbers.LemmaNumbers.{LemmaNumbers}
 use Rattle.proof_write.proofs.Fitting.{book_users}
-use Rattle.proof_write.proofs.Running.{HasArgued, Stops, argued_alike, argued_deciding, argued_undoing, cut_behind, declaring_stops, lemma_here, lemma_written, proving_ends, proving_fits, proving_goes_on, proving_starts, proving_stops, stopped_quietly, stopped_with, stops_here, text_here, turn_stops, undoing_stops}
+use Rattle.proof_write.proofs.Running.{HasArgued, Stops, argued_alike, argued_deciding, argued_undoing, cut_behind, declaring_stops, left_by, lemma_here, lemma_written, proving_ends, proving_fits, proving_goes_on, proving_starts, proving_stops, stopped_quietly, stopped_with, stops_here, text_here, turn_stops, undoing_stops}
 use Rattle.proof_write.proofs.proving.run.Given as given
 use Rattle.proof_write.proofs.proving.run.Goals as goal
 use Rattle.proof_write.proofs.proving.run.Goals.{After-from_residual-in_err-note_last-in-Undo, After-settle-in-loop-notes, in-Decide+in_ok-decide-in-Decide, in-Undo+in_ok-write_lemma-in-Undo+in_ok-undo_latest-in-Undo+in_ok-note_last-in-Undo}
@@ -31,6 +33,16 @@ ordering g = OrderFollows g.O.Order.answers g.O.Order.hears g.O.Order.state
 pub returns-in_err-write_declarations-clause-decisions : goal.returns-in_err-write_declarations-clause-decisions
 returns-in_err-write_declarations-clause-decisions g c =
     fresh_has c.args.engine.now.state c.args.search.now c.store-store.ensures.valid (book_users c.args.book.now c.args.engine.now.state c.requires.active) c.requires.fresh
+
+pub returns-in_err-write_declarations-clause-stopped : goal.returns-in_err-write_declarations-clause-stopped
+returns-in_err-write_declarations-clause-stopped g c =
+    let s = c.args.engine.now.state in
+    on_err _ c.from_residual.result (cut_first_by c.args.guide.now c.args.order.now c.args.order.now c.args.budget s s c.args.search.now c.requires.fresh (order_silent c.args.order.now s))
+
+pub returns-in_err-settle-clause-stopped : goal.returns-in_err-settle-clause-stopped
+returns-in_err-settle-clause-stopped g c =
+    on_err _ c.from_residual-in_err-settle.result (cut_first_by c.args.guide.now c.args.order.now c.settle.new.order c.args.budget c.args.engine.now.state c.settle.new.self.state c.args.search.now c.requires.fresh
+    (order_stops c.args.order.now c.settle.new.order c.args.engine.now c.settle.new.self c.in_err-settle.ensures.err))
 
 pub returns-in_err-settle-clause-err : goal.returns-in_err-settle-clause-err
 returns-in_err-settle-clause-err g c =
@@ -62,6 +74,12 @@ returns-in_err-end-clause-err g c =
     on_err _ c.from_residual-in_err-end.result
     (cut_here (is_some c.args.guide.now) (is_some c.args.order.now) c.args.budget c.args.engine.now.state m m c.loop-notes.search c.loop-notes.search c.loop-notes.invariant.0.by.running refl refl)
 
+pub returns-in_err-end-clause-stopped : goal.returns-in_err-end-clause-stopped
+returns-in_err-end-clause-stopped g c =
+    let m = c.loop-notes in
+    on_err _ c.from_residual-in_err-end.result
+    (cut_here_by c.args.guide.now m.guide m.guide c.args.order.now m.order c.args.budget c.args.engine.now.state m.engine.state m.engine.state m.search m.search (left_by m.invariant.0) refl refl (stops_silent refl))
+
 pub returns-in_err-end-clause-front : goal.returns-in_err-end-clause-front
 returns-in_err-end-clause-front g c =
     (stops_here c.loop-notes.invariant.0 c.loop-notes.search c.from_residual-in_err-end.result (stopped_with _ _ c.from_residual-in_err-end.ensures.1) refl).front
@@ -71,6 +89,14 @@ returns-in_err-decide-in-Decide-clause-err g c =
     let cut = c.in_err-decide-in-Decide.ensures.err in
     on_err _ c.from_residual-in_err-decide-in-Decide.result
     (cut_here (is_some c.args.guide.now) (is_some c.args.order.now) c.args.budget c.args.engine.now.state c.loop-notes.engine.state c.decide.new.engine.state c.loop-notes.search c.decide.new.self c.loop-notes.invariant.0.by.running (λ i. (cut.0 i).state) cut.1)
+
+pub returns-in_err-decide-in-Decide-clause-stopped : goal.returns-in_err-decide-in-Decide-clause-stopped
+returns-in_err-decide-in-Decide-clause-stopped g c =
+    let m = c.loop-notes in
+    let cut = c.in_err-decide-in-Decide.ensures in
+    on_err _ c.from_residual-in_err-decide-in-Decide.result
+    (cut_here_by c.args.guide.now m.guide c.decide.new.guide c.args.order.now m.order c.args.budget c.args.engine.now.state m.engine.state c.decide.new.engine.state m.search c.decide.new.self (left_by m.invariant.0)
+    (λ i. (cut.err.0 i).state) cut.err.1 (decision_stops (search_state m.engine.state m.search) m.guide c.decide.new.guide cut.asked))
 
 pub returns-in_err-decide-in-Decide-clause-front : goal.returns-in_err-decide-in-Decide-clause-front
 returns-in_err-decide-in-Decide-clause-front g c =
@@ -89,6 +115,12 @@ returns-in_err-write_end-in-Ended-clause-err g c =
     let m = c.loop-notes.engine.state in
     on_err _ c.from_residual-in_err-write_end-in-Ended.result
     (cut_here (is_some c.args.guide.now) (is_some c.args.order.now) c.args.budget c.args.engine.now.state m m c.loop-notes.search c.loop-notes.search c.loop-notes.invariant.0.by.running refl refl)
+
+pub returns-in_err-write_end-in-Ended-clause-stopped : goal.returns-in_err-write_end-in-Ended-clause-stopped
+returns-in_err-write_end-in-Ended-clause-stopped g c =
+    let m = c.loop-notes in
+    on_err _ c.from_residual-in_err-write_end-in-Ended.result
+    (cut_here_by c.args.guide.now m.guide m.guide c.args.order.now m.order c.args.budget c.args.engine.now.state m.engine.state m.engine.state m.search m.search (left_by m.invariant.0) refl refl (stops_silent refl))
 
 pub returns-in_err-write_end-in-Ended-clause-front : goal.returns-in_err-write_end-in-Ended-clause-front
 returns-in_err-write_end-in-Ended-clause-front g c =
@@ -116,6 +148,12 @@ returns-in_err-write_lemma-in-Undo-clause-err g c =
     on_err _ c.from_residual-in_err-write_lemma-in-Undo.result
     (cut_here (is_some c.args.guide.now) (is_some c.args.order.now) c.args.budget c.args.engine.now.state m m c.loop-notes.search c.loop-notes.search c.loop-notes.invariant.0.by.running refl refl)
 
+pub returns-in_err-write_lemma-in-Undo-clause-stopped : goal.returns-in_err-write_lemma-in-Undo-clause-stopped
+returns-in_err-write_lemma-in-Undo-clause-stopped g c =
+    let m = c.loop-notes in
+    on_err _ c.from_residual-in_err-write_lemma-in-Undo.result
+    (cut_here_by c.args.guide.now m.guide m.guide c.args.order.now m.order c.args.budget c.args.engine.now.state m.engine.state m.engine.state m.search m.search (left_by m.invariant.0) refl refl (stops_silent refl))
+
 pub returns-in_err-write_lemma-in-Undo-clause-front : goal.returns-in_err-write_lemma-in-Undo-clause-front
 returns-in_err-write_lemma-in-Undo-clause-front g c =
     let proving = c.loop-notes.invariant.0 in
@@ -136,6 +174,15 @@ returns-in_err-undo_latest-in-Undo-clause-err g c =
     (cut_undoing (is_some c.args.guide.now) (is_some c.args.order.now) c.args.budget c.args.engine.now.state c.loop-notes.engine.state c.undo_latest.new.engine.state c.loop-notes.search c.undo_latest.new.search c.in-Undo.conflict
     c.loop-notes.invariant.0.by.running next.0 c.in_err-undo_latest-in-Undo.ensures.err)
 
+pub returns-in_err-undo_latest-in-Undo-clause-stopped : goal.returns-in_err-undo_latest-in-Undo-clause-stopped
+returns-in_err-undo_latest-in-Undo-clause-stopped g c =
+    let m = c.loop-notes in
+    let next = subst (IsNext c.args.budget m.engine.state m.search) c.in-Undo.is c.in_ok-end.ensures in
+    let cut = c.in_err-undo_latest-in-Undo.ensures in
+    on_err _ c.from_residual-in_err-undo_latest-in-Undo.result
+    (cut_undoing_by g.G.Guide.answers g.G.Guide.hears g.G.Guide.state c.args.guide.now m.guide c.undo_latest.new.guide c.args.order.now m.order c.args.budget c.args.engine.now.state m.engine.state c.undo_latest.new.engine.state m.search c.undo_latest.new.search
+    c.in-Undo.conflict (left_by m.invariant.0) next.0 next.1 cut.err cut.stopped)
+
 pub returns-in_err-undo_latest-in-Undo-clause-front : goal.returns-in_err-undo_latest-in-Undo-clause-front
 returns-in_err-undo_latest-in-Undo-clause-front g c =
     let proving = c.loop-notes.invariant.0 in
@@ -155,6 +202,18 @@ returns-in_err-note_last-in-Undo-clause-err g c =
     let after = c.undo_latest.new.search in
     let takes = subst (λ b. TakesTurn b turn c.loop-notes.engine.state c.loop-notes.search c.undo_latest.new.engine.state after) so_far.2.guide done.ok.1 in
     on_err _ c.from_residual-in_err-note_last-in-Undo.result (cut_behind so_far.0 turn c.undo_latest.new.engine.state after next.0 takes)
+
+pub returns-in_err-note_last-in-Undo-clause-stopped : goal.returns-in_err-note_last-in-Undo-clause-stopped
+returns-in_err-note_last-in-Undo-clause-stopped g c =
+    let m = c.loop-notes in
+    let next = subst (IsNext c.args.budget m.engine.state m.search) c.in-Undo.is c.in_ok-end.ensures in
+    let done = c.in_ok-undo_latest-in-Undo.ensures in
+    let turn = TurnUndo done.ok.0 c.in-Undo.conflict in
+    let after = c.undo_latest.new.engine.state in
+    let takes = subst (λ b. TakesTurn b turn m.engine.state m.search after c.undo_latest.new.search) m.invariant.2.guide done.ok.1 in
+    on_err _ c.from_residual-in_err-note_last-in-Undo.result
+    (cut_settling_by c.args.guide.now m.guide c.undo_latest.new.guide c.args.order.now m.order m.order c.args.budget c.args.engine.now.state m.engine.state m.search turn after after c.undo_latest.new.search
+    (left_by m.invariant.0) next.0 takes done.told (order_silent m.order after))
 
 -- what was written then
 noted : (g : given.Over) (c : After-from_residual-in_err-note_last-in-Undo g)
@@ -247,6 +306,9 @@ returns-in_err-settle-2 g c =
     record {
       ok = search rules;
       err = on_err _ result (cut_settling guided ordered c.args.budget c.args.engine.now.state m.state before taken.turn c.match-branch-4.engine after c.match-branch-4.search so_far.0.by.running taken.left takes cut);
+      stopped = on_err _ result
+          (cut_settling_by c.args.guide.now c.loop-notes.guide c.match-branch-4.guide c.args.order.now c.loop-notes.order c.settle-in-loop-notes.new.order c.args.budget c.args.engine.now.state m.state before taken.turn c.match-branch-4.engine.state after.state
+          c.match-branch-4.search (left_by so_far.0) taken.left takes taken.step (order_stops c.loop-notes.order c.settle-in-loop-notes.new.order c.match-branch-4.engine after c.in_err-settle-2.ensures.err));
       front = stops.front;
       counted = stops.counted;
       sink = stops.sink;

@@ -175,4 +175,4 @@ pub returns-clause-checks : goal.returns-clause-checks
 returns-clause-checks g c =
     let le : c.self.inside.filtering.checks ≤ LAST_COUNT = omega arith in
     let is = ap (λ (v : View). v.checks) c.self.view_is in
-    (ended g (goal.at.returns-clause-checks g c).In_default).run.asked.checks le ∙ ap (λ (k : ℕ). min (k + (c.loop-taken.steps - c.args.steps.now)) LAST_COUNT) is
+    (ended g (goal.at.returns-clause-checks g c).In_default).run.asked.ticked.checks le ∙ ap (λ (k : ℕ). min (k + (c.loop-taken.steps - c.args.steps.now)) LAST_COUNT) is

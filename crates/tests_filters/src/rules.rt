@@ -1,0 +1,367 @@
+//! The rules by which each kind tells its reasons: which they are, up to which value they are known, and that they are the
+//! reasons once they are written out.
+ghost use Rattle.std.specs.Prelude.{◌≡◌, ◌<◌, [], length, OnOk};
+ghost use Rattle.palm_kind.specs.Kind.{con_of};
+ghost use Rattle.palm_model.specs.Constraint.{IsWellFormed};
+
+use crate::samples::{Sample, con_of};
+use crate::testing::{Question, answers, is_reason, pair, rule_of, take_out_all};
+use palm_base::{NoMemory, Pair, Value, Var};
+use palm_domain::DomainStore;
+use palm_filter::{Filter, Interval, Known, Reasons, Rule, Shift};
+use palm_kind::Kind;
+use palm_model::{Con, Op, number_of};
+use std::alloc::Global;
+use std::test::Fail;
+
+/// A rule, as a table of constants has it: with the number of a variable in place of the variable, and of a list with how many
+/// intervals it has.
+#[derive(Clone, Copy)]
+enum Wanted {
+    Empty,
+    Above(u32, i32),
+    Below(u32, i32),
+    At(u32, i32),
+    Other(u32, i32),
+    Beside(u32),
+    Listed(usize),
+}
+
+fn shift(var: u32, by: i32) -> Shift {
+    Shift { var: Var(var), by }
+}
+
+fn beside(var: u32) -> Rule {
+    Rule::Beside(Var(var))
+}
+
+/// The rule that is wanted.
+fn wanted_rule(wanted: &Wanted) -> Rule {
+    match *wanted {
+        Wanted::Empty => Rule::Empty,
+        Wanted::Above(var, by) => Rule::Above(shift(var, by)),
+        Wanted::Below(var, by) => Rule::Below(shift(var, by)),
+        Wanted::At(var, by) => Rule::At(shift(var, by)),
+        Wanted::Other(var, by) => Rule::Other(shift(var, by)),
+        Wanted::Beside(var) => beside(var),
+        Wanted::Listed(_) => Rule::Listed,
+    }
+}
+
+/// How many intervals the list is to have.
+fn wanted_intervals(wanted: &Wanted) -> usize {
+    match *wanted {
+        Wanted::Listed(count) => count,
+        _ => 0,
+    }
+}
+
+/// The rows of the table of two columns.
+const ROWS: &[(i32, i32)] = &[(1, 2), (7, 1), (7, 3)];
+
+/// How far the pair's value lies above the shifted one.
+fn above(value: &Value, shift: &Shift, at: &Pair) -> i64 {
+    number_of(&at.value) - (number_of(value) + i64::from(shift.by))
+}
+
+/// Whether the pair, whose value stands at the place among the declared ones, is a reason of the value by the rule.
+fn is_by_rule(rule: &Rule, list: &[Interval], value: &Value, at: &Pair, place: usize) -> bool {
+    match rule {
+        Rule::Empty => false,
+        Rule::Above(shift) => shift.var == at.var && above(value, shift, at) >= 0,
+        Rule::Below(shift) => shift.var == at.var && above(value, shift, at) <= 0,
+        Rule::At(shift) => shift.var == at.var && above(value, shift, at) == 0,
+        Rule::Other(shift) => shift.var == at.var && above(value, shift, at) != 0,
+        Rule::Beside(var) => *var == at.var && ROWS.contains(&(value.0, at.value.0)),
+        Rule::Listed => list
+            .iter()
+            .any(|i| i.var == at.var && i.first <= place && place < i.end),
+    }
+}
+
+/// Appends the reasons of the value by the rule among the declared pairs of the variable.
+fn push_written(
+    store: &DomainStore,
+    var: Var,
+    known: &Known,
+    list: &[Interval],
+    value: &Value,
+    out: &mut Reasons,
+) -> Result<(), NoMemory>
+    requires { var < length store.now }
+{
+    let values = store.initial_values(var);
+    for place in 0..values.len() {
+        let at = Pair {
+            var,
+            value: values[place],
+        };
+        if is_by_rule(&known.rule, list, value, &at, place) {
+            out.push(at)?;
+        }
+    }
+    Ok(())
+}
+
+/// The reasons of the value by the rule, of one variable after another.
+fn written(
+    alloc: Global,
+    store: &DomainStore,
+    known: &Known,
+    list: &[Interval],
+    value: &Value,
+) -> Result<Reasons, NoMemory> {
+    let mut out = Reasons::new(alloc);
+    for var in 0..store.variables() {
+        push_written(store, Var(var), known, list, value, &mut out)?;
+    }
+    Ok(out)
+}
+
+/// What a sample's constraint is asked: a variable and its value, the rule, the last value that it is known of, and the reasons.
+type Case<'a> = (Sample, (u32, i32), Wanted, i32, &'a [(u32, i32)]);
+
+/// The pairs of variables and values by their numbers.
+fn pairs_of(alloc: Global, numbers: &[(u32, i32)]) -> Result<Reasons, NoMemory> {
+    let mut pairs = Reasons::new(alloc);
+    for (var, value) in numbers {
+        pairs.push(pair(*var, *value))?;
+    }
+    Ok(pairs)
+}
+
+/// Whether the filter tells the reasons by the rule that is wanted, and they are these.
+fn tells_rule(
+    alloc: Global,
+    kind: &Kind,
+    store: &DomainStore,
+    asked: &Pair,
+    wanted: &Wanted,
+    last: i32,
+    reasons: &[Pair],
+) -> Result<bool, NoMemory>
+    requires { IsWellFormed (length store.now) (con_of kind.now) }
+{
+    if !kind.scope().as_slice().contains(&asked.var) {
+        return Ok(false);
+    }
+    let Some((known, list)) = rule_of(alloc, kind, store, asked)? else {
+        return Ok(false);
+    };
+    let out = written(alloc, store, &known, list.as_slice(), &asked.value)?;
+    Ok(
+        known.rule == wanted_rule(wanted)
+            && list.len() == wanted_intervals(wanted)
+            && known.last.0 == last
+            && out.as_slice() == reasons,
+    )
+}
+
+/// The same of a constraint, beside the reason that its filter writes.
+fn tells(
+    alloc: Global,
+    store: &DomainStore,
+    con: &Con,
+    asked: &Pair,
+    wanted: &Wanted,
+    last: i32,
+    reasons: &[Pair],
+) -> Result<bool, NoMemory>
+    requires formed { IsWellFormed 3 con.now }
+    requires variables { length store.now ≡ 3 }
+{
+    let kind = Kind::from_con(alloc, con)?;
+    Ok(
+        is_reason(alloc, &kind, store, asked, reasons)?
+            && tells_rule(alloc, &kind, store, asked, wanted, last, reasons)?,
+    )
+}
+
+/// Whether the sample's constraint tells what the case has.
+fn is_told(alloc: Global, store: &DomainStore, case: &Case) -> Result<bool, NoMemory>
+    requires { length store.now ≡ 3 }
+{
+    let (sample, (var, value), wanted, last, reasons) = case;
+    let reasons = pairs_of(alloc, reasons)?;
+    match con_of(alloc, sample)? {
+        Some(con) => tells(
+            alloc,
+            store,
+            &con,
+            &pair(*var, *value),
+            wanted,
+            *last,
+            reasons.as_slice(),
+        ),
+        None => Ok(false),
+    }
+}
+
+/// Declares x, y and z with the values 1, 2, 3 and 7 in a fresh store.
+fn declare_three(store: &mut DomainStore) -> Result<(), NoMemory>
+    requires { store.old ≡ [] }
+    ensures { OnOk result (length store.new ≡ 3) }
+{
+    store.add_variable(&[Value(1), Value(2), Value(3), Value(7)])?;
+    store.add_variable(&[Value(1), Value(2), Value(3), Value(7)])?;
+    store.add_variable(&[Value(1), Value(2), Value(3), Value(7)])?;
+    Ok(())
+}
+
+/// What the kinds tell where x has the values 1, 2 and 7, y has 2, and z has 1 and 2, of 1, 2, 3 and 7 each.
+const CASES: &[Case] = &[
+    (
+        Sample::Variables(Op::Lt, 0),
+        (0, 2),
+        Wanted::Above(1, 1),
+        i32::MAX,
+        &[(1, 3), (1, 7)],
+    ),
+    (
+        Sample::Variables(Op::Le, -1),
+        (0, 2),
+        Wanted::Above(1, 1),
+        i32::MAX,
+        &[(1, 3), (1, 7)],
+    ),
+    (
+        Sample::Variables(Op::Gt, 0),
+        (0, 2),
+        Wanted::Below(1, -1),
+        i32::MAX,
+        &[(1, 1)],
+    ),
+    (
+        Sample::Variables(Op::Ge, 1),
+        (0, 2),
+        Wanted::Below(1, -1),
+        i32::MAX,
+        &[(1, 1)],
+    ),
+    (
+        Sample::Variables(Op::Eq, 1),
+        (0, 2),
+        Wanted::At(1, -1),
+        i32::MAX,
+        &[(1, 1)],
+    ),
+    (
+        Sample::Variables(Op::Eq, 1),
+        (1, 2),
+        Wanted::At(0, 1),
+        i32::MAX,
+        &[(0, 3)],
+    ),
+    (
+        Sample::Variables(Op::Ne, 5),
+        (0, 7),
+        Wanted::Other(1, -5),
+        i32::MAX,
+        &[(1, 1), (1, 3), (1, 7)],
+    ),
+    (
+        Sample::Constant(Op::Lt, 5),
+        (0, 7),
+        Wanted::Empty,
+        i32::MAX,
+        &[],
+    ),
+    (Sample::Within, (0, 1), Wanted::Empty, i32::MAX, &[]),
+    (
+        Sample::Differ,
+        (0, 2),
+        Wanted::Other(1, 0),
+        2,
+        &[(1, 1), (1, 3), (1, 7)],
+    ),
+    (
+        Sample::Total(Op::Le, 3),
+        (0, 2),
+        Wanted::Listed(1),
+        i32::MAX,
+        &[(1, 1)],
+    ),
+    (
+        Sample::Sum(Op::Ge),
+        (0, 1),
+        Wanted::Listed(1),
+        i32::MAX,
+        &[(1, 1)],
+    ),
+    (
+        Sample::Total(Op::Eq, 5),
+        (0, 1),
+        Wanted::Listed(1),
+        1,
+        &[(1, 3), (1, 7)],
+    ),
+    (
+        Sample::Total(Op::Eq, 5),
+        (0, 7),
+        Wanted::Listed(1),
+        7,
+        &[(1, 1)],
+    ),
+    (
+        Sample::Total(Op::Ne, 4),
+        (0, 2),
+        Wanted::Listed(2),
+        i32::MAX,
+        &[(1, 1), (1, 3), (1, 7)],
+    ),
+    (
+        Sample::Count(Op::Ge),
+        (0, 1),
+        Wanted::Listed(1),
+        6,
+        &[(1, 7)],
+    ),
+    (
+        Sample::CountVariable(Op::Eq),
+        (2, 2),
+        Wanted::Listed(1),
+        6,
+        &[(1, 7)],
+    ),
+    (Sample::Count(Op::Lt), (0, 7), Wanted::Listed(0), 7, &[]),
+    (
+        Sample::Table,
+        (0, 7),
+        Wanted::Beside(1),
+        i32::MAX,
+        &[(1, 1), (1, 3)],
+    ),
+    (Sample::WideTable, (0, 7), Wanted::Listed(1), 7, &[(2, 3)]),
+    (Sample::Element, (2, 2), Wanted::Listed(1), 2, &[(0, 3)]),
+    (Sample::Element, (0, 1), Wanted::Listed(1), 1, &[(2, 3)]),
+];
+
+/// Whether each kind tells what the cases have.
+struct Told;
+
+impl Question for Told {
+    fn is_answered(&self, alloc: Global, store: &mut DomainStore) -> Result<bool, NoMemory> {
+        declare_three(store)?;
+        let removed = [
+            pair(0, 3),
+            pair(1, 1),
+            pair(1, 3),
+            pair(1, 7),
+            pair(2, 3),
+            pair(2, 7),
+        ];
+        take_out_all(store, &removed);
+        for case in CASES {
+            if !is_told(alloc, store, case)? {
+                return Ok(false);
+            }
+        }
+        Ok(true)
+    }
+}
+
+#[test]
+fn reasons_are_told_by_these_rules(rt: HostRuntime) -> Result<(), Fail> {
+    assert!(rt; answers(rt.alloc(), &Told)?);
+    Ok(())
+}

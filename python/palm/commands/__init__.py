@@ -1,0 +1,1 @@
+"""The commands of the package: `palm-solve`, `palm-script` and `minimal-none`."""
