@@ -7,6 +7,7 @@ use palm_agenda::{Agenda, LastOrder, Loss, Mark, Order, RotateOrder, Taken};
 use palm_base::{Cid, NoMemory, Value, Var};
 use palm_filter::Heed;
 use std::alloc::Global;
+use std::process::Abort;
 use std::test::Fail;
 
 fn decision() -> Cid
@@ -65,19 +66,21 @@ fn loss() -> Loss {
     }
 }
 
-/// Whether both are handed out by rising name, and then nothing.
-fn hands_out_by_name(agenda: &mut Agenda) -> bool
+/// Asserts that both are handed out by rising name, and then nothing.
+fn hand_out_by_name(rt: &impl Abort, agenda: &mut Agenda)
     ensures { agenda.new.connected ≡ agenda.old.connected }
 {
     let mut order: Option<LastOrder> = None;
     let first = agenda.take(&mut order);
     let second = agenda.take(&mut order);
     let third = agenda.take(&mut order);
-    first == Some(taken_decision()) && second == Some(taken_user()) && third.is_none()
+    assert_eq!(rt; first, Some(taken_decision()), "the first");
+    assert_eq!(rt; second, Some(taken_user()), "the second");
+    assert_eq!(rt; third, None, "the third");
 }
 
-/// Whether the user's is handed out where an order answers the last of both, and again where one answers the second.
-fn hands_out_as_answered(agenda: &mut Agenda) -> bool
+/// Asserts that the user's is handed out where an order answers the last of both, and again where one answers the second.
+fn hand_out_as_answered(rt: &impl Abort, agenda: &mut Agenda)
     requires { IsStanding agenda.old.connected (record { cid = Cid.Decide 2; at = 0 }) }
     ensures { IsConnected agenda.new.connected (Cid.Decide 2) }
 {
@@ -90,37 +93,39 @@ fn hands_out_as_answered(agenda: &mut Agenda) -> bool
     turned.ran(user(), 0);
     let mut rotate = Some(turned);
     let second = agenda.take(&mut rotate);
-    first == Some(taken_user()) && second == Some(taken_user())
+    assert_eq!(rt; first, Some(taken_user()), "the last");
+    assert_eq!(rt; second, Some(taken_user()), "the one behind the user's");
 }
 
-/// Whether the decision alone is pending.
-fn is_decision_left(agenda: &mut Agenda) -> bool
+/// Asserts that the decision alone is pending.
+fn drop_decision(rt: &impl Abort, agenda: &mut Agenda)
     requires { IsConnected agenda.old.connected (Cid.Decide 2) }
 {
-    let pending = !agenda.is_empty();
+    assert!(rt; !agenda.is_empty(), "nothing is pending");
     agenda.disconnect(decision());
-    pending && agenda.is_empty()
+    assert!(rt; agenda.is_empty(), "more than the decision is pending");
 }
 
-/// Whether the agenda hands out what is woken.
-fn hands_out_what_woke(alloc: Global, agenda: &mut Agenda) -> Result<bool, NoMemory>
+/// Asserts that the agenda hands out what is woken.
+fn hand_out_what_woke(rt: &impl Abort, alloc: Global, agenda: &mut Agenda) -> Result<(), NoMemory>
     requires { agenda.old.connected ≡ [] }
 {
     connect_two(alloc, agenda, heeds_of(alloc, Heed::Each, 3)?)?;
-    let by_name = hands_out_by_name(agenda);
-    let as_answered = hands_out_as_answered(agenda);
-    Ok(by_name && as_answered && is_decision_left(agenda))
+    hand_out_by_name(rt, agenda);
+    hand_out_as_answered(rt, agenda);
+    drop_decision(rt, agenda);
+    Ok(())
 }
 
 /// The same of a new agenda.
-fn is_handed_out(alloc: Global) -> Result<bool, NoMemory> {
+fn hand_out_anew(rt: &impl Abort, alloc: Global) -> Result<(), NoMemory> {
     let mut agenda = Agenda::new(alloc);
-    hands_out_what_woke(alloc, &mut agenda)
+    hand_out_what_woke(rt, alloc, &mut agenda)
 }
 
 #[test]
 fn woken_constraints_are_handed_out(rt: HostRuntime) -> Result<(), Fail> {
-    assert!(rt; is_handed_out(rt.alloc())?);
+    hand_out_anew(&rt, rt.alloc())?;
     Ok(())
 }
 
@@ -143,69 +148,69 @@ fn between(low: i32, high: i32) -> Mark {
     }
 }
 
-/// Whether a value of the first variable that is put back marks its own places, and no other.
-fn marks_what_came_back(agenda: &mut Agenda) -> bool
+/// The marks of the user's places where the values 2 and 4 of the first variable, and what lies between, are put back.
+fn marks_of_restored(alloc: Global, agenda: &mut Agenda) -> Result<Vec<Mark>, NoMemory>
     requires { IsStanding agenda.old.connected (record { cid = Cid.User 70000; at = 1 }) }
 {
     agenda.wake_restored(Var(0), Value(2), Value(4));
-    agenda.marks(&taken_user()) == [between(2, 4), Mark::Clear, between(2, 4)].as_slice()
+    Ok(Vec::from_slice(alloc, agenda.marks(&taken_user()))?)
 }
 
-/// Whether the marks of the user's, all taken away, follow what comes back.
-fn follows_what_came_back(alloc: Global, agenda: &mut Agenda) -> Result<bool, NoMemory>
+/// The same where both constraints are connected first, and the marks taken away.
+fn marks_after_return(alloc: Global, agenda: &mut Agenda) -> Result<Vec<Mark>, NoMemory>
     requires { agenda.old.connected ≡ [] }
 {
     connect_two(alloc, agenda, heeds_of(alloc, Heed::Each, 3)?)?;
     unmark_user(agenda);
-    Ok(marks_what_came_back(agenda))
+    marks_of_restored(alloc, agenda)
 }
 
 /// The same of a new agenda.
-fn comes_back_marked(alloc: Global) -> Result<bool, NoMemory> {
+fn restored_marks(alloc: Global) -> Result<Vec<Mark>, NoMemory> {
     let mut agenda = Agenda::new(alloc);
-    follows_what_came_back(alloc, &mut agenda)
+    marks_after_return(alloc, &mut agenda)
 }
 
 #[test]
 fn marks_follow_what_came_back(rt: HostRuntime) -> Result<(), Fail> {
-    assert!(rt; comes_back_marked(rt.alloc())?);
+    let expected = [between(2, 4), Mark::Clear, between(2, 4)];
+    assert_eq!(rt; restored_marks(rt.alloc())?.as_slice(), expected.as_slice());
     Ok(())
 }
 
-/// Whether the places of the first variable stay clear where values of it are lost, and that of the other variable is marked so.
-fn marks_what_is_lost(agenda: &mut Agenda, losses: &[Loss], mark: &Mark) -> bool
+/// The marks of the user's places where these values of the first variable are lost.
+fn marks_of_lost(alloc: Global, agenda: &mut Agenda, losses: &[Loss]) -> Result<Vec<Mark>, NoMemory>
     requires { IsStanding agenda.old.connected (record { cid = Cid.User 70000; at = 1 }) }
 {
     for loss in losses {
         agenda.wake(Var(0), *loss);
     }
-    agenda.marks(&taken_user()) == [Mark::Clear, *mark, Mark::Clear].as_slice()
+    Ok(Vec::from_slice(alloc, agenda.marks(&taken_user()))?)
 }
 
-/// Whether the marks of the user's, all taken away, follow what is lost, where losses are heeded so.
-fn follows_what_is_lost(
+/// The same where both constraints are connected first, the user's with these heeds, and the marks taken away.
+fn marks_after_losses(
     alloc: Global,
     agenda: &mut Agenda,
     heeds: Vec<Heed>,
     losses: &[Loss],
-    mark: &Mark,
-) -> Result<bool, NoMemory>
+) -> Result<Vec<Mark>, NoMemory>
     requires { agenda.old.connected ≡ [] }
 {
     connect_two(alloc, agenda, heeds)?;
     unmark_user(agenda);
-    Ok(marks_what_is_lost(agenda, losses, mark))
+    marks_of_lost(alloc, agenda, losses)
 }
 
 /// The same of a new agenda.
-fn are_heeded(
-    alloc: Global,
-    heeds: Vec<Heed>,
-    losses: &[Loss],
-    mark: &Mark,
-) -> Result<bool, NoMemory> {
+fn lost_marks(alloc: Global, heeds: Vec<Heed>, losses: &[Loss]) -> Result<Vec<Mark>, NoMemory> {
     let mut agenda = Agenda::new(alloc);
-    follows_what_is_lost(alloc, &mut agenda, heeds, losses, mark)
+    marks_after_losses(alloc, &mut agenda, heeds, losses)
+}
+
+/// The places of the first variable stay clear, and that of the other variable is marked so.
+fn at_other(mark: Mark) -> [Mark; 3] {
+    [Mark::Clear, mark, Mark::Clear]
 }
 
 /// The losses of the least value, of the greatest one, and one that leaves a single value below it.
@@ -239,8 +244,9 @@ fn loss_of(value: i32) -> Loss {
     }
 }
 
-/// Whether each heed marks for exactly the losses that it names.
-fn heeds_are_kept(alloc: Global) -> Result<bool, NoMemory> {
+// Each heed marks for exactly the losses that it names.
+#[test]
+fn marks_follow_the_losses_that_are_heeded(rt: HostRuntime) -> Result<(), Fail> {
     let rows: [(Heed, &[Loss], Mark); 20] = [
         (Heed::Each, &[loss()], Mark::Whole),
         (Heed::Least, &[loss()], Mark::Clear),
@@ -268,29 +274,26 @@ fn heeds_are_kept(alloc: Global) -> Result<bool, NoMemory> {
         (Heed::Shifted(-3), &[loss_of(i32::MIN + 2)], Mark::Whole),
     ];
     for (heed, losses, mark) in &rows {
-        if !are_heeded(alloc, heeds_of(alloc, *heed, 3)?, losses, mark)? {
-            return Ok(false);
-        }
+        let got = lost_marks(rt.alloc(), heeds_of(rt.alloc(), *heed, 3)?, losses)?;
+        assert_eq!(rt;
+            got.as_slice(),
+            at_other(*mark).as_slice(),
+            "{heed:?} of {losses:?}"
+        );
     }
-    Ok(true)
-}
-
-#[test]
-fn marks_follow_the_losses_that_are_heeded(rt: HostRuntime) -> Result<(), Fail> {
-    assert!(rt; heeds_are_kept(rt.alloc())?);
     Ok(())
 }
 
-/// Whether a loss that the heed of the variable's place leaves alone marks where no heed is told of the place.
-fn heeds_what_is_untold(alloc: Global) -> Result<bool, NoMemory> {
-    let first = heeds_of(alloc, Heed::Least, 1)?;
-    let told = are_heeded(alloc, first, &[loss()], &Mark::Clear)?;
-    let untold = are_heeded(alloc, Vec::new(alloc), &[loss()], &Mark::Whole)?;
-    Ok(told && untold)
-}
-
+// A loss that the heed of the variable's place leaves alone marks where no heed is told of the place.
 #[test]
 fn losses_are_heeded_where_nothing_is_told(rt: HostRuntime) -> Result<(), Fail> {
-    assert!(rt; heeds_what_is_untold(rt.alloc())?);
+    let told = lost_marks(rt.alloc(), heeds_of(rt.alloc(), Heed::Least, 1)?, &[loss()])?;
+    assert_eq!(rt; told.as_slice(), at_other(Mark::Clear).as_slice(), "told");
+    let untold = lost_marks(rt.alloc(), Vec::new(rt.alloc()), &[loss()])?;
+    assert_eq!(rt;
+        untold.as_slice(),
+        at_other(Mark::Whole).as_slice(),
+        "untold"
+    );
     Ok(())
 }

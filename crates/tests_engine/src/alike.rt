@@ -1,4 +1,5 @@
-//! Whether two engines show the same: their logs, their values, how many revisions ran, and which variable is empty.
+//! What two engines show alike: their logs, their values, how many revisions ran, and which variable is empty. Each function has
+//! what a failed assertion names beside these.
 ghost use Rattle.std.specs.Prelude.{◌<◌, length};
 
 use palm_base::{Pair, Var};
@@ -6,84 +7,104 @@ use palm_domain::DomainStore;
 use palm_engine::Engine;
 use palm_explain::ExplainStore;
 use palm_filter::Filter;
+use std::fmt::Debug;
+use std::process::Abort;
 
-/// Whether the removals at the place have the same reasons.
-fn has_same_reasons(one: &ExplainStore, other: &ExplainStore, place: usize) -> bool
-    requires one { place < length one.now.log }
-    requires other { place < length other.now.log }
+/// Asserts that the removals at the place are of one pair, by one constraint and for the same reasons.
+fn assert_same_removal(
+    rt: &impl Abort,
+    at: &impl Debug,
+    got: &ExplainStore,
+    expected: &ExplainStore,
+    place: usize,
+)
+    requires got { place < length got.now.log }
+    requires expected { place < length expected.now.log }
 {
-    let count = one.reasons_at(place);
-    if other.reasons_at(place) != count {
-        return false;
-    }
+    assert_eq!(rt;
+        got.pair_at(place),
+        expected.pair_at(place),
+        "removal {place}, {at:?}"
+    );
+    assert_eq!(rt;
+        got.by_at(place),
+        expected.by_at(place),
+        "removal {place}, {at:?}"
+    );
+    let count = expected.reasons_at(place);
+    assert_eq!(rt;
+        got.reasons_at(place),
+        count,
+        "reasons of removal {place}, {at:?}"
+    );
     for index in 0..count {
-        if one.reason_at(place, index) != other.reason_at(place, index) {
-            return false;
-        }
+        let reason = expected.reason_at(place, index);
+        assert_eq!(rt;
+            got.reason_at(place, index),
+            reason,
+            "removal {place}, {at:?}"
+        );
     }
-    true
 }
 
-/// Whether the removals at the place are of one pair, by one constraint and for the same reasons.
-fn has_same_removal(one: &ExplainStore, other: &ExplainStore, place: usize) -> bool
-    requires one { place < length one.now.log }
-    requires other { place < length other.now.log }
+/// Asserts that the logs have the same removals in the same order.
+fn assert_same_log(rt: &impl Abort, at: &impl Debug, got: &ExplainStore, expected: &ExplainStore) {
+    assert_eq!(rt; got.removals(), expected.removals(), "removals, {at:?}");
+    for place in 0..expected.removals() {
+        assert_same_removal(rt, at, got, expected, place);
+    }
+}
+
+/// Asserts that the variable has the same declared values and the same present ones.
+fn assert_same_values(
+    rt: &impl Abort,
+    at: &impl Debug,
+    got: &DomainStore,
+    expected: &DomainStore,
+    var: Var,
+)
+    requires got { var < length got.now }
+    requires expected { var < length expected.now }
 {
-    one.pair_at(place) == other.pair_at(place)
-        && one.by_at(place) == other.by_at(place)
-        && has_same_reasons(one, other, place)
-}
-
-/// Whether the logs have the same removals in the same order.
-fn has_same_log(one: &ExplainStore, other: &ExplainStore) -> bool {
-    let count = one.removals();
-    if other.removals() != count {
-        return false;
-    }
-    for place in 0..count {
-        if !has_same_removal(one, other, place) {
-            return false;
-        }
-    }
-    true
-}
-
-/// Whether the variable has the same declared values and the same present ones.
-fn has_same_values(one: &DomainStore, other: &DomainStore, var: Var) -> bool
-    requires one { var < length one.now }
-    requires other { var < length other.now }
-{
-    let values = one.initial_values(var);
-    if other.initial_values(var) != values {
-        return false;
-    }
+    let values = expected.initial_values(var);
+    assert_eq!(rt; got.initial_values(var), values, "{var:?}, {at:?}");
     for value in values {
         let value = *value;
-        if one.contains(Pair { var, value }) != other.contains(Pair { var, value }) {
-            return false;
-        }
+        let present = expected.contains(Pair { var, value });
+        assert_eq!(rt;
+            got.contains(Pair { var, value }),
+            present,
+            "{var:?} {value:?}, {at:?}"
+        );
     }
-    true
 }
 
-/// Whether all variables have the same values.
-fn has_same_domains(one: &DomainStore, other: &DomainStore) -> bool {
-    let count = one.variables();
-    if other.variables() != count {
-        return false;
+/// Asserts that all variables have the same values.
+fn assert_same_domains(
+    rt: &impl Abort,
+    at: &impl Debug,
+    got: &DomainStore,
+    expected: &DomainStore,
+) {
+    assert_eq!(rt; got.variables(), expected.variables(), "variables, {at:?}");
+    for var in 0..expected.variables() {
+        assert_same_values(rt, at, got, expected, Var(var));
     }
-    for var in 0..count {
-        if !has_same_values(one, other, Var(var)) {
-            return false;
-        }
-    }
-    true
 }
 
-/// Whether both engines show the same.
-pub fn are_alike<F: Filter, G: Filter>(one: &Engine<F>, other: &Engine<G>) -> bool {
-    one.revisions() == other.revisions()
-        && one.empty_variable() == other.empty_variable()
-        && has_same_log(one.log(), other.log())
-        && has_same_domains(one.store(), other.store())
+/// Asserts that both engines show the same.
+pub fn assert_alike<F: Filter, G: Filter>(
+    rt: &impl Abort,
+    at: &impl Debug,
+    got: &Engine<F>,
+    expected: &Engine<G>,
+) {
+    assert_eq!(rt; got.revisions(), expected.revisions(), "revisions, {at:?}");
+    assert_eq!(rt;
+        got.empty_variable(),
+        expected.empty_variable(),
+        "the empty variable, {at:?}"
+    );
+    assert_same_log(rt, at, got.log(), expected.log());
+    assert_same_domains(rt, at, got.store(), expected.store());
 }

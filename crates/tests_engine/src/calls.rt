@@ -7,18 +7,17 @@ ghost use Rattle.palm_model.specs.Domains.{Has};
 ghost use Rattle.palm_model.specs.Log.{IsActive};
 ghost use Rattle.palm_model.specs.State.{IsJustifier, present};
 
-use crate::choice::{Choice, run_settling};
 use crate::samples::{Sample, con_of};
-use palm_base::{Cid, CidList, NoMemory, Pair, Value, Var};
+use palm_base::{Cid, CidList, NoMemory, Pair, Value, ValueList, Var};
 use palm_domain::DomainStore;
-use palm_engine::{Engine, Settle};
+use palm_engine::Engine;
 use palm_filter::Filter;
 use palm_kind::Kind;
 use palm_model::Con;
 use std::alloc::Global;
 
 /// The values of a variable.
-#[derive(Clone, Copy)]
+#[derive(Clone, Copy, Debug)]
 pub enum Span {
     /// 1 and 2.
     OneToTwo,
@@ -224,98 +223,70 @@ pub fn withdraw<F: Filter>(engine: &mut Engine<F>, cid: &Cid) -> bool {
     true
 }
 
-/// Whether a settling ends so.
-pub fn settles(
+/// The present values of the variable, where it is declared.
+pub fn values_of(
     alloc: Global,
-    engine: &mut Engine<Kind>,
-    choice: &Choice,
-    limit: Option<u64>,
-    end: &Settle,
-) -> Result<bool, NoMemory> {
-    Ok(run_settling(alloc, engine, choice, limit)? == *end)
-}
-
-/// Whether a settling ends with nothing pending, by no revision and with no question to a filter.
-pub fn rests(alloc: Global, engine: &mut Engine<Kind>, choice: &Choice) -> Result<bool, NoMemory> {
-    let checks = engine.checks();
-    Ok(
-        settles(alloc, engine, choice, None, &Settle::Settled)?
-            && engine.revisions() == 0
-            && engine.checks() == checks,
-    )
-}
-
-/// Whether exactly these values of the variable are present.
-pub fn has_values(store: &DomainStore, var: u32, values: &[Value]) -> bool {
-    if var >= store.variables() || store.count(Var(var)) as usize != values.len() {
-        return false;
-    }
-    for value in values {
-        if !store.contains(Pair {
-            var: Var(var),
-            value: *value,
-        }) {
-            return false;
-        }
-    }
-    true
-}
-
-/// Whether exactly the values from the first to the second are present of the variable.
-pub fn has_range(store: &DomainStore, var: u32, least: i32, most: i32) -> bool {
+    store: &DomainStore,
+    var: u32,
+) -> Result<Option<ValueList>, NoMemory> {
     if var >= store.variables() {
-        return false;
+        return Ok(None);
     }
-    let mut count = 0_u32;
-    for value in least..most.saturating_add(1) {
-        if !store.contains(pair(var, value)) {
-            return false;
+    let mut present = ValueList::new(alloc);
+    for value in store.initial_values(Var(var)) {
+        if store.contains(pair(var, value.0)) {
+            present.push(*value)?;
         }
-        count = count.saturating_add(1);
     }
-    store.count(Var(var)) == count
+    Ok(Some(present))
 }
 
-/// Whether the names of the list, with each negation replaced by its justification, are these, which are written to `out`.
-fn has_flat<F: Filter>(
+/// The values from the first to the second.
+pub fn range_of(alloc: Global, least: i32, most: i32) -> Result<ValueList, NoMemory> {
+    let mut values = ValueList::new(alloc);
+    for value in least..most.saturating_add(1) {
+        values.push(Value(value))?;
+    }
+    Ok(values)
+}
+
+/// The names, with each negation replaced by its justification, which are written to `out`.
+fn write_flat<F: Filter>(
     engine: &Engine<F>,
     names: &CidList,
-    flat: &[Cid],
     out: &mut CidList,
-) -> Result<bool, NoMemory>
+) -> Result<(), NoMemory>
     requires { All (IsActive engine.now.state.active) names.now }
 {
-    engine.flat(names, out)?;
-    Ok(out.as_slice() == flat)
+    engine.flat(names, out)
 }
 
-/// Whether the names, with each negation replaced by its justification, are these.
-pub fn is_flat<F: Filter>(
+/// The names, with each negation replaced by its justification, where they are of active constraints.
+pub fn flat_of<F: Filter>(
     alloc: Global,
     engine: &Engine<F>,
     names: &[Cid],
-    flat: &[Cid],
-) -> Result<bool, NoMemory> {
+) -> Result<Option<CidList>, NoMemory> {
     if !are_active(engine, names) {
-        return Ok(false);
+        return Ok(None);
     }
     let list = CidList::from_slice(alloc, names)?;
     let mut out = CidList::new(alloc);
-    has_flat(engine, &list, flat, &mut out)
+    write_flat(engine, &list, &mut out)?;
+    Ok(Some(out))
 }
 
-/// Whether a variable has no value left, and these are the constraints of the conflict.
-pub fn is_conflict<F: Filter>(
+/// The constraints of the conflict, where a variable has no value left.
+pub fn conflict_of<F: Filter>(
     alloc: Global,
     engine: &Engine<F>,
-    names: &[Cid],
-) -> Result<bool, NoMemory> {
+) -> Result<Option<CidList>, NoMemory> {
     match engine.empty_variable() {
         Some(_) => {
             let mut out = CidList::new(alloc);
             engine.conflict(&mut out)?;
-            Ok(out.as_slice() == names)
+            Ok(Some(out))
         }
-        None => Ok(false),
+        None => Ok(None),
     }
 }

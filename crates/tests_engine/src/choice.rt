@@ -10,7 +10,7 @@ use std::marker::{Brand, Model};
 use std::sync::ledger::{Blank, Ledger};
 
 /// Which object chooses what is revised next.
-#[derive(Clone, Copy)]
+#[derive(Clone, Copy, Debug)]
 pub enum Choice {
     /// None.
     Least,

@@ -2,12 +2,13 @@
 ghost use Rattle.std.specs.Prelude.{◌≤◌, length};
 
 use crate::calls::{Span, pair};
-use crate::cases::{Step, Users, is_case};
+use crate::cases::{Step, Users, run_case};
 use crate::choice::Choice;
 use crate::removals::{Because, removed};
 use crate::samples::Sample;
 use palm_base::{Cid, NoMemory};
 use std::alloc::Global;
+use std::process::Abort;
 use std::test::Fail;
 
 /// The variables by their places.
@@ -45,7 +46,7 @@ fn counts_tell_why(rt: HostRuntime) -> Result<(), Fail> {
         Step::Settle,
         Step::Log(&log),
     ];
-    assert!(rt; is_case(rt.alloc(), &Choice::Least, &steps)?);
+    run_case(&rt, rt.alloc(), &Choice::Least, &steps)?;
     Ok(())
 }
 
@@ -65,7 +66,7 @@ fn tables_tell_why(rt: HostRuntime) -> Result<(), Fail> {
         Step::Settle,
         Step::Log(&log),
     ];
-    assert!(rt; is_case(rt.alloc(), &Choice::Least, &steps)?);
+    run_case(&rt, rt.alloc(), &Choice::Least, &steps)?;
     Ok(())
 }
 
@@ -89,12 +90,17 @@ fn a_conflict_names_what_was_there_first(rt: HostRuntime) -> Result<(), Fail> {
         Step::Empty(Y),
         Step::Conflict(Users::Three(2, 3, 4)),
     ];
-    assert!(rt; is_case(rt.alloc(), &Choice::Least, &steps)?);
+    run_case(&rt, rt.alloc(), &Choice::Least, &steps)?;
     Ok(())
 }
 
-/// Whether the engine settles the constraints to the domains of the slow way, and so it does without the first.
-fn agrees(alloc: Global, samples: &[Sample], choice: &Choice) -> Result<bool, NoMemory>
+/// Asserts that the engine settles the constraints to the domains of the slow way, and so it does without the first.
+fn assert_agrees(
+    rt: &impl Abort,
+    alloc: Global,
+    samples: &[Sample],
+    choice: &Choice,
+) -> Result<(), NoMemory>
     requires { 1 ≤ length samples.now }
 {
     let others = &samples[1..];
@@ -107,42 +113,44 @@ fn agrees(alloc: Global, samples: &[Sample], choice: &Choice) -> Result<bool, No
         Step::Settle,
         Step::Slow(others),
     ];
-    is_case(alloc, choice, &steps)
+    run_case(rt, alloc, choice, &steps)
 }
 
 /// The same, without an order and with each.
-fn agrees_in_every_order(alloc: Global, samples: &[Sample]) -> Result<bool, NoMemory>
+fn assert_agrees_in_every_order(
+    rt: &impl Abort,
+    alloc: Global,
+    samples: &[Sample],
+) -> Result<(), NoMemory>
     requires { 1 ≤ length samples.now }
 {
-    Ok(
-        agrees(alloc, samples, &Choice::Least)?
-            && agrees(alloc, samples, &Choice::Last)?
-            && agrees(alloc, samples, &Choice::Rotate)?,
-    )
+    assert_agrees(rt, alloc, samples, &Choice::Least)?;
+    assert_agrees(rt, alloc, samples, &Choice::Last)?;
+    assert_agrees(rt, alloc, samples, &Choice::Rotate)
 }
 
 #[test]
 fn the_engine_and_the_slow_way_agree(rt: HostRuntime) -> Result<(), Fail> {
     let alloc = rt.alloc();
     let first = [Sample::Less(X, Y), Sample::Sum, Sample::Count];
-    assert!(rt; agrees_in_every_order(alloc, &first)?);
+    assert_agrees_in_every_order(&rt, alloc, &first)?;
     let second = [Sample::Other(X, 1), Sample::Table, Sample::Element];
-    assert!(rt; agrees_in_every_order(alloc, &second)?);
+    assert_agrees_in_every_order(&rt, alloc, &second)?;
     let third = [
         Sample::Only(X, 2),
         Sample::Differ,
         Sample::Sum,
         Sample::Count,
     ];
-    assert!(rt; agrees_in_every_order(alloc, &third)?);
+    assert_agrees_in_every_order(&rt, alloc, &third)?;
     let fourth = [
         Sample::Same(Z, N),
         Sample::Less(X, Z),
         Sample::Element,
         Sample::Differ,
     ];
-    assert!(rt; agrees_in_every_order(alloc, &fourth)?);
+    assert_agrees_in_every_order(&rt, alloc, &fourth)?;
     let fifth = [Sample::Within, Sample::Table, Sample::Less(Z, Y)];
-    assert!(rt; agrees_in_every_order(alloc, &fifth)?);
+    assert_agrees_in_every_order(&rt, alloc, &fifth)?;
     Ok(())
 }

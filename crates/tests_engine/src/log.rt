@@ -3,12 +3,13 @@ ghost use Rattle.std.specs.Prelude.{◌≡◌, [], true, All, Contains, OnOk};
 ghost use Rattle.palm_explain.specs.Explanations.{LacksExactly};
 ghost use Rattle.palm_model.specs.Log.{log_pairs};
 
-use crate::calls::{has_values, pair};
-use crate::removals::{Because, has_removals, is_explained, is_removed, removed};
-use palm_base::{Cid, NoMemory, Pair, Value, Var};
+use crate::calls::{pair, range_of, values_of};
+use crate::removals::{Because, explanation_of, is_removed, removals_of, removed};
+use palm_base::{Cid, CidList, NoMemory, Pair, Value, Var};
 use palm_domain::DomainStore;
 use palm_explain::{ExplainStore, full_stores_lack_nothing, stores_lack_what_is_taken_out};
 use std::alloc::Global;
+use std::process::Abort;
 use std::test::Fail;
 
 /// Appends three variables with the values 1 and 2.
@@ -77,63 +78,85 @@ fn remove_three(store: &mut DomainStore, log: &mut ExplainStore) -> Result<(), N
     remove(store, log, &pair(2, 2), 3, &[])
 }
 
-/// Whether the log explains the three removals.
-fn explains_three(alloc: Global, log: &mut ExplainStore) -> Result<bool, NoMemory>
+/// Asserts that the log explains the three removals.
+fn assert_three_explained(
+    rt: &impl Abort,
+    alloc: Global,
+    log: &mut ExplainStore,
+) -> Result<(), NoMemory>
     ensures { log.new ≡ log.old }
 {
     let (x, y) = (pair(0, 2), pair(1, 2));
-    Ok(
-        log.removals() == 3
-            && is_named(log, &y, &Cid::User(1))
-            && !is_named(log, &x, &Cid::User(2))
-            && is_explained(alloc, log, &y, &[Cid::User(1), Cid::User(2)])?,
-    )
+    assert_eq!(rt; log.removals(), 3);
+    assert!(rt;
+        is_named(log, &y, &Cid::User(1)),
+        "the removal of y does not rest on 1"
+    );
+    assert!(rt;
+        !is_named(log, &x, &Cid::User(2)),
+        "the removal of x rests on 2"
+    );
+    let both = CidList::from_slice(alloc, &[Cid::User(1), Cid::User(2)])?;
+    assert_eq!(rt; explanation_of(alloc, log, &y)?, Some(both));
+    Ok(())
 }
 
-/// Whether the log has the removal of z alone, and put values of x and y back.
-fn has_last(log: &ExplainStore) -> bool {
+/// Asserts that the log has the removal of z alone, and put values of x and y back.
+fn assert_last(rt: &impl Abort, alloc: Global, log: &ExplainStore) -> Result<(), NoMemory> {
     let last = [removed(pair(2, 2), 3, Because::Nothing)];
+    assert_eq!(rt; removals_of(alloc, log)?.as_slice(), last.as_slice());
     let restored = log.restored();
-    has_removals(log, &last)
-        && restored.len() == 2
-        && restored.iter().any(|entry| entry.var == Var(0))
-        && restored.iter().any(|entry| entry.var == Var(1))
+    assert_eq!(rt; restored.len(), 2);
+    for var in [Var(0), Var(1)] {
+        let has = restored.iter().any(|entry| entry.var == var);
+        assert!(rt; has, "no {var:?} in {restored:?}");
+    }
+    Ok(())
 }
 
-/// Whether x and y have both values again, and z has the first.
-fn are_restored(store: &DomainStore) -> bool {
-    let both = [Value(1), Value(2)];
-    has_values(store, 0, &both) && has_values(store, 1, &both) && has_values(store, 2, &both[..1])
+/// Asserts that the variable has the values from 1 to the last one.
+fn assert_values(
+    rt: &impl Abort,
+    alloc: Global,
+    store: &DomainStore,
+    var: u32,
+    last: i32,
+) -> Result<(), NoMemory> {
+    let expected = Some(range_of(alloc, 1, last)?);
+    assert_eq!(rt; values_of(alloc, store, var)?, expected, "variable {var}");
+    Ok(())
 }
 
-/// Whether the log explains the three removals, and after a withdrawal of the first constraint has what does not rest on
-/// it.
-fn keeps_what_does_not_rest(
+/// Asserts that the log explains the three removals, and after a withdrawal of the first constraint has what does not rest on
+/// it: x and y have both values again, and z has the first.
+fn assert_kept(
+    rt: &impl Abort,
     alloc: Global,
     store: &mut DomainStore,
     log: &mut ExplainStore,
-) -> Result<bool, NoMemory>
+) -> Result<(), NoMemory>
     requires store { store.old ≡ [] }
     requires log { log.old.log ≡ [] }
 {
     add_three(store)?;
     remove_three(store, log)?;
-    if !explains_three(alloc, log)? {
-        return Ok(false);
-    }
+    assert_three_explained(rt, alloc, log)?;
     log.withdraw(Cid::User(1), store);
-    Ok(has_last(log) && are_restored(store))
+    assert_last(rt, alloc, log)?;
+    assert_values(rt, alloc, store, 0, 2)?;
+    assert_values(rt, alloc, store, 1, 2)?;
+    assert_values(rt, alloc, store, 2, 1)
 }
 
 /// The same of a new store and a new log.
-fn is_kept_anew(alloc: Global) -> Result<bool, NoMemory> {
+fn assert_kept_anew(rt: &impl Abort, alloc: Global) -> Result<(), NoMemory> {
     let mut store = DomainStore::new(alloc);
     let mut log = ExplainStore::new(alloc);
-    keeps_what_does_not_rest(alloc, &mut store, &mut log)
+    assert_kept(rt, alloc, &mut store, &mut log)
 }
 
 #[test]
 fn a_withdrawal_takes_what_rests_on_the_constraint(rt: HostRuntime) -> Result<(), Fail> {
-    assert!(rt; is_kept_anew(rt.alloc())?);
+    assert_kept_anew(&rt, rt.alloc())?;
     Ok(())
 }

@@ -1,11 +1,12 @@
 //! Objects that choose what is revised next: the domains do not depend on them, and the log does.
 use crate::calls::{Span, pair};
-use crate::cases::{Step, is_case};
+use crate::cases::{Step, run_case};
 use crate::choice::Choice;
 use crate::removals::{Because, Removal, removed};
 use crate::samples::Sample;
 use palm_base::{Cid, NoMemory};
 use std::alloc::Global;
+use std::process::Abort;
 use std::test::Fail;
 
 /// The variables by their places.
@@ -15,8 +16,8 @@ const Y: u32 = 1;
 
 const Z: u32 = 2;
 
-/// Whether `x < y` and `y < z` leave one value each, and without the first of them y and z have two.
-fn are_settled(alloc: Global, choice: &Choice) -> Result<bool, NoMemory> {
+/// Asserts that `x < y` and `y < z` leave one value each, and without the first of them y and z have two.
+fn assert_settled(rt: &impl Abort, alloc: Global, choice: &Choice) -> Result<(), NoMemory> {
     let steps = [
         Step::Declare(3, Span::OneToThree),
         Step::Post(1, Sample::Less(X, Y)),
@@ -31,24 +32,25 @@ fn are_settled(alloc: Global, choice: &Choice) -> Result<bool, NoMemory> {
         Step::Values(Y, 1, 2),
         Step::Values(Z, 2, 3),
     ];
-    is_case(alloc, choice, &steps)
+    run_case(rt, alloc, choice, &steps)
 }
 
 #[test]
 fn domains_do_not_depend_on_the_order(rt: HostRuntime) -> Result<(), Fail> {
-    assert!(rt; are_settled(rt.alloc(), &Choice::Least)?);
-    assert!(rt; are_settled(rt.alloc(), &Choice::Last)?);
-    assert!(rt; are_settled(rt.alloc(), &Choice::Rotate)?);
+    assert_settled(&rt, rt.alloc(), &Choice::Least)?;
+    assert_settled(&rt, rt.alloc(), &Choice::Last)?;
+    assert_settled(&rt, rt.alloc(), &Choice::Rotate)?;
     Ok(())
 }
 
-/// Whether `x != 2`, `x = y` and `y != 2`, posted together, are settled by so many revisions and leave this log.
-fn has_logged(
+/// Asserts that `x != 2`, `x = y` and `y != 2`, posted together, are settled by so many revisions and leave this log.
+fn assert_logged(
+    rt: &impl Abort,
     alloc: Global,
     choice: &Choice,
     revisions: u64,
     log: &[Removal],
-) -> Result<bool, NoMemory> {
+) -> Result<(), NoMemory> {
     let steps = [
         Step::Declare(2, Span::OneToThree),
         Step::Post(1, Sample::Other(X, 2)),
@@ -58,7 +60,7 @@ fn has_logged(
         Step::Revisions(revisions),
         Step::Log(log),
     ];
-    is_case(alloc, choice, &steps)
+    run_case(rt, alloc, choice, &steps)
 }
 
 // Without an order the least name is revised until it rests: 1 takes x 2 out, 1, 2 takes y 2 out, 2, 3.
@@ -69,12 +71,12 @@ fn the_log_depends_on_the_order(rt: HostRuntime) -> Result<(), Fail> {
         removed(pair(X, 2), 1, Because::Nothing),
         removed(pair(Y, 2), 2, Because::One(pair(X, 2))),
     ];
-    assert!(rt; has_logged(rt.alloc(), &Choice::Least, 5, &from_x)?);
+    assert_logged(&rt, rt.alloc(), &Choice::Least, 5, &from_x)?;
     let from_y = [
         removed(pair(Y, 2), 3, Because::Nothing),
         removed(pair(X, 2), 2, Because::One(pair(Y, 2))),
     ];
-    assert!(rt; has_logged(rt.alloc(), &Choice::Last, 5, &from_y)?);
+    assert_logged(&rt, rt.alloc(), &Choice::Last, 5, &from_y)?;
     Ok(())
 }
 
@@ -87,7 +89,7 @@ fn an_order_is_told_of_each_revision(rt: HostRuntime) -> Result<(), Fail> {
         removed(pair(X, 2), 1, Because::Nothing),
         removed(pair(Y, 2), 2, Because::One(pair(X, 2))),
     ];
-    assert!(rt; has_logged(rt.alloc(), &Choice::SecondOnce, 6, &log)?);
+    assert_logged(&rt, rt.alloc(), &Choice::SecondOnce, 6, &log)?;
     Ok(())
 }
 
@@ -110,7 +112,7 @@ fn an_order_is_told_how_many_values_went(rt: HostRuntime) -> Result<(), Fail> {
         Step::Revisions(6),
         Step::Log(&log),
     ];
-    assert!(rt; is_case(rt.alloc(), &Choice::LastNumber, &steps)?);
+    run_case(&rt, rt.alloc(), &Choice::LastNumber, &steps)?;
     Ok(())
 }
 
@@ -136,6 +138,6 @@ fn an_order_is_told_of_each_revision_once(rt: HostRuntime) -> Result<(), Fail> {
         Step::Settle,
         Step::Log(&log),
     ];
-    assert!(rt; is_case(rt.alloc(), &Choice::Rotate, &steps)?);
+    run_case(&rt, rt.alloc(), &Choice::Rotate, &steps)?;
     Ok(())
 }

@@ -2,10 +2,10 @@
 ghost use Rattle.palm_model.specs.Constraint.{IsWellFormed};
 
 use crate::calls::{Span, declare, pair, post, withdraw};
-use crate::cases::{Step, is_case};
+use crate::cases::{Step, run_case};
 use crate::choice::{Choice, run_settling};
 use crate::counted::Counted;
-use crate::removals::{Because, Removal, has_removals, removed};
+use crate::removals::{Because, Removal, removals_of, removed};
 use crate::samples::{Sample, con_of};
 use palm_base::{Cid, NoMemory};
 use palm_engine::{Engine, Settle};
@@ -13,6 +13,7 @@ use palm_kind::Kind;
 use palm_model::Con;
 use std::alloc::Global;
 use std::cell::Cell;
+use std::process::Abort;
 use std::test::Fail;
 
 /// The variables by their places.
@@ -73,33 +74,8 @@ fn a_settling_after_a_withdrawal_asks_nothing(rt: HostRuntime) -> Result<(), Fai
         Step::Rest,
         Step::Log(&left),
     ];
-    assert!(rt; is_case(rt.alloc(), &Choice::Least, &steps)?);
+    run_case(&rt, rt.alloc(), &Choice::Least, &steps)?;
     Ok(())
-}
-
-/// Posts the two constraints with filters that count, and settles.
-fn is_settled_counted<'a>(
-    alloc: Global,
-    engine: &mut Engine<Counted<'a>>,
-    asked: &'a Cell<u64>,
-) -> Result<bool, NoMemory> {
-    declare(engine, 4, &Span::OneToThree)?;
-    Ok(
-        post_counted(alloc, engine, 1, &Sample::Less(X, Y), asked)?
-            && post_counted(alloc, engine, 2, &Sample::Less(U, V), asked)?
-            && run_settling(alloc, engine, &Choice::Least, None)? == Settle::Settled
-            && engine.checks() == asked.get(),
-    )
-}
-
-/// Withdraws the first constraint, and settles by no revision.
-fn is_settled_at_once(alloc: Global, engine: &mut Engine<Counted<'_>>) -> Result<bool, NoMemory> {
-    Ok(
-        withdraw(engine, &Cid::User(1))
-            && run_settling(alloc, engine, &Choice::Least, None)? == Settle::Settled
-            && engine.revisions() == 0
-            && has_removals(engine.log(), &removals_of_second()),
-    )
 }
 
 /// How often `x < y` and `u < v` ask together. The first revision of `x < y` asks for 1 of x, which has support, and from above
@@ -107,28 +83,68 @@ fn is_settled_at_once(alloc: Global, engine: &mut Engine<Counted<'_>>) -> Result
 /// its greatest value and y its least one, and neither hurts the other variable. That is six times, and as often for `u < v`.
 const ASKED: u64 = 12;
 
-/// Whether the filters are asked as often as the engine counts and as is said above, and not once more after the withdrawal.
-fn is_asked_as_counted<'a>(
+/// Settles, and asserts that nothing is pending then, and that the filters have been asked as often as is said above, which the
+/// engine counts too.
+fn settle_counted(
+    rt: &impl Abort,
+    alloc: Global,
+    engine: &mut Engine<Counted<'_>>,
+    asked: &Cell<u64>,
+) -> Result<(), NoMemory> {
+    assert_eq!(rt;
+        run_settling(alloc, engine, &Choice::Least, None)?,
+        Settle::Settled
+    );
+    assert_eq!(rt; asked.get(), ASKED, "questions that the filters count");
+    assert_eq!(rt; engine.checks(), ASKED, "questions that the engine counts");
+    Ok(())
+}
+
+/// Asserts that the two constraints are posted with filters that count.
+fn post_two<'a>(
+    rt: &impl Abort,
     alloc: Global,
     engine: &mut Engine<Counted<'a>>,
     asked: &'a Cell<u64>,
-) -> Result<bool, NoMemory> {
-    if !is_settled_counted(alloc, engine, asked)? {
-        return Ok(false);
-    }
-    let first = asked.get();
-    Ok(first == ASKED && is_settled_at_once(alloc, engine)? && asked.get() == first)
+) -> Result<(), NoMemory> {
+    declare(engine, 4, &Span::OneToThree)?;
+    let first = post_counted(alloc, engine, 1, &Sample::Less(X, Y), asked)?;
+    let second = post_counted(alloc, engine, 2, &Sample::Less(U, V), asked)?;
+    assert_eq!(rt;
+        (first, second),
+        (true, true),
+        "which of the constraints are posted"
+    );
+    Ok(())
+}
+
+/// Asserts that the filters are asked so often, and not once more where the first constraint is withdrawn, after which no
+/// revision runs.
+fn assert_asked<'a>(
+    rt: &impl Abort,
+    alloc: Global,
+    engine: &mut Engine<Counted<'a>>,
+    asked: &'a Cell<u64>,
+) -> Result<(), NoMemory> {
+    post_two(rt, alloc, engine, asked)?;
+    settle_counted(rt, alloc, engine, asked)?;
+    assert!(rt; withdraw(engine, &Cid::User(1)), "1 is not active");
+    settle_counted(rt, alloc, engine, asked)?;
+    assert_eq!(rt; engine.revisions(), 0, "revisions after the withdrawal");
+    let left = removals_of(alloc, engine.log())?;
+    assert_eq!(rt; left.as_slice(), removals_of_second().as_slice());
+    Ok(())
 }
 
 /// The same of a new engine.
-fn is_asked_anew(alloc: Global) -> Result<bool, NoMemory> {
+fn assert_asked_anew(rt: &impl Abort, alloc: Global) -> Result<(), NoMemory> {
     let asked = Cell::new(0);
     let mut engine = Engine::new(alloc);
-    is_asked_as_counted(alloc, &mut engine, &asked)
+    assert_asked(rt, alloc, &mut engine, &asked)
 }
 
 #[test]
 fn a_filter_is_asked_as_often_as_is_counted(rt: HostRuntime) -> Result<(), Fail> {
-    assert!(rt; is_asked_anew(rt.alloc())?);
+    assert_asked_anew(&rt, rt.alloc())?;
     Ok(())
 }

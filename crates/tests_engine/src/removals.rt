@@ -7,16 +7,18 @@ use palm_explain::ExplainStore;
 use std::alloc::Global;
 
 /// The pairs for which a pair was taken out.
-#[derive(Clone, Copy)]
+#[derive(Clone, Copy, Debug, PartialEq)]
 pub enum Because {
     Nothing,
     One(Pair),
     Two(Pair, Pair),
     Three(Pair, Pair, Pair),
+    /// More than three, which no test expects.
+    More,
 }
 
 /// A pair that was taken out, the constraint that did it, and the pairs for which it did.
-#[derive(Clone, Copy)]
+#[derive(Clone, Copy, Debug, PartialEq)]
 pub struct Removal {
     pub pair: Pair,
     pub by: Cid,
@@ -39,66 +41,46 @@ pub fn is_removed(log: &ExplainStore, pair: &Pair) -> bool
     log.place_of(*pair).is_some()
 }
 
-/// Whether the removal at the place has these reasons.
-fn has_reasons(log: &ExplainStore, place: usize, reasons: &[Pair]) -> bool
+/// The pairs for which the removal at the place was made.
+fn because_at(log: &ExplainStore, place: usize) -> Because
     requires { place < length log.now.log }
 {
-    if log.reasons_at(place) != reasons.len() {
-        return false;
-    }
-    for index in 0..reasons.len() {
-        if log.reason_at(place, index) != reasons[index] {
-            return false;
-        }
-    }
-    true
-}
-
-/// Whether the removal at the place was for these.
-fn is_because(log: &ExplainStore, place: usize, because: &Because) -> bool
-    requires { place < length log.now.log }
-{
-    match because {
-        Because::Nothing => has_reasons(log, place, &[]),
-        Because::One(x) => has_reasons(log, place, &[*x]),
-        Because::Two(x, y) => has_reasons(log, place, &[*x, *y]),
-        Because::Three(x, y, z) => has_reasons(log, place, &[*x, *y, *z]),
+    match log.reasons_at(place) {
+        0 => Because::Nothing,
+        1 => Because::One(log.reason_at(place, 0)),
+        2 => Because::Two(log.reason_at(place, 0), log.reason_at(place, 1)),
+        3 => Because::Three(
+            log.reason_at(place, 0),
+            log.reason_at(place, 1),
+            log.reason_at(place, 2),
+        ),
+        _ => Because::More,
     }
 }
 
-/// Whether the removal at the place is this one.
-fn stands_at(log: &ExplainStore, place: usize, removal: &Removal) -> bool
-    requires { place < length log.now.log }
-{
-    log.pair_at(place) == removal.pair
-        && log.by_at(place) == removal.by
-        && is_because(log, place, &removal.because)
+/// The removals of the log, in their order.
+pub fn removals_of(alloc: Global, log: &ExplainStore) -> Result<Vec<Removal>, NoMemory> {
+    let mut removals = Vec::new(alloc);
+    for place in 0..log.removals() {
+        removals.push(Removal {
+            pair: log.pair_at(place),
+            by: log.by_at(place),
+            because: because_at(log, place),
+        })?;
+    }
+    Ok(removals)
 }
 
-/// Whether the log has these removals, in this order.
-pub fn has_removals(log: &ExplainStore, removals: &[Removal]) -> bool {
-    if log.removals() != removals.len() {
-        return false;
-    }
-    for place in 0..removals.len() {
-        if !stands_at(log, place, &removals[place]) {
-            return false;
-        }
-    }
-    true
-}
-
-/// Whether the pair is removed, and these are the constraints that explain it.
-pub fn is_explained(
+/// The constraints that explain the pair, where it is removed.
+pub fn explanation_of(
     alloc: Global,
     log: &ExplainStore,
     pair: &Pair,
-    names: &[Cid],
-) -> Result<bool, NoMemory> {
+) -> Result<Option<CidList>, NoMemory> {
     if !is_removed(log, pair) {
-        return Ok(false);
+        return Ok(None);
     }
     let mut out = CidList::new(alloc);
     log.explanation(*pair, &mut out)?;
-    Ok(out.as_slice() == names)
+    Ok(Some(out))
 }

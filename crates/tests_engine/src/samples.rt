@@ -10,7 +10,7 @@ use std::alloc::Global;
 const VARIABLES: u32 = 4;
 
 /// A constraint over the first four variables.
-#[derive(Clone, Copy)]
+#[derive(Clone, Copy, Debug)]
 pub enum Sample {
     /// The first variable is less than the second.
     Less(u32, u32),

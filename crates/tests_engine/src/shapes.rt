@@ -1,9 +1,10 @@
 //! What a kind says of the support of its values, and of the losses that hurt it, spares questions, and changes nothing else: each
 //! problem is settled by two engines, of which one hears of it and one does not.
 use crate::choice::Choice;
-use crate::twins::{Asked, Twins};
+use crate::twins::{Asked, Problem, Twins};
 use palm_base::NoMemory;
 use std::alloc::Global;
+use std::process::Abort;
 use std::test::Fail;
 
 /// How often the engine asks that hears of the shapes.
@@ -22,13 +23,6 @@ struct Row {
     firsts: &'static [&'static str],
     others: &'static [&'static str],
     asks: Asks,
-}
-
-/// How the engines settle: what chooses the next revision, and how many there are at a time.
-#[derive(Clone, Copy)]
-struct Pace {
-    choice: Choice,
-    limit: Option<u64>,
 }
 
 /// Two variables, one with gaps.
@@ -315,180 +309,175 @@ const OTHERS: &[Row] = &[
     },
 ];
 
-/// Whether all the lines of variables are taken.
-fn declares(alloc: Global, twins: &mut Twins<'_>, lines: &[&str]) -> Result<bool, NoMemory> {
-    for line in lines {
-        if !twins.say(alloc, 0, line)? {
-            return Ok(false);
-        }
-    }
-    Ok(true)
-}
-
-/// Whether the engines stay alike where a constraint comes under the number, and they settle.
-fn comes(
+/// Takes the lines of variables.
+fn declare(
+    rt: &impl Abort,
     alloc: Global,
     twins: &mut Twins<'_>,
-    pace: &Pace,
-    number: u32,
-    line: &str,
-) -> Result<bool, NoMemory> {
-    Ok(twins.say(alloc, number, line)? && twins.settle(alloc, &pace.choice, pace.limit)?)
+    lines: &[&str],
+) -> Result<(), NoMemory> {
+    for line in lines {
+        twins.say(rt, alloc, 0, line)?;
+    }
+    Ok(())
 }
 
-/// Whether the engines stay alike where the constraints come one after another, under the numbers from this one on.
+/// A constraint comes under the number, and the engines settle.
+fn come(
+    rt: &impl Abort,
+    alloc: Global,
+    twins: &mut Twins<'_>,
+    number: u32,
+    line: &str,
+) -> Result<(), NoMemory> {
+    twins.say(rt, alloc, number, line)?;
+    twins.settle(rt, alloc)
+}
+
+/// The constraints come one after another, under the numbers from 2 on.
 fn all_come(
+    rt: &impl Abort,
     alloc: Global,
     twins: &mut Twins<'_>,
-    pace: &Pace,
-    from: u32,
     lines: &[&str],
-) -> Result<bool, NoMemory> {
-    let mut number = from;
+) -> Result<(), NoMemory> {
+    let mut number = 1_u32;
     for line in lines {
-        if !comes(alloc, twins, pace, number, line)? {
-            return Ok(false);
-        }
         number = number.saturating_add(1);
+        come(rt, alloc, twins, number, line)?;
     }
-    Ok(true)
+    Ok(())
 }
 
-/// Whether the engines stay alike where a constraint goes, they settle, it comes again, and they settle.
-fn goes_and_comes(
+/// A constraint goes, the engines settle, it comes again, and they settle.
+fn go_and_come(
+    rt: &impl Abort,
     alloc: Global,
     twins: &mut Twins<'_>,
-    pace: &Pace,
     number: u32,
     line: &str,
-) -> Result<bool, NoMemory> {
-    Ok(
-        twins.withdraw(number)
-            && twins.settle(alloc, &pace.choice, pace.limit)?
-            && comes(alloc, twins, pace, number, line)?,
-    )
+) -> Result<(), NoMemory> {
+    twins.withdraw(rt, number);
+    twins.settle(rt, alloc)?;
+    come(rt, alloc, twins, number, line)
 }
 
-/// Whether the engines stay alike where each of the constraints goes and comes again.
+/// Each of the constraints under the numbers from 2 on goes and comes again.
 fn each_goes(
+    rt: &impl Abort,
     alloc: Global,
     twins: &mut Twins<'_>,
-    pace: &Pace,
-    from: u32,
     lines: &[&str],
-) -> Result<bool, NoMemory> {
-    let mut number = from;
+) -> Result<(), NoMemory> {
+    let mut number = 1_u32;
     for line in lines {
-        if !goes_and_comes(alloc, twins, pace, number, line)? {
-            return Ok(false);
-        }
         number = number.saturating_add(1);
+        go_and_come(rt, alloc, twins, number, line)?;
     }
-    Ok(true)
+    Ok(())
 }
 
-/// Whether the engines stay alike where the constraints of the lines go at once, and they settle.
+/// The constraints of the lines go at once, and the engines settle.
 fn all_go(
+    rt: &impl Abort,
     alloc: Global,
     twins: &mut Twins<'_>,
-    pace: &Pace,
-    from: u32,
     lines: &[&str],
-) -> Result<bool, NoMemory> {
-    let mut number = from;
+) -> Result<(), NoMemory> {
+    let mut number = 1_u32;
     for _ in lines {
-        if !twins.withdraw(number) {
-            return Ok(false);
-        }
         number = number.saturating_add(1);
+        twins.withdraw(rt, number);
     }
-    twins.settle(alloc, &pace.choice, pace.limit)
+    twins.settle(rt, alloc)
 }
 
-/// Whether the engines stay alike where the first constraint and the others come, each goes and comes again, and all but the first
-/// go at once.
-fn stay_alike(
+/// The first constraint and the others come, each goes and comes again, and all but the first go at once. Whenever the engines
+/// have settled, they are alike.
+fn come_and_go(
+    rt: &impl Abort,
     alloc: Global,
     twins: &mut Twins<'_>,
-    pace: &Pace,
     first: &str,
     others: &[&str],
-) -> Result<bool, NoMemory> {
-    Ok(
-        comes(alloc, twins, pace, 1, first)?
-            && all_come(alloc, twins, pace, 2, others)?
-            && goes_and_comes(alloc, twins, pace, 1, first)?
-            && each_goes(alloc, twins, pace, 2, others)?
-            && all_go(alloc, twins, pace, 2, others)?,
-    )
+) -> Result<(), NoMemory> {
+    come(rt, alloc, twins, 1, first)?;
+    all_come(rt, alloc, twins, others)?;
+    go_and_come(rt, alloc, twins, 1, first)?;
+    each_goes(rt, alloc, twins, others)?;
+    all_go(rt, alloc, twins, others)
 }
 
-/// The same of new engines over the variables of the row. All problems give the engines up here, since each place costs its
-/// proof.
-fn are_alike_anew(
+/// The same of new engines. All problems give the engines up here, since each place costs its proof.
+fn come_and_go_anew(
+    rt: &impl Abort,
     alloc: Global,
     asked: &Asked,
-    row: &Row,
-    pace: &Pace,
-    first: &str,
-) -> Result<bool, NoMemory> {
-    let mut twins = Twins::new(alloc, asked);
-    Ok(
-        declares(alloc, &mut twins, row.variables)?
-            && stay_alike(alloc, &mut twins, pace, first, row.others)?,
-    )
+    problem: &Problem<'_>,
+    variables: &[&str],
+    others: &[&str],
+) -> Result<(), NoMemory> {
+    let mut twins = Twins::new(alloc, asked, problem);
+    declare(rt, alloc, &mut twins, variables)?;
+    come_and_go(rt, alloc, &mut twins, problem.first, others)
 }
 
-/// Whether the engines stay alike, and ask as the row says.
-fn asks_so(alloc: Global, row: &Row, pace: &Pace, first: &str) -> Result<bool, NoMemory> {
+/// Asserts that the engines stay alike, and ask as the row says.
+fn assert_asks(
+    rt: &impl Abort,
+    alloc: Global,
+    row: &Row,
+    problem: &Problem<'_>,
+) -> Result<(), NoMemory> {
     let asked = Asked::new();
-    Ok(
-        are_alike_anew(alloc, &asked, row, pace, first)?
-            && match row.asks {
-                Asks::Less => asked.is_less(),
-                Asks::AsOften => asked.is_same(),
-            },
-    )
+    come_and_go_anew(rt, alloc, &asked, problem, row.variables, row.others)?;
+    let (told, silent) = (asked.told.get(), asked.silent.get());
+    match row.asks {
+        Asks::Less => assert!(rt;
+            told < silent,
+            "{told} questions, {silent} without shapes, {problem:?}"
+        ),
+        Asks::AsOften => assert_eq!(rt; told, silent, "questions, {problem:?}"),
+    }
+    Ok(())
 }
 
 /// The same without an order, with the last one and one revision at a time, and going round.
-fn asks_so_at_each_pace(alloc: Global, row: &Row, first: &str) -> Result<bool, NoMemory> {
+fn assert_asks_at_each_pace(
+    rt: &impl Abort,
+    alloc: Global,
+    row: &Row,
+    first: &str,
+) -> Result<(), NoMemory> {
     let paces = [
-        Pace {
-            choice: Choice::Least,
-            limit: None,
-        },
-        Pace {
-            choice: Choice::Last,
-            limit: Some(1),
-        },
-        Pace {
-            choice: Choice::Rotate,
-            limit: None,
-        },
+        (Choice::Least, None),
+        (Choice::Last, Some(1)),
+        (Choice::Rotate, None),
     ];
-    for pace in paces.as_slice() {
-        if !asks_so(alloc, row, pace, first)? {
-            return Ok(false);
-        }
+    for (choice, limit) in paces {
+        let problem = Problem {
+            first,
+            choice,
+            limit,
+            settlings: 0,
+        };
+        assert_asks(rt, alloc, row, &problem)?;
     }
-    Ok(true)
+    Ok(())
 }
 
 /// The same of each problem of the row.
-fn all_ask_so(alloc: Global, row: &Row) -> Result<bool, NoMemory> {
+fn assert_all_ask(rt: &impl Abort, alloc: Global, row: &Row) -> Result<(), NoMemory> {
     for first in row.firsts {
-        if !asks_so_at_each_pace(alloc, row, first)? {
-            return Ok(false);
-        }
+        assert_asks_at_each_pace(rt, alloc, row, first)?;
     }
-    Ok(true)
+    Ok(())
 }
 
 #[test]
 fn shapes_of_comparisons_change_nothing_but_the_questions(rt: HostRuntime) -> Result<(), Fail> {
     for row in COMPARISONS {
-        assert!(rt; all_ask_so(rt.alloc(), row)?);
+        assert_all_ask(&rt, rt.alloc(), row)?;
     }
     Ok(())
 }
@@ -496,7 +485,7 @@ fn shapes_of_comparisons_change_nothing_but_the_questions(rt: HostRuntime) -> Re
 #[test]
 fn shapes_of_sums_change_nothing_but_the_questions(rt: HostRuntime) -> Result<(), Fail> {
     for row in SUMS {
-        assert!(rt; all_ask_so(rt.alloc(), row)?);
+        assert_all_ask(&rt, rt.alloc(), row)?;
     }
     Ok(())
 }
@@ -504,7 +493,7 @@ fn shapes_of_sums_change_nothing_but_the_questions(rt: HostRuntime) -> Result<()
 #[test]
 fn shapes_of_other_kinds_change_nothing_but_the_questions(rt: HostRuntime) -> Result<(), Fail> {
     for row in OTHERS {
-        assert!(rt; all_ask_so(rt.alloc(), row)?);
+        assert_all_ask(&rt, rt.alloc(), row)?;
     }
     Ok(())
 }
@@ -537,26 +526,39 @@ const WIDE: &[(&str, u64, u64)] = &[
 /// Three variables with as many values as they may have.
 const THREE: &[&str] = &["var x 0..255", "var y 0..255", "var z 0..255"];
 
-/// Whether the filters are asked so often each time when the constraint comes, which is twice.
-fn asks_exactly(alloc: Global, line: &str, told: u64, silent: u64) -> Result<bool, NoMemory> {
-    let row = Row {
-        variables: THREE,
-        firsts: &[],
-        others: &[],
-        asks: Asks::Less,
-    };
-    let pace = Pace {
+/// Asserts that the filters are asked so often each time when the constraint comes, which is twice.
+fn assert_asks_exactly(
+    rt: &impl Abort,
+    alloc: Global,
+    first: &str,
+    told: u64,
+    silent: u64,
+) -> Result<(), NoMemory> {
+    let problem = Problem {
+        first,
         choice: Choice::Least,
         limit: None,
+        settlings: 0,
     };
     let asked = Asked::new();
-    Ok(are_alike_anew(alloc, &asked, &row, &pace, line)? && asked.is_twice(told, silent))
+    come_and_go_anew(rt, alloc, &asked, &problem, THREE, &[])?;
+    assert_eq!(rt;
+        asked.told.get(),
+        told.saturating_mul(2),
+        "questions, {first}"
+    );
+    assert_eq!(rt;
+        asked.silent.get(),
+        silent.saturating_mul(2),
+        "without shapes, {first}"
+    );
+    Ok(())
 }
 
 #[test]
 fn shapes_spare_these_questions(rt: HostRuntime) -> Result<(), Fail> {
     for (line, told, silent) in WIDE {
-        assert!(rt; asks_exactly(rt.alloc(), line, *told, *silent)?);
+        assert_asks_exactly(&rt, rt.alloc(), line, *told, *silent)?;
     }
     Ok(())
 }

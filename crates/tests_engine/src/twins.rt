@@ -7,7 +7,7 @@ ghost use Rattle.palm_read.specs.Limits.{HasManyRows, Repeats, names_of};
 ghost use Rattle.palm_read.specs.Name.{IsNameText};
 ghost use Rattle.palm_read.specs.Sound.{IsSoundShape};
 
-use crate::alike::are_alike;
+use crate::alike::assert_alike;
 use crate::calls::{add_variable, post, withdraw};
 use crate::choice::{Choice, run_settling};
 use crate::counted::{Counted, Silent};
@@ -20,6 +20,7 @@ use palm_model::Con;
 use palm_read::{DomainText, Line, Name, Shape};
 use std::alloc::Global;
 use std::cell::Cell;
+use std::process::Abort;
 
 /// How many settlings with a limit may follow one another until nothing is pending.
 const MOST_SETTLINGS: u32 = 1_000;
@@ -39,21 +40,16 @@ impl Asked {
             silent: Cell::new(0),
         }
     }
+}
 
-    /// Whether those that tell their shapes were asked less often.
-    pub fn is_less(&self) -> bool {
-        self.told.get() < self.silent.get()
-    }
-
-    /// Whether they were asked as often.
-    pub fn is_same(&self) -> bool {
-        self.told.get() == self.silent.get()
-    }
-
-    /// Whether they were asked twice as often as this.
-    pub fn is_twice(&self, told: u64, silent: u64) -> bool {
-        self.told.get() == told.saturating_mul(2) && self.silent.get() == silent.saturating_mul(2)
-    }
+/// What two engines are asked, for the message of a failed assertion: the first constraint, what chooses the next revision, how
+/// many revisions there are at a time, and how many settlings there were.
+#[derive(Clone, Copy, Debug)]
+pub struct Problem<'a> {
+    pub first: &'a str,
+    pub choice: Choice,
+    pub limit: Option<u64>,
+    pub settlings: u32,
 }
 
 /// The two engines, with the variables by their names.
@@ -63,26 +59,41 @@ pub struct Twins<'a> {
     told: Engine<Counted<'a>>,
     silent: Engine<Silent<'a>>,
     asked: &'a Asked,
+    problem: Problem<'a>,
 }
 
 impl<'a> Twins<'a> {
     /// No variable and no constraint.
-    pub fn new(alloc: Global, asked: &'a Asked) -> Twins<'a> {
+    pub fn new(alloc: Global, asked: &'a Asked, problem: &Problem<'a>) -> Twins<'a> {
         Twins {
             book: Book::new(alloc),
             told: Engine::new(alloc),
             silent: Engine::new(alloc),
             asked,
+            problem: *problem,
         }
     }
 
-    /// Takes a line: a variable, or a constraint that is posted under the number. No other line is taken.
-    pub fn say(&mut self, alloc: Global, number: u32, text: &str) -> Result<bool, NoMemory> {
+    /// Takes a line, and tells whether it is a variable, or a constraint that is posted under the number.
+    fn is_taken(&mut self, alloc: Global, number: u32, text: &str) -> Result<bool, NoMemory> {
         match line_of(alloc, text)? {
             Some(Line::Var { name, domain }) => self.declare(alloc, name, domain),
             Some(Line::Add { name: _, shape }) => self.add(alloc, number, shape),
             _ => Ok(false),
         }
+    }
+
+    /// Takes a line: a variable, or a constraint that is posted under the number.
+    pub fn say(
+        &mut self,
+        rt: &impl Abort,
+        alloc: Global,
+        number: u32,
+        text: &str,
+    ) -> Result<(), NoMemory> {
+        let taken = self.is_taken(alloc, number, text)?;
+        assert!(rt; taken, "'{text}' is not taken, {:?}", self.problem);
+        Ok(())
     }
 
     /// Appends a variable to both.
@@ -129,47 +140,32 @@ impl<'a> Twins<'a> {
         Ok(post(&mut self.told, number, told)? && post(&mut self.silent, number, silent)?)
     }
 
-    /// Withdraws the constraint of the number from both, where it is active.
-    pub fn withdraw(&mut self, number: u32) -> bool {
+    /// Withdraws the constraint of the number from both.
+    pub fn withdraw(&mut self, rt: &impl Abort, number: u32) {
         let cid = Cid::User(number);
-        withdraw(&mut self.told, &cid) && withdraw(&mut self.silent, &cid)
+        let active = withdraw(&mut self.told, &cid) && withdraw(&mut self.silent, &cid);
+        assert!(rt; active, "{number} is not active, {:?}", self.problem);
     }
 
-    /// Whether both are alike.
-    pub fn are_alike(&self) -> bool {
-        are_alike(&self.told, &self.silent)
+    /// Settles both, asserts that they end so and are alike then, and answers how they end.
+    fn settle_once(&mut self, rt: &impl Abort, alloc: Global) -> Result<Settle, NoMemory> {
+        let Problem { choice, limit, .. } = self.problem;
+        let told = run_settling(alloc, &mut self.told, &choice, limit)?;
+        let silent = run_settling(alloc, &mut self.silent, &choice, limit)?;
+        self.problem.settlings = self.problem.settlings.saturating_add(1);
+        assert_eq!(rt; told, silent, "{:?}", self.problem);
+        assert_alike(rt, &self.problem, &self.told, &self.silent);
+        Ok(told)
     }
 
-    /// Settles both, and answers how they end where that is the same and they are alike.
-    fn settle_once(
-        &mut self,
-        alloc: Global,
-        choice: &Choice,
-        limit: Option<u64>,
-    ) -> Result<Option<Settle>, NoMemory> {
-        let told = run_settling(alloc, &mut self.told, choice, limit)?;
-        let silent = run_settling(alloc, &mut self.silent, choice, limit)?;
-        Ok(if told == silent && self.are_alike() {
-            Some(told)
-        } else {
-            None
-        })
-    }
-
-    /// Settles both until nothing is pending or a domain is empty, by as many revisions at a time as the limit says, and tells
-    /// whether they are alike each time.
-    pub fn settle(
-        &mut self,
-        alloc: Global,
-        choice: &Choice,
-        limit: Option<u64>,
-    ) -> Result<bool, NoMemory> {
+    /// Settles both until nothing is pending or a domain is empty, by as many revisions at a time as the limit says, and asserts
+    /// that they are alike each time.
+    pub fn settle(&mut self, rt: &impl Abort, alloc: Global) -> Result<(), NoMemory> {
         for _ in 0..MOST_SETTLINGS {
-            match self.settle_once(alloc, choice, limit)? {
-                Some(Settle::Stopped) => {}
-                end => return Ok(end.is_some()),
+            if self.settle_once(rt, alloc)? != Settle::Stopped {
+                return Ok(());
             }
         }
-        Ok(false)
+        panic!(rt; "something is pending still, {:?}", self.problem)
     }
 }

@@ -1,6 +1,6 @@
 //! What a withdrawal gives back, and what is explained otherwise after it.
 use crate::calls::{Span, pair};
-use crate::cases::{Step, Users, is_case};
+use crate::cases::{Step, Users, run_case};
 use crate::choice::Choice;
 use crate::removals::{Because, removed};
 use crate::samples::Sample;
@@ -37,7 +37,7 @@ fn a_conflict_is_left_by_a_withdrawal(rt: HostRuntime) -> Result<(), Fail> {
         Step::Settle,
         Step::Log(&left),
     ];
-    assert!(rt; is_case(rt.alloc(), &Choice::Least, &steps)?);
+    run_case(&rt, rt.alloc(), &Choice::Least, &steps)?;
     Ok(())
 }
 
@@ -56,7 +56,7 @@ fn a_removal_is_explained(rt: HostRuntime) -> Result<(), Fail> {
         Step::Log(&log),
         Step::Explained(pair(X, 2), Users::One(1)),
     ];
-    assert!(rt; is_case(rt.alloc(), &Choice::Least, &steps)?);
+    run_case(&rt, rt.alloc(), &Choice::Least, &steps)?;
     Ok(())
 }
 
@@ -80,7 +80,7 @@ fn a_removal_is_explained_anew(rt: HostRuntime) -> Result<(), Fail> {
         Step::Log(&log),
         Step::Explained(pair(X, 2), Users::Two(2, 3)),
     ];
-    assert!(rt; is_case(rt.alloc(), &Choice::Least, &steps)?);
+    run_case(&rt, rt.alloc(), &Choice::Least, &steps)?;
     Ok(())
 }
 
@@ -98,6 +98,6 @@ fn a_settling_that_stopped_goes_on(rt: HostRuntime) -> Result<(), Fail> {
         Step::Settle,
         Step::Log(&[]),
     ];
-    assert!(rt; is_case(rt.alloc(), &Choice::Least, &steps)?);
+    run_case(&rt, rt.alloc(), &Choice::Least, &steps)?;
     Ok(())
 }

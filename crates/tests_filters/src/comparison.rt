@@ -5,7 +5,9 @@ ghost use Rattle.palm_model.specs.Comparison.{IsComparison};
 ghost use Rattle.palm_model.specs.Constraint.{IsWellFormed, scope};
 ghost use Rattle.palm_model.specs.Domains.{Has};
 
-use crate::testing::{Question, answers, declare_two, is_reason, is_supported, pair, take_out_all};
+use crate::testing::{
+    Question, assert_answers, assert_reason, declare_two, is_supported, pair, take_out_all,
+};
 use filter_compare::CompareFilter;
 use palm_base::{NoMemory, Pair, Steps, Value, Var};
 use palm_domain::DomainStore;
@@ -13,6 +15,7 @@ use palm_filter::{Filter, ask};
 use palm_model::{Con, Op};
 use std::alloc::Global;
 use std::marker::Brand;
+use std::process::Abort;
 use std::sync::ledger::{Blank, Ledger};
 use std::test::Fail;
 
@@ -48,7 +51,12 @@ fn filter_of(alloc: Global, con: Con) -> Result<CompareFilter, NoMemory>
 struct Fitting;
 
 impl Question for Fitting {
-    fn is_answered(&self, alloc: Global, store: &mut DomainStore) -> Result<bool, NoMemory> {
+    fn assert_answer(
+        &self,
+        rt: &impl Abort,
+        alloc: Global,
+        store: &mut DomainStore,
+    ) -> Result<(), NoMemory> {
         declare_two(store)?;
         take_out_all(store, &[pair(1, 3)]);
         let con = Con::CompareVar {
@@ -58,26 +66,34 @@ impl Question for Fitting {
             offset: 0,
         };
         let filter = filter_of(alloc, con)?;
-        is_reason(alloc, &filter, store, &pair(0, 2), &[pair(1, 3)])
+        assert_reason(
+            rt,
+            alloc,
+            &filter,
+            store,
+            &pair(0, 2),
+            &[pair(1, 3)],
+            &"x < y",
+        )
     }
 }
 
 #[test]
 fn a_reason_is_what_would_fit(rt: HostRuntime) -> Result<(), Fail> {
-    assert!(rt; answers(rt.alloc(), &Fitting)?);
+    assert_answers(&rt, rt.alloc(), &Fitting)?;
     Ok(())
-}
-
-/// Whether the filter is over these variables.
-fn is_over(filter: &CompareFilter, vars: &[Var]) -> bool {
-    filter.scope().as_slice() == vars
 }
 
 /// What `x = 2` is over, and the reason for which it takes 1 out.
 struct Constant;
 
 impl Question for Constant {
-    fn is_answered(&self, alloc: Global, store: &mut DomainStore) -> Result<bool, NoMemory> {
+    fn assert_answer(
+        &self,
+        rt: &impl Abort,
+        alloc: Global,
+        store: &mut DomainStore,
+    ) -> Result<(), NoMemory> {
         declare_two(store)?;
         let con = Con::CompareConst {
             left: Var(0),
@@ -85,19 +101,19 @@ impl Question for Constant {
             value: Value(2),
         };
         let filter = filter_of(alloc, con)?;
-        let over = is_over(&filter, &[Var(0)]);
-        Ok(over && is_reason(alloc, &filter, store, &pair(0, 1), &[])?)
+        assert_eq!(rt; filter.scope().as_slice(), [Var(0)].as_slice());
+        assert_reason(rt, alloc, &filter, store, &pair(0, 1), &[], &"x = 2")
     }
 }
 
 #[test]
 fn a_comparison_with_a_value_has_no_pairs_as_reason(rt: HostRuntime) -> Result<(), Fail> {
-    assert!(rt; answers(rt.alloc(), &Constant)?);
+    assert_answers(&rt, rt.alloc(), &Constant)?;
     Ok(())
 }
 
-/// Whether `x = y - 2` supports 1, where that question is counted, and does not support 2.
-fn is_counted(alloc: Global, store: &DomainStore) -> Result<bool, NoMemory>
+/// Asserts that `x = y - 2` supports 1, where that question is counted, and does not support 2.
+fn assert_counted(rt: &impl Abort, alloc: Global, store: &DomainStore) -> Result<(), NoMemory>
     requires { length store.now ≡ 2 }
 {
     let con = Con::CompareVar {
@@ -107,25 +123,30 @@ fn is_counted(alloc: Global, store: &DomainStore) -> Result<bool, NoMemory>
         offset: -2,
     };
     let filter = filter_of(alloc, con)?;
-    Ok(
-        store.contains(pair(0, 1))
-            && answer::<CompareFilter, Brand>(&filter, store, Var(0), Value(1), Blank::new(1))
-            && !is_supported(&filter, store, &pair(0, 2)),
-    )
+    assert!(rt; store.contains(pair(0, 1)), "x has no 1");
+    let one = answer::<CompareFilter, Brand>(&filter, store, Var(0), Value(1), Blank::new(1));
+    assert!(rt; one, "1 has no support");
+    assert!(rt; !is_supported(&filter, store, &pair(0, 2)), "2 has support");
+    Ok(())
 }
 
 /// What a counted question is answered.
 struct Counted;
 
 impl Question for Counted {
-    fn is_answered(&self, alloc: Global, store: &mut DomainStore) -> Result<bool, NoMemory> {
+    fn assert_answer(
+        &self,
+        rt: &impl Abort,
+        alloc: Global,
+        store: &mut DomainStore,
+    ) -> Result<(), NoMemory> {
         declare_two(store)?;
-        is_counted(alloc, store)
+        assert_counted(rt, alloc, store)
     }
 }
 
 #[test]
 fn a_question_is_counted_and_answered(rt: HostRuntime) -> Result<(), Fail> {
-    assert!(rt; answers(rt.alloc(), &Counted)?);
+    assert_answers(&rt, rt.alloc(), &Counted)?;
     Ok(())
 }

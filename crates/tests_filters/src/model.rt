@@ -7,6 +7,7 @@ ghost use Rattle.palm_model.specs.declared.constraint.Con.TheVariants.{Differ};
 use palm_base::{NoMemory, Value, ValueList, Var, VarList};
 use palm_model::{Con, ConList, DomainList, Op, parts_of, scratch};
 use std::alloc::Global;
+use std::process::Abort;
 use std::test::Fail;
 
 /// Appends a domain.
@@ -26,47 +27,20 @@ fn closed_by(alloc: Global, initial: &DomainList, con: Con) -> Result<DomainList
     scratch(alloc, initial, &constraints)
 }
 
-/// Whether the domains have these values.
-fn has_values(domains: &DomainList, expected: &[&[i32]]) -> bool {
-    if domains.len() != expected.len() {
-        return false;
+/// Asserts that the domains are these. A failed assertion names the constraint.
+fn assert_domains(rt: &impl Abort, con: &str, domains: &DomainList, expected: &[&[Value]]) {
+    assert_eq!(rt; domains.len(), expected.len(), "domains of {con}");
+    for (got, wanted) in domains.as_slice().iter().zip(expected) {
+        assert_eq!(rt; got.as_slice(), *wanted, "a domain of {con}");
     }
-    for (list, wanted) in domains.as_slice().iter().zip(expected) {
-        if !is_list(list.as_slice(), wanted) {
-            return false;
-        }
-    }
-    true
 }
 
-fn is_list(list: &[Value], expected: &[i32]) -> bool {
-    if list.len() != expected.len() {
-        return false;
-    }
-    for (value, wanted) in list.iter().zip(expected) {
-        let Value(number) = *value;
-        if number != *wanted {
-            return false;
-        }
-    }
-    true
-}
-
-/// Whether the greatest closed domains of one constraint have these values.
-fn closes_to(
+/// Asserts what `x < y` and `x != 2` leave of two domains from 1 to 3.
+fn assert_comparisons(
+    rt: &impl Abort,
     alloc: Global,
-    initial: &DomainList,
-    con: Con,
-    expected: &[&[i32]],
-) -> Result<bool, NoMemory>
-    requires ascend { AllAscend initial.now }
-    requires formed { IsWellFormed (length initial.now) con }
-{
-    Ok(has_values(&closed_by(alloc, initial, con)?, expected))
-}
-
-/// What `x < y` and `x != 2` leave of two domains from 1 to 3.
-fn closes_comparisons(alloc: Global, initial: &mut DomainList) -> Result<bool, NoMemory>
+    initial: &mut DomainList,
+) -> Result<(), NoMemory>
     requires { initial.old ≡ [] }
 {
     push_domain(alloc, initial, &[Value(1), Value(2), Value(3)])?;
@@ -77,21 +51,22 @@ fn closes_comparisons(alloc: Global, initial: &mut DomainList) -> Result<bool, N
         right: Var(1),
         offset: 0,
     };
-    if !closes_to(alloc, initial, less, &[&[1, 2], &[2, 3]])? {
-        return Ok(false);
-    }
+    let left: [&[Value]; 2] = [&[Value(1), Value(2)], &[Value(2), Value(3)]];
+    assert_domains(rt, "x < y", &closed_by(alloc, initial, less)?, &left);
     let other = Con::CompareConst {
         left: Var(0),
         op: Op::Ne,
         value: Value(2),
     };
-    closes_to(alloc, initial, other, &[&[1, 3], &[1, 2, 3]])
+    let left: [&[Value]; 2] = [&[Value(1), Value(3)], &[Value(1), Value(2), Value(3)]];
+    assert_domains(rt, "x != 2", &closed_by(alloc, initial, other)?, &left);
+    Ok(())
 }
 
 #[test]
 fn comparisons(rt: HostRuntime) -> Result<(), Fail> {
     let mut initial = DomainList::new(rt.alloc());
-    assert!(rt; closes_comparisons(rt.alloc(), &mut initial)?);
+    assert_comparisons(&rt, rt.alloc(), &mut initial)?;
     Ok(())
 }
 
@@ -110,20 +85,28 @@ fn parts_of_differ(alloc: Global) -> Result<usize, NoMemory> {
     Ok(parts_of(alloc, &differ)?.len())
 }
 
-/// What `differ x y z` leaves of three domains from 1 to 2.
-fn closes_differ(alloc: Global, initial: &mut DomainList) -> Result<bool, NoMemory>
+/// Asserts that `differ x y z` leaves three domains from 1 to 2.
+fn assert_differ(rt: &impl Abort, alloc: Global, initial: &mut DomainList) -> Result<(), NoMemory>
     requires { initial.old ≡ [] }
 {
-    push_domain(alloc, initial, &[Value(1), Value(2)])?;
-    push_domain(alloc, initial, &[Value(1), Value(2)])?;
-    push_domain(alloc, initial, &[Value(1), Value(2)])?;
-    closes_to(alloc, initial, differ(alloc)?, &[&[1, 2], &[1, 2], &[1, 2]])
+    let both = [Value(1), Value(2)];
+    push_domain(alloc, initial, &both)?;
+    push_domain(alloc, initial, &both)?;
+    push_domain(alloc, initial, &both)?;
+    let left = [both.as_slice(), both.as_slice(), both.as_slice()];
+    assert_domains(
+        rt,
+        "differ x y z",
+        &closed_by(alloc, initial, differ(alloc)?)?,
+        &left,
+    );
+    Ok(())
 }
 
 #[test]
 fn pairwise_different(rt: HostRuntime) -> Result<(), Fail> {
     assert_eq!(rt; parts_of_differ(rt.alloc())?, 3);
     let mut initial = DomainList::new(rt.alloc());
-    assert!(rt; closes_differ(rt.alloc(), &mut initial)?);
+    assert_differ(&rt, rt.alloc(), &mut initial)?;
     Ok(())
 }

@@ -5,18 +5,19 @@ ghost use Rattle.palm_kind.specs.Kind.{con_of};
 ghost use Rattle.palm_model.specs.Constraint.{IsWellFormed};
 
 use crate::samples::{Sample, con_of};
-use crate::testing::{Question, answers, is_reason, pair, rule_of, take_out_all};
+use crate::testing::{Question, assert_answers, assert_reason, pair, rule_of, take_out_all};
 use palm_base::{NoMemory, Pair, Value, Var};
 use palm_domain::DomainStore;
 use palm_filter::{Filter, Interval, Known, Reasons, Rule, Shift};
 use palm_kind::Kind;
 use palm_model::{Con, Op, number_of};
 use std::alloc::Global;
+use std::process::Abort;
 use std::test::Fail;
 
 /// A rule, as a table of constants has it: with the number of a variable in place of the variable, and of a list with how many
 /// intervals it has.
-#[derive(Clone, Copy)]
+#[derive(Clone, Copy, Debug)]
 enum Wanted {
     Empty,
     Above(u32, i32),
@@ -130,70 +131,70 @@ fn pairs_of(alloc: Global, numbers: &[(u32, i32)]) -> Result<Reasons, NoMemory> 
     Ok(pairs)
 }
 
-/// Whether the filter tells the reasons by the rule that is wanted, and they are these.
-fn tells_rule(
+/// Asserts that the filter tells the reasons by the rule that is wanted, and they are these.
+fn assert_rule(
+    rt: &impl Abort,
     alloc: Global,
     kind: &Kind,
     store: &DomainStore,
-    asked: &Pair,
-    wanted: &Wanted,
-    last: i32,
+    case: &Case,
     reasons: &[Pair],
-) -> Result<bool, NoMemory>
+) -> Result<(), NoMemory>
     requires { IsWellFormed (length store.now) (con_of kind.now) }
 {
-    if !kind.scope().as_slice().contains(&asked.var) {
-        return Ok(false);
-    }
-    let Some((known, list)) = rule_of(alloc, kind, store, asked)? else {
-        return Ok(false);
+    let (_, (var, value), wanted, last, _) = case;
+    let asked = pair(*var, *value);
+    let over = kind.scope().as_slice().contains(&asked.var);
+    assert!(rt; over, "no variable of the constraint, {case:?}");
+    let Some((known, list)) = rule_of(alloc, kind, store, &asked)? else {
+        panic!(rt; "no rule, {case:?}")
     };
     let out = written(alloc, store, &known, list.as_slice(), &asked.value)?;
-    Ok(
-        known.rule == wanted_rule(wanted)
-            && list.len() == wanted_intervals(wanted)
-            && known.last.0 == last
-            && out.as_slice() == reasons,
-    )
+    assert_eq!(rt; known.rule, wanted_rule(wanted), "{case:?}");
+    assert_eq!(rt; list.len(), wanted_intervals(wanted), "intervals, {case:?}");
+    assert_eq!(rt; known.last.0, *last, "the last value, {case:?}");
+    assert_eq!(rt; out.as_slice(), reasons, "written out, {case:?}");
+    Ok(())
 }
 
 /// The same of a constraint, beside the reason that its filter writes.
-fn tells(
+fn assert_told(
+    rt: &impl Abort,
     alloc: Global,
     store: &DomainStore,
     con: &Con,
-    asked: &Pair,
-    wanted: &Wanted,
-    last: i32,
-    reasons: &[Pair],
-) -> Result<bool, NoMemory>
+    case: &Case,
+) -> Result<(), NoMemory>
     requires formed { IsWellFormed 3 con.now }
     requires variables { length store.now ≡ 3 }
 {
+    let (_, (var, value), _, _, reasons) = case;
+    let reasons = pairs_of(alloc, reasons)?;
     let kind = Kind::from_con(alloc, con)?;
-    Ok(
-        is_reason(alloc, &kind, store, asked, reasons)?
-            && tells_rule(alloc, &kind, store, asked, wanted, last, reasons)?,
-    )
+    assert_reason(
+        rt,
+        alloc,
+        &kind,
+        store,
+        &pair(*var, *value),
+        reasons.as_slice(),
+        case,
+    )?;
+    assert_rule(rt, alloc, &kind, store, case, reasons.as_slice())
 }
 
-/// Whether the sample's constraint tells what the case has.
-fn is_told(alloc: Global, store: &DomainStore, case: &Case) -> Result<bool, NoMemory>
+/// Asserts that the sample's constraint tells what the case has.
+fn assert_case(
+    rt: &impl Abort,
+    alloc: Global,
+    store: &DomainStore,
+    case: &Case,
+) -> Result<(), NoMemory>
     requires { length store.now ≡ 3 }
 {
-    let (sample, (var, value), wanted, last, reasons) = case;
-    let reasons = pairs_of(alloc, reasons)?;
-    match con_of(alloc, sample)? {
-        Some(con) => tells(
-            alloc,
-            store,
-            &con,
-            &pair(*var, *value),
-            wanted,
-            *last,
-            reasons.as_slice(),
-        ),
-        None => Ok(false),
+    match con_of(alloc, &case.0)? {
+        Some(con) => assert_told(rt, alloc, store, &con, case),
+        None => panic!(rt; "no constraint, {case:?}"),
     }
 }
 
@@ -336,11 +337,16 @@ const CASES: &[Case] = &[
     (Sample::Element, (0, 1), Wanted::Listed(1), 1, &[(2, 3)]),
 ];
 
-/// Whether each kind tells what the cases have.
+/// What each kind tells, which the cases have.
 struct Told;
 
 impl Question for Told {
-    fn is_answered(&self, alloc: Global, store: &mut DomainStore) -> Result<bool, NoMemory> {
+    fn assert_answer(
+        &self,
+        rt: &impl Abort,
+        alloc: Global,
+        store: &mut DomainStore,
+    ) -> Result<(), NoMemory> {
         declare_three(store)?;
         let removed = [
             pair(0, 3),
@@ -352,16 +358,14 @@ impl Question for Told {
         ];
         take_out_all(store, &removed);
         for case in CASES {
-            if !is_told(alloc, store, case)? {
-                return Ok(false);
-            }
+            assert_case(rt, alloc, store, case)?;
         }
-        Ok(true)
+        Ok(())
     }
 }
 
 #[test]
 fn reasons_are_told_by_these_rules(rt: HostRuntime) -> Result<(), Fail> {
-    assert!(rt; answers(rt.alloc(), &Told)?);
+    assert_answers(&rt, rt.alloc(), &Told)?;
     Ok(())
 }

@@ -15,7 +15,7 @@ const Y: Var = Var(1);
 const Z: Var = Var(2);
 
 /// A constraint over x, y and z.
-#[derive(Clone, Copy)]
+#[derive(Clone, Copy, Debug)]
 pub enum Sample {
     /// `x op y + offset`
     Variables(Op, i8),

@@ -5,6 +5,7 @@ use palm_filter::{Filter, Heed, Shape};
 use palm_kind::Kind;
 use palm_model::Op;
 use std::alloc::Global;
+use std::process::Abort;
 use std::test::Fail;
 
 /// A shape, as a table of constants has it.
@@ -28,25 +29,21 @@ fn shape_of(wanted: &Wanted) -> Shape {
     }
 }
 
-/// Whether the filter tells what is wanted, of one place of its scope after another.
-fn has_shapes(kind: &Kind, wanted: &[Wanted]) -> bool {
-    if kind.scope().len() != wanted.len() {
-        return false;
-    }
+/// Asserts that the filter tells what is wanted, of one place of its scope after another.
+fn assert_shapes(rt: &impl Abort, sample: &Sample, kind: &Kind, wanted: &[Wanted]) {
+    assert_eq!(rt; kind.scope().len(), wanted.len(), "variables of {sample:?}");
     for place in 0..wanted.len() {
-        if kind.shape(place) != shape_of(&wanted[place]) {
-            return false;
-        }
+        let shape = shape_of(&wanted[place]);
+        assert_eq!(rt; kind.shape(place), shape, "{sample:?} at place {place}");
     }
-    true
 }
 
-/// The same of the filter of the sample's constraint.
-fn tells(alloc: Global, sample: &Sample, wanted: &[Wanted]) -> Result<bool, NoMemory> {
-    match con_of(alloc, sample)? {
-        Some(con) => Ok(has_shapes(&Kind::from_con(alloc, &con)?, wanted)),
-        None => Ok(false),
-    }
+/// The filter of the sample's constraint.
+fn kind_of(rt: &impl Abort, alloc: Global, sample: &Sample) -> Result<Kind, NoMemory> {
+    let Some(con) = con_of(alloc, sample)? else {
+        panic!(rt; "{sample:?} is no constraint")
+    };
+    Kind::from_con(alloc, &con)
 }
 
 /// What the kinds tell of their places.
@@ -150,29 +147,20 @@ const SHAPES: &[(Sample, &[Wanted])] = &[
 #[test]
 fn kinds_tell_their_shapes(rt: HostRuntime) -> Result<(), Fail> {
     for (sample, wanted) in SHAPES {
-        assert!(rt; tells(rt.alloc(), sample, wanted)?);
+        assert_shapes(&rt, sample, &kind_of(&rt, rt.alloc(), sample)?, wanted);
     }
     Ok(())
 }
 
-/// Whether the filter heeds losses so, of one place of its scope after another.
-fn has_heeds(kind: &Kind, wanted: &[Heed]) -> bool {
-    if kind.scope().len() != wanted.len() {
-        return false;
-    }
+/// Asserts that the filter heeds losses so, of one place of its scope after another.
+fn assert_heeds(rt: &impl Abort, sample: &Sample, kind: &Kind, wanted: &[Heed]) {
+    assert_eq!(rt; kind.scope().len(), wanted.len(), "variables of {sample:?}");
     for place in 0..wanted.len() {
-        if kind.heed(place) != wanted[place] {
-            return false;
-        }
-    }
-    true
-}
-
-/// The same of the filter of the sample's constraint.
-fn heeds(alloc: Global, sample: &Sample, wanted: &[Heed]) -> Result<bool, NoMemory> {
-    match con_of(alloc, sample)? {
-        Some(con) => Ok(has_heeds(&Kind::from_con(alloc, &con)?, wanted)),
-        None => Ok(false),
+        assert_eq!(rt;
+            kind.heed(place),
+            wanted[place],
+            "{sample:?} at place {place}"
+        );
     }
 }
 
@@ -236,7 +224,7 @@ const HEEDS: &[(Sample, &[Heed])] = &[
 #[test]
 fn each_kind_heeds_these_losses(rt: HostRuntime) -> Result<(), Fail> {
     for (sample, wanted) in HEEDS {
-        assert!(rt; heeds(rt.alloc(), sample, wanted)?);
+        assert_heeds(&rt, sample, &kind_of(&rt, rt.alloc(), sample)?, wanted);
     }
     Ok(())
 }

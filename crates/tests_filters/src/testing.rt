@@ -11,19 +11,30 @@ use palm_base::{NoMemory, Pair, Value, Var};
 use palm_domain::DomainStore;
 use palm_filter::{Filter, Intervals, Known, Reasons};
 use std::alloc::Global;
+use std::fmt::Debug;
+use std::process::Abort;
 
 /// What a test asks of a store that has no variable yet.
 pub trait Question {
-    /// Fills the store, and tells whether it answers as it should.
-    fn is_answered(&self, alloc: Global, store: &mut DomainStore) -> Result<bool, NoMemory>
+    /// Fills the store, and asserts that it answers as it should.
+    fn assert_answer(
+        &self,
+        rt: &impl Abort,
+        alloc: Global,
+        store: &mut DomainStore,
+    ) -> Result<(), NoMemory>
         requires { store.old ≡ [] };
 }
 
-/// Whether a fresh store answers the question as it should. It alone owns a store, since each place that gives one up costs
+/// Asserts that a fresh store answers the question as it should. It alone owns a store, since each place that gives one up costs
 /// its proof.
-pub fn answers<Q: Question>(alloc: Global, question: &Q) -> Result<bool, NoMemory> {
+pub fn assert_answers<Q: Question>(
+    rt: &impl Abort,
+    alloc: Global,
+    question: &Q,
+) -> Result<(), NoMemory> {
     let mut store = DomainStore::new(alloc);
-    question.is_answered(alloc, &mut store)
+    question.assert_answer(rt, alloc, &mut store)
 }
 
 /// Declares x and y with the values 1 to 3 in a fresh store.
@@ -145,28 +156,22 @@ pub fn is_supported<F: Filter>(filter: &F, store: &DomainStore, asked: &Pair) ->
         && filter.supported(store, Pair { var, value })
 }
 
-/// Whether there is a reason why the constraint takes the pair out, and it is this list.
-pub fn is_reason<F: Filter>(
+/// Asserts that there is a reason why the constraint takes the pair out, and it is this list. A failed assertion names `at`.
+pub fn assert_reason<F: Filter>(
+    rt: &impl Abort,
     alloc: Global,
     filter: &F,
     store: &DomainStore,
     asked: &Pair,
     expected: &[Pair],
-) -> Result<bool, NoMemory>
+    at: &impl Debug,
+) -> Result<(), NoMemory>
     requires { IsWellFormed (length store.now) (F.meaning filter.now) }
-    ensures same { IfOk result (λ same. same ≡ true
-        → reason (initial_of store.now) (present_of store.now) (F.meaning filter.now) asked.now.var asked.now.value ≡ expected.now) }
-    ensures other { IfOk result (λ same. same ≡ false → Contains (scope (F.meaning filter.now)) asked.now.var
-        → Has (present_of store.now) asked.now.var asked.now.value
-        → LacksSupport (present_of store.now) (F.meaning filter.now) asked.now.var asked.now.value
-        → AreFilled (present_of store.now) (scope (F.meaning filter.now))
-        → reason (initial_of store.now) (present_of store.now) (F.meaning filter.now) asked.now.var asked.now.value ≡ expected.now → ⊥) }
 {
-    if !filter.scope().as_slice().contains(&asked.var) {
-        return Ok(false);
-    }
-    Ok(match reason_of(alloc, filter, store, asked)? {
-        Some(reason) => reason.as_slice() == expected,
-        None => false,
-    })
+    let over = filter.scope().as_slice().contains(&asked.var);
+    assert!(rt; over, "{asked:?} is of no variable of {at:?}");
+    let got = reason_of(alloc, filter, store, asked)?;
+    let expected = Some(Reasons::from_slice(alloc, expected)?);
+    assert_eq!(rt; got, expected, "the reason of {asked:?} in {at:?}");
+    Ok(())
 }

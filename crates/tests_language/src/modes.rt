@@ -1,10 +1,11 @@
 //! What each mode makes of a line: the header, the forms of version 2, and those of version 1.
 use palm_read::{Line, LineError, Mode, Shape, beyond, parse_line};
 use std::alloc::Global;
+use std::process::Abort;
 use std::test::Fail;
 
 /// What a line is read as, as far as modes tell lines apart.
-#[derive(Clone, Copy, PartialEq, Eq)]
+#[derive(Clone, Copy, Debug, PartialEq, Eq)]
 enum Reading {
     Refused(LineError),
     Header,
@@ -62,11 +63,15 @@ fn read(alloc: Global, text: &str, mode: Mode) -> Reading {
     }
 }
 
-/// Whether the text is read so in version 1, at the head of a text too, and so in version 2.
-fn differs(alloc: Global, text: &str, one: Reading, two: Reading) -> bool {
-    read(alloc, text, Mode::First) == one
-        && read(alloc, text, Mode::One) == one
-        && read(alloc, text, Mode::Two) == two
+/// Asserts that the text is read so at the head of a text, so in version 1, and so in version 2.
+fn assert_read(rt: &impl Abort, alloc: Global, text: &str, [first, one, two]: [Reading; 3]) {
+    assert_eq!(rt;
+        read(alloc, text, Mode::First),
+        first,
+        "{text}, at the head"
+    );
+    assert_eq!(rt; read(alloc, text, Mode::One), one, "{text}, in version 1");
+    assert_eq!(rt; read(alloc, text, Mode::Two), two, "{text}, in version 2");
 }
 
 /// No such form.
@@ -87,9 +92,7 @@ const HEADERS: &[(&str, Reading)] = &[
 #[test]
 fn the_header_is_read_in_the_first_mode_alone(rt: HostRuntime) -> Result<(), Fail> {
     for (text, first) in HEADERS {
-        assert!(rt; read(rt.alloc(), text, Mode::First) == *first, "{text}");
-        assert!(rt; read(rt.alloc(), text, Mode::One) == UNKNOWN, "{text}");
-        assert!(rt; read(rt.alloc(), text, Mode::Two) == UNKNOWN, "{text}");
+        assert_read(&rt, rt.alloc(), text, [*first, UNKNOWN, UNKNOWN]);
     }
     Ok(())
 }
@@ -156,7 +159,7 @@ const NEWER: &[(&str, Reading)] = &[
 #[test]
 fn forms_of_version_2_are_unknown_in_version_1(rt: HostRuntime) -> Result<(), Fail> {
     for (text, two) in NEWER {
-        assert!(rt; differs(rt.alloc(), text, UNKNOWN, *two), "{text}");
+        assert_read(&rt, rt.alloc(), text, [UNKNOWN, UNKNOWN, *two]);
     }
     Ok(())
 }
@@ -221,7 +224,7 @@ const SAME: &[(&str, Reading)] = &[
 #[test]
 fn all_else_is_read_alike(rt: HostRuntime) -> Result<(), Fail> {
     for (text, reading) in SAME {
-        assert!(rt; differs(rt.alloc(), text, *reading, *reading), "{text}");
+        assert_read(&rt, rt.alloc(), text, [*reading, *reading, *reading]);
     }
     Ok(())
 }

@@ -66,7 +66,7 @@ const EVERY_NEWER_FORM: &[&str] = &[
 ];
 
 /// What bytes are read as.
-#[derive(Clone, Copy)]
+#[derive(Clone, Copy, Debug, PartialEq)]
 enum Reading {
     Refused(LineError),
     Comment,
@@ -110,29 +110,6 @@ fn printed_of(alloc: Global, text: &str, mode: Mode) -> Result<Vec<u8>, NoMemory
         Reading::Refused(_) => Ok(Vec::from_slice(alloc, b"(refused)")?),
         _ => Ok(out),
     }
-}
-
-/// Whether the bytes are refused so.
-fn is_refused(alloc: Global, bytes: &[u8], error: LineError) -> Result<bool, NoMemory> {
-    Ok(match read_unprinted(alloc, bytes)? {
-        Reading::Refused(cause) => cause == error,
-        _ => false,
-    })
-}
-
-/// Whether the bytes are read as a comment.
-fn is_comment(alloc: Global, bytes: &[u8]) -> Result<bool, NoMemory> {
-    Ok(matches!(read_unprinted(alloc, bytes)?, Reading::Comment))
-}
-
-/// Whether the text is read, and is beyond the limits of one line.
-fn is_beyond(alloc: Global, text: &str) -> Result<bool, NoMemory> {
-    Ok(matches!(read_unprinted(alloc, text.as_bytes())?, Reading::Beyond))
-}
-
-/// Whether the text is read, and is within the limits of one line.
-fn is_within(alloc: Global, text: &str) -> Result<bool, NoMemory> {
-    Ok(matches!(read_unprinted(alloc, text.as_bytes())?, Reading::Within))
 }
 
 #[test]
@@ -243,7 +220,8 @@ const TWO_FAULTS: &[(&str, LineError)] = &[
 #[test]
 fn of_two_faults_the_first_is_told(rt: HostRuntime) -> Result<(), Fail> {
     for (text, error) in TWO_FAULTS {
-        assert!(rt; is_refused(rt.alloc(), text.as_bytes(), *error)?, "{text}");
+        let got = read_unprinted(rt.alloc(), text.as_bytes())?;
+        assert_eq!(rt; got, Reading::Refused(*error), "{text}");
     }
     Ok(())
 }
@@ -304,18 +282,32 @@ const ONE_FAULT: &[(&str, LineError)] = &[
 #[test]
 fn each_fault_alone_is_told(rt: HostRuntime) -> Result<(), Fail> {
     for (text, error) in ONE_FAULT {
-        assert!(rt; is_refused(rt.alloc(), text.as_bytes(), *error)?, "{text}");
+        let got = read_unprinted(rt.alloc(), text.as_bytes())?;
+        assert_eq!(rt; got, Reading::Refused(*error), "{text}");
     }
     Ok(())
 }
 
+/// Lines about as long as lines may be.
+const LONG: &[(&str, Reading)] = &[
+    ("var x 1..257", Reading::Beyond),
+    ("var x 1..256", Reading::Within),
+    (
+        "add d : differ a b c d e f g h i j k l m n o p q",
+        Reading::Beyond,
+    ),
+    (
+        "add d : differ a b c d e f g h i j k l m n o p",
+        Reading::Within,
+    ),
+];
+
 #[test]
 fn a_line_may_be_beyond_the_limits(rt: HostRuntime) -> Result<(), Fail> {
-    let alloc = rt.alloc();
-    assert!(rt; is_beyond(alloc, "var x 1..257")?);
-    assert!(rt; is_within(alloc, "var x 1..256")?);
-    assert!(rt; is_beyond(alloc, "add d : differ a b c d e f g h i j k l m n o p q")?);
-    assert!(rt; is_within(alloc, "add d : differ a b c d e f g h i j k l m n o p")?);
+    for (text, reading) in LONG {
+        let got = read_unprinted(rt.alloc(), text.as_bytes())?;
+        assert_eq!(rt; got, *reading, "{text}");
+    }
     Ok(())
 }
 
@@ -335,24 +327,31 @@ fn repeated(
     Ok(line)
 }
 
-/// Whether a line with the text so often is within the limits, and one with the text once more is beyond them.
-fn is_most(
+/// What a line with the text so often is read as, and one with the text once more.
+fn read_about(
     alloc: Global,
     front: &str,
     text: &str,
     count: u32,
     end: &str,
-) -> Result<bool, NoMemory> {
-    let within = repeated(alloc, front, text, count, end)?;
+) -> Result<(Reading, Reading), NoMemory> {
+    let most = repeated(alloc, front, text, count, end)?;
     let longer = repeated(alloc, front, text, 1, "")?;
-    let beyond = repeated(alloc, &longer, text, count, end)?;
-    Ok(is_within(alloc, &within)? && is_beyond(alloc, &beyond)?)
+    let more = repeated(alloc, &longer, text, count, end)?;
+    let first = read_unprinted(alloc, most.as_bytes())?;
+    Ok((first, read_unprinted(alloc, more.as_bytes())?))
 }
 
 #[test]
 fn a_table_has_at_most_256_rows_and_a_list_256_entries(rt: HostRuntime) -> Result<(), Fail> {
-    assert!(rt; is_most(rt.alloc(), "add t : table x :", " (1)", 256, "")?);
-    assert!(rt; is_most(rt.alloc(), "add e : element z y (5", ",5", 255, ")")?);
+    let rows = read_about(rt.alloc(), "add t : table x :", " (1)", 256, "")?;
+    assert_eq!(rt; rows, (Reading::Within, Reading::Beyond), "rows of a table");
+    let entries = read_about(rt.alloc(), "add e : element z y (5", ",5", 255, ")")?;
+    assert_eq!(rt;
+        entries,
+        (Reading::Within, Reading::Beyond),
+        "entries of a list"
+    );
     Ok(())
 }
 
@@ -364,18 +363,15 @@ fn push_spaces(count: u32, bytes: &mut Vec<u8>) -> Result<(), NoMemory> {
     Ok(())
 }
 
-/// Whether 65,536 spaces are a comment, and one more are too many for a line.
-fn is_longest_comment(alloc: Global, bytes: &mut Vec<u8>) -> Result<bool, NoMemory> {
-    push_spaces(65_536, bytes)?;
-    let fits = is_comment(alloc, bytes)?;
-    push_spaces(1, bytes)?;
-    Ok(fits && is_refused(alloc, bytes, LineError::Bytes)?)
-}
-
 #[test]
 fn a_comment_has_at_most_65536_bytes(rt: HostRuntime) -> Result<(), Fail> {
     let mut bytes = Vec::new(rt.alloc());
-    assert!(rt; is_longest_comment(rt.alloc(), &mut bytes)?);
+    push_spaces(65_536, &mut bytes)?;
+    let most = read_unprinted(rt.alloc(), &bytes)?;
+    assert_eq!(rt; most, Reading::Comment);
+    push_spaces(1, &mut bytes)?;
+    let more = read_unprinted(rt.alloc(), &bytes)?;
+    assert_eq!(rt; more, Reading::Refused(LineError::Bytes));
     Ok(())
 }
 
@@ -404,7 +400,7 @@ const PLACES: &[(usize, Option<(usize, usize)>)] = &[
 fn tokens_are_the_longest_that_fit(rt: HostRuntime) -> Result<(), Fail> {
     let text = b" x1<=..-03 ";
     for (from, place) in PLACES {
-        assert!(rt; place_of(text, *from) == *place, "from {from}");
+        assert_eq!(rt; place_of(text, *from), *place, "from {from}");
     }
     Ok(())
 }

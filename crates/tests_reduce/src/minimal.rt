@@ -4,28 +4,13 @@ ghost use Rattle.palm_book.specs.Book.{initial_of};
 ghost use Rattle.palm_model.specs.Domains.{Has};
 
 use crate::lender::lender_of;
-use crate::samples::{Question, X, Y, add_four, add_three, ask};
-use palm_base::{Cid, CidList, NoMemory, Pair, Value, Var};
+use crate::samples::{Question, X, Y, add_four, add_three, assert_answers, users_of};
+use palm_base::{CidList, NoMemory, Pair, Value, Var};
 use palm_book::Book;
 use palm_reduce::{minimal_conflict, minimal_why};
 use std::alloc::Global;
+use std::process::Abort;
 use std::test::Fail;
-
-/// Whether the names are the users' constraints with these numbers, or there are none of either.
-fn are_users(names: &Option<CidList>, numbers: Option<&[u32]>) -> bool {
-    match (names, numbers) {
-        (Some(names), Some(numbers)) => {
-            names.len() == numbers.len()
-                && names
-                    .as_slice()
-                    .iter()
-                    .zip(numbers.iter())
-                    .all(|(name, number)| *name == Cid::User(*number))
-        }
-        (None, None) => true,
-        _ => false,
-    }
-}
 
 /// Whether the value is one that the variable was declared with.
 fn is_declared(book: &Book, pair: &Pair) -> bool
@@ -62,40 +47,64 @@ fn why(alloc: Global, book: &Book, var: u32, value: i32) -> Result<Option<CidLis
     }
 }
 
-/// Whether the minimal explanation of the pair is of these users' constraints.
-fn is_why(
-    alloc: Global,
-    book: &Book,
-    var: u32,
-    value: i32,
-    numbers: Option<&[u32]>,
-) -> Result<bool, NoMemory> {
-    Ok(are_users(&why(alloc, book, var, value)?, numbers))
+/// The ids of the users' constraints with these numbers, where there are some.
+fn some_users(alloc: Global, numbers: Option<&[u32]>) -> Result<Option<CidList>, NoMemory> {
+    Ok(match numbers {
+        Some(numbers) => Some(users_of(alloc, numbers)?),
+        None => None,
+    })
 }
 
-/// Whether the minimal conflict is of these users' constraints.
-fn is_conflict(alloc: Global, book: &Book, numbers: Option<&[u32]>) -> Result<bool, NoMemory> {
+/// Asserts that the minimal explanation of the pair is of these users' constraints.
+fn assert_why(
+    rt: &impl Abort,
+    alloc: Global,
+    book: &Book,
+    (var, value): (u32, i32),
+    numbers: Option<&[u32]>,
+) -> Result<(), NoMemory> {
+    let got = why(alloc, book, var, value)?;
+    assert_eq!(rt;
+        got,
+        some_users(alloc, numbers)?,
+        "variable {var}, value {value}"
+    );
+    Ok(())
+}
+
+/// Asserts that the minimal conflict is of these users' constraints.
+fn assert_conflict(
+    rt: &impl Abort,
+    alloc: Global,
+    book: &Book,
+    numbers: Option<&[u32]>,
+) -> Result<(), NoMemory> {
     let lender = lender_of(alloc, book)?;
-    Ok(are_users(&minimal_conflict(alloc, book, &lender)?, numbers))
+    let got = minimal_conflict(alloc, book, &lender)?;
+    assert_eq!(rt; got, some_users(alloc, numbers)?, "the minimal conflict");
+    Ok(())
 }
 
 /// Of three constraints, which are no conflict, the first alone takes a value of y out.
 struct Lowest;
 
 impl Question for Lowest {
-    fn is_answered(&self, alloc: Global, book: &mut Book) -> Result<bool, NoMemory> {
+    fn assert_answer(
+        &self,
+        rt: &impl Abort,
+        alloc: Global,
+        book: &mut Book,
+    ) -> Result<(), NoMemory> {
         add_three(alloc, book)?;
-        Ok(
-            is_conflict(alloc, book, None)?
-                && is_why(alloc, book, Y, 1, Some(&[1]))?
-                && is_why(alloc, book, Y, 2, None)?,
-        )
+        assert_conflict(rt, alloc, book, None)?;
+        assert_why(rt, alloc, book, (Y, 1), Some(&[1]))?;
+        assert_why(rt, alloc, book, (Y, 2), None)
     }
 }
 
 #[test]
 fn the_lowest_constraint_explains_alone(rt: HostRuntime) -> Result<(), Fail> {
-    assert!(rt; ask(rt.alloc(), &Lowest)?);
+    assert_answers(&rt, rt.alloc(), &Lowest)?;
     Ok(())
 }
 
@@ -103,16 +112,22 @@ fn the_lowest_constraint_explains_alone(rt: HostRuntime) -> Result<(), Fail> {
 struct Relaxed;
 
 impl Question for Relaxed {
-    fn is_answered(&self, alloc: Global, book: &mut Book) -> Result<bool, NoMemory> {
+    fn assert_answer(
+        &self,
+        rt: &impl Abort,
+        alloc: Global,
+        book: &mut Book,
+    ) -> Result<(), NoMemory> {
         add_three(alloc, book)?;
         book.set_active(0, false);
-        Ok(is_why(alloc, book, Y, 1, Some(&[2, 3]))? && is_why(alloc, book, X, 1, Some(&[2]))?)
+        assert_why(rt, alloc, book, (Y, 1), Some(&[2, 3]))?;
+        assert_why(rt, alloc, book, (X, 1), Some(&[2]))
     }
 }
 
 #[test]
 fn a_relaxed_constraint_explains_nothing(rt: HostRuntime) -> Result<(), Fail> {
-    assert!(rt; ask(rt.alloc(), &Relaxed)?);
+    assert_answers(&rt, rt.alloc(), &Relaxed)?;
     Ok(())
 }
 
@@ -120,14 +135,19 @@ fn a_relaxed_constraint_explains_nothing(rt: HostRuntime) -> Result<(), Fail> {
 struct Highest;
 
 impl Question for Highest {
-    fn is_answered(&self, alloc: Global, book: &mut Book) -> Result<bool, NoMemory> {
+    fn assert_answer(
+        &self,
+        rt: &impl Abort,
+        alloc: Global,
+        book: &mut Book,
+    ) -> Result<(), NoMemory> {
         add_four(alloc, book)?;
-        is_conflict(alloc, book, Some(&[1, 4]))
+        assert_conflict(rt, alloc, book, Some(&[1, 4]))
     }
 }
 
 #[test]
 fn the_walk_is_from_the_highest_number_down(rt: HostRuntime) -> Result<(), Fail> {
-    assert!(rt; ask(rt.alloc(), &Highest)?);
+    assert_answers(&rt, rt.alloc(), &Highest)?;
     Ok(())
 }

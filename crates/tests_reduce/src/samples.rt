@@ -1,14 +1,15 @@
-//! A book with x and y from 1 to 2 and four constraints, for tests. The functions that fill it borrow it: `ask` alone owns a
+//! A book with x and y from 1 to 2 and four constraints, for tests. The functions that fill it borrow it: `assert_answers` alone owns a
 //! book, since each place that gives one up costs its proof.
 ghost use Rattle.std.specs.Prelude.{◌≡◌, ◌≢◌, ◌<◌, ◌++◌, ◌∷◌, [], All, codes, length, map, IfOk, OnOk};
 ghost use Rattle.palm_model.specs.Constraint.{IsWellFormed};
 ghost use Rattle.palm_read.specs.Name.{IsNameText};
 
-use palm_base::{NoMemory, Value, ValueList, Var};
+use palm_base::{Cid, CidList, NoMemory, Value, ValueList, Var};
 use palm_book::{Book, BookCon};
 use palm_model::{Con, Op};
 use palm_read::Name;
 use std::alloc::Global;
+use std::process::Abort;
 
 /// The variables by their places.
 pub(crate) const X: u32 = 0;
@@ -23,15 +24,28 @@ fn name(alloc: Global, text: &str) -> Result<Name, NoMemory>
 
 /// What a test asks of a book that has nothing yet.
 pub(crate) trait Question {
-    /// Fills the book, and tells whether it answers as it should.
-    fn is_answered(&self, alloc: Global, book: &mut Book) -> Result<bool, NoMemory>
+    /// Fills the book, and asserts that it answers as it should.
+    fn assert_answer(&self, rt: &impl Abort, alloc: Global, book: &mut Book) -> Result<(), NoMemory>
         requires { book.old ≡ record { variables = []; constraints = [] } };
 }
 
-/// Whether a fresh book answers the question as it should.
-pub(crate) fn ask<Q: Question>(alloc: Global, question: &Q) -> Result<bool, NoMemory> {
+/// Asserts that a fresh book answers the question as it should.
+pub(crate) fn assert_answers<Q: Question>(
+    rt: &impl Abort,
+    alloc: Global,
+    question: &Q,
+) -> Result<(), NoMemory> {
     let mut book = Book::new(alloc);
-    question.is_answered(alloc, &mut book)
+    question.assert_answer(rt, alloc, &mut book)
+}
+
+/// The ids of the users' constraints with these numbers.
+pub(crate) fn users_of(alloc: Global, numbers: &[u32]) -> Result<CidList, NoMemory> {
+    let mut users = CidList::new(alloc);
+    for number in numbers {
+        users.push(Cid::User(*number))?;
+    }
+    Ok(users)
 }
 
 /// Declares x and y in a fresh book.

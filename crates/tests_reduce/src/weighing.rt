@@ -3,31 +3,34 @@ ghost use Rattle.std.specs.Prelude.{◌≡◌, ◌≢◌, ◌∷◌, [], true, A
 ghost use Rattle.palm_book.specs.Book.{HasNumber};
 
 use crate::lender::lender_of;
-use crate::samples::{Question, add_conflict, ask};
-use palm_base::{Cid, CidList, NoMemory};
+use crate::samples::{Question, add_conflict, assert_answers, users_of};
+use palm_base::NoMemory;
 use palm_book::Book;
 use palm_prefer::{LeftList, Preferred, Weight, WeightList, preferred};
 use std::alloc::Global;
+use std::process::Abort;
 use std::test::Fail;
 
-/// Whether the ids are the users' constraints with these numbers.
-fn are_users(cids: &CidList, numbers: &[u32]) -> bool {
-    cids.len() == numbers.len()
-        && cids
-            .as_slice()
-            .iter()
-            .zip(numbers.iter())
-            .all(|(cid, number)| *cid == Cid::User(*number))
-}
-
-/// Whether one constraint is left out, with this number and this conflict.
-fn is_out(left: &LeftList, number: u32, conflict: &[u32]) -> bool {
-    match left.as_slice().first() {
-        Some(out) => {
-            left.len() == 1 && out.number == number && are_users(&out.conflict, conflict)
-        }
-        None => false,
-    }
+/// Asserts that the constraint with this number is left out for this conflict, or none is.
+fn assert_out(
+    rt: &impl Abort,
+    alloc: Global,
+    left: &LeftList,
+    out: Option<(u32, &[u32])>,
+) -> Result<(), NoMemory> {
+    let Some((number, conflict)) = out else {
+        assert_eq!(rt; left.len(), 0, "how many are left out, {left:?}");
+        return Ok(());
+    };
+    assert_eq!(rt; left.len(), 1, "how many are left out, {left:?}");
+    let first = &left.as_slice()[0];
+    assert_eq!(rt; first.number, number, "which is left out");
+    assert_eq!(rt;
+        first.conflict,
+        users_of(alloc, conflict)?,
+        "the conflict of {number}"
+    );
+    Ok(())
 }
 
 /// The weights of the constraints with the numbers 1, 2 and 3.
@@ -79,48 +82,60 @@ fn are_present(book: &Book, weights: &WeightList) -> bool
     true
 }
 
-/// Whether these are kept, and all others with a weight are left out for this conflict, where there is one.
-fn is_kept(
+/// Asserts that these are kept, and all others with a weight are left out for this conflict, where there is one.
+fn assert_kept(
+    rt: &impl Abort,
     alloc: Global,
     book: &Book,
     weights: &WeightList,
     keep: &[u32],
     out: Option<(u32, &[u32])>,
-) -> Result<bool, NoMemory>
+) -> Result<(), NoMemory>
     requires { AllPairs (λ v w. v.number ≢ w.number) weights.now }
 {
-    if !are_present(book, weights) {
-        return Ok(false);
-    }
+    assert!(rt;
+        are_present(book, weights),
+        "one of {weights:?} is of no constraint"
+    );
     let lender = lender_of(alloc, book)?;
     match preferred(alloc, book, weights, &lender)? {
-        Preferred::Hard(_) => Ok(false),
-        Preferred::Kept { keep: kept, left } => Ok(
-            are_users(&kept, keep)
-                && match out {
-                    Some((number, conflict)) => is_out(&left, number, conflict),
-                    None => left.len() == 0,
-                },
-        ),
+        Preferred::Hard(conflict) => panic!(rt; "with {weights:?}, {conflict:?} is a conflict"),
+        Preferred::Kept { keep: kept, left } => {
+            assert_eq!(rt;
+                kept,
+                users_of(alloc, keep)?,
+                "what is kept with {weights:?}"
+            );
+            assert_out(rt, alloc, &left, out)
+        }
     }
 }
 
-/// Whether the constraints without a weight are a conflict, and this is their minimal one.
-fn is_hard(
+/// Asserts that the constraints without a weight are a conflict, and this is their minimal one.
+fn assert_hard(
+    rt: &impl Abort,
     alloc: Global,
     book: &Book,
     weights: &WeightList,
     conflict: &[u32],
-) -> Result<bool, NoMemory>
+) -> Result<(), NoMemory>
     requires { AllPairs (λ v w. v.number ≢ w.number) weights.now }
 {
-    if !are_present(book, weights) {
-        return Ok(false);
-    }
+    assert!(rt;
+        are_present(book, weights),
+        "one of {weights:?} is of no constraint"
+    );
     let lender = lender_of(alloc, book)?;
     match preferred(alloc, book, weights, &lender)? {
-        Preferred::Hard(cids) => Ok(are_users(&cids, conflict)),
-        Preferred::Kept { .. } => Ok(false),
+        Preferred::Hard(got) => {
+            assert_eq!(rt;
+                got,
+                users_of(alloc, conflict)?,
+                "the conflict with {weights:?}"
+            );
+            Ok(())
+        }
+        Preferred::Kept { keep, .. } => panic!(rt; "with {weights:?}, {keep:?} are kept"),
     }
 }
 
@@ -128,16 +143,21 @@ fn is_hard(
 struct Lightest;
 
 impl Question for Lightest {
-    fn is_answered(&self, alloc: Global, book: &mut Book) -> Result<bool, NoMemory> {
+    fn assert_answer(
+        &self,
+        rt: &impl Abort,
+        alloc: Global,
+        book: &mut Book,
+    ) -> Result<(), NoMemory> {
         add_conflict(alloc, book)?;
         let weights = three(alloc, 5, 3, 4)?;
-        is_kept(alloc, book, &weights, &[1, 3], Some((2, &[1, 2, 3])))
+        assert_kept(rt, alloc, book, &weights, &[1, 3], Some((2, &[1, 2, 3])))
     }
 }
 
 #[test]
 fn the_lightest_is_left_out(rt: HostRuntime) -> Result<(), Fail> {
-    assert!(rt; ask(rt.alloc(), &Lightest)?);
+    assert_answers(&rt, rt.alloc(), &Lightest)?;
     Ok(())
 }
 
@@ -145,16 +165,21 @@ fn the_lightest_is_left_out(rt: HostRuntime) -> Result<(), Fail> {
 struct Tied;
 
 impl Question for Tied {
-    fn is_answered(&self, alloc: Global, book: &mut Book) -> Result<bool, NoMemory> {
+    fn assert_answer(
+        &self,
+        rt: &impl Abort,
+        alloc: Global,
+        book: &mut Book,
+    ) -> Result<(), NoMemory> {
         add_conflict(alloc, book)?;
         let weights = three(alloc, 4, 4, 4)?;
-        is_kept(alloc, book, &weights, &[1, 2], Some((3, &[1, 2, 3])))
+        assert_kept(rt, alloc, book, &weights, &[1, 2], Some((3, &[1, 2, 3])))
     }
 }
 
 #[test]
 fn equal_weights_go_by_number(rt: HostRuntime) -> Result<(), Fail> {
-    assert!(rt; ask(rt.alloc(), &Tied)?);
+    assert_answers(&rt, rt.alloc(), &Tied)?;
     Ok(())
 }
 
@@ -162,20 +187,23 @@ fn equal_weights_go_by_number(rt: HostRuntime) -> Result<(), Fail> {
 struct Hard;
 
 impl Question for Hard {
-    fn is_answered(&self, alloc: Global, book: &mut Book) -> Result<bool, NoMemory> {
+    fn assert_answer(
+        &self,
+        rt: &impl Abort,
+        alloc: Global,
+        book: &mut Book,
+    ) -> Result<(), NoMemory> {
         add_conflict(alloc, book)?;
         let none = WeightList::new(alloc);
         let single = one(alloc, 1, 7)?;
-        Ok(
-            is_hard(alloc, book, &none, &[1, 2, 3])?
-                && is_kept(alloc, book, &single, &[2, 3], Some((1, &[1, 2, 3])))?,
-        )
+        assert_hard(rt, alloc, book, &none, &[1, 2, 3])?;
+        assert_kept(rt, alloc, book, &single, &[2, 3], Some((1, &[1, 2, 3])))
     }
 }
 
 #[test]
 fn hard_constraints_are_in_conflict(rt: HostRuntime) -> Result<(), Fail> {
-    assert!(rt; ask(rt.alloc(), &Hard)?);
+    assert_answers(&rt, rt.alloc(), &Hard)?;
     Ok(())
 }
 
@@ -183,16 +211,21 @@ fn hard_constraints_are_in_conflict(rt: HostRuntime) -> Result<(), Fail> {
 struct Relaxed;
 
 impl Question for Relaxed {
-    fn is_answered(&self, alloc: Global, book: &mut Book) -> Result<bool, NoMemory> {
+    fn assert_answer(
+        &self,
+        rt: &impl Abort,
+        alloc: Global,
+        book: &mut Book,
+    ) -> Result<(), NoMemory> {
         add_conflict(alloc, book)?;
         book.set_active(2, false);
         let weights = three(alloc, 5, 3, 4)?;
-        is_kept(alloc, book, &weights, &[1, 2], None)
+        assert_kept(rt, alloc, book, &weights, &[1, 2], None)
     }
 }
 
 #[test]
 fn relaxed_constraints_are_not_walked(rt: HostRuntime) -> Result<(), Fail> {
-    assert!(rt; ask(rt.alloc(), &Relaxed)?);
+    assert_answers(&rt, rt.alloc(), &Relaxed)?;
     Ok(())
 }

@@ -1,7 +1,7 @@
 use Rattle.std.proofs.Common.{pos, sym, subst}
 use Rattle.palm_agenda.specs.Agenda.{IsStanding, mark_own}
 use Rattle.tests_engine.proofs.TwoConnected.{keeps_own, standing_after, taken_user}
-use Rattle.tests_engine.proofs.agendas.marks_what_came_back.Goals as goal
+use Rattle.tests_engine.proofs.agendas.marks_of_restored.Goals as goal
 
 pub marks-requires : goal.marks-requires
 marks-requires c =

@@ -1,7 +1,7 @@
 use Rattle.std.proofs.Common.{sym, subst}
 use Rattle.palm_agenda.specs.Agenda.{IsStanding, mark_others}
 use Rattle.tests_engine.proofs.TwoConnected.{keeps_others, standing_after, taken_user}
-use Rattle.tests_engine.proofs.agendas.marks_what_is_lost.Goals as goal
+use Rattle.tests_engine.proofs.agendas.marks_of_lost.Goals as goal
 
 pub loop-loss-preserved : goal.loop-loss-preserved
 loop-loss-preserved c =

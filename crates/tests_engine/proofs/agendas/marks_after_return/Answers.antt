@@ -1,5 +1,5 @@
 use Rattle.tests_engine.proofs.TwoConnected.{two_places, two_user}
-use Rattle.tests_engine.proofs.agendas.follows_what_came_back.Goals as goal
+use Rattle.tests_engine.proofs.agendas.marks_after_return.Goals as goal
 
 pub unmark_user-requires-clause-standing : goal.unmark_user-requires-clause-standing
 unmark_user-requires-clause-standing c =
