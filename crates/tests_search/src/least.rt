@@ -6,7 +6,7 @@ ghost use Rattle.palm_model.specs.Limits.{IsValue};
 ghost use Rattle.palm_search.specs.Kept.{HasNone};
 
 use crate::guides::Fixed;
-use crate::journal::pair;
+use crate::journal::{pair, put_best, put_turns, text_of};
 use palm_agenda::{LastOrder, Order};
 use palm_base::{Cid, CidList, NoMemory, Steps, Value, Var};
 use palm_best::{Best, minimize};
@@ -18,6 +18,7 @@ use std::alloc::Global;
 use std::marker::Brand;
 use std::sync::ledger::{Blank, Ledger};
 use std::test::Fail;
+use tests_compare::first_difference;
 
 /// A minimization of the first variable, counted from nothing.
 fn minimize_counted<G: Guide, O: Order, L: Ledger>(
@@ -62,15 +63,16 @@ fn add_variable(engine: &mut Engine<Kind>) -> Result<(), NoMemory>
     Ok(())
 }
 
-/// How a minimization of that variable ends within so many turns, and how many it takes.
+/// The text of a minimization of that variable within so many turns: the answer in the first line, and a line for each turn.
 fn minimized_by<G: Guide, O: Order>(
     alloc: Global,
     guide: &mut Option<G>,
     order: &mut Option<O>,
     budget: u64,
-) -> Result<(Best, usize), NoMemory> {
+) -> Result<String, NoMemory> {
     let mut engine = Engine::<Kind>::new(alloc);
     let mut search = Search::begin(alloc);
+    let mut text = String::new(alloc);
     add_variable(&mut engine)?;
     let best = minimize_counted::<G, O, Brand>(
         alloc,
@@ -81,50 +83,35 @@ fn minimized_by<G: Guide, O: Order>(
         budget,
         Blank::new(1),
     )?;
-    Ok((best, search.journal().len()))
+    put_best(&mut text, &best)?;
+    put_turns(&mut text, search.journal())?;
+    Ok(text)
 }
 
 /// The same without a guide and without an order.
-fn minimized(alloc: Global, budget: u64) -> Result<(Best, usize), NoMemory> {
+fn minimized(alloc: Global, budget: u64) -> Result<String, NoMemory> {
     let mut guide: Option<FirstGuide> = None;
     let mut order: Option<LastOrder> = None;
     minimized_by(alloc, &mut guide, &mut order, budget)
 }
 
-/// Whether these are the best values, which no constraint proves.
-fn is_least(best: &Best, least: &[Value]) -> bool {
-    match best {
-        Best::Least { values, users } => {
-            values.as_slice() == least && users.as_slice().is_empty()
-        }
-        _ => false,
-    }
-}
-
-/// Whether so many turns were taken, and these are the best values so far.
-fn is_spent(best: &Best, count: u64, so_far: &[Value]) -> bool {
-    match best {
-        Best::Spent {
-            turns,
-            best: Some(values),
-        } => *turns == count && values.as_slice() == so_far,
-        _ => false,
-    }
-}
-
+// The cut below -1 leaves no value, and no constraint of a user proves it.
 #[test]
 fn the_least_value_is_proved_by_the_cut_alone(rt: HostRuntime) -> Result<(), Fail> {
-    let (best, turns) = minimized(rt.alloc(), 2)?;
-    assert!(rt; is_least(&best, &[Value(-1)]));
-    assert!(rt; turns == 2);
+    let alloc = rt.alloc();
+    let turns = ["x0 = -1", "not x0 = -1 by x0 c65536"];
+    let wanted = text_of(alloc, "least -1 by", &turns)?;
+    let got = minimized(alloc, 2)?;
+    assert_eq!(rt; first_difference(wanted.as_bytes(), got.as_bytes()), None);
     Ok(())
 }
 
 #[test]
 fn the_best_so_far_is_told(rt: HostRuntime) -> Result<(), Fail> {
-    let (best, turns) = minimized(rt.alloc(), 1)?;
-    assert!(rt; is_spent(&best, 1, &[Value(-1)]));
-    assert!(rt; turns == 1);
+    let alloc = rt.alloc();
+    let wanted = text_of(alloc, "spent 1 best -1", &["x0 = -1"])?;
+    let got = minimized(alloc, 1)?;
+    assert_eq!(rt; first_difference(wanted.as_bytes(), got.as_bytes()), None);
     Ok(())
 }
 
@@ -175,9 +162,10 @@ fn an_order_sees_the_first_cut(rt: HostRuntime) -> Result<(), Fail> {
         shown: CidList::new(alloc),
         is_whole: true,
     });
-    let (best, turns) = minimized_by(alloc, &mut guide, &mut order, 2)?;
-    assert!(rt; is_least(&best, &[Value(-1)]));
-    assert_eq!(rt; turns, 2);
+    let turns = ["x0 = 2 after x0 = 2", "not x0 = 2 by x0 c65536"];
+    let wanted = text_of(alloc, "least -1 by", &turns)?;
+    let got = minimized_by(alloc, &mut guide, &mut order, 2)?;
+    assert_eq!(rt; first_difference(wanted.as_bytes(), got.as_bytes()), None);
     let seen = [
         Cid::Decide(Var(0)),
         Cid::Decide(Var(0)),
