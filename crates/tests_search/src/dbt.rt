@@ -1,206 +1,168 @@
 //! Searches by mac-dbt.
-use crate::guides::{is_counted, is_guided, is_weighed};
-use crate::journal::{Conflict, End, FIRST, Wanted, decide, decide_asked, decide_by_default, pair};
+use crate::guides::{counted, weighed, with_pick};
+use crate::journal::{pair, text_of};
 use crate::problems::Problem;
-use crate::searches::{Case, Way, is_plain};
-use palm_base::{Cid, NoMemory, Pair, Value, Var};
-use std::alloc::Global;
+use crate::searches::{Case, Way, plain};
 use std::test::Fail;
+use tests_compare::first_difference;
 
-// The third variable of the five is y: x is decided, then p, then y; a conflict names the decisions that it rests on.
+/// A search by mac-dbt within so many turns.
+fn within(problem: Problem, budget: u64) -> Case {
+    Case {
+        problem,
+        way: Way::Dbt,
+        budget,
+    }
+}
+
+/// The turns of a search of the five variables. The third of them is y: x is decided, then p, then y; a conflict names the
+/// decisions that it rests on.
+const FOUR: [&str; 11] = [
+    "x0 = 1",
+    "x1 = 1",
+    "x2 = 2",
+    "not x2 = 2 by x0 x2 c1",
+    "not x0 = 1 by x0 c1",
+    "x0 = 2",
+    "x2 = 1",
+    "not x2 = 1 by x0 x2 c1",
+    "not x0 = 2 by x0 c1",
+    "x2 = 1",
+    "not x2 = 1 by x2 c1",
+];
+
+/// The turns of a search of three variables over two values that differ.
+const THREE: [&str; 2] = ["x0 = 1", "not x0 = 1 by x0 c1"];
+
 #[test]
 fn one_decision_of_a_conflict_is_undone(rt: HostRuntime) -> Result<(), Fail> {
     let alloc = rt.alloc();
-    let turns = [
-        decide(0, 1),
-        decide(1, 1),
-        decide(2, 2),
-        Wanted::Undo(pair(2, 2), Conflict::Two(Var(0), Var(2))),
-        Wanted::Undo(pair(0, 1), Conflict::One(Var(0))),
-        decide(0, 2),
-        decide(2, 1),
-        Wanted::Undo(pair(2, 1), Conflict::Two(Var(0), Var(2))),
-        Wanted::Undo(pair(0, 2), Conflict::One(Var(0))),
-        decide(2, 1),
-        Wanted::Undo(pair(2, 1), Conflict::One(Var(2))),
+    let rows = [
+        (within(Problem::Four, 11), "none c1", &FOUR[..]),
+        (within(Problem::Four, 10), "spent 10", &FOUR[..10]),
     ];
-    let whole = Case {
-        problem: Problem::Four,
-        way: Way::Dbt,
-        budget: 11,
-        end: End::NoSolution(&[FIRST]),
-        turns: Some(&turns),
-    };
-    assert!(rt; is_plain(alloc, &whole)?);
-    let spent = Case {
-        problem: Problem::Four,
-        way: Way::Dbt,
-        budget: 10,
-        end: End::Spent(10),
-        turns: Some(&turns[..10]),
-    };
-    assert!(rt; is_plain(alloc, &spent)?);
+    for (case, end, turns) in rows {
+        let wanted = text_of(alloc, end, turns)?;
+        let got = plain(alloc, &case)?;
+        assert_eq!(rt;
+            first_difference(wanted.as_bytes(), got.as_bytes()),
+            None,
+            "{case:?}"
+        );
+    }
     Ok(())
 }
 
 #[test]
 fn searches_end_without_a_solution(rt: HostRuntime) -> Result<(), Fail> {
     let alloc = rt.alloc();
-    let circle = Case {
-        problem: Problem::Circle,
-        way: Way::Dbt,
-        budget: 10,
-        end: End::NoSolution(&[FIRST, Cid::User(2)]),
-        turns: Some(&[]),
-    };
-    assert!(rt; is_plain(alloc, &circle)?);
-    let turns = [
-        decide(0, 1),
-        Wanted::Undo(pair(0, 1), Conflict::One(Var(0))),
+    let rows = [
+        (within(Problem::Circle, 10), "none c1 c2", &THREE[..0]),
+        (within(Problem::Three, 2), "none c1", &THREE[..]),
+        (within(Problem::Three, 1), "spent 1", &THREE[..1]),
     ];
-    let three = Case {
-        problem: Problem::Three,
-        way: Way::Dbt,
-        budget: 2,
-        end: End::NoSolution(&[FIRST]),
-        turns: Some(&turns),
-    };
-    assert!(rt; is_plain(alloc, &three)?);
-    let spent = Case {
-        problem: Problem::Three,
-        way: Way::Dbt,
-        budget: 1,
-        end: End::Spent(1),
-        turns: Some(&turns[..1]),
-    };
-    assert!(rt; is_plain(alloc, &spent)?);
+    for (case, end, turns) in rows {
+        let wanted = text_of(alloc, end, turns)?;
+        let got = plain(alloc, &case)?;
+        assert_eq!(rt;
+            first_difference(wanted.as_bytes(), got.as_bytes()),
+            None,
+            "{case:?}"
+        );
+    }
     Ok(())
 }
 
+// The turns are many, and are not looked at.
 #[test]
 fn values_are_found(rt: HostRuntime) -> Result<(), Fail> {
-    let alloc = rt.alloc();
-    let letters = [
-        Value(9),
-        Value(5),
-        Value(6),
-        Value(7),
-        Value(1),
-        Value(0),
-        Value(8),
-        Value(2),
-    ];
-    let money = Case {
-        problem: Problem::Money,
-        way: Way::Dbt,
-        budget: 10000,
-        end: End::Found(&letters),
-        turns: None,
-    };
-    assert!(rt; is_plain(alloc, &money)?);
+    let got = plain(rt.alloc(), &within(Problem::Money, 10000))?;
+    assert_eq!(rt; got.lines().next(), Some("found 9 5 6 7 1 0 8 2"));
     Ok(())
-}
-
-/// Whether these values are found with a guide that always answers this.
-fn is_found_with(
-    alloc: Global,
-    values: &[Value],
-    turns: &[Wanted],
-    pick: Option<Pair>,
-) -> Result<bool, NoMemory> {
-    let case = Case {
-        problem: Problem::Less,
-        way: Way::Dbt,
-        budget: 9,
-        end: End::Found(values),
-        turns: Some(turns),
-    };
-    is_guided(alloc, &case, pick)
 }
 
 // A pick is taken where the variable exists, has two values and has the value.
 #[test]
 fn a_pick_is_tried_before_it_is_taken(rt: HostRuntime) -> Result<(), Fail> {
     let alloc = rt.alloc();
-    let low = [Value(1), Value(2)];
-    let removed = [
-        decide_asked(0, 1, pair(0, 3)),
-        decide_asked(1, 2, pair(0, 3)),
+    let removed = ["x0 = 1 after x0 = 3", "x1 = 2 after x0 = 3"];
+    let missing = ["x0 = 1 after x7 = 1", "x1 = 2 after x7 = 1"];
+    let undeclared = ["x0 = 1 after x0 = 9", "x1 = 2 after x0 = 9"];
+    let nothing = ["x0 = 1 after nothing", "x1 = 2 after nothing"];
+    let rows = [
+        (Some(pair(0, 3)), removed),
+        (Some(pair(7, 1)), missing),
+        (Some(pair(0, 9)), undeclared),
+        (None, nothing),
     ];
-    assert!(rt; is_found_with(alloc, &low, &removed, Some(pair(0, 3)))?);
-    let missing = [
-        decide_asked(0, 1, pair(7, 1)),
-        decide_asked(1, 2, pair(7, 1)),
-    ];
-    assert!(rt; is_found_with(alloc, &low, &missing, Some(pair(7, 1)))?);
-    let undeclared = [
-        decide_asked(0, 1, pair(0, 9)),
-        decide_asked(1, 2, pair(0, 9)),
-    ];
-    assert!(rt; is_found_with(alloc, &low, &undeclared, Some(pair(0, 9)))?);
-    let nothing = [decide_by_default(0, 1), decide_by_default(1, 2)];
-    assert!(rt; is_found_with(alloc, &low, &nothing, None)?);
-    let plain = [decide(0, 1), decide(1, 2)];
-    let case = Case {
-        problem: Problem::Less,
-        way: Way::Dbt,
-        budget: 9,
-        end: End::Found(&low),
-        turns: Some(&plain),
-    };
-    assert!(rt; is_plain(alloc, &case)?);
+    let case = within(Problem::Less, 9);
+    for (pick, turns) in rows {
+        let wanted = text_of(alloc, "found 1 2", &turns)?;
+        let got = with_pick(alloc, &case, pick)?;
+        assert_eq!(rt;
+            first_difference(wanted.as_bytes(), got.as_bytes()),
+            None,
+            "{pick:?}"
+        );
+    }
+    let wanted = text_of(alloc, "found 1 2", &["x0 = 1", "x1 = 2"])?;
+    let got = plain(alloc, &case)?;
+    assert_eq!(rt;
+        first_difference(wanted.as_bytes(), got.as_bytes()),
+        None,
+        "no guide"
+    );
     Ok(())
 }
 
 #[test]
 fn a_lawful_pick_is_taken(rt: HostRuntime) -> Result<(), Fail> {
     let alloc = rt.alloc();
-    let x = [decide_asked(0, 2, pair(0, 2))];
-    assert!(rt; is_found_with(alloc, &[Value(2), Value(3)], &x, Some(pair(0, 2)))?);
-    let y = [
-        decide_asked(1, 3, pair(1, 3)),
-        decide_asked(0, 1, pair(1, 3)),
+    let case = within(Problem::Less, 9);
+    let x = ["x0 = 2 after x0 = 2"];
+    let y = ["x1 = 3 after x1 = 3", "x0 = 1 after x1 = 3"];
+    let rows = [
+        (pair(0, 2), "found 2 3", x.as_slice()),
+        (pair(1, 3), "found 1 3", y.as_slice()),
     ];
-    assert!(rt; is_found_with(alloc, &[Value(1), Value(3)], &y, Some(pair(1, 3)))?);
-    let turns = [
-        decide_asked(0, 1, pair(0, 1)),
-        decide_asked(1, 2, pair(1, 2)),
-    ];
-    let case = Case {
-        problem: Problem::Less,
-        way: Way::Dbt,
-        budget: 9,
-        end: End::Found(&[Value(1), Value(2)]),
-        turns: Some(&turns),
-    };
-    assert!(rt; is_weighed(alloc, &case)?);
+    for (pick, end, turns) in rows {
+        let wanted = text_of(alloc, end, turns)?;
+        let got = with_pick(alloc, &case, Some(pick))?;
+        assert_eq!(rt;
+            first_difference(wanted.as_bytes(), got.as_bytes()),
+            None,
+            "{pick:?}"
+        );
+    }
+    let turns = ["x0 = 1 after x0 = 1", "x1 = 2 after x1 = 2"];
+    let wanted = text_of(alloc, "found 1 2", &turns)?;
+    let got = weighed(alloc, &case)?;
+    assert_eq!(rt;
+        first_difference(wanted.as_bytes(), got.as_bytes()),
+        None,
+        "most conflicts"
+    );
     Ok(())
 }
 
 // The guide is told 2, 1, 2 and 1 variables before its last pick.
 #[test]
 fn guides_are_told_the_conflicts(rt: HostRuntime) -> Result<(), Fail> {
-    let alloc = rt.alloc();
     let turns = [
-        decide_by_default(0, 1),
-        decide_by_default(1, 1),
-        decide_by_default(2, 2),
-        Wanted::Undo(pair(2, 2), Conflict::Two(Var(0), Var(2))),
-        Wanted::Undo(pair(0, 1), Conflict::One(Var(0))),
-        decide_asked(0, 2, pair(1003, 1)),
-        decide_asked(2, 1, pair(1003, 1)),
-        Wanted::Undo(pair(2, 1), Conflict::Two(Var(0), Var(2))),
-        Wanted::Undo(pair(0, 2), Conflict::One(Var(0))),
-        decide_asked(2, 1, pair(1006, 1)),
-        Wanted::Undo(pair(2, 1), Conflict::One(Var(2))),
+        "x0 = 1 after nothing",
+        "x1 = 1 after nothing",
+        "x2 = 2 after nothing",
+        "not x2 = 2 by x0 x2 c1",
+        "not x0 = 1 by x0 c1",
+        "x0 = 2 after x1003 = 1",
+        "x2 = 1 after x1003 = 1",
+        "not x2 = 1 by x0 x2 c1",
+        "not x0 = 2 by x0 c1",
+        "x2 = 1 after x1006 = 1",
+        "not x2 = 1 by x2 c1",
     ];
-    let case = Case {
-        problem: Problem::Four,
-        way: Way::Dbt,
-        budget: 11,
-        end: End::NoSolution(&[FIRST]),
-        turns: Some(&turns),
-    };
-    assert!(rt; is_counted(alloc, &case)?);
+    let wanted = text_of(rt.alloc(), "none c1", &turns)?;
+    let got = counted(rt.alloc(), &within(Problem::Four, 11))?;
+    assert_eq!(rt; first_difference(wanted.as_bytes(), got.as_bytes()), None);
     Ok(())
 }

@@ -1,5 +1,5 @@
 //! Guides of the tests' own, and searches with a guide in a box.
-use crate::searches::{Case, is_searched};
+use crate::searches::{Case, guided};
 use palm_base::{NoMemory, Pair, Value, Var};
 use palm_guide::{Guide, MostConflicts, ViewRow};
 use std::alloc::Global;
@@ -61,31 +61,31 @@ impl Guide for Counting {
     }
 }
 
-/// Whether a search with a guide that always answers this does it.
-pub fn is_guided(alloc: Global, case: &Case<'_>, pick: Option<Pair>) -> Result<bool, NoMemory> {
+/// The text of a search with a guide that always answers this.
+pub fn with_pick(alloc: Global, case: &Case, pick: Option<Pair>) -> Result<String, NoMemory> {
     let mut guide: Option<Box<dyn Guide>> = Some(Box::new(alloc, Fixed { pick })?);
-    is_searched(alloc, case, &mut guide)
+    guided(alloc, case, &mut guide)
 }
 
-/// Whether a search with a guide that counts does it.
-pub fn is_counted(alloc: Global, case: &Case<'_>) -> Result<bool, NoMemory> {
+/// The text of a search with a guide that counts.
+pub fn counted(alloc: Global, case: &Case) -> Result<String, NoMemory> {
     let mut guide: Option<Box<dyn Guide>> = Some(Box::new(alloc, Counting { count: 0 })?);
-    is_searched(alloc, case, &mut guide)
+    guided(alloc, case, &mut guide)
 }
 
-/// Whether a search with the guide that picks a variable with most conflicts does it.
-pub fn is_weighed(alloc: Global, case: &Case<'_>) -> Result<bool, NoMemory> {
+/// The text of a search with the guide that picks a variable with most conflicts.
+pub fn weighed(alloc: Global, case: &Case) -> Result<String, NoMemory> {
     let conflicts = MostConflicts::new(alloc, 64)?;
     let mut guide: Option<Box<dyn Guide>> = Some(Box::new(alloc, conflicts)?);
-    is_searched(alloc, case, &mut guide)
+    guided(alloc, case, &mut guide)
 }
 
-/// Whether a search with a guide that counts does it, and tells the guide so many variables.
-pub fn is_told(alloc: Global, case: &Case<'_>, count: u32) -> Result<bool, NoMemory> {
+/// The text of a search with a guide that counts, and how many variables the guide was told in all.
+pub fn told_in_all(alloc: Global, case: &Case) -> Result<String, NoMemory> {
     let mut guide = Some(Counting { count: 0 });
-    let searched = is_searched(alloc, case, &mut guide)?;
-    match &guide {
-        Some(counting) => Ok(searched && counting.count == count),
-        None => Ok(false),
+    let mut text = guided(alloc, case, &mut guide)?;
+    if let Some(counting) = &guide {
+        writeln!(text, "told {}", counting.count)?;
     }
+    Ok(text)
 }

@@ -1,42 +1,10 @@
-//! Journals and answers, beside those that are wanted.
-use palm_base::{Cid, Pair, Value, Var};
+//! Answers and journals as text: the answer, and a line for each turn behind it.
+use palm_base::{Cid, NoMemory, Pair, Value, ValueList, Var};
+use palm_best::Best;
 use palm_dbt::Answer;
 use palm_repair::RepairAnswer;
 use palm_search::{Pick, Turn};
-
-/// The first constraint of each problem.
-pub const FIRST: Cid = Cid::User(1);
-
-/// The names of a conflict of decisions with the first constraint.
-#[derive(Clone, Copy)]
-pub enum Conflict {
-    /// The decision on the variable.
-    One(Var),
-    /// The decisions on the variables.
-    Two(Var, Var),
-}
-
-/// A turn that is wanted.
-#[derive(Clone, Copy)]
-pub enum Wanted {
-    /// The pair is decided, after the pick.
-    Decide(Pair, Pick),
-    /// The decision of the pair is undone, for the conflict.
-    Undo(Pair, Conflict),
-}
-
-/// The answer that is wanted.
-#[derive(Clone, Copy)]
-pub enum End<'a> {
-    /// These values.
-    Found(&'a [Value]),
-    /// These users.
-    NoSolution(&'a [Cid]),
-    /// So many turns.
-    Spent(u64),
-    /// So many turns, with so many nogoods dropped.
-    SpentDropped(u64, u64),
-}
+use std::alloc::Global;
 
 /// The pair of a variable and a value.
 pub fn pair(var: u32, value: i32) -> Pair {
@@ -46,73 +14,115 @@ pub fn pair(var: u32, value: i32) -> Pair {
     }
 }
 
-/// A decision without a guide.
-pub fn decide(var: u32, value: i32) -> Wanted {
-    Wanted::Decide(pair(var, value), Pick::NoGuide)
-}
-
-/// A decision after a guide had nothing to propose.
-pub fn decide_by_default(var: u32, value: i32) -> Wanted {
-    Wanted::Decide(pair(var, value), Pick::Nothing)
-}
-
-/// A decision after a guide proposed the pair.
-pub fn decide_asked(var: u32, value: i32, asked: Pair) -> Wanted {
-    Wanted::Decide(pair(var, value), Pick::Asked(asked))
-}
-
-/// Whether these are the names of the conflict.
-fn is_conflict(names: &[Cid], conflict: &Conflict) -> bool {
-    match conflict {
-        Conflict::One(x) => names == [Cid::Decide(*x), FIRST].as_slice(),
-        Conflict::Two(x, y) => { names == [Cid::Decide(*x), Cid::Decide(*y), FIRST].as_slice() }
+/// The text that has the answer in its first line, and these lines behind it.
+pub fn text_of(alloc: Global, answer: &str, lines: &[&str]) -> Result<String, NoMemory> {
+    let mut text = String::new(alloc);
+    writeln!(text, "{answer}")?;
+    for line in lines {
+        writeln!(text, "{line}")?;
     }
+    Ok(text)
 }
 
-/// Whether the turn is the one that is wanted.
-fn is_turn(turn: &Turn, wanted: &Wanted) -> bool {
-    match (turn, wanted) {
-        (Turn::Decide { pair, pick }, Wanted::Decide(decided, picked)) => {
-            pair == decided && pick == picked
-        }
-        (Turn::Undo { gone, conflict }, Wanted::Undo(undone, names)) => {
-            gone == undone && is_conflict(conflict.as_slice(), names)
-        }
-        _ => false,
+/// Appends the word and the values.
+fn put_values(text: &mut String, word: &str, values: &[Value]) -> Result<(), NoMemory> {
+    text.push_str(word)?;
+    for value in values {
+        write!(text, " {}", value.0)?;
     }
+    Ok(())
 }
 
-/// Whether the turns are those that are wanted.
-pub fn are_turns(turns: &[Turn], wanted: &[Wanted]) -> bool {
-    if turns.len() != wanted.len() {
-        return false;
-    }
-    for (turn, want) in turns.iter().zip(wanted) {
-        if !is_turn(turn, want) {
-            return false;
+/// Appends the word and the names: of a decision its variable, of a negation its pair, of a user's constraint its number.
+fn put_cids(text: &mut String, word: &str, cids: &[Cid]) -> Result<(), NoMemory> {
+    text.push_str(word)?;
+    for cid in cids {
+        match cid {
+            Cid::Decide(var) => write!(text, " x{}", var.0)?,
+            Cid::Not(pair) => write!(text, " x{}!={}", pair.var.0, pair.value.0)?,
+            Cid::User(number) => write!(text, " c{number}")?,
         }
     }
-    true
+    Ok(())
 }
 
-/// Whether the answer of a search by mac-dbt is the one that is wanted.
-pub fn is_end(answer: &Answer, end: &End<'_>) -> bool {
-    match (answer, end) {
-        (Answer::Found(values), End::Found(wanted)) => values.as_slice() == *wanted,
-        (Answer::NoSolution(users), End::NoSolution(wanted)) => users.as_slice() == *wanted,
-        (Answer::Spent(turns), End::Spent(wanted)) => turns == wanted,
-        _ => false,
+/// Appends the answer of a search by mac-dbt.
+pub fn put_answer(text: &mut String, answer: &Answer) -> Result<(), NoMemory> {
+    match answer {
+        Answer::Found(values) => put_values(text, "found", values.as_slice())?,
+        Answer::NoSolution(users) => put_cids(text, "none", users.as_slice())?,
+        Answer::Spent(turns) => write!(text, "spent {turns}")?,
     }
+    Ok(())
 }
 
-/// Whether the answer of a repair is the one that is wanted.
-pub fn is_repair_end(answer: &RepairAnswer, end: &End<'_>) -> bool {
-    match (answer, end) {
-        (RepairAnswer::Found(values), End::Found(wanted)) => values.as_slice() == *wanted,
-        (RepairAnswer::NoSolution(users), End::NoSolution(wanted)) => users.as_slice() == *wanted,
-        (RepairAnswer::Spent { turns, dropped }, End::SpentDropped(wanted, lost)) => {
-            turns == wanted && dropped == lost
+/// Appends the answer of a repair.
+pub fn put_repair_answer(text: &mut String, answer: &RepairAnswer) -> Result<(), NoMemory> {
+    match answer {
+        RepairAnswer::Found(values) => put_values(text, "found", values.as_slice())?,
+        RepairAnswer::NoSolution(users) => put_cids(text, "none", users.as_slice())?,
+        RepairAnswer::Spent { turns, dropped } => {
+            write!(text, "spent {turns} dropped {dropped}")?;
         }
-        _ => false,
     }
+    Ok(())
+}
+
+/// Appends the best values so far, where there are some.
+fn put_so_far(text: &mut String, best: &Option<ValueList>) -> Result<(), NoMemory> {
+    match best {
+        Some(values) => put_values(text, " best", values.as_slice()),
+        None => Ok(()),
+    }
+}
+
+/// Appends the answer of a minimization.
+pub fn put_best(text: &mut String, best: &Best) -> Result<(), NoMemory> {
+    match best {
+        Best::Least { values, users } => {
+            put_values(text, "least", values.as_slice())?;
+            put_cids(text, " by", users.as_slice())?;
+        }
+        Best::NoSolution(users) => put_cids(text, "none", users.as_slice())?,
+        Best::Spent { turns, best } => {
+            write!(text, "spent {turns}")?;
+            put_so_far(text, best)?;
+        }
+    }
+    Ok(())
+}
+
+/// Appends what the guide answered, where there is one.
+fn put_pick(text: &mut String, pick: &Pick) -> Result<(), NoMemory> {
+    match pick {
+        Pick::NoGuide => {}
+        Pick::Nothing => text.push_str(" after nothing")?,
+        Pick::Asked(pair) => write!(text, " after x{} = {}", pair.var.0, pair.value.0)?,
+    }
+    Ok(())
+}
+
+/// Appends the turn.
+fn put_turn(text: &mut String, turn: &Turn) -> Result<(), NoMemory> {
+    match turn {
+        Turn::Decide { pair, pick } => {
+            write!(text, "x{} = {}", pair.var.0, pair.value.0)?;
+            put_pick(text, pick)?;
+        }
+        Turn::Undo { gone, conflict } => {
+            write!(text, "not x{} = {}", gone.var.0, gone.value.0)?;
+            put_cids(text, " by", conflict.as_slice())?;
+        }
+    }
+    text.push_str("\n")?;
+    Ok(())
+}
+
+/// Ends the line, and appends the turns.
+pub fn put_turns(text: &mut String, turns: &[Turn]) -> Result<(), NoMemory> {
+    text.push_str("\n")?;
+    for turn in turns {
+        put_turn(text, turn)?;
+    }
+    Ok(())
 }

@@ -13,7 +13,7 @@ use palm_model::{Con, Op, Term, TermList};
 use std::alloc::Global;
 
 /// A problem.
-#[derive(Clone, Copy)]
+#[derive(Clone, Copy, Debug)]
 pub enum Problem {
     /// `x < y` over 1 to 3.
     Less,

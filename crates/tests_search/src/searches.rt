@@ -2,7 +2,7 @@
 ghost use Rattle.std.specs.Prelude.{◌≡◌, ◌<◌, [], OnOk};
 ghost use Rattle.palm_search.specs.Kept.{HasOnlyUsers};
 
-use crate::journal::{End, Wanted, are_turns, is_end, is_repair_end};
+use crate::journal::{put_answer, put_repair_answer, put_turns};
 use crate::problems::{Problem, pose};
 use palm_agenda::{LastOrder, Order};
 use palm_base::{NoMemory, Steps, Var};
@@ -79,29 +79,16 @@ fn repair_counted<F: Filter, G: Guide, O: Order, L: Ledger>(
 }
 
 /// How many values each variable has.
-fn counts_of(alloc: Global, store: &DomainStore) -> Result<Vec<u32>, NoMemory> {
-    let mut counts = Vec::new(alloc);
+fn counts_of(alloc: Global, store: &DomainStore) -> Result<String, NoMemory> {
+    let mut counts = String::new(alloc);
     for var in 0..store.variables() {
-        counts.push(store.count(Var(var)))?;
+        write!(counts, " {}", store.count(Var(var)))?;
     }
     Ok(counts)
 }
 
-/// Whether the variables have so many values each.
-fn has_counts(store: &DomainStore, counts: &[u32]) -> bool {
-    if store.variables() as usize != counts.len() {
-        return false;
-    }
-    for var in 0..store.variables() {
-        if store.count(Var(var)) != counts[var as usize] {
-            return false;
-        }
-    }
-    true
-}
-
 /// A way of searching.
-#[derive(Clone, Copy)]
+#[derive(Clone, Copy, Debug)]
 pub enum Way {
     /// mac-dbt.
     Dbt,
@@ -109,135 +96,124 @@ pub enum Way {
     Repair(u32),
 }
 
-/// What a search is to do; without turns the journal is not looked at.
-#[derive(Clone, Copy)]
-pub struct Case<'a> {
+/// What is searched, how, and within how many turns.
+#[derive(Clone, Copy, Debug)]
+pub struct Case {
     pub problem: Problem,
     pub way: Way,
     pub budget: u64,
-    pub end: End<'a>,
-    pub turns: Option<&'a [Wanted]>,
 }
 
-/// Whether the journal has these turns.
-fn is_journal(search: &Search, turns: Option<&[Wanted]>) -> bool {
-    match turns {
-        Some(wanted) => are_turns(search.journal(), wanted),
-        None => true,
-    }
-}
-
-/// Whether a search of the engine in this way answers as it is to.
-fn is_answered<G: Guide, O: Order>(
+/// Searches the engine in this way, and appends the answer.
+fn answer_in<G: Guide, O: Order>(
     alloc: Global,
     engine: &mut Engine<Kind>,
     search: &mut Search,
     guide: &mut Option<G>,
     order: &mut Option<O>,
-    case: &Case<'_>,
-) -> Result<bool, NoMemory>
+    case: &Case,
+    text: &mut String,
+) -> Result<(), NoMemory>
     requires fresh { search.old ≡ record { decisions = []; journal = [] } }
     requires users { HasOnlyUsers engine.old.state }
 {
     let blank = Blank::new(1);
+    let budget = case.budget;
     match case.way {
         Way::Dbt => {
             let answer = solve_counted::<Kind, G, O, Brand>(
-                alloc,
-                engine,
-                search,
-                guide,
-                order,
-                case.budget,
-                blank,
+                alloc, engine, search, guide, order, budget, blank,
             )?;
-            Ok(is_end(&answer, &case.end))
+            put_answer(text, &answer)
         }
         Way::Repair(tabu) if tabu > 0 => {
             let answer = repair_counted::<Kind, G, O, Brand>(
-                alloc,
-                engine,
-                search,
-                guide,
-                order,
-                tabu,
-                case.budget,
-                blank,
+                alloc, engine, search, guide, order, tabu, budget, blank,
             )?;
-            Ok(is_repair_end(&answer, &case.end))
+            put_repair_answer(text, &answer)
         }
-        Way::Repair(_) => Ok(false),
+        Way::Repair(_) => Ok(text.push_str("no tabu length")?),
     }
 }
 
-/// Whether a search of the engine answers as it is to, by these turns, and leaves no decision, no negation and so many values
-/// of each variable.
-fn is_undone<G: Guide, O: Order>(
+/// Appends what the search left behind, and it is to leave nothing: a decision, a negation, or variables with other numbers of
+/// values than these.
+fn put_left(
     alloc: Global,
-    engine: &mut Engine<Kind>,
-    search: &mut Search,
-    guide: &mut Option<G>,
-    order: &mut Option<O>,
-    case: &Case<'_>,
-    counts: &[u32],
-) -> Result<bool, NoMemory>
-    requires fresh { search.old ≡ record { decisions = []; journal = [] } }
-    requires users { HasOnlyUsers engine.old.state }
-{
-    let answered = is_answered(alloc, engine, search, guide, order, case)?;
-    Ok(
-        answered
-            && is_journal(search, case.turns)
-            && search.decisions().is_empty()
-            && engine.first_negation().is_none()
-            && has_counts(engine.store(), counts),
-    )
+    engine: &Engine<Kind>,
+    search: &Search,
+    before: &str,
+    text: &mut String,
+) -> Result<(), NoMemory> {
+    if let Some(pair) = search.decisions().first() {
+        write!(text, " leaves x{} = {}", pair.var.0, pair.value.0)?;
+    }
+    if let Some(pair) = engine.first_negation() {
+        write!(text, " leaves x{} != {}", pair.var.0, pair.value.0)?;
+    }
+    let after = counts_of(alloc, engine.store())?;
+    if after.as_str() != before {
+        write!(text, " leaves{after} values of{before}")?;
+    }
+    Ok(())
 }
 
-/// Whether a search of the problem in a new engine answers as it is to, by these turns, and leaves no decision, no negation
-/// and the domains as they were.
-fn is_searched_in<G: Guide, O: Order>(
+/// Searches the problem in a new engine, and appends the answer, with what is left behind, and the turns.
+fn search_in<G: Guide, O: Order>(
     alloc: Global,
     engine: &mut Engine<Kind>,
     search: &mut Search,
     guide: &mut Option<G>,
     order: &mut Option<O>,
-    case: &Case<'_>,
-) -> Result<bool, NoMemory>
+    case: &Case,
+    text: &mut String,
+) -> Result<(), NoMemory>
     requires fresh { search.old ≡ record { decisions = []; journal = [] } }
     requires users { HasOnlyUsers engine.old.state }
 {
     pose(alloc, engine, &case.problem)?;
     settle_counted::<Kind, Brand>(engine, Blank::new(1))?;
     let before = counts_of(alloc, engine.store())?;
-    is_undone(alloc, engine, search, guide, order, case, before.as_slice())
+    answer_in(alloc, engine, search, guide, order, case, text)?;
+    put_left(alloc, engine, search, before.as_str(), text)?;
+    put_turns(text, search.journal())
 }
 
-/// Whether a search of an engine of its own does this. The engine is given up in one place, since each place costs its
-/// proof.
-pub fn is_ordered<G: Guide, O: Order>(
+/// The text of a search of an engine of its own: the answer in the first line, and a line for each turn. The engine is given
+/// up in one place, since each place costs its proof.
+pub fn ordered<G: Guide, O: Order>(
     alloc: Global,
-    case: &Case<'_>,
+    case: &Case,
     guide: &mut Option<G>,
     order: &mut Option<O>,
-) -> Result<bool, NoMemory> {
+) -> Result<String, NoMemory> {
     let mut engine = Engine::new(alloc);
     let mut search = Search::begin(alloc);
-    is_searched_in(alloc, &mut engine, &mut search, guide, order, case)
+    let mut text = String::new(alloc);
+    search_in(
+        alloc,
+        &mut engine,
+        &mut search,
+        guide,
+        order,
+        case,
+        &mut text,
+    )?;
+    Ok(text)
 }
 
-/// Whether a search without an order does this.
-pub fn is_searched<G: Guide>(
+/// The text of a search without an order.
+pub fn guided<G: Guide>(
     alloc: Global,
-    case: &Case<'_>,
+    case: &Case,
     guide: &mut Option<G>,
-) -> Result<bool, NoMemory> {
+) -> Result<String, NoMemory> {
     let mut order: Option<LastOrder> = None;
-    is_ordered(alloc, case, guide, &mut order)
+    ordered(alloc, case, guide, &mut order)
 }
 
-/// Whether a search without a guide does this.
-pub fn is_plain(alloc: Global, case: &Case<'_>) -> Result<bool, NoMemory> {
+/// The text of a search without a guide.
+pub fn plain(alloc: Global, case: &Case) -> Result<String, NoMemory> {
     let mut guide: Option<MostConflicts> = None;
-    is_searched(alloc, case, &mut guide)
+    guided(alloc, case, &mut guide)
 }

@@ -31,50 +31,53 @@ fn view() -> [ViewRow; 5] {
     ]
 }
 
-/// Whether the first guide picks the least value of the first variable that has two.
-fn first_picks(alloc: Global) -> Result<bool, NoMemory> {
+/// What the first guide picks.
+fn first_pick(alloc: Global) -> Result<Option<Pair>, NoMemory> {
     let mut guide: Box<dyn Guide> = Box::new(alloc, FirstGuide::new())?;
-    Ok(guide.pick(&view()) == pair(1, -1))
+    Ok(guide.pick(&view()))
 }
 
-/// Whether the guide picks a variable of two values, whatever conflicts it learned of, and nothing where each has one.
-fn picks_smallest(guide: &mut Box<dyn Guide>) -> bool {
+/// What the guide picks after it learned of a conflict, and what where each variable has one value.
+fn two_picks(guide: &mut Box<dyn Guide>) -> [Option<Pair>; 2] {
     guide.learned(&[Var(3)]);
-    guide.pick(&view()) == pair(2, 4) && guide.pick(&[row(0, 1, 5, 5)]).is_none()
+    let pick = guide.pick(&view());
+    [pick, guide.pick(&[row(0, 1, 5, 5)])]
 }
 
-/// The same of the guide that does.
-fn smallest_picks(alloc: Global) -> Result<bool, NoMemory> {
+/// The same of the guide that picks a variable with fewest values.
+fn smallest_picks(alloc: Global) -> Result<[Option<Pair>; 2], NoMemory> {
     let mut guide: Box<dyn Guide> = Box::new(alloc, SmallestGuide::new())?;
-    Ok(picks_smallest(&mut guide))
+    Ok(two_picks(&mut guide))
 }
 
+// The second picks a variable of two values, whatever conflicts it learned of.
 #[test]
 fn guides_without_numbers_pick_by_the_view(rt: HostRuntime) -> Result<(), Fail> {
-    assert!(rt; first_picks(rt.alloc())?);
-    assert!(rt; smallest_picks(rt.alloc())?);
+    assert_eq!(rt; first_pick(rt.alloc())?, pair(1, -1));
+    assert_eq!(rt; smallest_picks(rt.alloc())?, [pair(2, 4), None]);
     Ok(())
 }
 
-/// Whether the guide, that numbers the first four variables, picks the one with most conflicts.
-fn picks_most(guide: &mut Box<dyn Guide>) -> bool {
-    let first = guide.pick(&view()) == pair(1, -1);
+/// What the guide, that numbers the first four variables, picks before, between and after conflicts.
+fn three_picks(guide: &mut Box<dyn Guide>) -> [Option<Pair>; 3] {
+    let first = guide.pick(&view());
     guide.learned(&[Var(0), Var(2), Var(3), Var(4)]);
     guide.learned(&[Var(0), Var(4)]);
-    let second = guide.pick(&view()) == pair(2, 4);
+    let second = guide.pick(&view());
     guide.learned(&[Var(3)]);
-    first && second && guide.pick(&view()) == pair(3, 0)
+    [first, second, guide.pick(&view())]
 }
 
-/// The same of the guide that does.
-fn most_picks(alloc: Global) -> Result<bool, NoMemory> {
+/// The same of the guide that picks a variable with most conflicts.
+fn most_picks(alloc: Global) -> Result<[Option<Pair>; 3], NoMemory> {
     let conflicts = MostConflicts::new(alloc, 4)?;
     let mut guide: Box<dyn Guide> = Box::new(alloc, conflicts)?;
-    Ok(picks_most(&mut guide))
+    Ok(three_picks(&mut guide))
 }
 
 #[test]
 fn conflicts_are_counted(rt: HostRuntime) -> Result<(), Fail> {
-    assert!(rt; most_picks(rt.alloc())?);
+    let wanted = [pair(1, -1), pair(2, 4), pair(3, 0)];
+    assert_eq!(rt; most_picks(rt.alloc())?, wanted);
     Ok(())
 }

@@ -1,13 +1,14 @@
 //! What the guides and the orders of whole searches are asked and told.
-use crate::guides::is_told;
-use crate::journal::{End, FIRST};
+use crate::guides::told_in_all;
+use crate::journal::text_of;
 use crate::problems::Problem;
-use crate::searches::{Case, Way, is_ordered};
+use crate::searches::{Case, Way, ordered};
 use palm_agenda::Order;
-use palm_base::{Cid, NoMemory, Value};
+use palm_base::{Cid, NoMemory};
 use palm_guide::MostConflicts;
 use std::alloc::Global;
 use std::test::Fail;
+use tests_compare::first_difference;
 
 /// Answers 0, and counts how often it was asked and told, and the numbers that it was told together.
 #[derive(Drop)]
@@ -37,14 +38,12 @@ impl Order for Tally {
     }
 }
 
-/// Whether a search of `x < y` finds 1 and 2, asks its order and tells it so often, and so many values together.
-fn is_tallied(alloc: Global, way: &Way, revisions: u32, removed: u32) -> Result<bool, NoMemory> {
+/// The text of a search of `x < y` with that order, and how often it was asked and told, and how many values together.
+fn tallied(alloc: Global, way: Way) -> Result<String, NoMemory> {
     let case = Case {
         problem: Problem::Less,
-        way: *way,
+        way,
         budget: 9,
-        end: End::Found(&[Value(1), Value(2)]),
-        turns: None,
     };
     let mut guide: Option<MostConflicts> = None;
     let mut order = Some(Tally {
@@ -52,49 +51,72 @@ fn is_tallied(alloc: Global, way: &Way, revisions: u32, removed: u32) -> Result<
         told: 0,
         removed: 0,
     });
-    let searched = is_ordered(alloc, &case, &mut guide, &mut order)?;
-    match &order {
-        Some(tally) => Ok(
-            searched
-                && tally.asked == revisions
-                && tally.told == revisions
-                && tally.removed == removed,
-        ),
-        None => Ok(false),
+    let mut text = ordered(alloc, &case, &mut guide, &mut order)?;
+    if let Some(tally) = &order {
+        let (asked, told) = (tally.asked, tally.told);
+        writeln!(text, "asked {asked}, told {told} of {}", tally.removed)?;
     }
+    Ok(text)
 }
 
 // Worked out by hand: each of the two decisions takes one value out, rests, and then the constraint rests; when both are
 // withdrawn the constraint is revised once more.
 #[test]
 fn orders_choose_in_all_settlings(rt: HostRuntime) -> Result<(), Fail> {
-    assert!(rt; is_tallied(rt.alloc(), &Way::Dbt, 7, 2)?);
-    assert!(rt; is_tallied(rt.alloc(), &Way::Repair(7), 7, 2)?);
+    let alloc = rt.alloc();
+    let lines = ["x0 = 1", "x1 = 2", "asked 7, told 7 of 2"];
+    let wanted = text_of(alloc, "found 1 2", &lines)?;
+    for way in [Way::Dbt, Way::Repair(7)] {
+        let got = tallied(alloc, way)?;
+        assert_eq!(rt;
+            first_difference(wanted.as_bytes(), got.as_bytes()),
+            None,
+            "{way:?}"
+        );
+    }
     Ok(())
 }
 
-/// Three variables over two values that differ, within so many turns.
-fn three<'a>(way: Way, budget: u64, end: End<'a>) -> Case<'a> {
-    Case {
-        problem: Problem::Three,
-        way,
-        budget,
-        end,
-        turns: None,
-    }
-}
+/// What a search of three variables over two values that differ writes, by its way and within so many turns. The first decision
+/// leads to a conflict. Where no turn is left it is not undone, and the guide is not told.
+const THREE: &[(Way, u64, &str, &[&str])] = &[
+    (Way::Dbt, 1, "spent 1", &["x0 = 1 after nothing", "told 0"]),
+    (
+        Way::Dbt,
+        2,
+        "none c1",
+        &["x0 = 1 after nothing", "not x0 = 1 by x0 c1", "told 1"],
+    ),
+    (
+        Way::Repair(7),
+        1,
+        "spent 1 dropped 0",
+        &["x0 = 1 after nothing", "told 0"],
+    ),
+    (
+        Way::Repair(7),
+        2,
+        "none c1",
+        &["x0 = 1 after nothing", "not x0 = 1 by x0 c1", "told 1"],
+    ),
+];
 
-// The first decision leads to a conflict. Where no turn is left it is not undone, and the guide is not told.
 #[test]
 fn guides_are_told_of_undoings_alone(rt: HostRuntime) -> Result<(), Fail> {
     let alloc = rt.alloc();
-    let spent = three(Way::Dbt, 1, End::Spent(1));
-    assert!(rt; is_told(alloc, &spent, 0)?);
-    let none = three(Way::Dbt, 2, End::NoSolution(&[FIRST]));
-    assert!(rt; is_told(alloc, &none, 1)?);
-    let spent = three(Way::Repair(7), 1, End::SpentDropped(1, 0));
-    assert!(rt; is_told(alloc, &spent, 0)?);
-    let none = three(Way::Repair(7), 2, End::NoSolution(&[FIRST]));
-    assert!(rt; is_told(alloc, &none, 1)?);
+    for (way, budget, end, lines) in THREE {
+        let case = Case {
+            problem: Problem::Three,
+            way: *way,
+            budget: *budget,
+        };
+        let wanted = text_of(alloc, end, lines)?;
+        let got = told_in_all(alloc, &case)?;
+        assert_eq!(rt;
+            first_difference(wanted.as_bytes(), got.as_bytes()),
+            None,
+            "{case:?}"
+        );
+    }
     Ok(())
 }

@@ -1,4 +1,4 @@
-use Rattle.tests_search.proofs.searches.is_searched_in.Given as goal
+use Rattle.tests_search.proofs.searches.search_in.Given as goal
 
 -- the ledger is the one that the blank names
 abbrev pub ghosts-settle_counted : goal.ghosts-settle_counted

@@ -1,4 +1,4 @@
-use Rattle.tests_search.proofs.searches.is_answered.Given as goal
+use Rattle.tests_search.proofs.searches.answer_in.Given as goal
 
 -- each ledger is the one that its blank names
 abbrev pub ghosts-solve_counted : goal.ghosts-solve_counted
