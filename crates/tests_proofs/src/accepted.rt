@@ -1,6 +1,7 @@
 //! Forms of a proof.
-use crate::told::untold;
+use crate::told::verdict_of;
 use std::test::Fail;
+use tests_compare::first_difference;
 
 /// Proofs, each with forms that are seldom written.
 const FORMS: &[(&[u8], &str)] = &[
@@ -51,6 +52,14 @@ const FORMS: &[(&[u8], &str)] = &[
 
 #[test]
 fn proofs_are_accepted_in_all_their_forms(rt: HostRuntime) -> Result<(), Fail> {
-    assert_eq!(rt; untold(rt.alloc(), FORMS)?, None);
+    for (text, line) in FORMS {
+        let got = verdict_of(rt.alloc(), text)?;
+        assert_eq!(rt;
+            first_difference(line.as_bytes(), &got),
+            None,
+            "{}",
+            text.escape_ascii()
+        );
+    }
     Ok(())
 }

@@ -1,6 +1,7 @@
 //! Proofs over each kind of constraint.
-use crate::told::{untold, untold_between};
+use crate::told::{verdict_between, verdict_of};
 use std::test::Fail;
+use tests_compare::first_difference;
 
 /// Proofs that are accepted.
 const KINDS: &[(&[u8], &str)] = &[
@@ -76,6 +77,20 @@ const KINDS: &[(&[u8], &str)] = &[
         "accepted none because y w",
     ),
 ];
+
+#[test]
+fn each_kind_of_constraint_takes_part(rt: HostRuntime) -> Result<(), Fail> {
+    for (text, line) in KINDS {
+        let got = verdict_of(rt.alloc(), text)?;
+        assert_eq!(rt;
+            first_difference(line.as_bytes(), &got),
+            None,
+            "{}",
+            text.escape_ascii()
+        );
+    }
+    Ok(())
+}
 
 /// Variables and two constraints that leave no value of y.
 const EMPTIED: &[u8] =
@@ -167,6 +182,34 @@ const OVER_ONE: &[(&[u8], &str)] = &[
     (b"add k : differ z x y\n", "refused 10 P4"),
 ];
 
+#[test]
+fn nothing_has_support_beside_an_empty_domain(rt: HostRuntime) -> Result<(), Fail> {
+    for (text, line) in OVER_EMPTY {
+        let got = verdict_between(rt.alloc(), EMPTIED, text, BEHIND_BOTH)?;
+        assert_eq!(rt;
+            first_difference(line.as_bytes(), &got),
+            None,
+            "{}",
+            text.escape_ascii()
+        );
+    }
+    Ok(())
+}
+
+#[test]
+fn a_value_has_support_beside_one_that_is_left(rt: HostRuntime) -> Result<(), Fail> {
+    for (text, line) in OVER_ONE {
+        let got = verdict_between(rt.alloc(), EMPTIED, text, BEHIND_ONE)?;
+        assert_eq!(rt;
+            first_difference(line.as_bytes(), &got),
+            None,
+            "{}",
+            text.escape_ascii()
+        );
+    }
+    Ok(())
+}
+
 /// Three variables with the values 0 and 1.
 const BINARY: &[u8] = b"palm-proof 1\nvar x 0..1\nvar y 0..1\nvar z 0..1\n";
 
@@ -191,19 +234,15 @@ const PARTS: &[(&[u8], &str)] = &[
 ];
 
 #[test]
-fn each_kind_of_constraint_takes_part(rt: HostRuntime) -> Result<(), Fail> {
-    assert_eq!(rt; untold(rt.alloc(), KINDS)?, None);
-    assert_eq!(rt;
-        untold_between(rt.alloc(), EMPTIED, BEHIND_BOTH, OVER_EMPTY)?,
-        None
-    );
-    assert_eq!(rt;
-        untold_between(rt.alloc(), EMPTIED, BEHIND_ONE, OVER_ONE)?,
-        None
-    );
-    assert_eq!(rt;
-        untold_between(rt.alloc(), BINARY, BEHIND_NONE, PARTS)?,
-        None
-    );
+fn each_part_is_asked_alone(rt: HostRuntime) -> Result<(), Fail> {
+    for (text, line) in PARTS {
+        let got = verdict_between(rt.alloc(), BINARY, text, BEHIND_NONE)?;
+        assert_eq!(rt;
+            first_difference(line.as_bytes(), &got),
+            None,
+            "{}",
+            text.escape_ascii()
+        );
+    }
     Ok(())
 }

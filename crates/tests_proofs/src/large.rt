@@ -1,8 +1,9 @@
 //! Large proofs, and the limits.
-use crate::told::{first_lines, is_told, untold_between};
+use crate::told::{verdict_between, verdict_from, verdict_of};
 use palm_base::NoMemory;
 use std::alloc::Global;
 use std::test::Fail;
+use tests_compare::first_difference;
 
 /// Appends so many items, each with its number, from 0 on, between two texts.
 fn put_items(text: &mut String, front: &str, count: u32, back: &str) -> Result<(), NoMemory> {
@@ -33,6 +34,21 @@ const VARIABLES: &[(&[u8], &str)] = &[
     (b"var y 2..1", "refused 130 P1"),
 ];
 
+#[test]
+fn a_proof_has_128_variables_at_most(rt: HostRuntime) -> Result<(), Fail> {
+    let head = listed(rt.alloc(), "palm-proof 1\n", "var x", 128, " 1..2\n")?;
+    for (text, line) in VARIABLES {
+        let got = verdict_between(rt.alloc(), head.as_bytes(), text, b"")?;
+        assert_eq!(rt;
+            first_difference(line.as_bytes(), &got),
+            None,
+            "{}",
+            text.escape_ascii()
+        );
+    }
+    Ok(())
+}
+
 /// Behind 512 constraints.
 const CONSTRAINTS: &[(&[u8], &str)] = &[
     (b"", "refused 515 P5"),
@@ -44,19 +60,18 @@ const CONSTRAINTS: &[(&[u8], &str)] = &[
 ];
 
 #[test]
-fn a_proof_has_128_variables_and_512_constraints_at_most(rt: HostRuntime) -> Result<(), Fail> {
-    let alloc = rt.alloc();
-    let variables = listed(alloc, "palm-proof 1\n", "var x", 128, " 1..2\n")?;
+fn a_proof_has_512_constraints_at_most(rt: HostRuntime) -> Result<(), Fail> {
     let one = "palm-proof 1\nvar x 1..2\n";
-    let constraints = listed(alloc, one, "add a", 512, " : x in 1..1\n")?;
-    assert_eq!(rt;
-        untold_between(alloc, variables.as_bytes(), b"", VARIABLES)?,
-        None
-    );
-    assert_eq!(rt;
-        untold_between(alloc, constraints.as_bytes(), b"", CONSTRAINTS)?,
-        None
-    );
+    let head = listed(rt.alloc(), one, "add a", 512, " : x in 1..1\n")?;
+    for (text, line) in CONSTRAINTS {
+        let got = verdict_between(rt.alloc(), head.as_bytes(), text, b"")?;
+        assert_eq!(rt;
+            first_difference(line.as_bytes(), &got),
+            None,
+            "{}",
+            text.escape_ascii()
+        );
+    }
     Ok(())
 }
 
@@ -68,14 +83,77 @@ const VALUES: &[(&[u8], &str)] = &[
     (b",255", "refused 2 P1"),
 ];
 
+#[test]
+fn a_variable_has_256_values_at_most(rt: HostRuntime) -> Result<(), Fail> {
+    let head = listed(rt.alloc(), "palm-proof 1\nvar y {-1", ",", 255, "")?;
+    for (text, line) in VALUES {
+        let got = verdict_between(rt.alloc(), head.as_bytes(), text, b"")?;
+        assert_eq!(rt;
+            first_difference(line.as_bytes(), &got),
+            None,
+            "{}",
+            text.escape_ascii()
+        );
+    }
+    Ok(())
+}
+
 /// Behind a constraint on a domain of 256 values that is not closed yet.
 const WITHIN: &[(&[u8], &str)] = &[(b"}", "refused 4 P5"), (b",255}", "refused 3 P6")];
+
+#[test]
+fn a_constraint_on_a_domain_has_256_values_at_most(rt: HostRuntime) -> Result<(), Fail> {
+    let first = "palm-proof 1\nvar x 1..2\nadd k : x in {-1";
+    let head = listed(rt.alloc(), first, ",", 255, "")?;
+    for (text, line) in WITHIN {
+        let got = verdict_between(rt.alloc(), head.as_bytes(), text, b"")?;
+        assert_eq!(rt;
+            first_difference(line.as_bytes(), &got),
+            None,
+            "{}",
+            text.escape_ascii()
+        );
+    }
+    Ok(())
+}
 
 /// Behind a table of 256 rows.
 const ROWS: &[(&[u8], &str)] = &[(b"", "refused 4 P5"), (b" (256)", "refused 3 P6")];
 
+#[test]
+fn a_table_has_256_rows_at_most(rt: HostRuntime) -> Result<(), Fail> {
+    let first = "palm-proof 1\nvar x 1..2\nadd t : table x :";
+    let head = listed(rt.alloc(), first, " (", 256, ")")?;
+    for (text, line) in ROWS {
+        let got = verdict_between(rt.alloc(), head.as_bytes(), text, b"")?;
+        assert_eq!(rt;
+            first_difference(line.as_bytes(), &got),
+            None,
+            "{}",
+            text.escape_ascii()
+        );
+    }
+    Ok(())
+}
+
 /// Behind 256 entries that are not closed yet.
 const ENTRIES: &[(&[u8], &str)] = &[(b")", "refused 5 P5"), (b",0)", "refused 4 P6")];
+
+#[test]
+fn a_list_has_256_entries_at_most(rt: HostRuntime) -> Result<(), Fail> {
+    let first = "palm-proof 1\nvar x 1..2\nvar y 1..2\nadd e : element x y (0";
+    let head = listed(rt.alloc(), first, ",", 255, "")?;
+    for (text, line) in ENTRIES {
+        let got = verdict_between(rt.alloc(), head.as_bytes(), text, b"")?;
+        assert_eq!(rt;
+            first_difference(line.as_bytes(), &got),
+            None,
+            "{}",
+            text.escape_ascii()
+        );
+    }
+    Ok(())
+}
 
 /// Behind a constraint over 16 variables of 17.
 const SCOPE: &[(&[u8], &str)] = &[
@@ -86,34 +164,19 @@ const SCOPE: &[(&[u8], &str)] = &[
 ];
 
 #[test]
-fn a_line_has_256_values_rows_and_entries_and_16_variables_at_most(
-    rt: HostRuntime,
-) -> Result<(), Fail> {
-    let alloc = rt.alloc();
-    let values = listed(alloc, "palm-proof 1\nvar y {-1", ",", 255, "")?;
-    assert_eq!(rt;
-        untold_between(alloc, values.as_bytes(), b"", VALUES)?,
-        None
-    );
-    let within = "palm-proof 1\nvar x 1..2\nadd k : x in {-1";
-    let within = listed(alloc, within, ",", 255, "")?;
-    assert_eq!(rt;
-        untold_between(alloc, within.as_bytes(), b"", WITHIN)?,
-        None
-    );
-    let table = "palm-proof 1\nvar x 1..2\nadd t : table x :";
-    let rows = listed(alloc, table, " (", 256, ")")?;
-    assert_eq!(rt; untold_between(alloc, rows.as_bytes(), b"", ROWS)?, None);
-    let element = "palm-proof 1\nvar x 1..2\nvar y 1..2\nadd e : element x y (0";
-    let entries = listed(alloc, element, ",", 255, "")?;
-    assert_eq!(rt;
-        untold_between(alloc, entries.as_bytes(), b"", ENTRIES)?,
-        None
-    );
-    let mut scope = listed(alloc, "palm-proof 1\n", "var x", 17, " 1..2\n")?;
-    scope.push_str("add d : differ")?;
-    put_items(&mut scope, " x", 16, "")?;
-    assert_eq!(rt; untold_between(alloc, scope.as_bytes(), b"", SCOPE)?, None);
+fn a_constraint_has_16_variables_at_most(rt: HostRuntime) -> Result<(), Fail> {
+    let mut head = listed(rt.alloc(), "palm-proof 1\n", "var x", 17, " 1..2\n")?;
+    head.push_str("add d : differ")?;
+    put_items(&mut head, " x", 16, "")?;
+    for (text, line) in SCOPE {
+        let got = verdict_between(rt.alloc(), head.as_bytes(), text, b"")?;
+        assert_eq!(rt;
+            first_difference(line.as_bytes(), &got),
+            None,
+            "{}",
+            text.escape_ascii()
+        );
+    }
     Ok(())
 }
 
@@ -159,22 +222,29 @@ const LONG: &[Filled] = &[
     ),
 ];
 
-/// Whether the lines and the filled text have the verdict.
-fn is_filled_told(alloc: Global, filled: &Filled) -> Result<bool, NoMemory> {
-    let (lines, first, byte, length, last, line) = filled;
-    let mut text = first_lines(alloc, *lines)?;
-    text.extend_from_slice(first)?;
+/// The verdict on the lines and the filled text.
+fn verdict_on(alloc: Global, filled: &Filled) -> Result<Vec<u8>, NoMemory> {
+    let (lines, first, byte, length, last, _) = filled;
+    let mut text = Vec::from_slice(alloc, first)?;
     for _ in first.len()..*length {
         text.push(*byte)?;
     }
     text.extend_from_slice(last)?;
-    is_told(alloc, &text, line)
+    verdict_from(alloc, *lines, &text)
 }
 
 #[test]
 fn a_line_has_65536_bytes_at_most(rt: HostRuntime) -> Result<(), Fail> {
     for filled in LONG {
-        assert!(rt; is_filled_told(rt.alloc(), filled)?, "{}", filled.5);
+        let got = verdict_on(rt.alloc(), filled)?;
+        assert_eq!(rt;
+            first_difference(filled.5.as_bytes(), &got),
+            None,
+            "{} .. {}, {} bytes",
+            filled.1.escape_ascii(),
+            filled.4.escape_ascii(),
+            filled.3
+        );
     }
     Ok(())
 }
@@ -256,52 +326,52 @@ fn put_steps(text: &mut String, number: u32) -> Result<(), NoMemory> {
     Ok(())
 }
 
-/// Whether the text with a `none` line of these names, so many names with numbers and a last one, has the verdict. An
-/// accepted one is told by the same names.
-fn is_ended(
-    alloc: Global,
-    mut text: String,
-    names: &str,
-    count: u32,
-    last: &str,
-    refused: Option<&str>,
-) -> Result<bool, NoMemory> {
-    let mut users = listed(alloc, names, " c", count, "")?;
-    users.push_str(last)?;
+/// The names of a `none` line: first names, so many with numbers, and last ones.
+fn users(alloc: Global, first: &str, count: u32, last: &str) -> Result<String, NoMemory> {
+    let mut names = listed(alloc, first, " c", count, "")?;
+    names.push_str(last)?;
+    Ok(names)
+}
+
+/// The verdict on the text with a `none` line of these names.
+fn verdict_with(alloc: Global, mut text: String, users: &str) -> Result<Vec<u8>, NoMemory> {
     write!(text, "none{users}\nend\n")?;
-    match refused {
-        Some(line) => is_told(alloc, text.as_bytes(), line),
-        None => {
-            let line = format!(in alloc; "accepted none because{users}")?;
-            is_told(alloc, text.as_bytes(), &line)
-        }
-    }
+    verdict_of(alloc, text.as_bytes())
 }
 
 #[test]
 fn each_of_600_lemmas_is_by_the_one_before(rt: HostRuntime) -> Result<(), Fail> {
-    let alloc = rt.alloc();
-    let refused = Some("refused 2409 P5");
-    assert!(rt; is_ended(alloc, chain(alloc, 600)?, " a b", 0, "", None)?);
-    assert!(rt; is_ended(alloc, chain(alloc, 600)?, " b", 0, "", refused)?);
+    let rows = [
+        (" a b", "accepted none because a b"),
+        (" b", "refused 2409 P5"),
+    ];
+    for (names, line) in rows {
+        let got = verdict_with(rt.alloc(), chain(rt.alloc(), 600)?, names)?;
+        assert_eq!(rt; first_difference(line.as_bytes(), &got), None, "{names}");
+    }
     Ok(())
 }
 
 #[test]
-fn a_lemma_has_128_pairs_and_a_step_3825_reasons(rt: HostRuntime) -> Result<(), Fail> {
+fn a_lemma_has_128_pairs(rt: HostRuntime) -> Result<(), Fail> {
     let alloc = rt.alloc();
-    assert!(rt; is_ended(alloc, stairs(alloc)?, " a", 128, "", None)?);
-    assert!(rt; is_ended(alloc, stairs(alloc)?, " a", 127, "", Some("refused 775 P5"))?);
-    assert!(rt; is_ended(alloc, summed(alloc, 0)?, "", 15, " s", None)?);
-    assert!(rt;
-        is_ended(
-            alloc,
-            summed(alloc, 1)?,
-            "",
-            15,
-            " s",
-            Some("refused 3860 P4")
-        )?
-    );
+    let all = users(alloc, " a", 128, "")?;
+    let got = verdict_with(alloc, stairs(alloc)?, &all)?;
+    let line = format!(in alloc; "accepted none because{all}")?;
+    assert_eq!(rt; first_difference(line.as_bytes(), &got), None);
+    let got = verdict_with(alloc, stairs(alloc)?, &users(alloc, " a", 127, "")?)?;
+    assert_eq!(rt; first_difference(b"refused 775 P5", &got), None);
+    Ok(())
+}
+
+#[test]
+fn a_step_has_3825_reasons(rt: HostRuntime) -> Result<(), Fail> {
+    let alloc = rt.alloc();
+    let all = users(alloc, "", 15, " s")?;
+    let got = verdict_with(alloc, summed(alloc, 0)?, &all)?;
+    let line = format!(in alloc; "accepted none because{all}")?;
+    assert_eq!(rt; first_difference(line.as_bytes(), &got), None);
+    let got = verdict_with(alloc, summed(alloc, 1)?, &all)?;
+    assert_eq!(rt; first_difference(b"refused 3860 P4", &got), None);
     Ok(())
 }

@@ -1,6 +1,7 @@
 //! Forged lines of a proof but its steps: headers, variables, constraints, lemmas, wipes and ends.
-use crate::told::{untold, untold_from};
+use crate::told::{verdict_from, verdict_of};
 use std::test::Fail;
+use tests_compare::first_difference;
 
 /// First lines.
 const HEADERS: &[(&[u8], &str)] = &[
@@ -40,7 +41,15 @@ const HEADERS: &[(&[u8], &str)] = &[
 
 #[test]
 fn headers_are_read(rt: HostRuntime) -> Result<(), Fail> {
-    assert_eq!(rt; untold(rt.alloc(), HEADERS)?, None);
+    for (text, line) in HEADERS {
+        let got = verdict_of(rt.alloc(), text)?;
+        assert_eq!(rt;
+            first_difference(line.as_bytes(), &got),
+            None,
+            "{}",
+            text.escape_ascii()
+        );
+    }
     Ok(())
 }
 
@@ -81,6 +90,20 @@ const VARIABLES: &[(&[u8], &str)] = &[
     ),
     (b"var w 1..2\x07\n", "refused 5 P1"),
 ];
+
+#[test]
+fn variables_are_read(rt: HostRuntime) -> Result<(), Fail> {
+    for (text, line) in VARIABLES {
+        let got = verdict_from(rt.alloc(), 4, text)?;
+        assert_eq!(rt;
+            first_difference(line.as_bytes(), &got),
+            None,
+            "{}",
+            text.escape_ascii()
+        );
+    }
+    Ok(())
+}
 
 /// Lines behind a constraint.
 const CONSTRAINTS: &[(&[u8], &str)] = &[
@@ -136,6 +159,20 @@ const CONSTRAINTS: &[(&[u8], &str)] = &[
     (b"x\n", "refused 6 P1"),
 ];
 
+#[test]
+fn constraints_are_read(rt: HostRuntime) -> Result<(), Fail> {
+    for (text, line) in CONSTRAINTS {
+        let got = verdict_from(rt.alloc(), 5, text)?;
+        assert_eq!(rt;
+            first_difference(line.as_bytes(), &got),
+            None,
+            "{}",
+            text.escape_ascii()
+        );
+    }
+    Ok(())
+}
+
 /// Lines that begin a lemma behind a constraint.
 const LEMMAS: &[(&[u8], &str)] = &[
     (b"lemma\n", "refused 7 P5"),
@@ -175,10 +212,16 @@ const LEMMAS: &[(&[u8], &str)] = &[
 ];
 
 #[test]
-fn variables_constraints_and_lemmas_are_read(rt: HostRuntime) -> Result<(), Fail> {
-    assert_eq!(rt; untold_from(rt.alloc(), 4, VARIABLES)?, None);
-    assert_eq!(rt; untold_from(rt.alloc(), 5, CONSTRAINTS)?, None);
-    assert_eq!(rt; untold_from(rt.alloc(), 5, LEMMAS)?, None);
+fn lemmas_are_read(rt: HostRuntime) -> Result<(), Fail> {
+    for (text, line) in LEMMAS {
+        let got = verdict_from(rt.alloc(), 5, text)?;
+        assert_eq!(rt;
+            first_difference(line.as_bytes(), &got),
+            None,
+            "{}",
+            text.escape_ascii()
+        );
+    }
     Ok(())
 }
 
@@ -210,6 +253,20 @@ const WIPES: &[(&[u8], &str)] = &[
     ),
 ];
 
+#[test]
+fn wipes_are_read(rt: HostRuntime) -> Result<(), Fail> {
+    for (text, line) in WIPES {
+        let got = verdict_from(rt.alloc(), 10, text)?;
+        assert_eq!(rt;
+            first_difference(line.as_bytes(), &got),
+            None,
+            "{}",
+            text.escape_ascii()
+        );
+    }
+    Ok(())
+}
+
 /// Lines behind the `none` line.
 const ENDS: &[(&[u8], &str)] = &[
     (b"end\n", "accepted none because d"),
@@ -235,8 +292,15 @@ const ENDS: &[(&[u8], &str)] = &[
 ];
 
 #[test]
-fn wipes_and_ends_are_read(rt: HostRuntime) -> Result<(), Fail> {
-    assert_eq!(rt; untold_from(rt.alloc(), 10, WIPES)?, None);
-    assert_eq!(rt; untold_from(rt.alloc(), 18, ENDS)?, None);
+fn ends_are_read(rt: HostRuntime) -> Result<(), Fail> {
+    for (text, line) in ENDS {
+        let got = verdict_from(rt.alloc(), 18, text)?;
+        assert_eq!(rt;
+            first_difference(line.as_bytes(), &got),
+            None,
+            "{}",
+            text.escape_ascii()
+        );
+    }
     Ok(())
 }

@@ -1,8 +1,9 @@
 //! Where the lines of a proof may stand, and proofs that end early.
-use crate::told::{LINES, first_lines, is_told, untold_within};
+use crate::told::{LINES, verdict_from, verdict_within};
 use palm_base::NoMemory;
 use std::alloc::Global;
 use std::test::Fail;
+use tests_compare::first_difference;
 
 #[test]
 fn a_proof_is_accepted_and_with_a_line_changed_refused(rt: HostRuntime) -> Result<(), Fail> {
@@ -17,7 +18,15 @@ fn a_proof_is_accepted_and_with_a_line_changed_refused(rt: HostRuntime) -> Resul
         // The first of two lines that have a cause.
         (6, b"step x 1 assume\nstep q 1 assume\n", 7, "refused 7 P4"),
     ];
-    assert_eq!(rt; untold_within(rt.alloc(), &rows)?, None);
+    for (first, text, behind, line) in rows {
+        let got = verdict_within(rt.alloc(), first, text, behind)?;
+        assert_eq!(rt;
+            first_difference(line.as_bytes(), &got),
+            None,
+            "{} behind {first} lines",
+            text.escape_ascii()
+        );
+    }
     Ok(())
 }
 
@@ -51,49 +60,56 @@ const PLACES: &[(&str, &str)] = &[
     ("solve dbt", "xxxxxxxxxxxxxxxxxxxx"),
 ];
 
-/// Whether the line behind the first lines, so many, is refused there since it may not stand there.
-fn is_misplaced(alloc: Global, lines: usize, line: &str, next: usize) -> Result<bool, NoMemory> {
-    let mut text = first_lines(alloc, lines)?;
-    text.extend_from_slice(line.as_bytes())?;
-    text.extend_from_slice(b"\n")?;
-    let refused = format!(in alloc; "refused {next} P1")?;
-    is_told(alloc, &text, &refused)
-}
-
-/// The first number of lines behind which the line may stand and the marks say that it may not, or the other way round.
-fn misplaced(alloc: Global, line: &str, marks: &str) -> Result<Option<usize>, NoMemory> {
+/// The marks of a line: `x` where it is refused behind so many lines of the proof since it may not stand there, and else `.`.
+fn marks_of(alloc: Global, line: &str) -> Result<Vec<u8>, NoMemory> {
+    let text = format!(in alloc; "{line}\n")?;
+    let mut marks = Vec::new(alloc);
     for lines in 0..=LINES.len() {
-        let is_marked = marks.as_bytes().get(lines) == Some(&b'x');
-        if is_misplaced(alloc, lines, line, lines + 1)? != is_marked {
-            return Ok(Some(lines));
-        }
+        let misplaced = format!(in alloc; "refused {} P1", lines + 1)?;
+        let got = verdict_from(alloc, lines, text.as_bytes())?;
+        marks.push(if got.as_slice() == misplaced.as_bytes() {
+            b'x'
+        } else {
+            b'.'
+        })?;
     }
-    Ok(None)
+    Ok(marks)
 }
 
 #[test]
 fn each_line_has_its_places(rt: HostRuntime) -> Result<(), Fail> {
     for (line, marks) in PLACES {
-        assert_eq!(rt; misplaced(rt.alloc(), line, marks)?, None, "{line}");
+        let got = marks_of(rt.alloc(), line)?;
+        assert_eq!(rt; first_difference(marks.as_bytes(), &got), None, "{line}");
     }
     Ok(())
 }
 
-/// Whether the first lines, so many, with this behind them, are refused at a next line.
-fn ends_early(alloc: Global, lines: usize, last: &[u8], next: usize) -> Result<bool, NoMemory> {
-    let mut text = first_lines(alloc, lines)?;
-    text.extend_from_slice(last)?;
-    let line = format!(in alloc; "refused {next} P5")?;
-    is_told(alloc, &text, &line)
+/// The verdicts on so many of the first lines, alone, with a comment behind them, and with two blank lines.
+fn early(alloc: Global, lines: usize) -> Result<Vec<u8>, NoMemory> {
+    let mut verdicts = verdict_from(alloc, lines, b"")?;
+    verdicts.push(b'\n')?;
+    verdicts.extend_from_slice(&verdict_from(alloc, lines, b"# more")?)?;
+    verdicts.push(b'\n')?;
+    verdicts.extend_from_slice(&verdict_from(alloc, lines, b"\r\n \n")?)?;
+    Ok(verdicts)
 }
 
 #[test]
 fn a_proof_that_ends_early_is_not_reached(rt: HostRuntime) -> Result<(), Fail> {
     for lines in 0..LINES.len() {
-        let is_early = ends_early(rt.alloc(), lines, b"", lines + 1)?
-            && ends_early(rt.alloc(), lines, b"# more", lines + 2)?
-            && ends_early(rt.alloc(), lines, b"\r\n \n", lines + 3)?;
-        assert!(rt; is_early, "{lines}");
+        let expected = format!(in rt.alloc();
+            "refused {} P5\nrefused {} P5\nrefused {} P5",
+            lines + 1,
+            lines + 2,
+            lines + 3
+        )?;
+        let got = early(rt.alloc(), lines)?;
+        assert_eq!(rt;
+            first_difference(expected.as_bytes(), &got),
+            None,
+            "{lines}"
+        );
     }
     Ok(())
 }

@@ -1,6 +1,7 @@
 //! Steps of a proof, right and forged.
-use crate::told::{untold_between, untold_from};
+use crate::told::{verdict_between, verdict_from};
 use std::test::Fail;
+use tests_compare::first_difference;
 
 /// Steps behind `lemma x=1` and its first step, which took 2 from x. The step's own number is 2, the lemma's own is 1.
 const FORGED: &[(&[u8], &str)] = &[
@@ -88,6 +89,20 @@ const FORGED: &[(&[u8], &str)] = &[
     (b"step y 2 assume\n", "refused 8 P4"),
 ];
 
+#[test]
+fn steps_of_the_first_lemma_are_judged(rt: HostRuntime) -> Result<(), Fail> {
+    for (text, line) in FORGED {
+        let got = verdict_from(rt.alloc(), 7, text)?;
+        assert_eq!(rt;
+            first_difference(line.as_bytes(), &got),
+            None,
+            "{}",
+            text.escape_ascii()
+        );
+    }
+    Ok(())
+}
+
 /// Steps behind `lemma` and its first step, which took 1 from x by the first lemma. The step's own number is 2, the lemma's
 /// own is 2.
 const SECOND: &[(&[u8], &str)] = &[
@@ -103,6 +118,20 @@ const SECOND: &[(&[u8], &str)] = &[
     (b"wipe x\n", "refused 14 P5"),
     (b"wipe z\n", "refused 14 P5"),
 ];
+
+#[test]
+fn steps_of_the_second_lemma_are_judged(rt: HostRuntime) -> Result<(), Fail> {
+    for (text, line) in SECOND {
+        let got = verdict_from(rt.alloc(), 13, text)?;
+        assert_eq!(rt;
+            first_difference(line.as_bytes(), &got),
+            None,
+            "{}",
+            text.escape_ascii()
+        );
+    }
+    Ok(())
+}
 
 /// A lemma with two pairs.
 const PAIRS: &[u8] =
@@ -134,10 +163,16 @@ const THIRD: &[(&[u8], &str)] = &[
 ];
 
 #[test]
-fn steps_are_judged_in_their_lemma(rt: HostRuntime) -> Result<(), Fail> {
-    assert_eq!(rt; untold_from(rt.alloc(), 7, FORGED)?, None);
-    assert_eq!(rt; untold_from(rt.alloc(), 13, SECOND)?, None);
-    assert_eq!(rt; untold_between(rt.alloc(), PAIRS, b"", THIRD)?, None);
+fn a_lemma_with_fewer_pairs_is_judged_by_its_own(rt: HostRuntime) -> Result<(), Fail> {
+    for (text, line) in THIRD {
+        let got = verdict_between(rt.alloc(), PAIRS, text, b"")?;
+        assert_eq!(rt;
+            first_difference(line.as_bytes(), &got),
+            None,
+            "{}",
+            text.escape_ascii()
+        );
+    }
     Ok(())
 }
 
@@ -162,6 +197,14 @@ const AMONG: &[(&[u8], &str)] = &[
 
 #[test]
 fn a_pair_among_its_own_reasons_has_no_support(rt: HostRuntime) -> Result<(), Fail> {
-    assert_eq!(rt; untold_between(rt.alloc(), OWN, b"", AMONG)?, None);
+    for (text, line) in AMONG {
+        let got = verdict_between(rt.alloc(), OWN, text, b"")?;
+        assert_eq!(rt;
+            first_difference(line.as_bytes(), &got),
+            None,
+            "{}",
+            text.escape_ascii()
+        );
+    }
     Ok(())
 }

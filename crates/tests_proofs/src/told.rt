@@ -43,62 +43,44 @@ fn put_lines(text: &mut Vec<u8>, before: usize, last: usize) -> Result<(), NoMem
     Ok(())
 }
 
-/// The first row, counted from 0, that has another verdict than the one beside it: so many of the first lines of the proof,
-/// then the text, and then the lines behind those that the second number counts.
-pub(crate) fn untold_within(
+/// The verdict on so many of the first lines of the proof, then the text, and then the lines behind those that the second number
+/// counts.
+pub(crate) fn verdict_within(
     alloc: Global,
-    rows: &[(usize, &[u8], usize, &str)],
-) -> Result<Option<usize>, NoMemory> {
-    for (row, (first, text, behind, line)) in rows.iter().enumerate() {
-        let mut whole = first_lines(alloc, *first)?;
-        whole.extend_from_slice(text)?;
-        put_lines(&mut whole, *behind, LINES.len())?;
-        if !is_told(alloc, &whole, line)? {
-            return Ok(Some(row));
-        }
-    }
-    Ok(None)
+    first: usize,
+    text: &[u8],
+    behind: usize,
+) -> Result<Vec<u8>, NoMemory> {
+    let mut whole = first_lines(alloc, first)?;
+    whole.extend_from_slice(text)?;
+    put_lines(&mut whole, behind, LINES.len())?;
+    verdict_of(alloc, &whole)
 }
 
-/// The first row whose text, behind so many of the first lines of the proof, has another verdict.
-pub(crate) fn untold_from(
-    alloc: Global,
-    lines: usize,
-    rows: &[(&[u8], &str)],
-) -> Result<Option<usize>, NoMemory> {
-    let head = first_lines(alloc, lines)?;
-    untold_between(alloc, &head, b"", rows)
+/// The verdict on the text behind so many of the first lines of the proof.
+pub(crate) fn verdict_from(alloc: Global, lines: usize, text: &[u8]) -> Result<Vec<u8>, NoMemory> {
+    verdict_within(alloc, lines, text, LINES.len())
 }
 
-/// The first row whose text, between a head and a tail, has another verdict.
-pub(crate) fn untold_between(
+/// The verdict on the text between a head and a tail.
+pub(crate) fn verdict_between(
     alloc: Global,
     head: &[u8],
+    text: &[u8],
     tail: &[u8],
-    rows: &[(&[u8], &str)],
-) -> Result<Option<usize>, NoMemory> {
-    for (row, (text, line)) in rows.iter().enumerate() {
-        let mut whole = Vec::from_slice(alloc, head)?;
-        whole.extend_from_slice(text)?;
-        whole.extend_from_slice(tail)?;
-        if !is_told(alloc, &whole, line)? {
-            return Ok(Some(row));
-        }
-    }
-    Ok(None)
+) -> Result<Vec<u8>, NoMemory> {
+    let mut whole = Vec::from_slice(alloc, head)?;
+    whole.extend_from_slice(text)?;
+    whole.extend_from_slice(tail)?;
+    verdict_of(alloc, &whole)
 }
 
-/// The first row whose text has another verdict.
-pub(crate) fn untold(alloc: Global, rows: &[(&[u8], &str)]) -> Result<Option<usize>, NoMemory> {
-    untold_between(alloc, b"", b"", rows)
-}
-
-/// Whether the text has the verdict of the line.
-pub(crate) fn is_told(alloc: Global, text: &[u8], line: &str) -> Result<bool, NoMemory> {
+/// The verdict on the text, as a line.
+pub(crate) fn verdict_of(alloc: Global, text: &[u8]) -> Result<Vec<u8>, NoMemory> {
     let verdict = check_proof(alloc, text)?;
     let mut out = Vec::new(alloc);
     put_verdict(&mut out, &verdict)?;
-    Ok(out.as_slice() == line.as_bytes())
+    Ok(out)
 }
 
 /// `accepted none because NAME NAME`, or `refused LINE CAUSE`.

@@ -1,6 +1,7 @@
 //! The constraints that a proof uses, which are those of its last lemma and of the lemmas behind it.
-use crate::told::{untold_between, untold_from};
+use crate::told::{verdict_between, verdict_from};
 use std::test::Fail;
+use tests_compare::first_difference;
 
 /// Two lemmas, the second over the first by a step that it does not need, and the first step of a third.
 const HEAD: &[u8] =
@@ -37,6 +38,25 @@ const NAMED: &[(&[u8], &str)] = &[
     (b"spent 3\nend\n", "refused 23 P1"),
     (b"end\n", "refused 23 P1"),
 ];
+
+/// What stands between.
+const TAIL: &[u8] = b"step x 2 lemma 2\nstep x 3 by c\nwipe x\n";
+
+#[test]
+fn users_are_those_of_the_last_lemma(rt: HostRuntime) -> Result<(), Fail> {
+    let mut head = Vec::from_slice(rt.alloc(), HEAD)?;
+    head.extend_from_slice(TAIL)?;
+    for (text, line) in NAMED {
+        let got = verdict_between(rt.alloc(), &head, text, b"")?;
+        assert_eq!(rt;
+            first_difference(line.as_bytes(), &got),
+            None,
+            "{}",
+            text.escape_ascii()
+        );
+    }
+    Ok(())
+}
 
 /// What follows where it names other lemmas and constraints.
 const OTHERS: &[(&[u8], &str)] = &[
@@ -97,6 +117,20 @@ const OTHERS: &[(&[u8], &str)] = &[
     ),
 ];
 
+#[test]
+fn users_are_those_of_the_lemmas_that_are_named(rt: HostRuntime) -> Result<(), Fail> {
+    for (text, line) in OTHERS {
+        let got = verdict_between(rt.alloc(), HEAD, text, b"")?;
+        assert_eq!(rt;
+            first_difference(line.as_bytes(), &got),
+            None,
+            "{}",
+            text.escape_ascii()
+        );
+    }
+    Ok(())
+}
+
 /// `none` lines behind the two lemmas of the proof.
 const LAST: &[(&[u8], &str)] = &[
     (b"none d\n", "refused 19 P5"),
@@ -109,12 +143,15 @@ const LAST: &[(&[u8], &str)] = &[
 ];
 
 #[test]
-fn users_are_those_of_the_last_lemma(rt: HostRuntime) -> Result<(), Fail> {
-    let tail = b"step x 2 lemma 2\nstep x 3 by c\nwipe x\n";
-    let mut head = Vec::from_slice(rt.alloc(), HEAD)?;
-    head.extend_from_slice(tail)?;
-    assert_eq!(rt; untold_between(rt.alloc(), &head, b"", NAMED)?, None);
-    assert_eq!(rt; untold_between(rt.alloc(), HEAD, b"", OTHERS)?, None);
-    assert_eq!(rt; untold_from(rt.alloc(), 17, LAST)?, None);
+fn users_behind_two_lemmas_are_named_once_in_order(rt: HostRuntime) -> Result<(), Fail> {
+    for (text, line) in LAST {
+        let got = verdict_from(rt.alloc(), 17, text)?;
+        assert_eq!(rt;
+            first_difference(line.as_bytes(), &got),
+            None,
+            "{}",
+            text.escape_ascii()
+        );
+    }
     Ok(())
 }

@@ -15,6 +15,7 @@ use std::alloc::Global;
 use std::marker::Brand;
 use std::sync::ledger::{Blank, Ledger};
 use std::test::Fail;
+use tests_compare::first_difference;
 
 /// The proof of a search, counted from nothing.
 fn prove_counted<F: Filter, K: Sink, L: Ledger>(
@@ -41,25 +42,34 @@ fn prove_counted<F: Filter, K: Sink, L: Ledger>(
 }
 
 /// How a proof of nothing ends.
-#[derive(Clone, Copy)]
+#[derive(Clone, Copy, Debug, PartialEq, Eq)]
 enum End {
     /// Values were found, none at all.
     Found,
     /// A write failed.
     Failed,
+    /// Otherwise.
+    Other,
 }
 
-/// Whether it has ended so.
-fn is_end(end: &Result<ProofEnd, ProofStop>, wanted: End) -> bool {
-    match (end, wanted) {
-        (Ok(ProofEnd::Found(values)), End::Found) => values.as_slice().is_empty(),
-        (Err(ProofStop::WriteFault), End::Failed) => true,
-        _ => false,
+/// How it has ended.
+fn end_of(end: &Result<ProofEnd, ProofStop>) -> End {
+    match end {
+        Ok(ProofEnd::Found(values)) if values.as_slice().is_empty() => End::Found,
+        Err(ProofStop::WriteFault) => End::Failed,
+        _ => End::Other,
     }
 }
 
-/// Whether the proof of nothing ends so where these calls of the sink fail, and this was written, in pieces of 8 bytes.
-fn ends(alloc: Global, failing: &[u64], wanted: End, written: &str) -> Result<bool, NoMemory> {
+/// How a proof ended, and what was written.
+#[derive(Drop)]
+struct Ended {
+    end: End,
+    written: Vec<u8>,
+}
+
+/// How the proof of nothing ends where these calls of the sink fail, in pieces of 8 bytes.
+fn ends(alloc: Global, failing: &[u64]) -> Result<Ended, NoMemory> {
     let mut engine = Engine::<Kind>::new(alloc);
     let mut search = Search::begin(alloc);
     let book = Book::new(alloc);
@@ -73,17 +83,33 @@ fn ends(alloc: Global, failing: &[u64], wanted: End, written: &str) -> Result<bo
         &mut sink,
         Blank::new(1),
     );
-    Ok(is_end(&end, wanted) && sink.bytes() == written.as_bytes())
+    let written = Vec::from_slice(alloc, sink.bytes())?;
+    Ok(Ended {
+        end: end_of(&end),
+        written,
+    })
 }
+
+/// Calls of the sink that fail, how the proof ends, and what was written.
+const WRITES: &[(&[u64], End, &str)] = &[
+    (&[], End::Found, "palm-proof 1\nfound\nend\n"),
+    (&[1], End::Failed, ""),
+    (&[2], End::Failed, "palm-pro"),
+    (&[3], End::Failed, "palm-proof 1\n"),
+    (&[4], End::Failed, "palm-proof 1\nfound\n"),
+    (&[5], End::Found, "palm-proof 1\nfound\nend\n"),
+];
 
 #[test]
 fn a_proof_is_written_until_a_write_fails(rt: HostRuntime) -> Result<(), Fail> {
-    let alloc = rt.alloc();
-    assert!(rt; ends(alloc, &[], End::Found, "palm-proof 1\nfound\nend\n")?);
-    assert!(rt; ends(alloc, &[1], End::Failed, "")?);
-    assert!(rt; ends(alloc, &[2], End::Failed, "palm-pro")?);
-    assert!(rt; ends(alloc, &[3], End::Failed, "palm-proof 1\n")?);
-    assert!(rt; ends(alloc, &[4], End::Failed, "palm-proof 1\nfound\n")?);
-    assert!(rt; ends(alloc, &[5], End::Found, "palm-proof 1\nfound\nend\n")?);
+    for (failing, end, written) in WRITES {
+        let got = ends(rt.alloc(), failing)?;
+        assert_eq!(rt; got.end, *end, "{failing:?}");
+        assert_eq!(rt;
+            first_difference(written.as_bytes(), &got.written),
+            None,
+            "{failing:?}"
+        );
+    }
     Ok(())
 }

@@ -5,7 +5,7 @@ ghost use Rattle.palm_model.specs.Constraint.{IsWellFormed};
 ghost use Rattle.palm_model.specs.Domains.{AllAscend};
 ghost use Rattle.palm_model.specs.Log.{cons_of};
 
-use crate::fresh::{Question, ask, feed};
+use crate::fresh::{Question, ask, bytes_of, feed};
 use crate::guides::Scripted;
 use palm_agenda::LastOrder;
 use palm_base::{NoMemory, SteadySink, Steps, ValueList, Var};
@@ -15,6 +15,7 @@ use palm_session::{Session, Stop};
 use std::alloc::Global;
 use std::sync::ledger::Ledger;
 use std::test::Fail;
+use tests_compare::first_difference;
 
 /// The initial values of each variable.
 fn initial_domains(alloc: Global, book: &Book) -> Result<DomainList, NoMemory>
@@ -82,22 +83,32 @@ struct Agreement<'a> {
     replies: &'a str,
 }
 
+/// The replies and then what the slow way computes, and what a session replied.
+#[derive(Drop)]
+struct Replies {
+    expected: Vec<u8>,
+    got: Vec<u8>,
+}
+
 impl Question for Agreement<'_> {
-    fn is_answered<L: Ledger>(
+    type Answer = Replies;
+
+    fn answer<L: Ledger>(
         &self,
         alloc: Global,
         session: &mut Session<Scripted, LastOrder>,
         steps: &mut Steps<L>,
-    ) -> Result<bool, Stop> {
+    ) -> Result<Replies, Stop> {
         let mut sink = SteadySink::new(alloc);
         feed(session, self.text.as_bytes(), &mut sink, steps)?;
         let expected = expected_text(alloc, self.replies.as_bytes(), session.book())?;
-        Ok(sink.bytes() == expected.as_slice())
+        let got = bytes_of(alloc, &sink)?;
+        Ok(Replies { expected, got })
     }
 }
 
-/// Whether a fresh session answers the text by these replies and then by what the slow way computes.
-fn agree(alloc: Global, text: &str, replies: &str) -> Result<bool, Stop> {
+/// These replies and then what the slow way computes, and what a fresh session replies to the text.
+fn both(alloc: Global, text: &str, replies: &str) -> Result<Replies, Stop> {
     ask(alloc, Vec::new(alloc), &Agreement { text, replies })
 }
 
@@ -120,7 +131,8 @@ const COMPARISONS: &[(&str, &str)] = &[
 #[test]
 fn filters_and_the_slow_way_agree_on_comparisons(rt: HostRuntime) -> Result<(), Fail> {
     for (text, replies) in COMPARISONS {
-        assert!(rt; agree(rt.alloc(), text, replies)?);
+        let Replies { expected, got } = both(rt.alloc(), text, replies)?;
+        assert_eq!(rt; first_difference(&expected, &got), None, "{text}");
     }
     Ok(())
 }
@@ -144,7 +156,8 @@ const SUMS: &[(&str, &str)] = &[
 #[test]
 fn filters_and_the_slow_way_agree_on_sums(rt: HostRuntime) -> Result<(), Fail> {
     for (text, replies) in SUMS {
-        assert!(rt; agree(rt.alloc(), text, replies)?);
+        let Replies { expected, got } = both(rt.alloc(), text, replies)?;
+        assert_eq!(rt; first_difference(&expected, &got), None, "{text}");
     }
     Ok(())
 }
@@ -199,7 +212,8 @@ const OTHERS: &[(&str, &str)] = &[
 #[test]
 fn filters_and_the_slow_way_agree_on_the_other_kinds(rt: HostRuntime) -> Result<(), Fail> {
     for (text, replies) in OTHERS {
-        assert!(rt; agree(rt.alloc(), text, replies)?);
+        let Replies { expected, got } = both(rt.alloc(), text, replies)?;
+        assert_eq!(rt; first_difference(&expected, &got), None, "{text}");
     }
     Ok(())
 }

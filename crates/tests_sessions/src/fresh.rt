@@ -3,7 +3,7 @@ ghost use Rattle.std.specs.Prelude.{◌≡◌, ◌<◌, false};
 
 use crate::guides::Scripted;
 use palm_agenda::LastOrder;
-use palm_base::{SteadySink, Steps};
+use palm_base::{NoMemory, SteadySink, Steps};
 use palm_session::{Session, Stop};
 use std::alloc::Global;
 use std::marker::Brand;
@@ -14,30 +14,33 @@ pub(crate) const ROOM: usize = 4_096;
 
 /// What a test asks of a fresh session.
 pub(crate) trait Question {
-    /// Feeds the session, and tells whether it answers as it should.
-    fn is_answered<L: Ledger>(
+    /// What the test compares.
+    type Answer;
+
+    /// Feeds the session, and gives what is to be compared.
+    fn answer<L: Ledger>(
         &self,
         alloc: Global,
         session: &mut Session<Scripted, LastOrder>,
         steps: &mut Steps<L>,
-    ) -> Result<bool, Stop>
+    ) -> Result<Self::Answer, Stop>
         requires { session.old.over ≡ false };
 }
 
-/// Whether a fresh session with these guides answers the question as it should.
+/// The answer of a fresh session with these guides.
 fn ask_counted<L: Ledger, Q: Question>(
     alloc: Global,
     guides: Vec<Scripted>,
     question: &Q,
     blank: Blank,
-) -> Result<bool, Stop>
+) -> Result<Q::Answer, Stop>
     requires named { blank.name ≡ L.name }
     requires parts { blank.parts ≡ L.parts }
     requires shared { 0 < L.parts }
 {
     let mut steps = Steps::<L>::start(blank);
     let mut session = Session::new(alloc, guides, Vec::<LastOrder>::new(alloc))?;
-    question.is_answered(alloc, &mut session, &mut steps)
+    question.answer(alloc, &mut session, &mut steps)
 }
 
 /// The same, with a counter of its own.
@@ -45,7 +48,7 @@ pub(crate) fn ask<Q: Question>(
     alloc: Global,
     guides: Vec<Scripted>,
     question: &Q,
-) -> Result<bool, Stop> {
+) -> Result<Q::Answer, Stop> {
     ask_counted::<Brand, Q>(alloc, guides, question, Blank::new(1))
 }
 
@@ -61,4 +64,9 @@ pub(crate) fn feed<L: Ledger>(
     sink.reserve(ROOM)?;
     session.feed(text, sink, steps)?;
     Ok(())
+}
+
+/// What was written to the sink.
+pub(crate) fn bytes_of(alloc: Global, sink: &SteadySink) -> Result<Vec<u8>, NoMemory> {
+    Ok(Vec::from_slice(alloc, sink.bytes())?)
 }

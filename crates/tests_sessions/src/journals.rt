@@ -42,7 +42,10 @@ struct Left<'a> {
 }
 
 impl Question for Left<'_> {
-    fn is_answered<L: Ledger>(
+    /// Whether it is so.
+    type Answer = bool;
+
+    fn answer<L: Ledger>(
         &self,
         alloc: Global,
         session: &mut Session<Scripted, LastOrder>,

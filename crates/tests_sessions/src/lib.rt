@@ -1,5 +1,6 @@
 //! Tests of sessions, over their public calls: pieces that cut lines, the journal of the last search, how often the engine
-//! asks for support, the two versions of the language, and the filters beside the slow way.
+//! asks for support, how much the two versions of the language have room for, and the filters beside the slow way. Worked
+//! sessions are files of `tests/sessions`.
 #![tactic(auto)]
 
 #[cfg(test)]

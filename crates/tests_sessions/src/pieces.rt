@@ -1,7 +1,7 @@
 //! Pieces that cut lines, and a last line without its line feed.
 ghost use Rattle.std.specs.Prelude.{◌≡◌, false};
 
-use crate::fresh::{Question, ROOM, ask};
+use crate::fresh::{Question, ROOM, ask, bytes_of};
 use crate::guides::Scripted;
 use palm_agenda::LastOrder;
 use palm_base::{SteadySink, Steps};
@@ -9,6 +9,7 @@ use palm_session::{Going, Session, Stop};
 use std::alloc::Global;
 use std::sync::ledger::Ledger;
 use std::test::Fail;
+use tests_compare::first_difference;
 
 /// Feeds a line, the beginning of another and its end, and finishes; answers whether the session is over only then.
 fn is_over_at_last<L: Ledger>(
@@ -30,24 +31,40 @@ fn is_over_at_last<L: Ledger>(
     Ok(going && session.is_over() && session.book().variables() == 1)
 }
 
-/// What the pieces are answered.
+/// Whether a session was over only when it was finished, and what it replied.
+#[derive(Drop)]
+struct Finished {
+    over_at_last: bool,
+    replies: Vec<u8>,
+}
+
+/// The pieces.
 struct Pieces;
 
 impl Question for Pieces {
-    fn is_answered<L: Ledger>(
+    type Answer = Finished;
+
+    fn answer<L: Ledger>(
         &self,
         alloc: Global,
         session: &mut Session<Scripted, LastOrder>,
         steps: &mut Steps<L>,
-    ) -> Result<bool, Stop> {
+    ) -> Result<Finished, Stop> {
         let mut sink = SteadySink::new(alloc);
-        let over = is_over_at_last(session, &mut sink, steps)?;
-        Ok(over && sink.bytes() == b"ok\nx: 1 2\nend\n".as_slice())
+        let over_at_last = is_over_at_last(session, &mut sink, steps)?;
+        let replies = bytes_of(alloc, &sink)?;
+        Ok(Finished {
+            over_at_last,
+            replies,
+        })
     }
 }
 
 #[test]
 fn a_session_is_fed_and_finished(rt: HostRuntime) -> Result<(), Fail> {
-    assert!(rt; ask(rt.alloc(), Vec::new(rt.alloc()), &Pieces)?);
+    let got = ask(rt.alloc(), Vec::new(rt.alloc()), &Pieces)?;
+    assert!(rt; got.over_at_last);
+    let expected = b"ok\nx: 1 2\nend\n";
+    assert_eq!(rt; first_difference(expected, &got.replies), None);
     Ok(())
 }

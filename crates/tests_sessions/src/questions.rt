@@ -38,7 +38,10 @@ fn is_quiet<L: Ledger>(
 }
 
 impl Question for Quiet<'_> {
-    fn is_answered<L: Ledger>(
+    /// Whether it is so.
+    type Answer = bool;
+
+    fn answer<L: Ledger>(
         &self,
         alloc: Global,
         session: &mut Session<Scripted, LastOrder>,
