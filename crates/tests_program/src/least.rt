@@ -1,37 +1,29 @@
 //! The least value of a variable: the settlings of `minimize` go through the order, and guides and orders lead to the same value. The
 //! least values of the job shops were found by trying every order of the jobs on each machine, apart from the program.
-use crate::outcomes::{Outcome, accepted, front_of, no_guides, run_with};
-use crate::stock::{CHOICES, outcome_by};
-use palm_agenda::RotateOrder;
+use crate::outcomes::{accepted, front_of, no_guides};
+use crate::stock::{CHOICES, outcome_by, outcome_with_two_orders};
 use palm_base::NoMemory;
 use palm_cli::Status;
 use std::alloc::Global;
 use std::test::Fail;
 use tests_compare::first_difference;
 
-/// How `run` ends on the text, where the one order goes round.
-fn outcome_in_turn(alloc: Global, text: &[u8]) -> Result<Outcome, NoMemory> {
-    let mut orders = Vec::new(alloc);
-    orders.push(RotateOrder::new())?;
-    run_with(alloc, text, no_guides(alloc), orders)
-}
-
-// An order that goes round counts every revision: that of the cut, and that of a once the cut is withdrawn. So the third of
+// The second order goes round, and counts every revision: that of the cut, and that of a once the cut is withdrawn. So the third of
 // three waiting constraints comes first then.
 #[test]
 fn its_settlings_go_through_the_order(rt: HostRuntime) -> Result<(), Fail> {
-    let plain = b"palm 2\nvar z 1..2\nvar w 1..2\nadd a : z < w\norder 1\n\
+    let plain = b"palm 2\nvar z 1..2\nvar w 1..2\nadd a : z < w\norder 2\n\
         var x 1..9\npause\nadd c : x != 1\nadd d : x != 2\nadd e : x != 3\nresume\nlog\n";
-    let after = b"palm 2\nvar z 1..2\nvar w 1..2\nadd a : z < w\norder 1\nminimize z budget 1\n\
+    let after = b"palm 2\nvar z 1..2\nvar w 1..2\nadd a : z < w\norder 2\nminimize z budget 1\n\
         var x 1..9\npause\nadd c : x != 1\nadd d : x != 2\nadd e : x != 3\nresume\nlog\n";
     let in_order = b"ok\nok\nok\nok\nok\nok\nok\nok\nok\nok\nok\n\
         z 2 by a\nw 1 by a\nx 1 by c\nx 2 by d\nx 3 by e\nend\n";
     let turned = b"ok\nok\nok\nok\nok\nbest z=1 w=2\nproved by a\nend\nok\nok\nok\nok\nok\nok\n\
         z 2 by a\nw 1 by a\nx 3 by e\nx 1 by c\nx 2 by d\nend\n";
-    let first = outcome_in_turn(rt.alloc(), plain)?;
+    let first = outcome_with_two_orders(rt.alloc(), plain, no_guides(rt.alloc()))?;
     assert_eq!(rt; first.status, Status::Done);
     assert_eq!(rt; first_difference(in_order, &first.output), None);
-    let second = outcome_in_turn(rt.alloc(), after)?;
+    let second = outcome_with_two_orders(rt.alloc(), after, no_guides(rt.alloc()))?;
     assert_eq!(rt; second.status, Status::Done);
     assert_eq!(rt; first_difference(turned, &second.output), None);
     Ok(())

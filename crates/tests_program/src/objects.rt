@@ -4,9 +4,7 @@ ghost use Rattle.palm_base.specs.Memory.{sink_state};
 use crate::outcomes::{Outcome, accepted, no_guides, no_orders, run_with, words_of};
 use crate::stock::outcome_with_two_orders;
 use palm_agenda::Order;
-use palm_base::{
-    ByteList, Cid, Failed, NoMemory, Pair, Sink, SteadySink, SteadySource, Value, Var,
-};
+use palm_base::{ByteList, Cid, Failed, NoMemory, Pair, Sink, SteadySink, SteadySource, Var};
 use palm_cli::{Status, top};
 use palm_guide::{FirstGuide, Guide, ViewRow};
 use std::alloc::Global;
@@ -165,56 +163,6 @@ fn an_index_that_no_list_has_counts_for_nothing(rt: HostRuntime) -> Result<(), F
     let wanted = filtered(rt.alloc(), 8, PLAIN)?;
     assert_eq!(rt; outcome.status, Status::Done);
     assert_eq!(rt; first_difference(wanted.as_bytes(), &outcome.output), None);
-    Ok(())
-}
-
-/// Answers the same at each decision.
-#[derive(Drop)]
-struct Stubborn {
-    answer: Option<Pair>,
-}
-
-impl Guide for Stubborn {
-    ghost use Rattle.std.specs.Prelude.{◌≡◌, []};
-
-    ghost state = { λ guide. [] };
-
-    ghost answers = { λ guide view answer after. after ≡ [] };
-
-    ghost hears = { λ guide conflict after. after ≡ [] };
-
-    fn pick(&mut self, _view: &[ViewRow]) -> Option<Pair> {
-        self.answer
-    }
-
-    fn learned(&mut self, _conflict: &[Var]) {}
-}
-
-/// How a search ends where a guide is chosen that always answers this.
-fn outcome_by_answer(alloc: Global, answer: Option<Pair>) -> Result<Outcome, NoMemory> {
-    let text = b"var x 1..3\nvar y 1..3\nadd a : x < y\nguide 1\nsolve dbt\n";
-    let mut guides = Vec::new(alloc);
-    guides.push(Stubborn { answer })?;
-    run_with(alloc, text, guides, no_orders(alloc))
-}
-
-/// A pair of a variable and a value.
-fn pair(var: u32, value: i32) -> Option<Pair> {
-    Some(Pair {
-        var: Var(var),
-        value: Value(value),
-    })
-}
-
-#[test]
-fn an_unlawful_answer_counts_for_nothing(rt: HostRuntime) -> Result<(), Fail> {
-    let answers = [None, pair(4_000_000_000, 1), pair(0, 9), pair(0, 77)];
-    for answer in answers {
-        let outcome = outcome_by_answer(rt.alloc(), answer)?;
-        let wanted = b"ok\nok\nok\nok\nfound x=1 y=2\n";
-        assert_eq!(rt; outcome.status, Status::Done);
-        assert_eq!(rt; first_difference(wanted, &outcome.output), None);
-    }
     Ok(())
 }
 

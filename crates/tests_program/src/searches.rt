@@ -7,11 +7,10 @@ use std::alloc::Global;
 use std::test::Fail;
 use tests_compare::first_difference;
 
-/// Always picks the same pair.
+/// Always answers the same.
 #[derive(Drop)]
 struct Always {
-    var: Var,
-    value: Value,
+    answer: Option<Pair>,
 }
 
 impl Guide for Always {
@@ -24,26 +23,27 @@ impl Guide for Always {
     ghost hears = { λ guide conflict after. after ≡ [] };
 
     fn pick(&mut self, _view: &[ViewRow]) -> Option<Pair> {
-        Some(Pair {
-            var: self.var,
-            value: self.value,
-        })
+        self.answer
     }
 
     fn learned(&mut self, _conflict: &[Var]) {}
+}
+
+/// A pair as an answer.
+fn pair(var: u32, value: i32) -> Option<Pair> {
+    Some(Pair {
+        var: Var(var),
+        value: Value(value),
+    })
 }
 
 /// What x < y and then these lines lead to, where the first guide always picks x = `first`, and the second y = 3.
 fn guided(alloc: Global, first: i32, lines: &str) -> Result<Outcome, NoMemory> {
     let mut guides = Vec::new(alloc);
     guides.push(Always {
-        var: Var(0),
-        value: Value(first),
+        answer: pair(0, first),
     })?;
-    guides.push(Always {
-        var: Var(1),
-        value: Value(3),
-    })?;
+    guides.push(Always { answer: pair(1, 3) })?;
     let mut text = String::from_str(alloc, "var x 1..3\nvar y 1..3\nadd a : x < y\n")?;
     text.push_str(lines)?;
     run_with(alloc, text.as_bytes(), guides, no_orders(alloc))
@@ -140,6 +140,26 @@ fn without_a_guide_the_default_is_decided(rt: HostRuntime) -> Result<(), Fail> {
             None,
             "{lines}"
         );
+    }
+    Ok(())
+}
+
+/// How a search ends where a guide is chosen that always answers this.
+fn outcome_by_answer(alloc: Global, answer: Option<Pair>) -> Result<Outcome, NoMemory> {
+    let text = b"var x 1..3\nvar y 1..3\nadd a : x < y\nguide 1\nsolve dbt\n";
+    let mut guides = Vec::new(alloc);
+    guides.push(Always { answer })?;
+    run_with(alloc, text, guides, no_orders(alloc))
+}
+
+#[test]
+fn an_unlawful_answer_counts_for_nothing(rt: HostRuntime) -> Result<(), Fail> {
+    let answers = [None, pair(4_000_000_000, 1), pair(0, 9), pair(0, 77)];
+    for answer in answers {
+        let outcome = outcome_by_answer(rt.alloc(), answer)?;
+        let wanted = b"ok\nok\nok\nok\nfound x=1 y=2\n";
+        assert_eq!(rt; outcome.status, Status::Done);
+        assert_eq!(rt; first_difference(wanted, &outcome.output), None);
     }
     Ok(())
 }
