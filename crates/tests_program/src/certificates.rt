@@ -1,11 +1,10 @@
-//! Certificates by the command `check`: the line that is written, and how it ends.
-ghost use Rattle.std.specs.Prelude.{◌<◌};
-
-use crate::judged::{Passing, ends, is_refused, put_lines};
+//! Certificates by the command `check`: how those with a line changed are refused, and what comes of streams that fail.
+use crate::outcomes::{outcome_failing, outcome_in};
 use palm_base::NoMemory;
 use palm_cli::Status;
 use std::alloc::Global;
 use std::test::Fail;
+use tests_compare::first_difference;
 
 /// The lines of a certificate: x and y are equal and y is not 2, so x is not 2.
 const LINES: [&str; 9] = [
@@ -20,68 +19,34 @@ const LINES: [&str; 9] = [
     "end",
 ];
 
-/// The bytes in pieces of 7, of which no call fails.
-const WHOLE: Passing<'static> = Passing {
-    word: "check",
-    piece: 7,
-    reads: &[],
-    writes: &[],
-};
-
-/// Whether the first lines, so many, with another in the place of one and an end behind them, are refused by this line.
-fn are_refused(
-    alloc: Global,
-    lines: usize,
-    number: usize,
-    other: &str,
-    end: &str,
-    output: &str,
-) -> Result<bool, NoMemory> {
-    let mut text = Vec::new(alloc);
-    put_text(&mut text, lines, number, other, end)?;
-    is_refused(alloc, "check", &text, output)
-}
-
-/// Appends these lines, and an end behind them.
-fn put_text(
+/// Appends the first of these lines, so many, with another line in the place of the one with this number.
+pub fn put_lines(
     text: &mut Vec<u8>,
+    all: &[&str],
+    lines: usize,
+    number: usize,
+    other: &str,
+) -> Result<(), NoMemory> {
+    for (place, line) in all.iter().take(lines).enumerate() {
+        let line = if place + 1 == number { other } else { *line };
+        text.extend_from_slice(line.as_bytes())?;
+        text.extend_from_slice(b"\n")?;
+    }
+    Ok(())
+}
+
+/// The first lines, so many, with another in the place of one, and an end behind them.
+fn changed(
+    alloc: Global,
     lines: usize,
     number: usize,
     other: &str,
     end: &str,
-) -> Result<(), NoMemory> {
-    put_lines(text, &LINES, lines, number, other)?;
-    text.extend_from_slice(end.as_bytes())?;
-    Ok(())
-}
-
-/// A certificate that x has no value, in the order in which it was proved.
-const CONFLICT: &str =
-    "palm-cert 1\nvar x 1..2\nadd b : x != 2\nadd a : x = 2\nstep x 2 by b\nstep x 1 by a\n\
-    claim conflict x\nend\n";
-
-/// Whether `check` ends so on the whole certificate that passes so, and writes this.
-fn ends_whole(
-    alloc: Global,
-    passing: &Passing<'_>,
-    status: Status,
-    output: &str,
-) -> Result<bool, NoMemory>
-    requires { 0 < passing.now.piece }
-{
+) -> Result<Vec<u8>, NoMemory> {
     let mut text = Vec::new(alloc);
-    put_lines(&mut text, &LINES, 9, 0, "")?;
-    ends(alloc, &text, passing, status, output)
-}
-
-#[test]
-fn a_certificate_is_accepted(rt: HostRuntime) -> Result<(), Fail> {
-    let alloc = rt.alloc();
-    let removal = "accepted x 2 because a d\n";
-    assert!(rt; ends_whole(alloc, &WHOLE, Status::Done, removal)?);
-    let conflict = "accepted conflict x because b a\n";
-    assert!(rt; ends(alloc, CONFLICT.as_bytes(), &WHOLE, Status::Done, conflict)?);
-    Ok(())
+    put_lines(&mut text, &LINES, lines, number, other)?;
+    text.extend_from_slice(end.as_bytes())?;
+    Ok(text)
 }
 
 /// A certificate that is cut or changed: how many of its lines stay, the number of the line that says something else and
@@ -118,33 +83,47 @@ const CHANGED: &[(usize, usize, &str, &str, &str)] = &[
 #[test]
 fn a_changed_certificate_is_refused(rt: HostRuntime) -> Result<(), Fail> {
     for (lines, number, line, end, output) in CHANGED {
-        assert!(rt; are_refused(rt.alloc(), *lines, *number, line, end, output)?);
+        let text = changed(rt.alloc(), *lines, *number, line, end)?;
+        let outcome = outcome_in(rt.alloc(), "check", &text, 7)?;
+        assert_eq!(rt; outcome.status, Status::Refused, "{output}");
+        assert_eq!(rt;
+            first_difference(output.as_bytes(), &outcome.output),
+            None,
+            "{line}"
+        );
     }
     Ok(())
 }
 
-/// Whether `check` ends so where one call fails, the read or the write with this number, and writes this.
-fn ends_failing(
-    alloc: Global,
-    reads: &[u64],
-    writes: &[u64],
-    status: Status,
-    output: &str,
-) -> Result<bool, NoMemory> {
-    let passing = Passing {
-        word: "check",
-        piece: 7,
-        reads,
-        writes,
-    };
-    ends_whole(alloc, &passing, status, output)
+#[test]
+fn a_changed_certificate_is_refused_byte_by_byte(rt: HostRuntime) -> Result<(), Fail> {
+    for (lines, number, line, end, output) in CHANGED {
+        let text = changed(rt.alloc(), *lines, *number, line, end)?;
+        let outcome = outcome_in(rt.alloc(), "check", &text, 1)?;
+        assert_eq!(rt; outcome.status, Status::Refused, "{output}");
+        assert_eq!(rt;
+            first_difference(output.as_bytes(), &outcome.output),
+            None,
+            "{line}"
+        );
+    }
+    Ok(())
 }
+
+/// The read or the write that fails, how the command ends then on the whole certificate, and what was written.
+const FAILING: &[(&[u64], &[u64], Status, &str)] = &[
+    (&[1], &[], Status::ReadFault, ""),
+    (&[9], &[], Status::ReadFault, ""),
+    (&[], &[3], Status::WriteFault, "accepted x 2 b"),
+];
 
 #[test]
 fn a_failing_stream_ends_the_check(rt: HostRuntime) -> Result<(), Fail> {
-    let alloc = rt.alloc();
-    assert!(rt; ends_failing(alloc, &[1], &[], Status::ReadFault, "")?);
-    assert!(rt; ends_failing(alloc, &[9], &[], Status::ReadFault, "")?);
-    assert!(rt; ends_failing(alloc, &[], &[3], Status::WriteFault, "accepted x 2 b")?);
+    let text = changed(rt.alloc(), 9, 0, "", "")?;
+    for (reads, writes, status, output) in FAILING {
+        let outcome = outcome_failing(rt.alloc(), "check", &text, reads, writes)?;
+        assert_eq!(rt; outcome.status, *status);
+        assert_eq!(rt; first_difference(output.as_bytes(), &outcome.output), None);
+    }
     Ok(())
 }

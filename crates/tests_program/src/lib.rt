@@ -1,15 +1,10 @@
-//! Tests of the program's one call, `top`, over sources and sinks in memory: worked sessions with the expected replies,
-//! certificates, proofs, streams that fail, other words, limits, and the order of reads and writes.
+//! Tests of the program's one call, `top`, over sources and sinks in memory: worked rows, certificates and proofs with a line
+//! changed, objects that are handed in, streams that fail, words, limits, long lines, and the order of reads and writes. All other
+//! worked texts stand in `tests/sessions` and `examples`.
 #![tactic(auto)]
 
 #[cfg(test)]
 mod certificates;
-#[cfg(test)]
-mod certified;
-#[cfg(test)]
-mod changes;
-#[cfg(test)]
-mod judged;
 #[cfg(test)]
 mod least;
 #[cfg(test)]
@@ -19,18 +14,20 @@ mod lines;
 #[cfg(test)]
 mod objects;
 #[cfg(test)]
-mod preferred;
+mod outcomes;
 #[cfg(test)]
 mod proofs;
 #[cfg(test)]
 mod proved;
 #[cfg(test)]
-mod reasons;
+mod refusals;
 #[cfg(test)]
 mod searches;
 #[cfg(test)]
-mod sessions;
+mod stock;
 #[cfg(test)]
 mod streams;
 #[cfg(test)]
 mod words;
+#[cfg(test)]
+mod worked;

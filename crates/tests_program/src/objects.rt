@@ -1,17 +1,29 @@
 //! Guides and orders that are handed in: numbers that choose and drop them, and what is asked and told.
 ghost use Rattle.palm_base.specs.Memory.{sink_state};
 
-use crate::sessions::answers_with;
-use crate::words::{no_guides, no_orders, words_of};
-use palm_agenda::{LastOrder, Order, RotateOrder};
-use palm_base::{
-    ByteList, Cid, Failed, NoMemory, Pair, Sink, SteadySink, SteadySource, Value, Var,
-};
+use crate::outcomes::{Outcome, accepted, no_guides, no_orders, run_with, words_of};
+use crate::stock::outcome_with_two_orders;
+use palm_agenda::Order;
+use palm_base::{ByteList, Cid, Failed, NoMemory, Pair, Sink, SteadySink, SteadySource, Var};
 use palm_cli::{Status, top};
 use palm_guide::{FirstGuide, Guide, ViewRow};
 use std::alloc::Global;
 use std::cell::Cell;
 use std::test::Fail;
+use tests_compare::first_difference;
+
+#[test]
+fn numbers_without_an_object(rt: HostRuntime) -> Result<(), Fail> {
+    let text = b"guide 1\norder 3\ndrop guide 9\ndrop order 4\nguide 0\norder 1000001\n\
+        guide none\norder none\npause\nguide 1\norder none\n";
+    let replies = b"error E11 no such object\nerror E11 no such object\nerror E11 no such object\n\
+        error E11 no such object\nerror E6 number out of range\nerror E6 number out of range\n\
+        ok\nok\nok\nerror E11 no such object\nok\n";
+    let outcome = outcome_with_two_orders(rt.alloc(), text, no_guides(rt.alloc()))?;
+    assert_eq!(rt; outcome.status, Status::Done);
+    assert_eq!(rt; first_difference(replies, &outcome.output), None);
+    Ok(())
+}
 
 /// One guide.
 fn one_guide(alloc: Global) -> Result<Vec<FirstGuide>, NoMemory> {
@@ -20,40 +32,16 @@ fn one_guide(alloc: Global) -> Result<Vec<FirstGuide>, NoMemory> {
     Ok(guides)
 }
 
-/// Whether `run` answers the text by the replies, with these guides, and with two orders in boxes: that of the last one, and
-/// the one that goes round.
-fn answers_with_two_orders<G: Guide>(
-    alloc: Global,
-    text: &[u8],
-    replies: &str,
-    guides: Vec<G>,
-) -> Result<bool, NoMemory> {
-    let mut orders: Vec<Box<dyn Order>> = Vec::new(alloc);
-    orders.push(Box::new(alloc, LastOrder::new())?)?;
-    orders.push(Box::new(alloc, RotateOrder::new())?)?;
-    answers_with(alloc, text, replies, 7, guides, orders)
-}
-
-#[test]
-fn numbers_without_an_object(rt: HostRuntime) -> Result<(), Fail> {
-    let text = b"guide 1\norder 3\ndrop guide 9\ndrop order 4\nguide 0\norder 1000001\n\
-        guide none\norder none\npause\nguide 1\norder none\n";
-    let replies = "error E11 no such object\nerror E11 no such object\nerror E11 no such object\n\
-        error E11 no such object\nerror E6 number out of range\nerror E6 number out of range\n\
-        ok\nok\nok\nerror E11 no such object\nok\n";
-    let guides = no_guides(rt.alloc());
-    assert!(rt; answers_with_two_orders(rt.alloc(), text, replies, guides)?);
-    Ok(())
-}
-
 #[test]
 fn a_dropped_object_is_gone(rt: HostRuntime) -> Result<(), Fail> {
     let text = b"guide 1\norder 2\ndrop guide 1\nguide 1\ndrop guide 1\n\
         drop order 2\norder 2\norder 1\ndrop order 1\ndrop order 1\n";
-    let replies = "ok\nok\nok\nerror E11 no such object\nerror E11 no such object\n\
+    let replies = b"ok\nok\nok\nerror E11 no such object\nerror E11 no such object\n\
         ok\nerror E11 no such object\nok\nok\nerror E11 no such object\n";
     let guides = one_guide(rt.alloc())?;
-    assert!(rt; answers_with_two_orders(rt.alloc(), text, replies, guides)?);
+    let outcome = outcome_with_two_orders(rt.alloc(), text, guides)?;
+    assert_eq!(rt; outcome.status, Status::Done);
+    assert_eq!(rt; first_difference(replies, &outcome.output), None);
     Ok(())
 }
 
@@ -68,24 +56,14 @@ fn waiting(alloc: Global, lines: &str) -> Result<Vec<u8>, NoMemory> {
     Ok(text)
 }
 
-/// Its replies: `ok` so often, the log, and the domains, which no order changes.
-fn filtered(alloc: Global, accepted: usize, log: &str) -> Result<String, NoMemory> {
-    let mut replies = String::new(alloc);
-    for _ in 0..accepted {
-        replies.push_str("ok\n")?;
-    }
-    replies.push_str(log)?;
-    replies.push_str("end\nx: 1 3\ny: 1 3\nend\n")?;
-    Ok(replies)
-}
+/// The end of its log, and the domains, which no order changes.
+const END: &str = "end\nx: 1 3\ny: 1 3\nend\n";
 
-/// Whether such a session has this log, where one order was handed in and is chosen.
-fn has_log<O: Order>(alloc: Global, order: O, log: &str) -> Result<bool, NoMemory> {
-    let text = waiting(alloc, "order 1\n")?;
-    let replies = filtered(alloc, 8, log)?;
-    let mut orders = Vec::new(alloc);
-    orders.push(order)?;
-    answers_with(alloc, &text, &replies, 7, no_guides(alloc), orders)
+/// Its replies: `ok` so often, the log, and the domains.
+fn filtered(alloc: Global, count: usize, log: &str) -> Result<String, NoMemory> {
+    let mut replies = accepted(alloc, count, log)?;
+    replies.push_str(END)?;
+    Ok(replies)
 }
 
 /// The log without an order, and with the order of the last one.
@@ -93,19 +71,27 @@ const PLAIN: &str = "x 2 by c\ny 2 by a from x 2\n";
 
 const LAST: &str = "y 2 by d\nx 2 by a from y 2\n";
 
+/// Lines about orders, how many lines are accepted with them, and the log.
+const ORDERS: &[(&str, usize, &str)] = &[
+    ("", 7, PLAIN),
+    ("order 1\n", 8, LAST),
+    ("order 1\norder none\n", 9, PLAIN),
+    ("order 1\ndrop order 1\n", 9, PLAIN),
+    ("order 1\ndrop order 2\n", 9, LAST),
+];
+
 #[test]
 fn an_order_changes_the_log_and_not_the_domains(rt: HostRuntime) -> Result<(), Fail> {
-    let sessions = [
-        ("", 7, PLAIN),
-        ("order 1\n", 8, LAST),
-        ("order 1\norder none\n", 9, PLAIN),
-        ("order 1\ndrop order 1\n", 9, PLAIN),
-        ("order 1\ndrop order 2\n", 9, LAST),
-    ];
-    for (lines, accepted, log) in sessions {
+    for (lines, count, log) in ORDERS {
         let text = waiting(rt.alloc(), lines)?;
-        let replies = filtered(rt.alloc(), accepted, log)?;
-        assert!(rt; answers_with_two_orders(rt.alloc(), &text, &replies, no_guides(rt.alloc()))?);
+        let outcome = outcome_with_two_orders(rt.alloc(), &text, no_guides(rt.alloc()))?;
+        let wanted = filtered(rt.alloc(), *count, log)?;
+        assert_eq!(rt; outcome.status, Status::Done, "{lines}");
+        assert_eq!(rt;
+            first_difference(wanted.as_bytes(), &outcome.output),
+            None,
+            "{lines}"
+        );
     }
     Ok(())
 }
@@ -154,57 +140,29 @@ impl Order for Beyond {
     fn ran(&mut self, _cid: Cid, _removed: u32) {}
 }
 
+/// How such a session ends where this order was handed in and is chosen.
+fn outcome_by_order<O: Order>(alloc: Global, order: O) -> Result<Outcome, NoMemory> {
+    let text = waiting(alloc, "order 1\n")?;
+    let mut orders = Vec::new(alloc);
+    orders.push(order)?;
+    run_with(alloc, &text, no_guides(alloc), orders)
+}
+
 #[test]
 fn an_order_is_told_what_ran(rt: HostRuntime) -> Result<(), Fail> {
-    assert!(rt; has_log(rt.alloc(), SecondOnce { index: 1 }, PLAIN)?);
+    let outcome = outcome_by_order(rt.alloc(), SecondOnce { index: 1 })?;
+    let wanted = filtered(rt.alloc(), 8, PLAIN)?;
+    assert_eq!(rt; outcome.status, Status::Done);
+    assert_eq!(rt; first_difference(wanted.as_bytes(), &outcome.output), None);
     Ok(())
 }
 
-/// Answers the same at each decision.
-#[derive(Drop)]
-struct Stubborn {
-    answer: Option<Pair>,
-}
-
-impl Guide for Stubborn {
-    ghost use Rattle.std.specs.Prelude.{◌≡◌, []};
-
-    ghost state = { λ guide. [] };
-
-    ghost answers = { λ guide view answer after. after ≡ [] };
-
-    ghost hears = { λ guide conflict after. after ≡ [] };
-
-    fn pick(&mut self, _view: &[ViewRow]) -> Option<Pair> {
-        self.answer
-    }
-
-    fn learned(&mut self, _conflict: &[Var]) {}
-}
-
-/// Whether a search finds what it finds without a guide, where one is chosen that always answers this.
-fn finds_the_same(alloc: Global, answer: Option<Pair>) -> Result<bool, NoMemory> {
-    let text = b"var x 1..3\nvar y 1..3\nadd a : x < y\nguide 1\nsolve dbt\n";
-    let replies = "ok\nok\nok\nok\nfound x=1 y=2\n";
-    let mut guides = Vec::new(alloc);
-    guides.push(Stubborn { answer })?;
-    answers_with(alloc, text, replies, 7, guides, no_orders(alloc))
-}
-
 #[test]
-fn an_unlawful_answer_counts_for_nothing(rt: HostRuntime) -> Result<(), Fail> {
-    let unknown = Pair {
-        var: Var(4_000_000_000),
-        value: Value(1),
-    };
-    let undeclared = Pair {
-        var: Var(0),
-        value: Value(9),
-    };
-    assert!(rt; finds_the_same(rt.alloc(), None)?);
-    assert!(rt; finds_the_same(rt.alloc(), Some(unknown))?);
-    assert!(rt; finds_the_same(rt.alloc(), Some(undeclared))?);
-    assert!(rt; has_log(rt.alloc(), Beyond, PLAIN)?);
+fn an_index_that_no_list_has_counts_for_nothing(rt: HostRuntime) -> Result<(), Fail> {
+    let outcome = outcome_by_order(rt.alloc(), Beyond)?;
+    let wanted = filtered(rt.alloc(), 8, PLAIN)?;
+    assert_eq!(rt; outcome.status, Status::Done);
+    assert_eq!(rt; first_difference(wanted.as_bytes(), &outcome.output), None);
     Ok(())
 }
 

@@ -1,9 +1,12 @@
-//! Proofs that constraints have no solution, by the command `proof`: the line that is written, and how it ends.
-use crate::judged::{Passing, ends, is_refused, put_lines};
+//! Proofs that constraints have no solution, by the command `proof`: how those with lines changed or left out are refused, and what
+//! comes of streams that fail.
+use crate::certificates::put_lines;
+use crate::outcomes::{outcome_failing, outcome_in};
 use palm_base::NoMemory;
 use palm_cli::Status;
 use std::alloc::Global;
 use std::test::Fail;
+use tests_compare::first_difference;
 
 /// The lines of a proof: x, y and z differ, and only 1 and 2 are left for them.
 const LINES: [&str; 19] = [
@@ -28,37 +31,11 @@ const LINES: [&str; 19] = [
     "end",
 ];
 
-/// How `proof` ends on the whole proof, whose calls of source and sink fail where they are listed, and what it writes.
-fn ends_whole(
-    alloc: Global,
-    reads: &[u64],
-    writes: &[u64],
-    status: Status,
-    output: &str,
-) -> Result<bool, NoMemory> {
-    let passing = Passing {
-        word: "proof",
-        piece: 7,
-        reads,
-        writes,
-    };
+/// The proof with another line in the place of the one with this number.
+fn changed(alloc: Global, number: usize, other: &str) -> Result<Vec<u8>, NoMemory> {
     let mut text = Vec::new(alloc);
-    put_lines(&mut text, &LINES, 19, 0, "")?;
-    ends(alloc, &text, &passing, status, output)
-}
-
-#[test]
-fn a_proof_is_accepted(rt: HostRuntime) -> Result<(), Fail> {
-    assert!(rt;
-        ends_whole(
-            rt.alloc(),
-            &[],
-            &[],
-            Status::Done,
-            "accepted none because d\n"
-        )?
-    );
-    Ok(())
+    put_lines(&mut text, &LINES, 19, number, other)?;
+    Ok(text)
 }
 
 /// A proof that is changed: the number of the line that says something else, what it says, and how the proof is refused.
@@ -72,13 +49,38 @@ const CHANGED: &[(usize, &str, &str)] = &[
     (18, "none", "refused 18 P5\n"),
 ];
 
-/// Whether the proof without the lines from one number to another is refused by this line.
-fn is_refused_without(
-    alloc: Global,
-    from: usize,
-    to: usize,
-    output: &str,
-) -> Result<bool, NoMemory> {
+#[test]
+fn a_changed_proof_is_refused(rt: HostRuntime) -> Result<(), Fail> {
+    for (number, line, output) in CHANGED {
+        let text = changed(rt.alloc(), *number, line)?;
+        let outcome = outcome_in(rt.alloc(), "proof", &text, 7)?;
+        assert_eq!(rt; outcome.status, Status::Refused, "{line}");
+        assert_eq!(rt;
+            first_difference(output.as_bytes(), &outcome.output),
+            None,
+            "{line}"
+        );
+    }
+    Ok(())
+}
+
+#[test]
+fn a_changed_proof_is_refused_byte_by_byte(rt: HostRuntime) -> Result<(), Fail> {
+    for (number, line, output) in CHANGED {
+        let text = changed(rt.alloc(), *number, line)?;
+        let outcome = outcome_in(rt.alloc(), "proof", &text, 1)?;
+        assert_eq!(rt; outcome.status, Status::Refused, "{line}");
+        assert_eq!(rt;
+            first_difference(output.as_bytes(), &outcome.output),
+            None,
+            "{line}"
+        );
+    }
+    Ok(())
+}
+
+/// The proof without the lines from one number to another.
+fn without(alloc: Global, from: usize, to: usize) -> Result<Vec<u8>, NoMemory> {
     let mut text = Vec::new(alloc);
     for (place, line) in LINES.iter().enumerate() {
         if place + 1 < from || to < place + 1 {
@@ -86,27 +88,52 @@ fn is_refused_without(
             text.extend_from_slice(b"\n")?;
         }
     }
-    is_refused(alloc, "proof", &text, output)
+    Ok(text)
 }
 
+/// The numbers of the first and the last line that are left out, and how the proof is refused.
+const CUT: &[(usize, usize, &str)] = &[
+    (10, 10, "refused 10 P5\n"),
+    (12, 17, "refused 12 P5\n"),
+    (1, 19, "refused 1 P5\n"),
+];
+
 #[test]
-fn a_changed_proof_is_refused(rt: HostRuntime) -> Result<(), Fail> {
-    for (number, line, output) in CHANGED {
-        let mut text = Vec::new(rt.alloc());
-        put_lines(&mut text, &LINES, 19, *number, line)?;
-        assert!(rt; is_refused(rt.alloc(), "proof", &text, output)?);
+fn a_proof_without_some_lines_is_refused(rt: HostRuntime) -> Result<(), Fail> {
+    for (from, to, output) in CUT {
+        let text = without(rt.alloc(), *from, *to)?;
+        let outcome = outcome_in(rt.alloc(), "proof", &text, 7)?;
+        assert_eq!(rt; outcome.status, Status::Refused, "{output}");
+        assert_eq!(rt;
+            first_difference(output.as_bytes(), &outcome.output),
+            None,
+            "{output}"
+        );
+        let bytewise = outcome_in(rt.alloc(), "proof", &text, 1)?;
+        assert_eq!(rt; bytewise.status, Status::Refused, "{output}");
+        assert_eq!(rt;
+            first_difference(output.as_bytes(), &bytewise.output),
+            None,
+            "{output}"
+        );
     }
-    assert!(rt; is_refused_without(rt.alloc(), 10, 10, "refused 10 P5\n")?);
-    assert!(rt; is_refused_without(rt.alloc(), 12, 17, "refused 12 P5\n")?);
-    assert!(rt; is_refused_without(rt.alloc(), 1, 19, "refused 1 P5\n")?);
     Ok(())
 }
 
+/// The read or the write that fails, how the command ends then on the whole proof, and what was written.
+const FAILING: &[(&[u64], &[u64], Status, &str)] = &[
+    (&[1], &[], Status::ReadFault, ""),
+    (&[9], &[], Status::ReadFault, ""),
+    (&[], &[3], Status::WriteFault, "accepted none "),
+];
+
 #[test]
 fn a_failing_stream_ends_the_command(rt: HostRuntime) -> Result<(), Fail> {
-    let alloc = rt.alloc();
-    assert!(rt; ends_whole(alloc, &[1], &[], Status::ReadFault, "")?);
-    assert!(rt; ends_whole(alloc, &[9], &[], Status::ReadFault, "")?);
-    assert!(rt; ends_whole(alloc, &[], &[3], Status::WriteFault, "accepted none ")?);
+    let text = changed(rt.alloc(), 0, "")?;
+    for (reads, writes, status, output) in FAILING {
+        let outcome = outcome_failing(rt.alloc(), "proof", &text, reads, writes)?;
+        assert_eq!(rt; outcome.status, *status);
+        assert_eq!(rt; first_difference(output.as_bytes(), &outcome.output), None);
+    }
     Ok(())
 }

@@ -2,15 +2,13 @@
 ghost use Rattle.std.specs.Prelude.{◌<◌};
 ghost use Rattle.palm_base.specs.Memory.{source_state, sink_state};
 
-use crate::words::{no_guides, no_orders, words_of};
-use palm_base::{
-    ByteList, CallList, Failed, MemorySink, MemorySource, NoMemory, Sink, Source, SteadySink,
-    SteadySource,
-};
+use crate::outcomes::{Outcome, Passing, no_guides, no_orders, outcome_of, words_of};
+use palm_base::{ByteList, Failed, NoMemory, Sink, Source, SteadySink, SteadySource};
 use palm_cli::{Status, top};
 use std::alloc::Global;
 use std::cell::Cell;
 use std::test::Fail;
+use tests_compare::first_difference;
 
 /// A session of 44 bytes.
 const TEXT: &str = "var x 1..3\nvar y 1..3\nadd a : x < y\ndomains\n";
@@ -39,35 +37,25 @@ const CHECK: Asked = Asked {
     input: CERTIFICATE,
 };
 
-/// Whether the command ends so, read in pieces of 11 bytes and written in pieces of so many, where the listed calls of the
-/// source and of the sink fail, and writes this.
-fn ends(
+/// How the command ends, read in pieces of 11 bytes and written in pieces of so many, where the listed calls of the source and
+/// of the sink fail.
+fn outcome_in(
     alloc: Global,
     asked: Asked,
-    reads: &[u64],
-    writes: &[u64],
+    failing_reads: &[u64],
+    failing_writes: &[u64],
     piece: usize,
-    status: Status,
-    output: &[u8],
-) -> Result<bool, NoMemory>
+) -> Result<Outcome, NoMemory>
     requires { 0 < piece }
 {
-    let reads = CallList::from_slice(alloc, reads)?;
-    let writes = CallList::from_slice(alloc, writes)?;
-    let bytes = ByteList::from_slice(alloc, asked.input.as_bytes())?;
-    let words = words_of(alloc, &[asked.word])?;
-    let mut source = MemorySource::new(bytes, 11, reads);
-    let mut sink = MemorySink::new(alloc, piece, writes);
-    sink.reserve(64)?;
-    let ended = top(
-        alloc,
-        &words,
-        &mut source,
-        &mut sink,
-        no_guides(alloc),
-        no_orders(alloc),
-    );
-    Ok(ended == status && sink.bytes() == output)
+    let passing = Passing {
+        word: asked.word,
+        read: 11,
+        written: piece,
+        failing_reads,
+        failing_writes,
+    };
+    outcome_of(alloc, asked.input.as_bytes(), &passing)
 }
 
 /// What is asked for, the read that fails, what was written before it, and how the command ends; the session takes four
@@ -85,16 +73,12 @@ const FAILING_READS: &[(Asked, u64, &str, Status)] = &[
 #[test]
 fn a_failing_read_ends_the_command(rt: HostRuntime) -> Result<(), Fail> {
     for (asked, call, output, status) in FAILING_READS {
-        assert!(rt;
-            ends(
-                rt.alloc(),
-                *asked,
-                &[*call],
-                &[],
-                7,
-                *status,
-                output.as_bytes()
-            )?
+        let outcome = outcome_in(rt.alloc(), *asked, &[*call], &[], 7)?;
+        assert_eq!(rt; outcome.status, *status, "read {call}");
+        assert_eq!(rt;
+            first_difference(output.as_bytes(), &outcome.output),
+            None,
+            "read {call}"
         );
     }
     Ok(())
@@ -105,21 +89,24 @@ fn a_failing_write_ends_the_run(rt: HostRuntime) -> Result<(), Fail> {
     let mut call = 1;
     for (written, _) in REPLIES.as_bytes().iter().enumerate() {
         let front = &REPLIES.as_bytes()[..written];
-        assert!(rt; ends(rt.alloc(), RUN, &[], &[call], 1, Status::WriteFault, front)?);
+        let outcome = outcome_in(rt.alloc(), RUN, &[], &[call], 1)?;
+        assert_eq!(rt; outcome.status, Status::WriteFault, "write {call}");
+        assert_eq!(rt;
+            first_difference(front, &outcome.output),
+            None,
+            "write {call}"
+        );
         call = call.saturating_add(1);
     }
     assert_eq!(rt; call, 28);
-    assert!(rt;
-        ends(
-            rt.alloc(),
-            RUN,
-            &[],
-            &[call],
-            1,
-            Status::Done,
-            REPLIES.as_bytes()
-        )?
-    );
+    Ok(())
+}
+
+#[test]
+fn a_write_behind_the_last_may_fail(rt: HostRuntime) -> Result<(), Fail> {
+    let outcome = outcome_in(rt.alloc(), RUN, &[], &[28], 1)?;
+    assert_eq!(rt; outcome.status, Status::Done);
+    assert_eq!(rt; first_difference(REPLIES.as_bytes(), &outcome.output), None);
     Ok(())
 }
 

@@ -1,102 +1,65 @@
 //! The words after the program's name.
-use palm_agenda::LastOrder;
+use crate::outcomes::{Outcome, front_of, no_guides, no_orders, words_of};
 use palm_base::{ByteList, CallList, MemorySink, MemorySource, NoMemory};
 use palm_cli::{Status, top};
-use palm_guide::FirstGuide;
 use std::alloc::Global;
 use std::test::Fail;
+use tests_compare::first_difference;
 
-/// These words.
-pub fn words_of(alloc: Global, words: &[&str]) -> Result<Vec<String>, NoMemory> {
-    let mut list = Vec::new(alloc);
-    for word in words {
-        list.push(String::from_str(alloc, word)?)?;
-    }
-    Ok(list)
-}
-
-/// No guides.
-pub fn no_guides(alloc: Global) -> Vec<FirstGuide> {
-    Vec::new(alloc)
-}
-
-/// No orders.
-pub fn no_orders(alloc: Global) -> Vec<LastOrder> {
-    Vec::new(alloc)
-}
-
-/// An empty sink.
-fn empty_sink(alloc: Global) -> MemorySink {
-    MemorySink::new(alloc, 7, CallList::new(alloc))
-}
-
-/// How `top` ends with these words and a source of one line. The sink takes what it writes.
-fn ended(alloc: Global, words: &[&str], sink: &mut MemorySink) -> Result<Status, NoMemory> {
-    sink.reserve(256)?;
+/// How `top` ends with these words and a source of one line, and what it writes.
+fn outcome_of_words(alloc: Global, words: &[&str]) -> Result<Outcome, NoMemory> {
     let bytes = ByteList::from_slice(alloc, b"list\n")?;
     let mut source = MemorySource::new(bytes, 4, CallList::new(alloc));
+    let mut sink = MemorySink::new(alloc, 7, CallList::new(alloc));
+    sink.reserve(256)?;
     let words = words_of(alloc, words)?;
-    Ok(top(
+    let status = top(
         alloc,
         &words,
         &mut source,
-        sink,
+        &mut sink,
         no_guides(alloc),
         no_orders(alloc),
-    ))
+    );
+    let output = Vec::from_slice(alloc, sink.bytes())?;
+    Ok(Outcome { status, output })
 }
 
-/// Whether these words get the usage line, and nothing else.
-fn is_refused(alloc: Global, words: &[&str]) -> Result<bool, NoMemory> {
-    let mut sink = empty_sink(alloc);
-    let status = ended(alloc, words, &mut sink)?;
-    Ok(
-        status == Status::Usage
-            && sink.bytes()
-                == b"usage: palm run, palm check, palm proof or palm gen N\n".as_slice(),
-    )
-}
-
-/// Whether `gen` with this number writes a summary that begins so.
-fn begins(alloc: Global, number: &str, front: &str) -> Result<bool, NoMemory> {
-    let mut sink = empty_sink(alloc);
-    let status = ended(alloc, &["gen", number], &mut sink)?;
-    Ok(status == Status::Done && sink.bytes().starts_with(front.as_bytes()))
-}
-
-/// Whether `gen` with this number writes this summary.
-fn sums_up(alloc: Global, number: &str, summary: &str) -> Result<bool, NoMemory> {
-    let mut sink = empty_sink(alloc);
-    let status = ended(alloc, &["gen", number], &mut sink)?;
-    Ok(status == Status::Done && sink.bytes() == summary.as_bytes())
-}
+/// Words that are no command.
+const OTHER_WORDS: [&[&str]; 20] = [
+    &[],
+    &["help"],
+    &["runs"],
+    &["run", "--"],
+    &["run", "run"],
+    &["check", "run"],
+    &["checks"],
+    &["proof", "proof"],
+    &["proofs"],
+    &["gen"],
+    &["gen", "0"],
+    &["gen", "000"],
+    &["gen", "17"],
+    &["gen", "0004"],
+    &["gen", "+3"],
+    &["gen", "-3"],
+    &["gen", "3.0"],
+    &["gen", "help"],
+    &["gen", "2", "3"],
+    &["--", "run"],
+];
 
 #[test]
 fn other_words_get_the_usage_line(rt: HostRuntime) -> Result<(), Fail> {
-    let lists: [&[&str]; 20] = [
-        &[],
-        &["help"],
-        &["runs"],
-        &["run", "--"],
-        &["run", "run"],
-        &["check", "run"],
-        &["checks"],
-        &["proof", "proof"],
-        &["proofs"],
-        &["gen"],
-        &["gen", "0"],
-        &["gen", "000"],
-        &["gen", "17"],
-        &["gen", "0004"],
-        &["gen", "+3"],
-        &["gen", "-3"],
-        &["gen", "3.0"],
-        &["gen", "help"],
-        &["gen", "2", "3"],
-        &["--", "run"],
-    ];
-    for words in lists {
-        assert!(rt; is_refused(rt.alloc(), words)?);
+    let usage = b"usage: palm run, palm check, palm proof or palm gen N\n";
+    for (place, words) in OTHER_WORDS.iter().enumerate() {
+        let outcome = outcome_of_words(rt.alloc(), words)?;
+        assert_eq!(rt; outcome.status, Status::Usage, "words {place}");
+        assert_eq!(rt;
+            first_difference(usage, &outcome.output),
+            None,
+            "words {place}"
+        );
     }
     Ok(())
 }
@@ -117,8 +80,25 @@ const SUMMARIES: &[(&str, &str)] = &[
 #[test]
 fn sessions_are_generated(rt: HostRuntime) -> Result<(), Fail> {
     for (number, summary) in SUMMARIES {
-        assert!(rt; sums_up(rt.alloc(), number, summary)?);
+        let outcome = outcome_of_words(rt.alloc(), &["gen", number])?;
+        assert_eq!(rt; outcome.status, Status::Done, "{number}");
+        assert_eq!(rt;
+            first_difference(summary.as_bytes(), &outcome.output),
+            None,
+            "{number}"
+        );
     }
-    assert!(rt; begins(rt.alloc(), "007", "queens 7\nlines 53\nfound q1=")?);
+    Ok(())
+}
+
+#[test]
+fn a_number_may_have_zeros_before_it(rt: HostRuntime) -> Result<(), Fail> {
+    let outcome = outcome_of_words(rt.alloc(), &["gen", "007"])?;
+    let front = b"queens 7\nlines 53\nfound q1=";
+    assert_eq!(rt; outcome.status, Status::Done);
+    assert_eq!(rt;
+        first_difference(front, front_of(&outcome.output, front.len())),
+        None
+    );
     Ok(())
 }
