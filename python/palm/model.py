@@ -4,6 +4,7 @@ from __future__ import annotations
 
 import itertools
 import re
+from collections import abc
 from contextlib import contextmanager
 from typing import Any, Callable, Dict, Hashable, Iterable, Iterator, List, Optional, Sequence, Set, Tuple, Union
 
@@ -404,7 +405,7 @@ def own(variable: Variable, codes: Iterable[int]) -> Tuple[Any, ...]:
 
 
 def _checked(constraints: Iterable[Constraint]) -> List[Constraint]:
-    members = list(constraints)
+    members = list(constraints) if isinstance(constraints, abc.Iterable) else [constraints]
     for member in members:
         if not isinstance(member, Constraint):
             raise ModelError(f"{member!r} is no constraint")

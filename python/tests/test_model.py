@@ -256,6 +256,10 @@ def test_what_is_refused_is_never_sent() -> None:
         for wrong in (lambda: model.var("sum", range(2)), lambda: x * x, lambda: model.var("e", []), lambda: model.add([True])):
             with pytest.raises(ModelError):
                 wrong()
+        for nothing in (True, x, 7, [True], [x]):
+            with pytest.raises(ModelError, match="is no constraint"):
+                model.add(nothing)
+        assert model.rules == []
         model.add(x >= 1, "in")
         model.add(x >= 1, "in")
         assert model.domains() == {"sum": (1, 2)}
