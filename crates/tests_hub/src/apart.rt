@@ -1,9 +1,9 @@
 //! Sixteen sessions at once, against each of them alone.
-use crate::served::{served, sink_for, source_of};
+use crate::served::written;
 use palm_base::NoMemory;
-use palm_hub::HubStatus;
 use std::alloc::Global;
 use std::test::Fail;
+use tests_compare::first_difference;
 
 /// The lines that each session is told in turn, the first one from another place on.
 const LINES: [&str; 20] = [
@@ -50,17 +50,6 @@ fn told(alloc: Global, alone: Option<usize>) -> Result<String, NoMemory> {
     Ok(text)
 }
 
-/// What a hub writes of these lines, if it ends well.
-fn output_of(alloc: Global, text: &str) -> Result<Option<Vec<u8>>, NoMemory> {
-    let bytes = Vec::from_slice(alloc, text.as_bytes())?;
-    let mut source = source_of(alloc, bytes, 100);
-    let mut sink = sink_for(alloc, 100)?;
-    if served(alloc, &mut source, &mut sink) != HubStatus::Done {
-        return Ok(None);
-    }
-    Ok(Some(Vec::from_slice(alloc, sink.bytes())?))
-}
-
 /// The lines of an output that begin so.
 fn lines_with(alloc: Global, output: &[u8], front: &str) -> Result<Vec<u8>, NoMemory> {
     let mut lines = Vec::new(alloc);
@@ -72,29 +61,23 @@ fn lines_with(alloc: Global, output: &[u8], front: &str) -> Result<Vec<u8>, NoMe
     Ok(lines)
 }
 
-/// Whether what is written of a session's lines alone is what stands behind its name in the output. It tells how many bytes
-/// these are.
-fn is_apart(alloc: Global, output: &[u8], session: usize) -> Result<Option<usize>, NoMemory> {
-    let Some(alone) = output_of(alloc, &told(alloc, Some(session))?)? else {
-        return Ok(None);
-    };
-    let name = format!(in alloc; "s{session} : ")?;
-    if alone != lines_with(alloc, output, &name)? {
-        return Ok(None);
-    }
-    Ok(Some(alone.len()))
+/// What is written of a session's lines alone.
+fn alone(alloc: Global, session: usize) -> Result<Vec<u8>, NoMemory> {
+    let text = told(alloc, Some(session))?;
+    written(alloc, text.as_bytes(), 100)
 }
 
 #[test]
 fn sixteen_sessions_are_as_each_alone(rt: HostRuntime) -> Result<(), Fail> {
-    let output = output_of(rt.alloc(), &told(rt.alloc(), None)?)?;
-    assert!(rt; output.is_some());
-    let Some(output) = output else { return Ok(()) };
+    let output = written(rt.alloc(), told(rt.alloc(), None)?.as_bytes(), 100)?;
     let mut bytes = 0_usize;
     for session in 0..16 {
-        let written = is_apart(rt.alloc(), &output, session)?;
-        assert!(rt; written.is_some_and(|count| count > 500), "at {session}");
-        bytes = bytes.saturating_add(written.unwrap_or(0));
+        let name = format!(in rt.alloc(); "s{session} : ")?;
+        let expected = alone(rt.alloc(), session)?;
+        let among = lines_with(rt.alloc(), &output, &name)?;
+        assert_eq!(rt; first_difference(&expected, &among), None, "of s{session}");
+        assert!(rt; expected.len() > 500, "of s{session}");
+        bytes = bytes.saturating_add(among.len());
     }
     assert_eq!(rt; bytes, output.len());
     Ok(())

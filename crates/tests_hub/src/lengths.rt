@@ -1,9 +1,10 @@
 //! Long lines, and inputs as long as they may be.
-use crate::served::ends;
+use crate::served::{ended, written};
 use palm_base::NoMemory;
 use palm_hub::HubStatus;
 use std::alloc::Global;
 use std::test::Fail;
+use tests_compare::first_difference;
 
 /// A text, the same byte so many times behind it, and another text.
 fn stretched(
@@ -86,9 +87,11 @@ fn long_lines_are_answered(rt: HostRuntime) -> Result<(), Fail> {
     for (front, byte, count, back, output) in LONG {
         for piece in [1_000, 4_096] {
             let text = stretched(alloc, front, *byte, *count, back)?;
-            assert!(rt;
-                ends(alloc, text, piece, HubStatus::Done, output)?,
-                "at {front} {back}"
+            let got = written(alloc, &text, piece)?;
+            assert_eq!(rt;
+                first_difference(output.as_bytes(), &got),
+                None,
+                "{front} .. {back} in pieces of {piece}"
             );
         }
     }
@@ -113,9 +116,12 @@ fn an_input_has_16777216_bytes_at_most(rt: HostRuntime) -> Result<(), Fail> {
     for (front, byte, whole, status, output) in WHOLE {
         let count = whole.saturating_sub(front.len());
         let bytes = stretched(rt.alloc(), front, *byte, count, "")?;
-        assert!(rt;
-            ends(rt.alloc(), bytes, 4_096, *status, output)?,
-            "at {front} {whole}"
+        let got = ended(rt.alloc(), bytes, 4_096)?;
+        assert_eq!(rt; got.status, *status, "{front} and {whole} bytes");
+        assert_eq!(rt;
+            first_difference(output.as_bytes(), &got.output),
+            None,
+            "{front} and {whole} bytes"
         );
     }
     Ok(())
@@ -124,6 +130,8 @@ fn an_input_has_16777216_bytes_at_most(rt: HostRuntime) -> Result<(), Fail> {
 #[test]
 fn the_lines_within_the_limit_are_answered(rt: HostRuntime) -> Result<(), Fail> {
     let bytes = stretched(rt.alloc(), "#", b'c', 16_777_207, "\na quit\nb list")?;
-    assert!(rt; ends(rt.alloc(), bytes, 1_000, HubStatus::TooLong, "a : bye\n")?);
+    let got = ended(rt.alloc(), bytes, 1_000)?;
+    assert_eq!(rt; got.status, HubStatus::TooLong);
+    assert_eq!(rt; first_difference(b"a : bye\n", &got.output), None);
     Ok(())
 }

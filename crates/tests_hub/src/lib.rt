@@ -1,5 +1,5 @@
-//! Tests of the hub's one call, `hub`, over sources and sinks in memory: worked sessions with the expected output, what is a
-//! name, what is refused, sixteen sessions at once, streams that fail, other words, and inputs as long as they may be.
+//! Tests of the hub's one call, `hub`, over sources and sinks in memory: what is a name and what a line, sixteen sessions at
+//! once, pieces, streams that fail, other words, and inputs as long as they may be. Worked hubs are files of `tests/sessions`.
 #![tactic(auto)]
 
 #[cfg(test)]

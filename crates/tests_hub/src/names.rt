@@ -1,6 +1,7 @@
 //! What is a session's name, and what is a comment.
-use crate::served::unanswered;
+use crate::served::answer;
 use std::test::Fail;
+use tests_compare::first_difference;
 
 /// Lines that begin with a name and a space or a tab.
 const NAMES: &[(&[u8], &str)] = &[
@@ -32,7 +33,16 @@ const NAMES: &[(&[u8], &str)] = &[
 
 #[test]
 fn names_are_those_of_the_language(rt: HostRuntime) -> Result<(), Fail> {
-    assert_eq!(rt; unanswered(rt.alloc(), NAMES)?, None);
+    for (text, output) in NAMES {
+        let got = answer(rt.alloc(), text, output)?;
+        assert_eq!(rt;
+            first_difference(output.as_bytes(), &got.output),
+            None,
+            "{} in pieces of {}",
+            text.escape_ascii(),
+            got.piece
+        );
+    }
     Ok(())
 }
 
@@ -68,9 +78,16 @@ const NAMELESS: &[&[u8]] = &[
 
 #[test]
 fn other_lines_have_no_name(rt: HostRuntime) -> Result<(), Fail> {
+    let output = "hub error H1 no session name\n";
     for text in NAMELESS {
-        let rows = [(*text, "hub error H1 no session name\n")];
-        assert_eq!(rt; unanswered(rt.alloc(), &rows)?, None, "at {text:?}");
+        let got = answer(rt.alloc(), text, output)?;
+        assert_eq!(rt;
+            first_difference(output.as_bytes(), &got.output),
+            None,
+            "{} in pieces of {}",
+            text.escape_ascii(),
+            got.piece
+        );
     }
     Ok(())
 }
@@ -98,6 +115,15 @@ const COMMENTS: &[(&[u8], &str)] = &[
 
 #[test]
 fn comments_have_no_reply(rt: HostRuntime) -> Result<(), Fail> {
-    assert_eq!(rt; unanswered(rt.alloc(), COMMENTS)?, None);
+    for (text, output) in COMMENTS {
+        let got = answer(rt.alloc(), text, output)?;
+        assert_eq!(rt;
+            first_difference(output.as_bytes(), &got.output),
+            None,
+            "{} in pieces of {}",
+            text.escape_ascii(),
+            got.piece
+        );
+    }
     Ok(())
 }

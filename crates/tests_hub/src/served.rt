@@ -30,39 +30,54 @@ pub fn served(alloc: Global, source: &mut MemorySource, sink: &mut MemorySink) -
     hub(alloc, &words, source, sink)
 }
 
-/// Whether a hub ends so and writes this, where its input and its output pass in pieces of at most so many bytes.
-pub fn ends(
-    alloc: Global,
-    bytes: Vec<u8>,
-    piece: usize,
-    status: HubStatus,
-    output: &str,
-) -> Result<bool, NoMemory>
+/// How a hub ended, and what it wrote.
+#[derive(Drop)]
+pub struct Outcome {
+    pub status: HubStatus,
+    pub output: Vec<u8>,
+}
+
+/// How a hub without words ends over the bytes, where its input and its output pass in pieces of at most so many bytes.
+pub fn ended(alloc: Global, bytes: Vec<u8>, piece: usize) -> Result<Outcome, NoMemory>
     requires { 0 < piece }
 {
     let mut source = source_of(alloc, bytes, piece);
     let mut sink = sink_for(alloc, piece)?;
-    let ended = served(alloc, &mut source, &mut sink);
-    Ok(ended == status && sink.bytes() == output.as_bytes())
+    let status = served(alloc, &mut source, &mut sink);
+    let output = Vec::from_slice(alloc, sink.bytes())?;
+    Ok(Outcome { status, output })
 }
 
-/// Whether a hub answers the text so, in pieces of 1, of 7 and of 4,096 bytes.
-pub fn is_answered(alloc: Global, text: &[u8], output: &str) -> Result<bool, NoMemory> {
-    for piece in [1, 7, 4_096] {
-        let bytes = Vec::from_slice(alloc, text)?;
-        if !ends(alloc, bytes, piece, HubStatus::Done, output)? {
-            return Ok(false);
-        }
+/// What a hub writes of the text in pieces of at most so many bytes. Where it does not end well, a line with the number of its
+/// status stands behind it.
+pub fn written(alloc: Global, text: &[u8], piece: usize) -> Result<Vec<u8>, NoMemory>
+    requires { 0 < piece }
+{
+    let Outcome { status, mut output } = ended(alloc, Vec::from_slice(alloc, text)?, piece)?;
+    if status != HubStatus::Done {
+        let line = format!(in alloc; "status {}\n", status.number())?;
+        output.extend_from_slice(line.as_bytes())?;
     }
-    Ok(true)
+    Ok(output)
 }
 
-/// The first row, counted from 0, whose text is answered otherwise than beside it.
-pub fn unanswered(alloc: Global, rows: &[(&[u8], &str)]) -> Result<Option<usize>, NoMemory> {
-    for (row, (text, output)) in rows.iter().enumerate() {
-        if !is_answered(alloc, text, output)? {
-            return Ok(Some(row));
+/// What a hub wrote in pieces of at most so many bytes.
+#[derive(Drop)]
+pub struct InPieces {
+    pub piece: usize,
+    pub output: Vec<u8>,
+}
+
+/// What a hub writes of the text in pieces of 1, of 7 and of 4,096 bytes: the first output that is not the expected one, and
+/// where there is none the last.
+pub fn answer(alloc: Global, text: &[u8], expected: &str) -> Result<InPieces, NoMemory> {
+    for piece in [1, 7] {
+        let output = written(alloc, text, piece)?;
+        if output.as_slice() != expected.as_bytes() {
+            return Ok(InPieces { piece, output });
         }
     }
-    Ok(None)
+    let piece = 4_096;
+    let output = written(alloc, text, piece)?;
+    Ok(InPieces { piece, output })
 }

@@ -1,8 +1,10 @@
-//! Worked hubs, and what they write.
-use crate::served::unanswered;
+//! A worked hub in pieces, and the ends of lines.
+use crate::served::answer;
 use std::test::Fail;
+use tests_compare::first_difference;
 
-/// Two sessions, one of which ends, and lines without a name.
+/// Two sessions, one of which ends, and lines without a name: the lines of the worked hub `hub-two-sessions`, which stand here
+/// for the streams that cut them and that fail.
 pub const TWO: &str =
     "a var x 1..2\nb var x 5..6\na add p : x = 1\nb domains\na domains\nc\nb quit\nb list\n9 x\n";
 
@@ -11,9 +13,14 @@ pub const TWO_ANSWERED: &str = "a : ok\nb : ok\na : ok\nb : x: 5 6\nb : end\na :
     hub error H1 no session name\nb : bye\nhub error H3 session over\nhub error H1 no session name\n";
 
 #[test]
-fn lines_go_to_the_sessions_of_their_names(rt: HostRuntime) -> Result<(), Fail> {
-    let rows = [(TWO.as_bytes(), TWO_ANSWERED)];
-    assert_eq!(rt; unanswered(rt.alloc(), &rows)?, None);
+fn two_sessions_are_answered_in_pieces(rt: HostRuntime) -> Result<(), Fail> {
+    let got = answer(rt.alloc(), TWO.as_bytes(), TWO_ANSWERED)?;
+    assert_eq!(rt;
+        first_difference(TWO_ANSWERED.as_bytes(), &got.output),
+        None,
+        "in pieces of {}",
+        got.piece
+    );
     Ok(())
 }
 
@@ -40,67 +47,15 @@ const ENDS: &[(&[u8], &str)] = &[
 
 #[test]
 fn lines_end_as_those_of_a_session(rt: HostRuntime) -> Result<(), Fail> {
-    assert_eq!(rt; unanswered(rt.alloc(), ENDS)?, None);
-    Ok(())
-}
-
-/// What is behind `quit`, and sessions that go on.
-const OVER: &[(&[u8], &str)] = &[
-    (
-        b"a quit\na\na \na list\nb list\n",
-        "a : bye\nhub error H1 no session name\nhub error H3 session over\nhub error H3 session over\nb : end\n",
-    ),
-    (
-        b"a quit # now\na quit\n",
-        "a : error E2 no such form\na : bye\n",
-    ),
-    (
-        b"a # note\na quit\na # note\n",
-        "a : bye\nhub error H3 session over\n",
-    ),
-    (
-        b"a quit\na #\n# a\n",
-        "a : bye\nhub error H3 session over\n",
-    ),
-    (
-        b"a\tquit\r\r\na quit",
-        "a : bye\nhub error H3 session over\n",
-    ),
-    (b"a quit", "a : bye\n"),
-    (
-        b"a quit\na list\nquit\n",
-        "a : bye\nhub error H3 session over\nhub error H1 no session name\n",
-    ),
-];
-
-#[test]
-fn a_session_that_quit_is_over(rt: HostRuntime) -> Result<(), Fail> {
-    assert_eq!(rt; unanswered(rt.alloc(), OVER)?, None);
-    Ok(())
-}
-
-/// Each session has its own version, variables and constraints, and no guides and no orders.
-const OWN: &[(&[u8], &str)] = &[
-    (
-        b"a palm 2\nb list\na var x 0..5 in 1..3\nb palm 2\nb var x 0..5 in 1..3\na domain x\n",
-        "a : ok\nb : end\na : ok\nb : error E2 no such form\nb : error E2 no such form\na : x: 1 2 3\n",
-    ),
-    (
-        b"a guide 1\na order 1\na guide none\na order none\n",
-        "a : error E11 no such object\na : error E11 no such object\na : ok\na : ok\n",
-    ),
-    (
-        b"a var x 1..3\na add p : x > 3\nb var x 1..3\nb domains\na conflict\na relax p\na domains\n",
-        "a : ok\na : contradiction\nb : ok\nb : x: 1 2 3\nb : end\na : conflict p\na : ok\na : x: 1 2 3\na : end\n",
-    ),
-    (
-        b"a var x 1..2\nb var y 1..2\na pause\na add p : x = 1\nb add p : y = 2\na domains\nb domains\na resume\na domains\n",
-        "a : ok\nb : ok\na : ok\na : ok\nb : ok\na : paused\nb : y: 2\nb : end\na : ok\na : x: 1\na : end\n",
-    ),
-];
-
-#[test]
-fn each_session_holds_its_own(rt: HostRuntime) -> Result<(), Fail> {
-    assert_eq!(rt; unanswered(rt.alloc(), OWN)?, None);
+    for (text, output) in ENDS {
+        let got = answer(rt.alloc(), text, output)?;
+        assert_eq!(rt;
+            first_difference(output.as_bytes(), &got.output),
+            None,
+            "{} in pieces of {}",
+            text.escape_ascii(),
+            got.piece
+        );
+    }
     Ok(())
 }

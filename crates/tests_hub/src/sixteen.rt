@@ -1,8 +1,9 @@
 //! Sixteen sessions, and no more.
-use crate::served::is_answered;
+use crate::served::answer;
 use palm_base::NoMemory;
 use std::alloc::Global;
 use std::test::Fail;
+use tests_compare::first_difference;
 
 /// Appends so many lines, each with its number, from 1 on, between two texts.
 fn put_lines(text: &mut String, front: &str, count: u32, back: &str) -> Result<(), NoMemory> {
@@ -12,20 +13,16 @@ fn put_lines(text: &mut String, front: &str, count: u32, back: &str) -> Result<(
     Ok(())
 }
 
-/// Whether the lines are answered so where the sessions s1 to s16 are open.
-fn is_answered_behind(alloc: Global, lines: &str, output: &str) -> Result<bool, NoMemory> {
-    let mut text = String::new(alloc);
-    put_lines(&mut text, "s", 16, " list")?;
-    text.push_str(lines)?;
+/// A text behind lines, one for each of the sessions s1 to s16, that end so.
+fn behind_sixteen(alloc: Global, back: &str, text: &str) -> Result<String, NoMemory> {
     let mut whole = String::new(alloc);
-    put_lines(&mut whole, "s", 16, " : end")?;
-    whole.push_str(output)?;
-    is_answered(alloc, text.as_bytes(), &whole)
+    put_lines(&mut whole, "s", 16, back)?;
+    whole.push_str(text)?;
+    Ok(whole)
 }
 
 /// Lines behind sixteen sessions, and what is written of them.
 const BEHIND: &[(&str, &str)] = &[
-    ("s17 list\n", "hub error H2 too many sessions\n"),
     (
         "s17 \ns17 # note\n",
         "hub error H2 too many sessions\nhub error H2 too many sessions\n",
@@ -46,22 +43,16 @@ const BEHIND: &[(&str, &str)] = &[
 #[test]
 fn sixteen_sessions_are_opened_and_go_on(rt: HostRuntime) -> Result<(), Fail> {
     for (lines, output) in BEHIND {
-        assert!(rt;
-            is_answered_behind(rt.alloc(), lines, output)?,
-            "at {lines}"
+        let text = behind_sixteen(rt.alloc(), " list", lines)?;
+        let expected = behind_sixteen(rt.alloc(), " : end", output)?;
+        let got = answer(rt.alloc(), text.as_bytes(), &expected)?;
+        assert_eq!(rt;
+            first_difference(expected.as_bytes(), &got.output),
+            None,
+            "{lines} in pieces of {}",
+            got.piece
         );
     }
-    Ok(())
-}
-
-/// Sixteen names that are opened by lines without a reply, and one more.
-const SILENT: &str =
-    "a \nb \nc \nd #\ne \nf \ng \nh \ni \nj \nk \nl \nm \nn \no \np\t\nq list\np list\n";
-
-#[test]
-fn a_line_without_a_reply_opens_a_session(rt: HostRuntime) -> Result<(), Fail> {
-    let output = "hub error H2 too many sessions\np : end\n";
-    assert!(rt; is_answered(rt.alloc(), SILENT.as_bytes(), output)?);
     Ok(())
 }
 
@@ -80,6 +71,12 @@ fn comments_and_refused_lines_open_none(rt: HostRuntime) -> Result<(), Fail> {
     put_lines(&mut text, "s", 17, " list")?;
     put_lines(&mut output, "s", 16, " : end")?;
     output.push_str("hub error H2 too many sessions\n")?;
-    assert!(rt; is_answered(rt.alloc(), text.as_bytes(), &output)?);
+    let got = answer(rt.alloc(), text.as_bytes(), &output)?;
+    assert_eq!(rt;
+        first_difference(output.as_bytes(), &got.output),
+        None,
+        "in pieces of {}",
+        got.piece
+    );
     Ok(())
 }
