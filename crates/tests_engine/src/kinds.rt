@@ -20,18 +20,25 @@ const Z: u32 = 2;
 
 const N: u32 = 3;
 
+/// That x lost 2 and z lost 1.
+fn x_and_z() -> Because {
+    Because::Two(pair(X, 2), pair(Z, 1))
+}
+
 // With x, y and z from 1 to 2 and n from 0 to 3.
 #[test]
 fn counts_tell_why(rt: HostRuntime) -> Result<(), Fail> {
-    let two = Because::Two(pair(X, 2), pair(Z, 1));
-    let three = Because::Three(pair(X, 2), pair(Z, 1), pair(N, 1));
     let log = [
         removed(pair(X, 2), 1, Because::Nothing),
         removed(pair(Z, 1), 2, Because::Nothing),
-        removed(pair(N, 0), 3, two),
-        removed(pair(N, 3), 3, two),
+        removed(pair(N, 0), 3, x_and_z()),
+        removed(pair(N, 3), 3, x_and_z()),
         removed(pair(N, 1), 4, Because::Nothing),
-        removed(pair(Y, 2), 3, three),
+        removed(
+            pair(Y, 2),
+            3,
+            Because::Three(pair(X, 2), pair(Z, 1), pair(N, 1)),
+        ),
     ];
     let steps = [
         Step::Declare(3, Span::OneToTwo),

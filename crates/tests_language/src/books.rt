@@ -15,6 +15,11 @@ fn constraint(alloc: Global, book: &Book, text: &str) -> Result<Option<usize>, N
     Ok(book.constraint_named(&name(alloc, text)?))
 }
 
+/// The name as text.
+fn text_of(alloc: Global, name: &Name) -> Result<String, NoMemory> {
+    Ok(format!(in alloc; "{}", name.as_slice().escape_ascii())?)
+}
+
 /// What the names stand for.
 struct Names;
 
@@ -46,11 +51,11 @@ struct Variables;
 
 impl Question for Variables {
     /// How many there are, and the name and the values of the second.
-    type Answer = (u32, Name, ValueList);
+    type Answer = (u32, String, ValueList);
 
     fn answer(&self, alloc: Global, book: &mut Book) -> Result<Self::Answer, NoMemory> {
         add_two(alloc, book)?;
-        let name = book.variable_name(Var(1)).copy()?;
+        let name = text_of(alloc, book.variable_name(Var(1)))?;
         Ok((book.variables(), name, book.initial(Var(1)).copy()?))
     }
 }
@@ -58,7 +63,7 @@ impl Question for Variables {
 #[test]
 fn a_book_tells_its_variables(rt: HostRuntime) -> Result<(), Fail> {
     let values = ValueList::from_slice(rt.alloc(), &[Value(1), Value(2)])?;
-    let expected = (2, name(rt.alloc(), "y")?, values);
+    let expected = (2, String::from_str(rt.alloc(), "y")?, values);
     assert_eq!(rt;
         ask(rt.alloc(), &Variables)?,
         expected,
@@ -72,18 +77,18 @@ struct Numbers;
 
 impl Question for Numbers {
     /// How many there are, where 2 and 3 stand, and whose name 2 has.
-    type Answer = (usize, Option<usize>, Option<usize>, Name);
+    type Answer = (usize, Option<usize>, Option<usize>, String);
 
     fn answer(&self, alloc: Global, book: &mut Book) -> Result<Self::Answer, NoMemory> {
         add_two(alloc, book)?;
-        let name = book.constraint_name(2).copy()?;
+        let name = text_of(alloc, book.constraint_name(2))?;
         Ok((book.constraints(), book.place_of(2), book.place_of(3), name))
     }
 }
 
 #[test]
 fn a_book_finds_constraints_by_number(rt: HostRuntime) -> Result<(), Fail> {
-    let expected = (2, Some(1), None, name(rt.alloc(), "m")?);
+    let expected = (2, Some(1), None, String::from_str(rt.alloc(), "m")?);
     assert_eq!(rt;
         ask(rt.alloc(), &Numbers)?,
         expected,

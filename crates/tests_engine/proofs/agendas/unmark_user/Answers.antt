@@ -1,4 +1,4 @@
-use Rattle.std.proofs.Common.{ap, sym, subst}
+use Rattle.std.proofs.Common.{sym, subst}
 use Rattle.palm_agenda.specs.Agenda.{HasPlace, IsStanding, changed_at, unmarked}
 use Rattle.palm_agenda.specs.declared.taken.Taken.{Taken}
 use Rattle.palm_agenda.proofs.cited.Keeping.{keeps_at, keeps_unmarked}
