@@ -115,15 +115,18 @@ fn a_pick_is_tried_before_it_is_taken(rt: HostRuntime) -> Result<(), Fail> {
     Ok(())
 }
 
+/// The turns where the guide picks a value of the first variable, or of the second.
+const PICKED_X: &[&str] = &["x0 = 2 after x0 = 2"];
+
+const PICKED_Y: &[&str] = &["x1 = 3 after x1 = 3", "x0 = 1 after x1 = 3"];
+
 #[test]
 fn a_lawful_pick_is_taken(rt: HostRuntime) -> Result<(), Fail> {
     let alloc = rt.alloc();
     let case = within(Problem::Less, 9);
-    let x = ["x0 = 2 after x0 = 2"];
-    let y = ["x1 = 3 after x1 = 3", "x0 = 1 after x1 = 3"];
     let rows = [
-        (pair(0, 2), "found 2 3", x.as_slice()),
-        (pair(1, 3), "found 1 3", y.as_slice()),
+        (pair(0, 2), "found 2 3", PICKED_X),
+        (pair(1, 3), "found 1 3", PICKED_Y),
     ];
     for (pick, end, turns) in rows {
         let wanted = text_of(alloc, end, turns)?;
