@@ -404,8 +404,8 @@ def own(variable: Variable, codes: Iterable[int]) -> Tuple[Any, ...]:
     return tuple(variable.values.of(code) for code in codes)
 
 
-def _checked(constraints: Iterable[Constraint]) -> List[Constraint]:
-    members = list(constraints) if isinstance(constraints, abc.Iterable) else [constraints]
+def _checked(constraints: Any) -> List[Constraint]:
+    members: List[Any] = list(constraints) if isinstance(constraints, abc.Iterable) else [constraints]
     for member in members:
         if not isinstance(member, Constraint):
             raise ModelError(f"{member!r} is no constraint")
