@@ -1,7 +1,6 @@
 //! Forms of a proof.
-use crate::told::verdict_of;
+use crate::told::assert_verdicts;
 use std::test::Fail;
-use tests_compare::first_difference;
 
 /// Proofs, each with forms that are seldom written.
 const FORMS: &[(&[u8], &str)] = &[
@@ -52,14 +51,6 @@ const FORMS: &[(&[u8], &str)] = &[
 
 #[test]
 fn proofs_are_accepted_in_all_their_forms(rt: HostRuntime) -> Result<(), Fail> {
-    for (text, line) in FORMS {
-        let got = verdict_of(rt.alloc(), text)?;
-        assert_eq!(rt;
-            first_difference(line.as_bytes(), &got),
-            None,
-            "{}",
-            text.escape_ascii()
-        );
-    }
+    assert_verdicts(&rt, rt.alloc(), b"", FORMS, b"")?;
     Ok(())
 }

@@ -1,7 +1,6 @@
 //! Proofs over each kind of constraint.
-use crate::told::{verdict_between, verdict_of};
+use crate::told::assert_verdicts;
 use std::test::Fail;
-use tests_compare::first_difference;
 
 /// Proofs that are accepted.
 const KINDS: &[(&[u8], &str)] = &[
@@ -80,15 +79,7 @@ const KINDS: &[(&[u8], &str)] = &[
 
 #[test]
 fn each_kind_of_constraint_takes_part(rt: HostRuntime) -> Result<(), Fail> {
-    for (text, line) in KINDS {
-        let got = verdict_of(rt.alloc(), text)?;
-        assert_eq!(rt;
-            first_difference(line.as_bytes(), &got),
-            None,
-            "{}",
-            text.escape_ascii()
-        );
-    }
+    assert_verdicts(&rt, rt.alloc(), b"", KINDS, b"")?;
     Ok(())
 }
 
@@ -184,29 +175,13 @@ const OVER_ONE: &[(&[u8], &str)] = &[
 
 #[test]
 fn nothing_has_support_beside_an_empty_domain(rt: HostRuntime) -> Result<(), Fail> {
-    for (text, line) in OVER_EMPTY {
-        let got = verdict_between(rt.alloc(), EMPTIED, text, BEHIND_BOTH)?;
-        assert_eq!(rt;
-            first_difference(line.as_bytes(), &got),
-            None,
-            "{}",
-            text.escape_ascii()
-        );
-    }
+    assert_verdicts(&rt, rt.alloc(), EMPTIED, OVER_EMPTY, BEHIND_BOTH)?;
     Ok(())
 }
 
 #[test]
 fn a_value_has_support_beside_one_that_is_left(rt: HostRuntime) -> Result<(), Fail> {
-    for (text, line) in OVER_ONE {
-        let got = verdict_between(rt.alloc(), EMPTIED, text, BEHIND_ONE)?;
-        assert_eq!(rt;
-            first_difference(line.as_bytes(), &got),
-            None,
-            "{}",
-            text.escape_ascii()
-        );
-    }
+    assert_verdicts(&rt, rt.alloc(), EMPTIED, OVER_ONE, BEHIND_ONE)?;
     Ok(())
 }
 
@@ -235,14 +210,6 @@ const PARTS: &[(&[u8], &str)] = &[
 
 #[test]
 fn each_part_is_asked_alone(rt: HostRuntime) -> Result<(), Fail> {
-    for (text, line) in PARTS {
-        let got = verdict_between(rt.alloc(), BINARY, text, BEHIND_NONE)?;
-        assert_eq!(rt;
-            first_difference(line.as_bytes(), &got),
-            None,
-            "{}",
-            text.escape_ascii()
-        );
-    }
+    assert_verdicts(&rt, rt.alloc(), BINARY, PARTS, BEHIND_NONE)?;
     Ok(())
 }

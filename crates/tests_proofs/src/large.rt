@@ -1,5 +1,5 @@
 //! Large proofs, and the limits.
-use crate::told::{verdict_between, verdict_from, verdict_of};
+use crate::told::{assert_verdicts, verdict_from, verdict_of};
 use palm_base::NoMemory;
 use std::alloc::Global;
 use std::test::Fail;
@@ -37,15 +37,7 @@ const VARIABLES: &[(&[u8], &str)] = &[
 #[test]
 fn a_proof_has_128_variables_at_most(rt: HostRuntime) -> Result<(), Fail> {
     let head = listed(rt.alloc(), "palm-proof 1\n", "var x", 128, " 1..2\n")?;
-    for (text, line) in VARIABLES {
-        let got = verdict_between(rt.alloc(), head.as_bytes(), text, b"")?;
-        assert_eq!(rt;
-            first_difference(line.as_bytes(), &got),
-            None,
-            "{}",
-            text.escape_ascii()
-        );
-    }
+    assert_verdicts(&rt, rt.alloc(), head.as_bytes(), VARIABLES, b"")?;
     Ok(())
 }
 
@@ -63,15 +55,7 @@ const CONSTRAINTS: &[(&[u8], &str)] = &[
 fn a_proof_has_512_constraints_at_most(rt: HostRuntime) -> Result<(), Fail> {
     let one = "palm-proof 1\nvar x 1..2\n";
     let head = listed(rt.alloc(), one, "add a", 512, " : x in 1..1\n")?;
-    for (text, line) in CONSTRAINTS {
-        let got = verdict_between(rt.alloc(), head.as_bytes(), text, b"")?;
-        assert_eq!(rt;
-            first_difference(line.as_bytes(), &got),
-            None,
-            "{}",
-            text.escape_ascii()
-        );
-    }
+    assert_verdicts(&rt, rt.alloc(), head.as_bytes(), CONSTRAINTS, b"")?;
     Ok(())
 }
 
@@ -86,15 +70,7 @@ const VALUES: &[(&[u8], &str)] = &[
 #[test]
 fn a_variable_has_256_values_at_most(rt: HostRuntime) -> Result<(), Fail> {
     let head = listed(rt.alloc(), "palm-proof 1\nvar y {-1", ",", 255, "")?;
-    for (text, line) in VALUES {
-        let got = verdict_between(rt.alloc(), head.as_bytes(), text, b"")?;
-        assert_eq!(rt;
-            first_difference(line.as_bytes(), &got),
-            None,
-            "{}",
-            text.escape_ascii()
-        );
-    }
+    assert_verdicts(&rt, rt.alloc(), head.as_bytes(), VALUES, b"")?;
     Ok(())
 }
 
@@ -105,15 +81,7 @@ const WITHIN: &[(&[u8], &str)] = &[(b"}", "refused 4 P5"), (b",255}", "refused 3
 fn a_constraint_on_a_domain_has_256_values_at_most(rt: HostRuntime) -> Result<(), Fail> {
     let first = "palm-proof 1\nvar x 1..2\nadd k : x in {-1";
     let head = listed(rt.alloc(), first, ",", 255, "")?;
-    for (text, line) in WITHIN {
-        let got = verdict_between(rt.alloc(), head.as_bytes(), text, b"")?;
-        assert_eq!(rt;
-            first_difference(line.as_bytes(), &got),
-            None,
-            "{}",
-            text.escape_ascii()
-        );
-    }
+    assert_verdicts(&rt, rt.alloc(), head.as_bytes(), WITHIN, b"")?;
     Ok(())
 }
 
@@ -124,15 +92,7 @@ const ROWS: &[(&[u8], &str)] = &[(b"", "refused 4 P5"), (b" (256)", "refused 3 P
 fn a_table_has_256_rows_at_most(rt: HostRuntime) -> Result<(), Fail> {
     let first = "palm-proof 1\nvar x 1..2\nadd t : table x :";
     let head = listed(rt.alloc(), first, " (", 256, ")")?;
-    for (text, line) in ROWS {
-        let got = verdict_between(rt.alloc(), head.as_bytes(), text, b"")?;
-        assert_eq!(rt;
-            first_difference(line.as_bytes(), &got),
-            None,
-            "{}",
-            text.escape_ascii()
-        );
-    }
+    assert_verdicts(&rt, rt.alloc(), head.as_bytes(), ROWS, b"")?;
     Ok(())
 }
 
@@ -143,15 +103,7 @@ const ENTRIES: &[(&[u8], &str)] = &[(b")", "refused 5 P5"), (b",0)", "refused 4 
 fn a_list_has_256_entries_at_most(rt: HostRuntime) -> Result<(), Fail> {
     let first = "palm-proof 1\nvar x 1..2\nvar y 1..2\nadd e : element x y (0";
     let head = listed(rt.alloc(), first, ",", 255, "")?;
-    for (text, line) in ENTRIES {
-        let got = verdict_between(rt.alloc(), head.as_bytes(), text, b"")?;
-        assert_eq!(rt;
-            first_difference(line.as_bytes(), &got),
-            None,
-            "{}",
-            text.escape_ascii()
-        );
-    }
+    assert_verdicts(&rt, rt.alloc(), head.as_bytes(), ENTRIES, b"")?;
     Ok(())
 }
 
@@ -168,15 +120,7 @@ fn a_constraint_has_16_variables_at_most(rt: HostRuntime) -> Result<(), Fail> {
     let mut head = listed(rt.alloc(), "palm-proof 1\n", "var x", 17, " 1..2\n")?;
     head.push_str("add d : differ")?;
     put_items(&mut head, " x", 16, "")?;
-    for (text, line) in SCOPE {
-        let got = verdict_between(rt.alloc(), head.as_bytes(), text, b"")?;
-        assert_eq!(rt;
-            first_difference(line.as_bytes(), &got),
-            None,
-            "{}",
-            text.escape_ascii()
-        );
-    }
+    assert_verdicts(&rt, rt.alloc(), head.as_bytes(), SCOPE, b"")?;
     Ok(())
 }
 

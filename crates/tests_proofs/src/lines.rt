@@ -1,7 +1,6 @@
 //! Forged lines of a proof but its steps: headers, variables, constraints, lemmas, wipes and ends.
-use crate::told::{verdict_from, verdict_of};
+use crate::told::{assert_verdicts, assert_verdicts_from};
 use std::test::Fail;
-use tests_compare::first_difference;
 
 /// First lines.
 const HEADERS: &[(&[u8], &str)] = &[
@@ -41,15 +40,7 @@ const HEADERS: &[(&[u8], &str)] = &[
 
 #[test]
 fn headers_are_read(rt: HostRuntime) -> Result<(), Fail> {
-    for (text, line) in HEADERS {
-        let got = verdict_of(rt.alloc(), text)?;
-        assert_eq!(rt;
-            first_difference(line.as_bytes(), &got),
-            None,
-            "{}",
-            text.escape_ascii()
-        );
-    }
+    assert_verdicts(&rt, rt.alloc(), b"", HEADERS, b"")?;
     Ok(())
 }
 
@@ -93,15 +84,7 @@ const VARIABLES: &[(&[u8], &str)] = &[
 
 #[test]
 fn variables_are_read(rt: HostRuntime) -> Result<(), Fail> {
-    for (text, line) in VARIABLES {
-        let got = verdict_from(rt.alloc(), 4, text)?;
-        assert_eq!(rt;
-            first_difference(line.as_bytes(), &got),
-            None,
-            "{}",
-            text.escape_ascii()
-        );
-    }
+    assert_verdicts_from(&rt, rt.alloc(), 4, VARIABLES)?;
     Ok(())
 }
 
@@ -161,15 +144,7 @@ const CONSTRAINTS: &[(&[u8], &str)] = &[
 
 #[test]
 fn constraints_are_read(rt: HostRuntime) -> Result<(), Fail> {
-    for (text, line) in CONSTRAINTS {
-        let got = verdict_from(rt.alloc(), 5, text)?;
-        assert_eq!(rt;
-            first_difference(line.as_bytes(), &got),
-            None,
-            "{}",
-            text.escape_ascii()
-        );
-    }
+    assert_verdicts_from(&rt, rt.alloc(), 5, CONSTRAINTS)?;
     Ok(())
 }
 
@@ -213,15 +188,7 @@ const LEMMAS: &[(&[u8], &str)] = &[
 
 #[test]
 fn lemmas_are_read(rt: HostRuntime) -> Result<(), Fail> {
-    for (text, line) in LEMMAS {
-        let got = verdict_from(rt.alloc(), 5, text)?;
-        assert_eq!(rt;
-            first_difference(line.as_bytes(), &got),
-            None,
-            "{}",
-            text.escape_ascii()
-        );
-    }
+    assert_verdicts_from(&rt, rt.alloc(), 5, LEMMAS)?;
     Ok(())
 }
 
@@ -255,15 +222,7 @@ const WIPES: &[(&[u8], &str)] = &[
 
 #[test]
 fn wipes_are_read(rt: HostRuntime) -> Result<(), Fail> {
-    for (text, line) in WIPES {
-        let got = verdict_from(rt.alloc(), 10, text)?;
-        assert_eq!(rt;
-            first_difference(line.as_bytes(), &got),
-            None,
-            "{}",
-            text.escape_ascii()
-        );
-    }
+    assert_verdicts_from(&rt, rt.alloc(), 10, WIPES)?;
     Ok(())
 }
 
@@ -293,14 +252,6 @@ const ENDS: &[(&[u8], &str)] = &[
 
 #[test]
 fn ends_are_read(rt: HostRuntime) -> Result<(), Fail> {
-    for (text, line) in ENDS {
-        let got = verdict_from(rt.alloc(), 18, text)?;
-        assert_eq!(rt;
-            first_difference(line.as_bytes(), &got),
-            None,
-            "{}",
-            text.escape_ascii()
-        );
-    }
+    assert_verdicts_from(&rt, rt.alloc(), 18, ENDS)?;
     Ok(())
 }

@@ -1,7 +1,6 @@
 //! Steps of a proof, right and forged.
-use crate::told::{verdict_between, verdict_from};
+use crate::told::{assert_verdicts, assert_verdicts_from};
 use std::test::Fail;
-use tests_compare::first_difference;
 
 /// Steps behind `lemma x=1` and its first step, which took 2 from x. The step's own number is 2, the lemma's own is 1.
 const FORGED: &[(&[u8], &str)] = &[
@@ -91,15 +90,7 @@ const FORGED: &[(&[u8], &str)] = &[
 
 #[test]
 fn steps_of_the_first_lemma_are_judged(rt: HostRuntime) -> Result<(), Fail> {
-    for (text, line) in FORGED {
-        let got = verdict_from(rt.alloc(), 7, text)?;
-        assert_eq!(rt;
-            first_difference(line.as_bytes(), &got),
-            None,
-            "{}",
-            text.escape_ascii()
-        );
-    }
+    assert_verdicts_from(&rt, rt.alloc(), 7, FORGED)?;
     Ok(())
 }
 
@@ -121,15 +112,7 @@ const SECOND: &[(&[u8], &str)] = &[
 
 #[test]
 fn steps_of_the_second_lemma_are_judged(rt: HostRuntime) -> Result<(), Fail> {
-    for (text, line) in SECOND {
-        let got = verdict_from(rt.alloc(), 13, text)?;
-        assert_eq!(rt;
-            first_difference(line.as_bytes(), &got),
-            None,
-            "{}",
-            text.escape_ascii()
-        );
-    }
+    assert_verdicts_from(&rt, rt.alloc(), 13, SECOND)?;
     Ok(())
 }
 
@@ -164,15 +147,7 @@ const THIRD: &[(&[u8], &str)] = &[
 
 #[test]
 fn a_lemma_with_fewer_pairs_is_judged_by_its_own(rt: HostRuntime) -> Result<(), Fail> {
-    for (text, line) in THIRD {
-        let got = verdict_between(rt.alloc(), PAIRS, text, b"")?;
-        assert_eq!(rt;
-            first_difference(line.as_bytes(), &got),
-            None,
-            "{}",
-            text.escape_ascii()
-        );
-    }
+    assert_verdicts(&rt, rt.alloc(), PAIRS, THIRD, b"")?;
     Ok(())
 }
 
@@ -197,14 +172,6 @@ const AMONG: &[(&[u8], &str)] = &[
 
 #[test]
 fn a_pair_among_its_own_reasons_has_no_support(rt: HostRuntime) -> Result<(), Fail> {
-    for (text, line) in AMONG {
-        let got = verdict_between(rt.alloc(), OWN, text, b"")?;
-        assert_eq!(rt;
-            first_difference(line.as_bytes(), &got),
-            None,
-            "{}",
-            text.escape_ascii()
-        );
-    }
+    assert_verdicts(&rt, rt.alloc(), OWN, AMONG, b"")?;
     Ok(())
 }

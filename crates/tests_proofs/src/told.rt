@@ -3,6 +3,8 @@ use palm_base::{Cid, CidList, NoMemory, push_int};
 use palm_book::Book;
 use palm_proof::{ProofCause, ProofVerdict, check_proof};
 use std::alloc::Global;
+use std::process::Abort;
+use tests_compare::first_difference;
 
 /// The lines of a proof: three variables with two values each are not pairwise different.
 pub(crate) const LINES: [&str; 19] = [
@@ -73,6 +75,36 @@ pub(crate) fn verdict_between(
     whole.extend_from_slice(text)?;
     whole.extend_from_slice(tail)?;
     verdict_of(alloc, &whole)
+}
+
+/// Asserts the verdict on each of these texts between a head and a tail.
+pub(crate) fn assert_verdicts(
+    rt: &impl Abort,
+    alloc: Global,
+    head: &[u8],
+    rows: &[(&[u8], &str)],
+    tail: &[u8],
+) -> Result<(), NoMemory> {
+    for (text, line) in rows {
+        let got = verdict_between(alloc, head, text, tail)?;
+        assert_eq!(rt;
+            first_difference(line.as_bytes(), &got),
+            None,
+            "{}",
+            text.escape_ascii()
+        );
+    }
+    Ok(())
+}
+
+/// The same of texts behind so many of the first lines of the proof.
+pub(crate) fn assert_verdicts_from(
+    rt: &impl Abort,
+    alloc: Global,
+    lines: usize,
+    rows: &[(&[u8], &str)],
+) -> Result<(), NoMemory> {
+    assert_verdicts(rt, alloc, &first_lines(alloc, lines)?, rows, b"")
 }
 
 /// The verdict on the text, as a line.

@@ -1,7 +1,6 @@
 //! The constraints that a proof uses, which are those of its last lemma and of the lemmas behind it.
-use crate::told::{verdict_between, verdict_from};
+use crate::told::{assert_verdicts, assert_verdicts_from};
 use std::test::Fail;
-use tests_compare::first_difference;
 
 /// Two lemmas, the second over the first by a step that it does not need, and the first step of a third.
 const HEAD: &[u8] =
@@ -46,15 +45,7 @@ const TAIL: &[u8] = b"step x 2 lemma 2\nstep x 3 by c\nwipe x\n";
 fn users_are_those_of_the_last_lemma(rt: HostRuntime) -> Result<(), Fail> {
     let mut head = Vec::from_slice(rt.alloc(), HEAD)?;
     head.extend_from_slice(TAIL)?;
-    for (text, line) in NAMED {
-        let got = verdict_between(rt.alloc(), &head, text, b"")?;
-        assert_eq!(rt;
-            first_difference(line.as_bytes(), &got),
-            None,
-            "{}",
-            text.escape_ascii()
-        );
-    }
+    assert_verdicts(&rt, rt.alloc(), &head, NAMED, b"")?;
     Ok(())
 }
 
@@ -119,15 +110,7 @@ const OTHERS: &[(&[u8], &str)] = &[
 
 #[test]
 fn users_are_those_of_the_lemmas_that_are_named(rt: HostRuntime) -> Result<(), Fail> {
-    for (text, line) in OTHERS {
-        let got = verdict_between(rt.alloc(), HEAD, text, b"")?;
-        assert_eq!(rt;
-            first_difference(line.as_bytes(), &got),
-            None,
-            "{}",
-            text.escape_ascii()
-        );
-    }
+    assert_verdicts(&rt, rt.alloc(), HEAD, OTHERS, b"")?;
     Ok(())
 }
 
@@ -144,14 +127,6 @@ const LAST: &[(&[u8], &str)] = &[
 
 #[test]
 fn users_behind_two_lemmas_are_named_once_in_order(rt: HostRuntime) -> Result<(), Fail> {
-    for (text, line) in LAST {
-        let got = verdict_from(rt.alloc(), 17, text)?;
-        assert_eq!(rt;
-            first_difference(line.as_bytes(), &got),
-            None,
-            "{}",
-            text.escape_ascii()
-        );
-    }
+    assert_verdicts_from(&rt, rt.alloc(), 17, LAST)?;
     Ok(())
 }
