@@ -6,6 +6,7 @@ use palm_base::{NoMemory, Pair, SteadySink, Steps, Value, Var};
 use palm_search::{Pick, Turn};
 use palm_session::{Session, Stop};
 use std::alloc::Global;
+use std::process::Abort;
 use std::sync::ledger::Ledger;
 use std::test::Fail;
 
@@ -17,43 +18,47 @@ struct Wanted<'a> {
     picks: &'a [Pick],
 }
 
-/// Whether the journal is as wanted.
-fn is_as_wanted(journal: &[Turn], wanted: &Wanted<'_>) -> bool {
-    let mut place = 0;
-    for turn in journal {
-        if let Turn::Decide { pair, pick } = turn {
-            if place >= wanted.decided.len() || wanted.decided[place] != *pair {
-                return false;
-            }
-            if place >= wanted.picks.len() || wanted.picks[place] != *pick {
-                return false;
-            }
-            place += 1;
-        }
-    }
-    place == wanted.decided.len() && journal.len() == wanted.turns
+/// What a journal tells of its search.
+#[derive(Debug, Drop)]
+struct Told {
+    turns: usize,
+    decided: Vec<Pair>,
+    picks: Vec<Pick>,
 }
 
-/// A text, and the journal that a session is to leave behind it.
+fn told_of(alloc: Global, journal: &[Turn]) -> Result<Told, NoMemory> {
+    let mut told = Told {
+        turns: journal.len(),
+        decided: Vec::new(alloc),
+        picks: Vec::new(alloc),
+    };
+    for turn in journal {
+        if let Turn::Decide { pair, pick } = turn {
+            told.decided.push(*pair)?;
+            told.picks.push(*pick)?;
+        }
+    }
+    Ok(told)
+}
+
+/// A text, behind which a session leaves a journal.
 #[derive(Clone, Copy)]
 struct Left<'a> {
     text: &'a [u8],
-    wanted: &'a Wanted<'a>,
 }
 
 impl Question for Left<'_> {
-    /// Whether it is so.
-    type Answer = bool;
+    type Answer = Told;
 
     fn answer<L: Ledger>(
         &self,
         alloc: Global,
         session: &mut Session<Scripted, LastOrder>,
         steps: &mut Steps<L>,
-    ) -> Result<bool, Stop> {
+    ) -> Result<Told, Stop> {
         let mut sink = SteadySink::new(alloc);
         feed(session, self.text, &mut sink, steps)?;
-        Ok(is_as_wanted(session.journal(), self.wanted))
+        Ok(told_of(alloc, session.journal())?)
     }
 }
 
@@ -64,15 +69,29 @@ fn guides_of(alloc: Global, pick: Option<Pair>) -> Result<Vec<Scripted>, NoMemor
     Ok(guides)
 }
 
-/// Whether a fresh session that has the guide with this pick leaves such a journal behind the text.
-fn leaves(
+/// Asserts that a fresh session that has the guide with this pick leaves such a journal behind the text.
+fn assert_leaves(
+    rt: &impl Abort,
     alloc: Global,
     pick: Option<Pair>,
     text: &[u8],
     wanted: &Wanted<'_>,
-) -> Result<bool, Stop> {
-    let left = Left { text, wanted };
-    ask(alloc, guides_of(alloc, pick)?, &left)
+) -> Result<(), Stop> {
+    let told = ask(alloc, guides_of(alloc, pick)?, &Left { text })?;
+    assert_eq!(rt; told.turns, wanted.turns, "the turns of '{}'", text.escape_ascii());
+    assert_eq!(rt;
+        told.decided.as_slice(),
+        wanted.decided,
+        "the decisions of '{}'",
+        text.escape_ascii()
+    );
+    assert_eq!(rt;
+        told.picks.as_slice(),
+        wanted.picks,
+        "the picks of '{}'",
+        text.escape_ascii()
+    );
+    Ok(())
 }
 
 /// The pair of a variable and a value.
@@ -96,8 +115,8 @@ fn a_pick_is_recorded_and_tried(rt: HostRuntime) -> Result<(), Fail> {
         decided: &[pair_of(0, 2)],
         picks: &[Pick::Asked(pair_of(0, 2))],
     };
-    assert!(rt; leaves(rt.alloc(), Some(pair_of(0, 3)), text, &removed)?);
-    assert!(rt; leaves(rt.alloc(), Some(pair_of(0, 2)), text, &lawful)?);
+    assert_leaves(&rt, rt.alloc(), Some(pair_of(0, 3)), text, &removed)?;
+    assert_leaves(&rt, rt.alloc(), Some(pair_of(0, 2)), text, &lawful)?;
     Ok(())
 }
 
@@ -114,12 +133,12 @@ fn the_journal_is_that_of_the_last_search(rt: HostRuntime) -> Result<(), Fail> {
         picks: &[Pick::NoGuide],
     };
     let text = b"var x 1..3\nguide 1\n";
-    assert!(rt; leaves(rt.alloc(), Some(pair_of(0, 2)), text, &none)?);
+    assert_leaves(&rt, rt.alloc(), Some(pair_of(0, 2)), text, &none)?;
     let text = b"var x 1..3\nguide 1\nsolve dbt\nguide none\nsolve dbt\nadd a : x != 1\nlist\n";
-    assert!(rt; leaves(rt.alloc(), Some(pair_of(0, 2)), text, &first)?);
+    assert_leaves(&rt, rt.alloc(), Some(pair_of(0, 2)), text, &first)?;
     let text =
         b"var x 1..3\nguide 1\nsolve dbt\nguide none\nsolve repair tabu 1 budget 50\npause\nsolve dbt\n";
-    assert!(rt; leaves(rt.alloc(), Some(pair_of(0, 2)), text, &first)?);
+    assert_leaves(&rt, rt.alloc(), Some(pair_of(0, 2)), text, &first)?;
     Ok(())
 }
 
@@ -143,11 +162,11 @@ fn a_search_for_the_least_value_leaves_its_turns(rt: HostRuntime) -> Result<(), 
         picks: &[Pick::NoGuide],
     };
     let text = b"palm 2\nvar x 1..3\nminimize x budget 9\npause\nminimize x budget 1\n";
-    assert!(rt; leaves(rt.alloc(), None, text, &plain)?);
+    assert_leaves(&rt, rt.alloc(), None, text, &plain)?;
     let text = b"palm 2\nvar x 1..3\nguide 1\nminimize x budget 9\nminimize q budget 1\n";
-    assert!(rt; leaves(rt.alloc(), Some(pair_of(0, 2)), text, &guided)?);
+    assert_leaves(&rt, rt.alloc(), Some(pair_of(0, 2)), text, &guided)?;
     let text = b"palm 2\nvar x 1..3\nsolve dbt\nminimize x budget 1\n";
-    assert!(rt; leaves(rt.alloc(), None, text, &spent)?);
+    assert_leaves(&rt, rt.alloc(), None, text, &spent)?;
     Ok(())
 }
 
@@ -187,7 +206,7 @@ fn a_guide_is_told_the_variables_of_conflicts(rt: HostRuntime) -> Result<(), Fai
             Pick::Asked(pair_of(1_003, 1)),
         ],
     };
-    assert!(rt; leaves(rt.alloc(), None, by_dbt, &of_dbt)?);
-    assert!(rt; leaves(rt.alloc(), None, by_repair, &of_repair)?);
+    assert_leaves(&rt, rt.alloc(), None, by_dbt, &of_dbt)?;
+    assert_leaves(&rt, rt.alloc(), None, by_repair, &of_repair)?;
     Ok(())
 }

@@ -63,7 +63,7 @@ impl Question for Pieces {
 #[test]
 fn a_session_is_fed_and_finished(rt: HostRuntime) -> Result<(), Fail> {
     let got = ask(rt.alloc(), Vec::new(rt.alloc()), &Pieces)?;
-    assert!(rt; got.over_at_last);
+    assert!(rt; got.over_at_last, "the session is not over");
     let expected = b"ok\nx: 1 2\nend\n";
     assert_eq!(rt; first_difference(expected, &got.replies), None);
     Ok(())
